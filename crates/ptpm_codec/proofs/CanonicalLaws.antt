@@ -1,0 +1,275 @@
+-- What the canonical spelling has at each place, how long it is, and that it spells its message.
+use Rattle.std.proofs.Common.{◌≡◌, ℕ, ◌+◌, ◌%◌, ◌^◌, ◌<◌, ◌≤◌, eqb, List, [], ◌∷◌, ◌++◌, length, take, drop, refl, sym, ap, subst, ◌∙◌, inl, inr, arith, length-append, append_assoc}
+use Rattle.std.proofs.lemmas.List.{take_at, drop-drop, length-replicate}
+use Rattle.std.proofs.lemmas.Bool.{cond-false, ne_eqb}
+use Rattle.std.specs.Prelude.{replicate}
+use Rattle.ptpm_codec.specs.declared.message.Action.{Action}
+use Rattle.ptpm_codec.specs.declared.message.Action.TheVariants as actions
+use Rattle.ptpm_codec.specs.declared.message.Message.{Message}
+use Rattle.ptpm_codec.specs.declared.message.Body.{Body}
+use Rattle.ptpm_codec.specs.declared.message.Body.TheVariants as bodies
+use Rattle.ptpm_codec.specs.Layout as layout
+use Rattle.ptpm_codec.specs.Layout.{number_at, port_identity_at, even_up, message_octets}
+use Rattle.ptpm_codec.specs.Message.{action_code, action_of, IsValid, IsValidBody, Fits, BodyFits}
+use Rattle.ptpm_codec.specs.Spelling.{Spells, SpellsBody, SpellsText}
+use Rattle.ptpm_codec.specs.Canonical.{canonical, header_octets, port_identity_octets, tlv_octets, text_octets}
+
+-- ---- clock identities, octet by octet
+
+-- what holds of any eight octets holds of a list of that length
+by_eight : (P : List ℕ → Type 0) → ((a b c d e f g h : ℕ) → P (a ∷ b ∷ c ∷ d ∷ e ∷ f ∷ g ∷ h ∷ [])) → (xs : List ℕ) → length xs ≡ 8 → P xs
+by_eight P each [] n = absurd (omega arith)
+by_eight P each (a ∷ []) n = absurd (omega arith)
+by_eight P each (a ∷ b ∷ []) n = absurd (omega arith)
+by_eight P each (a ∷ b ∷ c ∷ []) n = absurd (omega arith)
+by_eight P each (a ∷ b ∷ c ∷ d ∷ []) n = absurd (omega arith)
+by_eight P each (a ∷ b ∷ c ∷ d ∷ e ∷ []) n = absurd (omega arith)
+by_eight P each (a ∷ b ∷ c ∷ d ∷ e ∷ f ∷ []) n = absurd (omega arith)
+by_eight P each (a ∷ b ∷ c ∷ d ∷ e ∷ f ∷ g ∷ []) n = absurd (omega arith)
+by_eight P each (a ∷ b ∷ c ∷ d ∷ e ∷ f ∷ g ∷ h ∷ []) n = each a b c d e f g h
+by_eight P each (a ∷ b ∷ c ∷ d ∷ e ∷ f ∷ g ∷ h ∷ i ∷ rest) n = absurd (omega arith)
+
+-- the message with other clock identities in its source and target
+abbrev pub with_clocks : Message → List ℕ → List ℕ → Message
+with_clocks v source target = record v {
+  source = record { clock = record { 0 = source }; port = v.source.port };
+  target = record { clock = record { 0 = target }; port = v.target.port };
+}
+
+-- a claim on messages of eight octets in each clock identity is shown with these octets named
+pub by_clocks : (P : Message → Type 0) (v : Message) → Fits v
+    → ((a b c d e f g h a' b' c' d' e' f' g' h' : ℕ) → P (with_clocks v (a ∷ b ∷ c ∷ d ∷ e ∷ f ∷ g ∷ h ∷ []) (a' ∷ b' ∷ c' ∷ d' ∷ e' ∷ f' ∷ g' ∷ h' ∷ [])))
+    → P v
+by_clocks P v fits each =
+    by_eight (λ s. P (with_clocks v s v.target.clock.0))
+    (λ a b c d e f g h. by_eight (λ t. P (with_clocks v (a ∷ b ∷ c ∷ d ∷ e ∷ f ∷ g ∷ h ∷ []) t)) (each a b c d e f g h) v.target.clock.0 fits.target.clock)
+    v.source.clock.0 fits.source.clock
+
+-- ---- the header
+
+-- the octets b begin with the header of v, and these octets follow it
+record HasHeader (v : Message) (size : ℕ) (following b : List ℕ) : Type 0 where
+  message_type : layout.message_type b ≡ 0xd
+  version_ptp : layout.version_ptp b ≡ 2
+  message_length : layout.message_length b ≡ size
+  sdo : v.sdo ≡ layout.sdo_id b
+  domain : v.domain ≡ layout.domain_number b
+  source : v.source ≡ layout.source_port_identity b
+  number : v.number ≡ layout.sequence_id b
+  target : v.target ≡ layout.target_port_identity b
+  starting_hops : v.starting_hops ≡ layout.starting_boundary_hops b
+  hops : v.hops ≡ layout.boundary_hops b
+  action : action_code (action_of v.body) ≡ layout.action_field b
+  behind : drop 48 b ≡ following
+  whole : length b ≡ 48 + length following
+
+action_code-mod : (a : Action) → action_code a ≡ action_code a % 16
+action_code-mod actions.Get = refl
+action_code-mod actions.Set = refl
+action_code-mod actions.Response = refl
+action_code-mod actions.Command = refl
+action_code-mod actions.Acknowledge = refl
+
+header_of_octets : (v : Message) (size : ℕ) (following : List ℕ) → v.sdo ≤ 4095 → Fits v → size < 2 ^ 16
+    → (a b c d e f g h a' b' c' d' e' f' g' h' : ℕ)
+    → let w = with_clocks v (a ∷ b ∷ c ∷ d ∷ e ∷ f ∷ g ∷ h ∷ []) (a' ∷ b' ∷ c' ∷ d' ∷ e' ∷ f' ∷ g' ∷ h' ∷ []) in
+    HasHeader w size following (header_octets w size ++ following)
+unfolding number_at port_identity_at port_identity_octets
+header_of_octets v size following small fits low a b c d e f g h a' b' c' d' e' f' g' h' =
+    let source = fits.source.port in
+    let target = fits.target.port in
+    let number = fits.number in
+    record {
+      message_type = omega arith;
+      version_ptp = refl;
+      message_length = omega arith;
+      sdo = omega arith;
+      domain = refl;
+      source = ap (λ (p : ℕ). record { clock = record { 0 = a ∷ b ∷ c ∷ d ∷ e ∷ f ∷ g ∷ h ∷ [] }; port = p }) (omega arith);
+      number = omega arith;
+      target = ap (λ (p : ℕ). record { clock = record { 0 = a' ∷ b' ∷ c' ∷ d' ∷ e' ∷ f' ∷ g' ∷ h' ∷ [] }; port = p }) (omega arith);
+      starting_hops = refl;
+      hops = refl;
+      action = action_code-mod (action_of v.body);
+      behind = refl;
+      whole = omega arith;
+    }
+
+has_header : (v : Message) (size : ℕ) (following : List ℕ) → v.sdo ≤ 4095 → Fits v → size < 2 ^ 16 → HasHeader v size following (header_octets v size ++ following)
+has_header v size following small fits low =
+    by_clocks (λ w. HasHeader w size following (header_octets w size ++ following)) v fits (header_of_octets v size following small fits low)
+
+-- ---- what follows the header
+
+-- the places from octet 48 on are those of the list t
+pub record ContinuesWith (t b : List ℕ) : Type 0 where
+  pub tlv_type : layout.tlv_type b ≡ number_at 0 t
+  pub length_field : layout.length_field b ≡ number_at 2 t
+  pub first_id : layout.management_id b ≡ number_at 4 t
+  pub second_id : layout.refused_id b ≡ number_at 6 t
+  pub data_field : layout.data_field b ≡ drop 6 t
+  pub display_data : layout.display_data b ≡ drop 12 t
+  pub whole : length b ≡ 48 + length t
+
+pub continues_with : (t b : List ℕ) → drop 48 b ≡ t → length b ≡ 48 + length t → ContinuesWith t b
+unfolding number_at
+continues_with t b behind whole = record {
+  tlv_type = rw behind refl;
+  length_field = rw (drop-drop 2 48 b) at (ap (number_at 2) behind);
+  first_id = rw (drop-drop 4 48 b) at (ap (number_at 4) behind);
+  second_id = rw (drop-drop 6 48 b) at (ap (number_at 6) behind);
+  data_field = rw (drop-drop 6 48 b) at (ap (drop 6) behind);
+  display_data = rw (drop-drop 12 48 b) at (ap (drop 12) behind);
+  whole = whole;
+}
+
+-- ---- displayData
+
+abbrev padded_text : List ℕ → List ℕ
+padded_text text = length text ∷ text ++ replicate ((1 + length text) % 2) 0
+
+text_octets-none : text_octets [] ≡ []
+unfolding text_octets
+text_octets-none = refl
+
+text_octets-some : (text : List ℕ) → 0 < length text → text_octets text ≡ padded_text text
+unfolding text_octets
+text_octets-some text some = cond-false (eqb (length text) 0) [] (padded_text text) (ne_eqb (length text) 0 (λ none. omega arith))
+
+length-padded_text : (text : List ℕ) → length (padded_text text) ≡ even_up (1 + length text)
+length-padded_text text =
+    omega (arith, length-replicate {A = ℕ} ((1 + length text) % 2) 0, length-append text (replicate ((1 + length text) % 2) 0))
+
+record IsPaddedText (text d : List ℕ) : Type 0 where
+  spelled : SpellsText text d
+  even : length d % 2 ≡ 0
+  most : length d ≤ 2 + length text
+
+padded : (text : List ℕ) → IsPaddedText text (text_octets text)
+padded [] = rw text_octets-none (record { spelled = inl (refl, refl); even = refl; most = omega arith })
+padded (x ∷ xs) =
+    let text : List ℕ = x ∷ xs in
+    let pad : List ℕ = replicate ((1 + length text) % 2) 0 in
+    let size = length-padded_text text in
+    rw (text_octets-some text (omega arith)) (record {
+      spelled = inr (size, sym (take_at text pad (length text) refl));
+      even = omega (arith, size);
+      most = omega (arith, size);
+    })
+
+-- ---- the TLV
+
+record HasTlv (body : Body) (t : List ℕ) : Type 0 where
+  length_field : number_at 2 t + 4 ≡ length t
+  at_least : 6 ≤ length t
+  at_most : length t ≤ 1424
+  spelled : (b : List ℕ) → ContinuesWith t b → SpellsBody body b
+
+has_tlv : (body : Body) → IsValidBody body → BodyFits body → HasTlv body (tlv_octets body)
+unfolding tlv_octets number_at
+has_tlv (bodies.Request action id octets) (asks, field) fits =
+    let even = field.even in
+    let small = field.small in
+    record {
+      length_field = omega arith;
+      at_least = omega arith;
+      at_most = omega arith;
+      spelled = λ b at. (
+        asks,
+        record {
+          type = at.tlv_type;
+          id_is = let e = at.first_id in omega arith;
+          octets_are = sym at.data_field;
+          even = omega (arith, at.whole);
+        },
+      );
+    }
+has_tlv (bodies.Answer action id octets) (answers, field) fits =
+    let even = field.even in
+    let small = field.small in
+    record {
+      length_field = omega arith;
+      at_least = omega arith;
+      at_most = omega arith;
+      spelled = λ b at. (
+        answers,
+        record {
+          type = at.tlv_type;
+          id_is = let e = at.first_id in omega arith;
+          octets_are = sym at.data_field;
+          even = omega (arith, at.whole);
+        },
+      );
+    }
+has_tlv (bodies.Fault action error id text) (answers, small) (error_fits, id_fits) =
+    let p = padded text in
+    let even = p.even in
+    let most = p.most in
+    record {
+      length_field = omega arith;
+      at_least = omega arith;
+      at_most = omega arith;
+      spelled = λ b at. (
+        answers,
+        record {
+          type = at.tlv_type;
+          error_is = let e = at.first_id in omega arith;
+          id_is = let e = at.second_id in omega arith;
+          whole = omega (arith, at.whole);
+          text_is = rw at.display_data p.spelled;
+        },
+      );
+    }
+
+-- ---- the whole
+
+-- the canonical spelling of a valid message is from 54 to 1,472 octets long
+pub record IsCanonicalSize (c : List ℕ) : Type 0 where
+  pub at_least : 54 ≤ length c
+  pub at_most : length c ≤ 1472
+
+pub canonical_spells : (v : Message) → IsValid v → Fits v → Spells v (canonical v)
+canonical_spells v valid fits =
+    let tlv = tlv_octets v.body in
+    let t = has_tlv v.body valid.body fits.body in
+    let least = t.at_least in
+    let most = t.at_most in
+    let h = has_header v (48 + length tlv) tlv valid.sdo fits (omega arith) in
+    let at = continues_with tlv (canonical v) h.behind h.whole in
+    let whole = h.whole in
+    record {
+      at_least = omega arith;
+      at_most = omega arith;
+      message_type = h.message_type;
+      version_ptp = h.version_ptp;
+      message_length = h.message_length ∙ sym whole;
+      sdo = h.sdo;
+      domain = h.domain;
+      source = h.source;
+      number = h.number;
+      target = h.target;
+      starting_hops = h.starting_hops;
+      hops = h.hops;
+      action = h.action;
+      length_field = omega (arith, at.length_field, t.length_field);
+      body = t.spelled (canonical v) at;
+    }
+
+pub canonical_size : (v : Message) → IsValid v → Fits v → IsCanonicalSize (canonical v)
+canonical_size v valid fits = let s = canonical_spells v valid fits in record { at_least = s.at_least; at_most = s.at_most }
+
+-- a datagram that begins with a canonical spelling has it for its message
+pub canonical_octets : (v : Message) (rest : List ℕ) → IsValid v → Fits v → message_octets (canonical v ++ rest) ≡ canonical v
+canonical_octets v rest valid fits =
+    let tlv = tlv_octets v.body in
+    let size = 48 + length tlv in
+    let t = has_tlv v.body valid.body fits.body in
+    let most = t.at_most in
+    let alone = has_header v size tlv valid.sdo fits (omega arith) in
+    let followed = has_header v size (tlv ++ rest) valid.sdo fits (omega arith) in
+    let number : layout.message_length (canonical v ++ rest) ≡ size =
+    ap layout.message_length (append_assoc (header_octets v size) tlv rest) ∙ followed.message_length in
+    ap (λ n. take n (canonical v ++ rest)) number ∙ take_at (canonical v) rest size alone.whole
+
+pub canonical_round_trip : (v : Message) (rest : List ℕ) → IsValid v → Fits v → Spells v (message_octets (canonical v ++ rest))
+canonical_round_trip v rest valid fits = subst (λ m. Spells v m) (sym (canonical_octets v rest valid fits)) (canonical_spells v valid fits)

@@ -1,0 +1,6 @@
+pub mod PlaceLaws
+pub mod RefusalLaws
+pub mod ReadingLaws
+pub mod ViewLaws
+pub mod CanonicalLaws
+pub mod RewritingLaws

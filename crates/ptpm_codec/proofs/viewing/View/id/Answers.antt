@@ -1,0 +1,13 @@
+use Rattle.std.proofs.Common.{sym, ap, ◌∙◌}
+use Rattle.ptpm_codec.specs.declared.tlv.TlvKind.TheVariants.{Management, ErrorStatus}
+use Rattle.ptpm_codec.specs.Message.{id_of}
+use Rattle.ptpm_codec.proofs.ViewLaws.{body_seen, id_of-management}
+use Rattle.ptpm_codec.proofs.viewing.View.id.Goals as goal
+
+pub returns-in-Management : goal.returns-in-Management
+returns-in-Management c =
+    c.u16_at.ensures ∙ sym (id_of-management c.self.inside.action c.self.inside.message.now) ∙ ap id_of (body_seen c.args.self.now c.self.inside.message.now c.self.inside.action c.self.inside.tlv Management c.self.view_is c.self.invariant c.in-Management.is)
+
+pub returns-in-ErrorStatus : goal.returns-in-ErrorStatus
+returns-in-ErrorStatus c =
+    c.u16_at-in-ErrorStatus.ensures ∙ ap id_of (body_seen c.args.self.now c.self.inside.message.now c.self.inside.action c.self.inside.tlv ErrorStatus c.self.view_is c.self.invariant c.in-ErrorStatus.is)

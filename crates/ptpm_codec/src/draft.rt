@@ -1,0 +1,97 @@
+//! Messages whose octets are lent, to be sent without a copy.
+
+ghost use Rattle.std.specs.Prelude.{◌≡◌, ◌↔◌, IsTrue};
+ghost use Rattle.ptpm_codec.specs.Message.{IsDataField};
+
+use crate::identity::PortIdentity;
+use crate::message::Action;
+use std::marker::Model;
+
+/// A `Body` whose octets are lent.
+#[derive(Clone, Copy, Debug)]
+pub enum DraftBody<'a> {
+    Request {
+        action: Action,
+        id: u16,
+        octets: &'a [u8],
+    },
+    Answer {
+        action: Action,
+        id: u16,
+        octets: &'a [u8],
+    },
+    Fault {
+        action: Action,
+        error: u16,
+        id: u16,
+        text: &'a [u8],
+    },
+}
+
+/// A message whose octets are lent. Contracts see it as the `Message` of the same fields.
+#[derive(Debug, Drop)]
+pub struct Draft<'a> {
+    pub sdo: u16,
+    pub domain: u8,
+    pub source: PortIdentity,
+    pub number: u16,
+    pub target: PortIdentity,
+    pub starting_hops: u8,
+    pub hops: u8,
+    pub body: DraftBody<'a>,
+}
+
+impl<'a> Model for Draft<'a> {
+    ghost use Rattle.ptpm_codec.specs.declared.message.Message.{Message};
+
+    ghost Value = { Message };
+
+    ghost use Rattle.ptpm_codec.specs.Draft.{drafted};
+
+    ghost view = { drafted };
+}
+
+impl Draft<'_> {
+    ghost use Rattle.ptpm_codec.specs.Message.{IsValid};
+
+    /// Whether the fields are a message value, as `Message::valid` tells.
+    pub fn valid(&self) -> bool
+        ensures { IsTrue result ↔ IsValid self.now }
+    {
+        self.sdo <= 0x0fff && self.body.valid()
+    }
+}
+
+impl DraftBody<'_> {
+    ghost use Rattle.ptpm_codec.specs.Draft.{body_of};
+    ghost use Rattle.ptpm_codec.specs.Message.{action_of, IsValidBody};
+
+    /// The action, whatever the body.
+    pub fn action(&self) -> Action
+        ensures { result ≡ action_of (body_of self.now) }
+    {
+        match self {
+            DraftBody::Request { action, .. }
+            | DraftBody::Answer { action, .. }
+            | DraftBody::Fault { action, .. } => *action,
+        }
+    }
+
+    fn valid(&self) -> bool
+        ensures { IsTrue result ↔ IsValidBody (body_of self.now) }
+    {
+        match self {
+            DraftBody::Request { action, octets, .. } => {
+                !action.is_reply() && is_data_field(octets)
+            }
+            DraftBody::Answer { action, octets, .. } => action.is_reply() && is_data_field(octets),
+            DraftBody::Fault { action, text, .. } => action.is_reply() && text.len() <= 255,
+        }
+    }
+}
+
+fn is_data_field(octets: &[u8]) -> bool
+    ensures { IsTrue result ↔ IsDataField octets.now }
+{
+    octets.len() % 2 == 0 && octets.len() <= 1418
+}

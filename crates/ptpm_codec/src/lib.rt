@@ -1,0 +1,29 @@
+//! PTP management messages as octets (IEEE 1588-2019, clause 15): reading, writing, and what they mean.
+#![tactic(auto)]
+
+mod decoding;
+mod draft;
+mod encoding;
+mod error;
+mod hops;
+mod identity;
+pub mod laws;
+mod message;
+mod octets;
+mod places;
+mod tlv;
+mod viewing;
+
+pub use decoding::{decode, view};
+pub use draft::{Draft, DraftBody};
+pub use encoding::{Buffer, MESSAGE_OCTETS, encode};
+pub use error::{DecodeError, ErrorId, OutOfMemory};
+pub use hops::less_hop;
+pub use identity::{ClockIdentity, PortIdentity};
+pub use message::{Action, Body, Message};
+pub use octets::Octets;
+pub use tlv::TlvKind;
+pub use viewing::View;
+
+#[cfg(test)]
+mod tests;

@@ -1,0 +1,275 @@
+//! Worked messages, limits and damaged datagrams.
+
+use crate::*;
+use std::alloc::Global;
+use std::test::Fail;
+
+/// GET PRIORITY1, number 7, of manager 0011223344556677/1 to clock aabbccfffeddee01, at every port.
+const REQUEST: &[u8; 54] = b"\x0d\x12\x00\x36\x00\x00\
+    \x00\x00\x00\x00\x00\x00\x00\x00\x00\x00\x00\x00\x00\x00\
+    \x00\x11\x22\x33\x44\x55\x66\x77\x00\x01\x00\x07\x04\x7f\
+    \xaa\xbb\xcc\xff\xfe\xdd\xee\x01\xff\xff\x01\x01\x00\x00\
+    \x00\x01\x00\x02\x20\x05";
+
+/// The clock's reply to it: priority1 is 128.
+const REPLY: &[u8; 56] = b"\x0d\x12\x00\x38\x00\x00\
+    \x00\x00\x00\x00\x00\x00\x00\x00\x00\x00\x00\x00\x00\x00\
+    \xaa\xbb\xcc\xff\xfe\xdd\xee\x01\x00\x01\x00\x07\x04\x7f\
+    \x00\x11\x22\x33\x44\x55\x66\x77\x00\x01\x00\x00\x02\x00\
+    \x00\x01\x00\x04\x20\x05\x80\x00";
+
+/// A refusal in its place: WRONG_VALUE, with the text `no`.
+const REFUSAL: &[u8; 64] = b"\x0d\x12\x00\x40\x00\x00\
+    \x00\x00\x00\x00\x00\x00\x00\x00\x00\x00\x00\x00\x00\x00\
+    \xaa\xbb\xcc\xff\xfe\xdd\xee\x01\x00\x01\x00\x07\x04\x7f\
+    \x00\x11\x22\x33\x44\x55\x66\x77\x00\x01\x00\x00\x02\x00\
+    \x00\x02\x00\x0c\x00\x04\x20\x05\x00\x00\x00\x00\x02no\x00";
+
+/// The octets with some replaced, and others behind them.
+fn edited(octets: &[u8], edits: &[(usize, u8)], behind: &[u8]) -> Buffer {
+    let mut datagram = Buffer::new();
+    let _ = datagram.try_extend_from_slice(octets);
+    for (place, octet) in edits {
+        if let Some(here) = datagram.get_mut(*place) {
+            *here = *octet;
+        }
+    }
+    let _ = datagram.try_extend_from_slice(behind);
+    datagram
+}
+
+/// Whether both calls refuse the datagram alike, or answer the same fields.
+fn agree(alloc: Global, datagram: &[u8]) -> bool {
+    match (decode(alloc, datagram), view(datagram)) {
+        (Ok(message), Ok(view)) => is_seen(&message.draft(), &view),
+        (Err(decoded), Err(viewed)) => decoded == viewed,
+        _ => false,
+    }
+}
+
+fn is_seen(message: &Draft<'_>, view: &View<'_>) -> bool {
+    message.sdo == view.sdo()
+        && message.domain == view.domain()
+        && message.source == view.source()
+        && message.number == view.number()
+        && message.target == view.target()
+        && message.starting_hops == view.starting_hops()
+        && message.hops == view.hops()
+        && is_seen_body(&message.body, view)
+}
+
+fn is_seen_body(body: &DraftBody<'_>, view: &View<'_>) -> bool {
+    match body {
+        DraftBody::Request { action, id, octets } | DraftBody::Answer { action, id, octets } => {
+            (*action, *id, None) == (view.action(), view.id(), view.error())
+                && *octets == view.octets()
+        }
+        DraftBody::Fault {
+            action,
+            error,
+            id,
+            text,
+        } => {
+            (*action, *id, Some(*error)) == (view.action(), view.id(), view.error())
+                && *text == view.text()
+        }
+    }
+}
+
+#[test]
+fn copy_of_succeeds_with_ample_memory(rt: HostRuntime) -> Result<(), Fail> {
+    let octets = Octets::copy_of(rt.alloc(), &[1, 2, 3])?;
+    assert_eq!(rt; octets.as_slice(), [1, 2, 3].as_slice());
+    Ok(())
+}
+
+#[test]
+fn decode_succeeds_with_ample_memory(rt: HostRuntime) -> Result<(), Fail> {
+    let messages: [&[u8]; 3] = [REQUEST, REPLY, REFUSAL];
+    for octets in messages {
+        let message = decode(rt.alloc(), octets)?;
+        let mut buffer = Buffer::new();
+        encode(&message.draft(), &mut buffer);
+        assert_eq!(rt; buffer.as_slice(), octets);
+    }
+    Ok(())
+}
+
+#[test]
+fn get_priority1(rt: HostRuntime) -> Result<(), Fail> {
+    let request = view(REQUEST)?;
+    assert_eq!(rt;
+        (request.sdo(), request.domain(), request.number()),
+        (0, 0, 7)
+    );
+    assert_eq!(rt;
+        request.source().clock.0,
+        [0x00, 0x11, 0x22, 0x33, 0x44, 0x55, 0x66, 0x77]
+    );
+    assert_eq!(rt; request.source().port, 1);
+    assert_eq!(rt;
+        request.target().clock.0,
+        [0xaa, 0xbb, 0xcc, 0xff, 0xfe, 0xdd, 0xee, 0x01]
+    );
+    assert_eq!(rt; request.target().port, PortIdentity::EVERY_PORT);
+    assert_eq!(rt; (request.hops(), request.starting_hops()), (1, 1));
+    assert_eq!(rt;
+        (request.action(), request.id(), request.error()),
+        (Action::Get, 0x2005, None)
+    );
+    assert!(rt; request.octets().is_empty() && request.text().is_empty());
+    let reply = view(REPLY)?;
+    assert_eq!(rt; (reply.action(), reply.id()), (Action::Response, 0x2005));
+    assert_eq!(rt; reply.octets(), [0x80, 0x00].as_slice());
+    Ok(())
+}
+
+#[test]
+fn less_hop_lowers_one_octet(rt: HostRuntime) {
+    let datagram = edited(REQUEST, &[(44, 9), (45, 9)], &[0, 0, 0]);
+    let datagram = datagram.as_slice();
+    assert!(rt; view(datagram).is_ok());
+    assert!(rt; datagram.get(45) == Some(&9));
+    let mut copy = Buffer::new();
+    less_hop(datagram, &mut copy);
+    assert_eq!(rt;
+        copy.as_slice(),
+        edited(REQUEST, &[(44, 9), (45, 8)], &[]).as_slice()
+    );
+}
+
+#[test]
+fn error_status_texts(rt: HostRuntime) -> Result<(), Fail> {
+    let status = view(REFUSAL)?;
+    assert_eq!(rt; (status.error(), status.id()), (Some(0x0004), 0x2005));
+    assert_eq!(rt; status.text(), b"no".as_slice());
+
+    // An empty text, with and without displayData, is sent without.
+    let (fixed, _) = REFUSAL.split_at(60);
+    let without = edited(fixed, &[(3, 0x3c), (51, 0x08)], &[]);
+    let spellings = [
+        edited(fixed, &[(3, 0x3e), (51, 0x0a)], &[0, 0]),
+        edited(without.as_slice(), &[], &[]),
+    ];
+    for spelling in &spellings {
+        let message = decode(rt.alloc(), spelling.as_slice())?;
+        assert!(rt; view(spelling.as_slice())?.text().is_empty());
+        let mut buffer = Buffer::new();
+        encode(&message.draft(), &mut buffer);
+        assert_eq!(rt; buffer.as_slice(), without.as_slice());
+    }
+
+    let bad = edited(REFUSAL, &[(60, 5)], &[]);
+    assert_eq!(rt;
+        decode(rt.alloc(), bad.as_slice()).err(),
+        Some(DecodeError::BadText)
+    );
+    assert_eq!(rt; view(bad.as_slice()).err(), Some(DecodeError::BadText));
+    Ok(())
+}
+
+#[test]
+fn make_and_limits(rt: HostRuntime) -> Result<(), Fail> {
+    let largest = edited(
+        REQUEST,
+        &[(2, 0x05), (3, 0xc0), (50, 0x05), (51, 0x8c)],
+        &[0x5a; 1418],
+    );
+    assert_eq!(rt; view(largest.as_slice())?.octets().len(), 1418);
+    let mut message = decode(rt.alloc(), largest.as_slice())?;
+    let mut buffer = Buffer::new();
+    encode(&message.draft(), &mut buffer);
+    assert_eq!(rt; buffer.as_slice(), largest.as_slice());
+
+    let mut longer = Vec::from_slice(rt.alloc(), largest.as_slice())?;
+    longer.extend_from_slice(&[0x5a; 2])?;
+    if let [_, _, _, low, ..] = longer.as_mut_slice() {
+        *low = 0xc2;
+    }
+    assert_eq!(rt;
+        decode(rt.alloc(), longer.as_slice()).err(),
+        Some(DecodeError::BadLength)
+    );
+
+    message.sdo = 0x0fff;
+    assert!(rt; message.valid());
+    message.sdo = 0x1000;
+    assert!(rt; !message.valid() && !message.draft().valid());
+    message.sdo = 0;
+    let (action, id) = (Action::Get, 0x2005);
+    message.body = Body::Request {
+        action,
+        id,
+        octets: Octets::copy_of(rt.alloc(), &[1, 2, 3])?,
+    };
+    assert!(rt; !message.valid());
+    let text = Octets::copy_of(rt.alloc(), &[b'x'; 256])?;
+    message.body = Body::Fault {
+        action: Action::Response,
+        error: 0x0004,
+        id,
+        text,
+    };
+    assert!(rt; !message.valid());
+    Ok(())
+}
+
+#[test]
+fn malformed_and_user_description(rt: HostRuntime) {
+    let (cut, _) = REQUEST.split_at(53);
+    let (_, tlv) = REQUEST.split_at(48);
+    let cases: [(&[u8], &[(usize, u8)], &[u8], DecodeError); 6] = [
+        (cut, &[], &[], DecodeError::TooShort),
+        (REQUEST, &[(3, 0x38)], &[], DecodeError::BadLength),
+        (
+            REQUEST,
+            &[(3, 0x37), (51, 3)],
+            &[0],
+            DecodeError::BadTlvLength,
+        ),
+        (REQUEST, &[(3, 0x3c)], tlv, DecodeError::BadTlvLength),
+        (REQUEST, &[(46, 5)], &[], DecodeError::BadAction),
+        (REQUEST, &[(49, 2)], &[], DecodeError::BadTlvType),
+    ];
+    for (octets, edits, behind, refusal) in cases {
+        let datagram = edited(octets, edits, behind);
+        assert_eq!(rt;
+            decode(rt.alloc(), datagram.as_slice()).err(),
+            Some(refusal)
+        );
+        assert_eq!(rt; view(datagram.as_slice()).err(), Some(refusal));
+    }
+}
+
+#[test]
+fn prefixes_are_refused(rt: HostRuntime) {
+    let messages: [&[u8]; 3] = [REQUEST, REPLY, REFUSAL];
+    for octets in messages {
+        for size in 0..octets.len() {
+            let (prefix, _) = octets.split_at(size);
+            let refusal = if size < 54 {
+                DecodeError::TooShort
+            } else {
+                DecodeError::BadLength
+            };
+            assert_eq!(rt; decode(rt.alloc(), prefix).err(), Some(refusal));
+            assert_eq!(rt; view(prefix).err(), Some(refusal));
+        }
+    }
+}
+
+#[test]
+fn decode_and_view_agree_on_every_octet_replaced(rt: HostRuntime) {
+    let messages: [&[u8]; 3] = [REQUEST, REPLY, REFUSAL];
+    for octets in messages {
+        for place in 0..octets.len() {
+            for octet in 0..=255 {
+                let datagram = edited(octets, &[(place, octet)], &[]);
+                assert!(rt;
+                    agree(rt.alloc(), datagram.as_slice()),
+                    "octet {place} is {octet}"
+                );
+            }
+        }
+    }
+}
