@@ -1,0 +1,62 @@
+-- The reply and the data sets after a request, for an id of the table and for any other.
+use Rattle.std.proofs.Common.{◌≡◌, true, false, ◌∙◌, refl, sym, ap, ℕ, ◌≤◌, List, length, Option, Some, None, ◌⊎◌}
+use Rattle.std.specs.Option.{option_map}
+use Rattle.ptpm_codec.specs.declared.error.ErrorId.{ErrorId}
+use Rattle.ptpm_codec.specs.declared.error.ErrorId.TheVariants.{NoSuchId, NotSupported}
+use Rattle.ptpm_data.specs.declared.ids.Row.{Row}
+use Rattle.ptpm_data.specs.declared.rights.Rights.{Rights}
+use Rattle.ptpm_data.specs.IdTable.{Entry, entry_of, row_of}
+use Rattle.ptpm_data.specs.Members.{DataSetsValue}
+use Rattle.ptpm_data.specs.Request.{RequestValue}
+use Rattle.ptpm_data.specs.Refusals.{entry_refusal, refusal_at}
+use Rattle.ptpm_data.specs.Changes.{carried_out, changed_at, changed_by, unless_refused, IsTargetOf}
+use Rattle.ptpm_data.specs.Replies.{answer, refused_by_clock, reply_of, reply_to, is_get, no_rights, read_reply_to}
+
+pub no_entry : {r : Option Row} {e : Option Entry} → option_map entry_of r ≡ e → r ≡ None → e ≡ None
+no_entry {r = None} is gone = sym is
+no_entry {r = Some row} is gone = cc
+
+pub entry_is : {r : Option Row} {e : Option Entry} {row : Row} → option_map entry_of r ≡ e → r ≡ Some row → e ≡ Some (entry_of row)
+entry_is {r = None} is here = cc
+entry_is {r = Some row} is here = cc
+
+-- ---- an id that is not in the table
+
+pub reply_of-unlisted : (q : RequestValue) (error : ErrorId) (d : DataSetsValue) → row_of q.id ≡ None → refused_by_clock q error ≡ reply_of q (Some error) d
+unfolding reply_of answer
+reply_of-unlisted q error d e = rw e refl
+
+pub reply_to-unlisted : (q : RequestValue) (rights : Rights) (d : DataSetsValue) → row_of q.id ≡ None → refused_by_clock q NoSuchId ≡ reply_to q rights d
+unfolding reply_to
+reply_to-unlisted q rights d e = reply_of-unlisted q NoSuchId _ e ∙ ap (λ (o : Option Entry). reply_of q (refusal_at o q rights) (changed_by q rights d)) (sym e)
+
+pub changed_by-unlisted : (q : RequestValue) (rights : Rights) (d : DataSetsValue) → row_of q.id ≡ None → d ≡ changed_by q rights d
+unfolding changed_by
+changed_by-unlisted q rights d e = rw e refl
+
+-- ---- an id of the table
+
+pub reply_to-listed : (q : RequestValue) (rights : Rights) (d : DataSetsValue) (e : Entry) → row_of q.id ≡ Some e → reply_of q (entry_refusal e q rights) (changed_by q rights d) ≡ reply_to q rights d
+unfolding reply_to
+reply_to-listed q rights d e is = ap (λ (o : Option Entry). reply_of q (refusal_at o q rights) (changed_by q rights d)) (sym is)
+
+pub changed_by-listed : (q : RequestValue) (rights : Rights) (d : DataSetsValue) (e : Entry) → row_of q.id ≡ Some e → unless_refused (entry_refusal e q rights) (carried_out e.layout q q.action d) d ≡ changed_by q rights d
+unfolding changed_by
+changed_by-listed q rights d e is = ap (λ (o : Option Entry). changed_at o q rights d) (sym is)
+
+-- ---- requests that are not numbered
+
+module _ (q : RequestValue) (d : DataSetsValue) where
+  pub read-unlisted : row_of q.id ≡ None → is_get q.action ≡ true → refused_by_clock q NoSuchId ≡ read_reply_to q d
+  unfolding read_reply_to
+  read-unlisted e get = rw (get, e) (reply_of-unlisted q NoSuchId d e)
+
+  pub read-listed : (e : Entry) (rights : Rights) → rights.0 ≡ 0 → row_of q.id ≡ Some e → is_get q.action ≡ true → reply_of q (entry_refusal e q rights) d ≡ read_reply_to q d
+  unfolding read_reply_to
+  read-listed e rights none is get =
+      let same : rights ≡ no_rights = ap (λ (n : ℕ). let r : Rights = record { 0 = n } in r) none in
+      rw (get, is, same) refl
+
+  pub read-other : is_get q.action ≡ false → reply_of q (Some NotSupported) d ≡ read_reply_to q d
+  unfolding read_reply_to
+  read-other other = rw other refl

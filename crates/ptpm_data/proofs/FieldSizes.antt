@@ -1,0 +1,151 @@
+-- How many octets a dataField has.
+use Rattle.std.proofs.Common.{◌≡◌, ◌∙◌, refl, sym, subst, ap, ℕ, ◌+◌, ◌%◌, ◌≤◌, Bool, true, false, not, ◌&&◌, ◌==◌, cond, if◌then◌else◌, List, [], ◌∷◌, ◌++◌, length, replicate, length-append, Option, Some, None, arith}
+use Rattle.std.specs.List.{find, list_all}
+use Rattle.std.proofs.lemmas.List.{length-replicate}
+use Rattle.std.proofs.lemmas.Bool.{and_cases}
+use Rattle.ptpm_codec.specs.declared.identity.ClockIdentity.{ClockIdentity}
+use Rattle.ptpm_data.specs.declared.data_sets.DefaultDataSet.{DefaultDataSet}
+use Rattle.ptpm_data.specs.declared.data_sets.CurrentDataSet.{CurrentDataSet}
+use Rattle.ptpm_data.specs.declared.data_sets.ParentDataSet.{ParentDataSet}
+use Rattle.ptpm_data.specs.declared.data_sets.TimePropertiesDataSet.{TimePropertiesDataSet}
+use Rattle.ptpm_data.specs.declared.data_sets.PortDataSet.{PortDataSet}
+use Rattle.ptpm_data.specs.declared.ids.Layout.{Layout}
+use Rattle.ptpm_data.specs.declared.ids.Layout.TheVariants as layouts
+use Rattle.ptpm_data.specs.IdTable.{Entry, id_table, row_of, is_port_scope, is_port_entry, is_of_port}
+use Rattle.ptpm_data.specs.Members.{DataSetsValue, port_of}
+use Rattle.ptpm_data.specs.DataField.{i16_octets, i32_octets, i64_octets, precedence_octets, default_data_field, current_data_field, parent_data_field, time_properties_data_field, utc_properties_data_field, text_data_field, port_settings_octets, port_data_field, port_field_of, field_of_port, data_field_of, field_of_entry, data_field_of_id}
+use Rattle.ptpm_data.specs.RequestLaws.{IsSized, IsFieldWithin, field_limit}
+
+-- ---- each data set
+
+default_size : (d : DefaultDataSet) (n : ℕ) → length d.identity.0 ≡ 8 → length (default_data_field d n) ≡ 20
+unfolding default_data_field precedence_octets
+default_size d n h = simp length-append (omega arith)
+
+current_size : (c : CurrentDataSet) → length (current_data_field c) ≡ 18
+unfolding current_data_field i64_octets
+current_size c = simp length-append (omega arith)
+
+parent_size : (p : ParentDataSet) → length p.parent_port.clock.0 ≡ 8 → length p.grandmaster.0 ≡ 8 → length (parent_data_field p) ≡ 32
+unfolding parent_data_field precedence_octets i32_octets
+parent_size p h k = simp length-append (omega arith)
+
+time_size : (t : TimePropertiesDataSet) → length (time_properties_data_field t) ≡ 4
+unfolding time_properties_data_field i16_octets
+time_size t = simp length-append (omega arith)
+
+utc_size : (t : TimePropertiesDataSet) → length (utc_properties_data_field t) ≡ 4
+unfolding utc_properties_data_field i16_octets
+utc_size t = simp length-append (omega arith)
+
+port_size : (identity : ClockIdentity) (port : ℕ) (p : PortDataSet) → length identity.0 ≡ 8 → length (port_data_field identity port p) ≡ 26
+unfolding port_data_field port_settings_octets i64_octets
+port_size identity port p h = simp length-append (omega arith)
+
+text_size : (text : List ℕ) → length (text_data_field text) ≡ 1 + length text + (1 + length text) % 2
+unfolding text_data_field
+text_size text = simp (length-append, length-replicate) (omega arith)
+
+-- ---- each id
+
+within : (limit n : ℕ) {octets : List ℕ} → length octets ≡ n → n % 2 ≡ 0 → n ≤ limit → IsFieldWithin limit octets
+within limit n {octets} e even small = record { even = rw e even; small = rw e small }
+
+of_port : (layout : Layout) (identity : ClockIdentity) (port : ℕ) (p : PortDataSet) → length identity.0 ≡ 8 → IsFieldWithin 26 (port_field_of layout identity port p)
+unfolding port_field_of
+of_port layouts.PortDataSet identity port p h = within 26 26 (port_size identity port p h) refl (omega arith)
+of_port layouts.LogAnnounceInterval identity port p h = within 26 2 refl refl (omega arith)
+of_port layouts.AnnounceReceiptTimeout identity port p h = within 26 2 refl refl (omega arith)
+of_port layouts.LogSyncInterval identity port p h = within 26 2 refl refl (omega arith)
+of_port layouts.VersionNumber identity port p h = within 26 2 refl refl (omega arith)
+of_port layouts.DelayMechanism identity port p h = within 26 2 refl refl (omega arith)
+of_port layouts.LogMinPdelayReqInterval identity port p h = within 26 2 refl refl (omega arith)
+of_port _ identity port p h = within 26 0 refl refl (omega arith)
+
+at_port : (layout : Layout) (identity : ClockIdentity) (port : ℕ) (set : Option PortDataSet) → length identity.0 ≡ 8 → IsFieldWithin 26 (field_of_port (port_field_of layout identity port) set)
+at_port layout identity port None h = within 26 0 refl refl (omega arith)
+at_port layout identity port (Some p) h = of_port layout identity port p h
+
+is_port_layout : Layout → Bool
+is_port_layout layouts.UserDescription = false
+is_port_layout layouts.DefaultDataSet = false
+is_port_layout layouts.CurrentDataSet = false
+is_port_layout layouts.ParentDataSet = false
+is_port_layout layouts.TimePropertiesDataSet = false
+is_port_layout layouts.Priority1 = false
+is_port_layout layouts.Priority2 = false
+is_port_layout layouts.Domain = false
+is_port_layout layouts.SlaveOnly = false
+is_port_layout layouts.ClockAccuracy = false
+is_port_layout layouts.UtcProperties = false
+is_port_layout _ = true
+
+of_layout : (layout : Layout) (port : ℕ) (d : DataSetsValue) → IsSized d → IsFieldWithin (field_limit (is_port_layout layout)) (data_field_of layout port d)
+unfolding is_port_layout data_field_of
+of_layout layouts.UserDescription port d s =
+    let text : length d.description ≤ 128 = s.text in
+    within 130 _ (text_size d.description) (omega arith) (omega arith)
+of_layout layouts.DefaultDataSet port d s = within 130 20 (default_size d.default _ s.identity) refl (omega arith)
+of_layout layouts.CurrentDataSet port d s = within 130 18 (current_size d.current) refl (omega arith)
+of_layout layouts.ParentDataSet port d s = within 130 32 (parent_size d.parent s.parent s.grandmaster) refl (omega arith)
+of_layout layouts.TimePropertiesDataSet port d s = within 130 4 (time_size d.time) refl (omega arith)
+of_layout layouts.Priority1 port d s = within 130 2 refl refl (omega arith)
+of_layout layouts.Priority2 port d s = within 130 2 refl refl (omega arith)
+of_layout layouts.Domain port d s = within 130 2 refl refl (omega arith)
+of_layout layouts.SlaveOnly port d s = within 130 2 refl refl (omega arith)
+of_layout layouts.ClockAccuracy port d s = within 130 2 refl refl (omega arith)
+of_layout layouts.UtcProperties port d s = within 130 4 (utc_size d.time) refl (omega arith)
+of_layout layouts.NullPtpManagement port d s = at_port layouts.NullPtpManagement _ port (port_of port d) s.identity
+of_layout layouts.PortDataSet port d s = at_port layouts.PortDataSet _ port (port_of port d) s.identity
+of_layout layouts.LogAnnounceInterval port d s = at_port layouts.LogAnnounceInterval _ port (port_of port d) s.identity
+of_layout layouts.AnnounceReceiptTimeout port d s = at_port layouts.AnnounceReceiptTimeout _ port (port_of port d) s.identity
+of_layout layouts.LogSyncInterval port d s = at_port layouts.LogSyncInterval _ port (port_of port d) s.identity
+of_layout layouts.VersionNumber port d s = at_port layouts.VersionNumber _ port (port_of port d) s.identity
+of_layout layouts.EnablePort port d s = at_port layouts.EnablePort _ port (port_of port d) s.identity
+of_layout layouts.DisablePort port d s = at_port layouts.DisablePort _ port (port_of port d) s.identity
+of_layout layouts.DelayMechanism port d s = at_port layouts.DelayMechanism _ port (port_of port d) s.identity
+of_layout layouts.LogMinPdelayReqInterval port d s = at_port layouts.LogMinPdelayReqInterval _ port (port_of port d) s.identity
+
+-- ---- the table's scopes are those of its layouts
+
+pub both_parts : (a b : Bool) → (a && b) ≡ true → (a ≡ true) × (b ≡ true)
+both_parts true b e = (refl, e)
+both_parts false b e = cc
+
+module _ {X : Type 0} (test good : X → Bool) where
+  found_first : (b : Bool) (y x : X) (rest : Option X) → cond b (Some y) rest ≡ Some x → good y ≡ true → (rest ≡ Some x → good x ≡ true) → good x ≡ true
+  found_first true y x rest e first others =
+      let same : y ≡ x = cc in
+      rw (← same) first
+  found_first false y x rest e first others = others e
+
+  found : (xs : List X) (x : X) → list_all good xs ≡ true → find test xs ≡ Some x → good x ≡ true
+  found [] x all e = cc
+  found (y ∷ ys) x all e =
+      let parts = both_parts (good y) (list_all good ys) all in
+      found_first (test y) y x (find test ys) e parts.0 (found ys x parts.1)
+
+abbrev scope_agrees : Entry → Bool
+scope_agrees e = if is_port_scope e.scope then is_port_layout e.layout else not (is_port_layout e.layout)
+
+table_agrees : list_all scope_agrees id_table ≡ true
+unfolding is_port_layout
+table_agrees = refl
+
+agree : (s l : Bool) → (if s then l else not l) ≡ true → l ≡ s
+agree true l e = e
+agree false true e = cc
+agree false false e = refl
+
+layout_of : (id : ℕ) (e : Entry) → row_of id ≡ Some e → is_port_layout e.layout ≡ is_port_scope e.scope
+unfolding row_of
+layout_of id e is = agree (is_port_scope e.scope) (is_port_layout e.layout) (found (λ x. x.id == id) scope_agrees id_table e table_agrees is)
+
+of_entry : (id port : ℕ) (d : DataSetsValue) (entry : Option Entry) → row_of id ≡ entry → IsSized d → IsFieldWithin (field_limit (is_port_entry entry)) (field_of_entry entry port d)
+of_entry id port d None is s = within 130 0 refl refl (omega arith)
+of_entry id port d (Some e) is s =
+    let field = of_layout e.layout port d s in
+    rw (← layout_of id e is) field
+
+pub of_id : (id port : ℕ) (d : DataSetsValue) → IsSized d → IsFieldWithin (field_limit (is_of_port id)) (data_field_of_id id port d)
+of_id id port d s = of_entry id port d (row_of id) refl s

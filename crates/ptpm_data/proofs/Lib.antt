@@ -1,0 +1,9 @@
+pub mod NamedPorts
+pub mod Carrying
+pub mod Answering
+pub mod NameLemmas
+pub mod StartLemmas
+pub mod FieldSizes
+pub mod ReplyLemmas
+pub mod Keeping
+pub mod MapLemmas

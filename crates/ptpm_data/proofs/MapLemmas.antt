@@ -1,0 +1,183 @@
+-- Data sets are no more than their map of members.
+use Rattle.std.proofs.Common.{arith, ◌≡◌, ◌==◌, ℕ, suc, ◌+◌, ◌-◌, ℤ, Bool, true, false, List, [], ◌∷◌, Option, Some, None, option_and_then, slice_get, refl, ap, sym, ◌∙◌}
+use Rattle.std.proofs.lemmas.Bool.Decides.{nat_tests}
+use Rattle.ptpm_codec.specs.declared.identity.ClockIdentity.{ClockIdentity}
+use Rattle.ptpm_codec.specs.declared.identity.PortIdentity.{PortIdentity}
+use Rattle.ptpm_data.specs.declared.members.Member.{Member}
+use Rattle.ptpm_data.specs.declared.members.Member.TheVariants as members
+use Rattle.ptpm_data.specs.declared.port_state.PortState.{PortState}
+use Rattle.ptpm_data.specs.declared.port_state.PortState.TheVariants as states
+use Rattle.ptpm_data.specs.declared.port_state.DelayMechanism.{DelayMechanism}
+use Rattle.ptpm_data.specs.declared.port_state.DelayMechanism.TheVariants as mechanisms
+use Rattle.ptpm_data.specs.declared.data_sets.PortDataSet.{PortDataSet}
+use Rattle.ptpm_data.specs.PortState.{state_number, state_of, mechanism_number, mechanism_of}
+use Rattle.ptpm_data.specs.Members.{DataSetsValue, port_of}
+use Rattle.ptpm_data.specs.MemberMap.{MemberValue, Octets, Place, OfClock, OfPort, natural, integer, flag, identity, port_identity, port_member, value_of}
+
+-- ---- a value tells what it is the value of
+
+some_same : {A : Type 0} (x y : A) → Some x ≡ Some y → x ≡ y
+some_same x y h = cc
+
+natural_same : (m n : ℕ) → natural m ≡ natural n → m ≡ n
+natural_same m n h = cc
+
+integer_same : (m n : ℤ) → integer m ≡ integer n → m ≡ n
+integer_same m n h = cc
+
+octets_same : (xs ys : List ℕ) → let a : Option MemberValue = Some (Octets xs) in a ≡ Some (Octets ys) → xs ≡ ys
+octets_same xs ys h = cc
+
+flag_same : (b c : Bool) → flag b ≡ flag c → b ≡ c
+flag_same true true h = refl
+flag_same true false h = absurd (let e : 1 ≡ 0 = natural_same 1 0 h in omega arith)
+flag_same false true h = absurd (let e : 0 ≡ 1 = natural_same 0 1 h in omega arith)
+flag_same false false h = refl
+
+identity_same : (c d : ClockIdentity) → identity c ≡ identity d → c ≡ d
+identity_same c d h = let octets = octets_same c.0 d.0 h in λ i. record { 0 = octets i }
+
+port_identity_same : (p q : PortIdentity) → port_identity p ≡ port_identity q → p ≡ q
+port_identity_same p q h =
+    let clock : p.clock.0 ≡ q.clock.0 = cc in
+    let port : p.port ≡ q.port = cc in
+    λ i. record { clock = record { 0 = clock i }; port = port i }
+
+state_back : (s : PortState) → state_of (state_number s) ≡ Some s
+state_back states.Initializing = refl
+state_back states.Faulty = refl
+state_back states.Disabled = refl
+state_back states.Listening = refl
+state_back states.PreMaster = refl
+state_back states.Master = refl
+state_back states.Passive = refl
+state_back states.Uncalibrated = refl
+state_back states.Slave = refl
+
+state_same : (s t : PortState) → natural (state_number s) ≡ natural (state_number t) → s ≡ t
+state_same s t h = some_same s t (sym (state_back s) ∙ ap state_of (natural_same _ _ h) ∙ state_back t)
+
+mechanism_back : (m : DelayMechanism) → mechanism_of (mechanism_number m) ≡ Some m
+mechanism_back mechanisms.EndToEnd = refl
+mechanism_back mechanisms.PeerToPeer = refl
+mechanism_back mechanisms.Disabled = refl
+
+mechanism_same : (m n : DelayMechanism) → natural (mechanism_number m) ≡ natural (mechanism_number n) → m ≡ n
+mechanism_same m n h = some_same m n (sym (mechanism_back m) ∙ ap mechanism_of (natural_same _ _ h) ∙ mechanism_back n)
+
+-- ---- ports
+
+port_same : (p q : PortDataSet) → ((m : Member) → port_member m p ≡ port_member m q) → p ≡ q
+port_same p q h =
+    let state = state_same _ _ (h members.State) in
+    let min_delay = integer_same _ _ (h members.LogMinDelayReq) in
+    let peer_delay = integer_same _ _ (h members.PeerDelay) in
+    let announce = integer_same _ _ (h members.LogAnnounce) in
+    let timeout = natural_same _ _ (h members.ReceiptTimeout) in
+    let sync = integer_same _ _ (h members.LogSync) in
+    let mechanism = mechanism_same _ _ (h members.DelayMechanism) in
+    let min_pdelay = integer_same _ _ (h members.LogMinPdelay) in
+    λ i. record {
+      state = state i;
+      log_min_delay_req = min_delay i;
+      peer_delay = peer_delay i;
+      log_announce = announce i;
+      receipt_timeout = timeout i;
+      log_sync = sync i;
+      delay_mechanism = mechanism i;
+      log_min_pdelay = min_pdelay i;
+    }
+
+option_same : (o p : Option PortDataSet) → ((m : Member) → option_and_then (port_member m) o ≡ option_and_then (port_member m) p) → o ≡ p
+option_same None None h = refl
+option_same None (Some q) h = let e = h members.State in cc
+option_same (Some p) None h = let e = h members.State in cc
+option_same (Some p) (Some q) h = ap Some (port_same p q h)
+
+ports_same : (ps qs : List PortDataSet) → ((i : ℕ) → slice_get ps i ≡ slice_get qs i) → ps ≡ qs
+ports_same [] [] h = refl
+ports_same [] (q ∷ qs) h = let e = h 0 in cc
+ports_same (p ∷ ps) [] h = let e = h 0 in cc
+ports_same (p ∷ ps) (q ∷ qs) h =
+    let first = some_same p q (h 0) in
+    let rest = ports_same ps qs (λ i. h (suc i)) in
+    λ i. first i ∷ rest i
+
+port_at : (d : DataSetsValue) (i : ℕ) → port_of (i + 1) d ≡ slice_get d.ports i
+port_at d i =
+    let no : (i + 1) == 0 ≡ false = grind (arith, nat_tests) in
+    let at : (i + 1) - 1 ≡ i = omega arith in
+    rw (no, at) refl
+
+-- ---- the data sets
+
+pub map_decides : (a b : DataSetsValue) → ((place : Place) → value_of place a ≡ value_of place b) → a ≡ b
+map_decides a b h =
+    let identity = identity_same _ _ (h (OfClock members.Identity)) in
+    let domain = natural_same _ _ (h (OfClock members.Domain)) in
+    let text = octets_same _ _ (h (OfClock members.UserDescription)) in
+    let two_step = flag_same _ _ (h (OfClock members.TwoStep)) in
+    let priority1 = natural_same _ _ (h (OfClock members.Priority1)) in
+    let class = natural_same _ _ (h (OfClock members.ClockClass)) in
+    let accuracy = natural_same _ _ (h (OfClock members.ClockAccuracy)) in
+    let variance = natural_same _ _ (h (OfClock members.Variance)) in
+    let priority2 = natural_same _ _ (h (OfClock members.Priority2)) in
+    let steps = natural_same _ _ (h (OfClock members.StepsRemoved)) in
+    let offset = integer_same _ _ (h (OfClock members.OffsetFromMaster)) in
+    let delay = integer_same _ _ (h (OfClock members.MeanPathDelay)) in
+    let parent_port = port_identity_same _ _ (h (OfClock members.ParentPort)) in
+    let stats = flag_same _ _ (h (OfClock members.ParentStats)) in
+    let observed_variance = natural_same _ _ (h (OfClock members.ObservedVariance)) in
+    let observed_rate = integer_same _ _ (h (OfClock members.ObservedRate)) in
+    let grandmaster_priority1 = natural_same _ _ (h (OfClock members.GrandmasterPriority1)) in
+    let grandmaster_class = natural_same _ _ (h (OfClock members.GrandmasterClass)) in
+    let grandmaster_accuracy = natural_same _ _ (h (OfClock members.GrandmasterAccuracy)) in
+    let grandmaster_variance = natural_same _ _ (h (OfClock members.GrandmasterVariance)) in
+    let grandmaster_priority2 = natural_same _ _ (h (OfClock members.GrandmasterPriority2)) in
+    let grandmaster = identity_same _ _ (h (OfClock members.Grandmaster)) in
+    let utc_offset = integer_same _ _ (h (OfClock members.UtcOffset)) in
+    let leap61 = flag_same _ _ (h (OfClock members.Leap61)) in
+    let leap59 = flag_same _ _ (h (OfClock members.Leap59)) in
+    let utc_valid = flag_same _ _ (h (OfClock members.UtcValid)) in
+    let timescale = flag_same _ _ (h (OfClock members.PtpTimescale)) in
+    let time_traceable = flag_same _ _ (h (OfClock members.TimeTraceable)) in
+    let frequency_traceable = flag_same _ _ (h (OfClock members.FrequencyTraceable)) in
+    let time_source = natural_same _ _ (h (OfClock members.TimeSource)) in
+    let port : (i : ℕ) → slice_get a.ports i ≡ slice_get b.ports i =
+    λ i. sym (port_at a i) ∙ option_same _ _ (λ m. h (OfPort (i + 1) m)) ∙ port_at b i in
+    let ports = ports_same a.ports b.ports port in
+    λ i. record {
+      default = record {
+        identity = identity i;
+        domain = domain i;
+        two_step = two_step i;
+        precedence = record { priority1 = priority1 i; class = class i; accuracy = accuracy i; variance = variance i; priority2 = priority2 i };
+      };
+      description = text i;
+      current = record { steps_removed = steps i; offset_from_master = offset i; mean_path_delay = delay i };
+      parent = record {
+        parent_port = parent_port i;
+        parent_stats = stats i;
+        observed_variance = observed_variance i;
+        observed_rate = observed_rate i;
+        grandmaster = grandmaster i;
+        precedence = record {
+          priority1 = grandmaster_priority1 i;
+          class = grandmaster_class i;
+          accuracy = grandmaster_accuracy i;
+          variance = grandmaster_variance i;
+          priority2 = grandmaster_priority2 i;
+        };
+      };
+      time = record {
+        utc_offset = utc_offset i;
+        leap61 = leap61 i;
+        leap59 = leap59 i;
+        utc_valid = utc_valid i;
+        ptp_timescale = timescale i;
+        time_traceable = time_traceable i;
+        frequency_traceable = frequency_traceable i;
+        time_source = time_source i;
+      };
+      ports = ports i;
+    }

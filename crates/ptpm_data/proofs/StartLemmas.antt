@@ -1,0 +1,111 @@
+-- The ports of a start, one after another.
+use Rattle.std.proofs.Common.{arith, ◌≡◌, ◌==◌, nat_lt, nat_le, Bool, true, false, not, ◌&&◌, if◌then◌else◌, bytes_eq, ℕ, ◌+◌, ◌<◌, ◌≤◌, List, [], ◌∷◌, ◌++◌, Option, Some, None, Result, Ok, Err, map, take, drop, length, get_or, drop-cons, add-one, refl, ap, sym, subst, IsErrAnd, MatchResult, ◌∙◌}
+use Rattle.std.proofs.Math.ListN.{drop_of_length-le}
+use Rattle.std.proofs.lemmas.List.{take_more, map-append}
+use Rattle.ptpm_data.specs.declared.start.StartError.{StartError}
+use Rattle.ptpm_data.specs.declared.start.PortStart.{PortStart}
+use Rattle.ptpm_data.specs.declared.data_sets.PortDataSet.{PortDataSet}
+use Rattle.ptpm_data.specs.Start.{port_data_set, port_fault, ports_fault, port_start_of, or_else, unless, count_fault, clock_fault, grandmaster_fault, all_ones}
+use Rattle.ptpm_data.specs.Ranges.{is_description}
+use Rattle.ptpm_data.specs.Members.{is_grandmaster, is_same_precedence}
+use Rattle.ptpm_data.specs.declared.data_sets.ClockPrecedence.{ClockPrecedence}
+use Rattle.ptpm_data.specs.declared.data_sets.DefaultDataSet.{DefaultDataSet}
+use Rattle.ptpm_data.specs.declared.data_sets.ParentDataSet.{ParentDataSet}
+use Rattle.ptpm_data.specs.declared.start.ClockStart.{ClockStart}
+use Rattle.std.proofs.lemmas.Bool.{and_parts, eqb-true, not-false}
+use Rattle.std.proofs.lemmas.Bool.Decides.{nat_tests}
+
+pub ports_fault_step : (ps : List PortStart) (i : ℕ) (p : PortStart) → i < length ps
+    → ports_fault (drop i ps) ≡ or_else (port_fault (get_or ps i p)) (ports_fault (drop (i + 1) ps))
+unfolding ports_fault
+ports_fault_step ps i p h = rw (drop-cons ps i p h, add-one i) refl
+
+pub unless_ok : {A E : Type 0} (o : Option E) (a b : A) → unless o a ≡ Ok b → (o ≡ None) × (b ≡ a)
+unless_ok None a b h = (refl, cc)
+unless_ok (Some e) a b h = cc
+
+pub unless_err : {A E : Type 0} (o : Option E) (a : A) (e : E) → unless o a ≡ Err e → o ≡ Some e
+unless_err None a e h = cc
+unless_err (Some d) a e h = cc
+
+pub started_ok : (p : PortStart) (s : PortDataSet) → port_start_of p ≡ Ok s → (port_fault p ≡ None) × (s ≡ port_data_set p)
+unfolding port_start_of
+started_ok p s h = unless_ok _ _ _ h
+
+pub started_err : (p : PortStart) (m : StartError) → port_start_of p ≡ Err m → port_fault p ≡ Some m
+unfolding port_start_of
+started_err p m h = unless_err _ _ _ h
+
+-- a port without a fault
+pub goes_on : (ps : List PortStart) (i : ℕ) (p : PortStart) (s : PortDataSet) → i < length ps → ports_fault ps ≡ ports_fault (drop i ps)
+    → port_start_of (get_or ps i p) ≡ Ok s → ports_fault ps ≡ ports_fault (drop (i + 1) ps)
+goes_on ps i p s below here ok =
+    here ∙ ports_fault_step ps i p below ∙ ap (λ o. or_else o (ports_fault (drop (i + 1) ps))) (started_ok _ s ok).0
+
+-- a port with one
+pub stops : (ps : List PortStart) (i : ℕ) (p : PortStart) (m : StartError) → i < length ps → ports_fault ps ≡ ports_fault (drop i ps)
+    → port_start_of (get_or ps i p) ≡ Err m → ports_fault ps ≡ Some m
+stops ps i p m below here err =
+    here ∙ ports_fault_step ps i p below ∙ ap (λ o. or_else o (ports_fault (drop (i + 1) ps))) (started_err _ m err)
+
+pub no_more : (ps : List PortStart) (i : ℕ) → length ps ≤ i → ports_fault ps ≡ ports_fault (drop i ps) → ports_fault ps ≡ None
+unfolding ports_fault
+no_more ps i past here = here ∙ ap ports_fault (drop_of_length-le ps past)
+
+pub made_on : (ps : List PortStart) (i : ℕ) (p : PortStart) (s : PortDataSet) (sets : List PortDataSet) → i < length ps
+    → sets ≡ map port_data_set (take i ps) → port_start_of (get_or ps i p) ≡ Ok s
+    → sets ++ s ∷ [] ≡ map port_data_set (take (i + 1) ps)
+made_on ps i p s sets below made ok =
+    rw (take_more ps i p below, map-append port_data_set (take i ps) (get_or ps i p ∷ []), made, (started_ok _ s ok).1) refl
+
+-- an error that `?` hands on
+pub handed_on : {A E : Type 0} (r : Result A E) (e : E) (P : A → Type 0) (Q : E → Type 0) → IsErrAnd r (λ x. x ≡ e) → Q e → MatchResult r P Q
+handed_on (Ok a) e P Q h q = absurd h
+handed_on (Err x) e P Q h q = subst Q (sym h) q
+
+-- ---- what follows where there is no fault
+
+pub passes : {E : Type 0} (b : Bool) (e : E) (o : Option E) → (if b then Some e else o) ≡ None → (b ≡ false) × (o ≡ None)
+passes true e o h = cc
+passes false e o h = (refl, h)
+
+pub count_sound : (n : ℕ) → count_fault n ≡ None → (1 ≤ n) × (n ≤ 8)
+unfolding count_fault
+count_sound n h =
+    let none = passes (n == 0) _ _ h in
+    let many = passes (nat_lt 8 n) _ _ none.1 in
+    let a : n == 0 ≡ false = none.0 in
+    let b : nat_lt 8 n ≡ false = many.0 in
+    (grind (arith, nat_tests), grind (arith, nat_tests))
+
+pub description_sound : (c : ClockStart) → clock_fault c ≡ None → is_description c.user_description.items ≡ true
+unfolding clock_fault
+description_sound c h =
+    let identity = passes (bytes_eq c.identity.0 all_ones) _ _ h in
+    let text = passes (not (is_description c.user_description.items)) _ _ identity.1 in
+    not-false _ text.0
+
+pub description_small : (text : List ℕ) → is_description text ≡ true → length text ≤ 128
+unfolding is_description
+description_small text h = let small = (and_parts (nat_le (length text) 128) _ h).0 in grind (arith, nat_tests)
+
+pub precedence_sound : (x y : ClockPrecedence) → is_same_precedence x y ≡ true → x ≡ y
+precedence_sound x y h =
+    let p = and_parts _ _ h in
+    let q = and_parts _ _ p.1 in
+    let r = and_parts _ _ q.1 in
+    let s = and_parts _ _ r.1 in
+    let priority1 = eqb-true _ _ p.0 in
+    let class = eqb-true _ _ q.0 in
+    let accuracy = eqb-true _ _ r.0 in
+    let variance = eqb-true _ _ s.0 in
+    let priority2 = eqb-true _ _ s.1 in
+    λ i. record { priority1 = priority1 i; class = class i; accuracy = accuracy i; variance = variance i; priority2 = priority2 i }
+
+pub grandmaster_sound : (default : DefaultDataSet) (parent : ParentDataSet) → grandmaster_fault default parent ≡ None
+    → is_grandmaster default parent ≡ true → parent.precedence ≡ default.precedence
+unfolding grandmaster_fault
+grandmaster_sound default parent h own =
+    let same = is_same_precedence parent.precedence default.precedence in
+    let test = (passes (is_grandmaster default parent && not same) _ _ h).0 in
+    precedence_sound _ _ (not-false same (ap (λ b. b && not same) (sym own) ∙ test))

@@ -1,0 +1,106 @@
+-- The data sets after a request (IEEE 1588-2019, clause 15).
+use Rattle.std.specs.Prelude.{◌≡◌, ℕ, ◌≤◌, Bool, true, false, ◌||◌, ◌==◌, if◌then◌else◌, List, length, map, Option, Some, None, ◌⊎◌}
+use Rattle.std.specs.List.{enumerate_from}
+use Rattle.ptpm_codec.specs.declared.message.Action.{Action}
+use Rattle.ptpm_codec.specs.declared.message.Action.TheVariants as actions
+use Rattle.ptpm_codec.specs.declared.error.ErrorId.{ErrorId}
+use Rattle.ptpm_data.specs.declared.rights.Rights.{Rights}
+use Rattle.ptpm_data.specs.declared.ids.Layout.{Layout}
+use Rattle.ptpm_data.specs.declared.ids.Layout.TheVariants as layouts
+use Rattle.ptpm_data.specs.declared.data_sets.ClockPrecedence.{ClockPrecedence}
+use Rattle.ptpm_data.specs.declared.data_sets.TimePropertiesDataSet.{TimePropertiesDataSet}
+use Rattle.ptpm_data.specs.declared.data_sets.PortDataSet.{PortDataSet}
+use Rattle.ptpm_data.specs.declared.port_state.PortState.TheVariants as states
+use Rattle.ptpm_data.specs.declared.port_state.DelayMechanism.{DelayMechanism}
+use Rattle.ptpm_data.specs.IdTable.{Entry, row_of}
+use Rattle.ptpm_data.specs.PortState.{mechanism_of}
+use Rattle.ptpm_data.specs.Request.{RequestValue}
+use Rattle.ptpm_data.specs.Members.{DataSetsValue, is_own_grandmaster}
+use Rattle.ptpm_data.specs.PortChange.{enabled}
+use Rattle.ptpm_data.specs.SetField.{octet, first_i8, first_i16, has_bit, ptp_text}
+use Rattle.ptpm_data.specs.Refusals.{entry_refusal}
+
+-- ---- ports
+
+-- whether a target port means port n; 0xFFFF means every port (15.3.1)
+abbrev pub is_named : ℕ → ℕ → Bool
+is_named port n = (port == 0xffff) || (port == n)
+
+-- a target port that a request may have: every port, or one of so many
+abbrev pub IsTargetOf : ℕ → ℕ → Type 0
+IsTargetOf port number_of_ports = (port ≡ 0xffff) ⊎ ((1 ≤ port) × (port ≤ number_of_ports))
+
+abbrev pub IsTargetPort : ℕ → DataSetsValue → Type 0
+IsTargetPort port d = IsTargetOf port (length d.ports)
+
+abbrev pub changed_if : Bool → (PortDataSet → PortDataSet) → PortDataSet → PortDataSet
+changed_if b change p = if b then change p else p
+
+-- the change at each named port; port 1 comes first
+unfoldable pub named_changed : ℕ → (PortDataSet → PortDataSet) → List PortDataSet → List PortDataSet
+named_changed port change ports = map (λ e. changed_if (is_named port e.0) change e.1) (enumerate_from 1 ports)
+
+abbrev pub with_ports : ℕ → DataSetsValue → (PortDataSet → PortDataSet) → DataSetsValue
+with_ports port d change = record d { ports = named_changed port change d.ports }
+
+-- ---- the clock
+
+-- Its own precedence changes; a clock that is its own grandmaster shows it in its parent data set too (9.3.5, table 30).
+abbrev pub with_precedence : DataSetsValue → ClockPrecedence → DataSetsValue
+with_precedence d p = record d {
+  default = record d.default { precedence = p };
+  parent = if is_own_grandmaster d then record d.parent { precedence = p } else d.parent;
+}
+
+abbrev pub with_utc_properties : TimePropertiesDataSet → List ℕ → TimePropertiesDataSet
+with_utc_properties t octets = record t {
+  utc_offset = first_i16 octets;
+  leap61 = has_bit 0 (octet 2 octets);
+  leap59 = has_bit 1 (octet 2 octets);
+  utc_valid = has_bit 2 (octet 2 octets);
+}
+
+abbrev pub with_mechanism : ℕ → DataSetsValue → Option DelayMechanism → DataSetsValue
+with_mechanism port d None = d
+with_mechanism port d (Some m) = with_ports port d (λ p. record p { delay_mechanism = m })
+
+-- ---- what an accepted request changes
+
+-- SET (15.5.3): the members of the id are what the dataField says
+unfoldable pub set_members : Layout → ℕ → List ℕ → DataSetsValue → DataSetsValue
+set_members layouts.UserDescription port octets d = record d { description = ptp_text octets }
+set_members layouts.Priority1 port octets d = with_precedence d (record d.default.precedence { priority1 = octet 0 octets })
+set_members layouts.Priority2 port octets d = with_precedence d (record d.default.precedence { priority2 = octet 0 octets })
+set_members layouts.ClockAccuracy port octets d = with_precedence d (record d.default.precedence { accuracy = octet 0 octets })
+set_members layouts.Domain port octets d = record d { default = record d.default { domain = octet 0 octets } }
+set_members layouts.UtcProperties port octets d = record d { time = with_utc_properties d.time octets }
+set_members layouts.LogAnnounceInterval port octets d = with_ports port d (λ p. record p { log_announce = first_i8 octets })
+set_members layouts.AnnounceReceiptTimeout port octets d = with_ports port d (λ p. record p { receipt_timeout = octet 0 octets })
+set_members layouts.LogSyncInterval port octets d = with_ports port d (λ p. record p { log_sync = first_i8 octets })
+set_members layouts.LogMinPdelayReqInterval port octets d =
+    with_ports port d (λ p. record p { log_min_pdelay = first_i8 octets })
+set_members layouts.DelayMechanism port octets d = with_mechanism port d (mechanism_of (octet 0 octets))
+set_members _ port octets d = d
+
+-- COMMAND: ENABLE_PORT and DISABLE_PORT (15.5.3.7.6 and 7); NULL_PTP_MANAGEMENT changes nothing
+unfoldable pub commanded : Layout → ℕ → DataSetsValue → DataSetsValue
+commanded layouts.EnablePort port d = with_ports port d (λ p. record p { state = enabled p.state })
+commanded layouts.DisablePort port d = with_ports port d (λ p. record p { state = states.Disabled })
+commanded _ port d = d
+
+abbrev pub carried_out : Layout → RequestValue → Action → DataSetsValue → DataSetsValue
+carried_out layout q actions.Set d = set_members layout q.port q.octets d
+carried_out layout q actions.Command d = commanded layout q.port d
+carried_out layout q _ d = d
+
+abbrev pub unless_refused : Option ErrorId → DataSetsValue → DataSetsValue → DataSetsValue
+unless_refused None changed d = changed
+unless_refused (Some error) changed d = d
+
+abbrev pub changed_at : Option Entry → RequestValue → Rights → DataSetsValue → DataSetsValue
+changed_at None q rights d = d
+changed_at (Some e) q rights d = unless_refused (entry_refusal e q rights) (carried_out e.layout q q.action d) d
+
+-- the data sets after a request of a manager with these rights; a refused one changes nothing
+unfoldable pub changed_by : RequestValue → Rights → DataSetsValue → DataSetsValue
+changed_by q rights d = changed_at (row_of q.id) q rights d

@@ -1,0 +1,138 @@
+-- What the dataField of a GET holds (IEEE 1588-2019, 15.5.3), one word for each data set. Numbers of several octets have
+-- the highest octet first, and signed ones are in two's complement (5.2). A reserved octet is 0.
+use Rattle.std.specs.Prelude.{ℕ, ◌+◌, ◌*◌, ◌%◌, ◌^◌, Bool, false, List, [], ◌∷◌, ◌++◌, length, replicate, ℤ, Option, Some, None}
+use Rattle.std.specs.Int.{w8, w16, w32, w64, cast_unsigned, from_bool}
+use Rattle.byteorder.specs.Endian.{big_bytes}
+use Rattle.ptpm_codec.specs.declared.identity.ClockIdentity.{ClockIdentity}
+use Rattle.ptpm_codec.specs.declared.message.Action.{Action}
+use Rattle.ptpm_data.specs.declared.data_sets.ClockPrecedence.{ClockPrecedence}
+use Rattle.ptpm_data.specs.declared.data_sets.DefaultDataSet.{DefaultDataSet}
+use Rattle.ptpm_data.specs.declared.data_sets.CurrentDataSet.{CurrentDataSet}
+use Rattle.ptpm_data.specs.declared.data_sets.ParentDataSet.{ParentDataSet}
+use Rattle.ptpm_data.specs.declared.data_sets.TimePropertiesDataSet.{TimePropertiesDataSet}
+use Rattle.ptpm_data.specs.declared.data_sets.PortDataSet.{PortDataSet}
+use Rattle.ptpm_data.specs.declared.ids.Layout.{Layout}
+use Rattle.ptpm_data.specs.declared.ids.Layout.TheVariants as layouts
+use Rattle.ptpm_data.specs.IdTable.{Entry, row_of, has_action}
+use Rattle.ptpm_data.specs.PortState.{state_number, mechanism_number}
+use Rattle.ptpm_data.specs.Members.{DataSetsValue, port_of}
+
+-- an Integer8, Integer16, Integer32 and Integer64
+unfoldable pub i8_octet : ℤ → ℕ
+i8_octet z = cast_unsigned w8 z
+
+unfoldable pub i16_octets : ℤ → List ℕ
+i16_octets z = big_bytes 2 (cast_unsigned w16 z)
+
+unfoldable pub i32_octets : ℤ → List ℕ
+i32_octets z = big_bytes 4 (cast_unsigned w32 z)
+
+unfoldable pub i64_octets : ℤ → List ℕ
+i64_octets z = big_bytes 8 (cast_unsigned w64 z)
+
+-- a flag as this bit of its octet
+abbrev pub bit : ℕ → Bool → ℕ
+bit n flag = 2 ^ n * from_bool flag
+
+-- priority1, clockQuality (class, accuracy, variance: 5.3.7) and priority2
+unfoldable pub precedence_octets : ClockPrecedence → List ℕ
+precedence_octets p = p.priority1 ∷ p.class ∷ p.accuracy ∷ big_bytes 2 p.variance ++ p.priority2 ∷ []
+
+-- DEFAULT_DATA_SET (15.5.3.3.1); slaveOnly, bit 1 of the flags, is false in a boundary clock
+unfoldable pub default_data_field : DefaultDataSet → ℕ → List ℕ
+default_data_field d number_of_ports =
+    bit 0 d.two_step ∷ 0 ∷ [] ++ big_bytes 2 number_of_ports
+    ++ precedence_octets d.precedence ++ d.identity.0 ++ d.domain ∷ 0 ∷ []
+
+-- CURRENT_DATA_SET (15.5.3.4.1)
+unfoldable pub current_data_field : CurrentDataSet → List ℕ
+current_data_field c = big_bytes 2 c.steps_removed ++ i64_octets c.offset_from_master ++ i64_octets c.mean_path_delay
+
+-- PARENT_DATA_SET (15.5.3.5.1)
+unfoldable pub parent_data_field : ParentDataSet → List ℕ
+parent_data_field p =
+    p.parent_port.clock.0 ++ big_bytes 2 p.parent_port.port ++ bit 0 p.parent_stats ∷ 0 ∷ [] ++ big_bytes 2 p.observed_variance
+    ++ i32_octets p.observed_rate ++ precedence_octets p.precedence ++ p.grandmaster.0
+
+-- TIME_PROPERTIES_DATA_SET (15.5.3.6.1)
+unfoldable pub time_properties_data_field : TimePropertiesDataSet → List ℕ
+time_properties_data_field t =
+    i16_octets t.utc_offset
+    ++ (bit 0 t.leap61 + bit 1 t.leap59 + bit 2 t.utc_valid + bit 3 t.ptp_timescale + bit 4 t.time_traceable
+    + bit 5 t.frequency_traceable)
+    ∷ t.time_source ∷ []
+
+-- UTC_PROPERTIES (15.5.3.6.2)
+unfoldable pub utc_properties_data_field : TimePropertiesDataSet → List ℕ
+utc_properties_data_field t =
+    i16_octets t.utc_offset ++ (bit 0 t.leap61 + bit 1 t.leap59 + bit 2 t.utc_valid) ∷ 0 ∷ []
+
+-- what a SET can change at a port, and versionNumber: 2 in the lower nibble, 0 in the upper (this project's profile)
+unfoldable pub port_settings_octets : PortDataSet → List ℕ
+port_settings_octets p =
+    i8_octet p.log_announce ∷ p.receipt_timeout ∷ i8_octet p.log_sync ∷ []
+    ++ mechanism_number p.delay_mechanism ∷ i8_octet p.log_min_pdelay ∷ 2 ∷ []
+
+-- PORT_DATA_SET (15.5.3.7.1)
+unfoldable pub port_data_field : ClockIdentity → ℕ → PortDataSet → List ℕ
+port_data_field identity port p =
+    identity.0 ++ big_bytes 2 port ++ state_number p.state ∷ i8_octet p.log_min_delay_req ∷ [] ++ i64_octets p.peer_delay
+    ++ port_settings_octets p
+
+-- a PTPText (5.3.9): the number of its octets, these, and a pad octet where the dataField's size would be odd
+unfoldable pub text_data_field : List ℕ → List ℕ
+text_data_field text = length text ∷ text ++ replicate ((1 + length text) % 2) 0
+
+-- one octet and a reserved one
+abbrev pub octet_data_field : ℕ → List ℕ
+octet_data_field n = n ∷ 0 ∷ []
+
+abbrev pub i8_data_field : ℤ → List ℕ
+i8_data_field z = octet_data_field (i8_octet z)
+
+-- what a port's members give; nothing where the clock lacks the port
+abbrev pub field_of_port : (PortDataSet → List ℕ) → Option PortDataSet → List ℕ
+field_of_port field None = []
+field_of_port field (Some p) = field p
+
+-- the dataField of an id of a port, by what its table entry says that it holds
+unfoldable pub port_field_of : Layout → ClockIdentity → ℕ → PortDataSet → List ℕ
+port_field_of layouts.PortDataSet identity port p = port_data_field identity port p
+port_field_of layouts.LogAnnounceInterval identity port p = i8_data_field p.log_announce
+port_field_of layouts.AnnounceReceiptTimeout identity port p = octet_data_field p.receipt_timeout
+port_field_of layouts.LogSyncInterval identity port p = i8_data_field p.log_sync
+port_field_of layouts.VersionNumber identity port p = octet_data_field 2
+port_field_of layouts.DelayMechanism identity port p = octet_data_field (mechanism_number p.delay_mechanism)
+port_field_of layouts.LogMinPdelayReqInterval identity port p = i8_data_field p.log_min_pdelay
+port_field_of _ identity port p = []
+
+-- the dataField of any id; the port matters for an id of a port alone
+unfoldable pub data_field_of : Layout → ℕ → DataSetsValue → List ℕ
+data_field_of layouts.UserDescription port d = text_data_field d.description
+data_field_of layouts.DefaultDataSet port d = default_data_field d.default (length d.ports)
+data_field_of layouts.CurrentDataSet port d = current_data_field d.current
+data_field_of layouts.ParentDataSet port d = parent_data_field d.parent
+data_field_of layouts.TimePropertiesDataSet port d = time_properties_data_field d.time
+data_field_of layouts.Priority1 port d = octet_data_field d.default.precedence.priority1
+data_field_of layouts.Priority2 port d = octet_data_field d.default.precedence.priority2
+data_field_of layouts.Domain port d = octet_data_field d.default.domain
+data_field_of layouts.SlaveOnly port d = octet_data_field 0
+data_field_of layouts.ClockAccuracy port d = octet_data_field d.default.precedence.accuracy
+data_field_of layouts.UtcProperties port d = utc_properties_data_field d.time
+data_field_of layout port d = field_of_port (port_field_of layout d.default.identity port) (port_of port d)
+
+-- whether an id permits an action
+abbrev pub entry_permits : Action → Option Entry → Bool
+entry_permits action None = false
+entry_permits action (Some e) = has_action action e.actions
+
+abbrev pub permits : Action → ℕ → Bool
+permits action id = entry_permits action (row_of id)
+
+abbrev pub field_of_entry : Option Entry → ℕ → DataSetsValue → List ℕ
+field_of_entry None port d = []
+field_of_entry (Some e) port d = data_field_of e.layout port d
+
+-- the dataField of an id; nothing for one that is not in the table
+abbrev pub data_field_of_id : ℕ → ℕ → DataSetsValue → List ℕ
+data_field_of_id id port d = field_of_entry (row_of id) port d

@@ -1,0 +1,16 @@
+pub mod IdTable
+pub mod Ranges
+pub mod PortState
+pub mod Request
+pub mod Reply
+pub mod MemberNames
+pub mod Members
+pub mod DataField
+pub mod SetField
+pub mod Refusals
+pub mod PortChange
+pub mod MemberMap
+pub mod Start
+pub mod Changes
+pub mod Replies
+pub mod RequestLaws

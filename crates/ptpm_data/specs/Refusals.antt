@@ -1,0 +1,96 @@
+-- Why a request is refused (IEEE 1588-2019, 15.5.4.3). Which actions an id permits, the rights, the ranges, and the order and
+-- choice of the errors are this project's profile.
+use Rattle.std.specs.Prelude.{ℕ, Bool, true, false, not, ◌&&◌, ◌==◌, if◌then◌else◌, bit_and, List, [], ◌∷◌, length, Option, Some, None}
+use Rattle.ptpm_codec.specs.declared.message.Action.{Action}
+use Rattle.ptpm_codec.specs.declared.message.Action.TheVariants as actions
+use Rattle.ptpm_codec.specs.declared.error.ErrorId.{ErrorId}
+use Rattle.ptpm_codec.specs.declared.error.ErrorId.TheVariants.{NoSuchId, WrongLength, WrongValue, NotSetable, NotSupported}
+use Rattle.ptpm_data.specs.declared.rights.Rights.{Rights}
+use Rattle.ptpm_data.specs.declared.ids.Scope.{Scope}
+use Rattle.ptpm_data.specs.declared.ids.Scope.TheVariants.{Clock, Port}
+use Rattle.ptpm_data.specs.declared.ids.Layout.{Layout}
+use Rattle.ptpm_data.specs.declared.ids.Layout.TheVariants as layouts
+use Rattle.ptpm_data.specs.IdTable.{Entry, row_of, has_action}
+use Rattle.ptpm_data.specs.Ranges.{is_description, is_clock_accuracy, is_announce_interval, is_receipt_timeout, is_sync_interval, is_delay_mechanism, is_pdelay_interval}
+use Rattle.ptpm_data.specs.Request.{RequestValue}
+use Rattle.ptpm_data.specs.SetField.{octet, first_i8, has_bit, ptp_text, is_ptp_text}
+
+-- ---- lengths and ranges
+
+-- the size of the dataField of a SET
+unfoldable pub is_set_length : Layout → List ℕ → Bool
+is_set_length layouts.NullPtpManagement octets = length octets == 0
+is_set_length layouts.UserDescription octets = is_ptp_text octets
+is_set_length layouts.UtcProperties octets = length octets == 4
+is_set_length _ octets = length octets == 2
+
+-- a GET's dataField is ignored, and a COMMAND has none
+abbrev pub is_length : Action → Layout → List ℕ → Bool
+is_length actions.Set layout octets = is_set_length layout octets
+is_length actions.Command layout octets = length octets == 0
+is_length _ layout octets = true
+
+-- the values that a SET may give
+unfoldable pub is_set_value : Layout → List ℕ → Bool
+is_set_value layouts.UserDescription octets = is_description (ptp_text octets)
+is_set_value layouts.LogAnnounceInterval octets = is_announce_interval (first_i8 octets)
+is_set_value layouts.AnnounceReceiptTimeout octets = is_receipt_timeout (octet 0 octets)
+is_set_value layouts.LogSyncInterval octets = is_sync_interval (first_i8 octets)
+is_set_value layouts.ClockAccuracy octets = is_clock_accuracy (octet 0 octets)
+is_set_value layouts.UtcProperties octets = not (has_bit 0 (octet 2 octets) && has_bit 1 (octet 2 octets))
+is_set_value layouts.DelayMechanism octets = is_delay_mechanism (octet 0 octets)
+is_set_value layouts.LogMinPdelayReqInterval octets = is_pdelay_interval (first_i8 octets)
+is_set_value _ octets = true
+
+abbrev pub is_value : Action → Layout → List ℕ → Bool
+is_value actions.Set layout octets = is_set_value layout octets
+is_value _ layout octets = true
+
+-- ---- rights: CLOCK_SET is 1, PORT_SET is 2, PORT_COMMAND is 4
+
+abbrev pub set_right : Scope → ℕ
+set_right Clock = 1
+set_right Port = 2
+
+abbrev pub command_right : Layout → ℕ
+command_right layouts.NullPtpManagement = 0
+command_right _ = 4
+
+-- what a request needs: a GET nothing, and a COMMAND of NULL_PTP_MANAGEMENT nothing
+abbrev pub needed_right : Action → Scope → Layout → ℕ
+needed_right actions.Set scope layout = set_right scope
+needed_right actions.Command scope layout = command_right layout
+needed_right _ scope layout = 0
+
+abbrev pub has_right : ℕ → Rights → Bool
+has_right right rights = bit_and rights.0 right == right
+
+-- ---- refusals (15.5.4.3)
+
+abbrev pub unpermitted : Action → ErrorId
+unpermitted actions.Set = NotSetable
+unpermitted _ = NotSupported
+
+-- the refusals of a request for an id of the table, in their order, each with its test
+abbrev pub refusals : Entry → RequestValue → Rights → List (Bool × ErrorId)
+refusals e q rights =
+    (not (has_action q.action e.actions), unpermitted q.action)
+    ∷ (not (has_right (needed_right q.action e.scope e.layout) rights), NotSupported)
+    ∷ (not (is_length q.action e.layout q.octets), WrongLength)
+    ∷ (not (is_value q.action e.layout q.octets), WrongValue)
+    ∷ []
+
+abbrev pub first_of : List (Bool × ErrorId) → Option ErrorId
+first_of [] = None
+first_of (r ∷ rs) = if r.0 then Some r.1 else first_of rs
+
+unfoldable pub entry_refusal : Entry → RequestValue → Rights → Option ErrorId
+entry_refusal e q rights = first_of (refusals e q rights)
+
+abbrev pub refusal_at : Option Entry → RequestValue → Rights → Option ErrorId
+refusal_at None q rights = Some NoSuchId
+refusal_at (Some e) q rights = entry_refusal e q rights
+
+-- why a request is refused; none where it is carried out
+abbrev pub refusal_of : RequestValue → Rights → Option ErrorId
+refusal_of q rights = refusal_at (row_of q.id) q rights

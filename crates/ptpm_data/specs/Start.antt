@@ -1,0 +1,211 @@
+-- The data sets that a clock starts with (IEEE 1588-2019, clause 8; ranges, defaults and faults are this project's profile).
+use Rattle.std.specs.Prelude.{ℕ, ◌==◌, nat_lt, pos, Bool, true, false, not, ◌&&◌, if◌then◌else◌, List, [], ◌∷◌, length, map, Option, Some, None, is_none, unwrap_or, Result, Ok, Err, bytes_eq}
+use Rattle.ptpm_codec.specs.declared.identity.ClockIdentity.{ClockIdentity}
+use Rattle.ptpm_data.specs.declared.members.Member.TheVariants as members
+use Rattle.ptpm_data.specs.declared.port_state.PortState.TheVariants as states
+use Rattle.ptpm_data.specs.declared.port_state.DelayMechanism.TheVariants as mechanisms
+use Rattle.ptpm_data.specs.declared.start.ClockStart.{ClockStart}
+use Rattle.ptpm_data.specs.declared.start.PortStart.{PortStart}
+use Rattle.ptpm_data.specs.declared.start.StartError.{StartError}
+use Rattle.ptpm_data.specs.declared.start.StartError.TheVariants.{NoPorts, TooManyPorts, BadValue, GrandmasterDiffers}
+use Rattle.ptpm_data.specs.declared.data_sets.ClockPrecedence.{ClockPrecedence}
+use Rattle.ptpm_data.specs.declared.data_sets.DefaultDataSet.{DefaultDataSet}
+use Rattle.ptpm_data.specs.declared.data_sets.CurrentDataSet.{CurrentDataSet}
+use Rattle.ptpm_data.specs.declared.data_sets.ParentDataSet.{ParentDataSet}
+use Rattle.ptpm_data.specs.declared.data_sets.TimePropertiesDataSet.{TimePropertiesDataSet}
+use Rattle.ptpm_data.specs.declared.data_sets.PortDataSet.{PortDataSet}
+use Rattle.ptpm_data.specs.Members.{DataSetsValue, is_grandmaster, is_same_precedence}
+use Rattle.ptpm_data.specs.PortState.{state_of, mechanism_of}
+use Rattle.ptpm_data.specs.Ranges.{is_description, is_clock_accuracy, is_announce_interval, is_receipt_timeout, is_sync_interval, is_pdelay_interval}
+
+-- ---- defaults
+
+abbrev pub default_clock : ClockIdentity → ℕ → ClockStart
+default_clock identity domain = record {
+  identity = identity;
+  domain = domain;
+  user_description = record { items = [] };
+  two_step = true;
+  priority1 = 128;
+  clock_class = 248;
+  clock_accuracy = 0xfe;
+  variance = 65535;
+  priority2 = 128;
+  steps_removed = 0;
+  offset_from_master = pos 0;
+  mean_path_delay = pos 0;
+  parent_port = None;
+  parent_stats = false;
+  observed_variance = 65535;
+  observed_rate = pos 2147483647;
+  grandmaster_priority1 = None;
+  grandmaster_class = None;
+  grandmaster_accuracy = None;
+  grandmaster_variance = None;
+  grandmaster_priority2 = None;
+  grandmaster = None;
+  utc_offset = pos 37;
+  leap61 = false;
+  leap59 = false;
+  utc_valid = false;
+  ptp_timescale = false;
+  time_traceable = false;
+  frequency_traceable = false;
+  time_source = 160;
+}
+
+abbrev pub default_port : PortStart
+default_port = record {
+  state = 6;
+  log_min_delay_req = pos 0;
+  peer_delay = pos 0;
+  log_announce = pos 1;
+  receipt_timeout = 3;
+  log_sync = pos 0;
+  delay_mechanism = 1;
+  log_min_pdelay = pos 0;
+}
+
+-- ---- the data sets of a start; where a start gives none, the clock's own value
+
+abbrev pub own_precedence : ClockStart → ClockPrecedence
+own_precedence c = record {
+  priority1 = c.priority1;
+  class = c.clock_class;
+  accuracy = c.clock_accuracy;
+  variance = c.variance;
+  priority2 = c.priority2;
+}
+
+abbrev pub grandmaster_precedence : ClockStart → ClockPrecedence
+grandmaster_precedence c = record {
+  priority1 = unwrap_or c.grandmaster_priority1 c.priority1;
+  class = unwrap_or c.grandmaster_class c.clock_class;
+  accuracy = unwrap_or c.grandmaster_accuracy c.clock_accuracy;
+  variance = unwrap_or c.grandmaster_variance c.variance;
+  priority2 = unwrap_or c.grandmaster_priority2 c.priority2;
+}
+
+abbrev pub default_data_set : ClockStart → DefaultDataSet
+default_data_set c = record { identity = c.identity; domain = c.domain; two_step = c.two_step; precedence = own_precedence c }
+
+abbrev pub current_data_set : ClockStart → CurrentDataSet
+current_data_set c = record {
+  steps_removed = c.steps_removed;
+  offset_from_master = c.offset_from_master;
+  mean_path_delay = c.mean_path_delay;
+}
+
+abbrev pub parent_data_set : ClockStart → ParentDataSet
+parent_data_set c = record {
+  parent_port = unwrap_or c.parent_port (record { clock = c.identity; port = 0 });
+  parent_stats = c.parent_stats;
+  observed_variance = c.observed_variance;
+  observed_rate = c.observed_rate;
+  grandmaster = unwrap_or c.grandmaster c.identity;
+  precedence = grandmaster_precedence c;
+}
+
+abbrev pub time_data_set : ClockStart → TimePropertiesDataSet
+time_data_set c = record {
+  utc_offset = c.utc_offset;
+  leap61 = c.leap61;
+  leap59 = c.leap59;
+  utc_valid = c.utc_valid;
+  ptp_timescale = c.ptp_timescale;
+  time_traceable = c.time_traceable;
+  frequency_traceable = c.frequency_traceable;
+  time_source = c.time_source;
+}
+
+-- of a port in whose start there is no fault, so that its state and mechanism are those of the numbers
+abbrev pub port_data_set : PortStart → PortDataSet
+port_data_set p = record {
+  state = unwrap_or (state_of p.state) states.Initializing;
+  log_min_delay_req = p.log_min_delay_req;
+  peer_delay = p.peer_delay;
+  log_announce = p.log_announce;
+  receipt_timeout = p.receipt_timeout;
+  log_sync = p.log_sync;
+  delay_mechanism = unwrap_or (mechanism_of p.delay_mechanism) mechanisms.Disabled;
+  log_min_pdelay = p.log_min_pdelay;
+}
+
+abbrev pub started : ClockStart → List PortStart → DataSetsValue
+started c ports = record {
+  default = default_data_set c;
+  description = c.user_description.items;
+  current = current_data_set c;
+  parent = parent_data_set c;
+  time = time_data_set c;
+  ports = map port_data_set ports;
+}
+
+-- the first whose test holds
+abbrev pub first_of : {E : Type 0} → List (Bool × E) → Option E
+first_of [] = None
+first_of (r ∷ rs) = if r.0 then Some r.1 else first_of rs
+
+-- the first of two that is there
+abbrev pub or_else : {E : Type 0} → Option E → Option E → Option E
+or_else (Some e) o = Some e
+or_else None o = o
+
+abbrev pub all_ones : List ℕ
+all_ones = 255 ∷ 255 ∷ 255 ∷ 255 ∷ 255 ∷ 255 ∷ 255 ∷ 255 ∷ []
+
+-- ---- faults: of each list the answer is the first whose test holds
+
+-- of the number of ports
+unfoldable pub count_fault : ℕ → Option StartError
+count_fault count = first_of ((count == 0, NoPorts) ∷ (nat_lt 8 count, TooManyPorts) ∷ [])
+
+-- of the clock's members; those that are not here may have every value of their types
+unfoldable pub clock_fault : ClockStart → Option StartError
+clock_fault c = first_of (
+    (bytes_eq c.identity.0 all_ones, BadValue members.Identity)
+    ∷ (not (is_description c.user_description.items), BadValue members.UserDescription)
+    ∷ (not (is_clock_accuracy c.clock_accuracy), BadValue members.ClockAccuracy)
+    ∷ (c.leap61 && c.leap59, BadValue members.Leap59)
+    ∷ [])
+
+-- of a port's
+unfoldable pub port_fault : PortStart → Option StartError
+port_fault p = first_of (
+    (is_none (state_of p.state), BadValue members.State)
+    ∷ (not (is_announce_interval p.log_announce), BadValue members.LogAnnounce)
+    ∷ (not (is_receipt_timeout p.receipt_timeout), BadValue members.ReceiptTimeout)
+    ∷ (not (is_sync_interval p.log_sync), BadValue members.LogSync)
+    ∷ (is_none (mechanism_of p.delay_mechanism), BadValue members.DelayMechanism)
+    ∷ (not (is_pdelay_interval p.log_min_pdelay), BadValue members.LogMinPdelay)
+    ∷ [])
+
+-- of the first port that has one
+unfoldable pub ports_fault : List PortStart → Option StartError
+ports_fault [] = None
+ports_fault (p ∷ ps) = or_else (port_fault p) (ports_fault ps)
+
+-- of a clock that is its own grandmaster: a priority or quality of the grandmaster is not its own
+unfoldable pub grandmaster_fault : DefaultDataSet → ParentDataSet → Option StartError
+grandmaster_fault default parent = first_of (
+    (is_grandmaster default parent && not (is_same_precedence parent.precedence default.precedence), GrandmasterDiffers) ∷ [])
+
+-- in this order
+abbrev pub start_fault : ClockStart → List PortStart → Option StartError
+start_fault c ports =
+    or_else (count_fault (length ports))
+    (or_else (clock_fault c)
+    (or_else (ports_fault ports)
+    (grandmaster_fault (default_data_set c) (parent_data_set c))))
+
+-- ---- the answer: the value, where there is no fault
+
+abbrev pub unless : {A E : Type 0} → Option E → A → Result A E
+unless None a = Ok a
+unless (Some e) a = Err e
+
+unfoldable pub port_start_of : PortStart → Result PortDataSet StartError
+port_start_of p = unless (port_fault p) (port_data_set p)
+
+unfoldable pub start_of : ClockStart → List PortStart → Result DataSetsValue StartError
+start_of c ports = unless (start_fault c ports) (started c ports)

@@ -1,0 +1,175 @@
+//! What an accepted request changes (clause 15).
+
+ghost use Rattle.std.specs.Prelude.{◌≡◌, true, length};
+ghost use Rattle.ptpm_data.specs.Changes.{IsTargetOf, named_changed, with_utc_properties};
+ghost use Rattle.ptpm_data.specs.PortChange.{port_after};
+ghost use Rattle.ptpm_data.specs.Ranges.{is_description};
+
+use crate::data_sets::{ClockPrecedence, DataSets, PortDataSet, TimePropertiesDataSet};
+use crate::ids::{Layout, Row};
+use crate::port_change::PortChange;
+use crate::port_state::DelayMechanism;
+use crate::refusals::refusal;
+use crate::request::Request;
+use crate::rights::Rights;
+use crate::set_field::{first_i8, first_i16, ptp_text};
+use arrayvec::ArrayVec;
+use ptpm_codec::{Action, ErrorId, PortIdentity};
+
+impl DataSets {
+    ghost use Rattle.std.specs.Prelude.{◌≤◌};
+    ghost use Rattle.ptpm_data.specs.IdTable.{entry_of};
+    ghost use Rattle.ptpm_data.specs.Changes.{carried_out, commanded, IsTargetPort, set_members, unless_refused, with_precedence, with_ports};
+    ghost use Rattle.ptpm_data.specs.Refusals.{entry_refusal, is_length, is_set_length, is_set_value, is_value};
+
+    /// Carries out a request for an id of the table, unless it is refused; a refused one changes no member. The answer is why
+    /// it is refused.
+    pub(crate) fn carry_out(
+        &mut self,
+        row: &Row,
+        request: &Request<'_>,
+        rights: Rights,
+    ) -> Option<ErrorId>
+        requires { IsTargetPort request.now.port self.old }
+        ensures refusal { result ≡ entry_refusal (entry_of row.now) request.now rights }
+        ensures changed { self.new
+            ≡ unless_refused result (carried_out row.now.layout request.now request.now.action self.old) self.old }
+        ensures ports { length self.new.ports ≡ length self.old.ports }
+    {
+        let refusal = refusal(row, request, rights);
+        if refusal.is_none() {
+            self.apply(row.layout, request);
+        }
+        refusal
+    }
+
+    fn apply(&mut self, layout: Layout, request: &Request<'_>)
+        requires length { is_length request.now.action layout request.now.octets ≡ true }
+        requires value { is_value request.now.action layout request.now.octets ≡ true }
+        requires port { IsTargetPort request.now.port self.old }
+        ensures { self.new ≡ carried_out layout request.now request.now.action self.old }
+    {
+        match request.action {
+            Action::Set => self.set_members(layout, request.port, request.octets),
+            Action::Command => self.command(layout, request.port),
+            _ => {}
+        }
+    }
+
+    #[tactic(auto, unfolding(crate::specs::Changes::set_members, crate::specs::Refusals::is_set_length, crate::specs::Refusals::is_set_value))]
+    fn set_members(&mut self, layout: Layout, port: u16, octets: &[u8])
+        requires length { is_set_length layout octets.now ≡ true }
+        requires value { is_set_value layout octets.now ≡ true }
+        requires port { IsTargetPort port self.old }
+        ensures { self.new ≡ set_members layout port octets.now self.old }
+    {
+        match layout {
+            Layout::UserDescription => self.set_description(ptp_text(octets)),
+            Layout::Priority1 => self.set_precedence(ClockPrecedence {
+                priority1: octets[0],
+                ..self.default.precedence
+            }),
+            Layout::Priority2 => self.set_precedence(ClockPrecedence {
+                priority2: octets[0],
+                ..self.default.precedence
+            }),
+            Layout::ClockAccuracy => self.set_precedence(ClockPrecedence {
+                accuracy: octets[0],
+                ..self.default.precedence
+            }),
+            Layout::Domain => self.default.domain = octets[0],
+            Layout::UtcProperties => set_utc_properties(&mut self.time, octets),
+            Layout::LogAnnounceInterval => self.change_ports(
+                port,
+                PortChange::LogAnnounceInterval(first_i8(octets)),
+            ),
+            Layout::AnnounceReceiptTimeout => self.change_ports(
+                port,
+                PortChange::AnnounceReceiptTimeout(octets[0]),
+            ),
+            Layout::LogSyncInterval => self.change_ports(
+                port,
+                PortChange::LogSyncInterval(first_i8(octets)),
+            ),
+            Layout::LogMinPdelayReqInterval => {
+                self.change_ports(port, PortChange::LogMinPdelayReqInterval(first_i8(octets)));
+            }
+            Layout::DelayMechanism => {
+                if let Some(mechanism) = DelayMechanism::from_number(octets[0]) {
+                    self.change_ports(port, PortChange::DelayMechanism(mechanism));
+                }
+            }
+            _ => {}
+        }
+    }
+
+    #[tactic(auto, unfolding(crate::specs::Changes::commanded))]
+    fn command(&mut self, layout: Layout, port: u16)
+        requires { IsTargetPort port self.old }
+        ensures { self.new ≡ commanded layout port self.old }
+    {
+        match layout {
+            Layout::EnablePort => self.change_ports(port, PortChange::Enable),
+            Layout::DisablePort => self.change_ports(port, PortChange::Disable),
+            _ => {}
+        }
+    }
+
+    fn set_description(&mut self, text: &[u8])
+        requires { is_description text.now ≡ true }
+        ensures { self.new ≡ record self.old { description = text.now } }
+    {
+        put_description(&mut self.description, text);
+    }
+
+    /// A clock that is its own grandmaster shows its own precedence in its parent data set (9.3.5, table 30).
+    fn set_precedence(&mut self, precedence: ClockPrecedence)
+        ensures { self.new ≡ with_precedence self.old precedence }
+    {
+        if self.parent.grandmaster == self.default.identity {
+            self.parent.precedence = precedence;
+        }
+        self.default.precedence = precedence;
+    }
+
+    fn change_ports(&mut self, port: u16, change: PortChange)
+        requires { IsTargetPort port self.old }
+        ensures { self.new ≡ with_ports port self.old (port_after change) }
+    {
+        change_named(self.ports.as_mut_slice(), port, change);
+    }
+}
+
+#[tactic(auto, unfolding(crate::specs::Ranges::is_description))]
+fn put_description(description: &mut ArrayVec<u8, 128>, text: &[u8])
+    requires { is_description text.now ≡ true }
+    ensures { description.new.items ≡ text.now }
+{
+    description.clear();
+    let _ = description.try_extend_from_slice(text);
+}
+
+fn set_utc_properties(time: &mut TimePropertiesDataSet, octets: &[u8])
+    requires { length octets.now ≡ 4 }
+    ensures { time.new ≡ with_utc_properties time.old octets.now }
+{
+    let flags = octets[2];
+    time.utc_offset = first_i16(octets);
+    time.leap61 = flags & 1 == 1;
+    time.leap59 = flags & 2 == 2;
+    time.utc_valid = flags & 4 == 4;
+}
+
+/// Changes one port, or for 0xFFFF every port.
+fn change_named(ports: &mut [PortDataSet], port: u16, change: PortChange)
+    requires { IsTargetOf port (length ports.old) }
+    ensures { ports.new ≡ named_changed port (port_after change) ports.old }
+{
+    if port == PortIdentity::EVERY_PORT {
+        for set in ports {
+            set.change(change);
+        }
+    } else {
+        ports[port as usize - 1].change(change);
+    }
+}

@@ -1,0 +1,300 @@
+//! What the dataField of a GET holds (15.5.3).
+
+ghost use Rattle.std.specs.Prelude.{◌≡◌, ◌+◌, ◌≤◌, ◌++◌, ◌∷◌, [], length, ℕ, ℤ, true, option_map};
+ghost use Rattle.arrayvec.specs.ArrayVec.{array_vec_len};
+ghost use Rattle.byteorder.specs.Endian.{big_bytes};
+ghost use Rattle.ptpm_data.specs.DataField.{current_data_field, data_field_of, data_field_of_id, default_data_field, field_of_port, i16_octets, i32_octets, i64_octets, i8_data_field, i8_octet, octet_data_field, parent_data_field, permits, port_data_field, port_field_of, port_settings_octets, precedence_octets, text_data_field, time_properties_data_field, utc_properties_data_field};
+ghost use Rattle.ptpm_data.specs.IdTable.{is_of_port};
+ghost use Rattle.ptpm_data.specs.Members.{HasPort, port_of};
+ghost use Rattle.ptpm_codec.specs.declared.message.Action.TheVariants.{Get};
+
+use crate::data_sets::{
+    ClockPrecedence, CurrentDataSet, DataSets, DefaultDataSet, ParentDataSet, PortDataSet,
+    TimePropertiesDataSet,
+};
+use crate::id_table::row;
+use crate::ids::Layout;
+use crate::reply::Value;
+use byteorder::{BigEndian, ByteOrder};
+use ptpm_codec::ClockIdentity;
+
+impl DataSets {
+    /// Leaves in the buffer what a GET of this id is answered, and nothing else. Takes no memory.
+    ///
+    /// The id permits GET; for an id of a port, the port is one of the clock's. For an id of the clock the port does not
+    /// matter.
+    pub fn lay(&self, id: u16, port: u16, buffer: &mut Value)
+        requires permits { permits Get id ≡ true }
+        requires port { is_of_port id ≡ true → HasPort port self.now }
+        ensures { buffer.new.items ≡ data_field_of_id id port self.now }
+    {
+        buffer.clear();
+        if let Some(row) = row(id) {
+            self.put_data_field(row.layout, port, buffer);
+        }
+    }
+
+    /// Appends an id's dataField; that of a port that the clock lacks has no octets.
+    #[tactic(auto, unfolding(crate::specs::DataField::data_field_of))]
+    pub(crate) fn put_data_field(&self, layout: Layout, port: u16, buffer: &mut Value)
+        requires { buffer.old.items ≡ [] }
+        ensures { buffer.new.items ≡ data_field_of layout port self.now }
+    {
+        match layout {
+            Layout::UserDescription => put_text(buffer, self.description.as_slice()),
+            Layout::DefaultDataSet => put_default_data_set(
+                buffer,
+                &self.default,
+                self.ports.len() as u16,
+            ),
+            Layout::CurrentDataSet => put_current_data_set(buffer, &self.current),
+            Layout::ParentDataSet => put_parent_data_set(buffer, &self.parent),
+            Layout::TimePropertiesDataSet => put_time_properties_data_set(buffer, &self.time),
+            Layout::Priority1 => put_octet(buffer, self.default.precedence.priority1),
+            Layout::Priority2 => put_octet(buffer, self.default.precedence.priority2),
+            Layout::Domain => put_octet(buffer, self.default.domain),
+            Layout::SlaveOnly => put_octet(buffer, 0),
+            Layout::ClockAccuracy => put_octet(buffer, self.default.precedence.accuracy),
+            Layout::UtcProperties => put_utc_properties(buffer, &self.time),
+            _ => {
+                if let Some(set) = self.port(port) {
+                    put_port_field(buffer, layout, &self.default.identity, port, set);
+                }
+            }
+        }
+    }
+
+    /// The data set of a port; none where the clock lacks it.
+    pub(crate) fn port(&self, port: u16) -> Option<&PortDataSet>
+        ensures { option_map (λ p. p.now) result ≡ port_of port self.now }
+    {
+        if port == 0 {
+            return None;
+        }
+        self.ports.get(port as usize - 1)
+    }
+}
+
+/// versionNumber (8.2.15.4.6).
+const VERSION: u8 = 2;
+
+/// Appends the dataField of an id of a port.
+#[tactic(auto, unfolding(crate::specs::DataField::port_field_of))]
+fn put_port_field(
+    buffer: &mut Value,
+    layout: Layout,
+    identity: &ClockIdentity,
+    port: u16,
+    set: &PortDataSet,
+)
+    requires { buffer.old.items ≡ [] }
+    ensures { buffer.new.items ≡ port_field_of layout identity.now port set.now }
+{
+    match layout {
+        Layout::PortDataSet => put_port_data_set(buffer, identity, port, set),
+        Layout::LogAnnounceInterval => put_i8(buffer, set.log_announce),
+        Layout::AnnounceReceiptTimeout => put_octet(buffer, set.receipt_timeout),
+        Layout::LogSyncInterval => put_i8(buffer, set.log_sync),
+        Layout::VersionNumber => put_octet(buffer, VERSION),
+        Layout::DelayMechanism => put_octet(buffer, set.delay_mechanism.number()),
+        Layout::LogMinPdelayReqInterval => put_i8(buffer, set.log_min_pdelay),
+        _ => {}
+    }
+}
+
+#[tactic(auto, unfolding(crate::specs::DataField::default_data_field))]
+fn put_default_data_set(buffer: &mut Value, set: &DefaultDataSet, number_of_ports: u16)
+    requires { array_vec_len buffer.old + 20 ≤ 130 }
+    ensures { buffer.new.items ≡ buffer.old.items ++ default_data_field set.now number_of_ports }
+{
+    put(buffer, &[set.two_step as u8, 0]);
+    put_u16(buffer, number_of_ports);
+    put_precedence(buffer, &set.precedence);
+    put(buffer, &set.identity.0);
+    put(buffer, &[set.domain, 0]);
+}
+
+#[tactic(auto, unfolding(crate::specs::DataField::current_data_field))]
+fn put_current_data_set(buffer: &mut Value, set: &CurrentDataSet)
+    requires { array_vec_len buffer.old + 18 ≤ 130 }
+    ensures { buffer.new.items ≡ buffer.old.items ++ current_data_field set.now }
+{
+    put_u16(buffer, set.steps_removed);
+    put_i64(buffer, set.offset_from_master);
+    put_i64(buffer, set.mean_path_delay);
+}
+
+#[tactic(auto, unfolding(crate::specs::DataField::parent_data_field))]
+fn put_parent_data_set(buffer: &mut Value, set: &ParentDataSet)
+    requires { array_vec_len buffer.old + 32 ≤ 130 }
+    ensures { buffer.new.items ≡ buffer.old.items ++ parent_data_field set.now }
+{
+    put(buffer, &set.parent_port.clock.0);
+    put_u16(buffer, set.parent_port.port);
+    put(buffer, &[set.parent_stats as u8, 0]);
+    put_u16(buffer, set.observed_variance);
+    put_i32(buffer, set.observed_rate);
+    put_precedence(buffer, &set.precedence);
+    put(buffer, &set.grandmaster.0);
+}
+
+#[tactic(auto, unfolding(crate::specs::DataField::time_properties_data_field))]
+fn put_time_properties_data_set(buffer: &mut Value, set: &TimePropertiesDataSet)
+    requires { array_vec_len buffer.old + 4 ≤ 130 }
+    ensures { buffer.new.items ≡ buffer.old.items ++ time_properties_data_field set.now }
+{
+    let flags = set.leap61 as u8
+        + 2 * set.leap59 as u8
+        + 4 * set.utc_valid as u8
+        + 8 * set.ptp_timescale as u8
+        + 16 * set.time_traceable as u8
+        + 32 * set.frequency_traceable as u8;
+    put_i16(buffer, set.utc_offset);
+    put(buffer, &[flags, set.time_source]);
+}
+
+#[tactic(auto, unfolding(crate::specs::DataField::utc_properties_data_field))]
+fn put_utc_properties(buffer: &mut Value, set: &TimePropertiesDataSet)
+    requires { array_vec_len buffer.old + 4 ≤ 130 }
+    ensures { buffer.new.items ≡ buffer.old.items ++ utc_properties_data_field set.now }
+{
+    let flags = set.leap61 as u8 + 2 * set.leap59 as u8 + 4 * set.utc_valid as u8;
+    put_i16(buffer, set.utc_offset);
+    put(buffer, &[flags, 0]);
+}
+
+#[tactic(auto, unfolding(crate::specs::DataField::precedence_octets))]
+fn put_precedence(buffer: &mut Value, precedence: &ClockPrecedence)
+    requires { array_vec_len buffer.old + 6 ≤ 130 }
+    ensures items { buffer.new.items ≡ buffer.old.items ++ precedence_octets precedence.now }
+    ensures len { array_vec_len buffer.new ≡ array_vec_len buffer.old + 6 }
+{
+    put(
+        buffer,
+        &[precedence.priority1, precedence.class, precedence.accuracy],
+    );
+    put_u16(buffer, precedence.variance);
+    put(buffer, &[precedence.priority2]);
+}
+
+#[tactic(auto, unfolding(crate::specs::DataField::port_data_field))]
+fn put_port_data_set(buffer: &mut Value, identity: &ClockIdentity, port: u16, set: &PortDataSet)
+    requires { array_vec_len buffer.old + 26 ≤ 130 }
+    ensures { buffer.new.items ≡ buffer.old.items ++ port_data_field identity.now port set.now }
+{
+    put(buffer, &identity.0);
+    put_u16(buffer, port);
+    put(
+        buffer,
+        &[set.state.number(), i8_octet(set.log_min_delay_req)],
+    );
+    put_i64(buffer, set.peer_delay);
+    put_port_settings(buffer, set);
+}
+
+/// The members that a SET can change, and versionNumber.
+#[tactic(auto, unfolding(crate::specs::DataField::port_settings_octets))]
+fn put_port_settings(buffer: &mut Value, set: &PortDataSet)
+    requires { array_vec_len buffer.old + 6 ≤ 130 }
+    ensures { buffer.new.items ≡ buffer.old.items ++ port_settings_octets set.now }
+{
+    put(
+        buffer,
+        &[
+            i8_octet(set.log_announce),
+            set.receipt_timeout,
+            i8_octet(set.log_sync),
+        ],
+    );
+    put(
+        buffer,
+        &[
+            set.delay_mechanism.number(),
+            i8_octet(set.log_min_pdelay),
+            VERSION,
+        ],
+    );
+}
+
+#[tactic(auto, unfolding(crate::specs::DataField::text_data_field))]
+fn put_text(buffer: &mut Value, text: &[u8])
+    requires small { length text.now ≤ 128 }
+    requires room { array_vec_len buffer.old ≡ 0 }
+    ensures { buffer.new.items ≡ buffer.old.items ++ text_data_field text.now }
+{
+    put(buffer, &[text.len() as u8]);
+    put(buffer, text);
+    if text.len() % 2 == 0 {
+        put(buffer, &[0]);
+    }
+}
+
+fn put_octet(buffer: &mut Value, octet: u8)
+    requires { array_vec_len buffer.old + 2 ≤ 130 }
+    ensures { buffer.new.items ≡ buffer.old.items ++ octet_data_field octet }
+{
+    put(buffer, &[octet, 0]);
+}
+
+fn put_i8(buffer: &mut Value, number: i8)
+    requires { array_vec_len buffer.old + 2 ≤ 130 }
+    ensures { buffer.new.items ≡ buffer.old.items ++ i8_data_field number }
+{
+    put_octet(buffer, i8_octet(number));
+}
+
+#[tactic(auto, unfolding(crate::specs::DataField::i8_octet))]
+fn i8_octet(number: i8) -> u8
+    ensures { result ≡ i8_octet number }
+{
+    number.cast_unsigned()
+}
+
+fn put(buffer: &mut Value, octets: &[u8])
+    requires { array_vec_len buffer.old + length octets.now ≤ 130 }
+    ensures items { buffer.new.items ≡ buffer.old.items ++ octets.now }
+    ensures len { array_vec_len buffer.new ≡ array_vec_len buffer.old + length octets.now }
+{
+    let _ = buffer.try_extend_from_slice(octets);
+}
+
+fn put_u16(buffer: &mut Value, number: u16)
+    requires { array_vec_len buffer.old + 2 ≤ 130 }
+    ensures items { buffer.new.items ≡ buffer.old.items ++ big_bytes 2 number }
+    ensures len { array_vec_len buffer.new ≡ array_vec_len buffer.old + 2 }
+{
+    let mut octets = [0; 2];
+    BigEndian::write_u16(&mut octets, number);
+    put(buffer, &octets);
+}
+
+#[tactic(auto, unfolding(crate::specs::DataField::i16_octets))]
+fn put_i16(buffer: &mut Value, number: i16)
+    requires { array_vec_len buffer.old + 2 ≤ 130 }
+    ensures items { buffer.new.items ≡ buffer.old.items ++ i16_octets number }
+    ensures len { array_vec_len buffer.new ≡ array_vec_len buffer.old + 2 }
+{
+    put_u16(buffer, number.cast_unsigned());
+}
+
+#[tactic(auto, unfolding(crate::specs::DataField::i32_octets))]
+fn put_i32(buffer: &mut Value, number: i32)
+    requires { array_vec_len buffer.old + 4 ≤ 130 }
+    ensures items { buffer.new.items ≡ buffer.old.items ++ i32_octets number }
+    ensures len { array_vec_len buffer.new ≡ array_vec_len buffer.old + 4 }
+{
+    let mut octets = [0; 4];
+    BigEndian::write_i32(&mut octets, number);
+    put(buffer, &octets);
+}
+
+#[tactic(auto, unfolding(crate::specs::DataField::i64_octets))]
+fn put_i64(buffer: &mut Value, number: i64)
+    requires { array_vec_len buffer.old + 8 ≤ 130 }
+    ensures items { buffer.new.items ≡ buffer.old.items ++ i64_octets number }
+    ensures len { array_vec_len buffer.new ≡ array_vec_len buffer.old + 8 }
+{
+    let mut octets = [0; 8];
+    BigEndian::write_i64(&mut octets, number);
+    put(buffer, &octets);
+}

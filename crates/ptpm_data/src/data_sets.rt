@@ -1,0 +1,194 @@
+//! The data sets of a boundary clock (clause 8).
+
+ghost use Rattle.std.specs.Prelude.{◌≡◌, ◌≤◌, length};
+
+use crate::port_state::{DelayMechanism, PortState};
+use arrayvec::ArrayVec;
+use ptpm_codec::{ClockIdentity, PortIdentity};
+use std::marker::Model;
+
+/// What tells which of two clocks is the better master (9.3.4).
+#[derive(Clone, Copy, Debug, PartialEq, Eq)]
+pub struct ClockPrecedence {
+    pub priority1: u8,
+    pub class: u8,
+    pub accuracy: u8,
+    pub variance: u16,
+    pub priority2: u8,
+}
+
+/// defaultDS (8.2.1), but for the members that never change: slaveOnly is false.
+#[derive(Clone, Copy, Debug, PartialEq, Eq)]
+pub struct DefaultDataSet {
+    pub identity: ClockIdentity,
+    pub domain: u8,
+    pub two_step: bool,
+    pub precedence: ClockPrecedence,
+}
+
+/// currentDS (8.2.2).
+#[derive(Clone, Copy, Debug, PartialEq, Eq)]
+pub struct CurrentDataSet {
+    pub steps_removed: u16,
+    /// A TimeInterval, in nanoseconds times 2^16.
+    pub offset_from_master: i64,
+    /// A TimeInterval, in nanoseconds times 2^16.
+    pub mean_path_delay: i64,
+}
+
+/// parentDS (8.2.3).
+#[derive(Clone, Copy, Debug, PartialEq, Eq)]
+pub struct ParentDataSet {
+    pub parent_port: PortIdentity,
+    pub parent_stats: bool,
+    pub observed_variance: u16,
+    pub observed_rate: i32,
+    pub grandmaster: ClockIdentity,
+    pub precedence: ClockPrecedence,
+}
+
+/// timePropertiesDS (8.2.4).
+#[derive(Clone, Copy, Debug, PartialEq, Eq)]
+pub struct TimePropertiesDataSet {
+    /// currentUtcOffset, in seconds.
+    pub utc_offset: i16,
+    pub leap61: bool,
+    pub leap59: bool,
+    pub utc_valid: bool,
+    pub ptp_timescale: bool,
+    pub time_traceable: bool,
+    pub frequency_traceable: bool,
+    pub time_source: u8,
+}
+
+/// portDS (8.2.15), but for its portIdentity, which is the clock's identity and the port's place.
+#[derive(Clone, Copy, Debug, PartialEq, Eq)]
+pub struct PortDataSet {
+    pub state: PortState,
+    pub log_min_delay_req: i8,
+    /// A TimeInterval, in nanoseconds times 2^16.
+    pub peer_delay: i64,
+    pub log_announce: i8,
+    pub receipt_timeout: u8,
+    pub log_sync: i8,
+    pub delay_mechanism: DelayMechanism,
+    pub log_min_pdelay: i8,
+}
+
+impl Default for PortDataSet {
+    ghost use Rattle.std.specs.Prelude.{◌≡◌};
+    ghost use Rattle.ptpm_data.specs.Start.{default_port, port_data_set};
+
+    /// The data set of a port that starts with this profile's defaults: MASTER, end-to-end delay.
+    fn default() -> PortDataSet
+        ensures { result ≡ port_data_set default_port }
+    {
+        PortDataSet {
+            state: PortState::Master,
+            log_min_delay_req: 0,
+            peer_delay: 0,
+            log_announce: 1,
+            receipt_timeout: 3,
+            log_sync: 0,
+            delay_mechanism: DelayMechanism::EndToEnd,
+            log_min_pdelay: 0,
+        }
+    }
+}
+
+/// The data sets of a clock of one to eight ports. Contracts see them as `DataSetsValue`.
+#[derive(Debug, Drop)]
+pub struct DataSets {
+    pub(crate) default: DefaultDataSet,
+    /// userDescription, of at most 128 octets of UTF-8.
+    pub(crate) description: ArrayVec<u8, 128>,
+    pub(crate) current: CurrentDataSet,
+    pub(crate) parent: ParentDataSet,
+    pub(crate) time: TimePropertiesDataSet,
+    pub(crate) ports: ArrayVec<PortDataSet, 8>,
+}
+
+impl Model for DataSets {
+    ghost use Rattle.ptpm_data.specs.Members.{DataSetsValue, data_sets_value, IsConsistentInside};
+
+    ghost Value = { DataSetsValue };
+
+    ghost view = { data_sets_value };
+
+    ghost invariant = { IsConsistentInside };
+}
+
+/// A userDescription of these octets.
+pub(crate) fn description_of(text: &[u8]) -> ArrayVec<u8, 128>
+    requires { length text.now ≤ 128 }
+    ensures { result.items ≡ text.now }
+{
+    let mut description = ArrayVec::new();
+    let _ = description.try_extend_from_slice(text);
+    description
+}
+
+impl DataSets {
+    ghost use Rattle.std.specs.Prelude.{◌≡◌, ◌≤◌, ◌↔◌, IsTrue, length};
+    ghost use Rattle.ptpm_data.specs.Members.{HasPort, has_port, may_forward};
+
+    /// An equal one.
+    pub fn copy(&self) -> DataSets
+        ensures { result ≡ self.now }
+    {
+        let mut ports = ArrayVec::new();
+        let _ = ports.try_extend_from_slice(self.ports.as_slice());
+        DataSets {
+            default: self.default,
+            description: description_of(self.description.as_slice()),
+            current: self.current,
+            parent: self.parent,
+            time: self.time,
+            ports,
+        }
+    }
+
+    /// clockIdentity.
+    pub fn identity(&self) -> ClockIdentity
+        ensures { result ≡ self.now.default.identity }
+    {
+        self.default.identity
+    }
+
+    /// domainNumber.
+    pub fn domain(&self) -> u8
+        ensures { result ≡ self.now.default.domain }
+    {
+        self.default.domain
+    }
+
+    /// numberPorts, 1 to 8.
+    pub fn port_count(&self) -> u16
+        ensures count { result ≡ length self.now.ports }
+        ensures range { (1 ≤ result) × (result ≤ 8) }
+    {
+        self.ports.len() as u16
+    }
+
+    /// Whether it is one of the clock's ports.
+    pub fn has_port(&self, port: u16) -> bool
+        ensures exact { result ≡ has_port port self.now }
+        ensures known { IsTrue result ↔ HasPort port self.now }
+    {
+        1 <= port && port <= self.port_count()
+    }
+
+    /// Whether a management message may come in or go out at a port to be forwarded: its state is PRE_MASTER, MASTER,
+    /// UNCALIBRATED or SLAVE (this project's profile). False where the clock lacks the port.
+    pub fn may_forward(&self, port: u16) -> bool
+        ensures { result ≡ may_forward port self.now }
+    {
+        match port
+            .checked_sub(1)
+            .and_then(|place| self.ports.get(place as usize))
+        {
+            Some(port) => port.state.is_forwarding(),
+            None => false,
+        }
+    }
+}

@@ -1,0 +1,42 @@
+//! What a numbered request changes and is answered (clause 15).
+
+use crate::data_sets::DataSets;
+use crate::id_table::row;
+use crate::reply::Reply;
+use crate::request::Request;
+use crate::rights::Rights;
+use ptpm_codec::ErrorId;
+
+impl DataSets {
+    ghost use Rattle.std.specs.Prelude.{◌≡◌};
+    ghost use Rattle.ptpm_codec.specs.Message.{IsDataField, IsRequestAction};
+    ghost use Rattle.ptpm_data.specs.Changes.{changed_by, IsTargetPort};
+    ghost use Rattle.ptpm_data.specs.Replies.{reply_to};
+
+    /// Carries out a numbered request of a manager with these rights, and answers it; a refused one changes no member. Takes
+    /// no memory.
+    ///
+    /// The action is GET, SET or COMMAND; the target port is one of the clock's, or every port (0xFFFF); the dataField has
+    /// an even number of octets, at most 1,418. The first of these refusals is the answer, once for each port that answers:
+    /// 1. NO_SUCH_ID: the id is not in the table.
+    /// 2. NOT_SETABLE to a SET, NOT_SUPPORTED to a GET or COMMAND: the id does not permit the action.
+    /// 3. NOT_SUPPORTED: the manager lacks the right that the request needs.
+    /// 4. WRONG_LENGTH: the dataField of a SET or COMMAND has not the size of the id's.
+    /// 5. WRONG_VALUE: a SET's value is out of range.
+    pub fn decide(&mut self, request: &Request<'_>, rights: Rights) -> Reply
+        requires action { IsRequestAction request.now.action }
+        requires port { IsTargetPort request.now.port self.old }
+        requires octets { IsDataField request.now.octets }
+        ensures reply { result ≡ reply_to request.now rights self.old }
+        ensures changed { self.new ≡ changed_by request.now rights self.old }
+    {
+        let Some(row) = row(request.id) else {
+            return Reply::refused_by_clock(request, ErrorId::NoSuchId);
+        };
+        let refusal = self.carry_out(&row, request, rights);
+        self.reply(&row, request, refusal)
+    }
+}
+
+#[cfg(test)]
+mod tests;

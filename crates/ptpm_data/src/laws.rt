@@ -1,0 +1,94 @@
+//! What holds of the table of management ids, of every clock's data sets, and of every reply, for whoever proves something
+//! over them. Each law is the contract of a function that does nothing.
+
+ghost use Rattle.std.specs.Prelude.{◌≡◌, ◌≤◌, length, map, Some};
+ghost use Rattle.std.specs.List.{All, Contains};
+ghost use Rattle.ptpm_codec.specs.declared.error.ErrorId.{ErrorId};
+ghost use Rattle.ptpm_codec.specs.declared.message.Action.TheVariants.{Get};
+ghost use Rattle.ptpm_codec.specs.Message.{IsRequestAction};
+ghost use Rattle.ptpm_data.specs.declared.rights.Rights.{Rights};
+ghost use Rattle.ptpm_data.specs.Changes.{changed_by, IsTargetPort};
+ghost use Rattle.ptpm_data.specs.IdTable.{id_table, row_of, row_named};
+ghost use Rattle.ptpm_data.specs.MemberMap.{Place, value_of};
+ghost use Rattle.ptpm_data.specs.Members.{DataSetsValue, IsConsistent};
+ghost use Rattle.ptpm_data.specs.Replies.{read_reply_to, reply_action, reply_to};
+ghost use Rattle.ptpm_data.specs.Reply.{Answer, Refused};
+ghost use Rattle.ptpm_data.specs.Request.{RequestValue};
+ghost use Rattle.ptpm_data.specs.RequestLaws.{answerer, IsForOne, IsOneAnswer, IsOutcomeOf, IsSized};
+
+use crate::data_sets::DataSets;
+use crate::id_table::MANAGEMENT_IDS;
+use ptpm_codec::ClockIdentity;
+
+/// Each entry of the table is found by its id and by its name: so ids are distinct, and so are names. `MANAGEMENT_IDS` are
+/// the ids of all entries, in order.
+#[tactic(auto, unfolding(crate::specs::IdTable::row_of, crate::specs::IdTable::row_named))]
+pub fn id_table_law()
+    ensures by_id { map (λ e. row_of e.id) id_table ≡ map Some id_table }
+    ensures by_name { map (λ e. row_named e.name) id_table ≡ map Some id_table }
+    ensures ids { map (λ e. e.id) id_table ≡ MANAGEMENT_IDS }
+{}
+
+/// A clock has one to eight ports, identities of eight octets, and a text of at most 128 octets of UTF-8. Where it is its own
+/// grandmaster, its parent data set shows its own priorities and quality.
+pub fn data_sets_law(sets: &DataSets)
+    ensures consistent { IsConsistent sets.now }
+    ensures sized { IsSized sets.now }
+{
+    identity_law(&sets.default.identity);
+    identity_law(&sets.parent.parent_port.clock);
+    identity_law(&sets.parent.grandmaster);
+}
+
+/// Data sets are no more than their map of members: two that have the same value at every place are equal.
+pub fn member_map_law()
+    ensures { (a : DataSetsValue) → (b : DataSetsValue) → ((place : Place) → value_of place a ≡ value_of place b) → a ≡ b }
+{}
+
+/// An identity has eight octets.
+fn identity_law(identity: &ClockIdentity)
+    ensures { length identity.now.0 ≡ 8 }
+{
+    let octets: &[u8] = &identity.0;
+    let _ = octets.len();
+}
+
+/// What holds of the reply to a request that is not numbered.
+pub fn read_reply_law()
+    ensures action { (q : RequestValue) (d : DataSetsValue) → (read_reply_to q d).action ≡ reply_action q.action }
+    ensures id { (q : RequestValue) (d : DataSetsValue) → (read_reply_to q d).id ≡ q.id }
+    ensures one_answer { (q : RequestValue) (d : DataSetsValue) → IsSized d → IsForOne q d
+        → IsOneAnswer (answerer q) (read_reply_to q d) }
+    ensures outcomes { (q : RequestValue) (d : DataSetsValue) → IsSized d → IsRequestAction q.action
+        → All (λ a. IsOutcomeOf q a.outcome) (read_reply_to q d).answers }
+    ensures some_answer { (q : RequestValue) (d : DataSetsValue) → IsSized d → IsTargetPort q.port d
+        → 1 ≤ length (read_reply_to q d).answers }
+    ensures at_most_eight_answers { (q : RequestValue) (d : DataSetsValue) → IsSized d → IsTargetPort q.port d
+        → length (read_reply_to q d).answers ≤ 8 }
+{}
+
+/// What holds of the reply to a numbered request.
+pub fn reply_law()
+    ensures action { (q : RequestValue) (rights : Rights) (d : DataSetsValue) → (reply_to q rights d).action ≡ reply_action q.action }
+    ensures id { (q : RequestValue) (rights : Rights) (d : DataSetsValue) → (reply_to q rights d).id ≡ q.id }
+    ensures one_answer { (q : RequestValue) (rights : Rights) (d : DataSetsValue) → IsSized d → IsForOne q d
+        → IsOneAnswer (answerer q) (reply_to q rights d) }
+    ensures outcomes { (q : RequestValue) (rights : Rights) (d : DataSetsValue) → IsSized d → IsRequestAction q.action
+        → All (λ a. IsOutcomeOf q a.outcome) (reply_to q rights d).answers }
+    ensures some_answer { (q : RequestValue) (rights : Rights) (d : DataSetsValue) → IsSized d → IsTargetPort q.port d
+        → 1 ≤ length (reply_to q rights d).answers }
+    ensures at_most_eight_answers { (q : RequestValue) (rights : Rights) (d : DataSetsValue) → IsSized d → IsTargetPort q.port d
+        → length (reply_to q rights d).answers ≤ 8 }
+{}
+
+/// What every request keeps, and which requests change nothing: a GET, and a request of which an answer is an error.
+pub fn change_law()
+    ensures identity { (q : RequestValue) (rights : Rights) (d : DataSetsValue)
+        → (changed_by q rights d).default.identity ≡ d.default.identity }
+    ensures ports { (q : RequestValue) (rights : Rights) (d : DataSetsValue)
+        → length (changed_by q rights d).ports ≡ length d.ports }
+    ensures sized { (q : RequestValue) (rights : Rights) (d : DataSetsValue) → IsSized d → IsSized (changed_by q rights d) }
+    ensures get { (q : RequestValue) (rights : Rights) (d : DataSetsValue) → q.action ≡ Get → changed_by q rights d ≡ d }
+    ensures refused { (q : RequestValue) (rights : Rights) (d : DataSetsValue) (a : Answer) (error : ErrorId)
+        → Contains (reply_to q rights d).answers a → a.outcome ≡ Refused error → changed_by q rights d ≡ d }
+{}

@@ -1,0 +1,41 @@
+//! What a PTP clock's management data are, and what each management request changes and is answered (IEEE 1588-2019,
+//! clauses 8 and 15).
+#![tactic(auto)]
+
+mod actions;
+mod changes;
+mod data_field;
+mod data_sets;
+mod deciding;
+mod id_table;
+mod ids;
+mod laws;
+mod members;
+mod port_change;
+mod port_state;
+mod ranges;
+mod reading;
+mod refusals;
+mod replies;
+mod reply;
+mod request;
+mod rights;
+mod set_field;
+mod start;
+
+pub use actions::Actions;
+pub use data_sets::{
+    ClockPrecedence, CurrentDataSet, DataSets, DefaultDataSet, ParentDataSet, PortDataSet,
+    TimePropertiesDataSet,
+};
+pub use id_table::{MANAGEMENT_IDS, by_name, row};
+pub use ids::{Layout, Row, Scope};
+pub use laws::{
+    change_law, data_sets_law, id_table_law, member_map_law, read_reply_law, reply_law,
+};
+pub use members::Member;
+pub use port_state::{DelayMechanism, PortState};
+pub use reply::{PortAnswer, Reply, Value, What};
+pub use request::Request;
+pub use rights::Rights;
+pub use start::{ClockStart, PortStart, StartError};

@@ -1,0 +1,53 @@
+//! What a request that is not numbered is answered (this project's profile).
+
+ghost use Rattle.std.specs.Prelude.{◌≡◌};
+ghost use Rattle.ptpm_data.specs.Replies.{is_get};
+
+use crate::data_sets::DataSets;
+use crate::id_table::row;
+use crate::refusals::refusal;
+use crate::reply::Reply;
+use crate::request::Request;
+use crate::rights::Rights;
+use bitflags::Flags;
+use ptpm_codec::{Action, ErrorId};
+
+impl DataSets {
+    ghost use Rattle.ptpm_codec.specs.Message.{IsDataField, IsRequestAction};
+    ghost use Rattle.ptpm_data.specs.Changes.{IsTargetPort};
+    ghost use Rattle.ptpm_data.specs.Replies.{read_reply_to};
+
+    /// Answers a request that is not numbered, and changes nothing: a GET from the data sets as they stand, with the
+    /// refusals NO_SUCH_ID and NOT_SUPPORTED of `decide`; a SET and a COMMAND are NOT_SUPPORTED, whatever they say. Takes no
+    /// memory.
+    ///
+    /// The conditions are those of `decide`.
+    pub fn read(&self, request: &Request<'_>) -> Reply
+        requires action { IsRequestAction request.now.action }
+        requires port { IsTargetPort request.now.port self.now }
+        requires octets { IsDataField request.now.octets }
+        ensures { result ≡ read_reply_to request.now self.now }
+    {
+        let get = is_get(request.action);
+        let Some(row) = row(request.id) else {
+            let error = if get {
+                ErrorId::NoSuchId
+            } else {
+                ErrorId::NotSupported
+            };
+            return Reply::refused_by_clock(request, error);
+        };
+        let refusal = if get {
+            refusal(&row, request, Rights::empty())
+        } else {
+            Some(ErrorId::NotSupported)
+        };
+        self.reply(&row, request, refusal)
+    }
+}
+
+fn is_get(action: Action) -> bool
+    ensures { result ≡ is_get action }
+{
+    matches!(action, Action::Get)
+}

@@ -1,0 +1,128 @@
+//! What a request is answered (15.5.3, 15.5.4).
+
+ghost use Rattle.std.specs.Prelude.{◌≡◌};
+ghost use Rattle.ptpm_data.specs.Replies.{reply_action};
+
+use crate::data_sets::DataSets;
+use crate::ids::{Row, Scope};
+use crate::reply::{PortAnswer, Reply, Value, What};
+use crate::request::Request;
+use arrayvec::ArrayVec;
+use ptpm_codec::{Action, ErrorId, PortIdentity};
+
+impl DataSets {
+    ghost use Rattle.std.specs.Prelude.{Some, map, [], ◌-◌, ◌≤◌, ◌+◌, length};
+    ghost use Rattle.std.specs.List.{range_with_len};
+    ghost use Rattle.ptpm_data.specs.IdTable.{entry_of, row_of};
+    ghost use Rattle.ptpm_data.specs.Changes.{IsTargetPort};
+    ghost use Rattle.ptpm_data.specs.Reply.{answer_of};
+    ghost use Rattle.ptpm_data.specs.Replies.{answer, named_ports, port_answers, reply_of};
+
+    /// The reply to a request for an id of the table, which was carried out, or refused for this reason.
+    #[tactic(auto, unfolding(crate::specs::Replies::reply_of))]
+    pub(crate) fn reply(&self, row: &Row, request: &Request<'_>, refusal: Option<ErrorId>) -> Reply
+        requires row { row_of request.now.id ≡ Some (entry_of row.now) }
+        requires port { IsTargetPort request.now.port self.now }
+        ensures { result ≡ reply_of request.now refusal self.now }
+    {
+        let mut reply = Reply {
+            action: reply_action(request.action),
+            id: request.id,
+            answers: ArrayVec::new(),
+        };
+        match row.scope {
+            Scope::Clock => reply.answers.push(self.answer(None, row, request, refusal)),
+            Scope::Port => self.put_answers(row, request, refusal, &mut reply.answers),
+        }
+        reply
+    }
+
+    /// Appends the answer of each named port.
+    fn put_answers(
+        &self,
+        row: &Row,
+        request: &Request<'_>,
+        refusal: Option<ErrorId>,
+        answers: &mut ArrayVec<PortAnswer, 8>,
+    )
+        requires row { row_of request.now.id ≡ Some (entry_of row.now) }
+        requires port { IsTargetPort request.now.port self.now }
+        requires empty { answers.old.items ≡ [] }
+        ensures { map answer_of answers.new.items
+            ≡ port_answers refusal request.now.action request.now.id self.now (named_ports request.now.port (length self.now.ports)) }
+    {
+        let (first, end) = self.named_ports(request.port);
+        for port in first..end {
+            answers.push(self.answer(Some(port), row, request, refusal));
+        }
+    }
+
+    /// The ports that a target port means: from the first number on, up to the second, which is not one of them.
+    #[tactic(auto, unfolding(crate::specs::Replies::named_ports))]
+    fn named_ports(&self, port: u16) -> (u16, u16)
+        requires { IsTargetPort port self.now }
+        ensures numbers { named_ports port (length self.now.ports) ≡ range_with_len result.0 (result.1 - result.0) }
+        ensures ordered { result.0 ≤ result.1 }
+        ensures at_most_eight { result.1 ≤ result.0 + 8 }
+    {
+        if port == PortIdentity::EVERY_PORT {
+            (1, self.ports.len() as u16 + 1)
+        } else {
+            (port, port + 1)
+        }
+    }
+
+    #[tactic(auto, unfolding(crate::specs::Replies::answer))]
+    fn answer(
+        &self,
+        port: Option<u16>,
+        row: &Row,
+        request: &Request<'_>,
+        refusal: Option<ErrorId>,
+    ) -> PortAnswer
+        requires { row_of request.now.id ≡ Some (entry_of row.now) }
+        ensures { answer_of result ≡ answer refusal request.now.action request.now.id self.now port }
+    {
+        let what = match refusal {
+            Some(error) => What::Refused(error),
+            None if request.action == Action::Command => What::Done,
+            None => {
+                let mut value = Value::new();
+                self.put_data_field(row.layout, port.unwrap_or(0), &mut value);
+                What::Value(value)
+            }
+        };
+        PortAnswer { port, what }
+    }
+}
+
+impl Reply {
+    ghost use Rattle.std.specs.Prelude.{Some, None};
+    ghost use Rattle.ptpm_data.specs.IdTable.{row_of};
+    ghost use Rattle.ptpm_data.specs.Replies.{refused_by_clock};
+
+    /// The reply to a request for an id that is not in the table; the clock gives it.
+    pub(crate) fn refused_by_clock(request: &Request<'_>, error: ErrorId) -> Reply
+        ensures { result ≡ refused_by_clock request.now error }
+    {
+        let mut answers = ArrayVec::new();
+        answers.push(PortAnswer {
+            port: None,
+            what: What::Refused(error),
+        });
+        Reply {
+            action: reply_action(request.action),
+            id: request.id,
+            answers,
+        }
+    }
+}
+
+fn reply_action(action: Action) -> Action
+    ensures { result ≡ reply_action action }
+{
+    match action {
+        Action::Get | Action::Set | Action::Response => Action::Response,
+        Action::Command | Action::Acknowledge => Action::Acknowledge,
+    }
+}

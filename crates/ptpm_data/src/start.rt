@@ -1,0 +1,344 @@
+//! The values that a clock starts with (clause 8; ranges and defaults are this project's profile).
+
+ghost use Rattle.std.specs.Prelude.{◌≡◌, ◌≤◌, length, map, MatchResult, Some, None};
+ghost use Rattle.ptpm_data.specs.Start.{port_data_set, ports_fault, count_fault, grandmaster_fault, unless};
+
+use crate::data_sets::{
+    ClockPrecedence, CurrentDataSet, DataSets, DefaultDataSet, ParentDataSet, PortDataSet,
+    TimePropertiesDataSet, description_of,
+};
+use crate::members::Member;
+use crate::port_state::{DelayMechanism, PortState};
+use crate::ranges;
+use arrayvec::ArrayVec;
+use ptpm_codec::{ClockIdentity, PortIdentity};
+use thiserror::Error;
+
+/// The start values of a clock's own members. `None` is the clock's own value, or for `parent_port` its port 0.
+#[derive(Debug, Drop)]
+pub struct ClockStart {
+    /// clockIdentity, not all ones.
+    pub identity: ClockIdentity,
+    /// domainNumber.
+    pub domain: u8,
+    /// userDescription, at most 128 octets of UTF-8; there is room for one more, so that a text too long can be judged.
+    pub user_description: ArrayVec<u8, 129>,
+    pub two_step: bool,
+    pub priority1: u8,
+    pub clock_class: u8,
+    /// clockAccuracy: 0x17 to 0x31, or 0xFE.
+    pub clock_accuracy: u8,
+    /// offsetScaledLogVariance.
+    pub variance: u16,
+    pub priority2: u8,
+    pub steps_removed: u16,
+    /// A TimeInterval, in nanoseconds times 2^16.
+    pub offset_from_master: i64,
+    /// A TimeInterval, in nanoseconds times 2^16.
+    pub mean_path_delay: i64,
+    pub parent_port: Option<PortIdentity>,
+    pub parent_stats: bool,
+    /// observedParentOffsetScaledLogVariance.
+    pub observed_variance: u16,
+    /// observedParentClockPhaseChangeRate.
+    pub observed_rate: i32,
+    pub grandmaster_priority1: Option<u8>,
+    pub grandmaster_class: Option<u8>,
+    pub grandmaster_accuracy: Option<u8>,
+    pub grandmaster_variance: Option<u16>,
+    pub grandmaster_priority2: Option<u8>,
+    pub grandmaster: Option<ClockIdentity>,
+    /// currentUtcOffset, in seconds.
+    pub utc_offset: i16,
+    /// Not both `leap61` and `leap59`.
+    pub leap61: bool,
+    pub leap59: bool,
+    pub utc_valid: bool,
+    pub ptp_timescale: bool,
+    pub time_traceable: bool,
+    pub frequency_traceable: bool,
+    pub time_source: u8,
+}
+
+/// The start values of a port.
+#[derive(Clone, Copy, Debug, PartialEq, Eq)]
+pub struct PortStart {
+    /// portState, 1 to 9.
+    pub state: u8,
+    pub log_min_delay_req: i8,
+    /// A TimeInterval, in nanoseconds times 2^16.
+    pub peer_delay: i64,
+    /// logAnnounceInterval, -4 to 4.
+    pub log_announce: i8,
+    /// announceReceiptTimeout, 2 to 10.
+    pub receipt_timeout: u8,
+    /// logSyncInterval, -8 to 1.
+    pub log_sync: i8,
+    /// delayMechanism, 1, 2 or 0xFE.
+    pub delay_mechanism: u8,
+    /// logMinPdelayReqInterval, -8 to 5.
+    pub log_min_pdelay: i8,
+}
+
+/// Why a clock can't start, in the order in which the reasons are judged.
+#[derive(Clone, Copy, Debug, PartialEq, Eq, Error)]
+pub enum StartError {
+    /// A clock has a port at least.
+    #[error("NoPorts")]
+    NoPorts,
+    /// A clock has eight ports at most.
+    #[error("TooManyPorts")]
+    TooManyPorts,
+    /// A member is out of its range: the first such of the clock, else of the first port that has one.
+    #[error("BadValue {0}")]
+    BadValue(Member),
+    /// The clock is its own grandmaster, and a priority or quality of its grandmaster is not its own.
+    #[error("GrandmasterDiffers")]
+    GrandmasterDiffers,
+}
+
+impl ClockStart {
+    ghost use Rattle.std.specs.Prelude.{◌≡◌};
+    ghost use Rattle.ptpm_data.specs.Start.{default_clock, clock_fault, unless, default_data_set, current_data_set, parent_data_set, time_data_set};
+
+    /// A clock that is its own grandmaster, with no text and this profile's defaults.
+    pub fn new(identity: ClockIdentity, domain: u8) -> ClockStart
+        ensures { result ≡ default_clock identity domain }
+    {
+        ClockStart {
+            identity,
+            domain,
+            user_description: ArrayVec::new(),
+            two_step: true,
+            priority1: 128,
+            clock_class: 248,
+            clock_accuracy: 0xfe,
+            variance: 0xffff,
+            priority2: 128,
+            steps_removed: 0,
+            offset_from_master: 0,
+            mean_path_delay: 0,
+            parent_port: None,
+            parent_stats: false,
+            observed_variance: 0xffff,
+            observed_rate: 0x7fff_ffff,
+            grandmaster_priority1: None,
+            grandmaster_class: None,
+            grandmaster_accuracy: None,
+            grandmaster_variance: None,
+            grandmaster_priority2: None,
+            grandmaster: None,
+            utc_offset: 37,
+            leap61: false,
+            leap59: false,
+            utc_valid: false,
+            ptp_timescale: false,
+            time_traceable: false,
+            frequency_traceable: false,
+            time_source: 0xa0,
+        }
+    }
+
+    /// Whether each member is in its range; if not, the first that is not.
+    #[tactic(auto, unfolding(crate::specs::Start::clock_fault))]
+    pub(crate) fn judge(&self) -> Result<(), StartError>
+        ensures { result ≡ unless (clock_fault self.now) tt }
+    {
+        if self.identity == ClockIdentity::EVERY {
+            Err(StartError::BadValue(Member::Identity))
+        } else if !ranges::is_description(self.user_description.as_slice()) {
+            Err(StartError::BadValue(Member::UserDescription))
+        } else if !ranges::is_clock_accuracy(self.clock_accuracy) {
+            Err(StartError::BadValue(Member::ClockAccuracy))
+        } else if self.leap61 && self.leap59 {
+            Err(StartError::BadValue(Member::Leap59))
+        } else {
+            Ok(())
+        }
+    }
+
+    pub(crate) fn default_data_set(&self) -> DefaultDataSet
+        ensures { result ≡ default_data_set self.now }
+    {
+        DefaultDataSet {
+            identity: self.identity,
+            domain: self.domain,
+            two_step: self.two_step,
+            precedence: ClockPrecedence {
+                priority1: self.priority1,
+                class: self.clock_class,
+                accuracy: self.clock_accuracy,
+                variance: self.variance,
+                priority2: self.priority2,
+            },
+        }
+    }
+
+    pub(crate) fn current_data_set(&self) -> CurrentDataSet
+        ensures { result ≡ current_data_set self.now }
+    {
+        CurrentDataSet {
+            steps_removed: self.steps_removed,
+            offset_from_master: self.offset_from_master,
+            mean_path_delay: self.mean_path_delay,
+        }
+    }
+
+    pub(crate) fn parent_data_set(&self) -> ParentDataSet
+        ensures { result ≡ parent_data_set self.now }
+    {
+        ParentDataSet {
+            parent_port: self.parent_port.unwrap_or(PortIdentity {
+                clock: self.identity,
+                port: 0,
+            }),
+            parent_stats: self.parent_stats,
+            observed_variance: self.observed_variance,
+            observed_rate: self.observed_rate,
+            grandmaster: self.grandmaster.unwrap_or(self.identity),
+            precedence: ClockPrecedence {
+                priority1: self.grandmaster_priority1.unwrap_or(self.priority1),
+                class: self.grandmaster_class.unwrap_or(self.clock_class),
+                accuracy: self.grandmaster_accuracy.unwrap_or(self.clock_accuracy),
+                variance: self.grandmaster_variance.unwrap_or(self.variance),
+                priority2: self.grandmaster_priority2.unwrap_or(self.priority2),
+            },
+        }
+    }
+
+    pub(crate) fn time_data_set(&self) -> TimePropertiesDataSet
+        ensures { result ≡ time_data_set self.now }
+    {
+        TimePropertiesDataSet {
+            utc_offset: self.utc_offset,
+            leap61: self.leap61,
+            leap59: self.leap59,
+            utc_valid: self.utc_valid,
+            ptp_timescale: self.ptp_timescale,
+            time_traceable: self.time_traceable,
+            frequency_traceable: self.frequency_traceable,
+            time_source: self.time_source,
+        }
+    }
+}
+
+impl PortStart {
+    ghost use Rattle.std.specs.Prelude.{◌≡◌};
+    ghost use Rattle.ptpm_data.specs.Start.{default_port, port_start_of};
+
+    /// A port that is MASTER, with this profile's defaults.
+    pub fn new() -> PortStart
+        ensures { result ≡ default_port }
+    {
+        PortStart {
+            state: 6,
+            log_min_delay_req: 0,
+            peer_delay: 0,
+            log_announce: 1,
+            receipt_timeout: 3,
+            log_sync: 0,
+            delay_mechanism: 1,
+            log_min_pdelay: 0,
+        }
+    }
+
+    /// The data set of such a port, or the first member that is out of its range.
+    #[tactic(auto, unfolding(crate::specs::Start::port_start_of, crate::specs::Start::port_fault))]
+    pub(crate) fn data_set(&self) -> Result<PortDataSet, StartError>
+        ensures { result ≡ port_start_of self.now }
+    {
+        let state = PortState::from_number(self.state).ok_or(StartError::BadValue(Member::State))?;
+        if !ranges::is_announce_interval(self.log_announce) {
+            return Err(StartError::BadValue(Member::LogAnnounce));
+        }
+        if !ranges::is_receipt_timeout(self.receipt_timeout) {
+            return Err(StartError::BadValue(Member::ReceiptTimeout));
+        }
+        if !ranges::is_sync_interval(self.log_sync) {
+            return Err(StartError::BadValue(Member::LogSync));
+        }
+        let delay_mechanism = DelayMechanism::from_number(self.delay_mechanism).ok_or(
+            StartError::BadValue(Member::DelayMechanism),
+        )?;
+        if !ranges::is_pdelay_interval(self.log_min_pdelay) {
+            return Err(StartError::BadValue(Member::LogMinPdelay));
+        }
+        Ok(PortDataSet {
+            state,
+            log_min_delay_req: self.log_min_delay_req,
+            peer_delay: self.peer_delay,
+            log_announce: self.log_announce,
+            receipt_timeout: self.receipt_timeout,
+            log_sync: self.log_sync,
+            delay_mechanism,
+            log_min_pdelay: self.log_min_pdelay,
+        })
+    }
+}
+
+/// The data sets of ports that start, or the first fault.
+fn port_data_sets(ports: &[PortStart]) -> Result<ArrayVec<PortDataSet, 8>, StartError>
+    requires { length ports.now ≤ 8 }
+    ensures { MatchResult result (λ sets. (ports_fault ports.now ≡ None) × (sets.items ≡ map port_data_set ports.now)) (λ fault. ports_fault ports.now ≡ Some fault) }
+{
+    let mut sets = ArrayVec::new();
+    for port in ports {
+        sets.push(port.data_set()?);
+    }
+    Ok(sets)
+}
+
+/// Whether a clock can have so many ports.
+#[tactic(auto, unfolding(crate::specs::Start::count_fault))]
+fn count_ports(count: usize) -> Result<(), StartError>
+    ensures { result ≡ unless (count_fault count) tt }
+{
+    match count {
+        0 => Err(StartError::NoPorts),
+        1..=8 => Ok(()),
+        _ => Err(StartError::TooManyPorts),
+    }
+}
+
+/// Whether a clock that is its own grandmaster shows its own priorities and quality (9.3.5).
+#[tactic(auto, unfolding(crate::specs::Start::grandmaster_fault))]
+fn judge_grandmaster(default: &DefaultDataSet, parent: &ParentDataSet) -> Result<(), StartError>
+    ensures { result ≡ unless (grandmaster_fault default.now parent.now) tt }
+{
+    if parent.grandmaster == default.identity && parent.precedence != default.precedence {
+        Err(StartError::GrandmasterDiffers)
+    } else {
+        Ok(())
+    }
+}
+
+impl DataSets {
+    ghost use Rattle.std.specs.Prelude.{◌≡◌};
+    ghost use Rattle.ptpm_data.specs.Start.{start_of};
+
+    /// The data sets of a clock that starts with these values, its ports numbered from 1.
+    ///
+    /// Refused with the first `StartError` that holds.
+    #[tactic(auto, unfolding(crate::specs::Start::start_of))]
+    pub fn new(clock: &ClockStart, ports: &[PortStart]) -> Result<DataSets, StartError>
+        ensures { result ≡ start_of clock.now ports.now }
+    {
+        count_ports(ports.len())?;
+        clock.judge()?;
+        let ports = port_data_sets(ports)?;
+        let default = clock.default_data_set();
+        let parent = clock.parent_data_set();
+        judge_grandmaster(&default, &parent)?;
+        Ok(DataSets {
+            default,
+            description: description_of(clock.user_description.as_slice()),
+            current: clock.current_data_set(),
+            parent,
+            time: clock.time_data_set(),
+            ports,
+        })
+    }
+}
+
+#[cfg(test)]
+mod tests;
