@@ -1,0 +1,323 @@
+-- Kept messages: written over for another copy, and read back.
+use Rattle.std.proofs.Common.{arith, ◌≡◌, ◌<◌, ◌≤◌, ◌^◌, ℕ, ◌+◌, ◌-◌, ◌*◌, Bool, true, false, refl, sym, ◌∙◌, ap, subst, List, [], ◌∷◌, ◌++◌, length, get_or, map, take, drop, Option, Some, None, unwrap_or, slice_set, All}
+use Rattle.ptpm_codec.specs.declared.error.ErrorId.{ErrorId}
+use Rattle.ptpm_codec.specs.declared.error.ErrorId.TheVariants as errors
+use Rattle.ptpm_codec.specs.declared.message.Action.{Action}
+use Rattle.ptpm_codec.specs.declared.message.Action.TheVariants as actions
+use Rattle.ptpm_codec.specs.declared.message.Message.{Message}
+use Rattle.ptpm_codec.specs.Canonical.{canonical, port_identity_octets, text_octets, tlv_octets}
+use Rattle.ptpm_codec.specs.Layout.{message_octets}
+use Rattle.ptpm_codec.specs.Message.{Fits, IsValid, IsRequestAction, error_number}
+use Rattle.ptpm_codec.specs.Reading.{message_of}
+use Rattle.ptpm_codec.specs.Spelling.{Spells}
+use Rattle.ptpm_codec.proofs.CanonicalLaws.{by_clocks, canonical_octets, canonical_size, canonical_spells}
+use Rattle.ptpm_codec.proofs.ReadingLaws.{spells-message_of}
+use Rattle.ptpm_codec.proofs.RewritingLaws.{set_all, set_domain, set_hops, set_starting_hops}
+use Rattle.std.proofs.lemmas.List.{append-nil, drop-append-le, length-append, length-map, map-append, take_more, length-drop, take-append-le, take_all}
+use Rattle.ptpm_data.specs.Reply as reply
+use Rattle.ptpm_data.specs.Reply.{Answer, Outcome, ReplyValue, answer_of}
+use Rattle.ptpm_data.specs.declared.reply.PortAnswer.{PortAnswer}
+use Rattle.ptpm_table.specs.declared.heard.Heard.{Heard}
+use Rattle.ptpm_data.specs.IdTable.{is_of_port}
+use Rattle.ptpm_data.specs.Request.{RequestValue}
+use Rattle.std.specs.Prelude.{is_some}
+use Rattle.ptpm_table.proofs.ListLemmas.{All-unmap}
+use Rattle.ptpm_table.specs.Entries.{FitsAnswer, FitsCount, FitsOutcome, FitsRequest, reply_action}
+use Rattle.ptpm_table.specs.KeptMessages.{AreSizes, EachKept, Envelope, IsKept, IsKeptReply, answer_in, error_of_number, first_copy, has_port, kept_message, outcome_in, outcome_of_body, pieces, port_for, port_in, renewed, source_port}
+use Rattle.ptpm_table.specs.Rendering.{answer_body, hops_passed, rendered, reply_message}
+
+-- the copy that is answered is of the request whose reply is kept
+pub record IsCopyOf (e : Envelope) (heard : Heard) : Type 0 where
+  pub source_is : heard.source ≡ e.manager
+  pub number_is : heard.number ≡ e.number
+
+-- ---- written over
+
+renewed_of_clock : (e : Envelope) (heard : Heard) (ingress : ℕ) (o : Outcome) → IsCopyOf e heard → ingress < 2 ^ 16
+    → Fits (kept_message e (record { port = None; outcome = o }))
+    → renewed heard.domain (Some ingress) (hops_passed heard) (canonical (kept_message e (record { port = None; outcome = o })))
+    ≡ canonical (reply_message e.clock heard e.action e.id ingress (record { port = None; outcome = o }))
+renewed_of_clock e heard ingress o copy low fits =
+    set_all (kept_message e (record { port = None; outcome = o })) heard.domain ingress (hops_passed heard) (hops_passed heard) fits low
+    ∙ (λ i. canonical (record {
+      sdo = 0;
+      domain = heard.domain;
+      source = record { clock = e.clock; port = ingress };
+      number = sym copy.number_is i;
+      target = sym copy.source_is i;
+      starting_hops = hops_passed heard;
+      hops = hops_passed heard;
+      body = answer_body e.action e.id o;
+    }))
+
+renewed_of_port : (e : Envelope) (heard : Heard) (ingress port : ℕ) (o : Outcome) → IsCopyOf e heard
+    → Fits (kept_message e (record { port = Some port; outcome = o }))
+    → renewed heard.domain None (hops_passed heard) (canonical (kept_message e (record { port = Some port; outcome = o })))
+    ≡ canonical (reply_message e.clock heard e.action e.id ingress (record { port = Some port; outcome = o }))
+renewed_of_port e heard ingress port o copy fits =
+    let h : ℕ = hops_passed heard in
+    let v : Message = kept_message e (record { port = Some port; outcome = o }) in
+    let v1 : Message = record v { domain = heard.domain } in
+    let v2 : Message = record v1 { starting_hops = h } in
+    let fits1 : Fits v1 = record { source = fits.source; number = fits.number; target = fits.target; body = fits.body } in
+    let fits2 : Fits v2 = record { source = fits.source; number = fits.number; target = fits.target; body = fits.body } in
+    ap (λ (m : List ℕ). slice_set (slice_set m 44 h) 45 h) (set_domain v heard.domain)
+    ∙ ap (λ (m : List ℕ). slice_set m 45 h) (set_starting_hops v1 h fits1)
+    ∙ set_hops v2 h fits2
+    ∙ (λ i. canonical (record {
+      sdo = 0;
+      domain = heard.domain;
+      source = record { clock = e.clock; port = port };
+      number = sym copy.number_is i;
+      target = sym copy.source_is i;
+      starting_hops = h;
+      hops = h;
+      body = answer_body e.action e.id o;
+    }))
+
+renewed_one : (of_port : Bool) (e : Envelope) (heard : Heard) (ingress : ℕ) (m : List ℕ) → IsCopyOf e heard → ingress < 2 ^ 16
+    → IsKept e of_port m
+    → renewed heard.domain (port_for of_port ingress) (hops_passed heard) m
+    ≡ canonical (reply_message e.clock heard e.action e.id ingress (answer_in of_port m))
+renewed_one false e heard ingress m copy low kept =
+    ap (renewed heard.domain (Some ingress) (hops_passed heard)) kept.spelled
+    ∙ renewed_of_clock e heard ingress (outcome_in (message_of m)) copy low kept.fits
+renewed_one true e heard ingress m copy low kept =
+    ap (renewed heard.domain None (hops_passed heard)) kept.spelled
+    ∙ renewed_of_port e heard ingress (source_port (message_of m)) (outcome_in (message_of m)) copy kept.fits
+
+-- the kept messages written over are the reply, rendered for the copy
+pub renewed_reply : (of_port : Bool) (e : Envelope) (heard : Heard) (ingress : ℕ) (ms : List (List ℕ)) → IsCopyOf e heard → ingress < 2 ^ 16
+    → EachKept e of_port ms
+    → map (λ m. (ingress, renewed heard.domain (port_for of_port ingress) (hops_passed heard) m)) ms
+    ≡ rendered e.clock heard (record { action = e.action; id = e.id; answers = map (answer_in of_port) ms }) ingress
+unfolding rendered
+renewed_reply of_port e heard ingress [] copy low kept = refl
+renewed_reply of_port e heard ingress (m ∷ ms) copy low kept =
+    (λ i. (ingress, renewed_one of_port e heard ingress m copy low kept.0 i) ∷ renewed_reply of_port e heard ingress ms copy low kept.1 i)
+
+-- ---- read back
+
+error_back : (error : ErrorId) → error_of_number (error_number error) ≡ error
+error_back errors.ResponseTooBig = refl
+error_back errors.NoSuchId = refl
+error_back errors.WrongLength = refl
+error_back errors.WrongValue = refl
+error_back errors.NotSetable = refl
+error_back errors.NotSupported = refl
+error_back errors.GeneralError = refl
+
+outcome_back : (request : Action) (id most : ℕ) (o : Outcome) → IsRequestAction request → FitsOutcome request most o
+    → outcome_of_body (answer_body (reply_action request) id o) ≡ o
+outcome_back actions.Get id most (reply.Value octets) asks fits = refl
+outcome_back actions.Set id most (reply.Value octets) asks fits = refl
+outcome_back actions.Command id most (reply.Value octets) asks fits = absurd (fits.0 refl)
+outcome_back actions.Response id most (reply.Value octets) asks fits = absurd (cc)
+outcome_back actions.Acknowledge id most (reply.Value octets) asks fits = absurd (cc)
+outcome_back actions.Get id most reply.Done asks fits = absurd (cc)
+outcome_back actions.Set id most reply.Done asks fits = absurd (cc)
+outcome_back actions.Command id most reply.Done asks fits = refl
+outcome_back actions.Response id most reply.Done asks fits = absurd (cc)
+outcome_back actions.Acknowledge id most reply.Done asks fits = absurd (cc)
+outcome_back request id most (reply.Refused error) asks fits = ap reply.Refused (error_back error)
+
+message_back : (v : Message) → IsValid v → Fits v → message_of (canonical v) ≡ Some v
+message_back v valid fits =
+    let alone : message_octets (canonical v) ≡ canonical v =
+    subst (λ (m : List ℕ). message_octets m ≡ canonical v) (append-nil (canonical v)) (canonical_octets v [] valid fits) in
+    spells-message_of v (canonical v) (subst (λ (m : List ℕ). Spells v m) (sym alone) (canonical_spells v valid fits))
+
+-- the answer of a kept message
+pub answer_back : (of_port : Bool) (e : Envelope) (request : Action) (a : Answer) → e.action ≡ reply_action request → IsRequestAction request
+    → FitsAnswer of_port request a → IsValid (kept_message e a) → Fits (kept_message e a)
+    → answer_in of_port (canonical (kept_message e a)) ≡ a
+answer_back false e request a action asks suits valid fits =
+    let read = message_back (kept_message e a) valid fits in
+    let outcome : outcome_in (message_of (canonical (kept_message e a))) ≡ a.outcome =
+    ap outcome_in read ∙ (ap (λ (x : Action). outcome_of_body (answer_body x e.id a.outcome)) action ∙ outcome_back request e.id 130 a.outcome asks suits.1) in
+    (λ i. record { port = sym suits.0 i; outcome = outcome i })
+answer_back true e request a action asks suits valid fits =
+    let read = message_back (kept_message e a) valid fits in
+    let outcome : outcome_in (message_of (canonical (kept_message e a))) ≡ a.outcome =
+    ap outcome_in read ∙ (ap (λ (x : Action). outcome_of_body (answer_body x e.id a.outcome)) action ∙ outcome_back request e.id 26 a.outcome asks suits.1) in
+    let port : port_in true (message_of (canonical (kept_message e a))) ≡ a.port =
+    ap (port_in true) read ∙ subst (λ (p : Option ℕ). Some (unwrap_or p 0) ≡ p) (sym suits.0.1) refl in
+    (λ i. record { port = port i; outcome = outcome i })
+
+-- a message that was encoded is kept
+pub kept_back : (of_port : Bool) (e : Envelope) (request : Action) (a : Answer) → e.action ≡ reply_action request → IsRequestAction request
+    → FitsAnswer of_port request a → IsValid (kept_message e a) → Fits (kept_message e a)
+    → IsKept e of_port (canonical (kept_message e a))
+kept_back of_port e request a action asks suits valid fits =
+    let back = answer_back of_port e request a action asks suits valid fits in
+    record {
+      spelled = ap (λ (x : Answer). canonical (kept_message e x)) (sym back);
+      fits = subst (λ (x : Answer). Fits (kept_message e x)) (sym back) fits;
+    }
+
+-- ---- cutting
+
+-- one more message
+pub sizes_more : (sizes : List ℕ) (n k : ℕ) → AreSizes sizes n → 54 ≤ k → AreSizes (sizes ++ k ∷ []) (n + k)
+sizes_more [] n k cut least = (least, omega arith, omega (arith, cut))
+sizes_more (s ∷ ss) n k cut least =
+    let room : s ≤ n = cut.1 in
+    let rest : n - s + k ≡ n + k - s = omega arith in
+    (cut.0, omega arith, subst (AreSizes (ss ++ k ∷ [])) rest (sizes_more ss (n - s) k cut.2 least))
+
+pub pieces_more : (sizes octets m : List ℕ) → AreSizes sizes (length octets)
+    → pieces (sizes ++ length m ∷ []) (octets ++ m) ≡ pieces sizes octets ++ m ∷ []
+pieces_more [] [] m cut = ap (λ x. x ∷ []) (take_all (length m) m (omega arith))
+pieces_more [] (x ∷ octets) m cut = absurd (omega (arith, cut))
+pieces_more (s ∷ ss) octets m cut =
+    let room : s ≤ length octets = cut.1 in
+    let rest : AreSizes ss (length (drop s octets)) = subst (AreSizes ss) (sym (length-drop s octets)) cut.2 in
+    let first : take s (octets ++ m) ≡ take s octets = take-append-le s octets m room in
+    let behind : drop s (octets ++ m) ≡ drop s octets ++ m = drop-append-le s octets m room in
+    (λ i. first i ∷ (ap (pieces (ss ++ length m ∷ [])) behind ∙ pieces_more ss (drop s octets) m rest) i)
+
+each_more : (e : Envelope) (of_port : Bool) (ms : List (List ℕ)) (m : List ℕ) → EachKept e of_port ms → IsKept e of_port m
+    → EachKept e of_port (ms ++ m ∷ [])
+each_more e of_port [] m each kept = (kept, tt)
+each_more e of_port (x ∷ ms) m each kept = (each.0, each_more e of_port ms m each.1 kept)
+
+pub kept_more : (e : Envelope) (of_port : Bool) (sizes octets m : List ℕ) → IsKeptReply e of_port sizes octets → IsKept e of_port m
+    → 54 ≤ length m → IsKeptReply e of_port (sizes ++ length m ∷ []) (octets ++ m)
+kept_more e of_port sizes octets m kept one least = record {
+  cut = subst (AreSizes (sizes ++ length m ∷ [])) (sym (length-append octets m)) (sizes_more sizes (length octets) (length m) kept.cut least);
+  each = subst (EachKept e of_port) (sym (pieces_more sizes octets m kept.cut)) (each_more e of_port (pieces sizes octets) m kept.each one);
+}
+
+-- ---- sizes
+
+canonical_length : (v : Message) → Fits v → length (canonical v) ≡ 48 + length (tlv_octets v.body)
+unfolding port_identity_octets
+canonical_length v fits =
+    by_clocks (λ w. length (canonical w) ≡ 48 + length (tlv_octets w.body)) v fits
+    (λ a b c d e f g h a' b' c' d' e' f' g' h'. omega arith)
+
+body_length : (request action : Action) (id most : ℕ) (o : Outcome) → 6 ≤ most → FitsOutcome request most o
+    → length (tlv_octets (answer_body action id o)) ≤ 6 + most
+unfolding tlv_octets text_octets
+body_length request action id most (reply.Value octets) least fits = let small : length octets ≤ most = fits.2 in omega arith
+body_length request action id most reply.Done least fits = omega arith
+body_length request action id most (reply.Refused error) least fits = omega arith
+
+-- a message of an answer of the clock has at most 184 octets, one of a port at most 80
+abbrev pub most_octets : Bool → ℕ
+most_octets false = 184
+most_octets true = 80
+
+pub kept_length : (of_port : Bool) (e : Envelope) (request : Action) (a : Answer) → FitsAnswer of_port request a → Fits (kept_message e a)
+    → length (canonical (kept_message e a)) ≤ most_octets of_port
+kept_length false e request a suits fits =
+    omega (arith, canonical_length (kept_message e a) fits, body_length request e.action e.id 130 a.outcome (omega arith) suits.1)
+kept_length true e request a suits fits =
+    omega (arith, canonical_length (kept_message e a) fits, body_length request e.action e.id 26 a.outcome (omega arith) suits.1)
+
+pub kept_least : (e : Envelope) (a : Answer) → IsValid (kept_message e a) → Fits (kept_message e a) → 54 ≤ length (canonical (kept_message e a))
+kept_least e a valid fits = (canonical_size (kept_message e a) valid fits).at_least
+
+-- there is room for one more
+pub has_room : (of_port : Bool) (count done filled size : ℕ) → FitsCount of_port count → done < count → filled ≤ done * most_octets of_port
+    → size ≤ most_octets of_port → filled + size ≤ 640
+has_room false count done filled size fits more full small = omega (arith, fits)
+has_room true count done filled size fits more full small = let few : count ≤ 8 = fits.1 in omega arith
+
+pub filled_more : (of_port : Bool) (done filled size : ℕ) → filled ≤ done * most_octets of_port → size ≤ most_octets of_port
+    → filled + size ≤ (done + 1) * most_octets of_port
+filled_more false done filled size full small = omega arith
+filled_more true done filled size full small = omega arith
+
+most_of_all : (of_port : Bool) → most_octets of_port ≤ 184
+most_of_all false = omega arith
+most_of_all true = omega arith
+
+-- a message that spells an answer
+pub record IsEncoded (of_port : Bool) (e : Envelope) (a : Answer) (v : Message) : Type 0 where
+  pub kept : IsKept e of_port (canonical v)
+  pub back : answer_in of_port (canonical v) ≡ a
+  pub small : length (canonical v) ≤ most_octets of_port
+  pub smallest : length (canonical v) ≤ 184
+  pub least : 54 ≤ length (canonical v)
+
+pub encoded : (of_port : Bool) (e : Envelope) (request : Action) (a : Answer) (v : Message) → kept_message e a ≡ v → e.action ≡ reply_action request
+    → IsRequestAction request → FitsAnswer of_port request a → IsValid v → Fits v → IsEncoded of_port e a v
+encoded of_port e request a v message action asks suits =
+    subst (λ (w : Message). IsValid w → Fits w → IsEncoded of_port e a w) message (λ valid fits. record {
+      kept = kept_back of_port e request a action asks suits valid fits;
+      back = answer_back of_port e request a action asks suits valid fits;
+      small = kept_length of_port e request a suits fits;
+      smallest = omega (arith, kept_length of_port e request a suits fits, most_of_all of_port);
+      least = kept_least e a valid fits;
+    })
+
+pub answers_more : (of_port : Bool) (ms : List (List ℕ)) (m : List ℕ) (xs : List PortAnswer) (i : ℕ) (d : PortAnswer) → i < length xs
+    → map (answer_in of_port) ms ≡ map answer_of (take i xs) → answer_in of_port m ≡ answer_of (get_or xs i d)
+    → map (answer_in of_port) (ms ++ m ∷ []) ≡ map answer_of (take (i + 1) xs)
+answers_more of_port ms m xs i d inside before one =
+    map-append (answer_in of_port) ms (m ∷ [])
+    ∙ (λ j. before j ++ one j ∷ [])
+    ∙ sym (map-append answer_of (take i xs) (get_or xs i d ∷ []))
+    ∙ ap (map answer_of) (sym (take_more xs i d inside))
+
+-- the message of an answer, as it is encoded
+pub made : (of_port : Bool) (e : Envelope) (request action : Action) (answers : List PortAnswer) (i : ℕ) (item : PortAnswer) (v : Message)
+    → item ≡ get_or answers i item → i < length answers → All (λ a. FitsAnswer of_port request (answer_of a)) answers
+    → v ≡ reply_message e.clock (first_copy e) action e.id 0 (answer_of item) → action ≡ reply_action request → e.action ≡ reply_action request
+    → IsRequestAction request → IsValid v → Fits v → IsEncoded of_port e (answer_of item) v
+made of_port e request action answers i item v is inside suit message chosen own asks valid fits =
+    let suits : FitsAnswer of_port request (answer_of item) =
+    subst (λ (x : PortAnswer). FitsAnswer of_port request (answer_of x)) (sym is) (suit i item inside) in
+    let same : kept_message e (answer_of item) ≡ v =
+    ap (λ (x : Action). reply_message e.clock (first_copy e) x e.id 0 (answer_of item)) (own ∙ sym chosen) ∙ sym message in
+    encoded of_port e request (answer_of item) v same own asks suits valid fits
+
+-- what is kept after one more answer
+pub record IsFilled (of_port : Bool) (e : Envelope) (answers : List PortAnswer) (sizes octets : List ℕ) (i : ℕ) : Type 0 where
+  pub kept : IsKeptReply e of_port sizes octets
+  pub answers_are : map (answer_in of_port) (pieces sizes octets) ≡ map answer_of (take i answers)
+  pub count : length sizes ≡ i
+  pub room : length octets ≤ i * most_octets of_port
+
+filled_next : (of_port : Bool) (e : Envelope) (answers : List PortAnswer) (sizes octets : List ℕ) (i : ℕ) (item : PortAnswer) (v : Message)
+    → IsFilled of_port e answers sizes octets i → item ≡ get_or answers i item → i < length answers → IsEncoded of_port e (answer_of item) v
+    → IsFilled of_port e answers (sizes ++ length (canonical v) ∷ []) (octets ++ canonical v) (i + 1)
+filled_next of_port e answers sizes octets i item v filled is inside made = record {
+  kept = kept_more e of_port sizes octets (canonical v) filled.kept made.kept made.least;
+  answers_are = ap (map (answer_in of_port)) (pieces_more sizes octets (canonical v) filled.kept.cut)
+      ∙ answers_more of_port (pieces sizes octets) (canonical v) answers i item inside filled.answers_are (made.back ∙ ap answer_of is);
+  count = length-append sizes (length (canonical v) ∷ []) ∙ ap (λ n. n + 1) filled.count;
+  room = subst (λ n. n ≤ (i + 1) * most_octets of_port) (sym (length-append octets (canonical v)))
+      (filled_more of_port i (length octets) (length (canonical v)) filled.room made.small);
+}
+
+pub filled_after : (of_port : Bool) (e : Envelope) (answers : List PortAnswer) (sizes octets sizes' octets' : List ℕ) (i : ℕ) (item : PortAnswer) (v : Message)
+    → IsFilled of_port e answers sizes octets i → item ≡ get_or answers i item → i < length answers → IsEncoded of_port e (answer_of item) v
+    → sizes' ≡ sizes ++ length (canonical v) ∷ [] → octets' ≡ octets ++ canonical v
+    → IsFilled of_port e answers sizes' octets' (i + 1)
+filled_after of_port e answers sizes octets sizes' octets' i item v filled is inside made s o =
+    subst (λ (p : List ℕ × List ℕ). IsFilled of_port e answers p.0 p.1 (i + 1)) (λ j. (sym s j, sym o j))
+    (filled_next of_port e answers sizes octets i item v filled is inside made)
+
+-- ---- of a reply that fits
+
+pub record SuitsReply (of_port : Bool) (request : Action) (answers : List PortAnswer) : Type 0 where
+  pub count : FitsCount of_port (length answers)
+  pub suits : All (λ a. FitsAnswer of_port request (answer_of a)) answers
+
+port_told : (of_port : Bool) (request : Action) (answers : List PortAnswer) → SuitsReply of_port request answers → of_port ≡ has_port answers
+port_told false request [] s = refl
+port_told true request [] s = let some : 1 ≤ 0 = s.count.0 in absurd (omega arith)
+port_told false request (a ∷ rest) s = ap is_some (sym (s.suits 0 a (omega arith)).0)
+port_told true request (a ∷ rest) s = ap is_some (sym (s.suits 0 a (omega arith)).0.1)
+
+pub fitting_slots : (q : RequestValue) (r : ReplyValue) (answers : List PortAnswer) → FitsRequest q r → map answer_of answers ≡ r.answers
+    → SuitsReply (has_port answers) q.action answers
+fitting_slots q r answers fits are =
+    let s : SuitsReply (is_of_port q.id) q.action answers = record {
+      count = subst (FitsCount (is_of_port q.id)) (ap length (sym are) ∙ length-map answers answer_of) fits.count;
+      suits = All-unmap (FitsAnswer (is_of_port q.id) q.action) answer_of answers
+          (subst (λ (xs : List Answer). All (FitsAnswer (is_of_port q.id) q.action) xs) (sym are) fits.answers);
+    } in
+    subst (λ (b : Bool). SuitsReply b q.action answers) (port_told (is_of_port q.id) q.action answers s) s

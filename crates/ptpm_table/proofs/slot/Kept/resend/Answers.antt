@@ -1,0 +1,21 @@
+use Rattle.std.proofs.Common.{arith, ◌<◌, ◌^◌, ◌∙◌, ◌++◌, ap, map, sym}
+use Rattle.ptpm_table.specs.Entries.{reply_action}
+use Rattle.ptpm_table.specs.KeptMessages.{Envelope, KeptValue, pieces, renewed}
+use Rattle.ptpm_table.specs.Rendering.{rendered}
+use Rattle.ptpm_table.proofs.KeptMessageLaws.{IsCopyOf, renewed_reply}
+use Rattle.ptpm_table.proofs.slot.Kept.resend.Goals as goal
+
+pub returns : goal.returns
+returns c =
+    let e : Envelope = record { clock = c.self.inside.clock; manager = c.self.inside.manager; number = c.self.inside.number; action = reply_action c.self.inside.action; id = c.self.inside.id } in
+    let low : c.args.ingress < 2 ^ 16 = omega arith in
+    let copy : IsCopyOf e c.args.heard.now = record {
+      source_is = c.requires.manager ∙ sym (ap (λ (v : KeptValue). v.manager) c.self.view_is);
+      number_is = c.requires.number ∙ sym (ap (λ (v : KeptValue). v.entry.number) c.self.view_is);
+    } in
+    c.resend_each.ensures
+    ∙ ((λ i. c.args.out.now ++ map (λ m. (c.args.ingress, renewed c.args.heard.now.domain (c.port_for.ensures i) (c.saturating_sub.ensures i) m))
+    (pieces (c.as_slice-sizes.ensures.value i) (c.as_slice.ensures.value i)))
+    ∙ ((λ i. c.args.out.now ++ renewed_reply c.self.inside.of_port e c.args.heard.now c.args.ingress
+    (pieces c.self.inside.sizes.items c.self.inside.messages.items) copy low c.self.invariant.each i)
+    ∙ (λ i. c.args.out.now ++ rendered (c.self.view_is i).clock c.args.heard.now (c.self.view_is i).entry.reply c.args.ingress)))

@@ -1,0 +1,34 @@
+use Rattle.std.proofs.Common.{suc, zero, arith, ◌≡◌, ◌≤◌, ℕ, Bool, true, false, refl, sym, ◌∙◌, ap, map, ◌++◌, subst, List, [], ◌∷◌, length, All}
+use Rattle.ptpm_codec.specs.declared.message.Action.TheVariants as actions
+use Rattle.ptpm_data.specs.declared.reply.PortAnswer.{PortAnswer}
+use Rattle.ptpm_data.specs.IdTable.{is_of_port}
+use Rattle.ptpm_data.specs.Reply.{Answer, ReplyValue, answer_of, outcome_of}
+use Rattle.ptpm_data.specs.Request.{RequestValue}
+use Rattle.ptpm_table.specs.Entries.{FitsAnswer, FitsCount, FitsRequest, reply_action}
+use Rattle.ptpm_table.proofs.tests.reply_to.Goals as goal
+
+one : (of_port : Bool) → FitsCount of_port 1
+one false = refl
+one true = (omega arith, omega arith)
+
+lone : (P : Answer → Type 0) (a : Answer) → P a → All P (a ∷ [])
+lone P a holds zero d inside = holds
+lone P a holds (suc k) d inside = absurd (omega arith)
+
+one_answer : (q : RequestValue) (r : ReplyValue) (a : Answer) → r.action ≡ reply_action q.action → r.id ≡ q.id →
+    r.answers ≡ a ∷ [] → FitsAnswer (is_of_port q.id) q.action a → FitsRequest q r
+one_answer q r a action id answers fits = record {
+  action = action;
+  id = id;
+  count = subst (λ (xs : List Answer). FitsCount (is_of_port q.id) (length xs)) (sym answers) (one (is_of_port q.id));
+  answers = subst (λ (xs : List Answer). All (FitsAnswer (is_of_port q.id) q.action) xs) (sym answers) (lone (FitsAnswer (is_of_port q.id) q.action) a fits);
+}
+
+pub returns : goal.returns
+returns c =
+    let r : ReplyValue = record { action = actions.Response; id = c.request.inside.id; answers = map answer_of c.push.new.self.items } in
+    let a : Answer = record { port = c.args.port; outcome = outcome_of c.args.what } in
+    let given : PortAnswer = record { port = c.args.port; what = c.args.what } in
+    let answers : r.answers ≡ a ∷ [] =
+    ap (map answer_of) (c.push.ensures.items ∙ ap (λ xs. xs ++ given ∷ []) c.new-answers.ensures) in
+    one_answer c.args.request.now r a (sym c.requires.action) (ap (λ (q : RequestValue). q.id) c.request.view_is) answers c.requires.fits

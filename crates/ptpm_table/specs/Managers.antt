@@ -1,0 +1,38 @@
+-- The configured managers of a clock, and what each may change (this project's profile).
+use Rattle.std.specs.Prelude.{◌≡◌, Bool, false, ◌||◌, List, [], ◌∷◌, length, map, Option, Some, None, nat_lt, if◌then◌else◌}
+use Rattle.std.specs.List.{list_any}
+use Rattle.std.specs.FinMap.{empty}
+use Rattle.ptpm_codec.specs.declared.identity.ClockIdentity.{ClockIdentity}
+use Rattle.ptpm_codec.specs.declared.identity.PortIdentity.{PortIdentity}
+use Rattle.ptpm_codec.specs.Identity.{same_identity}
+use Rattle.ptpm_data.specs.declared.rights.Rights.{Rights}
+use Rattle.ptpm_table.specs.declared.error.TableError.{TableError}
+use Rattle.ptpm_table.specs.declared.error.TableError.TheVariants.{TooMany, Twice}
+use Rattle.ptpm_table.specs.Entries.{Entries}
+
+abbrev pub identities : List (PortIdentity × Rights) → List PortIdentity
+identities managers = map (λ m. m.0) managers
+
+abbrev pub no_rights : Rights
+no_rights = record { 0 = 0 }
+
+-- the rights of a configured manager; none of anyone else
+abbrev pub rights_in : List (PortIdentity × Rights) → PortIdentity → Rights
+rights_in [] who = no_rights
+rights_in (m ∷ ms) who = if same_identity who m.0 then m.1 else rights_in ms who
+
+-- an identity stands twice in the list
+abbrev pub has_twice : List PortIdentity → Bool
+has_twice [] = false
+has_twice (p ∷ ps) = list_any (same_identity p) ps || has_twice ps
+
+-- why no table is made for these managers
+abbrev pub table_refusal : List PortIdentity → Option TableError
+table_refusal managers = if nat_lt 16 (length managers) then Some TooMany else if has_twice managers then Some Twice else None
+
+-- a table is of this clock, knows these managers with their rights, and has nothing kept yet
+pub record IsFresh (clock : ClockIdentity) (configured : List (PortIdentity × Rights)) (identity : ClockIdentity) (managers : List PortIdentity) (rights_of : PortIdentity → Rights) (entries : Entries) : Type 0 where
+  pub identity_is : identity ≡ clock
+  pub managers_are : managers ≡ identities configured
+  pub rights_are : (who : PortIdentity) → rights_of who ≡ rights_in configured who
+  pub nothing_kept : entries ≡ empty

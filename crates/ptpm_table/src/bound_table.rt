@@ -1,0 +1,201 @@
+//! A reply table in fixed slots.
+
+ghost use Rattle.std.specs.Prelude.{◌≡◌, ◌≤◌, [], false, IfOk, IfSome, IsTrue, All, MatchResult, None, Some, is_some, length, position};
+ghost use Rattle.std.specs.FinMap as fin;
+ghost use Rattle.std.specs.Option.{option_copied};
+ghost use Rattle.ptpm_codec.specs.declared.identity.ClockIdentity.{ClockIdentity};
+ghost use Rattle.ptpm_codec.specs.Identity.{identity_cmp, same_identity};
+ghost use Rattle.ptpm_codec.specs.Message.{IsDataField, IsRequestAction};
+ghost use Rattle.ptpm_table.specs.Entries.{FitsRequest, is_known};
+ghost use Rattle.ptpm_table.specs.Managers.{IsFresh, has_twice, identities, rights_in, table_refusal};
+ghost use Rattle.ptpm_table.specs.Slots.{clocks, configured, entry_in, rights_at, slot_of, used};
+
+use crate::error::TableError;
+use crate::heard::Heard;
+use crate::kept::judge;
+use crate::managers::{MANAGERS, refusal};
+use crate::outbox::Outbox;
+use crate::reply_table::{Look, ReplyTable, SureTable};
+use crate::slot::{Kept, Slot};
+use arrayvec::ArrayVec;
+use ptpm_codec::{Buffer, ClockIdentity, OutOfMemory, PortIdentity};
+use ptpm_data::{Reply, Request, Rights};
+
+/// The latest accepted requests in sixteen slots inside the value, which has 35,800 octets. Replies are kept as octets,
+/// encoded once by `keep`; `resend` copies them and writes over what depends on the copy that is answered. It takes no
+/// memory, and `keep` is never refused.
+#[derive(Drop)]
+pub struct BoundTable {
+    clock: ClockIdentity,
+    slots: ArrayVec<Slot, MANAGERS>,
+    /// Where messages are encoded.
+    scratch: Buffer,
+    ghost distinct: { has_twice (identities (configured slots.items)) ≡ false },
+    ghost own: { All (λ c. c ≡ clock) (clocks slots.items) },
+}
+
+const _: () = prove!(size_of::<BoundTable>() == 35_800);
+
+impl BoundTable {
+    /// A table without entries, of this clock and these managers. At most sixteen managers, and each identity once.
+    pub fn new(
+        clock: ClockIdentity,
+        managers: &[(PortIdentity, Rights)],
+    ) -> Result<BoundTable, TableError>
+        ensures fresh { IfOk result (λ t. IsFresh clock managers.now
+            (⟦<BoundTable as ReplyTable>⟧.identity t) (⟦<BoundTable as ReplyTable>⟧.managers t)
+            (⟦<BoundTable as ReplyTable>⟧.rights_of t) (⟦<BoundTable as ReplyTable>⟧.entries t)) }
+        ensures refusal { MatchResult result
+            (λ _. table_refusal (identities managers.now) ≡ None)
+            (λ e. table_refusal (identities managers.now) ≡ Some e) }
+    {
+        if let Some(error) = refusal(managers) {
+            return Err(error);
+        }
+        let slots = empty_slots(&clock, managers);
+        let scratch = ArrayVec::new();
+        Ok(BoundTable {
+            clock,
+            slots,
+            scratch,
+        })
+    }
+}
+
+/// A slot without an entry for each manager.
+fn empty_slots(
+    clock: &ClockIdentity,
+    managers: &[(PortIdentity, Rights)],
+) -> ArrayVec<Slot, MANAGERS>
+    requires { length managers.now ≤ MANAGERS }
+    ensures own { All (λ c. c ≡ clock.now) (clocks result.items) }
+    ensures configured { configured result.items ≡ managers.now }
+    ensures used { used result.items ≡ [] }
+{
+    let mut slots = ArrayVec::new();
+    for manager in managers {
+        slots.push(Slot {
+            rights: manager.1,
+            taken: false,
+            kept: Kept::nothing(clock, &manager.0),
+        });
+    }
+    slots
+}
+
+/// A manager's slot.
+fn slot_at<'a>(slots: &'a [Slot], who: &PortIdentity) -> Option<&'a Slot>
+    requires { has_twice (identities (configured slots.now)) ≡ false }
+    ensures known { is_known who.now (identities (configured slots.now)) ≡ is_some (option_copied result) }
+    ensures rights { rights_in (configured slots.now) who.now ≡ rights_at (option_copied result) }
+    ensures kept { fin.get (fin.from_entries {R = identity_cmp} (used slots.now)) who.now ≡ entry_in (option_copied result) }
+    ensures manager { IfSome result (λ s. s.now.kept.manager ≡ who.now) }
+    ensures own { (clock : ClockIdentity) → All (λ c. c ≡ clock) (clocks slots.now) → IfSome result (λ s. s.now.kept.clock ≡ clock) }
+{
+    find_slot(slots, who)
+}
+
+fn find_slot<'a>(slots: &'a [Slot], who: &PortIdentity) -> Option<&'a Slot>
+    ensures { option_copied result ≡ slot_of who.now slots.now }
+{
+    slots.iter().find(|s| *who == *s.kept.manager())
+}
+
+fn place_of(slots: &[Slot], who: &PortIdentity) -> Option<usize>
+    ensures { result ≡ position (λ s. same_identity who.now s.kept.manager) slots.now }
+{
+    slots.iter().position(|s| *who == *s.kept.manager())
+}
+
+/// Keeps a request in its manager's slot.
+fn put(
+    slots: &mut [Slot],
+    who: &PortIdentity,
+    number: u16,
+    request: &Request<'_>,
+    reply: &Reply,
+    scratch: &mut Buffer,
+)
+    requires action { IsRequestAction request.now.action }
+    requires known { IsTrue (is_known who.now (identities (configured slots.old))) }
+    requires distinct { has_twice (identities (configured slots.old)) ≡ false }
+    requires octets { IsDataField request.now.octets }
+    requires fits { FitsRequest request.now reply.now }
+    ensures entries { fin.from_entries {R = identity_cmp} (used slots.new) ≡ fin.insert (fin.from_entries (used slots.old)) who.now
+        (record { number = number; request = request.now; reply = reply.now }) }
+    ensures configured { configured slots.new ≡ configured slots.old }
+    ensures clocks { clocks slots.new ≡ clocks slots.old }
+{
+    if let Some(place) = place_of(slots, who) {
+        let slot = &mut slots[place];
+        slot.taken = true;
+        slot.kept.replace(number, request, reply, scratch);
+    }
+}
+
+impl ReplyTable for BoundTable {
+    ghost use Rattle.std.specs.FinMap as fin;
+    ghost use Rattle.ptpm_table.specs.Managers.{identities, rights_in};
+    ghost use Rattle.ptpm_table.specs.Slots.{configured, used};
+
+    ghost identity = { λ t. t.clock };
+
+    ghost managers = { λ t. identities (configured t.slots.items) };
+
+    ghost rights_of = { λ t. rights_in (configured t.slots.items) };
+
+    ghost entries = { λ t. fin.from_entries (used t.slots.items) };
+
+    fn clock(&self) -> ClockIdentity {
+        self.clock
+    }
+
+    fn knows(&self, who: &PortIdentity) -> bool {
+        slot_at(self.slots.as_slice(), who).is_some()
+    }
+
+    fn rights(&self, who: &PortIdentity) -> Rights {
+        match slot_at(self.slots.as_slice(), who) {
+            Some(slot) => slot.rights,
+            None => Rights(0),
+        }
+    }
+
+    fn look(&self, who: &PortIdentity, number: u16, request: &Request<'_>) -> Look {
+        match slot_at(self.slots.as_slice(), who) {
+            None => Look::Unknown,
+            Some(slot) => {
+                if slot.taken {
+                    judge(slot.kept.number(), &slot.kept.request(), number, request)
+                } else {
+                    Look::New
+                }
+            }
+        }
+    }
+
+    fn keep(
+        &mut self,
+        who: &PortIdentity,
+        number: u16,
+        request: &Request<'_>,
+        reply: &Reply,
+    ) -> Result<(), OutOfMemory> {
+        self.replace(who, number, request, reply);
+        Ok(())
+    }
+
+    fn resend(&self, heard: &Heard, ingress: u16, out: &mut Outbox) {
+        match slot_at(self.slots.as_slice(), &heard.source) {
+            Some(slot) => slot.kept.resend(heard, ingress, out),
+            None => unreachable!(),
+        }
+    }
+}
+
+impl SureTable for BoundTable {
+    fn replace(&mut self, who: &PortIdentity, number: u16, request: &Request<'_>, reply: &Reply) {
+        let slots = self.slots.as_mut_slice();
+        put(slots, who, number, request, reply, &mut self.scratch);
+    }
+}

@@ -1,0 +1,143 @@
+//! A kept reply as octets: encoded once, and sent again with the fields that depend on the copy written over.
+
+ghost use Rattle.std.specs.Prelude.{All, ◌≡◌, ◌+◌, ◌∷◌, ◌++◌, ◌≤◌, ◌<◌, [], length, map};
+ghost use Rattle.arrayvec.specs.ArrayVec.{array_vec_len};
+ghost use Rattle.ptpm_codec.specs.Canonical.{canonical};
+ghost use Rattle.ptpm_codec.specs.Message.{Fits, IsRequestAction, IsValid};
+ghost use Rattle.ptpm_data.specs.Reply.{answer_of};
+ghost use Rattle.ptpm_table.specs.Entries.{FitsAnswer, FitsCount, reply_action};
+ghost use Rattle.ptpm_table.specs.KeptMessages.{AreSizes, IsKeptReply, answer_in, has_port, pieces, port_for, renewed};
+
+use crate::heard::Heard;
+use crate::outbox::Outbox;
+use crate::rendering::draft_of;
+use arrayvec::ArrayVec;
+use ptpm_codec::{Action, Buffer, ClockIdentity, Draft, PortIdentity, encode};
+use ptpm_data::PortAnswer;
+
+/// Room for the sizes of a reply's messages.
+pub(crate) type Sizes = ArrayVec<u8, 8>;
+
+/// Room for a reply's messages: one of at most 184 octets, or eight of at most 80.
+pub(crate) type Messages = ArrayVec<u8, 640>;
+
+/// What depends on the copy that is answered.
+#[derive(Clone, Copy)]
+pub(crate) struct Renewal {
+    pub(crate) domain: u8,
+    /// The source's portNumber, where the answer is of the clock.
+    pub(crate) port: Option<u16>,
+    /// Both hop fields.
+    pub(crate) hops: u8,
+}
+
+/// Writes over what depends on the copy, in a message.
+pub(crate) fn renew(message: &mut [u8], renewal: &Renewal)
+    requires { 54 ≤ length message.old }
+    ensures { message.new ≡ renewed renewal.now.domain renewal.now.port renewal.now.hops message.old }
+{
+    message[4] = renewal.domain;
+    if let Some(port) = renewal.port {
+        message[28] = (port / 256) as u8;
+        message[29] = (port % 256) as u8;
+    }
+    message[44] = renewal.hops;
+    message[45] = renewal.hops;
+}
+
+/// Appends messages of these sizes, each for this port and with what depends on the copy written over.
+pub(crate) fn resend_each(
+    sizes: &[u8],
+    messages: &[u8],
+    renewal: &Renewal,
+    port: u16,
+    out: &mut Outbox,
+)
+    requires cut { AreSizes sizes.now (length messages.now) }
+    requires room { length out.old + length sizes.now ≤ 15 }
+    ensures { out.new ≡ out.old
+        ++ map (λ m. (port, renewed renewal.now.domain renewal.now.port renewal.now.hops m)) (pieces sizes.now messages.now) }
+{
+    if let [size, sizes @ ..] = sizes {
+        let (message, messages) = messages.split_at(*size as usize);
+        out.push_renewed(port, message, renewal);
+        resend_each(sizes, messages, renewal, port, out);
+    }
+}
+
+/// Appends the canonical spelling of a draft, and its size.
+fn append(draft: &Draft<'_>, scratch: &mut Buffer, sizes: &mut Sizes, messages: &mut Messages)
+    requires valid { IsValid draft.now }
+    requires small { Fits draft.now → length (canonical draft.now) ≤ 184 }
+    requires count { array_vec_len sizes.old < 8 }
+    requires room { Fits draft.now → array_vec_len messages.old + length (canonical draft.now) ≤ 640 }
+    ensures sizes { sizes.new.items ≡ sizes.old.items ++ length (canonical draft.now) ∷ [] }
+    ensures messages { messages.new.items ≡ messages.old.items ++ canonical draft.now }
+    ensures fits { Fits draft.now }
+{
+    encode(draft, scratch);
+    sizes.push(scratch.len() as u8);
+    let _ = messages.try_extend_from_slice(scratch.as_slice());
+}
+
+/// Leaves the messages of a reply's answers, and nothing else.
+pub(crate) fn encode_each(
+    clock: &ClockIdentity,
+    manager: &PortIdentity,
+    number: u16,
+    request: Action,
+    id: u16,
+    of_port: bool,
+    answers: &[PortAnswer],
+    scratch: &mut Buffer,
+    sizes: &mut Sizes,
+    messages: &mut Messages,
+)
+    requires asks { IsRequestAction request }
+    requires count { FitsCount of_port (length answers.now) }
+    requires suits { All (λ a. FitsAnswer of_port request (answer_of a)) answers.now }
+    ensures kept { IsKeptReply (record { clock = clock.now; manager = manager.now; number = number; action = reply_action request; id = id })
+        of_port sizes.new.items messages.new.items }
+    ensures answers { map (answer_in of_port) (pieces sizes.new.items messages.new.items) ≡ map answer_of answers.now }
+{
+    sizes.clear();
+    messages.clear();
+    let action = reply_action(request);
+    let copy = Heard {
+        domain: 0,
+        source: *manager,
+        number,
+        starting_hops: 0,
+        hops: 0,
+    };
+    for answer in answers {
+        let draft = draft_of(clock, &copy, action, id, answer, 0);
+        append(&draft, scratch, sizes, messages);
+    }
+}
+
+fn reply_action(request: Action) -> Action
+    ensures { result ≡ reply_action request }
+{
+    match request {
+        Action::Get | Action::Set | Action::Response => Action::Response,
+        Action::Command | Action::Acknowledge => Action::Acknowledge,
+    }
+}
+
+/// Whether the first answer is of a port.
+pub(crate) fn has_port(answers: &[PortAnswer]) -> bool
+    ensures { result ≡ has_port answers.now }
+{
+    match answers {
+        [] => false,
+        [first, ..] => first.port.is_some(),
+    }
+}
+
+/// The portNumber to be written over a message's own, if any.
+pub(crate) fn port_for(of_port: bool, ingress: u16) -> Option<u16>
+    ensures { result ≡ port_for of_port ingress }
+{
+    if of_port { None } else { Some(ingress) }
+}

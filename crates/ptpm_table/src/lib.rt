@@ -1,0 +1,28 @@
+//! Request numbers, kept replies, and replies as messages: what at-most-once execution stands on.
+#![tactic(auto)]
+
+mod bound_table;
+mod error;
+mod heard;
+mod kept;
+mod kept_messages;
+pub mod laws;
+mod managers;
+mod outbox;
+mod plain_table;
+mod rendering;
+mod reply_table;
+mod serial;
+mod slot;
+
+pub use bound_table::BoundTable;
+pub use error::TableError;
+pub use heard::Heard;
+pub use outbox::Outbox;
+pub use plain_table::PlainTable;
+pub use rendering::render;
+pub use reply_table::{Look, ReplyTable, SureTable};
+pub use serial::{Serial, compare};
+
+#[cfg(test)]
+mod tests;

@@ -1,0 +1,61 @@
+//! The configured managers of a clock.
+
+ghost use Rattle.std.specs.Prelude.{◌≡◌, ◌≤◌, None, length};
+ghost use Rattle.ptpm_table.specs.Entries.{is_known};
+ghost use Rattle.ptpm_table.specs.Managers.{has_twice, identities, rights_in, table_refusal};
+
+use crate::error::TableError;
+use ptpm_codec::PortIdentity;
+use ptpm_data::Rights;
+
+/// How many managers a clock has at most.
+pub(crate) const MANAGERS: usize = 16;
+
+/// Why no table is made for these managers.
+pub(crate) fn refusal(managers: &[(PortIdentity, Rights)]) -> Option<TableError>
+    ensures refusal { result ≡ table_refusal (identities managers.now) }
+    ensures few { result ≡ None → length managers.now ≤ MANAGERS }
+{
+    if managers.len() > MANAGERS {
+        Some(TableError::TooMany)
+    } else if stands_twice(managers) {
+        Some(TableError::Twice)
+    } else {
+        None
+    }
+}
+
+fn stands_twice(managers: &[(PortIdentity, Rights)]) -> bool
+    ensures { result ≡ has_twice (identities managers.now) }
+{
+    match managers {
+        [] => false,
+        [first, rest @ ..] => is_configured(rest, &first.0) || stands_twice(rest),
+    }
+}
+
+/// Whether a manager is one of these.
+pub(crate) fn is_configured(managers: &[(PortIdentity, Rights)], who: &PortIdentity) -> bool
+    ensures { result ≡ is_known who.now (identities managers.now) }
+{
+    match managers {
+        [] => false,
+        [first, rest @ ..] => *who == first.0 || is_configured(rest, who),
+    }
+}
+
+/// The rights of a manager; none for anyone else.
+pub(crate) fn rights_of(managers: &[(PortIdentity, Rights)], who: &PortIdentity) -> Rights
+    ensures { result ≡ rights_in managers.now who.now }
+{
+    match managers {
+        [] => Rights(0),
+        [first, rest @ ..] => {
+            if *who == first.0 {
+                first.1
+            } else {
+                rights_of(rest, who)
+            }
+        }
+    }
+}

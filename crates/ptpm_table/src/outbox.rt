@@ -1,0 +1,119 @@
+//! What one call at a clock sends.
+
+ghost use Rattle.std.specs.Prelude.{◌≡◌, ◌<◌, ◌≤◌, ◌-◌, ◌+◌, ◌∷◌, ◌++◌, [], length, slice_set};
+ghost use Rattle.ptpm_codec.specs.Canonical.{canonical};
+ghost use Rattle.ptpm_codec.specs.Layout.{boundary_hops, message_octets};
+ghost use Rattle.ptpm_codec.specs.Message.{IsValid};
+ghost use Rattle.ptpm_codec.specs.Reading.{IsWellFormed};
+ghost use Rattle.ptpm_table.specs.KeptMessages.{renewed};
+ghost use Rattle.ptpm_table.specs.Outbox.{sent};
+
+use crate::kept_messages::{Renewal, renew};
+use arrayvec::ArrayVec;
+use ptpm_codec::{Buffer, Draft, MESSAGE_OCTETS, encode, less_hop};
+use std::marker::Model;
+
+/// At most fifteen messages, each with the port that it is sent at: seven forwarded copies and eight replies. All fifteen
+/// buffers lie in the value, which has 22,328 octets, and are written over and over: each message is written right where
+/// it stays, and emptying the outbox touches none of them. Takes no memory. Contracts see it as the list of pairs.
+#[derive(Drop)]
+pub struct Outbox {
+    places: [(u16, Buffer); 15],
+    /// How many places hold a message, from the first on.
+    count: usize,
+}
+
+const _: () = prove!(size_of::<Outbox>() == 22_328);
+
+impl Model for Outbox {
+    ghost use Rattle.std.specs.Prelude.{List, ℕ, ◌≡◌, ◌≤◌, length, take};
+    ghost use Rattle.ptpm_table.specs.Outbox.{sent};
+
+    ghost Value = { List (ℕ × List ℕ) };
+
+    ghost view = { λ o. sent (take o.count o.places) };
+
+    ghost invariant = { λ o. (o.count ≤ 15) × (length o.places ≡ 15) };
+}
+
+impl Outbox {
+    /// An empty outbox.
+    pub fn new() -> Outbox
+        ensures { result ≡ [] }
+    {
+        Outbox {
+            places: Default::default(),
+            count: 0,
+        }
+    }
+
+    /// The messages in the order in which they were put in, each with its port.
+    pub fn entries(&self) -> &[(u16, Buffer)]
+        ensures messages { sent result.now ≡ self.now }
+        ensures few { length result.now ≤ 15 }
+    {
+        &self.places[..self.count]
+    }
+
+    /// Takes every message out.
+    pub fn clear(&mut self)
+        ensures { self.new ≡ [] }
+    {
+        self.count = 0;
+    }
+
+    /// Appends a copy of these octets for a port.
+    pub fn push(&mut self, port: u16, octets: &[u8])
+        requires room { length self.old < 15 }
+        requires small { length octets.now ≤ MESSAGE_OCTETS }
+        ensures { self.new ≡ self.old ++ (port, octets.now) ∷ [] }
+    {
+        let place = &mut self.places[self.count];
+        place.0 = port;
+        place.1.clear();
+        let _ = place.1.try_extend_from_slice(octets);
+        self.count += 1;
+    }
+
+    /// Appends the canonical spelling of a draft for a port.
+    pub fn push_draft(&mut self, port: u16, draft: &Draft<'_>)
+        requires room { length self.old < 15 }
+        requires valid { IsValid draft.now }
+        ensures { self.new ≡ self.old ++ (port, canonical draft.now) ∷ [] }
+    {
+        let place = &mut self.places[self.count];
+        place.0 = port;
+        encode(draft, &mut place.1);
+        self.count += 1;
+    }
+
+    /// Appends a well-formed datagram's message for a port, with boundaryHops less by one (15.3.3).
+    pub fn push_less_hop(&mut self, port: u16, datagram: &[u8])
+        requires room { length self.old < 15 }
+        requires well_formed { IsWellFormed datagram.now }
+        requires hops { 0 < boundary_hops datagram.now }
+        ensures { self.new ≡ self.old
+            ++ (port, slice_set (message_octets datagram.now) 45 (boundary_hops datagram.now - 1)) ∷ [] }
+    {
+        let place = &mut self.places[self.count];
+        place.0 = port;
+        less_hop(datagram, &mut place.1);
+        self.count += 1;
+    }
+
+    /// Appends a copy of a kept message for a port, with what depends on the copy that is answered written over.
+    pub(crate) fn push_renewed(&mut self, port: u16, message: &[u8], renewal: &Renewal)
+        requires room { length self.old < 15 }
+        requires long { 54 ≤ length message.now }
+        requires small { length message.now ≤ MESSAGE_OCTETS }
+        ensures { self.new ≡ self.old
+            ++ (port, renewed renewal.now.domain renewal.now.port renewal.now.hops message.now) ∷ [] }
+    {
+        let place = &mut self.places[self.count];
+        place.0 = port;
+        place.1.clear();
+        let _ = place.1.try_extend_from_slice(message);
+        renew(place.1.as_mut_slice(), renewal);
+        self.count += 1;
+    }
+}

@@ -1,0 +1,169 @@
+//! A reply table over a map on the heap.
+
+ghost use Rattle.std.specs.Prelude.{◌≡◌, ◌≢◌, IfOk, IfErr, Some};
+ghost use Rattle.std.specs.FinMap as fin;
+ghost use Rattle.std.specs.Option.{option_copied};
+ghost use Rattle.ptpm_codec.specs.Identity.{identity_cmp};
+ghost use Rattle.ptpm_table.specs.Managers.{IsFresh, identities, table_refusal};
+
+use crate::error::TableError;
+use crate::heard::Heard;
+use crate::kept::{copy_reply, judge, no_answers};
+use crate::managers::{is_configured, refusal, rights_of};
+use crate::outbox::Outbox;
+use crate::rendering::render;
+use crate::reply_table::{Look, ReplyTable};
+use indexmap::IndexMap;
+use ptpm_codec::{Action, ClockIdentity, Octets, OutOfMemory, PortIdentity};
+use ptpm_data::{Reply, Request, Rights};
+use std::alloc::Global;
+use std::marker::Model;
+
+/// A request with octets of its own, its number and its reply. Contracts see it as the entry of a table.
+#[derive(Drop)]
+struct Kept {
+    number: u16,
+    action: Action,
+    id: u16,
+    port: u16,
+    octets: Octets,
+    reply: Reply,
+}
+
+impl Model for Kept {
+    ghost use Rattle.ptpm_table.specs.Entries.{Entry, FitsRequest};
+
+    ghost Value = { Entry };
+
+    ghost view = { λ k. record {
+      number = k.number;
+      request = record { action = k.action; id = k.id; port = k.port; octets = k.octets };
+      reply = k.reply;
+    } };
+
+    ghost invariant = { λ k. FitsRequest (record { action = k.action; id = k.id; port = k.port; octets = k.octets }) k.reply };
+}
+
+impl Kept {
+    /// The request, with its dataField lent.
+    fn request(&self) -> Request<'_>
+        ensures { result ≡ self.now.request }
+    {
+        Request {
+            action: self.action,
+            id: self.id,
+            port: self.port,
+            octets: self.octets.as_slice(),
+        }
+    }
+}
+
+/// The latest accepted requests in a map, with the memory that they need. `keep` asks for it, and changes nothing where it
+/// is refused.
+#[derive(Drop)]
+pub struct PlainTable {
+    clock: ClockIdentity,
+    managers: Vec<(PortIdentity, Rights)>,
+    kept: IndexMap<PortIdentity, Kept>,
+    alloc: Global,
+}
+
+impl PlainTable {
+    /// A table without entries, of this clock and these managers. At most sixteen managers, and each identity once.
+    pub fn new(
+        alloc: Global,
+        clock: ClockIdentity,
+        managers: &[(PortIdentity, Rights)],
+    ) -> Result<PlainTable, TableError>
+        ensures fresh { IfOk result (λ t. IsFresh clock managers.now
+            (⟦<PlainTable as ReplyTable>⟧.identity t) (⟦<PlainTable as ReplyTable>⟧.managers t)
+            (⟦<PlainTable as ReplyTable>⟧.rights_of t) (⟦<PlainTable as ReplyTable>⟧.entries t)) }
+        ensures refused { (e : TableError) → table_refusal (identities managers.now) ≡ Some e → result ≡ Err e }
+        ensures no_other { IfErr result (λ e. e ≢ TableError.OutOfMemory → table_refusal (identities managers.now) ≡ Some e) }
+    {
+        if let Some(error) = refusal(managers) {
+            return Err(error);
+        }
+        match Vec::from_slice(alloc, managers) {
+            Ok(managers) => Ok(PlainTable {
+                clock,
+                managers,
+                kept: IndexMap::new(alloc),
+                alloc,
+            }),
+            Err(_) => Err(TableError::OutOfMemory),
+        }
+    }
+
+    fn find(&self, who: &PortIdentity) -> Option<&Kept>
+        ensures { option_copied result ≡ fin.get (fin.from_entries {R = identity_cmp} self.now.kept.entries) who.now }
+    {
+        self.kept.get(who)
+    }
+}
+
+impl ReplyTable for PlainTable {
+    ghost use Rattle.std.specs.FinMap as fin;
+    ghost use Rattle.ptpm_table.specs.Managers.{identities, rights_in};
+
+    ghost identity = { λ t. t.clock };
+
+    ghost managers = { λ t. identities t.managers.items };
+
+    ghost rights_of = { λ t. rights_in t.managers.items };
+
+    ghost entries = { λ t. fin.from_entries t.kept.entries };
+
+    fn clock(&self) -> ClockIdentity {
+        self.clock
+    }
+
+    fn knows(&self, who: &PortIdentity) -> bool {
+        is_configured(self.managers.as_slice(), who)
+    }
+
+    fn rights(&self, who: &PortIdentity) -> Rights {
+        rights_of(self.managers.as_slice(), who)
+    }
+
+    fn look(&self, who: &PortIdentity, number: u16, request: &Request<'_>) -> Look {
+        if !self.knows(who) {
+            return Look::Unknown;
+        }
+        match self.find(who) {
+            None => Look::New,
+            Some(kept) => judge(kept.number, &kept.request(), number, request),
+        }
+    }
+
+    fn keep(
+        &mut self,
+        who: &PortIdentity,
+        number: u16,
+        request: &Request<'_>,
+        reply: &Reply,
+    ) -> Result<(), OutOfMemory> {
+        let octets = Octets::copy_of(self.alloc, request.octets)?;
+        let mut copy = no_answers();
+        copy_reply(reply, &mut copy);
+        let kept = Kept {
+            number,
+            action: request.action,
+            id: request.id,
+            port: request.port,
+            octets,
+            reply: copy,
+        };
+        match self.kept.insert(*who, kept) {
+            Ok(_) => Ok(()),
+            Err(_) => Err(OutOfMemory),
+        }
+    }
+
+    fn resend(&self, heard: &Heard, ingress: u16, out: &mut Outbox) {
+        match self.find(&heard.source) {
+            Some(kept) => render(&self.clock, heard, &kept.reply, ingress, out),
+            None => unreachable!(),
+        }
+    }
+}

@@ -1,0 +1,109 @@
+//! The reply cache of a clock: the latest accepted request of each configured manager, with its reply.
+
+ghost use Rattle.std.specs.Prelude.{◌≡◌, ◌≤◌, ◌+◌, ◌++◌, IsTrue, OnOk, OnErr, Some, length};
+ghost use Rattle.std.specs.FinMap as fin;
+ghost use Rattle.ptpm_codec.specs.Message.{IsRequestAction, IsDataField};
+ghost use Rattle.ptpm_table.specs.Entries.{Entry, FitsRequest, HasEntry, is_known};
+ghost use Rattle.ptpm_table.specs.Numbering.{look_of};
+ghost use Rattle.ptpm_table.specs.Rendering.{rendered};
+
+use crate::heard::Heard;
+use crate::outbox::Outbox;
+use ptpm_codec::{ClockIdentity, OutOfMemory, PortIdentity};
+use ptpm_data::{Reply, Request, Rights};
+
+/// What a request is to the table.
+#[derive(Clone, Copy, Debug, PartialEq, Eq)]
+pub enum Look {
+    /// Its source is no configured manager.
+    Unknown,
+    /// Its number is newer than the latest accepted, or it is the first.
+    New,
+    /// The latest accepted number, and the same request.
+    Repeat,
+    /// The latest accepted number, and another request.
+    Conflict,
+    /// Its number is older than the latest accepted.
+    Old,
+}
+
+/// The latest accepted request of each configured manager, with its number and reply, however they are kept. Contracts
+/// see a finite map from managers to entries.
+pub trait ReplyTable {
+    ghost use Rattle.std.specs.Prelude.{List};
+    ghost use Rattle.ptpm_codec.specs.declared.identity.ClockIdentity.{ClockIdentity};
+    ghost use Rattle.ptpm_codec.specs.declared.identity.PortIdentity.{PortIdentity};
+    ghost use Rattle.ptpm_data.specs.declared.rights.Rights.{Rights};
+    ghost use Rattle.ptpm_table.specs.Entries.{Entries};
+
+    /// The clock whose table this is.
+    ghost identity: { Self → ClockIdentity };
+
+    /// The configured managers, in their order.
+    ghost managers: { Self → List PortIdentity };
+
+    /// What each manager may change; nothing for anyone else.
+    ghost rights_of: { Self → PortIdentity → Rights };
+
+    /// What is kept.
+    ghost entries: { Self → Entries };
+
+    /// The clock's identity.
+    fn clock(&self) -> ClockIdentity
+        ensures { result ≡ identity self.now };
+
+    /// Whether this is a configured manager.
+    fn knows(&self, who: &PortIdentity) -> bool
+        ensures { result ≡ is_known who.now (managers self.now) };
+
+    /// The manager's rights; none for anyone else.
+    fn rights(&self, who: &PortIdentity) -> Rights
+        ensures { result ≡ rights_of self.now who.now };
+
+    /// What a request of this source and number is.
+    fn look(&self, who: &PortIdentity, number: u16, request: &Request<'_>) -> Look
+        ensures look { result ≡ look_of (is_known who.now (managers self.now)) (fin.get (entries self.now) who.now) number request.now }
+        ensures repeat { result ≡ Look.Repeat → HasEntry (entries self.now) who.now number };
+
+    /// Puts number, request and reply in place of what is kept of the manager; of no other manager anything changes.
+    /// Where memory is refused, nothing changes.
+    fn keep(
+        &mut self,
+        who: &PortIdentity,
+        number: u16,
+        request: &Request<'_>,
+        reply: &Reply,
+    ) -> Result<(), OutOfMemory>
+        requires known { IsTrue (is_known who.now (managers self.old)) }
+        requires action { IsRequestAction request.now.action }
+        requires octets { IsDataField request.now.octets }
+        requires fits { FitsRequest request.now reply.now }
+        ensures ok { OnOk result (entries self.new ≡ fin.insert (entries self.old) who.now (record { number = number; request = request.now; reply = reply.now })) }
+        ensures err { OnErr result (entries self.new ≡ entries self.old) }
+        ensures managers { managers self.new ≡ managers self.old }
+        ensures rights { rights_of self.new ≡ rights_of self.old }
+        ensures identity { identity self.new ≡ identity self.old };
+
+    /// Appends the messages of the kept reply for the copy that was heard, and changes no entry.
+    fn resend(&self, heard: &Heard, ingress: u16, out: &mut Outbox)
+        requires kept { HasEntry (entries self.now) heard.now.source heard.now.number }
+        requires room { length out.old ≤ 7 }
+        ensures { (e : Entry) → fin.get (entries self.now) heard.now.source ≡ Some e →
+            out.new ≡ out.old ++ rendered (identity self.now) heard.now e.reply ingress };
+}
+
+/// A table that always has room for what is kept.
+pub trait SureTable: ReplyTable {
+    ghost use Rattle.std.specs.FinMap as fin;
+
+    /// Does what `keep` does, and is never refused.
+    fn replace(&mut self, who: &PortIdentity, number: u16, request: &Request<'_>, reply: &Reply)
+        requires known { IsTrue (is_known who.now (Self.managers self.old)) }
+        requires action { IsRequestAction request.now.action }
+        requires octets { IsDataField request.now.octets }
+        requires fits { FitsRequest request.now reply.now }
+        ensures kept { Self.entries self.new ≡ fin.insert (Self.entries self.old) who.now (record { number = number; request = request.now; reply = reply.now }) }
+        ensures managers { Self.managers self.new ≡ Self.managers self.old }
+        ensures rights { Self.rights_of self.new ≡ Self.rights_of self.old }
+        ensures identity { Self.identity self.new ≡ Self.identity self.old };
+}

@@ -1,0 +1,26 @@
+//! Serial numbers of 16 bits: which of two sequenceIds is the newer.
+
+ghost use Rattle.std.specs.Prelude.{◌≡◌};
+ghost use Rattle.ptpm_table.specs.Serial.{serial_of};
+
+/// A number against the latest accepted one.
+#[derive(Clone, Copy, Debug, PartialEq, Eq)]
+pub enum Serial {
+    Same,
+    Newer,
+    Older,
+}
+
+/// Compares a number with the latest by their difference modulo 65,536 (RFC 1982): 1 to 32,767 ahead is newer, all else
+/// but the same number is older, 32,768 ahead too (this project's profile).
+#[tactic(auto, unfolding(crate::specs::Serial::serial_of))]
+pub fn compare(latest: u16, number: u16) -> Serial
+    ensures class { result ≡ serial_of latest number }
+    ensures same { result ≡ Serial.Same → latest ≡ number }
+{
+    match number.wrapping_sub(latest) {
+        0 => Serial::Same,
+        1..=32767 => Serial::Newer,
+        _ => Serial::Older,
+    }
+}

@@ -1,0 +1,179 @@
+//! A manager's place in a table of fixed size.
+
+ghost use Rattle.std.specs.Prelude.{◌≡◌, ◌≤◌, ◌++◌, length};
+ghost use Rattle.ptpm_codec.specs.Message.{IsDataField, IsRequestAction};
+ghost use Rattle.ptpm_table.specs.Entries.{FitsRequest};
+ghost use Rattle.ptpm_table.specs.Rendering.{rendered};
+
+use crate::heard::Heard;
+use crate::kept_messages::{
+    Messages, Renewal, Sizes, encode_each, has_port, port_for, resend_each,
+};
+use crate::outbox::Outbox;
+use arrayvec::ArrayVec;
+use ptpm_codec::{Action, Buffer, ClockIdentity, PortIdentity};
+use ptpm_data::{Reply, Request, Rights};
+use std::marker::Model;
+
+/// A manager's rights, and its latest accepted request, where one is kept.
+#[derive(Drop)]
+pub(crate) struct Slot {
+    pub(crate) rights: Rights,
+    /// Whether a request is kept.
+    pub(crate) taken: bool,
+    pub(crate) kept: Kept,
+}
+
+impl Default for Slot {
+    fn default() -> Slot {
+        let clock = ClockIdentity([0; 8]);
+        Slot {
+            rights: Rights(0),
+            taken: false,
+            kept: Kept::nothing(&clock, &PortIdentity { clock, port: 0 }),
+        }
+    }
+}
+
+/// A request of a manager, in place, with its number, and the clock's reply to it in octets. Contracts see the entry of a
+/// table that it is, with the manager and the clock.
+#[derive(Drop)]
+pub(crate) struct Kept {
+    clock: ClockIdentity,
+    manager: PortIdentity,
+    number: u16,
+    action: Action,
+    id: u16,
+    port: u16,
+    octets: ArrayVec<u8, 1418>,
+    /// Whether the answers are of ports.
+    of_port: bool,
+    /// How many octets each message of the reply has.
+    sizes: Sizes,
+    /// The messages of the reply, one after the other.
+    messages: Messages,
+}
+
+impl Model for Kept {
+    ghost use Rattle.std.specs.Prelude.{map};
+    ghost use Rattle.ptpm_table.specs.Entries.{reply_action};
+    ghost use Rattle.ptpm_table.specs.KeptMessages.{IsKeptReply, KeptValue, answer_in, pieces};
+
+    ghost Value = { KeptValue };
+
+    ghost view = { λ k. record {
+      clock = k.clock;
+      manager = k.manager;
+      entry = record {
+        number = k.number;
+        request = record { action = k.action; id = k.id; port = k.port; octets = k.octets.items };
+        reply = record {
+          action = reply_action k.action;
+          id = k.id;
+          answers = map (answer_in k.of_port) (pieces k.sizes.items k.messages.items);
+        };
+      };
+    } };
+
+    ghost invariant = { λ k. IsKeptReply
+        (record { clock = k.clock; manager = k.manager; number = k.number; action = reply_action k.action; id = k.id })
+        k.of_port k.sizes.items k.messages.items };
+}
+
+impl Kept {
+    /// What stands in a slot that was not used yet.
+    pub(crate) fn nothing(clock: &ClockIdentity, manager: &PortIdentity) -> Kept
+        ensures clock { result.clock ≡ clock.now }
+        ensures manager { result.manager ≡ manager.now }
+    {
+        Kept {
+            clock: *clock,
+            manager: *manager,
+            number: 0,
+            action: Action::Get,
+            id: 0,
+            port: 0,
+            octets: ArrayVec::new(),
+            of_port: false,
+            sizes: ArrayVec::new(),
+            messages: ArrayVec::new(),
+        }
+    }
+
+    /// Whose request is kept.
+    pub(crate) fn manager(&self) -> &PortIdentity
+        ensures { result.now ≡ self.now.manager }
+    {
+        &self.manager
+    }
+
+    /// The number of the request.
+    pub(crate) fn number(&self) -> u16
+        ensures { result ≡ self.now.entry.number }
+    {
+        self.number
+    }
+
+    /// The request, with its dataField lent.
+    pub(crate) fn request(&self) -> Request<'_>
+        ensures { result ≡ self.now.entry.request }
+    {
+        Request {
+            action: self.action,
+            id: self.id,
+            port: self.port,
+            octets: self.octets.as_slice(),
+        }
+    }
+
+    /// Keeps another request, with its number and reply, in place of this one. What was in the scratch is lost.
+    pub(crate) fn replace(
+        &mut self,
+        number: u16,
+        request: &Request<'_>,
+        reply: &Reply,
+        scratch: &mut Buffer,
+    )
+        requires action { IsRequestAction request.now.action }
+        requires octets { IsDataField request.now.octets }
+        requires fits { FitsRequest request.now reply.now }
+        ensures { self.new ≡ record { clock = self.old.clock; manager = self.old.manager; entry = record { number = number; request = request.now; reply = reply.now } } }
+    {
+        self.number = number;
+        self.action = request.action;
+        self.id = request.id;
+        self.port = request.port;
+        self.octets.clear();
+        let _ = self.octets.try_extend_from_slice(request.octets);
+        let answers = reply.answers.as_slice();
+        self.of_port = has_port(answers);
+        encode_each(
+            &self.clock,
+            &self.manager,
+            number,
+            request.action,
+            request.id,
+            self.of_port,
+            answers,
+            scratch,
+            &mut self.sizes,
+            &mut self.messages,
+        );
+    }
+
+    /// Appends the messages of the reply, for the copy of the request that was heard.
+    pub(crate) fn resend(&self, heard: &Heard, ingress: u16, out: &mut Outbox)
+        requires manager { heard.now.source ≡ self.now.manager }
+        requires number { heard.now.number ≡ self.now.entry.number }
+        requires room { length out.old ≤ 7 }
+        ensures { out.new ≡ out.old ++ rendered self.now.clock heard.now self.now.entry.reply ingress }
+    {
+        let renewal = Renewal {
+            domain: heard.domain,
+            port: port_for(self.of_port, ingress),
+            hops: heard.starting_hops.saturating_sub(heard.hops),
+        };
+        let sizes = self.sizes.as_slice();
+        resend_each(sizes, self.messages.as_slice(), &renewal, ingress, out);
+    }
+}
