@@ -1,0 +1,127 @@
+-- That a request may be judged, and its reply kept and sent.
+use Rattle.std.proofs.Common.{arith, ◌≡◌, ℕ, ◌≤◌, length, [], Option, Some, None, Bool, true, false, refl, sym, ◌∙◌, ap, subst}
+use Rattle.std.proofs.lemmas.Bool.{not-true}
+use Rattle.std.proofs.lemmas.Bool.Decides.{nat_tests}
+use Rattle.std.proofs.lemmas.Bool.{false≢true}
+use Rattle.std.proofs.lemmas.List.Elements.{All-cons, All-map}
+use Rattle.std.specs.List.{All}
+use Rattle.ptpm_codec.specs.declared.error.ErrorId.{ErrorId}
+use Rattle.ptpm_codec.specs.declared.message.Action.{Action}
+use Rattle.ptpm_codec.specs.declared.message.Action.TheVariants as actions
+use Rattle.ptpm_codec.specs.declared.message.Body.{Body}
+use Rattle.ptpm_codec.specs.declared.message.Body.TheVariants as bodies
+use Rattle.ptpm_codec.specs.declared.message.Message.{Message}
+use Rattle.ptpm_codec.specs.Message.{IsDataField, IsRequestAction, IsValid, IsValidBody, octets_of}
+use Rattle.ptpm_data.specs.declared.rights.Rights.{Rights}
+use Rattle.ptpm_data.specs.Changes.{IsTargetOf, IsTargetPort, changed_by}
+use Rattle.ptpm_data.specs.IdTable.{is_of_port}
+use Rattle.ptpm_data.specs.Members.{DataSetsValue}
+use Rattle.ptpm_data.specs.Refusals.{refusal_of}
+use Rattle.ptpm_data.specs.RequestLaws.{IsOutcomeOf, IsSized, field_limit, is_get_or_set}
+use Rattle.ptpm_data.specs.Replies as replies
+use Rattle.ptpm_data.specs.Replies.{answer, answers_of, named_ports, port_answers, read_reply_to, reply_of, reply_to}
+use Rattle.ptpm_data.specs.Reply as reply
+use Rattle.ptpm_data.specs.Reply.{Answer, Outcome, ReplyValue}
+use Rattle.ptpm_data.specs.Request.{RequestValue}
+use Rattle.ptpm_table.specs.Entries.{FitsAnswer, FitsCount, FitsOutcome, FitsRequest, reply_action}
+use Rattle.ptpm_data.proofs.Keeping.{changed_by-ports, changed_by-sized}
+use Rattle.ptpm_data.proofs.ReplyLemmas.{reply_of-count, reply_of-outcomes}
+use Rattle.ptpm_agent.specs.Turn.{is_request, names_port, request_of}
+
+pub IsRequestAction-request : (v : Message) → is_request v ≡ true → IsRequestAction (request_of v).action
+IsRequestAction-request v q = not-true _ q
+
+target_port : (port : ℕ) (d : DataSetsValue) → names_port d port ≡ true → IsTargetPort port d
+target_port port d h = grind (arith, nat_tests)
+
+pub IsTargetPort-request : (d : DataSetsValue) (v : Message) → names_port d v.target.port ≡ true → IsTargetPort (request_of v).port d
+IsTargetPort-request d v h = target_port v.target.port d h
+
+IsDataField-body : (b : Body) → IsValidBody b → IsDataField (octets_of b)
+IsDataField-body (bodies.Request action id octets) valid = valid.1
+IsDataField-body (bodies.Answer action id octets) valid = valid.1
+IsDataField-body (bodies.Fault action error id text) valid = record { even = refl; small = omega arith }
+
+pub IsDataField-request : (v : Message) → IsValid v → IsDataField (request_of v).octets
+IsDataField-request v valid = IsDataField-body v.body valid.body
+
+-- ---- what a reply is
+
+outcome_fits : (q : RequestValue) (limit : ℕ) (o : Outcome) → field_limit (is_of_port q.id) ≡ limit → IsOutcomeOf q o → FitsOutcome q.action limit o
+outcome_fits q limit (reply.Value octets) l h =
+    ((λ command. absurd (false≢true (sym (ap is_get_or_set command) ∙ h.0))), h.1.even, subst (λ m. length octets ≤ m) l h.1.small)
+outcome_fits q limit reply.Done l h = h
+outcome_fits q limit (reply.Refused error) l h = tt
+
+-- whether an answer says a port, as those of ports do
+abbrev SaysPort : Bool → Answer → Type 0
+SaysPort false a = a.port ≡ None
+SaysPort true a = (port : ℕ) × (a.port ≡ Some port)
+
+answer-port : (refusal : Option ErrorId) (action : Action) (id : ℕ) (d : DataSetsValue) (port : ℕ) → SaysPort true (answer refusal action id d (Some port))
+unfolding answer
+answer-port refusal action id d port = (port, refl)
+
+answer-clock : (refusal : Option ErrorId) (action : Action) (id : ℕ) (d : DataSetsValue) → SaysPort false (answer refusal action id d None)
+unfolding answer
+answer-clock refusal action id d = refl
+
+answers-port : (b : Bool) (refusal : Option ErrorId) (q : RequestValue) (d : DataSetsValue) → All (SaysPort b) (answers_of b refusal q d)
+unfolding port_answers
+answers-port true refusal q d = All-map (SaysPort true) _ (named_ports q.port (length d.ports)) (λ k x below. answer-port refusal q.action q.id d _)
+answers-port false refusal q d = All-cons (SaysPort false) _ [] (answer-clock refusal q.action q.id d) (λ k x below. absurd (omega arith))
+
+answer_fits : (b : Bool) (q : RequestValue) (a : Answer) → is_of_port q.id ≡ b → SaysPort b a → IsOutcomeOf q a.outcome → FitsAnswer b q.action a
+answer_fits true q a e port outcome = (port, outcome_fits q 26 a.outcome (ap field_limit e) outcome)
+answer_fits false q a e port outcome = (port, outcome_fits q 130 a.outcome (ap field_limit e) outcome)
+
+count_fits : (b : Bool) (refusal : Option ErrorId) (q : RequestValue) (d : DataSetsValue) → (1 ≤ length (answers_of b refusal q d)) × (length (answers_of b refusal q d) ≤ 8) → FitsCount b (length (answers_of b refusal q d))
+count_fits true refusal q d count = count
+count_fits false refusal q d count = refl
+
+same_action : (a : Action) → replies.reply_action a ≡ reply_action a
+same_action actions.Get = refl
+same_action actions.Set = refl
+same_action actions.Command = refl
+same_action actions.Response = refl
+same_action actions.Acknowledge = refl
+
+FitsRequest-reply_of : (q : RequestValue) (refusal : Option ErrorId) (d : DataSetsValue) → IsSized d → IsRequestAction q.action → IsTargetPort q.port d → FitsRequest q (reply_of q refusal d)
+unfolding reply_of
+FitsRequest-reply_of q refusal d sized request target = record {
+  action = same_action q.action;
+  id = refl;
+  count = count_fits (is_of_port q.id) refusal q d (reply_of-count q refusal d target sized);
+  answers = λ k x below. answer_fits (is_of_port q.id) q _ refl (answers-port (is_of_port q.id) refusal q d k x below) (reply_of-outcomes q refusal d request sized k x below);
+}
+
+pub FitsRequest-reply_to : (q : RequestValue) (r : Rights) (d : DataSetsValue) → IsSized d → IsRequestAction q.action → IsTargetPort q.port d → FitsRequest q (reply_to q r d)
+unfolding reply_to
+FitsRequest-reply_to q r d sized request target =
+    FitsRequest-reply_of q (refusal_of q r) (changed_by q r d) (changed_by-sized q r d sized) request
+    (subst (λ n. IsTargetOf q.port n) (sym (changed_by-ports q r d)) target)
+
+pub FitsRequest-read_reply_to : (q : RequestValue) (d : DataSetsValue) → IsSized d → IsRequestAction q.action → IsTargetPort q.port d → FitsRequest q (read_reply_to q d)
+unfolding read_reply_to
+FitsRequest-read_reply_to q d sized request target = FitsRequest-reply_of q _ d sized request target
+
+-- ---- the same of a request as it was read
+
+pub may_judge_action : (q : RequestValue) (v : Message) → q ≡ request_of v → is_request v ≡ true → IsRequestAction q.action
+may_judge_action q v e h = subst (λ (r : RequestValue). IsRequestAction r.action) (sym e) (IsRequestAction-request v h)
+
+pub may_judge_port : (q : RequestValue) (d : DataSetsValue) (v : Message) → q ≡ request_of v → names_port d v.target.port ≡ true → IsTargetPort q.port d
+may_judge_port q d v e h = subst (λ (r : RequestValue). IsTargetPort r.port d) (sym e) (IsTargetPort-request d v h)
+
+pub may_judge_octets : (q : RequestValue) (v : Message) → q ≡ request_of v → IsValid v → IsDataField q.octets
+may_judge_octets q v e valid = subst (λ (r : RequestValue). IsDataField r.octets) (sym e) (IsDataField-request v valid)
+
+pub fits_numbered : (q : RequestValue) (r : Rights) (d : DataSetsValue) (v : Message) (reply : ReplyValue) → q ≡ request_of v → IsSized d → is_request v ≡ true → names_port d v.target.port ≡ true → IsValid v → reply ≡ reply_to q r d → FitsRequest q reply
+fits_numbered q r d v reply e sized request port valid is =
+    subst (λ (a : ReplyValue). FitsRequest q a) (sym is)
+    (FitsRequest-reply_to q r d sized (may_judge_action q v e request) (may_judge_port q d v e port))
+
+pub fits_unnumbered : (q : RequestValue) (d : DataSetsValue) (v : Message) (reply : ReplyValue) → q ≡ request_of v → IsSized d → is_request v ≡ true → names_port d v.target.port ≡ true → IsValid v → reply ≡ read_reply_to q d → FitsRequest q reply
+fits_unnumbered q d v reply e sized request port valid is =
+    subst (λ (a : ReplyValue). FitsRequest q a) (sym is)
+    (FitsRequest-read_reply_to q d sized (may_judge_action q v e request) (may_judge_port q d v e port))

@@ -1,0 +1,6 @@
+use Rattle.std.proofs.Common.{◌≡◌, ◌-◌}
+use Rattle.ptpm_agent.proofs.Egress.{copies_up_to}
+use Rattle.ptpm_agent.proofs.forwarding.send_on.Given as goal
+
+abbrev pub invariant-loop-port : goal.invariant-loop-port
+invariant-loop-port l = l.out ≡ copies_up_to l.ingress l.sets l.datagram (l.port - 1)

@@ -1,0 +1,6 @@
+pub mod Forwarding
+pub mod Turn
+pub mod Once
+pub mod Window
+pub mod Laws
+pub mod Agent

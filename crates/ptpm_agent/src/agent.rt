@@ -1,0 +1,343 @@
+//! One clock's management agent, over any reply table.
+
+ghost use Rattle.std.specs.Prelude.{◌≡◌, ◌≢◌, ◌≤◌, ◌++◌, Ok, IfOk, OnOk, OnErr, length};
+ghost use Rattle.ptpm_codec.specs.Layout.{message_octets};
+ghost use Rattle.ptpm_codec.specs.Message.{IsValid};
+ghost use Rattle.ptpm_codec.specs.Reading.{reading};
+ghost use Rattle.ptpm_codec.specs.Spelling.{Spells};
+ghost use Rattle.ptpm_data.specs.Members.{HasPort};
+ghost use Rattle.ptpm_table.specs.Entries.{HasEntry};
+ghost use Rattle.ptpm_table.specs.Rendering.{IsSendable, rendered};
+ghost use Rattle.ptpm_agent.specs.Agent.{IsTurned, clock_of, state_of};
+ghost use Rattle.ptpm_agent.specs.Forwarding.{forwarded};
+ghost use Rattle.ptpm_agent.specs.Turn.{carried_out, heard_of, is_accepted_repeat, is_addressed, judged, look, new_reply, reply_by, reply_messages, request_of, turn};
+
+use crate::forwarding::forward;
+use crate::verdict::Verdict;
+use ptpm_codec::{ClockIdentity, OutOfMemory, PortIdentity, View, view};
+use ptpm_data::{DataSets, Reply, Request, data_sets_law};
+use ptpm_table::{Heard, Look, Outbox, ReplyTable, SureTable, render};
+
+/// A clock's data sets and its reply table, and what becomes of the datagrams that come in at its ports.
+#[derive(Drop)]
+pub struct Agent<T: ReplyTable + Drop> {
+    sets: DataSets,
+    table: T,
+}
+
+impl<T: ReplyTable + Drop> Agent<T> {
+    /// An agent of these data sets and this table, which are of one clock.
+    pub fn new(sets: DataSets, table: T) -> Agent<T>
+        requires { sets.default.identity ≡ T.identity table }
+        ensures sets { result.sets ≡ sets }
+        ensures table { result.table ≡ table }
+    {
+        Agent { sets, table }
+    }
+
+    /// The data sets as they stand.
+    pub fn sets(&self) -> &DataSets
+        ensures { result.now ≡ self.now.sets }
+    {
+        &self.sets
+    }
+
+    /// The reply table as it stands.
+    pub fn table(&self) -> &T
+        ensures { result.now ≡ self.now.table }
+    {
+        &self.table
+    }
+
+    /// What becomes of a datagram that comes in at a port of the clock: one turn. The outbox then holds what is to be sent
+    /// and nothing else: the copies that are passed on, then the replies. Memory is asked for by the table's `keep` alone;
+    /// where it is refused, nothing has changed, the outbox neither, and the datagram counts as not delivered.
+    pub fn try_handle(
+        &mut self,
+        ingress: u16,
+        datagram: &[u8],
+        out: &mut Outbox,
+    ) -> Result<Verdict, OutOfMemory>
+        requires port { HasPort ingress self.old.sets }
+        ensures turned { IfOk result (λ verdict. IsTurned (turn
+            (clock_of T.identity T.managers T.rights_of self.old.table)
+            (state_of T.entries self.old.sets self.old.table) ingress datagram.now)
+            verdict out.new (state_of T.entries self.new.sets self.new.table)) }
+        ensures refused { OnErr result
+            (state_of T.entries self.new.sets self.new.table ≡ state_of T.entries self.old.sets self.old.table) }
+        ensures nothing_sent { OnErr result (out.new ≡ out.old) }
+        ensures clock { clock_of T.identity T.managers T.rights_of self.new.table
+            ≡ clock_of T.identity T.managers T.rights_of self.old.table }
+    {
+        let message = match view(datagram) {
+            Ok(message) => message,
+            Err(cause) => {
+                out.clear();
+                return Ok(Verdict::Malformed(cause));
+            }
+        };
+        let verdict = self.judge(&message);
+        match verdict {
+            Verdict::AnsweredNew => {
+                let reply = self.try_accept(&message)?;
+                self.send(&reply, ingress, &message, out);
+            }
+            _ => self.answer(verdict, ingress, datagram, &message, out),
+        }
+        Ok(verdict)
+    }
+
+    /// The verdict on a message.
+    #[tactic(auto, unfolding(crate::specs::Turn::judged))]
+    fn judge(&self, message: &View<'_>) -> Verdict
+        ensures verdict { result ≡ judged
+            (clock_of T.identity T.managers T.rights_of self.now.table)
+            (state_of T.entries self.now.sets self.now.table) message.now }
+        ensures repeat { result ≡ Verdict.AnsweredRepeat →
+            HasEntry (T.entries self.now.table) message.now.source message.now.number }
+    {
+        if message.sdo() != 0
+            || message.domain() != self.sets.domain() && !self.is_accepted_repeat(message)
+        {
+            return Verdict::OtherDomain;
+        }
+        if message.source().clock == self.table.clock() {
+            return Verdict::OwnMessage;
+        }
+        if !self.is_addressed(message) {
+            return Verdict::NotAddressed;
+        }
+        if message.action().is_reply() {
+            return Verdict::NotARequest;
+        }
+        match self.look(message) {
+            Look::Unknown => Verdict::AnsweredUnnumbered,
+            Look::New => Verdict::AnsweredNew,
+            Look::Repeat => Verdict::AnsweredRepeat,
+            Look::Conflict => Verdict::DroppedConflict,
+            Look::Old => Verdict::DroppedOld,
+        }
+    }
+
+    /// Whether it is the latest accepted request of its manager once more.
+    fn is_accepted_repeat(&self, message: &View<'_>) -> bool
+        ensures { result ≡ is_accepted_repeat
+            (clock_of T.identity T.managers T.rights_of self.now.table)
+            (state_of T.entries self.now.sets self.now.table) message.now }
+    {
+        message.source().clock != self.table.clock()
+            && self.is_addressed(message)
+            && !message.action().is_reply()
+            && self.look(message) == Look::Repeat
+    }
+
+    /// Whether it is for this clock or every clock, at a port that the clock has.
+    fn is_addressed(&self, message: &View<'_>) -> bool
+        ensures { result ≡ is_addressed
+            (clock_of T.identity T.managers T.rights_of self.now.table) self.now.sets message.now }
+    {
+        let target = message.target();
+        (target.clock == self.table.clock() || target.clock == ClockIdentity::EVERY)
+            && (target.port == PortIdentity::EVERY_PORT || self.sets.has_port(target.port))
+    }
+
+    /// What a numbered request is to the table; unknown is any other.
+    fn look(&self, message: &View<'_>) -> Look
+        ensures look { result ≡ look
+            (clock_of T.identity T.managers T.rights_of self.now.table)
+            (state_of T.entries self.now.sets self.now.table) message.now }
+        ensures repeat { result ≡ Look.Repeat →
+            HasEntry (T.entries self.now.table) message.now.source message.now.number }
+    {
+        if message.target().clock != self.table.clock() {
+            return Look::Unknown;
+        }
+        self.table
+            .look(&message.source(), message.number(), &request_of(message))
+    }
+
+    /// Leaves in the outbox what is sent for a message that is not carried out, and nothing else.
+    fn answer(
+        &self,
+        verdict: Verdict,
+        ingress: u16,
+        datagram: &[u8],
+        message: &View<'_>,
+        out: &mut Outbox,
+    )
+        requires port { HasPort ingress self.now.sets }
+        requires read { reading datagram.now ≡ Ok message.now }
+        requires spelled { Spells message.now (message_octets datagram.now) }
+        requires verdict { verdict ≡ judged
+            (clock_of T.identity T.managers T.rights_of self.now.table)
+            (state_of T.entries self.now.sets self.now.table) message.now }
+        requires repeat { verdict ≡ Verdict.AnsweredRepeat →
+            HasEntry (T.entries self.now.table) message.now.source message.now.number }
+        requires not_new { verdict ≢ Verdict.AnsweredNew }
+        requires valid { IsValid message.now }
+        ensures { out.new ≡ forwarded (T.identity self.now.table) ingress self.now.sets datagram.now ++ reply_messages
+            (clock_of T.identity T.managers T.rights_of self.now.table) ingress (heard_of message.now)
+            (reply_by verdict (clock_of T.identity T.managers T.rights_of self.now.table)
+            (state_of T.entries self.now.sets self.now.table) message.now) }
+    {
+        forward(
+            &self.table.clock(),
+            &self.sets,
+            ingress,
+            datagram,
+            message,
+            out,
+        );
+        self.reply(verdict, ingress, message, out);
+    }
+
+    /// Appends the reply to a message that is not carried out, if it gets one.
+    fn reply(&self, verdict: Verdict, ingress: u16, message: &View<'_>, out: &mut Outbox)
+        requires verdict { verdict ≡ judged
+            (clock_of T.identity T.managers T.rights_of self.now.table)
+            (state_of T.entries self.now.sets self.now.table) message.now }
+        requires repeat { verdict ≡ Verdict.AnsweredRepeat →
+            HasEntry (T.entries self.now.table) message.now.source message.now.number }
+        requires not_new { verdict ≢ Verdict.AnsweredNew }
+        requires valid { IsValid message.now }
+        requires room { length out.old ≤ 7 }
+        ensures { out.new ≡ out.old ++ reply_messages
+            (clock_of T.identity T.managers T.rights_of self.now.table) ingress (heard_of message.now)
+            (reply_by verdict (clock_of T.identity T.managers T.rights_of self.now.table)
+            (state_of T.entries self.now.sets self.now.table) message.now) }
+    {
+        match verdict {
+            Verdict::AnsweredRepeat => self.table.resend(&heard_of(message), ingress, out),
+            Verdict::AnsweredUnnumbered => {
+                data_sets_law(&self.sets);
+                let reply = self.sets.read(&request_of(message));
+                render(
+                    &self.table.clock(),
+                    &heard_of(message),
+                    &reply,
+                    ingress,
+                    out,
+                );
+            }
+            _ => {}
+        }
+    }
+
+    /// Leaves the messages of a reply in the outbox, and nothing else.
+    fn send(&self, reply: &Reply, ingress: u16, message: &View<'_>, out: &mut Outbox)
+        requires sendable { IsSendable reply.now }
+        ensures { out.new ≡ rendered (T.identity self.now.table) (heard_of message.now) reply.now ingress }
+    {
+        out.clear();
+        render(&self.table.clock(), &heard_of(message), reply, ingress, out);
+    }
+
+    /// Carries out a new request and keeps it with its reply. Where memory is refused, nothing changes.
+    fn try_accept(&mut self, message: &View<'_>) -> Result<Reply, OutOfMemory>
+        requires new { judged
+            (clock_of T.identity T.managers T.rights_of self.old.table)
+            (state_of T.entries self.old.sets self.old.table) message.now ≡ Verdict.AnsweredNew }
+        requires valid { IsValid message.now }
+        ensures reply { IfOk result (λ r. r ≡ new_reply
+            (clock_of T.identity T.managers T.rights_of self.old.table)
+            (state_of T.entries self.old.sets self.old.table) message.now) }
+        ensures sendable { IfOk result (λ r. IsSendable r) }
+        ensures accepted { OnOk result (state_of T.entries self.new.sets self.new.table ≡ carried_out
+            (clock_of T.identity T.managers T.rights_of self.old.table)
+            (state_of T.entries self.old.sets self.old.table) message.now) }
+        ensures refused { OnErr result
+            (state_of T.entries self.new.sets self.new.table ≡ state_of T.entries self.old.sets self.old.table) }
+        ensures clock { clock_of T.identity T.managers T.rights_of self.new.table
+            ≡ clock_of T.identity T.managers T.rights_of self.old.table }
+    {
+        let source = message.source();
+        let request = request_of(message);
+        data_sets_law(&self.sets);
+        let mut sets = self.sets.copy();
+        let reply = sets.decide(&request, self.table.rights(&source));
+        self.table
+            .keep(&source, message.number(), &request, &reply)?;
+        self.sets = sets;
+        Ok(reply)
+    }
+}
+
+impl<T: SureTable + Drop> Agent<T> {
+    /// What `try_handle` does, over a table that always has room: never refused, and it takes no memory.
+    pub fn handle(&mut self, ingress: u16, datagram: &[u8], out: &mut Outbox) -> Verdict
+        requires port { HasPort ingress self.old.sets }
+        ensures turned { IsTurned (turn
+            (clock_of T.identity T.managers T.rights_of self.old.table)
+            (state_of T.entries self.old.sets self.old.table) ingress datagram.now)
+            result out.new (state_of T.entries self.new.sets self.new.table) }
+        ensures clock { clock_of T.identity T.managers T.rights_of self.new.table
+            ≡ clock_of T.identity T.managers T.rights_of self.old.table }
+    {
+        let message = match view(datagram) {
+            Ok(message) => message,
+            Err(cause) => {
+                out.clear();
+                return Verdict::Malformed(cause);
+            }
+        };
+        let verdict = self.judge(&message);
+        match verdict {
+            Verdict::AnsweredNew => {
+                let reply = self.accept(&message);
+                self.send(&reply, ingress, &message, out);
+            }
+            _ => self.answer(verdict, ingress, datagram, &message, out),
+        }
+        verdict
+    }
+
+    /// Carries out a new request and keeps it with its reply.
+    fn accept(&mut self, message: &View<'_>) -> Reply
+        requires new { judged
+            (clock_of T.identity T.managers T.rights_of self.old.table)
+            (state_of T.entries self.old.sets self.old.table) message.now ≡ Verdict.AnsweredNew }
+        requires valid { IsValid message.now }
+        ensures reply { result ≡ new_reply
+            (clock_of T.identity T.managers T.rights_of self.old.table)
+            (state_of T.entries self.old.sets self.old.table) message.now }
+        ensures sendable { IsSendable result }
+        ensures accepted { state_of T.entries self.new.sets self.new.table ≡ carried_out
+            (clock_of T.identity T.managers T.rights_of self.old.table)
+            (state_of T.entries self.old.sets self.old.table) message.now }
+        ensures clock { clock_of T.identity T.managers T.rights_of self.new.table
+            ≡ clock_of T.identity T.managers T.rights_of self.old.table }
+    {
+        let source = message.source();
+        let request = request_of(message);
+        data_sets_law(&self.sets);
+        let reply = self.sets.decide(&request, self.table.rights(&source));
+        self.table
+            .replace(&source, message.number(), &request, &reply);
+        reply
+    }
+}
+
+/// What a request asks.
+fn request_of<'a>(message: &View<'a>) -> Request<'a>
+    ensures { result ≡ request_of message.now }
+{
+    Request {
+        action: message.action(),
+        id: message.id(),
+        port: message.target().port,
+        octets: message.octets(),
+    }
+}
+
+/// What a reply takes from the copy that it answers.
+fn heard_of(message: &View<'_>) -> Heard
+    ensures { result ≡ heard_of message.now }
+{
+    Heard {
+        domain: message.domain(),
+        source: message.source(),
+        number: message.number(),
+        starting_hops: message.starting_hops(),
+        hops: message.hops(),
+    }
+}

@@ -1,0 +1,69 @@
+//! What a boundary clock passes on (15.3.3).
+
+ghost use Rattle.std.specs.Prelude.{◌≡◌, ◌≤◌, ◌<◌, ◌==◌, ◌&&◌, not, Ok, [], length, map};
+ghost use Rattle.ptpm_codec.specs.Layout.{boundary_hops, message_octets};
+ghost use Rattle.ptpm_codec.specs.Reading.{IsWellFormed, reading};
+ghost use Rattle.ptpm_codec.specs.Spelling.{Spells};
+ghost use Rattle.ptpm_data.specs.Members.{HasPort, may_forward};
+ghost use Rattle.ptpm_agent.specs.Forwarding.{egress_ports, forwarded, is_forwarded, with_less_hop};
+
+use ptpm_codec::{ClockIdentity, View};
+use ptpm_data::{DataSets, data_sets_law};
+use ptpm_table::Outbox;
+
+/// Leaves in the outbox the copies of a datagram that the clock passes on, and nothing else. Takes no memory.
+pub(crate) fn forward(
+    me: &ClockIdentity,
+    sets: &DataSets,
+    ingress: u16,
+    datagram: &[u8],
+    message: &View<'_>,
+    out: &mut Outbox,
+)
+    requires port { HasPort ingress sets.now }
+    requires read { reading datagram.now ≡ Ok message.now }
+    requires spelled { Spells message.now (message_octets datagram.now) }
+    ensures copies { out.new ≡ forwarded me.now ingress sets.now datagram.now }
+    ensures few { length out.new ≤ 7 }
+{
+    out.clear();
+    if is_forwarded(me, sets, ingress, message) {
+        send_on(sets, ingress, datagram, out);
+    }
+}
+
+/// Whether a message is passed on at all.
+fn is_forwarded(me: &ClockIdentity, sets: &DataSets, ingress: u16, message: &View<'_>) -> bool
+    ensures { result ≡ is_forwarded me.now ingress sets.now message.now }
+{
+    message.sdo() == 0
+        && message.domain() == sets.domain()
+        && message.source().clock != *me
+        && message.target().clock != *me
+        && message.hops() > 0
+        && sets.may_forward(ingress)
+}
+
+/// Appends a copy for each egress port.
+fn send_on(sets: &DataSets, ingress: u16, datagram: &[u8], out: &mut Outbox)
+    requires empty { out.old ≡ [] }
+    requires port { HasPort ingress sets.now }
+    requires well_formed { IsWellFormed datagram.now }
+    requires hops { 0 < boundary_hops datagram.now }
+    ensures copies { out.new ≡ map (λ port. (port, with_less_hop datagram.now)) (egress_ports ingress sets.now) }
+    ensures few { length out.new ≤ 7 }
+{
+    data_sets_law(sets);
+    for port in 1..sets.port_count() + 1 {
+        if is_egress(sets, ingress, port) {
+            out.push_less_hop(port, datagram);
+        }
+    }
+}
+
+/// Whether a copy goes out at this port.
+fn is_egress(sets: &DataSets, ingress: u16, port: u16) -> bool
+    ensures { result ≡ (not (port == ingress) && may_forward port sets.now) }
+{
+    port != ingress && sets.may_forward(port)
+}

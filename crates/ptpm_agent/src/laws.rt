@@ -1,0 +1,61 @@
+//! What a clock's agent promises over whole lists of datagrams. Each law is the contract of a function that does nothing,
+//! and speaks of the definitions alone.
+
+ghost use Rattle.std.specs.Prelude.{◌≡◌, ◌∷◌, [], ◌++◌, ℕ, false, List, None, Some};
+ghost use Rattle.ptpm_codec.specs.declared.identity.PortIdentity.{PortIdentity};
+ghost use Rattle.ptpm_data.specs.Members.{DataSetsValue};
+ghost use Rattle.ptpm_agent.specs.Turn.{Clock, State, outbox_of, turn};
+ghost use Rattle.ptpm_agent.specs.Once.{Delivery, History, RequestCopy, after_copy, applied_once, beginning, copy_of, due_reply, joins};
+ghost use Rattle.ptpm_agent.specs.Window.{IsInTime, KeepsWindow};
+ghost use Rattle.ptpm_agent.specs.Laws.{AreOfManagers, StandsAt, due_messages, fresh, turns};
+
+/// At-most-once execution. Whatever list of datagrams comes in at a fresh clock, where no copy of a manager's request is
+/// over 32,768 requests late:
+/// - the data sets are those after the accepted requests, each applied once, in order of first acceptance;
+/// - each copy is sent the reply that is due to it, and nothing else is sent for it;
+/// - a copy of a request that is not newly accepted changes neither data sets nor entries.
+pub fn at_most_once()
+    ensures sets { (c : Clock) (first : PortIdentity → ℕ) (d : DataSetsValue) (xs : List Delivery) →
+        KeepsWindow c first (beginning d) xs →
+        (turns c (fresh d) xs).sets ≡ (applied_once c (beginning d) xs).sets }
+    ensures outbox { (c : Clock) (first : PortIdentity → ℕ) (d : DataSetsValue) (xs : List Delivery) (x : Delivery) (k : RequestCopy) →
+        KeepsWindow c first (beginning d) (xs ++ x ∷ []) →
+        copy_of c (applied_once c (beginning d) xs).sets x ≡ Some k →
+        outbox_of (turn c (turns c (fresh d) xs) x.ingress x.datagram)
+        ≡ due_messages c k (due_reply c (applied_once c (beginning d) xs) k) }
+    ensures repeats { (c : Clock) (first : PortIdentity → ℕ) (d : DataSetsValue) (xs : List Delivery) (x : Delivery) (k : RequestCopy) →
+        KeepsWindow c first (beginning d) (xs ++ x ∷ []) →
+        copy_of c (applied_once c (beginning d) xs).sets x ≡ Some k →
+        joins (applied_once c (beginning d) xs) k ≡ false →
+        turns c (fresh d) (xs ++ x ∷ []) ≡ turns c (fresh d) xs }
+{}
+
+/// One delivery at a clock that stands at a history: a copy in time takes it to where the history goes, and is sent what
+/// is due; any other delivery changes neither data sets nor entries, whatever came before.
+pub fn one_delivery()
+    ensures begins { (first : PortIdentity → ℕ) (d : DataSetsValue) → StandsAt first (fresh d) (beginning d) }
+    ensures stands { (c : Clock) (first : PortIdentity → ℕ) (s : State) (h : History) (x : Delivery) (k : RequestCopy) →
+        StandsAt first s h → copy_of c h.sets x ≡ Some k → IsInTime first h k →
+        StandsAt first (turn c s x.ingress x.datagram).next (after_copy c h k) }
+    ensures replies { (c : Clock) (first : PortIdentity → ℕ) (s : State) (h : History) (x : Delivery) (k : RequestCopy) →
+        StandsAt first s h → copy_of c h.sets x ≡ Some k → IsInTime first h k →
+        (turn c s x.ingress x.datagram).replies ≡ due_messages c k (due_reply c h k) }
+    ensures stays { (c : Clock) (first : PortIdentity → ℕ) (s : State) (h : History) (x : Delivery) (k : RequestCopy) →
+        StandsAt first s h → copy_of c h.sets x ≡ Some k → IsInTime first h k → joins h k ≡ false →
+        (turn c s x.ingress x.datagram).next ≡ s }
+    ensures others { (c : Clock) (s : State) (x : Delivery) → copy_of c s.sets x ≡ None →
+        (turn c s x.ingress x.datagram).next ≡ s }
+{}
+
+/// A copy of a numbered request is never passed on.
+pub fn no_copy_forwarded()
+    ensures { (c : Clock) (s : State) (x : Delivery) (k : RequestCopy) → copy_of c s.sets x ≡ Some k →
+        (turn c s x.ingress x.datagram).forwards ≡ [] }
+{}
+
+/// Nothing is ever kept of anyone but the configured managers.
+pub fn only_managers()
+    ensures first { (c : Clock) (d : DataSetsValue) → AreOfManagers c (fresh d).entries }
+    ensures next { (c : Clock) (s : State) (ingress : ℕ) (datagram : List ℕ) → AreOfManagers c s.entries →
+        AreOfManagers c (turn c s ingress datagram).next.entries }
+{}

@@ -1,0 +1,15 @@
+//! The management agent of one boundary clock: which messages it answers, passes on or drops, and what that promises to
+//! managers whose messages are lost, repeated or reordered (IEEE 1588-2019, clause 15).
+#![tactic(auto)]
+
+mod agent;
+mod forwarding;
+mod laws;
+mod verdict;
+
+pub use agent::Agent;
+pub use laws::{at_most_once, no_copy_forwarded, one_delivery, only_managers};
+pub use verdict::Verdict;
+
+#[cfg(test)]
+mod tests;
