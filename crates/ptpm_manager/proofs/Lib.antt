@@ -1,0 +1,3 @@
+pub mod AskLaws
+pub mod AnswerLaws
+pub mod RequestLaws

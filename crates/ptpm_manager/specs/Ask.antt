@@ -1,0 +1,53 @@
+-- What is asked of a session, and the request that it makes of it.
+use Rattle.std.specs.Prelude.{◌≡◌, ◌≤◌, ℕ, ◌%◌, ◌==◌, ◌&&◌, Bool, true, false, not, nat_le, List, [], ◌∷◌, length, Option, Some, None, if◌then◌else◌}
+use Rattle.ptpm_codec.specs.Identity.{every_port}
+use Rattle.ptpm_codec.specs.Message.{is_reply, IsDataField, IsRequestAction}
+use Rattle.ptpm_data.specs.IdTable.{is_of_port}
+use Rattle.ptpm_data.specs.Request.{RequestValue}
+use Rattle.ptpm_manager.specs.declared.ask.Ask.{Ask}
+use Rattle.ptpm_manager.specs.declared.ask.Pending.{Pending}
+use Rattle.ptpm_manager.specs.declared.error.BeginError.{BeginError}
+use Rattle.ptpm_manager.specs.declared.error.BeginError.TheVariants.{NeedsPort, NotPermitted, BadValue}
+use Rattle.ptpm_manager.specs.Ordered.{first_of}
+
+-- an id of a port needs a port of the clock, which has the ports 1 to `ports`
+abbrev pub names_port : ℕ → Option ℕ → Bool
+names_port ports None = false
+names_port ports (Some port) = nat_le 1 port && nat_le port ports
+
+abbrev pub named_port : Option ℕ → ℕ
+named_port None = every_port
+named_port (Some port) = port
+
+-- the target's portNumber: the port that is asked for an id of a port, and every port for any other (this project's
+-- profile)
+unfoldable pub target_port : ℕ → Option ℕ → ℕ
+target_port id port = if is_of_port id then named_port port else every_port
+
+-- the request that is made of an ask
+abbrev pub request_of : Ask → RequestValue
+request_of a = record { action = a.action; id = a.id; port = target_port a.id a.port; octets = a.octets }
+
+-- the same, as it is kept
+abbrev pub pending_request : Pending → RequestValue
+pending_request p = record { action = p.action; id = p.id; port = p.port; octets = p.octets }
+
+-- what holds of each request that a session makes of a clock with so many ports: one of them is named for an id of a port,
+-- and every port for any other id, so that it has one answer
+pub record IsRequestTo (ports : ℕ) (q : RequestValue) : Type 0 where
+  pub action : IsRequestAction q.action
+  pub octets : IsDataField q.octets
+  pub port : is_of_port q.id ≡ true → (1 ≤ q.port) × (q.port ≤ ports)
+  pub every : is_of_port q.id ≡ false → q.port ≡ every_port
+
+-- a dataField has an even number of octets, at most 1,418
+abbrev pub is_data_field : List ℕ → Bool
+is_data_field octets = length octets % 2 == 0 && nat_le (length octets) 1418
+
+-- why an ask by itself is refused, at a clock of this many ports
+unfoldable pub ask_refusal : ℕ → Ask → Option BeginError
+ask_refusal ports a = first_of (
+    (is_of_port a.id && not (names_port ports a.port), NeedsPort)
+    ∷ (is_reply a.action, NotPermitted)
+    ∷ (not (is_data_field a.octets), BadValue)
+    ∷ [])

@@ -1,0 +1,35 @@
+-- What a survey asks: one GET of every clock and every port (IEEE 1588-2019, 15.3.1), and which messages answer it.
+use Rattle.std.specs.Prelude.{◌==◌, ◌&&◌, not, [], ◌∷◌, Option}
+use Rattle.ptpm_codec.specs.declared.message.Action.TheVariants as actions
+use Rattle.ptpm_codec.specs.declared.message.Message.{Message}
+use Rattle.ptpm_codec.specs.declared.message.Body.TheVariants as bodies
+use Rattle.ptpm_codec.specs.Identity.{every_clock, every_port, same_identity}
+use Rattle.ptpm_codec.specs.Message.{action_of, id_of, is_reply}
+use Rattle.ptpm_manager.specs.declared.enquiry.Enquiry.{Enquiry}
+use Rattle.ptpm_manager.specs.declared.receiving.Reason.{Reason}
+use Rattle.ptpm_manager.specs.declared.receiving.Reason.TheVariants as reasons
+use Rattle.ptpm_manager.specs.Ordered.{first_of}
+use Rattle.ptpm_manager.specs.Receiving.{is_in_domain, is_response}
+
+-- an empty GET to every clock and every port
+abbrev pub survey_message : Enquiry → Message
+survey_message e = record {
+  sdo = 0;
+  domain = e.domain;
+  source = e.me;
+  number = e.number;
+  target = record { clock = every_clock; port = every_port };
+  starting_hops = e.hops;
+  hops = e.hops;
+  body = bodies.Request actions.Get e.id [];
+}
+
+-- the reasons to ignore a message that was read, in their order
+unfoldable pub ignored_for : Enquiry → Message → Option Reason
+ignored_for e v = first_of (
+    (not (is_in_domain e.domain v), reasons.OtherDomain)
+    ∷ (not (is_reply (action_of v.body)), reasons.NotAReply)
+    ∷ (not (same_identity v.target e.me), reasons.OtherTarget)
+    ∷ (not (v.number == e.number), reasons.OtherNumber)
+    ∷ (not (is_response (action_of v.body) && id_of v.body == e.id), reasons.OtherContent)
+    ∷ [])

@@ -1,0 +1,24 @@
+//! The client of PTP management (IEEE 1588-2019, clause 15): sessions, which make one request at a time of one clock, and
+//! surveys, which ask every clock at once.
+#![tactic(auto)]
+
+mod answers;
+mod ask;
+mod enquiry;
+mod error;
+pub mod laws;
+mod receiving;
+mod report;
+mod session;
+mod setup;
+mod survey;
+
+pub use ask::Ask;
+pub use error::{BeginError, SendError};
+pub use receiving::{Reason, Received, Surveyed};
+pub use report::{Outcome, Report};
+pub use session::Session;
+pub use survey::Survey;
+
+#[cfg(test)]
+mod tests;

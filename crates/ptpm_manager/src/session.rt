@@ -1,0 +1,255 @@
+//! A session: one manager's requests to one clock, one at a time.
+
+ghost use Rattle.std.specs.Prelude.{◌≡◌, ◌≢◌, ◌≤◌, true, false, Ok, Err, None, Some, IfErr, IfOk, MatchResult, OnErr, OnOk};
+ghost use Rattle.ptpm_codec.specs.declared.message.Message.{Message};
+ghost use Rattle.ptpm_codec.specs.Canonical.{canonical};
+ghost use Rattle.ptpm_codec.specs.Message.{Fits, IsValid};
+ghost use Rattle.ptpm_manager.specs.declared.error.BeginError.{BeginError};
+ghost use Rattle.ptpm_manager.specs.declared.error.SendError.{SendError};
+ghost use Rattle.ptpm_manager.specs.declared.receiving.Reason.{Reason};
+ghost use Rattle.ptpm_manager.specs.declared.receiving.Received.{Received};
+ghost use Rattle.ptpm_manager.specs.Ask.{IsRequestTo, request_of};
+
+use crate::ask::{Ask, Pending};
+use crate::error::{BeginError, SendError};
+use crate::receiving::{Reason, Received, is_in_domain};
+use crate::report::{Report, outcome_of};
+use crate::setup::Setup;
+use ptpm_codec::{Buffer, ClockIdentity, OutOfMemory, PortIdentity, View, encode, view};
+use std::alloc::Global;
+use std::marker::Model;
+
+/// How many requests a session begins at most (this project's profile).
+pub const REQUESTS: u64 = 1_000_000;
+
+#[derive(Debug, Drop)]
+pub(crate) enum State {
+    Idle,
+    /// A request is not answered yet.
+    Waiting(Pending),
+}
+
+/// One manager's requests to one clock, one at a time: a request is kept, and its number is used for no other, until its
+/// answer is heard. Contracts see how it was set up, its domain, how many requests were begun, the unanswered one, and
+/// how often that one may still be sent.
+#[derive(Debug, Drop)]
+pub struct Session {
+    alloc: Global,
+    setup: Setup,
+    domain: u8,
+    issued: u64,
+    state: State,
+    attempts_left: u8,
+}
+
+impl Model for Session {
+    ghost use Rattle.ptpm_manager.specs.Session.{IsSession, SessionValue, session_value};
+
+    ghost Value = { SessionValue };
+
+    ghost view = { session_value };
+
+    ghost invariant = { IsSession };
+}
+
+impl Session {
+    ghost use Rattle.ptpm_manager.specs.Receiving.{IsCounted, left_by, reason_of, received_of};
+    ghost use Rattle.ptpm_manager.specs.Session.{answered_count, begin_refusal, begun, count_limit, due_message, fresh, is_waiting, resumed, retuned, send_refusal, sent};
+    ghost use Rattle.ptpm_manager.specs.Setup.{AreTwoClocks};
+
+    /// A session that has begun nothing. Its k-th request, counted from 1, has sequence number (first + k - 1) mod 65,536;
+    /// each has `hops` in both hop fields, and may be sent `attempts` times. Takes no memory.
+    pub fn new(
+        alloc: Global,
+        me: PortIdentity,
+        target: ClockIdentity,
+        ports: u16,
+        domain: u8,
+        first: u16,
+        hops: u8,
+        attempts: u8,
+    ) -> Session
+        requires clocks { AreTwoClocks me.clock target }
+        requires some_port { 1 ≤ ports }
+        requires few_ports { ports ≤ 8 }
+        ensures { result ≡ fresh (record { me = me; target = target; ports = ports; first = first; hops = hops; attempts = attempts }) domain }
+    {
+        Session {
+            alloc,
+            setup: Setup {
+                me,
+                target,
+                ports,
+                first,
+                hops,
+                attempts,
+            },
+            domain,
+            issued: 0,
+            state: State::Idle,
+            attempts_left: 0,
+        }
+    }
+
+    /// How many requests were begun.
+    pub fn issued(&self) -> u64
+        ensures count { result ≡ self.now.issued }
+        ensures limit { result ≤ count_limit }
+    {
+        self.issued
+    }
+
+    /// The domain that requests are sent in, and replies expected in.
+    pub fn domain(&self) -> u8
+        ensures { result ≡ self.now.domain }
+    {
+        self.domain
+    }
+
+    /// Begins a request, with all its attempts before it; the ask's octets are copied. The first reason that holds is why
+    /// it is refused, and then the session stays as it was.
+    #[tactic(auto, unfolding(crate::specs::Session::begin_refusal))]
+    pub fn begin(&mut self, ask: &Ask) -> Result<(), BeginError>
+        ensures begun { OnOk result (self.new ≡ begun self.old (request_of ask.now)) }
+        ensures permitted { OnOk result (begin_refusal self.old ask.now ≡ None) }
+        ensures request { OnOk result (IsRequestTo self.old.setup.ports (request_of ask.now)) }
+        ensures counted { OnOk result (answered_count self.new ≡ answered_count self.old) }
+        ensures refused { (e : BeginError) → begin_refusal self.old ask.now ≡ Some e → result ≡ Err e }
+        ensures no_other { IfErr result (λ e. e ≢ BeginError.OutOfMemory → begin_refusal self.old ask.now ≡ Some e) }
+        ensures unchanged { OnErr result (self.new ≡ self.old) }
+    {
+        if let State::Waiting(_) = &self.state {
+            return Err(BeginError::Busy);
+        }
+        ask.judge(self.setup.ports)?;
+        if self.issued >= REQUESTS {
+            return Err(BeginError::CountAtMaximum);
+        }
+        match ask.pending(self.alloc) {
+            Ok(pending) => {
+                self.issued += 1;
+                self.state = State::Waiting(pending);
+                self.attempts_left = self.setup.attempts;
+                Ok(())
+            }
+            Err(_) => Err(BeginError::OutOfMemory),
+        }
+    }
+
+    /// Leaves the unanswered request in the buffer, and uses one of its attempts. Until `retune` it has the same octets
+    /// each time. Where it is refused, session and buffer stay as they were. Takes no memory.
+    #[tactic(auto, unfolding(crate::specs::Session::send_refusal))]
+    pub fn send(&mut self, buffer: &mut Buffer) -> Result<(), SendError>
+        ensures refusal { MatchResult result (λ _. send_refusal self.old ≡ None) (λ e. send_refusal self.old ≡ Some e) }
+        ensures sent { OnOk result (self.new ≡ sent self.old) }
+        ensures octets { (v : Message) → due_message self.old ≡ Some v → OnOk result (buffer.new.items ≡ canonical v) }
+        ensures valid { (v : Message) → due_message self.old ≡ Some v → OnOk result (IsValid v × Fits v) }
+        ensures unchanged { OnErr result (self.new ≡ self.old) }
+        ensures buffer { OnErr result (buffer.new.items ≡ buffer.old.items) }
+    {
+        let State::Waiting(pending) = &self.state else {
+            return Err(SendError::Idle);
+        };
+        if self.attempts_left == 0 {
+            return Err(SendError::GaveUp);
+        }
+        encode(&self.setup.draft(self.domain, self.issued, pending), buffer);
+        self.attempts_left -= 1;
+        Ok(())
+    }
+
+    /// Gives the unanswered request this many attempts, whatever was left. Takes no memory.
+    pub fn resume(&mut self, attempts: u8) -> Result<(), SendError>
+        ensures refusal { MatchResult result (λ _. is_waiting self.old ≡ true) (λ e. (e ≡ SendError.Idle) × (is_waiting self.old ≡ false)) }
+        ensures resumed { OnOk result (self.new ≡ resumed self.old attempts) }
+        ensures unchanged { OnErr result (self.new ≡ self.old) }
+    {
+        if let State::Idle = &self.state {
+            return Err(SendError::Idle);
+        }
+        self.attempts_left = attempts;
+        Ok(())
+    }
+
+    /// From now on requests are sent, and replies expected, in this domain, also of a request that was begun before. Its
+    /// octets then differ from those sent before in domainNumber alone. Takes no memory.
+    pub fn retune(&mut self, domain: u8)
+        ensures { self.new ≡ retuned self.old domain }
+    {
+        self.domain = domain;
+    }
+
+    /// Judges a datagram: the answer to the unanswered request, after which the session is idle, or the first reason to
+    /// ignore it, and then the session stays as it was. Memory is asked for the dataField of a RESPONSE alone; where it is
+    /// refused, the session stays as it was.
+    pub fn receive(&mut self, datagram: &[u8]) -> Result<Received, OutOfMemory>
+        ensures exact { IfOk result (λ received. received ≡ received_of self.old datagram.now) }
+        ensures left { IfOk result (λ received. self.new ≡ left_by self.old received) }
+        ensures counted { IfOk result (λ received. IsCounted received (answered_count self.old) (answered_count self.new)) }
+        ensures ignored { (r : Reason) → received_of self.old datagram.now ≡ Received.Ignored r → result ≡ Ok (Received.Ignored r) }
+        ensures unchanged { OnErr result (self.new ≡ self.old) }
+    {
+        let message = match view(datagram) {
+            Ok(message) => message,
+            Err(cause) => return Ok(Received::Ignored(Reason::Malformed(cause))),
+        };
+        if let Some(reason) = self.reason_to_ignore(&message) {
+            return Ok(Received::Ignored(reason));
+        }
+        let outcome = outcome_of(self.alloc, &message)?;
+        self.state = State::Idle;
+        Ok(Received::Answered(Report {
+            index: self.issued,
+            outcome,
+        }))
+    }
+
+    /// Why a message is ignored, if it is.
+    #[tactic(auto, unfolding(crate::specs::Receiving::reason_of))]
+    fn reason_to_ignore(&self, message: &View<'_>) -> Option<Reason>
+        ensures reason { result ≡ reason_of self.now message.now }
+        ensures waiting { result ≡ None → is_waiting self.now ≡ true }
+        ensures begun { result ≡ None → 1 ≤ self.now.issued }
+    {
+        if !is_in_domain(self.domain, message) {
+            return Some(Reason::OtherDomain);
+        }
+        if !message.action().is_reply() {
+            return Some(Reason::NotAReply);
+        }
+        if message.target() != self.setup.me {
+            return Some(Reason::OtherTarget);
+        }
+        let source = message.source();
+        if source.clock != self.setup.target || !self.state.is_asked_port(source.port) {
+            return Some(Reason::OtherSource);
+        }
+        let State::Waiting(pending) = &self.state else {
+            return Some(Reason::NothingAsked);
+        };
+        if message.number() != self.setup.number(self.issued) {
+            return Some(Reason::OtherNumber);
+        }
+        if !pending.is_answered_by(message.action(), message.id()) {
+            return Some(Reason::OtherContent);
+        }
+        None
+    }
+}
+
+impl State {
+    ghost use Rattle.ptpm_manager.specs.Receiving.{is_from_asked_port};
+    ghost use Rattle.ptpm_manager.specs.Session.{unanswered_of};
+
+    /// Whether an answer may come from a port of the clock.
+    fn is_asked_port(&self, port: u16) -> bool
+        ensures { result ≡ is_from_asked_port (unanswered_of self.now) port }
+    {
+        match self {
+            State::Idle => true,
+            State::Waiting(pending) => {
+                pending.port == PortIdentity::EVERY_PORT || pending.port == port
+            }
+        }
+    }
+}
