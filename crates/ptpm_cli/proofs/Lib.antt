@@ -1,0 +1,2 @@
+pub mod FreshClock
+pub mod IdentityTextLemmas

@@ -1,0 +1,13 @@
+use Rattle.std.proofs.Common.{◌≡◌, sym, ◌∙◌, ap}
+use Rattle.ptpm_data.specs.Members.{DataSetsValue}
+use Rattle.ptpm_cli.proofs.FreshClock.{starts, not_err, is_made}
+use Rattle.ptpm_cli.proofs.clock.fresh_clock.Goals as goal
+
+pub unreachable-requires : goal.unreachable-requires
+unreachable-requires c =
+    not_err _ _ (c.new-4.ensures ∙ starts _ _ _ c.new-3.ensures c.new.ensures c.new-2.ensures) c.in-Err.is
+
+pub new-requires-6 : goal.new-requires-6
+new-requires-6 c =
+    let is = is_made _ _ (c.new-4.ensures ∙ starts _ _ _ c.new-3.ensures c.new.ensures c.new-2.ensures) c.in-Ok.is in
+    ap (λ (d : DataSetsValue). d.default.identity) is ∙ sym c.in-Ok-new.ensures.fresh.identity_is

@@ -1,0 +1,2 @@
+pub mod IdentityText
+pub mod RequestWords

@@ -1,0 +1,31 @@
+//! The clock that `ptpm answer` shows: fresh, with two ports and one configured manager, who has every right.
+
+ghost use Rattle.ptpm_data.specs.Members.{HasPort};
+
+use ptpm_agent::Agent;
+use ptpm_codec::{ClockIdentity, PortIdentity};
+use ptpm_data::{ClockStart, DataSets, PortStart, Rights};
+use ptpm_table::BoundTable;
+
+const CLOCK: ClockIdentity = ClockIdentity([0xaa, 0xbb, 0xcc, 0xff, 0xfe, 0xdd, 0xee, 0x01]);
+
+const MANAGER: PortIdentity = PortIdentity {
+    clock: ClockIdentity([0x00, 0x11, 0x22, 0x33, 0x44, 0x55, 0x66, 0x77]),
+    port: 1,
+};
+
+/// The clock, which has heard nothing yet.
+pub fn fresh_clock() -> Agent<BoundTable>
+    ensures { HasPort 1 result.sets }
+{
+    let ports = [PortStart::new(), PortStart::new()];
+    let sets = match DataSets::new(&ClockStart::new(CLOCK, 0), &ports) {
+        Ok(sets) => sets,
+        Err(_) => unreachable!(),
+    };
+    let table = match BoundTable::new(CLOCK, &[(MANAGER, Rights(7))]) {
+        Ok(table) => table,
+        Err(_) => unreachable!(),
+    };
+    Agent::new(sets, table)
+}

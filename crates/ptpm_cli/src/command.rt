@@ -1,0 +1,182 @@
+//! The command line.
+
+use crate::answer::answer;
+use crate::faults::Fault;
+use crate::ids::ids;
+use crate::make::{RequestWords, make};
+use crate::show::show;
+use clap::error::ErrorKind;
+use clap::{Arg, ArgAction, ArgMatches, Command, value_parser};
+use std::alloc::{AllocError, Global};
+use std::io::{Read, Write};
+
+/// Does what the words say, the first of which is the program's name, and answers the exit status: 0 where it was done;
+/// 1 at a fault, with the line `ptpm: FAULT` on `err`; 2 where the words were refused, with the reason on `err`. What
+/// `err` does changes nothing. No command reads yet.
+pub fn command<R: Read, O: Write, E: Write>(
+    alloc: Global,
+    words: &[&str],
+    _reader: &mut R,
+    out: &mut O,
+    err: &mut E,
+) -> u8 {
+    match run(alloc, words, out) {
+        Ok(()) => 0,
+        Err(Failure::Fault(fault)) => {
+            let _ = writeln!(err, "ptpm: {fault}");
+            1
+        }
+        Err(Failure::Refused(reason)) => {
+            let _ = write!(err, "{reason}");
+            2
+        }
+    }
+}
+
+/// Why a command line was not done.
+enum Failure {
+    Fault(Fault),
+    Refused(clap::Error),
+}
+
+impl From<Fault> for Failure {
+    fn from(fault: Fault) -> Failure {
+        Failure::Fault(fault)
+    }
+}
+
+fn run<O: Write>(alloc: Global, words: &[&str], out: &mut O) -> Result<(), Failure> {
+    match parse(alloc, words) {
+        Ok(Task::Answer(text)) => answer(alloc, text, out)?,
+        Ok(Task::Show(text)) => show(alloc, text, out)?,
+        Ok(Task::Ids) => ids(out)?,
+        Ok(Task::Make(words)) => make(alloc, &words, out)?,
+        Err(error) if error.kind() == ErrorKind::OutOfMemory => {
+            return Err(Failure::Fault(Fault::OutOfMemory));
+        }
+        Err(error) if error.use_stderr() => return Err(Failure::Refused(error)),
+        Err(help) => write!(out, "{help}").map_err(Fault::from)?,
+    }
+    out.flush().map_err(Fault::from)?;
+    Ok(())
+}
+
+/// What the words ask for.
+enum Task<'a> {
+    /// `answer`, with a datagram in hexadecimal.
+    Answer(&'a str),
+    /// `show`, with a datagram in hexadecimal.
+    Show(&'a str),
+    Ids,
+    Make(RequestWords<'a>),
+}
+
+/// The task, or why there is none: the words were refused, or they ask for help.
+fn parse<'a>(alloc: Global, words: &'a [&'a str]) -> Result<Task<'a>, clap::Error> {
+    let mut ptpm = command_line(alloc)?;
+    let matches = ptpm.try_get_matches_from_mut(words)?;
+    if let Some((name, values)) = matches.subcommand() {
+        if let Some(task) = task_of(name, values) {
+            return Ok(task);
+        }
+    }
+    Err(ptpm.error(ErrorKind::MissingSubcommand, "a command is required")?)
+}
+
+/// The task of a subcommand whose values were taken; `None` where it is no subcommand, or one of its values is missing.
+fn task_of<'a>(name: &str, values: &ArgMatches<'a>) -> Option<Task<'a>> {
+    match name {
+        "answer" => Some(Task::Answer(values.get_str("HEX")?)),
+        "show" => Some(Task::Show(values.get_str("HEX")?)),
+        "ids" => Some(Task::Ids),
+        "make" => Some(Task::Make(request_words(values)?)),
+        _ => None,
+    }
+}
+
+fn request_words<'a>(values: &ArgMatches<'a>) -> Option<RequestWords<'a>> {
+    Some(RequestWords {
+        action: values.get_str("ACTION")?,
+        id: values.get_str("ID")?,
+        value: values.get_str("VALUE").unwrap_or(""),
+        from: values.get_str("from")?,
+        to: values.get_str("to")?,
+        number: values.get_one("number")?,
+        hops: values.get_one("hops")?,
+        domain: values.get_one("domain")?,
+    })
+}
+
+fn command_line<'a>(alloc: Global) -> Result<Command<'a>, AllocError> {
+    let answer = Command::new(alloc, "answer")
+        .about("Prints what a fresh clock sends for a datagram at its port 1")
+        .arg(datagram(alloc))?;
+    let show = Command::new(alloc, "show")
+        .about("Prints the fields of a management message")
+        .arg(datagram(alloc))?;
+    let ids = Command::new(alloc, "ids").about("Prints the table of management ids");
+    Command::new(alloc, "ptpm")
+        .bin_name("ptpm")?
+        .about("Management messages of the Precision Time Protocol")
+        .disable_help_subcommand(true)
+        .subcommand_required(true)
+        .subcommand(answer)?
+        .subcommand(show)?
+        .subcommand(ids)?
+        .subcommand(make_command(alloc)?)
+}
+
+fn datagram<'a>(alloc: Global) -> Arg<'a> {
+    word(alloc, "HEX", "The datagram in hexadecimal digits").required(true)
+}
+
+fn make_command<'a>(alloc: Global) -> Result<Command<'a>, AllocError> {
+    let action = word(alloc, "ACTION", "get, set or command").required(true);
+    let id = word(
+        alloc,
+        "ID",
+        "A name that `ids` prints, or four hexadecimal digits",
+    )
+    .required(true);
+    let value = word(
+        alloc,
+        "VALUE",
+        "The dataField in hexadecimal digits, none if absent",
+    );
+    let from = option(alloc, "from", "ID/PORT", "sourcePortIdentity").required(true);
+    let to = option(alloc, "to", "ID/PORT", "targetPortIdentity").required(true);
+    let number = option(alloc, "number", "N", "sequenceId, 0 to 65535")
+        .value_parser(value_parser!(u16))
+        .required(true);
+    let hops = option(
+        alloc,
+        "hops",
+        "N",
+        "startingBoundaryHops and boundaryHops, 0 to 255",
+    )
+    .value_parser(value_parser!(u8))
+    .required(true);
+    let domain = option(alloc, "domain", "N", "domainNumber, 0 to 255")
+        .value_parser(value_parser!(u8))
+        .default_value("0");
+    Command::new(alloc, "make")
+        .about("Prints a request in hexadecimal digits")
+        .arg(action)?
+        .arg(id)?
+        .arg(value)?
+        .arg(from)?
+        .arg(to)?
+        .arg(number)?
+        .arg(hops)?
+        .arg(domain)
+}
+
+/// A word at its place in the command line.
+fn word<'a>(alloc: Global, id: &'a str, help: &'a str) -> Arg<'a> {
+    Arg::new(alloc, id).help(help).action(ArgAction::Set)
+}
+
+/// An option `--NAME VALUE`.
+fn option<'a>(alloc: Global, name: &'a str, value: &'a str, help: &'a str) -> Arg<'a> {
+    word(alloc, name, help).long(name).value_name(value)
+}

@@ -1,0 +1,107 @@
+//! `ptpm make`: a request that the words of a command line ask for, in octets.
+
+ghost use Rattle.std.specs.Prelude.{◌≡◌, false, IfSome, IfOk};
+ghost use Rattle.ptpm_cli.specs.RequestWords.{action_of_word, id_of_digits, id_of_word, request_of};
+ghost use Rattle.ptpm_codec.specs.Message.{IsRequestAction, IsValid};
+
+use crate::faults::Fault;
+use crate::hexadecimal::Hexadecimal;
+use crate::identity_text::identity_of;
+use arrayvec::ArrayVec;
+use hex::FromHex;
+use ptpm_codec::{Action, Draft, DraftBody, encode};
+use ptpm_data::by_name;
+use std::alloc::Global;
+use std::io::Write;
+
+/// The words of a request.
+#[derive(Clone, Copy, Debug)]
+pub struct RequestWords<'a> {
+    /// `get`, `set` or `command`.
+    pub action: &'a str,
+    /// A name of the table of management ids, or four hexadecimal digits.
+    pub id: &'a str,
+    /// The dataField in hexadecimal.
+    pub value: &'a str,
+    /// sourcePortIdentity.
+    pub from: &'a str,
+    /// targetPortIdentity.
+    pub to: &'a str,
+    /// sequenceId.
+    pub number: u16,
+    /// startingBoundaryHops and boundaryHops.
+    pub hops: u8,
+    /// domainNumber.
+    pub domain: u8,
+}
+
+/// Prints the canonical spelling of the request in hexadecimal. The words are judged in this order: action (BadAction),
+/// id (BadId), value (BadHex, then BadValue), identities (BadIdentity). Whether the id permits the action, and whether the
+/// value is in its range, is not judged.
+pub fn make<O: Write>(alloc: Global, words: &RequestWords<'_>, out: &mut O) -> Result<(), Fault> {
+    let action = action_of_word(words.action).ok_or(Fault::BadAction)?;
+    let id = id_of_word(words.id).ok_or(Fault::BadId)?;
+    let octets = hex::decode(alloc, words.value)?;
+    let request = request_of(words, action, id, octets.as_slice())?;
+    let mut buffer = ArrayVec::new();
+    encode(&request, &mut buffer);
+    writeln!(out, "{}", Hexadecimal(buffer.as_slice()))?;
+    Ok(())
+}
+
+fn action_of_word(word: &str) -> Option<Action>
+    ensures action { result ≡ action_of_word word.now }
+    ensures request { IfSome result (λ action. IsRequestAction action) }
+{
+    match word {
+        "get" => Some(Action::Get),
+        "set" => Some(Action::Set),
+        "command" => Some(Action::Command),
+        _ => None,
+    }
+}
+
+fn id_of_word(word: &str) -> Option<u16>
+    ensures { result ≡ id_of_word word.now }
+{
+    match by_name(word) {
+        Some(row) => Some(row.id),
+        None => id_of_digits(word),
+    }
+}
+
+#[tactic(auto, unfolding(crate::specs::RequestWords::id_of_digits))]
+fn id_of_digits(word: &str) -> Option<u16>
+    ensures { result ≡ id_of_digits word.now }
+{
+    let octets = <[u8; 2] as FromHex>::from_hex(word).ok()?;
+    Some(u16::from_be_bytes(octets))
+}
+
+/// The request of an action, an id and a dataField that were read.
+fn request_of<'a>(
+    words: &RequestWords<'_>,
+    action: Action,
+    id: u16,
+    octets: &'a [u8],
+) -> Result<Draft<'a>, Fault>
+    requires { IsRequestAction action }
+    ensures request { result ≡ request_of words.now action id octets.now }
+    ensures valid { IfOk result (λ request. IsValid request) }
+{
+    if octets.len() % 2 != 0 || octets.len() > 1418 {
+        return Err(Fault::BadValue);
+    }
+    let source = identity_of(words.from).ok_or(Fault::BadIdentity)?;
+    let target = identity_of(words.to).ok_or(Fault::BadIdentity)?;
+    Ok(Draft {
+        sdo: 0,
+        domain: words.domain,
+        source,
+        number: words.number,
+        target,
+        starting_hops: words.hops,
+        hops: words.hops,
+        body: DraftBody::Request { action, id, octets },
+    })
+}

@@ -1,0 +1,48 @@
+//! `ptpm show`: the fields of a message, a line each.
+
+use crate::faults::Fault;
+use crate::hexadecimal::Hexadecimal;
+use ptpm_codec::{ErrorId, View, view};
+use ptpm_data::row;
+use std::alloc::Global;
+use std::io;
+use std::io::Write;
+
+/// Prints the message that the text spells in hexadecimal.
+pub fn show<O: Write>(alloc: Global, text: &str, out: &mut O) -> Result<(), Fault> {
+    let datagram = hex::decode(alloc, text)?;
+    let message = view(datagram.as_slice())?;
+    show_header(&message, out)?;
+    show_body(&message, out)?;
+    Ok(())
+}
+
+fn show_header<O: Write>(message: &View<'_>, out: &mut O) -> io::Result<()> {
+    writeln!(out, "sdo {:03x}", message.sdo())?;
+    writeln!(out, "domain {}", message.domain())?;
+    writeln!(out, "source {}", message.source())?;
+    writeln!(out, "target {}", message.target())?;
+    writeln!(out, "number {}", message.number())?;
+    writeln!(
+        out,
+        "hops {} of {}",
+        message.hops(),
+        message.starting_hops()
+    )?;
+    writeln!(out, "action {}", message.action())
+}
+
+/// The managementId, whose name is `-` where the table of ids has none, and what follows it in the TLV.
+fn show_body<O: Write>(message: &View<'_>, out: &mut O) -> io::Result<()> {
+    let id = message.id();
+    let name = row(id).map_or("-", |row| row.name);
+    writeln!(out, "id {id:04x} {name}")?;
+    let Some(error) = message.error() else {
+        return writeln!(out, "value {}", Hexadecimal(message.octets()));
+    };
+    match ErrorId::from_number(error) {
+        Some(name) => writeln!(out, "error {error:04x} {name}")?,
+        None => writeln!(out, "error {error:04x} -")?,
+    }
+    writeln!(out, "text {}", Hexadecimal(message.text()))
+}

@@ -1,0 +1,245 @@
+//! `ptpm make`: requests, and how words are refused.
+
+use super::{fails, meets_full_output, prints};
+use std::alloc::Global;
+use std::process::Abort;
+use std::test::Fail;
+
+const MANAGER: &str = "0011223344556677/1";
+
+const CLOCK: &str = "aabbccfffeddee01/1";
+
+/// The words of a request with sequenceId 8 and one hop.
+fn words<'a>(
+    action: &'a str,
+    id: &'a str,
+    value: &'a str,
+    from: &'a str,
+    to: &'a str,
+) -> [&'a str; 13] {
+    [
+        "ptpm", "make", action, id, value, "--from", from, "--to", to, "--number", "8", "--hops",
+        "1",
+    ]
+}
+
+/// Of the request's words, the first that is at fault is told.
+fn is_fault(rt: &impl Abort, alloc: Global, words: [&str; 13], fault: &[u8]) {
+    fails(rt, alloc, &words, 1, fault);
+}
+
+/// A text that is no identity is refused as sender and as target.
+fn is_no_identity(rt: &impl Abort, alloc: Global, text: &str) {
+    let fault = b"ptpm: BadIdentity\n";
+    is_fault(rt, alloc, words("get", "2005", "", text, CLOCK), fault);
+    is_fault(rt, alloc, words("get", "2005", "", MANAGER, text), fault);
+}
+
+/// SET LOG_SYNC_INTERVAL to -1.
+const SET_REQUEST: &[u8] = b"0d1200380000\
+    0000000000000000000000000000\
+    001122334455667700010008047f\
+    aabbccfffeddee01000101010100\
+    00010004200bff00\n";
+
+#[test]
+fn make_and_limits(rt: HostRuntime) -> Result<(), Fail> {
+    let alloc = rt.alloc();
+    let request = words("set", "LOG_SYNC_INTERVAL", "ff00", MANAGER, CLOCK);
+    prints(&rt, alloc, &request, SET_REQUEST);
+    let request = words(
+        "set",
+        "200B",
+        "FF00",
+        MANAGER,
+        "AABBccfffeddee01/0000000001",
+    );
+    prints(&rt, alloc, &request, SET_REQUEST);
+
+    let zeros = "00".repeat(alloc, 1418)?;
+    let line = format!(in alloc;
+        "0d1205c00000\
+        0000000000000000000000000000\
+        001122334455667700010008047f\
+        aabbccfffeddee01000101010000\
+        0001058c2005{zeros}\n"
+    )?;
+    let request = words("get", "PRIORITY1", zeros.as_str(), MANAGER, CLOCK);
+    prints(&rt, alloc, &request, line.as_bytes());
+    let zeros = "00".repeat(alloc, 1420)?;
+    let request = words("get", "PRIORITY1", zeros.as_str(), MANAGER, CLOCK);
+    is_fault(&rt, alloc, request, b"ptpm: BadValue\n");
+    Ok(())
+}
+
+#[test]
+fn greatest_numbers(rt: HostRuntime) {
+    prints(
+        &rt,
+        rt.alloc(),
+        &[
+            "ptpm",
+            "make",
+            "--domain",
+            "255",
+            "command",
+            "2fFf",
+            "--hops=255",
+            "--number",
+            "65535",
+            "--to",
+            "ffffffffffffffff/65535",
+            "--from",
+            "0011223344556677/0",
+        ],
+        b"0d120036ff00\
+        0000000000000000000000000000\
+        00112233445566770000ffff047f\
+        ffffffffffffffffffffffff0300\
+        000100022fff\n",
+    );
+}
+
+#[test]
+fn faults_in_order(rt: HostRuntime) {
+    let alloc = rt.alloc();
+    is_fault(
+        &rt,
+        alloc,
+        words("response", "NONE", "0g", "-", "-"),
+        b"ptpm: BadAction\n",
+    );
+    is_fault(
+        &rt,
+        alloc,
+        words("GET", "2005", "", MANAGER, CLOCK),
+        b"ptpm: BadAction\n",
+    );
+    is_fault(
+        &rt,
+        alloc,
+        words("get", "priority1", "0g", "-", "-"),
+        b"ptpm: BadId\n",
+    );
+    is_fault(
+        &rt,
+        alloc,
+        words("get", "205", "", MANAGER, CLOCK),
+        b"ptpm: BadId\n",
+    );
+    is_fault(
+        &rt,
+        alloc,
+        words("get", "02005", "", MANAGER, CLOCK),
+        b"ptpm: BadId\n",
+    );
+    is_fault(
+        &rt,
+        alloc,
+        words("get", "+005", "", MANAGER, CLOCK),
+        b"ptpm: BadId\n",
+    );
+    is_fault(
+        &rt,
+        alloc,
+        words("get", "2005", "0g", "-", "-"),
+        b"ptpm: BadHex\n",
+    );
+    is_fault(
+        &rt,
+        alloc,
+        words("get", "2005", "000", "-", "-"),
+        b"ptpm: BadHex\n",
+    );
+    is_fault(
+        &rt,
+        alloc,
+        words("get", "2005", "-", MANAGER, CLOCK),
+        b"ptpm: BadHex\n",
+    );
+    is_fault(
+        &rt,
+        alloc,
+        words("get", "2005", "00", "-", "-"),
+        b"ptpm: BadValue\n",
+    );
+}
+
+#[test]
+fn misspelt_identities(rt: HostRuntime) {
+    let alloc = rt.alloc();
+    is_no_identity(&rt, alloc, "-");
+    is_no_identity(&rt, alloc, "/1");
+    is_no_identity(&rt, alloc, "0011223344556677");
+    is_no_identity(&rt, alloc, "0011223344556677/");
+    is_no_identity(&rt, alloc, "0011223344556677/1/1");
+    is_no_identity(&rt, alloc, "0011223344556677/+1");
+    is_no_identity(&rt, alloc, "0011223344556677/ 1");
+    is_no_identity(&rt, alloc, "0011223344556677/1f");
+    is_no_identity(&rt, alloc, "0011223344556677/65536");
+    is_no_identity(&rt, alloc, "0011223344556677/00000000001");
+    is_no_identity(&rt, alloc, "001122334455667/1");
+    is_no_identity(&rt, alloc, "00112233445566770/1");
+    is_no_identity(&rt, alloc, "001122334455667g/1");
+}
+
+/// A number out of its range ends with status 2, whatever else is wrong.
+#[test]
+fn numbers_out_of_range(rt: HostRuntime) {
+    let alloc = rt.alloc();
+    fails(
+        &rt,
+        alloc,
+        &[
+            "ptpm", "make", "none", "-", "--from", "-", "--to", "-", "--number", "65536", "--hops",
+            "1",
+        ],
+        2,
+        b"error: invalid value '65536' for '--number <N>': 65536 is not in 0..=65535\n\n\
+        For more information, try '--help'.\n",
+    );
+    fails(
+        &rt,
+        alloc,
+        &[
+            "ptpm", "make", "none", "-", "--from", "-", "--to", "-", "--number", "8", "--hops",
+            "256",
+        ],
+        2,
+        b"error: invalid value '256' for '--hops <N>': 256 is not in 0..=255\n\n\
+        For more information, try '--help'.\n",
+    );
+    fails(
+        &rt,
+        alloc,
+        &[
+            "ptpm", "make", "none", "-", "--from", "-", "--to", "-", "--number", "8", "--hops",
+            "1", "--domain", "256",
+        ],
+        2,
+        b"error: invalid value '256' for '--domain <N>': 256 is not in 0..=255\n\n\
+        For more information, try '--help'.\n",
+    );
+}
+
+#[test]
+fn words_missing(rt: HostRuntime) {
+    fails(
+        &rt,
+        rt.alloc(),
+        &[
+            "ptpm", "make", "get", "2005", "--from", MANAGER, "--to", CLOCK, "--hops", "1",
+        ],
+        2,
+        b"error: the following required arguments were not provided:\n  \
+        --number <N>\n\n\
+        Usage: ptpm make --from <ID/PORT> --to <ID/PORT> --number <N> --hops <N> <ACTION> <ID> [VALUE]\n\n\
+        For more information, try '--help'.\n",
+    );
+}
+
+#[test]
+fn failing_output(rt: HostRuntime) {
+    let request = words("set", "LOG_SYNC_INTERVAL", "ff00", MANAGER, CLOCK);
+    meets_full_output(&rt, rt.alloc(), &request, SET_REQUEST.len());
+}
