@@ -1,4 +1,5 @@
 pub mod PlaceLaws
+pub mod OrderedLaws
 pub mod RefusalLaws
 pub mod ReadingLaws
 pub mod ViewLaws

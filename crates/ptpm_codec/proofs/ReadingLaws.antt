@@ -2,6 +2,7 @@
 use Rattle.std.proofs.Common.{◌≡◌, ℕ, zero, suc, ◌+◌, ◌-◌, ◌%◌, ◌≤◌, ◌<◌, Bool, true, false, cond, List, [], ◌∷◌, length, take, drop, get_or, Option, Some, None, Result, Ok, Err, refl, sym, ap, subst, ◌∙◌, inl, inr, arith}
 use Rattle.std.proofs.lemmas.Bool.{cases_lt, eq-eqb, eqb-true}
 use Rattle.std.proofs.lemmas.List.{length-take, length-take-le, length-drop, get_or-take, get_or-drop, get_or_past}
+use Rattle.std.specs.Option.{option_or}
 use Rattle.ptpm_codec.specs.declared.error.DecodeError.{DecodeError}
 use Rattle.ptpm_codec.specs.declared.identity.PortIdentity.{PortIdentity}
 use Rattle.ptpm_codec.specs.declared.message.Action.{Action}
@@ -15,10 +16,11 @@ use Rattle.ptpm_codec.specs.Layout as layout
 use Rattle.ptpm_codec.specs.Layout.{octet, even_up, message_length, message_octets}
 use Rattle.ptpm_codec.specs.Message.{action_code, is_reply, action_of, IsDataField, IsValid, IsValidBody}
 use Rattle.ptpm_codec.specs.Spelling.{Spells, SpellsBody, SpellsManagement, SpellsErrorStatus, SpellsText}
-use Rattle.ptpm_codec.specs.Refusal.{action_from, is_text, frame_refusal, tlv_refusal, text_refusal, message_refusal, or_else, refusal}
+use Rattle.ptpm_codec.specs.Refusal.{action_from, is_text, frame_refusal, tlv_refusal, text_refusal, message_refusal, refusal}
 use Rattle.ptpm_codec.specs.Reading.{action_at, tlv_kind_at, text_at, body_from, body_at, message_at, ok_unless, some_unless, reading, message_of, IsWellFormed}
 use Rattle.ptpm_codec.proofs.PlaceLaws.{octet-take, number-take}
-use Rattle.ptpm_codec.proofs.RefusalLaws.{or_else-none, IsFramed, framed, not_refused-frame, IsTlv, is_tlv, not_refused-tlv, is_text-status, not_refused-status, not_refused-management}
+use Rattle.ptpm_codec.proofs.OrderedLaws.{option_or-none}
+use Rattle.ptpm_codec.proofs.RefusalLaws.{IsFramed, framed, not_refused-frame, IsTlv, is_tlv, not_refused-tlv, is_text-status, not_refused-status, not_refused-management}
 
 -- ---- actions and their numbers
 
@@ -125,7 +127,7 @@ action_of-body_at m = action_of-body_from (tlv_kind_at m) (action_at m) m
 -- ---- what is not refused is spelled
 
 framed_of : (d : List ℕ) → IsWellFormed d → IsFramed d
-framed_of d h = framed d (or_else-none (frame_refusal d) (message_refusal (message_octets d)) h).0
+framed_of d h = framed d (option_or-none (frame_refusal d) (message_refusal (message_octets d)) h).0
 
 -- a well-formed datagram has a messageLength between these bounds
 pub message_size : (d : List ℕ) → IsWellFormed d → (54 ≤ message_length d) × (message_length d ≤ length d) × (message_length d ≤ 1472)
@@ -133,13 +135,13 @@ message_size d h = let f = framed_of d h in (f.low, f.inside, f.high)
 
 pub spelled : (d : List ℕ) → IsWellFormed d → Spells (message_at (message_octets d)) (message_octets d)
 spelled d h =
-    let p = or_else-none (frame_refusal d) (message_refusal (message_octets d)) h in
+    let p = option_or-none (frame_refusal d) (message_refusal (message_octets d)) h in
     let f = framed d p.0 in
     let n = message_length d in
     let m = message_octets d in
     let len : length m ≡ n = length-take-le n d f.inside in
     let low = f.low in
-    let q = or_else-none (tlv_refusal (layout.action_field m) (layout.tlv_type m) (layout.length_field m) (length m)) (text_refusal (tlv_kind_at m) (layout.display_data m)) p.1 in
+    let q = option_or-none (tlv_refusal (layout.action_field m) (layout.tlv_type m) (layout.length_field m) (length m)) (text_refusal (tlv_kind_at m) (layout.display_data m)) p.1 in
     let t = is_tlv (layout.action_field m) (layout.tlv_type m) (layout.length_field m) (length m) q.0 in
     record {
       at_least = omega (arith, len, low);
@@ -248,7 +250,7 @@ text_not_refused (bodies.Answer a id octets) m (reply, s) = rw (tlv_kind-managem
 text_not_refused (bodies.Fault a error id text) m (reply, s) =
     rw (tlv_kind-status m s.type) (not_refused-status (layout.display_data m) (text_spelled text (layout.display_data m) s.text_is).0)
 
-both_none : (p o : Option DecodeError) → p ≡ None → o ≡ None → or_else p o ≡ None
+both_none : (p o : Option DecodeError) → p ≡ None → o ≡ None → option_or p o ≡ None
 both_none p o x y = rw (x, y) refl
 
 pub none_refused : (d : List ℕ) (v : Message) → Spells v (message_octets d) → IsWellFormed d

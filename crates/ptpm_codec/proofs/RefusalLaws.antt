@@ -7,7 +7,7 @@ use Rattle.ptpm_codec.specs.declared.tlv.TlvKind.TheVariants.{Management, ErrorS
 use Rattle.ptpm_codec.specs.Layout as layout
 use Rattle.ptpm_codec.specs.Layout.{message_length}
 use Rattle.ptpm_codec.specs.Message.{is_reply}
-use Rattle.ptpm_codec.specs.Refusal.{action_from, least_length, is_text, frame_refusal, tlv_refusal, text_refusal, or_else}
+use Rattle.ptpm_codec.specs.Refusal.{action_from, least_length, is_text, frame_refusal, tlv_refusal, text_refusal}
 
 -- one test of the list, and the tests behind it
 passes : (test : Bool) (e : DecodeError) (o : Option DecodeError) → cond test (Some e) o ≡ None → (test ≡ false) × (o ≡ None)
@@ -17,10 +17,6 @@ passes false e o h = (refl, h)
 skips : (test : Bool) (e : DecodeError) (o : Option DecodeError) → test ≡ false → o ≡ None → cond test (Some e) o ≡ None
 skips true e o f h = absurd cc
 skips false e o f h = h
-
-pub or_else-none : (p o : Option DecodeError) → or_else p o ≡ None → (p ≡ None) × (o ≡ None)
-or_else-none None o h = (refl, h)
-or_else-none (Some e) o h = absurd cc
 
 -- ---- the frame: the header of a management message, and enough octets
 

@@ -4,5 +4,6 @@ pub mod Message
 pub mod Draft
 pub mod Spelling
 pub mod Canonical
+pub mod Ordered
 pub mod Refusal
 pub mod Reading

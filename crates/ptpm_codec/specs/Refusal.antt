@@ -1,5 +1,6 @@
 -- The refusals of a datagram, in their order: the answer is the first whose test holds.
 use Rattle.std.specs.Prelude.{ℕ, ◌+◌, ◌%◌, Bool, true, false, not, nat_lt, ◌==◌, ◌||◌, ◌&&◌, if◌then◌else◌, List, [], ◌∷◌, length, Option, Some, None}
+use Rattle.std.specs.Option.{option_or}
 use Rattle.ptpm_codec.specs.declared.error.DecodeError.{DecodeError}
 use Rattle.ptpm_codec.specs.declared.error.DecodeError.TheVariants.{TooShort, NotManagement, BadVersion, BadLength, BadAction, BadTlvType, BadTlvLength, BadText}
 use Rattle.ptpm_codec.specs.declared.message.Action.{Action}
@@ -9,11 +10,7 @@ use Rattle.ptpm_codec.specs.declared.tlv.TlvKind.TheVariants.{Management, ErrorS
 use Rattle.ptpm_codec.specs.Layout as layout
 use Rattle.ptpm_codec.specs.Layout.{octet, even_up, message_octets}
 use Rattle.ptpm_codec.specs.Message.{is_reply}
-
--- the first refusal whose test holds
-abbrev pub first_of : List (Bool × DecodeError) → Option DecodeError
-first_of [] = None
-first_of (r ∷ rs) = if r.0 then Some r.1 else first_of rs
+use Rattle.ptpm_codec.specs.Ordered.{first_of}
 
 -- the action of an actionField from 0 to 4
 abbrev pub action_from : ℕ → Action
@@ -56,17 +53,12 @@ unfoldable pub text_refusal : TlvKind → List ℕ → Option DecodeError
 text_refusal Management d = None
 text_refusal ErrorStatus d = first_of ((not (is_text d), BadText) ∷ [])
 
--- the first of two that is there
-abbrev pub or_else : Option DecodeError → Option DecodeError → Option DecodeError
-or_else (Some e) o = Some e
-or_else None o = o
-
 -- 5 to 8, of the octets up to messageLength
 abbrev pub message_refusal : List ℕ → Option DecodeError
 message_refusal m =
-    or_else (tlv_refusal (layout.action_field m) (layout.tlv_type m) (layout.length_field m) (length m))
+    option_or (tlv_refusal (layout.action_field m) (layout.tlv_type m) (layout.length_field m) (length m))
     (text_refusal (tlv_kind (layout.tlv_type m)) (layout.display_data m))
 
 -- the first refusal of a datagram; memory is none of the datagram's
 abbrev pub refusal : List ℕ → Option DecodeError
-refusal d = or_else (frame_refusal d) (message_refusal (message_octets d))
+refusal d = option_or (frame_refusal d) (message_refusal (message_octets d))

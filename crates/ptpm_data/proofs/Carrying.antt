@@ -9,6 +9,7 @@ use Rattle.ptpm_codec.specs.declared.message.Action.{Action}
 use Rattle.ptpm_codec.specs.declared.message.Action.TheVariants as actions
 use Rattle.ptpm_codec.specs.declared.error.ErrorId.{ErrorId}
 use Rattle.ptpm_codec.specs.declared.error.ErrorId.TheVariants.{NotSupported, WrongLength, WrongValue}
+use Rattle.ptpm_codec.proofs.OrderedLaws.{first_of-none}
 use Rattle.ptpm_data.specs.declared.rights.Rights.{Rights}
 use Rattle.ptpm_data.specs.declared.ids.Layout.{Layout}
 use Rattle.ptpm_data.specs.declared.ids.Layout.TheVariants as layouts
@@ -19,15 +20,10 @@ use Rattle.ptpm_data.specs.Members.{DataSetsValue}
 use Rattle.ptpm_data.specs.PortState.{mechanism_of}
 use Rattle.ptpm_data.specs.Request.{RequestValue}
 use Rattle.ptpm_data.specs.SetField.{octet}
-use Rattle.ptpm_data.specs.Refusals.{entry_refusal, first_of, has_right, is_length, is_value, needed_right, refusals, unpermitted}
+use Rattle.ptpm_data.specs.Refusals.{entry_refusal, has_right, is_length, is_value, needed_right, refusals, unpermitted}
 use Rattle.ptpm_data.specs.Changes.{carried_out, commanded, named_changed, set_members, with_mechanism}
 
 -- ---- the tests of a request that is not refused
-
--- the first test of a list that refuses nothing does not hold, and the others refuse nothing
-passes : (test : Bool × ErrorId) (rest : List (Bool × ErrorId)) → first_of (test ∷ rest) ≡ None → (test.0 ≡ false) × (first_of rest ≡ None)
-passes (true, error) rest e = cc
-passes (false, error) rest e = (refl, e)
 
 -- the dataField of a request that is not refused suits its id
 pub record Suits (layout : Layout) (q : RequestValue) : Type 0 where
@@ -37,10 +33,10 @@ pub record Suits (layout : Layout) (q : RequestValue) : Type 0 where
 pub suits_from : (e : Entry) (q : RequestValue) (rights : Rights) → entry_refusal e q rights ≡ None → Suits e.layout q
 unfolding entry_refusal
 suits_from e q rights none =
-    let action = passes (not (has_action q.action e.actions), unpermitted q.action) (drop 1 (refusals e q rights)) none in
-    let right = passes (not (has_right (needed_right q.action e.scope e.layout) rights), NotSupported) (drop 2 (refusals e q rights)) action.1 in
-    let size = passes (not (is_length q.action e.layout q.octets), WrongLength) (drop 3 (refusals e q rights)) right.1 in
-    let value = passes (not (is_value q.action e.layout q.octets), WrongValue) [] size.1 in
+    let action = first_of-none (not (has_action q.action e.actions)) (unpermitted q.action) (drop 1 (refusals e q rights)) none in
+    let right = first_of-none (not (has_right (needed_right q.action e.scope e.layout) rights)) NotSupported (drop 2 (refusals e q rights)) action.1 in
+    let size = first_of-none (not (is_length q.action e.layout q.octets)) WrongLength (drop 3 (refusals e q rights)) right.1 in
+    let value = first_of-none (not (is_value q.action e.layout q.octets)) WrongValue [] size.1 in
     record { size = not-false _ size.0; value = not-false _ value.0 }
 
 -- ---- the number of ports

@@ -2,10 +2,11 @@
 use Rattle.std.proofs.Common.{arith, ◌≡◌, ◌==◌, nat_lt, nat_le, Bool, true, false, not, ◌&&◌, if◌then◌else◌, bytes_eq, ℕ, ◌+◌, ◌<◌, ◌≤◌, List, [], ◌∷◌, ◌++◌, Option, Some, None, Result, Ok, Err, map, take, drop, length, get_or, drop-cons, add-one, refl, ap, sym, subst, IsErrAnd, MatchResult, ◌∙◌}
 use Rattle.std.proofs.Math.ListN.{drop_of_length-le}
 use Rattle.std.proofs.lemmas.List.{take_more, map-append}
+use Rattle.std.specs.Option.{option_or}
 use Rattle.ptpm_data.specs.declared.start.StartError.{StartError}
 use Rattle.ptpm_data.specs.declared.start.PortStart.{PortStart}
 use Rattle.ptpm_data.specs.declared.data_sets.PortDataSet.{PortDataSet}
-use Rattle.ptpm_data.specs.Start.{port_data_set, port_fault, ports_fault, port_start_of, or_else, unless, count_fault, clock_fault, grandmaster_fault, all_ones}
+use Rattle.ptpm_data.specs.Start.{port_data_set, port_fault, ports_fault, port_start_of, unless, count_fault, clock_fault, grandmaster_fault, all_ones}
 use Rattle.ptpm_data.specs.Ranges.{is_description}
 use Rattle.ptpm_data.specs.Members.{is_grandmaster, is_same_precedence}
 use Rattle.ptpm_data.specs.declared.data_sets.ClockPrecedence.{ClockPrecedence}
@@ -16,7 +17,7 @@ use Rattle.std.proofs.lemmas.Bool.{and_parts, eqb-true, not-false}
 use Rattle.std.proofs.lemmas.Bool.Decides.{nat_tests}
 
 pub ports_fault_step : (ps : List PortStart) (i : ℕ) (p : PortStart) → i < length ps
-    → ports_fault (drop i ps) ≡ or_else (port_fault (get_or ps i p)) (ports_fault (drop (i + 1) ps))
+    → ports_fault (drop i ps) ≡ option_or (port_fault (get_or ps i p)) (ports_fault (drop (i + 1) ps))
 unfolding ports_fault
 ports_fault_step ps i p h = rw (drop-cons ps i p h, add-one i) refl
 
@@ -40,13 +41,13 @@ started_err p m h = unless_err _ _ _ h
 pub goes_on : (ps : List PortStart) (i : ℕ) (p : PortStart) (s : PortDataSet) → i < length ps → ports_fault ps ≡ ports_fault (drop i ps)
     → port_start_of (get_or ps i p) ≡ Ok s → ports_fault ps ≡ ports_fault (drop (i + 1) ps)
 goes_on ps i p s below here ok =
-    here ∙ ports_fault_step ps i p below ∙ ap (λ o. or_else o (ports_fault (drop (i + 1) ps))) (started_ok _ s ok).0
+    here ∙ ports_fault_step ps i p below ∙ ap (λ o. option_or o (ports_fault (drop (i + 1) ps))) (started_ok _ s ok).0
 
 -- a port with one
 pub stops : (ps : List PortStart) (i : ℕ) (p : PortStart) (m : StartError) → i < length ps → ports_fault ps ≡ ports_fault (drop i ps)
     → port_start_of (get_or ps i p) ≡ Err m → ports_fault ps ≡ Some m
 stops ps i p m below here err =
-    here ∙ ports_fault_step ps i p below ∙ ap (λ o. or_else o (ports_fault (drop (i + 1) ps))) (started_err _ m err)
+    here ∙ ports_fault_step ps i p below ∙ ap (λ o. option_or o (ports_fault (drop (i + 1) ps))) (started_err _ m err)
 
 pub no_more : (ps : List PortStart) (i : ℕ) → length ps ≤ i → ports_fault ps ≡ ports_fault (drop i ps) → ports_fault ps ≡ None
 unfolding ports_fault

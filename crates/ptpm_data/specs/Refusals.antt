@@ -5,6 +5,7 @@ use Rattle.ptpm_codec.specs.declared.message.Action.{Action}
 use Rattle.ptpm_codec.specs.declared.message.Action.TheVariants as actions
 use Rattle.ptpm_codec.specs.declared.error.ErrorId.{ErrorId}
 use Rattle.ptpm_codec.specs.declared.error.ErrorId.TheVariants.{NoSuchId, WrongLength, WrongValue, NotSetable, NotSupported}
+use Rattle.ptpm_codec.specs.Ordered.{first_of}
 use Rattle.ptpm_data.specs.declared.rights.Rights.{Rights}
 use Rattle.ptpm_data.specs.declared.ids.Scope.{Scope}
 use Rattle.ptpm_data.specs.declared.ids.Scope.TheVariants.{Clock, Port}
@@ -79,10 +80,6 @@ refusals e q rights =
     ∷ (not (is_length q.action e.layout q.octets), WrongLength)
     ∷ (not (is_value q.action e.layout q.octets), WrongValue)
     ∷ []
-
-abbrev pub first_of : List (Bool × ErrorId) → Option ErrorId
-first_of [] = None
-first_of (r ∷ rs) = if r.0 then Some r.1 else first_of rs
 
 unfoldable pub entry_refusal : Entry → RequestValue → Rights → Option ErrorId
 entry_refusal e q rights = first_of (refusals e q rights)

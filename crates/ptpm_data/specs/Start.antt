@@ -1,6 +1,8 @@
 -- The data sets that a clock starts with (IEEE 1588-2019, clause 8; ranges, defaults and faults are this project's profile).
 use Rattle.std.specs.Prelude.{ℕ, ◌==◌, nat_lt, pos, Bool, true, false, not, ◌&&◌, if◌then◌else◌, List, [], ◌∷◌, length, map, Option, Some, None, is_none, unwrap_or, Result, Ok, Err, bytes_eq}
+use Rattle.std.specs.Option.{option_or}
 use Rattle.ptpm_codec.specs.declared.identity.ClockIdentity.{ClockIdentity}
+use Rattle.ptpm_codec.specs.Ordered.{first_of}
 use Rattle.ptpm_data.specs.declared.members.Member.TheVariants as members
 use Rattle.ptpm_data.specs.declared.port_state.PortState.TheVariants as states
 use Rattle.ptpm_data.specs.declared.port_state.DelayMechanism.TheVariants as mechanisms
@@ -141,16 +143,6 @@ started c ports = record {
   ports = map port_data_set ports;
 }
 
--- the first whose test holds
-abbrev pub first_of : {E : Type 0} → List (Bool × E) → Option E
-first_of [] = None
-first_of (r ∷ rs) = if r.0 then Some r.1 else first_of rs
-
--- the first of two that is there
-abbrev pub or_else : {E : Type 0} → Option E → Option E → Option E
-or_else (Some e) o = Some e
-or_else None o = o
-
 abbrev pub all_ones : List ℕ
 all_ones = 255 ∷ 255 ∷ 255 ∷ 255 ∷ 255 ∷ 255 ∷ 255 ∷ 255 ∷ []
 
@@ -183,7 +175,7 @@ port_fault p = first_of (
 -- of the first port that has one
 unfoldable pub ports_fault : List PortStart → Option StartError
 ports_fault [] = None
-ports_fault (p ∷ ps) = or_else (port_fault p) (ports_fault ps)
+ports_fault (p ∷ ps) = option_or (port_fault p) (ports_fault ps)
 
 -- of a clock that is its own grandmaster: a priority or quality of the grandmaster is not its own
 unfoldable pub grandmaster_fault : DefaultDataSet → ParentDataSet → Option StartError
@@ -193,9 +185,9 @@ grandmaster_fault default parent = first_of (
 -- in this order
 abbrev pub start_fault : ClockStart → List PortStart → Option StartError
 start_fault c ports =
-    or_else (count_fault (length ports))
-    (or_else (clock_fault c)
-    (or_else (ports_fault ports)
+    option_or (count_fault (length ports))
+    (option_or (clock_fault c)
+    (option_or (ports_fault ports)
     (grandmaster_fault (default_data_set c) (parent_data_set c))))
 
 -- ---- the answer: the value, where there is no fault

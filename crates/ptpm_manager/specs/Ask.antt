@@ -8,7 +8,7 @@ use Rattle.ptpm_manager.specs.declared.ask.Ask.{Ask}
 use Rattle.ptpm_manager.specs.declared.ask.Pending.{Pending}
 use Rattle.ptpm_manager.specs.declared.error.BeginError.{BeginError}
 use Rattle.ptpm_manager.specs.declared.error.BeginError.TheVariants.{NeedsPort, NotPermitted, BadValue}
-use Rattle.ptpm_manager.specs.Ordered.{first_of}
+use Rattle.ptpm_codec.specs.Ordered.{first_of}
 
 -- an id of a port needs a port of the clock, which has the ports 1 to `ports`
 abbrev pub names_port : ℕ → Option ℕ → Bool

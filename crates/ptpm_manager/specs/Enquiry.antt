@@ -8,7 +8,7 @@ use Rattle.ptpm_codec.specs.Message.{action_of, id_of, is_reply}
 use Rattle.ptpm_manager.specs.declared.enquiry.Enquiry.{Enquiry}
 use Rattle.ptpm_manager.specs.declared.receiving.Reason.{Reason}
 use Rattle.ptpm_manager.specs.declared.receiving.Reason.TheVariants as reasons
-use Rattle.ptpm_manager.specs.Ordered.{first_of}
+use Rattle.ptpm_codec.specs.Ordered.{first_of}
 use Rattle.ptpm_manager.specs.Receiving.{is_in_domain, is_response}
 
 -- an empty GET to every clock and every port

@@ -1,4 +1,3 @@
-pub mod Ordered
 pub mod Ask
 pub mod Report
 pub mod Receiving

@@ -1,6 +1,7 @@
 -- A session: one manager's requests to one clock, one at a time (IEEE 1588-2019, 15.3 and 15.4). How requests are numbered
 -- and how often one is sent is this project's profile.
 use Rattle.std.specs.Prelude.{◌≤◌, ℕ, ◌+◌, ◌-◌, ◌==◌, Bool, not, nat_lt, [], ◌∷◌, Option, Some, None, is_some, option_map, if◌then◌else◌}
+use Rattle.std.specs.Option.{option_or}
 use Rattle.ptpm_codec.specs.declared.message.Message.{Message}
 use Rattle.ptpm_data.specs.Request.{RequestValue}
 use Rattle.ptpm_manager.specs.declared.ask.Ask.{Ask}
@@ -14,7 +15,7 @@ use Rattle.ptpm_manager.specs.declared.session.State.{State}
 use Rattle.ptpm_manager.specs.declared.session.State.TheVariants.{Idle, Waiting}
 use Rattle.ptpm_manager.specs.declared.session.Session.TheInside.{Inside}
 use Rattle.ptpm_manager.specs.Ask.{IsRequestTo, ask_refusal, pending_request}
-use Rattle.ptpm_manager.specs.Ordered.{first_of, or_else}
+use Rattle.ptpm_codec.specs.Ordered.{first_of}
 use Rattle.ptpm_manager.specs.Setup.{request_message}
 
 -- how many requests a session begins at most
@@ -96,8 +97,8 @@ answered s = record s { unanswered = None }
 -- Busy, then what the ask by itself is refused for, then CountAtMaximum
 unfoldable pub begin_refusal : SessionValue → Ask → Option BeginError
 begin_refusal s a =
-    or_else (first_of ((is_waiting s, begins.Busy) ∷ []))
-    (or_else (ask_refusal s.setup.ports a) (first_of ((not (nat_lt s.issued count_limit), begins.CountAtMaximum) ∷ [])))
+    option_or (first_of ((is_waiting s, begins.Busy) ∷ []))
+    (option_or (ask_refusal s.setup.ports a) (first_of ((not (nat_lt s.issued count_limit), begins.CountAtMaximum) ∷ [])))
 
 unfoldable pub send_refusal : SessionValue → Option SendError
 send_refusal s = first_of (

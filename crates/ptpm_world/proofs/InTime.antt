@@ -2,6 +2,7 @@
 use Rattle.std.proofs.Common.{arith, ◌≡◌, ℕ, ◌<◌, ◌≤◌, ◌+◌, ◌==◌, List, [], ◌∷◌, ◌++◌, Option, Some, None, true, false, refl, sym, ◌∙◌, ap, subst, ⊎_elim, length}
 use Rattle.std.proofs.lemmas.Bool.{cases_Bool, eqb-true, ltb-false}
 use Rattle.std.specs.List.{AllByRecursion}
+use Rattle.ptpm_codec.proofs.OrderedLaws.{first_of-none, option_or-none}
 use Rattle.ptpm_codec.specs.declared.identity.PortIdentity.{PortIdentity}
 use Rattle.ptpm_table.specs.Serial.{InWindow}
 use Rattle.ptpm_agent.specs.Laws.{fresh, turns}
@@ -20,7 +21,6 @@ use Rattle.ptpm_world.proofs.Frames.{IsHeard, heard-frame}
 use Rattle.ptpm_world.proofs.Schedule.{reached}
 use Rattle.ptpm_world.proofs.Lists.{with_place-other, with_place-same}
 use Rattle.ptpm_world.proofs.Reaching.{first-reached, frame_at-is, step-reached}
-use Rattle.ptpm_world.proofs.Refusals.{first_of-none, or_else-none}
 use Rattle.ptpm_world.proofs.Strangers.{strange-message}
 use Rattle.ptpm_world.proofs.Steps.{InStep}
 
@@ -104,8 +104,8 @@ keeps-happens N first w (Resume s attempts) firsts n r i e late keeps = keeps
 keeps-happens N first w (Retune s domain) firsts n r i e late keeps = keeps
 keeps-happens N first w (Deliver k) firsts n r i e late keeps = keeps-delivered N first w k (frame_at w.frames k) firsts n r refl late keeps
 keeps-happens N first w (Stranger d port datagram) firsts n r i e late keeps =
-    let p = or_else-none (no_port N d port) _ e in
-    let q = or_else-none (forged N datagram) (no_room w.frames) p.1 in
+    let p = option_or-none (no_port N d port) _ e in
+    let q = option_or-none (forged N datagram) (no_room w.frames) p.1 in
     let honest = (first_of-none (is_forged N datagram) Forged [] q.0).0 in
     λ c place. keeps-arriving N first w d port (strange_frame d port datagram) firsts n r (λ v h. strange-message N datagram v i honest h) refl keeps c place
 

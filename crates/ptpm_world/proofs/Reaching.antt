@@ -4,6 +4,7 @@ use Rattle.std.proofs.lemmas.Bool.{cases_Bool, and_parts, cond-true, cond-false,
 use Rattle.std.proofs.lemmas.Option.{same_Some}
 use Rattle.std.specs.Prelude.{nat_le}
 use Rattle.std.specs.List.{AllByRecursion}
+use Rattle.ptpm_codec.proofs.OrderedLaws.{first_of-none, option_or-none}
 use Rattle.ptpm_codec.specs.declared.message.Message.{Message}
 use Rattle.ptpm_codec.specs.Reading.{message_of}
 use Rattle.ptpm_data.specs.Members.{has_port}
@@ -24,7 +25,7 @@ use Rattle.ptpm_world.proofs.Accepting.{in_step-begun, in_step-reported, report_
 use Rattle.ptpm_world.proofs.Frames.{heard-frame, le_le, says_reply}
 use Rattle.ptpm_world.proofs.Lists.{all_get, get_append}
 use Rattle.ptpm_world.proofs.Messages.{reply_at}
-use Rattle.ptpm_world.proofs.Refusals.{asked-not_refused, begin-not_refused, first_of-none, idle-not_waiting, option_map-none, or_else-none}
+use Rattle.ptpm_world.proofs.Refusals.{asked-not_refused, begin-not_refused, idle-not_waiting, option_map-none}
 use Rattle.ptpm_world.proofs.Steps.{sends-reached, session-changes, session-set}
 use Rattle.ptpm_world.proofs.Strangers.{strange-message}
 use Rattle.ptpm_world.proofs.Unnumbered.{delivered_at_clock-reached}
@@ -139,15 +140,15 @@ strange-reached N w c port datagram n r octets p e =
 happens-reached : (N : Network) (w : NetworkState) (e : Event) → IsNetwork N → IsReached N w → IsInRange e → refusal N w e ≡ None → IsReached N (happens N w e)
 unfolding refusal happens
 happens-reached N w (Begin s q) n r i e =
-    let p = or_else-none (no_session N s) (begin_refused N w s q) e in
+    let p = option_or-none (no_session N s) (begin_refused N w s q) e in
     begins-reached N w s q n r (session-exists N s p.0) i p.1
-happens-reached N w (Send s) n r i e = sends-reached N w s n (session-exists N s (or_else-none (no_session N s) _ e).0) r
-happens-reached N w (Resume s attempts) n r i e = session-set N w s (w.session s).domain attempts (session-exists N s (or_else-none (no_session N s) _ e).0) r
+happens-reached N w (Send s) n r i e = sends-reached N w s n (session-exists N s (option_or-none (no_session N s) _ e).0) r
+happens-reached N w (Resume s attempts) n r i e = session-set N w s (w.session s).domain attempts (session-exists N s (option_or-none (no_session N s) _ e).0) r
 happens-reached N w (Retune s domain) n r i e = session-set N w s domain (w.session s).attempts_left (session-exists N s e) r
 happens-reached N w (Deliver k) n r i e = delivered-reached N w k (frame_at w.frames k) n r refl
 happens-reached N w (Stranger c port datagram) n r i e =
-    let p = or_else-none (no_port N c port) _ e in
-    let q = or_else-none (forged N datagram) (no_room w.frames) p.1 in
+    let p = option_or-none (no_port N c port) _ e in
+    let q = option_or-none (forged N datagram) (no_room w.frames) p.1 in
     strange-reached N w c port datagram n r i p.0 q.0
 
 step_by-reached : (N : Network) (w : NetworkState) (e : Event) (o : Option Refusal) → refusal N w e ≡ o → IsNetwork N → IsReached N w → IsInRange e → IsReached N (step_by o N w e)

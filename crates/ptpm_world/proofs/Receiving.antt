@@ -4,6 +4,7 @@ use Rattle.std.proofs.lemmas.Bool.{cases_Bool, and_from, and_parts, cond-true, c
 use Rattle.std.proofs.lemmas.Option.{same_Some}
 use Rattle.std.specs.Prelude.{is_some, unwrap_or}
 use Rattle.std.specs.List.{AllByRecursion}
+use Rattle.ptpm_codec.proofs.OrderedLaws.{first_of-none}
 use Rattle.ptpm_codec.specs.declared.error.DecodeError.{DecodeError}
 use Rattle.ptpm_codec.specs.declared.identity.PortIdentity.{PortIdentity}
 use Rattle.ptpm_codec.specs.declared.message.Action.{Action}
@@ -24,7 +25,7 @@ use Rattle.ptpm_manager.specs.declared.receiving.Reason.{Reason}
 use Rattle.ptpm_manager.specs.declared.receiving.Reason.TheVariants as reasons
 use Rattle.ptpm_manager.specs.declared.receiving.Received.TheVariants as received
 use Rattle.ptpm_manager.specs.declared.report.Report.{Report}
-use Rattle.ptpm_manager.specs.Ordered.{first_of}
+use Rattle.ptpm_codec.specs.Ordered.{first_of}
 use Rattle.ptpm_manager.specs.Receiving.{answer_by, answer_to, is_answered_by, is_content, is_from_asked_port, is_from_target, is_in_domain, reason_of, received_of}
 use Rattle.ptpm_manager.specs.Report.{outcome_of}
 use Rattle.ptpm_manager.specs.Session.{SessionValue, is_waiting}
@@ -38,7 +39,6 @@ use Rattle.ptpm_world.proofs.Arriving.{action_of-answer_body}
 use Rattle.ptpm_world.proofs.Frames.{SaysReply, same_read, says_reply, says_request}
 use Rattle.ptpm_world.proofs.Messages.{reply_action-is_reply, reply_at, request_at}
 use Rattle.ptpm_world.proofs.Reaching.{frame_at-is, no_report, told-message}
-use Rattle.ptpm_world.proofs.Refusals.{first_of-none}
 use Rattle.ptpm_world.proofs.Schedule.{reached}
 
 -- ---- the tests of a session, one by one

@@ -2,28 +2,22 @@
 use Rattle.std.proofs.Common.{suc, zero, arith, ◌≡◌, ℕ, ◌<◌, ◌≤◌, ◌-◌, ◌^◌, ◌&&◌, not, List, [], ◌∷◌, Option, Some, None, Bool, true, false, refl, sym, ◌∙◌, ap, subst, ⊎_elim, length}
 use Rattle.std.proofs.lemmas.Bool.{cases_Bool, and_parts, leb-true, eqb-true, eq-eqb, not-false, cond-true, cond-false, true≢false}
 use Rattle.std.specs.Prelude.{nat_lt, option_map, is_some, slice_get}
+use Rattle.std.specs.Option.{option_or}
 use Rattle.ptpm_codec.specs.Identity.{every_port}
 use Rattle.ptpm_codec.specs.Message.{IsDataField, is_reply}
+use Rattle.ptpm_codec.specs.Ordered.{first_of}
+use Rattle.ptpm_codec.proofs.OrderedLaws.{first_of-none, option_or-none}
 use Rattle.ptpm_data.specs.IdTable.{is_of_port}
 use Rattle.ptpm_manager.specs.declared.ask.Ask.{Ask}
 use Rattle.ptpm_manager.specs.declared.error.BeginError.TheVariants as begins
 use Rattle.ptpm_manager.specs.Ask as ask
 use Rattle.ptpm_manager.specs.Ask.{ask_refusal, is_data_field, names_port, named_port, target_port}
-use Rattle.ptpm_manager.specs.Ordered.{first_of, or_else}
 use Rattle.ptpm_manager.specs.Session.{SessionValue, begin_refusal, count_limit, is_waiting}
 use Rattle.ptpm_world.specs.Invariant.{IsAsked}
 use Rattle.ptpm_world.specs.State.{SessionState, is_idle, session_value}
 use Rattle.ptpm_world.specs.Network.{SessionStart}
 
 -- ---- tests in an order
-
-pub or_else-none : {A : Type 0} (o p : Option A) → or_else o p ≡ None → (o ≡ None) × (p ≡ None)
-or_else-none None p e = (refl, e)
-or_else-none (Some a) p e = absurd (cc)
-
-pub first_of-none : {A : Type 0} (b : Bool) (x : A) (rest : List (Bool × A)) → first_of ((b, x) ∷ rest) ≡ None → (b ≡ false) × (first_of rest ≡ None)
-first_of-none true x rest e = absurd (cc)
-first_of-none false x rest e = (refl, e)
 
 first_of_three-none : {A : Type 0} (a b c : Bool) (x y z : A) → first_of ((a, x) ∷ (b, y) ∷ (c, z) ∷ []) ≡ None → (a ≡ false) × (b ≡ false) × (c ≡ false)
 first_of_three-none a b c x y z e =
@@ -85,8 +79,8 @@ pub begin-not_refused : (s : SessionValue) (a : Ask) → begin_refusal s a ≡ N
 unfolding begin_refusal
 begin-not_refused s a e =
     let last = first_of ((not (nat_lt s.issued count_limit), begins.CountAtMaximum) ∷ []) in
-    let p = or_else-none (first_of ((is_waiting s, begins.Busy) ∷ [])) (or_else (ask_refusal s.setup.ports a) last) e in
-    ((first_of-none (is_waiting s) begins.Busy [] p.0).0, (or_else-none (ask_refusal s.setup.ports a) last p.1).0)
+    let p = option_or-none (first_of ((is_waiting s, begins.Busy) ∷ [])) (option_or (ask_refusal s.setup.ports a) last) e in
+    ((first_of-none (is_waiting s) begins.Busy [] p.0).0, (option_or-none (ask_refusal s.setup.ports a) last p.1).0)
 
 pub get-below : {X : Type 0} (xs : List X) (i : ℕ) → i < length xs → (x : X) × (slice_get xs i ≡ Some x)
 get-below [] i h = absurd (omega arith)

@@ -1,6 +1,7 @@
 -- What may happen in a network, and which events its state refuses.
 use Rattle.std.specs.Prelude.{ℕ, ◌<◌, ◌-◌, ◌^◌, ◌==◌, ◌&&◌, ◌||◌, nat_lt, nat_le, not, Bool, List, [], ◌∷◌, length, slice_get, Option, Some, None, option_map, if◌then◌else◌}
 use Rattle.std.specs.List.{list_any, range_with_len}
+use Rattle.std.specs.Option.{option_or}
 use Rattle.ptpm_codec.specs.declared.identity.PortIdentity.{PortIdentity}
 use Rattle.ptpm_codec.specs.Identity.{same_clock, same_identity}
 use Rattle.ptpm_codec.specs.Layout.{octet, source_port_identity}
@@ -9,7 +10,7 @@ use Rattle.ptpm_manager.specs.declared.ask.Ask.{Ask}
 use Rattle.ptpm_manager.specs.declared.error.BeginError.{BeginError}
 use Rattle.ptpm_manager.specs.declared.error.SendError.{SendError}
 use Rattle.ptpm_manager.specs.declared.error.SendError.TheVariants as sends
-use Rattle.ptpm_manager.specs.Ordered.{first_of, or_else}
+use Rattle.ptpm_codec.specs.Ordered.{first_of}
 use Rattle.ptpm_manager.specs.Session.{begin_refusal, send_refusal}
 use Rattle.ptpm_world.specs.Network.{Network, manager}
 use Rattle.ptpm_world.specs.State.{Frame, NetworkState, is_idle, session_value}
@@ -85,12 +86,12 @@ resume_refused w s = first_of ((is_idle (w.session s), SendRefused sends.Idle) �
 
 -- the first reason to refuse an event; want of memory is none
 unfoldable pub refusal : Network → NetworkState → Event → Option Refusal
-refusal N w (Begin s ask) = or_else (no_session N s) (begin_refused N w s ask)
-refusal N w (Send s) = or_else (no_session N s) (or_else (no_room w.frames) (send_refused N w s))
-refusal N w (Resume s attempts) = or_else (no_session N s) (resume_refused w s)
+refusal N w (Begin s ask) = option_or (no_session N s) (begin_refused N w s ask)
+refusal N w (Send s) = option_or (no_session N s) (option_or (no_room w.frames) (send_refused N w s))
+refusal N w (Resume s attempts) = option_or (no_session N s) (resume_refused w s)
 refusal N w (Retune s domain) = no_session N s
-refusal N w (Deliver n) = or_else (no_frame (frame_at w.frames n)) (no_room w.frames)
-refusal N w (Stranger c port datagram) = or_else (no_port N c port) (or_else (forged N datagram) (no_room w.frames))
+refusal N w (Deliver n) = option_or (no_frame (frame_at w.frames n)) (no_room w.frames)
+refusal N w (Stranger c port datagram) = option_or (no_port N c port) (option_or (forged N datagram) (no_room w.frames))
 
 -- ---- events of a program
 

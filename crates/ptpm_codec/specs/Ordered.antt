@@ -4,8 +4,3 @@ use Rattle.std.specs.Prelude.{Bool, List, [], ◌∷◌, Option, Some, None, if�
 abbrev pub first_of : {A : Type 0} → List (Bool × A) → Option A
 first_of [] = None
 first_of (t ∷ ts) = if t.0 then Some t.1 else first_of ts
-
--- the first of two answers that is there
-abbrev pub or_else : {A : Type 0} → Option A → Option A → Option A
-or_else (Some a) o = Some a
-or_else None o = o
