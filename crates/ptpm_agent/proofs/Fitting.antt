@@ -7,7 +7,6 @@ use Rattle.std.proofs.lemmas.List.Elements.{All-cons, All-map}
 use Rattle.std.specs.List.{All}
 use Rattle.ptpm_codec.specs.declared.error.ErrorId.{ErrorId}
 use Rattle.ptpm_codec.specs.declared.message.Action.{Action}
-use Rattle.ptpm_codec.specs.declared.message.Action.TheVariants as actions
 use Rattle.ptpm_codec.specs.declared.message.Body.{Body}
 use Rattle.ptpm_codec.specs.declared.message.Body.TheVariants as bodies
 use Rattle.ptpm_codec.specs.declared.message.Message.{Message}
@@ -18,12 +17,11 @@ use Rattle.ptpm_data.specs.IdTable.{is_of_port}
 use Rattle.ptpm_data.specs.Members.{DataSetsValue}
 use Rattle.ptpm_data.specs.Refusals.{refusal_of}
 use Rattle.ptpm_data.specs.RequestLaws.{IsOutcomeOf, IsSized, field_limit, is_get_or_set}
-use Rattle.ptpm_data.specs.Replies as replies
 use Rattle.ptpm_data.specs.Replies.{answer, answers_of, named_ports, port_answers, read_reply_to, reply_of, reply_to}
 use Rattle.ptpm_data.specs.Reply as reply
 use Rattle.ptpm_data.specs.Reply.{Answer, Outcome, ReplyValue}
 use Rattle.ptpm_data.specs.Request.{RequestValue}
-use Rattle.ptpm_table.specs.Entries.{FitsAnswer, FitsCount, FitsOutcome, FitsRequest, reply_action}
+use Rattle.ptpm_table.specs.Entries.{FitsAnswer, FitsCount, FitsOutcome, FitsRequest}
 use Rattle.ptpm_data.proofs.Keeping.{changed_by-ports, changed_by-sized}
 use Rattle.ptpm_data.proofs.ReplyLemmas.{reply_of-count, reply_of-outcomes}
 use Rattle.ptpm_agent.specs.Turn.{is_request, names_port, request_of}
@@ -79,17 +77,10 @@ count_fits : (b : Bool) (refusal : Option ErrorId) (q : RequestValue) (d : DataS
 count_fits true refusal q d count = count
 count_fits false refusal q d count = refl
 
-same_action : (a : Action) → replies.reply_action a ≡ reply_action a
-same_action actions.Get = refl
-same_action actions.Set = refl
-same_action actions.Command = refl
-same_action actions.Response = refl
-same_action actions.Acknowledge = refl
-
 FitsRequest-reply_of : (q : RequestValue) (refusal : Option ErrorId) (d : DataSetsValue) → IsSized d → IsRequestAction q.action → IsTargetPort q.port d → FitsRequest q (reply_of q refusal d)
 unfolding reply_of
 FitsRequest-reply_of q refusal d sized request target = record {
-  action = same_action q.action;
+  action = refl;
   id = refl;
   count = count_fits (is_of_port q.id) refusal q d (reply_of-count q refusal d target sized);
   answers = λ k x below. answer_fits (is_of_port q.id) q _ refl (answers-port (is_of_port q.id) refusal q d k x below) (reply_of-outcomes q refusal d request sized k x below);

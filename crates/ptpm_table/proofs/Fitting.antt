@@ -7,7 +7,8 @@ use Rattle.ptpm_data.specs.IdTable.{is_of_port}
 use Rattle.ptpm_data.specs.Reply as reply
 use Rattle.ptpm_data.specs.Reply.{Answer, Outcome, ReplyValue}
 use Rattle.ptpm_data.specs.Request.{RequestValue}
-use Rattle.ptpm_table.specs.Entries.{FitsAnswer, FitsCount, FitsOutcome, FitsRequest, reply_action}
+use Rattle.ptpm_data.specs.Replies.{reply_action}
+use Rattle.ptpm_table.specs.Entries.{FitsAnswer, FitsCount, FitsOutcome, FitsRequest}
 use Rattle.ptpm_table.specs.Rendering.{IsEvenOutcome, IsSendable}
 
 reply_action-is_reply : (a : Action) → is_reply (reply_action a) ≡ true

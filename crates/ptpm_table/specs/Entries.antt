@@ -10,6 +10,7 @@ use Rattle.ptpm_data.specs.IdTable.{is_of_port}
 use Rattle.ptpm_data.specs.Request.{RequestValue}
 use Rattle.ptpm_data.specs.Reply as reply
 use Rattle.ptpm_data.specs.Reply.{Answer, Outcome, ReplyValue}
+use Rattle.ptpm_data.specs.Replies.{reply_action}
 
 pub record Entry : Type 0 where
   pub number : ℕ
@@ -31,13 +32,6 @@ pub record HasEntry (entries : Entries) (who : PortIdentity) (n : ℕ) : Type 0 
   pub number_is : entry.number ≡ n
 
 -- ---- which replies may be kept for a request
-
-abbrev pub reply_action : Action → Action
-reply_action actions.Get = actions.Response
-reply_action actions.Set = actions.Response
-reply_action actions.Command = actions.Acknowledge
-reply_action actions.Response = actions.Response
-reply_action actions.Acknowledge = actions.Acknowledge
 
 abbrev pub IsCommand : Action → Type 0
 IsCommand action = action ≡ actions.Command

@@ -4,8 +4,9 @@ ghost use Rattle.std.specs.Prelude.{All, ◌≡◌, ◌+◌, ◌∷◌, ◌++◌
 ghost use Rattle.arrayvec.specs.ArrayVec.{array_vec_len};
 ghost use Rattle.ptpm_codec.specs.Canonical.{canonical};
 ghost use Rattle.ptpm_codec.specs.Message.{Fits, IsRequestAction, IsValid};
+ghost use Rattle.ptpm_data.specs.Replies.{reply_action};
 ghost use Rattle.ptpm_data.specs.Reply.{answer_of};
-ghost use Rattle.ptpm_table.specs.Entries.{FitsAnswer, FitsCount, reply_action};
+ghost use Rattle.ptpm_table.specs.Entries.{FitsAnswer, FitsCount};
 ghost use Rattle.ptpm_table.specs.KeptMessages.{AreSizes, IsKeptReply, answer_in, has_port, pieces, port_for, renewed};
 
 use crate::heard::Heard;

@@ -3,8 +3,9 @@
 ghost use Rattle.std.specs.Prelude.{◌≡◌, ◌<◌, ◌≤◌, [], length};
 ghost use Rattle.ptpm_codec.specs.Message.{IsDataField, IsRequestAction};
 ghost use Rattle.ptpm_data.specs.IdTable.{is_of_port};
+ghost use Rattle.ptpm_data.specs.Replies.{reply_action};
 ghost use Rattle.ptpm_data.specs.Reply.{Value as value_of, outcome_of};
-ghost use Rattle.ptpm_table.specs.Entries.{FitsAnswer, FitsRequest, reply_action};
+ghost use Rattle.ptpm_table.specs.Entries.{FitsAnswer, FitsRequest};
 
 use super::*;
 use arrayvec::ArrayVec;

@@ -25,7 +25,7 @@ use Rattle.ptpm_data.specs.Reply as reply
 use Rattle.ptpm_data.specs.Reply.{Answer, Outcome, ReplyValue}
 use Rattle.ptpm_data.specs.Request.{RequestValue}
 use Rattle.ptpm_table.specs.declared.heard.Heard.{Heard}
-use Rattle.ptpm_table.specs.Entries.{reply_action}
+use Rattle.ptpm_data.specs.Replies.{reply_action}
 use Rattle.ptpm_table.specs.Rendering.{answer_body, reply_message}
 use Rattle.ptpm_agent.specs.Forwarding.{egress_ports, forwarded, forwarded_by, is_forwarded, with_less_hop}
 use Rattle.ptpm_manager.specs.Setup.{request_message}

@@ -16,7 +16,7 @@ use Rattle.ptpm_codec.specs.Reading.{message_of, reading}
 use Rattle.ptpm_data.specs.IdTable.{is_of_port}
 use Rattle.ptpm_data.specs.Reply as reply
 use Rattle.ptpm_data.specs.Reply.{Answer, Outcome}
-use Rattle.ptpm_table.specs.Entries.{reply_action}
+use Rattle.ptpm_data.specs.Replies.{reply_action}
 use Rattle.ptpm_table.specs.Rendering.{answer_body}
 use Rattle.ptpm_table.proofs.Identities.{same_identity-refl, same_identity-true}
 use Rattle.ptpm_world.proofs.Identities.{same_clock-refl, same_clock-true}

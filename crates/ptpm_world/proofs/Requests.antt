@@ -13,14 +13,12 @@ use Rattle.ptpm_data.specs.IdTable.{is_of_port}
 use Rattle.ptpm_data.specs.Members.{DataSetsValue}
 use Rattle.ptpm_data.specs.Refusals.{refusal_of}
 use Rattle.ptpm_data.specs.Replies.{answer, answers_of, named_ports, outcome, port_answers, port_number, read_refusal, read_reply_to, reply_of, reply_to}
-use Rattle.ptpm_data.specs.Replies as replies
 use Rattle.ptpm_data.specs.Reply.{ReplyValue}
 use Rattle.ptpm_data.specs.Request.{RequestValue}
 use Rattle.ptpm_data.specs.RequestLaws.{IsFieldWithin, IsOneAnswer, IsSized, answerer, answerer_of, field_limit}
 use Rattle.ptpm_data.proofs.FieldSizes.{of_id}
 use Rattle.ptpm_data.proofs.Keeping.{changed_by-ports, changed_by-sized}
 use Rattle.ptpm_data.proofs.ReplyLemmas.{reply_of-one}
-use Rattle.ptpm_table.specs.Entries.{reply_action}
 use Rattle.ptpm_world.specs.DataSets.{Answers, AreDataSets, HasOneAnswer, IsForOne, IsSendable, IsSendableOutcome}
 use Rattle.ptpm_world.proofs.Lists.{all_made}
 
@@ -96,16 +94,9 @@ answers-sendable true q refusal d s =
     (named_ports q.port (length d.ports)) (named_ports-small q.port (length d.ports) s.at_most_eight)
 answers-sendable false q refusal d s = (record { port = tt; outcome = outcome-sendable refusal q.action q.id 0 d s }, tt)
 
-same_action : (action : Action) → replies.reply_action action ≡ reply_action action
-same_action actions.Get = refl
-same_action actions.Set = refl
-same_action actions.Command = refl
-same_action actions.Response = refl
-same_action actions.Acknowledge = refl
-
 reply_of-answers : (q : RequestValue) (refusal : Option ErrorId) (d : DataSetsValue) → IsSized d → Answers q (reply_of q refusal d)
 unfolding reply_of
-reply_of-answers q refusal d s = record { action = same_action q.action; id = refl; sendable = answers-sendable (is_of_port q.id) q refusal d s }
+reply_of-answers q refusal d s = record { action = refl; id = refl; sendable = answers-sendable (is_of_port q.id) q refusal d s }
 
 pub answered : (q : RequestValue) (r : Rights) (ports : ℕ) (d : DataSetsValue) → AreDataSets ports d → Answers q (reply_to q r d)
 unfolding reply_to

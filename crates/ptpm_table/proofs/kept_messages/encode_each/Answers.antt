@@ -1,5 +1,5 @@
 use Rattle.std.proofs.Common.{refl}
-use Rattle.ptpm_table.specs.Entries.{reply_action}
+use Rattle.ptpm_data.specs.Replies.{reply_action}
 use Rattle.ptpm_table.specs.KeptMessages.{Envelope}
 use Rattle.ptpm_table.proofs.KeptMessageLaws.{filled_after, has_room, made}
 use Rattle.ptpm_table.proofs.kept_messages.encode_each.Goals as goal

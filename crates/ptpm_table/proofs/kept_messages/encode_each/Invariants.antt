@@ -1,4 +1,4 @@
-use Rattle.ptpm_table.specs.Entries.{reply_action}
+use Rattle.ptpm_data.specs.Replies.{reply_action}
 use Rattle.ptpm_table.proofs.KeptMessageLaws.{IsFilled}
 use Rattle.ptpm_table.proofs.kept_messages.encode_each.Given as goal
 
