@@ -70,7 +70,7 @@ fn copy_answers(answers: &[PortAnswer], copies: &mut ArrayVec<PortAnswer, 8>)
     }
 }
 
-fn copy_what(what: &What) -> What
+pub(crate) fn copy_what(what: &What) -> What
     ensures { result ≡ what.now }
 {
     match what {

@@ -117,7 +117,8 @@ pub(crate) fn encode_each(
     }
 }
 
-fn reply_action(request: Action) -> Action
+/// The action that answers a request (15.4.1.6).
+pub(crate) fn reply_action(request: Action) -> Action
     ensures { result ≡ reply_action request }
 {
     match request {

@@ -1,15 +1,17 @@
 //! Worked examples, over both tables.
 
-ghost use Rattle.std.specs.Prelude.{◌≡◌, ◌<◌, ◌≤◌, [], length};
+ghost use Rattle.std.specs.Prelude.{◌≡◌, ◌<◌, ◌≤◌, [], length, true};
 ghost use Rattle.ptpm_codec.specs.Message.{IsDataField, IsRequestAction};
 ghost use Rattle.ptpm_data.specs.IdTable.{is_of_port};
 ghost use Rattle.ptpm_data.specs.Replies.{reply_action};
 ghost use Rattle.ptpm_data.specs.Reply.{Value as value_of, outcome_of};
-ghost use Rattle.ptpm_table.specs.Entries.{FitsAnswer, FitsRequest};
+ghost use Rattle.ptpm_table.specs.Entries.{FitsAnswer, FitsOutcome, FitsRequest};
 
 use super::*;
+use crate::kept::copy_what;
+use crate::kept_messages::reply_action;
 use arrayvec::ArrayVec;
-use ptpm_codec::{Action, ClockIdentity, ErrorId, PortIdentity};
+use ptpm_codec::{Action, ClockIdentity, ErrorId, OutOfMemory, PortIdentity};
 use ptpm_data::{PortAnswer, Reply, Request, Rights, What};
 use std::process::Abort;
 use std::test::Fail;
@@ -88,11 +90,20 @@ const PRIORITY2: u16 = 0x2006;
 
 const LOG_SYNC_INTERVAL: u16 = 0x200b;
 
+const USER_DESCRIPTION: u16 = 0x0002;
+
+const PORT_DATA_SET: u16 = 0x2004;
+
+const ENABLE_PORT: u16 = 0x200d;
+
+const DISABLE_PORT: u16 = 0x200e;
+
 #[test]
 fn kept_replies_of_a_plain_table(rt: HostRuntime) -> Result<(), Fail> {
     let two = [(M, Rights(7)), (M2, Rights(7))];
     set_log_sync_interval(&rt, &mut PlainTable::new(rt.alloc(), K, &two)?);
     repeat_gets_kept_reply(&rt, &mut PlainTable::new(rt.alloc(), K, &two)?);
+    same_number_other_request(&rt, &mut PlainTable::new(rt.alloc(), K, &two)?);
     numbers_wrap(&rt, &mut PlainTable::new(rt.alloc(), K, &two)?);
     half_the_number_space(&rt, &mut PlainTable::new(rt.alloc(), K, &two)?);
     Ok(())
@@ -103,8 +114,34 @@ fn kept_replies_of_a_bound_table(rt: HostRuntime) -> Result<(), Fail> {
     let two = [(M, Rights(7)), (M2, Rights(7))];
     set_log_sync_interval(&rt, &mut BoundTable::new(K, &two)?);
     repeat_gets_kept_reply(&rt, &mut BoundTable::new(K, &two)?);
+    same_number_other_request(&rt, &mut BoundTable::new(K, &two)?);
     numbers_wrap(&rt, &mut BoundTable::new(K, &two)?);
     half_the_number_space(&rt, &mut BoundTable::new(K, &two)?);
+    Ok(())
+}
+
+#[test]
+fn replies_of_ports_in_a_plain_table(rt: HostRuntime) -> Result<(), Fail> {
+    let two = [(M, Rights(7)), (M2, Rights(7))];
+    port_disabled(&rt, &mut PlainTable::new(rt.alloc(), K, &two)?);
+    refused_get_of_two_ports(&rt, &mut PlainTable::new(rt.alloc(), K, &two)?);
+    refused_command_of_two_ports(&rt, &mut PlainTable::new(rt.alloc(), K, &two)?);
+    values_of_two_ports(&rt, &mut PlainTable::new(rt.alloc(), K, &two)?);
+    values_of_eight_ports(&rt, &mut PlainTable::new(rt.alloc(), K, &two)?);
+    longest_user_description(&rt, &mut PlainTable::new(rt.alloc(), K, &two)?);
+    Ok(())
+}
+
+#[test]
+fn replies_of_ports_in_a_bound_table(rt: HostRuntime) -> Result<(), Fail> {
+    let two = [(M, Rights(7)), (M2, Rights(7))];
+    port_disabled(&rt, &mut BoundTable::new(K, &two)?);
+    refused_get_of_two_ports(&rt, &mut BoundTable::new(K, &two)?);
+    refused_command_of_two_ports(&rt, &mut BoundTable::new(K, &two)?);
+    values_of_two_ports(&rt, &mut BoundTable::new(K, &two)?);
+    values_of_eight_ports(&rt, &mut BoundTable::new(K, &two)?);
+    longest_user_description(&rt, &mut BoundTable::new(K, &two)?);
+    replaced_reply(&rt, &mut BoundTable::new(K, &two)?);
     Ok(())
 }
 
@@ -148,7 +185,17 @@ fn repeat_gets_kept_reply<T: ReplyTable>(rt: &impl Abort, table: &mut T) {
     };
     let second = reply_to(&changed, None, value(&[0x64, 0]));
     accept(rt, table, &M2, 1, &changed, &second);
-    // the same number with another request
+    let sent =
+        "0d12003800000000000000000000000000000000aabbccfffeddee0100010007047f00112233445566770001000002000001000420058000";
+    assert_resent(rt, table, &heard(&M, 0, 7, 1, 1), &asked, sent);
+}
+
+/// Another request under the number of the latest changes nothing.
+#[tactic(auto, unfolding(ptpm_data::specs::IdTable::row_of))]
+fn same_number_other_request<T: ReplyTable>(rt: &impl Abort, table: &mut T) {
+    let asked = get(PRIORITY1);
+    let reply = reply_to(&asked, None, value(&[0x80, 0]));
+    accept(rt, table, &M, 7, &asked, &reply);
     assert_eq!(rt; table.look(&M, 7, &get(PRIORITY2)), Look::Conflict);
     let sent =
         "0d12003800000000000000000000000000000000aabbccfffeddee0100010007047f00112233445566770001000002000001000420058000";
@@ -172,6 +219,259 @@ fn half_the_number_space<T: ReplyTable>(rt: &impl Abort, table: &mut T) {
     assert_eq!(rt; table.look(&M, 1, &asked), Look::Old);
     accept(rt, table, &M, 32770, &asked, &reply);
     assert_eq!(rt; table.look(&M, 1, &asked), Look::New);
+}
+
+/// A COMMAND is answered by an ACKNOWLEDGE with an empty dataField, from the port that it names, wherever its copy came in.
+#[tactic(auto, unfolding(ptpm_data::specs::IdTable::row_of))]
+fn port_disabled<T: ReplyTable>(rt: &impl Abort, table: &mut T) {
+    let asked = to_ports(Action::Command, DISABLE_PORT, 1);
+    let reply = reply_of_ports(&asked, 1, &What::Done);
+    accept(rt, table, &M, 7, &asked, &reply);
+    let sent =
+        "0d12003600000000000000000000000000000000aabbccfffeddee0100010007047f0011223344556677000100000400000100\
+        02200e";
+    assert_resent(rt, table, &heard(&M, 0, 7, 1, 1), &asked, sent);
+    assert_each_resent(rt, table, &heard(&M, 0, 7, 1, 1), 2, &asked, &[sent]);
+}
+
+/// A GET that the id does not permit, at every port of two: each refuses it.
+#[tactic(auto, unfolding(ptpm_data::specs::IdTable::row_of))]
+fn refused_get_of_two_ports<T: ReplyTable>(rt: &impl Abort, table: &mut T) {
+    let asked = to_ports(Action::Get, ENABLE_PORT, 0xffff);
+    let refused = What::Refused(ErrorId::NotSupported);
+    accept(
+        rt,
+        table,
+        &M,
+        5,
+        &asked,
+        &reply_of_ports(&asked, 2, &refused),
+    );
+    let first =
+        "0d12003c00000000000000000000000000000000aabbccfffeddee0100010005047f00112233445566770001000002000002000800062\
+        00d00000000";
+    let second =
+        "0d12003c00000000000000000000000000000000aabbccfffeddee0100020005047f00112233445566770001000002000002000800062\
+        00d00000000";
+    assert_each_resent(
+        rt,
+        table,
+        &heard(&M, 0, 5, 1, 1),
+        1,
+        &asked,
+        &[first, second],
+    );
+}
+
+/// A COMMAND without its right, at every port of two: each refuses it, by an ACKNOWLEDGE.
+#[tactic(auto, unfolding(ptpm_data::specs::IdTable::row_of))]
+fn refused_command_of_two_ports<T: ReplyTable>(rt: &impl Abort, table: &mut T) {
+    let refused = What::Refused(ErrorId::NotSupported);
+    let asked = to_ports(Action::Command, DISABLE_PORT, 0xffff);
+    accept(
+        rt,
+        table,
+        &M2,
+        6,
+        &asked,
+        &reply_of_ports(&asked, 2, &refused),
+    );
+    let first =
+        "0d12003c00000000000000000000000000000000aabbccfffeddee0100010006047f00112233445566880001000004000002000800062\
+        00e00000000";
+    let second =
+        "0d12003c00000000000000000000000000000000aabbccfffeddee0100020006047f00112233445566880001000004000002000800062\
+        00e00000000";
+    assert_each_resent(
+        rt,
+        table,
+        &heard(&M2, 0, 6, 1, 1),
+        1,
+        &asked,
+        &[first, second],
+    );
+}
+
+/// A SET at every port of two, answered to a copy in domain 9 that lost two hops and came in at port 2.
+#[tactic(auto, unfolding(ptpm_data::specs::IdTable::row_of))]
+fn values_of_two_ports<T: ReplyTable>(rt: &impl Abort, table: &mut T) {
+    let asked = Request {
+        action: Action::Set,
+        id: LOG_SYNC_INTERVAL,
+        port: 0xffff,
+        octets: &[1, 0],
+    };
+    let reply = reply_of_ports(&asked, 2, &value(&[1, 0]));
+    accept(rt, table, &M, 7, &asked, &reply);
+    let first =
+        "0d12003809000000000000000000000000000000aabbccfffeddee0100010007047f00112233445566770001020202000001000420\
+        0b0100";
+    let second =
+        "0d12003809000000000000000000000000000000aabbccfffeddee0100020007047f00112233445566770001020202000001000420\
+        0b0100";
+    assert_each_resent(
+        rt,
+        table,
+        &heard(&M, 9, 7, 5, 3),
+        2,
+        &asked,
+        &[first, second],
+    );
+}
+
+/// The most octets that a reply has: of eight ports, 80 octets each.
+#[tactic(auto, unfolding(ptpm_data::specs::IdTable::row_of))]
+fn values_of_eight_ports<T: ReplyTable>(rt: &impl Abort, table: &mut T) {
+    let asked = to_ports(Action::Get, PORT_DATA_SET, 0xffff);
+    let members = [
+        0xaa, 0xbb, 0xcc, 0xff, 0xfe, 0xdd, 0xee, 0x01, 0, 1, 6, 0, 0, 0, 0, 0, 0, 0, 0, 0, 1, 3,
+        0, 1, 0, 2,
+    ];
+    let reply = reply_of_ports(&asked, 8, &value(&members));
+    accept(rt, table, &M, 7, &asked, &reply);
+    let mut out = Outbox::new();
+    assert_eq!(rt; table.look(&M, 7, &asked), Look::Repeat);
+    table.resend(&heard(&M, 0, 7, 1, 1), 1, &mut out);
+    assert_eq!(rt; out.entries().len(), 8);
+    let before = "0d12005000000000000000000000000000000000aabbccfffeddee01";
+    let after =
+        "0007047f00112233445566770001000002000001001c2004aabbccfffeddee01000106000000000000000000010300010002";
+    for (place, entry) in out.entries().iter().enumerate() {
+        assert_eq!(rt; entry.0, 1);
+        match rest_after(entry.1.as_slice(), before.as_bytes()) {
+            Some([0, port, rest @ ..]) => {
+                assert!(rt;
+                    *port as usize == place + 1 && is_hex(rest, after.as_bytes()),
+                    "at {place}"
+                );
+            }
+            _ => assert!(rt; false, "at {place}"),
+        }
+    }
+}
+
+/// The longest message that a reply has: 184 octets, of a text of 128.
+#[tactic(auto, unfolding(ptpm_data::specs::IdTable::row_of))]
+fn longest_user_description<T: ReplyTable>(rt: &impl Abort, table: &mut T) {
+    let mut text = [b'x'; 130];
+    text[0] = 128;
+    text[129] = 0;
+    let asked = Request {
+        action: Action::Set,
+        id: USER_DESCRIPTION,
+        port: 0xffff,
+        octets: &text,
+    };
+    let reply = reply_to(&asked, None, value(&text));
+    accept(rt, table, &M, 7, &asked, &reply);
+    let mut out = Outbox::new();
+    assert_eq!(rt; table.look(&M, 7, &asked), Look::Repeat);
+    table.resend(&heard(&M, 0, 7, 1, 1), 2, &mut out);
+    assert_eq!(rt; out.entries().len(), 1);
+    let before =
+        "0d1200b800000000000000000000000000000000aabbccfffeddee0100020007047f0011223344556677000100000200000100840002";
+    for entry in out.entries() {
+        assert_eq!(rt; entry.0, 2);
+        match rest_after(entry.1.as_slice(), before.as_bytes()) {
+            Some(rest) => assert!(rt; rest == &text[..]),
+            None => assert!(rt; false, "not {before}"),
+        }
+    }
+}
+
+/// What cannot be refused stands in place of what was kept.
+#[tactic(auto, unfolding(ptpm_data::specs::IdTable::row_of))]
+fn replaced_reply<T: SureTable>(rt: &impl Abort, table: &mut T) {
+    let asked = get(PRIORITY1);
+    accept(
+        rt,
+        table,
+        &M,
+        7,
+        &asked,
+        &reply_to(&asked, None, value(&[0x80, 0])),
+    );
+    let changed = Request {
+        action: Action::Set,
+        id: PRIORITY1,
+        port: 0xffff,
+        octets: &[0x64, 0],
+    };
+    let reply = reply_to(&changed, None, value(&[0x64, 0]));
+    assert!(rt; table.knows(&M));
+    table.replace(&M, 8, &changed, &reply);
+    assert_eq!(rt; table.look(&M, 7, &asked), Look::Old);
+    let sent =
+        "0d12003800000000000000000000000000000000aabbccfffeddee0100010008047f00112233445566770001000002000001000420056400";
+    assert_resent(rt, table, &heard(&M, 0, 8, 1, 1), &changed, sent);
+}
+
+#[test]
+fn plain_table_new_succeeds_with_ample_memory(rt: HostRuntime) -> Result<(), Fail> {
+    let two = [(M, Rights(7)), (M2, Rights(0))];
+    knows_its_managers(&rt, &PlainTable::new(rt.alloc(), K, &two)?);
+    Ok(())
+}
+
+#[test]
+#[tactic(auto, unfolding(ptpm_data::specs::IdTable::row_of))]
+fn keep_succeeds_with_ample_memory(rt: HostRuntime) -> Result<(), Fail> {
+    let mut table = PlainTable::new(rt.alloc(), K, &[(M, Rights(7))])?;
+    let asked = get(PRIORITY1);
+    let reply = reply_to(&asked, None, value(&[0x80, 0]));
+    assert!(rt; table.knows(&M));
+    assert_eq!(rt; table.keep(&M, 7, &asked, &reply), Ok(()));
+    assert_eq!(rt; table.look(&M, 7, &asked), Look::Repeat);
+    Ok(())
+}
+
+/// To be run with each allocation refused in turn: a table that is refused memory stays as it was, and the same call then
+/// answers as it would have.
+#[test]
+#[tactic(auto, unfolding(ptpm_data::specs::IdTable::row_of))]
+fn refused_memory_changes_nothing(rt: HostRuntime) -> Result<(), Fail> {
+    let two = [(M, Rights(7)), (M2, Rights(0))];
+    let made = PlainTable::new(rt.alloc(), K, &two);
+    if let Err(error) = &made {
+        assert_eq!(rt; *error, TableError::OutOfMemory);
+    }
+    let mut table = match made {
+        Ok(table) => table,
+        Err(_) => PlainTable::new(rt.alloc(), K, &two)?,
+    };
+    knows_its_managers(&rt, &table);
+    let long = set_port(&[0xff, 0]);
+    let value = reply_to(&long, Some(1), value(&[0xff, 0]));
+    keep_twice_at_most(&rt, &mut table, &M, 7, &long, &value);
+    keep_twice_at_most(&rt, &mut table, &M2, 7, &long, &value);
+    keep_twice_at_most(&rt, &mut table, &M, 8, &long, &value);
+    Ok(())
+}
+
+/// Keeps a new request, and where memory is refused does it once more.
+fn keep_twice_at_most<T: ReplyTable>(
+    rt: &impl Abort,
+    table: &mut T,
+    who: &PortIdentity,
+    number: u16,
+    request: &Request<'_>,
+    reply: &Reply,
+)
+    requires action { IsRequestAction request.now.action }
+    requires octets { IsDataField request.now.octets }
+    requires fits { FitsRequest request.now reply.now }
+{
+    assert!(rt; table.knows(who));
+    let before = table.look(who, number.wrapping_sub(1), request);
+    assert_eq!(rt; table.look(who, number, request), Look::New);
+    if let Err(error) = table.keep(who, number, request, reply) {
+        assert_eq!(rt; error, OutOfMemory);
+        assert_eq!(rt; table.look(who, number, request), Look::New);
+        assert_eq!(rt; table.look(who, number.wrapping_sub(1), request), before);
+        assert!(rt; table.knows(who));
+        assert_eq!(rt; table.keep(who, number, request, reply), Ok(()));
+    }
+    assert_eq!(rt; table.look(who, number, request), Look::Repeat);
 }
 
 /// Keeps a new request of a manager, as an agent does.
@@ -200,28 +500,51 @@ fn assert_resent<T: ReplyTable>(
     request: &Request<'_>,
     sent: &str,
 ) {
+    assert_each_resent(rt, table, heard, 1, request, &[sent]);
+}
+
+/// Checks what is sent at a port for a copy that is a repeat.
+fn assert_each_resent<T: ReplyTable>(
+    rt: &impl Abort,
+    table: &T,
+    heard: &Heard,
+    ingress: u16,
+    request: &Request<'_>,
+    sent: &[&str],
+) {
     assert_eq!(rt;
         table.look(&heard.source, heard.number, request),
         Look::Repeat
     );
     let mut out = Outbox::new();
-    table.resend(heard, 1, &mut out);
-    match out.entries() {
-        [(port, octets)] => {
-            assert_eq!(rt; *port, 1);
-            assert!(rt; is_hex(octets.as_slice(), sent.as_bytes()), "not {sent}");
-        }
-        _ => assert!(rt; false, "one message"),
+    table.resend(heard, ingress, &mut out);
+    let entries = out.entries();
+    assert_eq!(rt; entries.len(), sent.len());
+    for (entry, digits) in entries.iter().zip(sent.iter()) {
+        assert_eq!(rt; entry.0, ingress);
+        assert!(rt;
+            is_hex(entry.1.as_slice(), digits.as_bytes()),
+            "not {digits}"
+        );
     }
 }
 
 fn is_hex(octets: &[u8], digits: &[u8]) -> bool {
+    matches!(rest_after(octets, digits), Some([]))
+}
+
+/// What follows the octets of these digits, where octets begin with them.
+fn rest_after<'a>(octets: &'a [u8], digits: &[u8]) -> Option<&'a [u8]> {
     match (octets, digits) {
-        ([], []) => true,
+        (rest, []) => Some(rest),
         ([octet, octets @ ..], [high, low, digits @ ..]) => {
-            digit(octet / 16) == *high && digit(octet % 16) == *low && is_hex(octets, digits)
+            if digit(octet / 16) == *high && digit(octet % 16) == *low {
+                rest_after(octets, digits)
+            } else {
+                None
+            }
         }
-        _ => false,
+        _ => None,
     }
 }
 
@@ -232,7 +555,8 @@ fn digit(n: u8) -> u8
 }
 
 fn heard(source: &PortIdentity, domain: u8, number: u16, starting_hops: u8, hops: u8) -> Heard
-    ensures { result.source ≡ source.now }
+    ensures source { result.source ≡ source.now }
+    ensures number { result.number ≡ number }
 {
     Heard {
         domain,
@@ -250,6 +574,18 @@ fn get(id: u16) -> Request<'static>
         action: Action::Get,
         id,
         port: 0xffff,
+        octets: &[],
+    }
+}
+
+/// A request without data for an id of the ports.
+fn to_ports(action: Action, id: u16, port: u16) -> Request<'static>
+    ensures { result ≡ record { action = action; id = id; port = port; octets = [] } }
+{
+    Request {
+        action,
+        id,
+        port,
         octets: &[],
     }
 }
@@ -281,8 +617,30 @@ fn reply_to(request: &Request<'_>, port: Option<u16>, what: What) -> Reply
     }
 }
 
+/// The reply of the ports from 1 to this one, each with this outcome.
+fn reply_of_ports(request: &Request<'_>, ports: usize, what: &What) -> Reply
+    requires some { 1 ≤ ports }
+    requires few { ports ≤ 8 }
+    requires of_port { is_of_port request.now.id ≡ true }
+    requires fits { FitsOutcome request.now.action 26 (outcome_of what.now) }
+    ensures { FitsRequest request.now result }
+{
+    let mut answers = ArrayVec::new();
+    for port in 0..ports {
+        answers.push(PortAnswer {
+            port: Some(port as u16 + 1),
+            what: copy_what(what),
+        });
+    }
+    Reply {
+        action: reply_action(request.action),
+        id: request.id,
+        answers,
+    }
+}
+
 fn value(octets: &[u8]) -> What
-    requires { length octets.now ≤ 26 }
+    requires { length octets.now ≤ 130 }
     ensures { outcome_of result ≡ value_of octets.now }
 {
     let mut copy = ArrayVec::new();

@@ -1,4 +1,4 @@
-use Rattle.std.proofs.Common.{suc, zero, arith, ◌≡◌, ◌≤◌, ℕ, Bool, true, false, refl, sym, ◌∙◌, ap, map, ◌++◌, subst, List, [], ◌∷◌, length, All}
+use Rattle.std.proofs.Common.{suc, zero, arith, ◌≡◌, Bool, true, false, refl, sym, ◌∙◌, ap, map, ◌++◌, subst, List, [], ◌∷◌, length, All}
 use Rattle.ptpm_codec.specs.declared.message.Action.TheVariants as actions
 use Rattle.ptpm_data.specs.declared.reply.PortAnswer.{PortAnswer}
 use Rattle.ptpm_data.specs.IdTable.{is_of_port}
