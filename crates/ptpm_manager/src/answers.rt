@@ -1,6 +1,7 @@
 //! The answers that a survey keeps.
 
 ghost use Rattle.std.specs.Prelude.{◌≡◌, ◌++◌, ◌∷◌, [], false, Ok, IfOk, OnErr, OnOk};
+ghost use Rattle.ptpm_manager.specs.declared.receiving.Surveyed.{Surveyed};
 ghost use Rattle.ptpm_manager.specs.Answers.{has_answered, kept_by, surveyed_by};
 ghost use Rattle.ptpm_manager.specs.Report.{outcome_of};
 
@@ -21,6 +22,7 @@ pub(crate) fn keep(
 ) -> Result<Surveyed, OutOfMemory>
     ensures exact { IfOk result (λ surveyed. surveyed ≡ surveyed_by answers.old.entries (Ok (message.now.source, outcome_of message.now.body))) }
     ensures kept { OnOk result (answers.new.entries ≡ kept_by answers.old.entries (Ok (message.now.source, outcome_of message.now.body))) }
+    ensures memory { OnErr result (surveyed_by answers.old.entries (Ok (message.now.source, outcome_of message.now.body)) ≡ Surveyed.Taken) }
     ensures unchanged { OnErr result (answers.new.entries ≡ answers.old.entries) }
 {
     let source = message.source();

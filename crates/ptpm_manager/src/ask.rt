@@ -1,7 +1,8 @@
 //! What is asked of a session.
 
-ghost use Rattle.std.specs.Prelude.{◌≡◌, None, Some, IfOk, MatchResult};
+ghost use Rattle.std.specs.Prelude.{◌≡◌, ◌≢◌, None, Some, IfErr, IfOk, MatchResult};
 ghost use Rattle.ptpm_data.specs.IdTable.{is_of_port};
+ghost use Rattle.ptpm_manager.specs.declared.error.BeginError.{BeginError};
 ghost use Rattle.ptpm_manager.specs.Ask.{ask_refusal, is_data_field, names_port, pending_request, request_of, target_port};
 ghost use Rattle.ptpm_manager.specs.Receiving.{is_content};
 
@@ -39,7 +40,8 @@ impl Ask {
     /// Judges an ask by itself, at a clock of this many ports.
     #[tactic(auto, unfolding(crate::specs::Ask::ask_refusal))]
     pub(crate) fn judge(&self, ports: u16) -> Result<(), BeginError>
-        ensures { MatchResult result (λ _. ask_refusal ports self.now ≡ None) (λ e. ask_refusal ports self.now ≡ Some e) }
+        ensures refusal { MatchResult result (λ _. ask_refusal ports self.now ≡ None) (λ e. ask_refusal ports self.now ≡ Some e) }
+        ensures not_busy { IfErr result (λ e. e ≢ BeginError.Busy) }
     {
         if is_of_port(self.id) && !names_port(ports, self.port) {
             return Err(BeginError::NeedsPort);

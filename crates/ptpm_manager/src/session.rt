@@ -1,6 +1,6 @@
 //! A session: one manager's requests to one clock, one at a time.
 
-ghost use Rattle.std.specs.Prelude.{◌≡◌, ◌≢◌, ◌≤◌, true, false, Ok, Err, None, Some, IfErr, IfOk, MatchResult, OnErr, OnOk};
+ghost use Rattle.std.specs.Prelude.{◌≡◌, ◌≢◌, ◌≤◌, ◌↔◌, true, false, Ok, Err, None, Some, IfErr, IfOk, IsErrOf, MatchResult, OnErr, OnOk};
 ghost use Rattle.ptpm_codec.specs.declared.message.Message.{Message};
 ghost use Rattle.ptpm_codec.specs.Canonical.{canonical};
 ghost use Rattle.ptpm_codec.specs.Message.{Fits, IsValid};
@@ -114,6 +114,7 @@ impl Session {
         ensures permitted { OnOk result (begin_refusal self.old ask.now ≡ None) }
         ensures request { OnOk result (IsRequestTo self.old.setup.ports (request_of ask.now)) }
         ensures counted { OnOk result (answered_count self.new ≡ answered_count self.old) }
+        ensures busy { IsErrOf result BeginError.Busy ↔ (is_waiting self.old ≡ true) }
         ensures refused { (e : BeginError) → begin_refusal self.old ask.now ≡ Some e → result ≡ Err e }
         ensures no_other { IfErr result (λ e. e ≢ BeginError.OutOfMemory → begin_refusal self.old ask.now ≡ Some e) }
         ensures unchanged { OnErr result (self.new ≡ self.old) }

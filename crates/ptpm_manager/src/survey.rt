@@ -2,6 +2,8 @@
 
 ghost use Rattle.std.specs.Prelude.{◌≡◌, ◌++◌, ◌∷◌, [], IfOk, List, OnErr, OnOk, ℕ};
 ghost use Rattle.ptpm_codec.specs.Canonical.{canonical};
+ghost use Rattle.ptpm_codec.specs.Message.{Fits, IsValid};
+ghost use Rattle.ptpm_manager.specs.declared.receiving.Surveyed.{Surveyed};
 ghost use Rattle.ptpm_manager.specs.Answers.{first_of_each_source, heard, kept_by, surveyed_by};
 ghost use Rattle.ptpm_manager.specs.Enquiry.{survey_message};
 
@@ -33,6 +35,7 @@ impl Model for Survey {
 
 impl Survey {
     /// A survey of an id, with no answers. Its GET has this sequence number, and `hops` in both hop fields. Takes no memory.
+    #[tactic(auto, unfolding(crate::specs::Answers::first_of_each_source))]
     pub fn new(
         alloc: Global,
         me: PortIdentity,
@@ -43,6 +46,7 @@ impl Survey {
     ) -> Survey
         ensures enquiry { result.enquiry ≡ record { me = me; domain = domain; number = number; hops = hops; id = id } }
         ensures answers { result.answers ≡ [] }
+        ensures first { result.answers ≡ first_of_each_source result.enquiry [] }
     {
         Survey {
             alloc,
@@ -59,7 +63,8 @@ impl Survey {
 
     /// Leaves the GET in the buffer. Takes no memory.
     pub fn send(&self, buffer: &mut Buffer)
-        ensures { buffer.new.items ≡ canonical (survey_message self.now.enquiry) }
+        ensures octets { buffer.new.items ≡ canonical (survey_message self.now.enquiry) }
+        ensures valid { IsValid (survey_message self.now.enquiry) × Fits (survey_message self.now.enquiry) }
     {
         encode(&self.enquiry.draft(), buffer);
     }
@@ -71,8 +76,8 @@ impl Survey {
         &self.answers
     }
 
-    /// Judges a datagram, and keeps its answer where it is the first of its port and there is room. Where memory is
-    /// refused, the survey stays as it was.
+    /// Judges a datagram, and keeps its answer where it is the first of its port and there is room. Memory is asked for
+    /// that alone; where it is refused, the survey stays as it was.
     pub fn receive(&mut self, datagram: &[u8]) -> Result<Surveyed, OutOfMemory>
         ensures exact { IfOk result (λ surveyed. surveyed ≡ surveyed_by self.old.answers (heard self.old.enquiry datagram.now)) }
         ensures kept { OnOk result (self.new.answers ≡ kept_by self.old.answers (heard self.old.enquiry datagram.now)) }
@@ -80,6 +85,7 @@ impl Survey {
         ensures first { (datagrams : List (List ℕ)) → self.old.answers ≡ first_of_each_source self.old.enquiry datagrams →
             OnOk result (self.new.answers ≡ first_of_each_source self.old.enquiry (datagrams ++ datagram.now ∷ [])) }
         ensures enquiry { self.new.enquiry ≡ self.old.enquiry }
+        ensures memory { OnErr result (surveyed_by self.old.answers (heard self.old.enquiry datagram.now) ≡ Surveyed.Taken) }
         ensures unchanged { OnErr result (self.new ≡ self.old) }
     {
         match self.enquiry.answer_in(datagram) {

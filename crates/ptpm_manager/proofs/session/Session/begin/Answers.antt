@@ -7,7 +7,7 @@ use Rattle.ptpm_manager.proofs.session.Session.begin.Goals as goal
 
 pub invariant_of-self : goal.invariant_of-self
 invariant_of-self c =
-    let asked = request_of-permitted c.self.inside.setup.ports c.args.ask.now c.in_ok-judge.ensures in
+    let asked = request_of-permitted c.self.inside.setup.ports c.args.ask.now c.in_ok-judge.ensures.refusal in
     record {
       limit = omega arith;
       state_at = record {
@@ -19,4 +19,4 @@ invariant_of-self c =
 pub returns-in-Ok-clause-request : goal.returns-in-Ok-clause-request
 returns-in-Ok-clause-request c =
     subst (λ (s : SessionValue). IsRequestTo s.setup.ports (request_of c.args.ask.now)) c.self.view_is
-    (request_of-permitted c.self.inside.setup.ports c.args.ask.now c.in_ok-judge.ensures)
+    (request_of-permitted c.self.inside.setup.ports c.args.ask.now c.in_ok-judge.ensures.refusal)
