@@ -4,3 +4,4 @@ pub mod Entries
 pub mod Turns
 pub mod AtMostOnce
 pub mod Fitting
+pub mod Refused

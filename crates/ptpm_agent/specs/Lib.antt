@@ -4,3 +4,4 @@ pub mod Once
 pub mod Window
 pub mod Laws
 pub mod Agent
+pub mod VerdictText

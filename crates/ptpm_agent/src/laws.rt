@@ -2,9 +2,14 @@
 //! and speaks of the definitions alone.
 
 ghost use Rattle.std.specs.Prelude.{◌≡◌, ◌∷◌, [], ◌++◌, ℕ, false, List, None, Some};
+ghost use Rattle.std.specs.List.{Contains};
+ghost use Rattle.ptpm_codec.specs.declared.error.ErrorId.{ErrorId};
 ghost use Rattle.ptpm_codec.specs.declared.identity.PortIdentity.{PortIdentity};
+ghost use Rattle.ptpm_codec.specs.declared.message.Message.{Message};
+ghost use Rattle.ptpm_codec.specs.Reading.{message_of};
 ghost use Rattle.ptpm_data.specs.Members.{DataSetsValue};
-ghost use Rattle.ptpm_agent.specs.Turn.{Clock, State, outbox_of, turn};
+ghost use Rattle.ptpm_data.specs.Reply.{Answer, Refused, ReplyValue};
+ghost use Rattle.ptpm_agent.specs.Turn.{Clock, State, judged, outbox_of, reply_by, turn};
 ghost use Rattle.ptpm_agent.specs.Once.{Delivery, History, RequestCopy, after_copy, applied_once, beginning, copy_of, due_reply, joins};
 ghost use Rattle.ptpm_agent.specs.Window.{IsInTime, KeepsWindow};
 ghost use Rattle.ptpm_agent.specs.Laws.{AreOfManagers, StandsAt, due_messages, fresh, turns};
@@ -58,4 +63,13 @@ pub fn only_managers()
     ensures first { (c : Clock) (d : DataSetsValue) → AreOfManagers c (fresh d).entries }
     ensures next { (c : Clock) (s : State) (ingress : ℕ) (datagram : List ℕ) → AreOfManagers c s.entries →
         AreOfManagers c (turn c s ingress datagram).next.entries }
+{}
+
+/// A request that is refused, for whatever reason and whoever sent it, leaves the data sets as they were: where the reply to
+/// a datagram has an error, they stay.
+pub fn refused_changes_no_data()
+    ensures { (c : Clock) (s : State) (ingress : ℕ) (datagram : List ℕ) (v : Message) (r : ReplyValue) (a : Answer) (error : ErrorId) →
+        message_of datagram ≡ Some v → reply_by (judged c s v) c s v ≡ Some r →
+        Contains r.answers a → a.outcome ≡ Refused error →
+        (turn c s ingress datagram).next.sets ≡ s.sets }
 {}

@@ -8,7 +8,9 @@ mod laws;
 mod verdict;
 
 pub use agent::Agent;
-pub use laws::{at_most_once, no_copy_forwarded, one_delivery, only_managers};
+pub use laws::{
+    at_most_once, no_copy_forwarded, one_delivery, only_managers, refused_changes_no_data,
+};
 pub use verdict::Verdict;
 
 #[cfg(test)]

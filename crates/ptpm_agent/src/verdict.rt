@@ -1,5 +1,8 @@
 //! What a clock decides on a datagram.
 
+ghost use Rattle.std.specs.Prelude.{◌≡◌};
+ghost use Rattle.ptpm_agent.specs.VerdictText.{malformed_text};
+
 use ptpm_codec::DecodeError;
 use std::fmt;
 
@@ -31,9 +34,14 @@ pub enum Verdict {
 
 /// The name, as `AnsweredNew`; behind `Malformed` the name of its cause.
 impl fmt::Display for Verdict {
+    ghost use Rattle.std.specs.Prelude.{Some};
+    ghost use Rattle.ptpm_agent.specs.VerdictText.{verdict_text};
+
+    ghost output = { λ verdict. Some (verdict_text verdict) };
+
     fn fmt<W: fmt::Write>(&self, f: &mut fmt::Formatter<W>) -> fmt::Result {
-        let name = match self {
-            Verdict::Malformed(cause) => return write!(f, "Malformed {cause}"),
+        f.write_str(match self {
+            Verdict::Malformed(cause) => malformed(*cause),
             Verdict::OtherDomain => "OtherDomain",
             Verdict::OwnMessage => "OwnMessage",
             Verdict::NotAddressed => "NotAddressed",
@@ -43,7 +51,23 @@ impl fmt::Display for Verdict {
             Verdict::DroppedOld => "DroppedOld",
             Verdict::DroppedConflict => "DroppedConflict",
             Verdict::AnsweredUnnumbered => "AnsweredUnnumbered",
-        };
-        f.write_str(name)
+        })
+    }
+}
+
+/// `Malformed` and the name of the cause.
+fn malformed(cause: DecodeError) -> &'static str
+    ensures { result.now ≡ malformed_text cause }
+{
+    match cause {
+        DecodeError::TooShort => "Malformed TooShort",
+        DecodeError::NotManagement => "Malformed NotManagement",
+        DecodeError::BadVersion => "Malformed BadVersion",
+        DecodeError::BadLength => "Malformed BadLength",
+        DecodeError::BadAction => "Malformed BadAction",
+        DecodeError::BadTlvType => "Malformed BadTlvType",
+        DecodeError::BadTlvLength => "Malformed BadTlvLength",
+        DecodeError::BadText => "Malformed BadText",
+        DecodeError::OutOfMemory => "Malformed OutOfMemory",
     }
 }

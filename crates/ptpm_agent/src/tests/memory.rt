@@ -1,0 +1,29 @@
+//! Calls that take memory.
+
+use super::clocks::{GET_PRIORITY1, K, MANAGERS, agent, start_of};
+use crate::Verdict;
+use ptpm_data::PortStart;
+use ptpm_table::{Outbox, PlainTable};
+use std::test::Fail;
+
+/// The reply to the GET of PRIORITY1.
+const PRIORITY1_IS_128: [u8; 56] = [
+    0x0d, 0x12, 0x00, 0x38, 0x00, 0x00, 0, 0, 0, 0, 0, 0, 0, 0, 0, 0, 0, 0, 0, 0, 0xaa, 0xbb, 0xcc,
+    0xff, 0xfe, 0xdd, 0xee, 0x01, 0x00, 0x01, 0x00, 0x07, 0x04, 0x7f, 0x00, 0x11, 0x22, 0x33, 0x44,
+    0x55, 0x66, 0x77, 0x00, 0x01, 0x00, 0x00, 0x02, 0x00, 0x00, 0x01, 0x00, 0x04, 0x20, 0x05, 0x80,
+    0x00,
+];
+
+#[test]
+fn try_handle_succeeds_with_ample_memory(rt: HostRuntime) -> Result<(), Fail> {
+    let table = PlainTable::new(rt.alloc(), K, &MANAGERS)?;
+    let mut clock = agent(&rt, &start_of(&[PortStart::new(); 2]), table)?;
+    let mut out = Outbox::new();
+    assert!(rt; clock.sets().has_port(1));
+    let verdict = clock.try_handle(1, &GET_PRIORITY1, &mut out);
+    assert_eq!(rt; verdict, Ok(Verdict::AnsweredNew));
+    assert_eq!(rt; out.entries().len(), 1);
+    assert_eq!(rt; out.entries()[0].0, 1);
+    assert_eq!(rt; out.entries()[0].1.as_slice(), PRIORITY1_IS_128.as_slice());
+    Ok(())
+}
