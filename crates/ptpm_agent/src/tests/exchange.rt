@@ -4,6 +4,8 @@
 //! its managers, `S` a stranger's, `A`, `B` and `C` three clocks of a ring, `E` every clock; `127*41` is 127 times 41. Then
 //! `in:PORT:VERDICT` hands the octets so far to the clock, and `out:PORT` says that they are the next message that it sends.
 
+ghost use Rattle.std.specs.Prelude.{◌<◌};
+
 use super::clocks::{Hears, K, M, M2, Start, Sure, Tried, agent, start_of};
 use super::refusing::Refusing;
 use arrayvec::{ArrayString, ArrayVec};

@@ -22,7 +22,7 @@ enum Sent {
 fn what_goes_out(out: &Outbox) -> Sent {
     match out.entries() {
         [] => Sent::Nothing,
-        [(2, copy)] if copy.len() == 54 => Sent::Copy,
+        [entry] if entry.0 == 2 && entry.1.len() == 54 => Sent::Copy,
         _ => Sent::Replies,
     }
 }
