@@ -95,6 +95,29 @@ fn decode_succeeds_with_ample_memory(rt: HostRuntime) -> Result<(), Fail> {
     Ok(())
 }
 
+/// With memory refused once, at any request for it, a call that is made again answers as it would have:
+/// `rt try --test --fail-alloc N` refuses the Nth.
+#[test]
+fn refused_memory_leaves_nothing_behind(rt: HostRuntime) -> Result<(), Fail> {
+    let alloc = rt.alloc();
+    let octets = match Octets::copy_of(alloc, &[1, 2, 3]) {
+        Err(OutOfMemory) => Octets::copy_of(alloc, &[1, 2, 3]),
+        copy => copy,
+    };
+    assert_eq!(rt; octets?.as_slice(), [1, 2, 3].as_slice());
+    let messages: [&[u8]; 3] = [REQUEST, REPLY, REFUSAL];
+    for octets in messages {
+        let message = match decode(alloc, octets) {
+            Err(DecodeError::OutOfMemory) => decode(alloc, octets),
+            answer => answer,
+        };
+        let mut buffer = Buffer::new();
+        encode(&message?.draft(), &mut buffer);
+        assert_eq!(rt; buffer.as_slice(), octets);
+    }
+    Ok(())
+}
+
 #[test]
 fn get_priority1(rt: HostRuntime) -> Result<(), Fail> {
     let request = view(REQUEST)?;
@@ -121,6 +144,26 @@ fn get_priority1(rt: HostRuntime) -> Result<(), Fail> {
     let reply = view(REPLY)?;
     assert_eq!(rt; (reply.action(), reply.id()), (Action::Response, 0x2005));
     assert_eq!(rt; reply.octets(), [0x80, 0x00].as_slice());
+    Ok(())
+}
+
+#[test]
+fn get_with_data_and_trailing_octets(rt: HostRuntime) -> Result<(), Fail> {
+    let edits = [(1, 0x02), (3, 0x38), (31, 0x08), (51, 0x04)];
+    let datagram = edited(REQUEST, &edits, &[0; 4]);
+    let request = view(datagram.as_slice())?;
+    assert_eq!(rt; (request.number(), request.id()), (8, 0x2005));
+    assert_eq!(rt; request.octets(), [0x00, 0x00].as_slice());
+
+    // Sent on, it has minorVersionPTP 1, and nothing behind messageLength.
+    let message = decode(rt.alloc(), datagram.as_slice())?;
+    let mut buffer = Buffer::new();
+    encode(&message.draft(), &mut buffer);
+    let edits = [(3, 0x38), (31, 0x08), (51, 0x04)];
+    assert_eq!(rt;
+        buffer.as_slice(),
+        edited(REQUEST, &edits, &[0; 2]).as_slice()
+    );
     Ok(())
 }
 
@@ -168,15 +211,20 @@ fn error_status_texts(rt: HostRuntime) -> Result<(), Fail> {
     Ok(())
 }
 
-#[test]
-fn make_and_limits(rt: HostRuntime) -> Result<(), Fail> {
-    let largest = edited(
+/// GET PRIORITY1 with the greatest dataField, 1,418 octets, in 1,472.
+fn largest() -> Buffer {
+    edited(
         REQUEST,
         &[(2, 0x05), (3, 0xc0), (50, 0x05), (51, 0x8c)],
         &[0x5a; 1418],
-    );
+    )
+}
+
+#[test]
+fn make_and_limits(rt: HostRuntime) -> Result<(), Fail> {
+    let largest = largest();
     assert_eq!(rt; view(largest.as_slice())?.octets().len(), 1418);
-    let mut message = decode(rt.alloc(), largest.as_slice())?;
+    let message = decode(rt.alloc(), largest.as_slice())?;
     let mut buffer = Buffer::new();
     encode(&message.draft(), &mut buffer);
     assert_eq!(rt; buffer.as_slice(), largest.as_slice());
@@ -190,7 +238,12 @@ fn make_and_limits(rt: HostRuntime) -> Result<(), Fail> {
         decode(rt.alloc(), longer.as_slice()).err(),
         Some(DecodeError::BadLength)
     );
+    Ok(())
+}
 
+#[test]
+fn values_past_a_limit_are_not_valid(rt: HostRuntime) -> Result<(), Fail> {
+    let mut message = decode(rt.alloc(), largest().as_slice())?;
     message.sdo = 0x0fff;
     assert!(rt; message.valid());
     message.sdo = 0x1000;
