@@ -1,22 +1,16 @@
 -- The start of the clock that is shown has no fault.
-use Rattle.std.proofs.Common.{◌≡◌, ℕ, List, [], ◌∷◌, Result, Ok, Err, refl}
+use Rattle.std.proofs.Common.{◌≡◌, ℕ, [], ◌∷◌, Result, Ok, Err, refl}
 use Rattle.std.specs.Str.{is_utf8, chars}
-use Rattle.ptpm_codec.specs.declared.identity.ClockIdentity.{ClockIdentity}
 use Rattle.ptpm_data.specs.declared.start.ClockStart.{ClockStart}
 use Rattle.ptpm_data.specs.declared.start.PortStart.{PortStart}
 use Rattle.ptpm_data.specs.declared.start.StartError.{StartError}
 use Rattle.ptpm_data.specs.Members.{DataSetsValue}
 use Rattle.ptpm_data.specs.Ranges.{is_description}
-use Rattle.ptpm_data.specs.Start.{default_clock, default_port, started, start_of, count_fault, clock_fault, port_fault, ports_fault, grandmaster_fault}
-
-abbrev pub shown : ClockIdentity
-shown = record { 0 = 0xaa ∷ 0xbb ∷ 0xcc ∷ 0xff ∷ 0xfe ∷ 0xdd ∷ 0xee ∷ 0x01 ∷ [] }
-
-abbrev pub two_ports : List PortStart
-two_ports = default_port ∷ default_port ∷ []
+use Rattle.ptpm_data.specs.Start.{default_clock, default_port, start_of, count_fault, clock_fault, port_fault, ports_fault, grandmaster_fault}
+use Rattle.ptpm_cli.specs.FreshClock.{shown, two_ports, fresh_sets}
 
 abbrev pub made : Result DataSetsValue StartError
-made = Ok (started (default_clock shown 0) two_ports)
+made = Ok fresh_sets
 
 faultless : start_of (default_clock shown 0) two_ports ≡ made
 unfolding start_of count_fault clock_fault port_fault ports_fault grandmaster_fault is_description is_utf8 chars
@@ -29,5 +23,5 @@ starts c p q clock first second = rw (clock, first, second) faultless
 pub not_err : (r : Result DataSetsValue StartError) (e : StartError) → r ≡ made → r ≡ Err e → ⊥
 not_err r e ok err = cc
 
-pub is_made : (r : Result DataSetsValue StartError) (d : DataSetsValue) → r ≡ made → r ≡ Ok d → d ≡ started (default_clock shown 0) two_ports
+pub is_made : (r : Result DataSetsValue StartError) (d : DataSetsValue) → r ≡ made → r ≡ Ok d → d ≡ fresh_sets
 is_made r d made ok = cc

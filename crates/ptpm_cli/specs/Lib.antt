@@ -1,2 +1,3 @@
+pub mod FreshClock
 pub mod IdentityText
 pub mod RequestWords

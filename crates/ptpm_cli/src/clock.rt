@@ -1,11 +1,14 @@
 //! The clock that `ptpm answer` shows: fresh, with two ports and one configured manager, who has every right.
 
+ghost use Rattle.std.specs.Prelude.{◌≡◌};
+ghost use Rattle.ptpm_cli.specs.FreshClock.{fresh_sets, managers, shown};
 ghost use Rattle.ptpm_data.specs.Members.{HasPort};
+ghost use Rattle.ptpm_table.specs.Managers.{IsFresh};
 
 use ptpm_agent::Agent;
 use ptpm_codec::{ClockIdentity, PortIdentity};
 use ptpm_data::{ClockStart, DataSets, PortStart, Rights};
-use ptpm_table::BoundTable;
+use ptpm_table::{BoundTable, ReplyTable};
 
 const CLOCK: ClockIdentity = ClockIdentity([0xaa, 0xbb, 0xcc, 0xff, 0xfe, 0xdd, 0xee, 0x01]);
 
@@ -16,7 +19,11 @@ const MANAGER: PortIdentity = PortIdentity {
 
 /// The clock, which has heard nothing yet.
 pub fn fresh_clock() -> Agent<BoundTable>
-    ensures { HasPort 1 result.sets }
+    ensures sets { result.sets ≡ fresh_sets }
+    ensures table { IsFresh shown managers
+        (⟦<BoundTable as ReplyTable>⟧.identity result.table) (⟦<BoundTable as ReplyTable>⟧.managers result.table)
+        (⟦<BoundTable as ReplyTable>⟧.rights_of result.table) (⟦<BoundTable as ReplyTable>⟧.entries result.table) }
+    ensures port { HasPort 1 result.sets }
 {
     let ports = [PortStart::new(), PortStart::new()];
     let sets = match DataSets::new(&ClockStart::new(CLOCK, 0), &ports) {

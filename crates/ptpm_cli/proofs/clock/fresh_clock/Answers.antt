@@ -11,3 +11,7 @@ pub new-requires-6 : goal.new-requires-6
 new-requires-6 c =
     let is = is_made _ _ (c.new-4.ensures ∙ starts _ _ _ c.new-3.ensures c.new.ensures c.new-2.ensures) c.in-Ok.is in
     ap (λ (d : DataSetsValue). d.default.identity) is ∙ sym c.in-Ok-new.ensures.fresh.identity_is
+
+pub returns-clause-sets : goal.returns-clause-sets
+returns-clause-sets c =
+    c.new-6.ensures.sets ∙ is_made _ _ (c.new-4.ensures ∙ starts _ _ _ c.new-3.ensures c.new.ensures c.new-2.ensures) c.in-Ok.is
