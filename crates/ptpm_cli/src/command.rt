@@ -145,6 +145,18 @@ fn make_command<'a>(alloc: Global) -> Result<Command<'a>, AllocError> {
     );
     let from = option(alloc, "from", "ID/PORT", "sourcePortIdentity").required(true);
     let to = option(alloc, "to", "ID/PORT", "targetPortIdentity").required(true);
+    let make = Command::new(alloc, "make")
+        .about("Prints a request in hexadecimal digits")
+        .arg(action)?
+        .arg(id)?
+        .arg(value)?
+        .arg(from)?
+        .arg(to)?;
+    with_numbers(alloc, make)
+}
+
+/// The command, with the options that are numbers behind the others.
+fn with_numbers<'a>(alloc: Global, command: Command<'a>) -> Result<Command<'a>, AllocError> {
     let number = option(alloc, "number", "N", "sequenceId, 0 to 65535")
         .value_parser(value_parser!(u16))
         .required(true);
@@ -159,16 +171,7 @@ fn make_command<'a>(alloc: Global) -> Result<Command<'a>, AllocError> {
     let domain = option(alloc, "domain", "N", "domainNumber, 0 to 255")
         .value_parser(value_parser!(u8))
         .default_value("0");
-    Command::new(alloc, "make")
-        .about("Prints a request in hexadecimal digits")
-        .arg(action)?
-        .arg(id)?
-        .arg(value)?
-        .arg(from)?
-        .arg(to)?
-        .arg(number)?
-        .arg(hops)?
-        .arg(domain)
+    command.arg(number)?.arg(hops)?.arg(domain)
 }
 
 /// A word at its place in the command line.

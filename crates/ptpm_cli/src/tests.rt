@@ -133,13 +133,6 @@ fn not_for_this_clock(rt: HostRuntime) -> Result<(), Fail> {
     is_ignored(&rt, rt.alloc(), &[(0, 0x1d)])?;
     is_ignored(&rt, rt.alloc(), &[(5, 1)])?;
     is_ignored(&rt, rt.alloc(), &[(42, 0), (43, 3)])?;
-    fails(
-        &rt,
-        rt.alloc(),
-        &["ptpm", "answer", "0g"],
-        1,
-        b"ptpm: BadHex\n",
-    );
     Ok(())
 }
 
@@ -312,50 +305,57 @@ fn error_status_texts(rt: HostRuntime) {
 }
 
 #[test]
-fn command_lines(rt: HostRuntime) {
-    let alloc = rt.alloc();
-    fails(&rt, alloc, &["ptpm", "show", "0d1"], 1, b"ptpm: BadHex\n");
-    fails(&rt, alloc, &["ptpm", "show", "-"], 1, b"ptpm: BadHex\n");
-    fails(
-        &rt,
-        alloc,
-        &["ptpm"],
-        2,
-        b"error: 'ptpm' requires a subcommand but one was not provided\n  \
-        [subcommands: answer, show, ids, make]\n\n\
-        Usage: ptpm <COMMAND>\n\n\
-        For more information, try '--help'.\n",
-    );
-    fails(
-        &rt,
-        alloc,
-        &["/usr/bin/other", "reply", "0g"],
-        2,
-        b"error: unrecognized subcommand 'reply'\n\n\
-        Usage: ptpm <COMMAND>\n\n\
-        For more information, try '--help'.\n",
-    );
-    fails(
-        &rt,
-        alloc,
-        &["ptpm", "help"],
-        2,
-        b"error: unrecognized subcommand 'help'\n\n\
-        Usage: ptpm <COMMAND>\n\n\
-        For more information, try '--help'.\n",
-    );
-    fails(
-        &rt,
-        alloc,
-        &["ptpm", "show", "0g", "00"],
-        2,
-        b"error: unexpected argument '00' found\n\n\
-        Usage: ptpm show <HEX>\n\n\
-        For more information, try '--help'.\n",
-    );
+fn bad_hexadecimal(rt: HostRuntime) {
+    let cases: [[&str; 3]; 4] = [
+        ["ptpm", "answer", "0g"],
+        ["ptpm", "answer", "0d1"],
+        ["ptpm", "show", "0d1"],
+        ["ptpm", "show", "-"],
+    ];
+    for words in &cases {
+        fails(&rt, rt.alloc(), words, 1, b"ptpm: BadHex\n");
+    }
+}
+
+#[test]
+fn refused_command_lines(rt: HostRuntime) {
+    let cases: [(&[&str], &[u8]); 4] = [
+        (
+            &["ptpm"],
+            b"error: 'ptpm' requires a subcommand but one was not provided\n  \
+            [subcommands: answer, show, ids, make]\n\n\
+            Usage: ptpm <COMMAND>\n\n\
+            For more information, try '--help'.\n",
+        ),
+        (
+            &["/usr/bin/other", "reply", "0g"],
+            b"error: unrecognized subcommand 'reply'\n\n\
+            Usage: ptpm <COMMAND>\n\n\
+            For more information, try '--help'.\n",
+        ),
+        (
+            &["ptpm", "help"],
+            b"error: unrecognized subcommand 'help'\n\n\
+            Usage: ptpm <COMMAND>\n\n\
+            For more information, try '--help'.\n",
+        ),
+        (
+            &["ptpm", "show", "0g", "00"],
+            b"error: unexpected argument '00' found\n\n\
+            Usage: ptpm show <HEX>\n\n\
+            For more information, try '--help'.\n",
+        ),
+    ];
+    for (words, text) in cases {
+        fails(&rt, rt.alloc(), words, 2, text);
+    }
+}
+
+#[test]
+fn help(rt: HostRuntime) {
     prints(
         &rt,
-        alloc,
+        rt.alloc(),
         &["ptpm", "show", "--help"],
         b"Prints the fields of a management message\n\n\
         Usage: ptpm show <HEX>\n\n\

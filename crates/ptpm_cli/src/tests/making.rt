@@ -100,69 +100,24 @@ fn greatest_numbers(rt: HostRuntime) {
     );
 }
 
+/// Action, id, value and the identities, and the first of them that is at fault.
 #[test]
 fn faults_in_order(rt: HostRuntime) {
-    let alloc = rt.alloc();
-    is_fault(
-        &rt,
-        alloc,
-        words("response", "NONE", "0g", "-", "-"),
-        b"ptpm: BadAction\n",
-    );
-    is_fault(
-        &rt,
-        alloc,
-        words("GET", "2005", "", MANAGER, CLOCK),
-        b"ptpm: BadAction\n",
-    );
-    is_fault(
-        &rt,
-        alloc,
-        words("get", "priority1", "0g", "-", "-"),
-        b"ptpm: BadId\n",
-    );
-    is_fault(
-        &rt,
-        alloc,
-        words("get", "205", "", MANAGER, CLOCK),
-        b"ptpm: BadId\n",
-    );
-    is_fault(
-        &rt,
-        alloc,
-        words("get", "02005", "", MANAGER, CLOCK),
-        b"ptpm: BadId\n",
-    );
-    is_fault(
-        &rt,
-        alloc,
-        words("get", "+005", "", MANAGER, CLOCK),
-        b"ptpm: BadId\n",
-    );
-    is_fault(
-        &rt,
-        alloc,
-        words("get", "2005", "0g", "-", "-"),
-        b"ptpm: BadHex\n",
-    );
-    is_fault(
-        &rt,
-        alloc,
-        words("get", "2005", "000", "-", "-"),
-        b"ptpm: BadHex\n",
-    );
-    is_fault(
-        &rt,
-        alloc,
-        words("get", "2005", "-", MANAGER, CLOCK),
-        b"ptpm: BadHex\n",
-    );
-    is_fault(
-        &rt,
-        alloc,
-        words("get", "2005", "00", "-", "-"),
-        b"ptpm: BadValue\n",
-    );
+    let cases: [([&str; 5], &[u8]); 10] = [
+        (["response", "NONE", "0g", "-", "-"], b"ptpm: BadAction\n"),
+        (["GET", "2005", "", MANAGER, CLOCK], b"ptpm: BadAction\n"),
+        (["get", "priority1", "0g", "-", "-"], b"ptpm: BadId\n"),
+        (["get", "205", "", MANAGER, CLOCK], b"ptpm: BadId\n"),
+        (["get", "02005", "", MANAGER, CLOCK], b"ptpm: BadId\n"),
+        (["get", "+005", "", MANAGER, CLOCK], b"ptpm: BadId\n"),
+        (["get", "2005", "0g", "-", "-"], b"ptpm: BadHex\n"),
+        (["get", "2005", "000", "-", "-"], b"ptpm: BadHex\n"),
+        (["get", "2005", "-", MANAGER, CLOCK], b"ptpm: BadHex\n"),
+        (["get", "2005", "00", "-", "-"], b"ptpm: BadValue\n"),
+    ];
+    for ([action, id, value, from, to], fault) in cases {
+        is_fault(&rt, rt.alloc(), words(action, id, value, from, to), fault);
+    }
 }
 
 #[test]
