@@ -1,7 +1,8 @@
 //! Look-ups in the table of management ids (15.5.2.3).
 
-ghost use Rattle.std.specs.Prelude.{◌≡◌, option_map};
-ghost use Rattle.ptpm_data.specs.IdTable.{entry_of, row_of, row_named, if_named};
+ghost use Rattle.std.specs.Prelude.{◌≡◌, option_map, Some};
+ghost use Rattle.ptpm_data.specs.declared.ids.Scope.TheVariants.{Clock, Port};
+ghost use Rattle.ptpm_data.specs.IdTable.{entry, entry_of, row_of, row_named, if_named};
 
 use crate::actions::Actions;
 use crate::ids::{Layout, Row, Scope};
@@ -12,7 +13,8 @@ const GET_SET: Actions = Actions(3);
 
 const COMMAND: Actions = Actions(4);
 
-const GET_SET_COMMAND: Actions = Actions(7);
+/// GET, SET and COMMAND.
+const ALL: Actions = Actions(7);
 
 /// The ids of the table, in order.
 pub static MANAGEMENT_IDS: [u16; 21] = [
@@ -20,102 +22,72 @@ pub static MANAGEMENT_IDS: [u16; 21] = [
     0x200a, 0x200b, 0x200c, 0x200d, 0x200e, 0x2010, 0x2011, 0x6000, 0x6001,
 ];
 
+/// A row of an id of the clock.
+fn clock(id: u16, name: &'static str, actions: Actions, layout: Layout) -> Option<Row>
+    ensures { option_map entry_of result ≡ Some (entry id name.now Clock actions.0 layout) }
+{
+    Some(Row {
+        id,
+        name,
+        scope: Scope::Clock,
+        actions,
+        layout,
+    })
+}
+
+/// A row of an id of each port.
+fn port(id: u16, name: &'static str, actions: Actions, layout: Layout) -> Option<Row>
+    ensures { option_map entry_of result ≡ Some (entry id name.now Port actions.0 layout) }
+{
+    Some(Row {
+        id,
+        name,
+        scope: Scope::Port,
+        actions,
+        layout,
+    })
+}
+
 /// What the table says of an id; `None` where it is not in the table.
 #[tactic(auto, unfolding(crate::specs::IdTable::row_of))]
 pub fn row(id: u16) -> Option<Row>
     ensures { option_map entry_of result ≡ row_of id }
 {
-    let (name, scope, actions, layout) = match id {
-        0x0000 => (
-            "NULL_PTP_MANAGEMENT",
-            Scope::Port,
-            GET_SET_COMMAND,
-            Layout::NullPtpManagement,
-        ),
-        0x0002 => (
-            "USER_DESCRIPTION",
-            Scope::Clock,
-            GET_SET,
-            Layout::UserDescription,
-        ),
-        0x2000 => (
-            "DEFAULT_DATA_SET",
-            Scope::Clock,
-            GET,
-            Layout::DefaultDataSet,
-        ),
-        0x2001 => (
-            "CURRENT_DATA_SET",
-            Scope::Clock,
-            GET,
-            Layout::CurrentDataSet,
-        ),
-        0x2002 => ("PARENT_DATA_SET", Scope::Clock, GET, Layout::ParentDataSet),
-        0x2003 => (
-            "TIME_PROPERTIES_DATA_SET",
-            Scope::Clock,
-            GET,
-            Layout::TimePropertiesDataSet,
-        ),
-        0x2004 => ("PORT_DATA_SET", Scope::Port, GET, Layout::PortDataSet),
-        0x2005 => ("PRIORITY1", Scope::Clock, GET_SET, Layout::Priority1),
-        0x2006 => ("PRIORITY2", Scope::Clock, GET_SET, Layout::Priority2),
-        0x2007 => ("DOMAIN", Scope::Clock, GET_SET, Layout::Domain),
-        0x2008 => ("SLAVE_ONLY", Scope::Clock, GET, Layout::SlaveOnly),
-        0x2009 => (
-            "LOG_ANNOUNCE_INTERVAL",
-            Scope::Port,
-            GET_SET,
-            Layout::LogAnnounceInterval,
-        ),
-        0x200a => (
+    use Layout::*;
+    match id {
+        0x0000 => port(id, "NULL_PTP_MANAGEMENT", ALL, NullPtpManagement),
+        0x0002 => clock(id, "USER_DESCRIPTION", GET_SET, UserDescription),
+        0x2000 => clock(id, "DEFAULT_DATA_SET", GET, DefaultDataSet),
+        0x2001 => clock(id, "CURRENT_DATA_SET", GET, CurrentDataSet),
+        0x2002 => clock(id, "PARENT_DATA_SET", GET, ParentDataSet),
+        0x2003 => clock(id, "TIME_PROPERTIES_DATA_SET", GET, TimePropertiesDataSet),
+        0x2004 => port(id, "PORT_DATA_SET", GET, PortDataSet),
+        0x2005 => clock(id, "PRIORITY1", GET_SET, Priority1),
+        0x2006 => clock(id, "PRIORITY2", GET_SET, Priority2),
+        0x2007 => clock(id, "DOMAIN", GET_SET, Domain),
+        0x2008 => clock(id, "SLAVE_ONLY", GET, SlaveOnly),
+        0x2009 => port(id, "LOG_ANNOUNCE_INTERVAL", GET_SET, LogAnnounceInterval),
+        0x200a => port(
+            id,
             "ANNOUNCE_RECEIPT_TIMEOUT",
-            Scope::Port,
             GET_SET,
-            Layout::AnnounceReceiptTimeout,
+            AnnounceReceiptTimeout,
         ),
-        0x200b => (
-            "LOG_SYNC_INTERVAL",
-            Scope::Port,
-            GET_SET,
-            Layout::LogSyncInterval,
-        ),
-        0x200c => ("VERSION_NUMBER", Scope::Port, GET, Layout::VersionNumber),
-        0x200d => ("ENABLE_PORT", Scope::Port, COMMAND, Layout::EnablePort),
-        0x200e => ("DISABLE_PORT", Scope::Port, COMMAND, Layout::DisablePort),
-        0x2010 => (
-            "CLOCK_ACCURACY",
-            Scope::Clock,
-            GET_SET,
-            Layout::ClockAccuracy,
-        ),
-        0x2011 => (
-            "UTC_PROPERTIES",
-            Scope::Clock,
-            GET_SET,
-            Layout::UtcProperties,
-        ),
-        0x6000 => (
-            "DELAY_MECHANISM",
-            Scope::Port,
-            GET_SET,
-            Layout::DelayMechanism,
-        ),
-        0x6001 => (
+        0x200b => port(id, "LOG_SYNC_INTERVAL", GET_SET, LogSyncInterval),
+        0x200c => port(id, "VERSION_NUMBER", GET, VersionNumber),
+        0x200d => port(id, "ENABLE_PORT", COMMAND, EnablePort),
+        0x200e => port(id, "DISABLE_PORT", COMMAND, DisablePort),
+        0x2010 => clock(id, "CLOCK_ACCURACY", GET_SET, ClockAccuracy),
+        0x2011 => clock(id, "UTC_PROPERTIES", GET_SET, UtcProperties),
+        0x6000 => port(id, "DELAY_MECHANISM", GET_SET, DelayMechanism),
+        0x6001 => port(
+            id,
             "LOG_MIN_PDELAY_REQ_INTERVAL",
-            Scope::Port,
             GET_SET,
-            Layout::LogMinPdelayReqInterval,
+            LogMinPdelayReqInterval,
         ),
-        _ => return None,
-    };
-    Some(Row {
-        id,
-        name,
-        scope,
-        actions,
-        layout,
-    })
+        _ => None,
+    }
 }
 
 /// The row of an id, where it has that name.
