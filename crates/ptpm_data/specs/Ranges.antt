@@ -28,10 +28,6 @@ is_receipt_timeout n = is_within 2 10 n
 abbrev pub is_sync_interval : ℤ → Bool
 is_sync_interval n = is_int_within (negsuc 7) (pos 1) n
 
--- delayMechanism: end to end, peer to peer, none
-abbrev pub is_delay_mechanism : ℕ → Bool
-is_delay_mechanism n = (n == 1) || (n == 2) || (n == 0xfe)
-
 -- logMinPdelayReqInterval: -8 to 5
 abbrev pub is_pdelay_interval : ℤ → Bool
 is_pdelay_interval n = is_int_within (negsuc 7) (pos 5) n

@@ -1,6 +1,6 @@
 -- Why a request is refused (IEEE 1588-2019, 15.5.4.3). Which actions an id permits, the rights, the ranges, and the order and
 -- choice of the errors are this project's profile.
-use Rattle.std.specs.Prelude.{ℕ, Bool, true, false, not, ◌&&◌, ◌==◌, if◌then◌else◌, bit_and, List, [], ◌∷◌, length, Option, Some, None}
+use Rattle.std.specs.Prelude.{ℕ, Bool, true, false, not, ◌&&◌, ◌==◌, if◌then◌else◌, bit_and, List, [], ◌∷◌, length, Option, Some, None, is_some}
 use Rattle.ptpm_codec.specs.declared.message.Action.{Action}
 use Rattle.ptpm_codec.specs.declared.message.Action.TheVariants as actions
 use Rattle.ptpm_codec.specs.declared.error.ErrorId.{ErrorId}
@@ -12,7 +12,8 @@ use Rattle.ptpm_data.specs.declared.ids.Scope.TheVariants.{Clock, Port}
 use Rattle.ptpm_data.specs.declared.ids.Layout.{Layout}
 use Rattle.ptpm_data.specs.declared.ids.Layout.TheVariants as layouts
 use Rattle.ptpm_data.specs.IdTable.{Entry, row_of, has_action}
-use Rattle.ptpm_data.specs.Ranges.{is_description, is_clock_accuracy, is_announce_interval, is_receipt_timeout, is_sync_interval, is_delay_mechanism, is_pdelay_interval}
+use Rattle.ptpm_data.specs.PortState.{mechanism_of}
+use Rattle.ptpm_data.specs.Ranges.{is_description, is_clock_accuracy, is_announce_interval, is_receipt_timeout, is_sync_interval, is_pdelay_interval}
 use Rattle.ptpm_data.specs.Request.{RequestValue}
 use Rattle.ptpm_data.specs.SetField.{octet, first_i8, has_bit, ptp_text, is_ptp_text}
 
@@ -39,7 +40,7 @@ is_set_value layouts.AnnounceReceiptTimeout octets = is_receipt_timeout (octet 0
 is_set_value layouts.LogSyncInterval octets = is_sync_interval (first_i8 octets)
 is_set_value layouts.ClockAccuracy octets = is_clock_accuracy (octet 0 octets)
 is_set_value layouts.UtcProperties octets = not (has_bit 0 (octet 2 octets) && has_bit 1 (octet 2 octets))
-is_set_value layouts.DelayMechanism octets = is_delay_mechanism (octet 0 octets)
+is_set_value layouts.DelayMechanism octets = is_some (mechanism_of (octet 0 octets))
 is_set_value layouts.LogMinPdelayReqInterval octets = is_pdelay_interval (first_i8 octets)
 is_set_value _ octets = true
 

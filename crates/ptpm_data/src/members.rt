@@ -99,6 +99,11 @@ impl Member {
 
 /// Its name.
 impl fmt::Display for Member {
+    ghost use Rattle.std.specs.Prelude.{Some};
+    ghost use Rattle.ptpm_data.specs.MemberNames.{member_name};
+
+    ghost output = { λ member. Some (member_name member) };
+
     fn fmt<W: fmt::Write>(&self, f: &mut fmt::Formatter<W>) -> fmt::Result {
         f.write_str(self.name())
     }
