@@ -3,7 +3,7 @@
 ghost use Rattle.std.specs.Prelude.{◌<◌};
 
 use crate::data_sets::DataSets;
-use crate::reply::{Reply, What};
+use crate::reply::{Reply, Value, What};
 use crate::request::Request;
 use crate::rights::Rights;
 use crate::start::{ClockStart, PortStart};
@@ -18,8 +18,45 @@ const OTHER: ClockIdentity = ClockIdentity([0xaa, 0xbb, 0xcc, 0xff, 0xfe, 0xdd, 
 
 const EVERY: u16 = PortIdentity::EVERY_PORT;
 
-/// Action, id, target port, the dataField in hexadecimal digits, and the reply as `shown` writes it.
-type Step = (Action, u16, u16, &'static str, &'static str);
+/// A request, its dataField in hexadecimal digits, and the reply to it as `shown` writes it.
+#[derive(Clone, Copy)]
+struct Step<'a> {
+    action: Action,
+    id: u16,
+    port: u16,
+    octets: &'a str,
+    reply: &'a str,
+}
+
+fn get<'a>(id: u16, port: u16, reply: &'a str) -> Step<'a> {
+    Step {
+        action: Action::Get,
+        id,
+        port,
+        octets: "",
+        reply,
+    }
+}
+
+fn set<'a>(id: u16, port: u16, octets: &'a str, reply: &'a str) -> Step<'a> {
+    Step {
+        action: Action::Set,
+        id,
+        port,
+        octets,
+        reply,
+    }
+}
+
+fn command<'a>(id: u16, port: u16, reply: &'a str) -> Step<'a> {
+    Step {
+        action: Action::Command,
+        id,
+        port,
+        octets: "",
+        reply,
+    }
+}
 
 fn digit(letter: u8) -> u8
     ensures { result < 16 }
@@ -78,33 +115,37 @@ fn shown(reply: &Reply) -> ArrayString<320> {
 }
 
 /// The reply to a request, whose conditions are tested first.
-fn ask(rt: &impl Abort, sets: &mut DataSets, rights: Rights, step: &Step) -> Reply {
-    let (action, id, port, text, _) = *step;
-    let octets = octets(text);
-    assert!(rt; !action.is_reply());
+fn ask(rt: &impl Abort, sets: &mut DataSets, rights: Rights, step: &Step<'_>) -> Reply {
+    let octets = octets(step.octets);
+    assert!(rt; !step.action.is_reply());
     assert!(rt; octets.len() % 2 == 0);
-    assert!(rt; port == EVERY || sets.has_port(port));
+    assert!(rt; step.port == EVERY || sets.has_port(step.port));
     let request = Request {
-        action,
-        id,
-        port,
+        action: step.action,
+        id: step.id,
+        port: step.port,
         octets: octets.as_slice(),
     };
     sets.decide(&request, rights)
 }
 
 /// Takes the steps one after another, with these rights.
-fn run(rt: &impl Abort, sets: &mut DataSets, rights: Rights, steps: &[Step]) {
+fn run(rt: &impl Abort, sets: &mut DataSets, rights: Rights, steps: &[Step<'_>]) {
     for step in steps {
         let reply = ask(rt, sets, rights, step);
-        let action = if step.0 == Action::Command {
+        let action = if step.action == Action::Command {
             Action::Acknowledge
         } else {
             Action::Response
         };
-        assert!(rt; reply.action == action && reply.id == step.1);
+        assert!(rt; reply.action == action && reply.id == step.id);
         let text = shown(&reply);
-        assert!(rt; text.as_str() == step.4, "{} {:04x}", step.0, step.1);
+        assert!(rt;
+            text.as_str() == step.reply,
+            "{} {:04x}",
+            step.action,
+            step.id
+        );
     }
 }
 
@@ -117,66 +158,48 @@ fn fresh(rt: &impl Abort) -> DataSets {
     .expect(rt, "a start")
 }
 
-/// The data sets of a fresh clock.
+/// Takes the steps one after another at a fresh clock, with these rights.
+fn run_fresh(rt: &impl Abort, rights: Rights, steps: &[Step<'_>]) {
+    run(rt, &mut fresh(rt), rights, steps);
+}
+
 #[test]
 fn data_sets_of_a_fresh_clock(rt: HostRuntime) {
-    let mut sets = fresh(&rt);
-    run(
+    run_fresh(
         &rt,
-        &mut sets,
         Rights::empty(),
         &[
-            (Action::Get, 0x0002, EVERY, "", " -:0000"),
-            (
-                Action::Get,
-                0x2000,
-                1,
-                "",
-                " -:0100000280f8feffff80aabbccfffeddee010000",
-            ),
-            (
-                Action::Get,
-                0x2001,
-                2,
-                "",
-                " -:000000000000000000000000000000000000",
-            ),
-            (
-                Action::Get,
+            get(0x0002, EVERY, " -:0000"),
+            get(0x2000, 1, " -:0100000280f8feffff80aabbccfffeddee010000"),
+            get(0x2001, 2, " -:000000000000000000000000000000000000"),
+            get(
                 0x2002,
                 EVERY,
-                "",
                 " -:aabbccfffeddee0100000000ffff7fffffff80f8feffff80aabbccfffeddee01",
             ),
-            (Action::Get, 0x2003, EVERY, "", " -:002500a0"),
-            (
-                Action::Get,
+            get(0x2003, EVERY, " -:002500a0"),
+            get(
                 0x2004,
                 EVERY,
-                "",
                 " 1:aabbccfffeddee01000106000000000000000000010300010002 2:aabbccfffeddee01000206000000000000000000010300010002",
             ),
-            (Action::Get, 0x2008, EVERY, "", " -:0000"),
-            (Action::Get, 0x200c, 2, "", " 2:0200"),
-            (Action::Get, 0x6000, 1, "", " 1:0100"),
+            get(0x2008, EVERY, " -:0000"),
+            get(0x200c, 2, " 2:0200"),
+            get(0x6000, 1, " 1:0100"),
         ],
     );
 }
 
 #[test]
 fn set_priority1(rt: HostRuntime) {
-    let mut sets = fresh(&rt);
-    run(
+    run_fresh(
         &rt,
-        &mut sets,
         Rights::all(),
         &[
-            (Action::Set, 0x2005, EVERY, "6400", " -:6400"),
-            (
-                Action::Get,
+            set(0x2005, EVERY, "6400", " -:6400"),
+            get(
                 0x2002,
                 EVERY,
-                "",
                 " -:aabbccfffeddee0100000000ffff7fffffff64f8feffff80aabbccfffeddee01",
             ),
         ],
@@ -197,12 +220,10 @@ fn priority1_under_another_grandmaster(rt: HostRuntime) {
         &mut sets,
         Rights::all(),
         &[
-            (Action::Set, 0x2005, EVERY, "3200", " -:3200"),
-            (
-                Action::Get,
+            set(0x2005, EVERY, "3200", " -:3200"),
+            get(
                 0x2002,
                 EVERY,
-                "",
                 " -:aabbccfffeddee0100000000ffff7fffffff64f8feffff80aabbccfffeddee02",
             ),
         ],
@@ -211,83 +232,69 @@ fn priority1_under_another_grandmaster(rt: HostRuntime) {
 
 #[test]
 fn set_log_sync_interval(rt: HostRuntime) {
-    let mut sets = fresh(&rt);
-    run(
+    run_fresh(
         &rt,
-        &mut sets,
         Rights::all(),
         &[
-            (Action::Set, 0x200b, 1, "0200", " 1:error 0004"),
-            (Action::Get, 0x200b, EVERY, "", " 1:0000 2:0000"),
-            (Action::Set, 0x200b, 1, "ff00", " 1:ff00"),
-            (Action::Get, 0x200b, EVERY, "", " 1:ff00 2:0000"),
+            set(0x200b, 1, "0200", " 1:error 0004"),
+            get(0x200b, EVERY, " 1:0000 2:0000"),
+            set(0x200b, 1, "ff00", " 1:ff00"),
+            get(0x200b, EVERY, " 1:ff00 2:0000"),
         ],
     );
 }
 
 #[test]
 fn errors_in_order(rt: HostRuntime) {
-    let mut sets = fresh(&rt);
-    run(
+    run_fresh(
         &rt,
-        &mut sets,
         Rights::all(),
         &[
-            (Action::Set, 0x2005, EVERY, "64000000", " -:error 0003"),
-            (Action::Set, 0x2000, EVERY, "", " -:error 0005"),
-            (Action::Get, 0x200d, 1, "", " 1:error 0006"),
-            (Action::Get, 0x2fff, EVERY, "", " -:error 0002"),
-            (Action::Get, 0x200d, EVERY, "", " 1:error 0006 2:error 0006"),
+            set(0x2005, EVERY, "64000000", " -:error 0003"),
+            set(0x2000, EVERY, "", " -:error 0005"),
+            get(0x200d, 1, " 1:error 0006"),
+            get(0x2fff, EVERY, " -:error 0002"),
+            get(0x200d, EVERY, " 1:error 0006 2:error 0006"),
         ],
     );
 }
 
 #[test]
 fn decide_at_all_ports(rt: HostRuntime) {
-    let mut sets = fresh(&rt);
-    run(
+    run_fresh(
         &rt,
-        &mut sets,
         Rights::all(),
         &[
-            (
-                Action::Set,
-                0x200b,
-                EVERY,
-                "0200",
-                " 1:error 0004 2:error 0004",
-            ),
-            (
-                Action::Get,
+            set(0x200b, EVERY, "0200", " 1:error 0004 2:error 0004"),
+            get(
                 0x2004,
                 EVERY,
-                "",
                 " 1:aabbccfffeddee01000106000000000000000000010300010002 2:aabbccfffeddee01000206000000000000000000010300010002",
             ),
-            (Action::Set, 0x200b, EVERY, "0100", " 1:0100 2:0100"),
-            (Action::Set, 0x2011, EVERY, "00250300", " -:error 0004"),
-            (Action::Set, 0x2011, EVERY, "0025fd00", " -:00250500"),
-            (Action::Get, 0x2003, EVERY, "", " -:002505a0"),
-            (Action::Set, 0x2010, EVERY, "3200", " -:error 0004"),
-            (Action::Set, 0x2010, EVERY, "2000", " -:2000"),
-            (
-                Action::Get,
+            set(0x200b, EVERY, "0100", " 1:0100 2:0100"),
+            set(0x2011, EVERY, "00250300", " -:error 0004"),
+            set(0x2011, EVERY, "0025fd00", " -:00250500"),
+            get(0x2003, EVERY, " -:002505a0"),
+            set(0x2010, EVERY, "3200", " -:error 0004"),
+            set(0x2010, EVERY, "2000", " -:2000"),
+            get(
                 0x2002,
                 EVERY,
-                "",
                 " -:aabbccfffeddee0100000000ffff7fffffff80f820ffff80aabbccfffeddee01",
             ),
         ],
     );
 }
 
-/// The requests of `decide_at_all_ports` that are not numbered.
+/// Requests that are not numbered, at every port.
 #[test]
 fn read_at_all_ports(rt: HostRuntime) {
     let sets = fresh(&rt);
     for (action, id, want) in [
         (Action::Set, 0x2fff, " -:error 0006"),
         (Action::Get, 0x2fff, " -:error 0002"),
+        (Action::Get, 0x200b, " 1:0000 2:0000"),
+        (Action::Set, 0x200b, " 1:error 0006 2:error 0006"),
         (Action::Command, 0x200e, " 1:error 0006 2:error 0006"),
     ] {
         assert!(rt; !action.is_reply());
@@ -298,7 +305,7 @@ fn read_at_all_ports(rt: HostRuntime) {
             octets: &[],
         });
         let text = shown(&reply);
-        assert!(rt; text.as_str() == want);
+        assert!(rt; text.as_str() == want, "{action} {id:04x}");
     }
 }
 
@@ -310,13 +317,11 @@ fn ports_disabled_and_enabled(rt: HostRuntime) {
         &mut sets,
         Rights::all(),
         &[
-            (Action::Command, 0x200e, 1, "", " 1:done"),
-            (Action::Command, 0x200e, 1, "", " 1:done"),
-            (
-                Action::Get,
+            command(0x200e, 1, " 1:done"),
+            command(0x200e, 1, " 1:done"),
+            get(
                 0x2004,
                 EVERY,
-                "",
                 " 1:aabbccfffeddee01000103000000000000000000010300010002 2:aabbccfffeddee01000206000000000000000000010300010002",
             ),
         ],
@@ -327,12 +332,10 @@ fn ports_disabled_and_enabled(rt: HostRuntime) {
         &mut sets,
         Rights::all(),
         &[
-            (Action::Command, 0x200d, 1, "", " 1:done"),
-            (
-                Action::Get,
+            command(0x200d, 1, " 1:done"),
+            get(
                 0x2004,
                 1,
-                "",
                 " 1:aabbccfffeddee01000104000000000000000000010300010002",
             ),
         ],
@@ -359,101 +362,108 @@ fn enable_port_at_each_state(rt: HostRuntime) {
             ..PortStart::new()
         };
         let mut sets = DataSets::new(&ClockStart::new(K, 0), &[port]).expect(&rt, "a start");
-        run(
-            &rt,
-            &mut sets,
-            Rights::all(),
-            &[
-                (Action::Command, 0x200d, EVERY, "", " 1:done"),
-                (Action::Get, 0x2004, 1, "", want),
-            ],
-        );
+        let steps = [command(0x200d, EVERY, " 1:done"), get(0x2004, 1, want)];
+        run(&rt, &mut sets, Rights::all(), &steps);
     }
 }
 
-/// The second half of the row: texts, by their lengths.
+/// The texts of this vector; its malformed messages are the codec's.
 #[test]
 fn malformed_and_user_description(rt: HostRuntime) {
-    let mut sets = fresh(&rt);
-    run(
+    run_fresh(
         &rt,
-        &mut sets,
         Rights::all(),
         &[
-            (Action::Set, 0x0002, EVERY, "0000", " -:0000"),
-            (
-                Action::Set,
-                0x0002,
-                EVERY,
-                "065261636b203400",
-                " -:065261636b203400",
-            ),
-            (
-                Action::Set,
-                0x0002,
-                EVERY,
-                "7f61616161616161616161616161616161616161616161616161616161616161616161616161616161616161616161616161616161616161616161616161616161616161616161616161616161616161616161616161616161616161616161616161616161616161616161616161616161616161616161616161616161616161",
-                " -:7f61616161616161616161616161616161616161616161616161616161616161616161616161616161616161616161616161616161616161616161616161616161616161616161616161616161616161616161616161616161616161616161616161616161616161616161616161616161616161616161616161616161616161",
-            ),
-            (
-                Action::Set,
-                0x0002,
-                EVERY,
-                "80616161616161616161616161616161616161616161616161616161616161616161616161616161616161616161616161616161616161616161616161616161616161616161616161616161616161616161616161616161616161616161616161616161616161616161616161616161616161616161616161616161616161616100",
-                " -:80616161616161616161616161616161616161616161616161616161616161616161616161616161616161616161616161616161616161616161616161616161616161616161616161616161616161616161616161616161616161616161616161616161616161616161616161616161616161616161616161616161616161616100",
-            ),
-            (
-                Action::Set,
-                0x0002,
-                EVERY,
-                "81616161616161616161616161616161616161616161616161616161616161616161616161616161616161616161616161616161616161616161616161616161616161616161616161616161616161616161616161616161616161616161616161616161616161616161616161616161616161616161616161616161616161616161",
-                " -:error 0004",
-            ),
-            (Action::Set, 0x0002, EVERY, "", " -:error 0003"),
-            (Action::Set, 0x0002, EVERY, "01ff", " -:error 0004"),
-            (
-                Action::Get,
-                0x0002,
-                EVERY,
-                "",
-                " -:80616161616161616161616161616161616161616161616161616161616161616161616161616161616161616161616161616161616161616161616161616161616161616161616161616161616161616161616161616161616161616161616161616161616161616161616161616161616161616161616161616161616161616100",
-            ),
+            set(0x0002, EVERY, "0000", " -:0000"),
+            set(0x0002, EVERY, "065261636b203400", " -:065261636b203400"),
+            set(0x0002, EVERY, "", " -:error 0003"),
+            set(0x0002, EVERY, "01ff", " -:error 0004"),
+            get(0x0002, EVERY, " -:065261636b203400"),
         ],
     );
+}
+
+/// The hexadecimal digits of a text of so many letters, with its length octet, and a pad octet where these are odd in number.
+fn text_of(letters: u8) -> ArrayString<320> {
+    let mut text = ArrayString::new();
+    put_hex(&mut text, letters);
+    for _ in 0..letters {
+        put_hex(&mut text, b'a');
+    }
+    if letters % 2 == 0 {
+        put_hex(&mut text, 0);
+    }
+    text
+}
+
+/// A text of 128 octets is taken, in a dataField of 130; one of 129 is out of range, in as many.
+#[test]
+fn longest_user_description(rt: HostRuntime) {
+    let mut sets = fresh(&rt);
+    let mut kept: ArrayString<320> = ArrayString::new();
+    for (letters, octets) in [(127, 128), (128, 130)] {
+        let text = text_of(letters);
+        assert!(rt; text.len() == 2 * octets);
+        kept.clear();
+        let _ = kept.try_push_str(" -:");
+        let _ = kept.try_push_str(text.as_str());
+        let steps = [set(0x0002, EVERY, text.as_str(), kept.as_str())];
+        run(&rt, &mut sets, Rights::all(), &steps);
+    }
+    let text = text_of(129);
+    assert!(rt; text.len() == 2 * 130);
+    let steps = [
+        set(0x0002, EVERY, text.as_str(), " -:error 0004"),
+        get(0x0002, EVERY, kept.as_str()),
+    ];
+    run(&rt, &mut sets, Rights::all(), &steps);
 }
 
 /// A manager that may SET ids of ports alone.
 #[test]
 fn rights(rt: HostRuntime) {
-    let mut sets = fresh(&rt);
-    run(
+    run_fresh(
         &rt,
-        &mut sets,
         Rights::PORT_SET,
         &[
-            (Action::Set, 0x2005, EVERY, "64000000", " -:error 0006"),
-            (Action::Set, 0x2000, EVERY, "", " -:error 0005"),
-            (Action::Set, 0x2fff, EVERY, "", " -:error 0002"),
-            (Action::Get, 0x2005, EVERY, "", " -:8000"),
-            (Action::Set, 0x200b, 1, "0100", " 1:0100"),
-            (
-                Action::Command,
-                0x200e,
-                EVERY,
-                "",
-                " 1:error 0006 2:error 0006",
-            ),
-            (
-                Action::Get,
+            set(0x2005, EVERY, "64000000", " -:error 0006"),
+            set(0x2000, EVERY, "", " -:error 0005"),
+            set(0x2fff, EVERY, "", " -:error 0002"),
+            get(0x2005, EVERY, " -:8000"),
+            set(0x200b, 1, "0100", " 1:0100"),
+            command(0x200e, EVERY, " 1:error 0006 2:error 0006"),
+            get(
                 0x2004,
-                2,
-                "",
-                " 2:aabbccfffeddee01000206000000000000000000010300010002",
+                EVERY,
+                " 1:aabbccfffeddee01000106000000000000000000010301010002 2:aabbccfffeddee01000206000000000000000000010300010002",
             ),
-            (Action::Command, 0x0000, 1, "", " 1:done"),
-            (Action::Set, 0x0000, 1, "", " 1:"),
-            (Action::Set, 0x0000, 1, "0000", " 1:error 0003"),
-            (Action::Get, 0x0000, 1, "", " 1:"),
+            command(0x0000, 1, " 1:done"),
         ],
     );
+}
+
+#[test]
+fn null_ptp_management(rt: HostRuntime) {
+    run_fresh(
+        &rt,
+        Rights::PORT_SET,
+        &[
+            set(0x0000, 1, "", " 1:"),
+            set(0x0000, 1, "0000", " 1:error 0003"),
+            get(0x0000, EVERY, " 1: 2:"),
+        ],
+    );
+}
+
+/// What a buffer that held something else has after `lay`.
+#[test]
+#[tactic(auto, unfolding(crate::specs::IdTable::row_of))]
+fn data_fields_laid_in_turn(rt: HostRuntime) {
+    let sets = fresh(&rt);
+    let mut buffer = Value::new();
+    sets.lay(0x2003, 0, &mut buffer);
+    assert!(rt; buffer.as_slice() == [0x00, 0x25, 0x00, 0xa0].as_slice());
+    assert!(rt; sets.has_port(2));
+    sets.lay(0x2009, 2, &mut buffer);
+    assert!(rt; buffer.as_slice() == [0x01, 0x00].as_slice());
 }

@@ -1,43 +1,20 @@
 //! The table of management ids: rows as the standard names them.
 
 use super::{MANAGEMENT_IDS, by_name, row};
-use crate::ids::{Layout, Scope};
+use crate::ids::Layout::*;
+use crate::ids::Scope::*;
 
 #[test]
 fn rows_by_id_and_name(rt: HostRuntime) {
     for (id, name, scope, actions, layout) in [
-        (
-            0x0000,
-            "NULL_PTP_MANAGEMENT",
-            Scope::Port,
-            7,
-            Layout::NullPtpManagement,
-        ),
-        (
-            0x0002,
-            "USER_DESCRIPTION",
-            Scope::Clock,
-            3,
-            Layout::UserDescription,
-        ),
-        (0x2004, "PORT_DATA_SET", Scope::Port, 1, Layout::PortDataSet),
-        (0x2005, "PRIORITY1", Scope::Clock, 3, Layout::Priority1),
-        (0x2007, "DOMAIN", Scope::Clock, 3, Layout::Domain),
-        (
-            0x200c,
-            "VERSION_NUMBER",
-            Scope::Port,
-            1,
-            Layout::VersionNumber,
-        ),
-        (0x200e, "DISABLE_PORT", Scope::Port, 4, Layout::DisablePort),
-        (
-            0x6001,
-            "LOG_MIN_PDELAY_REQ_INTERVAL",
-            Scope::Port,
-            3,
-            Layout::LogMinPdelayReqInterval,
-        ),
+        (0x0000, "NULL_PTP_MANAGEMENT", Port, 7, NullPtpManagement),
+        (0x0002, "USER_DESCRIPTION", Clock, 3, UserDescription),
+        (0x2004, "PORT_DATA_SET", Port, 1, PortDataSet),
+        (0x2005, "PRIORITY1", Clock, 3, Priority1),
+        (0x2007, "DOMAIN", Clock, 3, Domain),
+        (0x200c, "VERSION_NUMBER", Port, 1, VersionNumber),
+        (0x200e, "DISABLE_PORT", Port, 4, DisablePort),
+        (0x6000, "DELAY_MECHANISM", Port, 3, DelayMechanism),
     ] {
         for found in [row(id), by_name(name)] {
             let Some(row) = found else {

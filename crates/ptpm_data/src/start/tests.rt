@@ -84,13 +84,17 @@ fn number_of_ports(rt: HostRuntime) {
 }
 
 #[test]
-fn ranges_of_clock_members(rt: HostRuntime) {
+fn identity_of_all_ones(rt: HostRuntime) {
     let mut almost = [0xff; 8];
     almost[7] = 0xfe;
-    assert!(rt;
-        fault(&ClockStart::new(ClockIdentity([0xff; 8]), 0), port()) == bad(Member::Identity)
-    );
-    assert!(rt; fault(&ClockStart::new(ClockIdentity(almost), 0), port()) == None);
+    for (octets, want) in [([0xff; 8], bad(Member::Identity)), (almost, None)] {
+        let start = ClockStart::new(ClockIdentity(octets), 0);
+        assert!(rt; fault(&start, port()) == want, "{octets:?}");
+    }
+}
+
+#[test]
+fn texts(rt: HostRuntime) {
     for (octet, count, want) in [
         (b'a', 128, None),
         (b'a', 129, bad(Member::UserDescription)),
@@ -102,6 +106,10 @@ fn ranges_of_clock_members(rt: HostRuntime) {
             "{octet:02x}, {count} times"
         );
     }
+}
+
+#[test]
+fn range_of_clock_accuracy(rt: HostRuntime) {
     for (clock_accuracy, want) in [
         (0x16, bad(Member::ClockAccuracy)),
         (0x17, None),
@@ -117,6 +125,10 @@ fn ranges_of_clock_members(rt: HostRuntime) {
         };
         assert!(rt; fault(&start, port()) == want, "{clock_accuracy:02x}");
     }
+}
+
+#[test]
+fn one_leap_flag(rt: HostRuntime) {
     for (leap61, leap59) in [(true, false), (false, true)] {
         let start = ClockStart {
             leap61,
@@ -127,163 +139,66 @@ fn ranges_of_clock_members(rt: HostRuntime) {
     }
 }
 
+/// A port of the defaults but for this member, which is an unsigned octet.
+fn port_with_number(member: Member, value: u8) -> PortStart {
+    let mut start = port();
+    match member {
+        Member::State => start.state = value,
+        Member::ReceiptTimeout => start.receipt_timeout = value,
+        Member::DelayMechanism => start.delay_mechanism = value,
+        _ => {}
+    }
+    start
+}
+
+/// A port of the defaults but for this interval.
+fn port_with_interval(member: Member, value: i8) -> PortStart {
+    let mut start = port();
+    match member {
+        Member::LogAnnounce => start.log_announce = value,
+        Member::LogSync => start.log_sync = value,
+        Member::LogMinPdelay => start.log_min_pdelay = value,
+        _ => {}
+    }
+    start
+}
+
+/// Values just inside a range, and just outside.
 #[test]
-fn ranges_of_port_members(rt: HostRuntime) {
-    let fine = port();
-    for (port, want) in [
-        (PortStart { state: 0, ..fine }, bad(Member::State)),
-        (PortStart { state: 1, ..fine }, None),
-        (PortStart { state: 9, ..fine }, None),
-        (PortStart { state: 10, ..fine }, bad(Member::State)),
-        (
-            PortStart {
-                log_announce: -5,
-                ..fine
-            },
-            bad(Member::LogAnnounce),
-        ),
-        (
-            PortStart {
-                log_announce: -4,
-                ..fine
-            },
-            None,
-        ),
-        (
-            PortStart {
-                log_announce: 4,
-                ..fine
-            },
-            None,
-        ),
-        (
-            PortStart {
-                log_announce: 5,
-                ..fine
-            },
-            bad(Member::LogAnnounce),
-        ),
-        (
-            PortStart {
-                receipt_timeout: 1,
-                ..fine
-            },
-            bad(Member::ReceiptTimeout),
-        ),
-        (
-            PortStart {
-                receipt_timeout: 2,
-                ..fine
-            },
-            None,
-        ),
-        (
-            PortStart {
-                receipt_timeout: 10,
-                ..fine
-            },
-            None,
-        ),
-        (
-            PortStart {
-                receipt_timeout: 11,
-                ..fine
-            },
-            bad(Member::ReceiptTimeout),
-        ),
-        (
-            PortStart {
-                log_sync: -9,
-                ..fine
-            },
-            bad(Member::LogSync),
-        ),
-        (
-            PortStart {
-                log_sync: -8,
-                ..fine
-            },
-            None,
-        ),
-        (
-            PortStart {
-                log_sync: 1,
-                ..fine
-            },
-            None,
-        ),
-        (
-            PortStart {
-                log_sync: 2,
-                ..fine
-            },
-            bad(Member::LogSync),
-        ),
-        (
-            PortStart {
-                delay_mechanism: 0,
-                ..fine
-            },
-            bad(Member::DelayMechanism),
-        ),
-        (
-            PortStart {
-                delay_mechanism: 2,
-                ..fine
-            },
-            None,
-        ),
-        (
-            PortStart {
-                delay_mechanism: 3,
-                ..fine
-            },
-            bad(Member::DelayMechanism),
-        ),
-        (
-            PortStart {
-                delay_mechanism: 0xfe,
-                ..fine
-            },
-            None,
-        ),
-        (
-            PortStart {
-                delay_mechanism: 0xff,
-                ..fine
-            },
-            bad(Member::DelayMechanism),
-        ),
-        (
-            PortStart {
-                log_min_pdelay: -9,
-                ..fine
-            },
-            bad(Member::LogMinPdelay),
-        ),
-        (
-            PortStart {
-                log_min_pdelay: -8,
-                ..fine
-            },
-            None,
-        ),
-        (
-            PortStart {
-                log_min_pdelay: 5,
-                ..fine
-            },
-            None,
-        ),
-        (
-            PortStart {
-                log_min_pdelay: 6,
-                ..fine
-            },
-            bad(Member::LogMinPdelay),
-        ),
+fn ranges_of_port_numbers(rt: HostRuntime) {
+    for (member, inside, outside) in [
+        (Member::State, [1, 9], [0, 10]),
+        (Member::ReceiptTimeout, [2, 10], [1, 11]),
+        (Member::DelayMechanism, [1, 2], [0, 3]),
+        (Member::DelayMechanism, [0xfe, 0xfe], [0xfd, 0xff]),
     ] {
-        assert!(rt; fault(&clock(), port) == want, "{port:?}");
+        for value in inside {
+            let start = port_with_number(member, value);
+            assert!(rt; fault(&clock(), start) == None, "{member} {value}");
+        }
+        for value in outside {
+            let start = port_with_number(member, value);
+            assert!(rt; fault(&clock(), start) == bad(member), "{member} {value}");
+        }
+    }
+}
+
+/// Values just inside a range, and just outside.
+#[test]
+fn ranges_of_port_intervals(rt: HostRuntime) {
+    for (member, inside, outside) in [
+        (Member::LogAnnounce, [-4, 4], [-5, 5]),
+        (Member::LogSync, [-8, 1], [-9, 2]),
+        (Member::LogMinPdelay, [-8, 5], [-9, 6]),
+    ] {
+        for value in inside {
+            let start = port_with_interval(member, value);
+            assert!(rt; fault(&clock(), start) == None, "{member} {value}");
+        }
+        for value in outside {
+            let start = port_with_interval(member, value);
+            assert!(rt; fault(&clock(), start) == bad(member), "{member} {value}");
+        }
     }
 }
 
