@@ -1,5 +1,5 @@
 -- The data sets after a request (IEEE 1588-2019, clause 15).
-use Rattle.std.specs.Prelude.{◌≡◌, ℕ, ◌≤◌, Bool, true, false, ◌||◌, ◌==◌, if◌then◌else◌, List, length, map, Option, Some, None, ◌⊎◌}
+use Rattle.std.specs.Prelude.{◌≡◌, ℕ, ◌≤◌, Bool, ◌||◌, ◌==◌, if◌then◌else◌, List, length, map, Option, Some, None, ◌⊎◌}
 use Rattle.std.specs.List.{enumerate_from}
 use Rattle.ptpm_codec.specs.declared.message.Action.{Action}
 use Rattle.ptpm_codec.specs.declared.message.Action.TheVariants as actions
@@ -66,7 +66,18 @@ with_mechanism port d (Some m) = with_ports port d (λ p. record p { delay_mecha
 
 -- ---- what an accepted request changes
 
--- SET (15.5.3): the members of the id are what the dataField says
+-- SET of an id of the ports (15.5.3): at each named port the id's member is what the dataField says
+abbrev pub set_port_member : Layout → ℕ → List ℕ → DataSetsValue → DataSetsValue
+set_port_member layouts.LogAnnounceInterval port octets d = with_ports port d (λ p. record p { log_announce = first_i8 octets })
+set_port_member layouts.AnnounceReceiptTimeout port octets d =
+    with_ports port d (λ p. record p { receipt_timeout = octet 0 octets })
+set_port_member layouts.LogSyncInterval port octets d = with_ports port d (λ p. record p { log_sync = first_i8 octets })
+set_port_member layouts.LogMinPdelayReqInterval port octets d =
+    with_ports port d (λ p. record p { log_min_pdelay = first_i8 octets })
+set_port_member layouts.DelayMechanism port octets d = with_mechanism port d (mechanism_of (octet 0 octets))
+set_port_member _ port octets d = d
+
+-- SET: the members of the id are what the dataField says
 unfoldable pub set_members : Layout → ℕ → List ℕ → DataSetsValue → DataSetsValue
 set_members layouts.UserDescription port octets d = record d { description = ptp_text octets }
 set_members layouts.Priority1 port octets d = with_precedence d (record d.default.precedence { priority1 = octet 0 octets })
@@ -74,13 +85,7 @@ set_members layouts.Priority2 port octets d = with_precedence d (record d.defaul
 set_members layouts.ClockAccuracy port octets d = with_precedence d (record d.default.precedence { accuracy = octet 0 octets })
 set_members layouts.Domain port octets d = record d { default = record d.default { domain = octet 0 octets } }
 set_members layouts.UtcProperties port octets d = record d { time = with_utc_properties d.time octets }
-set_members layouts.LogAnnounceInterval port octets d = with_ports port d (λ p. record p { log_announce = first_i8 octets })
-set_members layouts.AnnounceReceiptTimeout port octets d = with_ports port d (λ p. record p { receipt_timeout = octet 0 octets })
-set_members layouts.LogSyncInterval port octets d = with_ports port d (λ p. record p { log_sync = first_i8 octets })
-set_members layouts.LogMinPdelayReqInterval port octets d =
-    with_ports port d (λ p. record p { log_min_pdelay = first_i8 octets })
-set_members layouts.DelayMechanism port octets d = with_mechanism port d (mechanism_of (octet 0 octets))
-set_members _ port octets d = d
+set_members layout port octets d = set_port_member layout port octets d
 
 -- COMMAND: ENABLE_PORT and DISABLE_PORT (15.5.3.7.6 and 7); NULL_PTP_MANAGEMENT changes nothing
 unfoldable pub commanded : Layout → ℕ → DataSetsValue → DataSetsValue

@@ -1,5 +1,5 @@
 -- What the dataField of a SET says (IEEE 1588-2019, 15.5.3). Reserved octets and bits are not read.
-use Rattle.std.specs.Prelude.{ℕ, ◌+◌, ◌^◌, Bool, true, false, ◌==◌, bit_and, List, [], ◌∷◌, length, take, slice_index, ℤ}
+use Rattle.std.specs.Prelude.{ℕ, ◌+◌, ◌^◌, Bool, false, ◌==◌, bit_and, List, [], ◌∷◌, length, take, slice_index, ℤ}
 use Rattle.std.specs.Int.{w8, w16, cast_signed}
 use Rattle.byteorder.specs.Endian.{big_number}
 use Rattle.ptpm_codec.specs.Layout.{even_up}

@@ -19,7 +19,7 @@ use ptpm_codec::{Action, ErrorId, PortIdentity};
 impl DataSets {
     ghost use Rattle.std.specs.Prelude.{◌≤◌};
     ghost use Rattle.ptpm_data.specs.IdTable.{entry_of};
-    ghost use Rattle.ptpm_data.specs.Changes.{carried_out, commanded, IsTargetPort, set_members, unless_refused, with_precedence, with_ports};
+    ghost use Rattle.ptpm_data.specs.Changes.{carried_out, commanded, IsTargetPort, set_members, set_port_member, unless_refused, with_precedence, with_ports};
     ghost use Rattle.ptpm_data.specs.Refusals.{entry_refusal, is_length, is_set_length, is_set_value, is_value};
 
     /// Carries out a request for an id of the table, unless it is refused; a refused one changes no member. The answer is why
@@ -79,6 +79,17 @@ impl DataSets {
             }),
             Layout::Domain => self.default.domain = octets[0],
             Layout::UtcProperties => set_utc_properties(&mut self.time, octets),
+            _ => self.set_port_member(layout, port, octets),
+        }
+    }
+
+    #[tactic(auto, unfolding(crate::specs::Refusals::is_set_length))]
+    fn set_port_member(&mut self, layout: Layout, port: u16, octets: &[u8])
+        requires length { is_set_length layout octets.now ≡ true }
+        requires port { IsTargetPort port self.old }
+        ensures { self.new ≡ set_port_member layout port octets.now self.old }
+    {
+        match layout {
             Layout::LogAnnounceInterval => self.change_ports(
                 port,
                 PortChange::LogAnnounceInterval(first_i8(octets)),

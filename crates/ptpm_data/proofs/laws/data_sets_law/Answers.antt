@@ -1,4 +1,3 @@
-use Rattle.std.proofs.Common.{◌≡◌}
 use Rattle.ptpm_data.proofs.Keeping.{described}
 use Rattle.ptpm_data.proofs.laws.data_sets_law.Goals as goal
 

@@ -1,6 +1,3 @@
-use Rattle.std.proofs.Common.{◌≡◌, refl, Option, None, Bool, true, false, not}
-use Rattle.std.specs.Option.{is_some}
-use Rattle.ptpm_codec.specs.declared.error.ErrorId.{ErrorId}
 use Rattle.ptpm_data.proofs.Carrying.{none_from, suits_from, carried_out-ports}
 use Rattle.ptpm_data.proofs.data_sets.DataSets.carry_out.Goals as goal
 
