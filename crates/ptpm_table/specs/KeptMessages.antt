@@ -15,7 +15,9 @@ use Rattle.ptpm_codec.specs.Message.{Fits}
 use Rattle.ptpm_codec.specs.Reading.{message_of}
 use Rattle.ptpm_data.specs.Reply as reply
 use Rattle.ptpm_data.specs.Reply.{Answer, Outcome}
+use Rattle.ptpm_data.specs.Replies.{reply_action}
 use Rattle.ptpm_table.specs.declared.heard.Heard.{Heard}
+use Rattle.ptpm_table.specs.declared.kept_messages.Exchange.{Exchange}
 use Rattle.ptpm_data.specs.declared.reply.PortAnswer.{PortAnswer}
 use Rattle.ptpm_table.specs.Entries.{Entry}
 use Rattle.ptpm_table.specs.Rendering.{reply_message}
@@ -78,6 +80,9 @@ pub record Envelope : Type 0 where
   pub number : ℕ
   pub action : Action
   pub id : ℕ
+
+abbrev pub envelope_of : Exchange → Envelope
+envelope_of x = record { clock = x.clock; manager = x.manager; number = x.number; action = reply_action x.action; id = x.id }
 
 abbrev pub first_copy : Envelope → Heard
 first_copy e = record { domain = 0; source = e.manager; number = e.number; starting_hops = 0; hops = 0 }

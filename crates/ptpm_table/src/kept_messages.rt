@@ -7,7 +7,7 @@ ghost use Rattle.ptpm_codec.specs.Message.{Fits, IsRequestAction, IsValid};
 ghost use Rattle.ptpm_data.specs.Replies.{reply_action};
 ghost use Rattle.ptpm_data.specs.Reply.{answer_of};
 ghost use Rattle.ptpm_table.specs.Entries.{FitsAnswer, FitsCount};
-ghost use Rattle.ptpm_table.specs.KeptMessages.{AreSizes, IsKeptReply, answer_in, has_port, pieces, port_for, renewed};
+ghost use Rattle.ptpm_table.specs.KeptMessages.{AreSizes, IsKeptReply, answer_in, envelope_of, has_port, pieces, port_for, renewed};
 
 use crate::heard::Heard;
 use crate::outbox::Outbox;
@@ -21,6 +21,17 @@ pub(crate) type Sizes = ArrayVec<u8, 8>;
 
 /// Room for a reply's messages: one of at most 184 octets, or eight of at most 80.
 pub(crate) type Messages = ArrayVec<u8, 640>;
+
+/// Which request of whom is answered, and by which clock.
+#[derive(Clone, Copy)]
+pub(crate) struct Exchange {
+    pub(crate) clock: ClockIdentity,
+    pub(crate) manager: PortIdentity,
+    pub(crate) number: u16,
+    /// What the request asks.
+    pub(crate) action: Action,
+    pub(crate) id: u16,
+}
 
 /// What depends on the copy that is answered.
 #[derive(Clone, Copy)]
@@ -83,36 +94,31 @@ fn append(draft: &Draft<'_>, scratch: &mut Buffer, sizes: &mut Sizes, messages: 
 
 /// Leaves the messages of a reply's answers, and nothing else.
 pub(crate) fn encode_each(
-    clock: &ClockIdentity,
-    manager: &PortIdentity,
-    number: u16,
-    request: Action,
-    id: u16,
+    exchange: &Exchange,
     of_port: bool,
     answers: &[PortAnswer],
     scratch: &mut Buffer,
     sizes: &mut Sizes,
     messages: &mut Messages,
 )
-    requires asks { IsRequestAction request }
+    requires asks { IsRequestAction exchange.now.action }
     requires count { FitsCount of_port (length answers.now) }
-    requires suits { All (λ a. FitsAnswer of_port request (answer_of a)) answers.now }
-    ensures kept { IsKeptReply (record { clock = clock.now; manager = manager.now; number = number; action = reply_action request; id = id })
-        of_port sizes.new.items messages.new.items }
+    requires suits { All (λ a. FitsAnswer of_port exchange.now.action (answer_of a)) answers.now }
+    ensures kept { IsKeptReply (envelope_of exchange.now) of_port sizes.new.items messages.new.items }
     ensures answers { map (answer_in of_port) (pieces sizes.new.items messages.new.items) ≡ map answer_of answers.now }
 {
     sizes.clear();
     messages.clear();
-    let action = reply_action(request);
+    let action = reply_action(exchange.action);
     let copy = Heard {
         domain: 0,
-        source: *manager,
-        number,
+        source: exchange.manager,
+        number: exchange.number,
         starting_hops: 0,
         hops: 0,
     };
     for answer in answers {
-        let draft = draft_of(clock, &copy, action, id, answer, 0);
+        let draft = draft_of(&exchange.clock, &copy, action, exchange.id, answer, 0);
         append(&draft, scratch, sizes, messages);
     }
 }

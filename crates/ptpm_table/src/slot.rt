@@ -7,7 +7,7 @@ ghost use Rattle.ptpm_table.specs.Rendering.{rendered};
 
 use crate::heard::Heard;
 use crate::kept_messages::{
-    Messages, Renewal, Sizes, encode_each, has_port, port_for, resend_each,
+    Exchange, Messages, Renewal, Sizes, encode_each, has_port, port_for, resend_each,
 };
 use crate::outbox::Outbox;
 use arrayvec::ArrayVec;
@@ -147,18 +147,15 @@ impl Kept {
         let _ = self.octets.try_extend_from_slice(request.octets);
         let answers = reply.answers.as_slice();
         self.of_port = has_port(answers);
-        encode_each(
-            &self.clock,
-            &self.manager,
+        let exchange = Exchange {
+            clock: self.clock,
+            manager: self.manager,
             number,
-            request.action,
-            request.id,
-            self.of_port,
-            answers,
-            scratch,
-            &mut self.sizes,
-            &mut self.messages,
-        );
+            action: request.action,
+            id: request.id,
+        };
+        let (sizes, messages) = (&mut self.sizes, &mut self.messages);
+        encode_each(&exchange, self.of_port, answers, scratch, sizes, messages);
     }
 
     /// Appends the messages of the reply, for the copy of the request that was heard.
