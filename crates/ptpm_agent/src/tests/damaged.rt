@@ -133,6 +133,8 @@ fn damaged_values(rt: HostRuntime) -> Result<(), Fail> {
     damage(&rt, alloc, numbering::SET_LOG_SYNC_INTERVAL)?;
     damage(&rt, alloc, numbering::OLDER_NUMBER)?;
     damage(&rt, alloc, numbering::REPEAT_GETS_KEPT_REPLY)?;
+    damage(&rt, alloc, numbering::SAME_NUMBER_OTHER_REQUEST)?;
+    damage(&rt, alloc, numbering::NUMBERS_WRAP)?;
     damage(&rt, alloc, numbering::SET_DOMAIN)
 }
 
@@ -148,8 +150,11 @@ fn damaged_errors(rt: HostRuntime) -> Result<(), Fail> {
 #[test]
 fn damaged_on_the_way(rt: HostRuntime) -> Result<(), Fail> {
     let alloc = rt.alloc();
+    damage(&rt, alloc, forwarding::NOT_FOR_THIS_CLOCK)?;
     damage(&rt, alloc, forwarding::FORWARDING_KEEPS_OCTETS)?;
     damage(&rt, alloc, forwarding::AT_A)?;
+    damage(&rt, alloc, forwarding::AT_B)?;
+    damage(&rt, alloc, forwarding::AT_C)?;
     damage(&rt, alloc, strangers::STRANGERS)?;
     damage(&rt, alloc, strangers::TO_EVERY_PORT)
 }
