@@ -1,0 +1,113 @@
+//! The datagrams that are measured. Each comes in at port 1 of a clock that has answered a GET of PRIORITY1 by its
+//! manager, with sequenceId 7.
+
+/// What is handled again and again.
+#[derive(Clone, Copy, Debug, PartialEq, Eq)]
+pub enum List {
+    /// A GET of PRIORITY1, read by `view` and not handled, under a new sequenceId each time.
+    View,
+    /// A GET of PRIORITY1 by the manager, under a new sequenceId each time.
+    Get,
+    /// A GET of PRIORITY1 by a stranger, which is not numbered.
+    Stranger,
+    /// A SET of PRIORITY1 by the manager, under a new sequenceId each time.
+    Set,
+    /// The manager's accepted GET once more.
+    Repeat,
+    /// A GET for another clock, passed on at one port.
+    Forward,
+    /// A GET for another clock with no hops left.
+    OtherClock,
+    /// The manager's GET under an older sequenceId.
+    Old,
+}
+
+impl List {
+    /// Every list.
+    pub const ALL: [List; 8] = [
+        List::View,
+        List::Get,
+        List::Stranger,
+        List::Set,
+        List::Repeat,
+        List::Forward,
+        List::OtherClock,
+        List::Old,
+    ];
+
+    /// Its word on the command line.
+    pub fn name(self) -> &'static str {
+        match self {
+            List::View => "view",
+            List::Get => "get",
+            List::Stranger => "stranger",
+            List::Set => "set",
+            List::Repeat => "repeat",
+            List::Forward => "forward",
+            List::OtherClock => "other_clock",
+            List::Old => "old",
+        }
+    }
+
+    /// The datagram.
+    pub fn datagram(self) -> &'static [u8] {
+        match self {
+            List::View | List::Get | List::Repeat => &GET_PRIORITY1,
+            List::Stranger => &STRANGER_GET_PRIORITY1,
+            List::Set => &SET_PRIORITY1,
+            List::Forward => &GET_OF_ANOTHER_CLOCK,
+            List::OtherClock => &GET_OF_ANOTHER_CLOCK_WITHOUT_HOPS,
+            List::Old => &OLDER_GET_PRIORITY1,
+        }
+    }
+
+    /// By how much the sequenceId rises each time.
+    pub fn step(self) -> u16 {
+        match self {
+            List::View | List::Get | List::Set => 1,
+            _ => 0,
+        }
+    }
+}
+
+/// GET PRIORITY1 of manager 0011223344556677/1 to clock aabbccfffeddee01 and every port, sequenceId 7.
+pub const GET_PRIORITY1: [u8; 54] = [
+    0x0d, 0x12, 0x00, 0x36, 0, 0, 0, 0, 0, 0, 0, 0, 0, 0, 0, 0, 0, 0, 0, 0, 0x00, 0x11, 0x22, 0x33,
+    0x44, 0x55, 0x66, 0x77, 0x00, 0x01, 0x00, 0x07, 0x04, 0x7f, 0xaa, 0xbb, 0xcc, 0xff, 0xfe, 0xdd,
+    0xee, 0x01, 0xff, 0xff, 0x01, 0x01, 0x00, 0x00, 0x00, 0x01, 0x00, 0x02, 0x20, 0x05,
+];
+
+/// The same with sequenceId 6.
+const OLDER_GET_PRIORITY1: [u8; 54] = [
+    0x0d, 0x12, 0x00, 0x36, 0, 0, 0, 0, 0, 0, 0, 0, 0, 0, 0, 0, 0, 0, 0, 0, 0x00, 0x11, 0x22, 0x33,
+    0x44, 0x55, 0x66, 0x77, 0x00, 0x01, 0x00, 0x06, 0x04, 0x7f, 0xaa, 0xbb, 0xcc, 0xff, 0xfe, 0xdd,
+    0xee, 0x01, 0xff, 0xff, 0x01, 0x01, 0x00, 0x00, 0x00, 0x01, 0x00, 0x02, 0x20, 0x05,
+];
+
+/// SET PRIORITY1 to 100, of the same manager.
+const SET_PRIORITY1: [u8; 56] = [
+    0x0d, 0x12, 0x00, 0x38, 0, 0, 0, 0, 0, 0, 0, 0, 0, 0, 0, 0, 0, 0, 0, 0, 0x00, 0x11, 0x22, 0x33,
+    0x44, 0x55, 0x66, 0x77, 0x00, 0x01, 0x00, 0x07, 0x04, 0x7f, 0xaa, 0xbb, 0xcc, 0xff, 0xfe, 0xdd,
+    0xee, 0x01, 0xff, 0xff, 0x01, 0x01, 0x01, 0x00, 0x00, 0x01, 0x00, 0x04, 0x20, 0x05, 0x64, 0x00,
+];
+
+/// GET PRIORITY1 of 0a0b0c0d0e0f1011/1, who is not configured.
+const STRANGER_GET_PRIORITY1: [u8; 54] = [
+    0x0d, 0x12, 0x00, 0x36, 0, 0, 0, 0, 0, 0, 0, 0, 0, 0, 0, 0, 0, 0, 0, 0, 0x0a, 0x0b, 0x0c, 0x0d,
+    0x0e, 0x0f, 0x10, 0x11, 0x00, 0x01, 0x00, 0x07, 0x04, 0x7f, 0xaa, 0xbb, 0xcc, 0xff, 0xfe, 0xdd,
+    0xee, 0x01, 0xff, 0xff, 0x01, 0x01, 0x00, 0x00, 0x00, 0x01, 0x00, 0x02, 0x20, 0x05,
+];
+
+/// GET PRIORITY1 of the manager to clock aabbccfffeddee02, with one hop left.
+const GET_OF_ANOTHER_CLOCK: [u8; 54] = [
+    0x0d, 0x12, 0x00, 0x36, 0, 0, 0, 0, 0, 0, 0, 0, 0, 0, 0, 0, 0, 0, 0, 0, 0x00, 0x11, 0x22, 0x33,
+    0x44, 0x55, 0x66, 0x77, 0x00, 0x01, 0x00, 0x07, 0x04, 0x7f, 0xaa, 0xbb, 0xcc, 0xff, 0xfe, 0xdd,
+    0xee, 0x02, 0xff, 0xff, 0x01, 0x01, 0x00, 0x00, 0x00, 0x01, 0x00, 0x02, 0x20, 0x05,
+];
+
+/// The same with no hops left.
+const GET_OF_ANOTHER_CLOCK_WITHOUT_HOPS: [u8; 54] = [
+    0x0d, 0x12, 0x00, 0x36, 0, 0, 0, 0, 0, 0, 0, 0, 0, 0, 0, 0, 0, 0, 0, 0, 0x00, 0x11, 0x22, 0x33,
+    0x44, 0x55, 0x66, 0x77, 0x00, 0x01, 0x00, 0x07, 0x04, 0x7f, 0xaa, 0xbb, 0xcc, 0xff, 0xfe, 0xdd,
+    0xee, 0x02, 0xff, 0xff, 0x01, 0x00, 0x00, 0x00, 0x00, 0x01, 0x00, 0x02, 0x20, 0x05,
+];

@@ -1,0 +1,62 @@
+//! The program `ptpm_measure`: one datagram, handled by one clock as often as told, so that a counter of instructions
+//! (callgrind) tells by the difference of two runs what one datagram costs.
+#![tactic(auto)]
+
+mod clock;
+mod list;
+mod running;
+
+use list::List;
+use running::{Outcome, handle_each, view_each};
+use std::io;
+use std::process::ExitCode;
+
+fn main(rt: HostRuntime) -> ExitCode {
+    match measure(&rt) {
+        Ok(true) => ExitCode::from(0),
+        Ok(false) => {
+            let _ = eprintln!(rt; "usage: ptpm_measure LIST COUNT");
+            ExitCode::from(2)
+        }
+        Err(_) => ExitCode::from(1),
+    }
+}
+
+/// Runs the list that the words name, or all of them; whether the words are understood.
+fn measure(rt: &HostRuntime) -> io::Result<bool> {
+    let alloc = rt.alloc();
+    let words: Vec<String> = std::env::args(rt)?.collect(alloc)?;
+    let [_, name, count] = words.as_slice() else {
+        return Ok(false);
+    };
+    let Ok(count) = count.as_str().parse::<u32>() else {
+        return Ok(false);
+    };
+    let mut known = false;
+    for list in List::ALL {
+        if name.as_str() == "all" || name.as_str() == list.name() {
+            known = true;
+            show(rt, list, count)?;
+        }
+    }
+    Ok(known)
+}
+
+/// Prints the list's name, the verdict on its last datagram, and how many messages of how many octets were sent for it;
+/// where it is only read, the sum of the sequenceIds.
+fn show(rt: &HostRuntime, list: List, count: u32) -> io::Result<()> {
+    let name = list.name();
+    if list == List::View {
+        return println!(rt; "{name} {}", view_each(list, count));
+    }
+    match handle_each(list, count) {
+        None => println!(rt; "{name} not run"),
+        Some(
+            Outcome {
+                verdict,
+                messages,
+                octets,
+            },
+        ) => println!(rt; "{name} {verdict} {messages} {octets}"),
+    }
+}
