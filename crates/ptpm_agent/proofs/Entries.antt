@@ -58,18 +58,22 @@ IsKept-other first c h x m (Some e) other k =
     latest_at first (joined c h x) m e (greatest m h.accepted) (greatest_other m (accepted_from c h x) h.accepted other) k.some
     (kept_other m (greatest m h.accepted) (accepted_from c h x) h.accepted other ∙ k.kept) k.number
 
-abbrev entry_of : Clock → State → Message → Entry
-entry_of c s v = record { number = v.number; request = request_of v; reply = new_reply c s v }
+abbrev pub accepted_entry : Clock → State → Message → Entry
+accepted_entry c s v = record { number = v.number; request = request_of v; reply = new_reply c s v }
+
+-- what is kept of its manager once a request is carried out
+pub accepted_kept : (c : Clock) (s t : State) (v : Message) → t ≡ carried_out c s v → get t.entries v.source ≡ Some (accepted_entry c s v)
+accepted_kept c s t v e = ap (λ (u : State). get u.entries v.source) e ∙ get-insert_same s.entries v.source (accepted_entry c s v)
 
 -- the entry that is put in is the latest of its manager
-IsLatest-joined : (first : PortIdentity → ℕ) (c : Clock) (s : State) (h : History) (x : Delivery) (v : Message) → StandsAt first s h → IsNumbered first (copy_from x v) → greatest v.source h.accepted < x.index → IsLatest first (joined c h (copy_from x v)) v.source (entry_of c s v)
+IsLatest-joined : (first : PortIdentity → ℕ) (c : Clock) (s : State) (h : History) (x : Delivery) (v : Message) → StandsAt first s h → IsNumbered first (copy_from x v) → greatest v.source h.accepted < x.index → IsLatest first (joined c h (copy_from x v)) v.source (accepted_entry c s v)
 IsLatest-joined first c s h x v stands n above =
     let same : same_identity v.source v.source ≡ true = same_identity-refl v.source in
     let new : Accepted = accepted_from c h (copy_from x v) in
-    latest_at first (joined c h (copy_from x v)) v.source (entry_of c s v) x.index
+    latest_at first (joined c h (copy_from x v)) v.source (accepted_entry c s v) x.index
     (greatest_same v.source new h.accepted same above) n.positive
     (kept_same v.source new h.accepted same
-    ∙ ap (λ (d : DataSetsValue). Some (accepted_at v.source x.index (entry_of c (record s { sets = d }) v))) (sym stands.sets))
+    ∙ ap (λ (d : DataSetsValue). Some (accepted_at v.source x.index (accepted_entry c (record s { sets = d }) v))) (sym stands.sets))
     n.number
 
 -- a clock that carries a copy out stands where the history stands that the copy joins
@@ -78,7 +82,7 @@ StandsAt-joined first c s h x v stands n above = record {
   sets = ap (changed_by (request_of v) (c.rights v.source)) stands.sets;
   entries = λ m.
       let new : History = joined c h (copy_from x v) in
-      let e : Entry = entry_of c s v in
+      let e : Entry = accepted_entry c s v in
       ⊎_elim
       (λ (same : same_identity m v.source ≡ true).
       subst (λ (q : PortIdentity). IsKept first new q (get (insert s.entries v.source e) q)) (sym (same_identity-true m v.source same))

@@ -1,12 +1,13 @@
 //! One clock's management agent, over any reply table.
 
-ghost use Rattle.std.specs.Prelude.{◌≡◌, ◌≢◌, ◌≤◌, ◌++◌, Ok, IfOk, OnOk, OnErr, length};
+ghost use Rattle.std.specs.Prelude.{◌≡◌, ◌≢◌, ◌≤◌, ◌++◌, Ok, Some, IfOk, OnOk, OnErr, length};
 ghost use Rattle.ptpm_codec.specs.Layout.{message_octets};
 ghost use Rattle.ptpm_codec.specs.Message.{IsValid};
 ghost use Rattle.ptpm_codec.specs.Reading.{reading};
 ghost use Rattle.ptpm_codec.specs.Spelling.{Spells};
 ghost use Rattle.ptpm_data.specs.Members.{HasPort};
-ghost use Rattle.ptpm_table.specs.Entries.{HasEntry};
+ghost use Rattle.std.specs.FinMap.{get};
+ghost use Rattle.ptpm_table.specs.Entries.{Entry, HasEntry};
 ghost use Rattle.ptpm_table.specs.Rendering.{IsSendable, rendered};
 ghost use Rattle.ptpm_agent.specs.Agent.{IsTurned, clock_of, state_of};
 ghost use Rattle.ptpm_agent.specs.Forwarding.{forwarded};
@@ -23,6 +24,8 @@ use ptpm_table::{Heard, Look, Outbox, ReplyTable, SureTable, render};
 pub struct Agent<T: ReplyTable + Drop> {
     sets: DataSets,
     table: T,
+    /// Where a reply is made, so that none is made anew and moved.
+    scratch: Reply,
 }
 
 impl<T: ReplyTable + Drop> Agent<T> {
@@ -32,7 +35,11 @@ impl<T: ReplyTable + Drop> Agent<T> {
         ensures sets { result.sets ≡ sets }
         ensures table { result.table ≡ table }
     {
-        Agent { sets, table }
+        Agent {
+            sets,
+            table,
+            scratch: Reply::empty(),
+        }
     }
 
     /// The data sets as they stand.
@@ -82,7 +89,16 @@ impl<T: ReplyTable + Drop> Agent<T> {
                 let reply = self.try_accept(&message)?;
                 self.send(&reply, ingress, &message, out);
             }
-            _ => self.answer(verdict, ingress, datagram, &message, out),
+            _ => Agent::answer(
+                &self.sets,
+                &self.table,
+                &mut self.scratch,
+                verdict,
+                ingress,
+                datagram,
+                &message,
+                out,
+            ),
         }
         Ok(verdict)
     }
@@ -158,66 +174,63 @@ impl<T: ReplyTable + Drop> Agent<T> {
 
     /// Leaves in the outbox what is sent for a message that is not carried out, and nothing else.
     fn answer(
-        &self,
+        sets: &DataSets,
+        table: &T,
+        scratch: &mut Reply,
         verdict: Verdict,
         ingress: u16,
         datagram: &[u8],
         message: &View<'_>,
         out: &mut Outbox,
     )
-        requires port { HasPort ingress self.now.sets }
+        requires port { HasPort ingress sets.now }
         requires read { reading datagram.now ≡ Ok message.now }
         requires spelled { Spells message.now (message_octets datagram.now) }
         requires verdict { verdict ≡ judged
-            (clock_of T.identity T.managers T.rights_of self.now.table)
-            (state_of T.entries self.now.sets self.now.table) message.now }
+            (clock_of T.identity T.managers T.rights_of table.now)
+            (state_of T.entries sets.now table.now) message.now }
         requires repeat { verdict ≡ Verdict.AnsweredRepeat →
-            HasEntry (T.entries self.now.table) message.now.source message.now.number }
+            HasEntry (T.entries table.now) message.now.source message.now.number }
         requires not_new { verdict ≢ Verdict.AnsweredNew }
         requires valid { IsValid message.now }
-        ensures { out.new ≡ forwarded (T.identity self.now.table) ingress self.now.sets datagram.now ++ reply_messages
-            (clock_of T.identity T.managers T.rights_of self.now.table) ingress (heard_of message.now)
-            (reply_by verdict (clock_of T.identity T.managers T.rights_of self.now.table)
-            (state_of T.entries self.now.sets self.now.table) message.now) }
+        ensures { out.new ≡ forwarded (T.identity table.now) ingress sets.now datagram.now ++ reply_messages
+            (clock_of T.identity T.managers T.rights_of table.now) ingress (heard_of message.now)
+            (reply_by verdict (clock_of T.identity T.managers T.rights_of table.now)
+            (state_of T.entries sets.now table.now) message.now) }
     {
-        forward(
-            &self.table.clock(),
-            &self.sets,
-            ingress,
-            datagram,
-            message,
-            out,
-        );
-        self.reply(verdict, ingress, message, out);
+        forward(&table.clock(), sets, ingress, datagram, message, out);
+        Agent::reply(sets, table, scratch, verdict, ingress, message, out);
     }
 
     /// Appends the reply to a message that is not carried out, if it gets one.
-    fn reply(&self, verdict: Verdict, ingress: u16, message: &View<'_>, out: &mut Outbox)
+    fn reply(
+        sets: &DataSets,
+        table: &T,
+        scratch: &mut Reply,
+        verdict: Verdict,
+        ingress: u16,
+        message: &View<'_>,
+        out: &mut Outbox,
+    )
         requires verdict { verdict ≡ judged
-            (clock_of T.identity T.managers T.rights_of self.now.table)
-            (state_of T.entries self.now.sets self.now.table) message.now }
+            (clock_of T.identity T.managers T.rights_of table.now)
+            (state_of T.entries sets.now table.now) message.now }
         requires repeat { verdict ≡ Verdict.AnsweredRepeat →
-            HasEntry (T.entries self.now.table) message.now.source message.now.number }
+            HasEntry (T.entries table.now) message.now.source message.now.number }
         requires not_new { verdict ≢ Verdict.AnsweredNew }
         requires valid { IsValid message.now }
         requires room { length out.old ≤ 7 }
         ensures { out.new ≡ out.old ++ reply_messages
-            (clock_of T.identity T.managers T.rights_of self.now.table) ingress (heard_of message.now)
-            (reply_by verdict (clock_of T.identity T.managers T.rights_of self.now.table)
-            (state_of T.entries self.now.sets self.now.table) message.now) }
+            (clock_of T.identity T.managers T.rights_of table.now) ingress (heard_of message.now)
+            (reply_by verdict (clock_of T.identity T.managers T.rights_of table.now)
+            (state_of T.entries sets.now table.now) message.now) }
     {
         match verdict {
-            Verdict::AnsweredRepeat => self.table.resend(&heard_of(message), ingress, out),
+            Verdict::AnsweredRepeat => table.resend(&heard_of(message), ingress, out),
             Verdict::AnsweredUnnumbered => {
-                data_sets_law(&self.sets);
-                let reply = self.sets.read(&request_of(message));
-                render(
-                    &self.table.clock(),
-                    &heard_of(message),
-                    &reply,
-                    ingress,
-                    out,
-                );
+                data_sets_law(sets);
+                sets.read_into(&request_of(message), scratch);
+                render(&table.clock(), &heard_of(message), scratch, ingress, out);
             }
             _ => {}
         }
@@ -283,24 +296,29 @@ impl<T: SureTable + Drop> Agent<T> {
         let verdict = self.judge(&message);
         match verdict {
             Verdict::AnsweredNew => {
-                let reply = self.accept(&message);
-                self.send(&reply, ingress, &message, out);
+                self.accept(&message);
+                self.send_kept(ingress, &message, out);
             }
-            _ => self.answer(verdict, ingress, datagram, &message, out),
+            _ => Agent::answer(
+                &self.sets,
+                &self.table,
+                &mut self.scratch,
+                verdict,
+                ingress,
+                datagram,
+                &message,
+                out,
+            ),
         }
         verdict
     }
 
     /// Carries out a new request and keeps it with its reply.
-    fn accept(&mut self, message: &View<'_>) -> Reply
+    fn accept(&mut self, message: &View<'_>)
         requires new { judged
             (clock_of T.identity T.managers T.rights_of self.old.table)
             (state_of T.entries self.old.sets self.old.table) message.now ≡ Verdict.AnsweredNew }
         requires valid { IsValid message.now }
-        ensures reply { result ≡ new_reply
-            (clock_of T.identity T.managers T.rights_of self.old.table)
-            (state_of T.entries self.old.sets self.old.table) message.now }
-        ensures sendable { IsSendable result }
         ensures accepted { state_of T.entries self.new.sets self.new.table ≡ carried_out
             (clock_of T.identity T.managers T.rights_of self.old.table)
             (state_of T.entries self.old.sets self.old.table) message.now }
@@ -310,10 +328,20 @@ impl<T: SureTable + Drop> Agent<T> {
         let source = message.source();
         let request = request_of(message);
         data_sets_law(&self.sets);
-        let reply = self.sets.decide(&request, self.table.rights(&source));
+        let rights = self.table.rights(&source);
+        self.sets.decide_into(&request, rights, &mut self.scratch);
         self.table
-            .replace(&source, message.number(), &request, &reply);
-        reply
+            .replace(&source, message.number(), &request, &self.scratch);
+    }
+
+    /// Leaves the messages of the reply that is kept for a message in the outbox, and nothing else.
+    fn send_kept(&self, ingress: u16, message: &View<'_>, out: &mut Outbox)
+        requires kept { HasEntry (T.entries self.now.table) message.now.source message.now.number }
+        ensures { (e : Entry) → get (T.entries self.now.table) message.now.source ≡ Some e →
+            out.new ≡ rendered (T.identity self.now.table) (heard_of message.now) e.reply ingress }
+    {
+        out.clear();
+        self.table.resend(&heard_of(message), ingress, out);
     }
 }
 

@@ -30,11 +30,25 @@ impl DataSets {
         ensures reply { result ≡ reply_to request.now rights self.old }
         ensures changed { self.new ≡ changed_by request.now rights self.old }
     {
+        let mut reply = Reply::empty();
+        self.decide_into(request, rights, &mut reply);
+        reply
+    }
+
+    /// Does what `decide` does, and leaves the answer in place of another reply.
+    pub fn decide_into(&mut self, request: &Request<'_>, rights: Rights, reply: &mut Reply)
+        requires action { IsRequestAction request.now.action }
+        requires port { IsTargetPort request.now.port self.old }
+        requires octets { IsDataField request.now.octets }
+        ensures reply { reply.new ≡ reply_to request.now rights self.old }
+        ensures changed { self.new ≡ changed_by request.now rights self.old }
+    {
         let Some(row) = row(request.id) else {
-            return Reply::refused_by_clock(request, ErrorId::NoSuchId);
+            reply.refuse_by_clock(request, ErrorId::NoSuchId);
+            return;
         };
         let refusal = self.carry_out(&row, request, rights);
-        self.reply(&row, request, refusal)
+        self.put_reply(&row, request, refusal, reply);
     }
 }
 

@@ -28,6 +28,18 @@ impl DataSets {
         requires octets { IsDataField request.now.octets }
         ensures { result ≡ read_reply_to request.now self.now }
     {
+        let mut reply = Reply::empty();
+        self.read_into(request, &mut reply);
+        reply
+    }
+
+    /// Does what `read` does, and leaves the answer in place of another reply.
+    pub fn read_into(&self, request: &Request<'_>, reply: &mut Reply)
+        requires action { IsRequestAction request.now.action }
+        requires port { IsTargetPort request.now.port self.now }
+        requires octets { IsDataField request.now.octets }
+        ensures { reply.new ≡ read_reply_to request.now self.now }
+    {
         let get = is_get(request.action);
         let Some(row) = row(request.id) else {
             let error = if get {
@@ -35,14 +47,15 @@ impl DataSets {
             } else {
                 ErrorId::NotSupported
             };
-            return Reply::refused_by_clock(request, error);
+            reply.refuse_by_clock(request, error);
+            return;
         };
         let refusal = if get {
             refusal(&row, request, Rights::empty())
         } else {
             Some(ErrorId::NotSupported)
         };
-        self.reply(&row, request, refusal)
+        self.put_reply(&row, request, refusal, reply);
     }
 }
 

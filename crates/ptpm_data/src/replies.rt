@@ -18,23 +18,26 @@ impl DataSets {
     ghost use Rattle.ptpm_data.specs.Reply.{answer_of};
     ghost use Rattle.ptpm_data.specs.Replies.{answer, named_ports, port_answers, reply_of};
 
-    /// The reply to a request for an id of the table, which was carried out, or refused for this reason.
+    /// Leaves the reply to a request for an id of the table, which was carried out, or refused for this reason.
     #[tactic(auto, unfolding(crate::specs::Replies::reply_of))]
-    pub(crate) fn reply(&self, row: &Row, request: &Request<'_>, refusal: Option<ErrorId>) -> Reply
+    pub(crate) fn put_reply(
+        &self,
+        row: &Row,
+        request: &Request<'_>,
+        refusal: Option<ErrorId>,
+        reply: &mut Reply,
+    )
         requires row { row_of request.now.id ≡ Some (entry_of row.now) }
         requires port { IsTargetPort request.now.port self.now }
-        ensures { result ≡ reply_of request.now refusal self.now }
+        ensures { reply.new ≡ reply_of request.now refusal self.now }
     {
-        let mut reply = Reply {
-            action: reply_action(request.action),
-            id: request.id,
-            answers: ArrayVec::new(),
-        };
+        reply.action = reply_action(request.action);
+        reply.id = request.id;
+        reply.answers.clear();
         match row.scope {
             Scope::Clock => reply.answers.push(self.answer(None, row, request, refusal)),
             Scope::Port => self.put_answers(row, request, refusal, &mut reply.answers),
         }
-        reply
     }
 
     /// Appends the answer of each named port.
@@ -72,6 +75,7 @@ impl DataSets {
         }
     }
 
+    #[inline(always)]
     #[tactic(auto, unfolding(crate::specs::Replies::answer))]
     fn answer(
         &self,
@@ -97,24 +101,32 @@ impl DataSets {
 }
 
 impl Reply {
-    ghost use Rattle.std.specs.Prelude.{Some, None};
+    ghost use Rattle.std.specs.Prelude.{Some, None, []};
     ghost use Rattle.ptpm_data.specs.IdTable.{row_of};
     ghost use Rattle.ptpm_data.specs.Replies.{refused_by_clock};
 
-    /// The reply to a request for an id that is not in the table; the clock gives it.
-    pub(crate) fn refused_by_clock(request: &Request<'_>, error: ErrorId) -> Reply
-        ensures { result ≡ refused_by_clock request.now error }
+    /// A reply without answers, to be written over.
+    pub fn empty() -> Reply
+        ensures { result ≡ record { action = Action.Response; id = 0; answers = [] } }
     {
-        let mut answers = ArrayVec::new();
-        answers.push(PortAnswer {
+        Reply {
+            action: Action::Response,
+            id: 0,
+            answers: ArrayVec::new(),
+        }
+    }
+
+    /// Becomes the reply to a request for an id that is not in the table; the clock gives it.
+    pub(crate) fn refuse_by_clock(&mut self, request: &Request<'_>, error: ErrorId)
+        ensures { self.new ≡ refused_by_clock request.now error }
+    {
+        self.action = reply_action(request.action);
+        self.id = request.id;
+        self.answers.clear();
+        self.answers.push(PortAnswer {
             port: None,
             what: What::Refused(error),
         });
-        Reply {
-            action: reply_action(request.action),
-            id: request.id,
-            answers,
-        }
     }
 }
 

@@ -2,18 +2,17 @@ use Rattle.std.proofs.Common.{sym, subst}
 use Rattle.std.specs.Bool.{IsTrue}
 use Rattle.ptpm_codec.specs.declared.identity.PortIdentity.{PortIdentity}
 use Rattle.ptpm_table.specs.Entries.{is_known}
-use Rattle.ptpm_table.proofs.Fitting.{fitting_sendable}
 use Rattle.ptpm_agent.proofs.Fitting.{fits_numbered, may_judge_action, may_judge_port}
 use Rattle.ptpm_agent.proofs.Turns.{new_parts}
 use Rattle.ptpm_agent.proofs.agent.Agent.accept.Goals as goal
 
-pub decide-reply-requires-clause-action : goal.decide-reply-requires-clause-action
-decide-reply-requires-clause-action g c =
+pub decide_into-requires-clause-action : goal.decide_into-requires-clause-action
+decide_into-requires-clause-action g c =
     let p = new_parts _ _ _ c.requires.new in
     may_judge_action c.request_of-request.result c.args.message.now c.request_of-request.ensures p.request
 
-pub decide-reply-requires-clause-port : goal.decide-reply-requires-clause-port
-decide-reply-requires-clause-port g c =
+pub decide_into-requires-clause-port : goal.decide_into-requires-clause-port
+decide_into-requires-clause-port g c =
     let p = new_parts _ _ _ c.requires.new in
     may_judge_port c.request_of-request.result c.args.self.now.sets c.args.message.now c.request_of-request.ensures p.port
 
@@ -30,12 +29,5 @@ replace-requires-clause-action g c =
 pub replace-requires-clause-fits : goal.replace-requires-clause-fits
 replace-requires-clause-fits g c =
     let p = new_parts _ _ _ c.requires.new in
-    fits_numbered c.request_of-request.result c.rights.result c.args.self.now.sets c.args.message.now c.decide-reply.result
-    c.request_of-request.ensures c.data_sets_law.ensures.sized p.request p.port c.requires.valid c.decide-reply.ensures.reply
-
-pub returns-clause-sendable : goal.returns-clause-sendable
-returns-clause-sendable g c =
-    let p = new_parts _ _ _ c.requires.new in
-    fitting_sendable c.request_of-request.result c.decide-reply.result
-    (fits_numbered c.request_of-request.result c.rights.result c.args.self.now.sets c.args.message.now c.decide-reply.result
-    c.request_of-request.ensures c.data_sets_law.ensures.sized p.request p.port c.requires.valid c.decide-reply.ensures.reply)
+    fits_numbered c.request_of-request.result c.rights-rights.result c.args.self.now.sets c.args.message.now c.decide_into.new.reply
+    c.request_of-request.ensures c.data_sets_law.ensures.sized p.request p.port c.requires.valid c.decide_into.ensures.reply

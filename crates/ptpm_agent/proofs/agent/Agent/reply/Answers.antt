@@ -4,29 +4,29 @@ use Rattle.ptpm_agent.proofs.Fitting.{fits_unnumbered, may_judge_action, may_jud
 use Rattle.ptpm_agent.proofs.Turns.{unnumbered_parts}
 use Rattle.ptpm_agent.proofs.agent.Agent.reply.Goals as goal
 
-pub read-reply-requires-clause-action : goal.read-reply-requires-clause-action
-read-reply-requires-clause-action g c =
+pub read_into-requires-clause-action : goal.read_into-requires-clause-action
+read_into-requires-clause-action g c =
     let p = unnumbered_parts _ _ _ (sym c.requires.verdict ∙ c.in-AnsweredUnnumbered.is) in
     may_judge_action c.request_of.result c.args.message.now c.request_of.ensures p.1
 
-pub read-reply-requires-clause-port : goal.read-reply-requires-clause-port
-read-reply-requires-clause-port g c =
+pub read_into-requires-clause-port : goal.read_into-requires-clause-port
+read_into-requires-clause-port g c =
     let p = unnumbered_parts _ _ _ (sym c.requires.verdict ∙ c.in-AnsweredUnnumbered.is) in
-    may_judge_port c.request_of.result c.args.self.now.sets c.args.message.now c.request_of.ensures p.0
+    may_judge_port c.request_of.result c.args.sets.now c.args.message.now c.request_of.ensures p.0
 
 pub render-requires-clause-action : goal.render-requires-clause-action
 render-requires-clause-action g c =
     let p = unnumbered_parts _ _ _ (sym c.requires.verdict ∙ c.in-AnsweredUnnumbered.is) in
-    fitting_action c.request_of.result c.read-reply.result
-    (fits_unnumbered c.request_of.result c.args.self.now.sets c.args.message.now c.read-reply.result c.request_of.ensures
-    c.data_sets_law.ensures.sized p.1 p.0 c.requires.valid c.read-reply.ensures)
+    fitting_action c.request_of.result c.read_into.new.reply
+    (fits_unnumbered c.request_of.result c.args.sets.now c.args.message.now c.read_into.new.reply c.request_of.ensures
+    c.data_sets_law.ensures.sized p.1 p.0 c.requires.valid c.read_into.ensures)
 
 pub render-requires-clause-even : goal.render-requires-clause-even
 render-requires-clause-even g c =
     let p = unnumbered_parts _ _ _ (sym c.requires.verdict ∙ c.in-AnsweredUnnumbered.is) in
-    fitting_even c.request_of.result c.read-reply.result
-    (fits_unnumbered c.request_of.result c.args.self.now.sets c.args.message.now c.read-reply.result c.request_of.ensures
-    c.data_sets_law.ensures.sized p.1 p.0 c.requires.valid c.read-reply.ensures)
+    fitting_even c.request_of.result c.read_into.new.reply
+    (fits_unnumbered c.request_of.result c.args.sets.now c.args.message.now c.read_into.new.reply c.request_of.ensures
+    c.data_sets_law.ensures.sized p.1 p.0 c.requires.valid c.read_into.ensures)
 
 pub render-requires-clause-room : goal.render-requires-clause-room
 render-requires-clause-room g c =
@@ -34,7 +34,7 @@ render-requires-clause-room g c =
     omega (
       arith,
       c.requires.room,
-      fitting_few c.request_of.result c.read-reply.result
-          (fits_unnumbered c.request_of.result c.args.self.now.sets c.args.message.now c.read-reply.result c.request_of.ensures
-          c.data_sets_law.ensures.sized p.1 p.0 c.requires.valid c.read-reply.ensures),
+      fitting_few c.request_of.result c.read_into.new.reply
+          (fits_unnumbered c.request_of.result c.args.sets.now c.args.message.now c.read_into.new.reply c.request_of.ensures
+          c.data_sets_law.ensures.sized p.1 p.0 c.requires.valid c.read_into.ensures),
     )

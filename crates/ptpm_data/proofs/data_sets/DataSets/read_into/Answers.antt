@@ -4,8 +4,8 @@ use Rattle.ptpm_data.specs.IdTable.{entry_of, row_of}
 use Rattle.ptpm_data.specs.Request.{RequestValue}
 use Rattle.ptpm_data.specs.Replies.{is_get}
 use Rattle.ptpm_data.proofs.Answering.{no_entry, entry_is, reply_of-unlisted, read-unlisted, read-listed, read-other}
-use Rattle.ptpm_data.proofs.data_sets.DataSets.read.Goals as goal
-use Rattle.ptpm_data.proofs.data_sets.DataSets.read.Goals.{then-get, else-get, then-get-2, else-get-2}
+use Rattle.ptpm_data.proofs.data_sets.DataSets.read_into.Goals as goal
+use Rattle.ptpm_data.proofs.data_sets.DataSets.read_into.Goals.{then-get, else-get, then-get-2, else-get-2}
 
 pub returns-in_default : goal.returns-in_default
 returns-in_default c =
@@ -13,9 +13,9 @@ returns-in_default c =
     let get : is_get c.args.request.now.action ≡ c.is_get-get.result = ap (λ (q : RequestValue). is_get q.action) (sym c.request.view_is) ∙ sym c.is_get-get.ensures in
     let gone = no_entry (c.row.ensures ∙ id) c.in_default.is in
     elim c.if-get.branch [
-      | then-get w ↦ rw (c.refused_by_clock.ensures, w.error-is) (read-unlisted c.args.request.now c.args.self.now gone (get ∙ w.if-get.true))
+      | then-get w ↦ rw (c.refuse_by_clock.ensures, w.error-is) (read-unlisted c.args.request.now c.args.self.now gone (get ∙ w.if-get.true))
       | else-get w ↦
-          rw (c.refused_by_clock.ensures, w.error-is)
+          rw (c.refuse_by_clock.ensures, w.error-is)
           (reply_of-unlisted c.args.request.now _ c.args.self.now gone ∙ read-other c.args.request.now c.args.self.now (get ∙ w.if-get.false))
     ]
 
@@ -26,7 +26,7 @@ returns c =
     let here = entry_is (c.row.ensures ∙ id) c.in-Some.is in
     elim c.if-get-2.branch [
       | then-get-2 w ↦
-          rw (c.reply.ensures, w.refusal-is, w.refusal-refusal.ensures)
+          rw (c.put_reply.ensures, w.refusal-is, w.refusal-refusal.ensures)
           (read-listed c.args.request.now c.args.self.now (entry_of c.in-Some.row) w.empty.result (w.empty.ensures tt) here (get ∙ w.if-get-2.true))
-      | else-get-2 w ↦ rw (c.reply.ensures, w.refusal-is) (read-other c.args.request.now c.args.self.now (get ∙ w.if-get-2.false))
+      | else-get-2 w ↦ rw (c.put_reply.ensures, w.refusal-is) (read-other c.args.request.now c.args.self.now (get ∙ w.if-get-2.false))
     ]
