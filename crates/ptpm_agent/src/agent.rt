@@ -35,10 +35,11 @@ impl<T: ReplyTable + Drop> Agent<T> {
         ensures sets { result.sets ≡ sets }
         ensures table { result.table ≡ table }
     {
+        let scratch = Reply::empty();
         Agent {
             sets,
             table,
-            scratch: Reply::empty(),
+            scratch,
         }
     }
 

@@ -5,3 +5,4 @@ pub mod ReadingLaws
 pub mod ViewLaws
 pub mod CanonicalLaws
 pub mod RewritingLaws
+pub mod IdentityLaws

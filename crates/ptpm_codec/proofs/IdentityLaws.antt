@@ -1,0 +1,14 @@
+-- Eight octets are told apart by the number that they spell.
+use Rattle.std.proofs.Common.{◌≡◌, ℕ, ◌==◌, ◌<◌, true, List, length, get_or, sym, ◌∙◌, ap}
+use Rattle.std.specs.Int.{from_be_bytes, to_be_bytes, w64}
+use Rattle.std.specs.Str.{bytes_eq}
+use Rattle.std.proofs.lemmas.Bool.Decides.{Decides-eqb, same_from_decides}
+use Rattle.std.proofs.lemmas.Nat.{be_bytes_8}
+use Rattle.std.proofs.lemmas.Slice.Eq.{bytes_eq-Decides}
+
+pub octets_by_number : (a b : List ℕ) (m n : ℕ) → length a ≡ 8 → length b ≡ 8 → ((i : ℕ) → get_or a i 0 < 256) → ((i : ℕ) → get_or b i 0 < 256) → m ≡ from_be_bytes w64 a → n ≡ from_be_bytes w64 b → (m == n) ≡ bytes_eq a b
+octets_by_number a b m n la lb sa sb ma nb =
+    let forth : m == n ≡ true → a ≡ b = λ e.
+    sym (be_bytes_8 a m la sa ma) ∙ (ap (to_be_bytes w64) ((Decides-eqb m n).0 e) ∙ be_bytes_8 b n lb sb nb) in
+    let back : a ≡ b → m == n ≡ true = λ e. (Decides-eqb m n).1 (ma ∙ (ap (from_be_bytes w64) e ∙ sym nb)) in
+    same_from_decides {P = a ≡ b} (m == n) (bytes_eq a b) (forth, back) (bytes_eq-Decides a b)
