@@ -11,7 +11,7 @@ use arrayvec::ArrayVec;
 use ptpm_codec::{Action, ErrorId, PortIdentity};
 
 impl DataSets {
-    ghost use Rattle.std.specs.Prelude.{Some, map, [], ◌-◌, ◌≤◌, ◌+◌, length};
+    ghost use Rattle.std.specs.Prelude.{Some, None, map, [], ◌∷◌, ◌-◌, ◌≤◌, ◌+◌, length};
     ghost use Rattle.std.specs.List.{range_with_len};
     ghost use Rattle.ptpm_data.specs.IdTable.{entry_of, row_of};
     ghost use Rattle.ptpm_data.specs.Changes.{IsTargetPort};
@@ -35,8 +35,42 @@ impl DataSets {
         reply.id = request.id;
         reply.answers.clear();
         match row.scope {
-            Scope::Clock => reply.answers.push(self.answer(None, row, request, refusal)),
+            Scope::Clock => self.put_clock_answer(row, request, refusal, &mut reply.answers),
             Scope::Port => self.put_answers(row, request, refusal, &mut reply.answers),
+        }
+    }
+
+    /// Appends the answer of the clock.
+    #[tactic(auto, unfolding(crate::specs::Replies::answer))]
+    fn put_clock_answer(
+        &self,
+        row: &Row,
+        request: &Request<'_>,
+        refusal: Option<ErrorId>,
+        answers: &mut ArrayVec<PortAnswer, 8>,
+    )
+        requires row { row_of request.now.id ≡ Some (entry_of row.now) }
+        requires empty { answers.old.items ≡ [] }
+        ensures { map answer_of answers.new.items
+            ≡ answer refusal request.now.action request.now.id self.now None ∷ [] }
+    {
+        match refusal {
+            Some(error) => answers.push(PortAnswer {
+                port: None,
+                what: What::Refused(error),
+            }),
+            None if request.action == Action::Command => answers.push(PortAnswer {
+                port: None,
+                what: What::Done,
+            }),
+            None => {
+                let mut value = Value::new();
+                self.put_data_field(row.layout, 0, &mut value);
+                answers.push(PortAnswer {
+                    port: None,
+                    what: What::Value(value),
+                });
+            }
         }
     }
 
@@ -75,7 +109,6 @@ impl DataSets {
         }
     }
 
-    #[inline(always)]
     #[tactic(auto, unfolding(crate::specs::Replies::answer))]
     fn answer(
         &self,
