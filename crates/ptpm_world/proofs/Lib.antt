@@ -17,3 +17,12 @@ pub mod InTime
 pub mod Receiving
 pub mod Turning
 pub mod Standing
+pub mod WordLemmas
+pub mod NumberLemmas
+pub mod EntryLemmas
+pub mod PlaceLemmas
+pub mod RepeatLemmas
+pub mod NetworkLemmas
+pub mod NetworkLaw
+pub mod DescribedLaws
+pub mod SizeLaw

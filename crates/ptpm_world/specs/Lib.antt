@@ -5,3 +5,13 @@ pub mod Events
 pub mod Machine
 pub mod Invariant
 pub mod Stands
+pub mod Words
+pub mod Numbers
+pub mod Document
+pub mod Values
+pub mod EventLine
+pub mod NetworkValue
+pub mod Entries
+pub mod NetworkFile
+pub mod NetworkText
+pub mod Described

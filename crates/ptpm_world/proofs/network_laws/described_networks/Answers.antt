@@ -1,0 +1,7 @@
+use Rattle.ptpm_world.proofs.DescribedLaws.{described-network}
+use Rattle.ptpm_world.proofs.NetworkLaw.{accepted}
+use Rattle.ptpm_world.proofs.SizeLaw.{sized}
+use Rattle.ptpm_world.proofs.network_laws.described_networks.Goals as goal
+
+pub returns : goal.returns
+returns c text n h = described-network n (accepted text n h) (sized text n h)
