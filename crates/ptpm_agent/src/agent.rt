@@ -159,6 +159,7 @@ impl<T: ReplyTable + Drop> Agent<T> {
     }
 
     /// What a numbered request is to the table; unknown is any other.
+    #[inline(always)]
     fn look(&self, message: &View<'_>) -> Look
         ensures look { result ≡ look
             (clock_of T.identity T.managers T.rights_of self.now.table)

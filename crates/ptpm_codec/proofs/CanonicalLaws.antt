@@ -221,6 +221,12 @@ has_tlv (bodies.Fault action error id text) (answers, small) (error_fits, id_fit
       );
     }
 
+pub tlv_at_most : (body : Body) → IsValidBody body → length (tlv_octets body) ≤ 1424
+unfolding tlv_octets
+tlv_at_most (bodies.Request action id octets) (asks, field) = let small = field.small in omega arith
+tlv_at_most (bodies.Answer action id octets) (answers, field) = let small = field.small in omega arith
+tlv_at_most (bodies.Fault action error id text) (answers, small) = let most = (padded text).most in omega arith
+
 -- ---- the whole
 
 -- the canonical spelling of a valid message is from 54 to 1,472 octets long

@@ -1,12 +1,12 @@
 //! Messages to octets: the canonical spelling, piece by piece.
 
-ghost use Rattle.std.specs.Prelude.{◌≡◌, ◌+◌, ◌≤◌, ◌++◌, List, length, ◌∷◌, ℕ};
+ghost use Rattle.std.specs.Prelude.{◌≡◌, ◌+◌, ◌*◌, ◌/◌, ◌%◌, ◌^◌, ◌<◌, ◌≤◌, ◌++◌, List, [], length, replicate, ◌∷◌, ℕ};
 ghost use Rattle.arrayvec.specs.ArrayVec.{array_vec_len};
 ghost use Rattle.byteorder.specs.Endian.{big_bytes};
 ghost use Rattle.ptpm_codec.specs.Canonical.{canonical, error_status_octets, management_octets, port_identity_octets, text_octets, tlv_octets};
 ghost use Rattle.ptpm_codec.specs.Draft.{body_of};
 ghost use Rattle.ptpm_codec.specs.Layout.{message_octets};
-ghost use Rattle.ptpm_codec.specs.Message.{BodyFits, Fits, IsValid, IsValidBody, PortIdentityFits};
+ghost use Rattle.ptpm_codec.specs.Message.{BodyFits, Fits, IsValid, IsValidBody, PortIdentityFits, action_code, action_of};
 ghost use Rattle.ptpm_codec.specs.Spelling.{Spells};
 
 use crate::draft::{Draft, DraftBody};
@@ -20,6 +20,9 @@ pub const MESSAGE_OCTETS: usize = 1472;
 /// Room for one message.
 pub type Buffer = ArrayVec<u8, MESSAGE_OCTETS>;
 
+/// Room for what stands before the dataField or the displayData: it is put together here, and appended in one piece.
+type Head = ArrayVec<u8, 60>;
+
 /// Leaves the canonical spelling of the draft in the buffer, and nothing else. Free octets are sent as this project's
 /// profile has them: minorVersionPTP 1, controlField 0x04, logMessageInterval 0x7F, all others 0; an empty text has no
 /// displayData. Takes no memory.
@@ -30,29 +33,68 @@ pub fn encode(draft: &Draft<'_>, buffer: &mut Buffer)
     ensures fits { Fits draft.now }
 {
     buffer.clear();
-    put(buffer, &[(draft.sdo / 256) as u8 * 16 + 0xd, 0x12]);
-    put_u16(buffer, 48 + tlv_size(&draft.body) as u16);
-    put(buffer, &[draft.domain, (draft.sdo % 256) as u8]);
-    put(buffer, &[0; 14]);
-    put_identity(buffer, &draft.source);
-    put_u16(buffer, draft.number);
-    put(buffer, &[0x04, 0x7f]);
-    put_identity(buffer, &draft.target);
-    let action = draft.body.action().code();
-    put(buffer, &[draft.starting_hops, draft.hops, action, 0]);
-    put_tlv(buffer, &draft.body);
+    append(draft, buffer);
 }
 
-pub(crate) fn put(buffer: &mut Buffer, octets: &[u8])
-    requires { array_vec_len buffer.old + length octets.now ≤ MESSAGE_OCTETS }
+/// Appends the canonical spelling of the draft, as `encode` has it, to what the buffer holds, where there must be room: 48
+/// octets, and those of the TLV. Takes no memory.
+pub fn append<const N: usize>(draft: &Draft<'_>, buffer: &mut ArrayVec<u8, N>)
+    requires valid { IsValid draft.now }
+    requires room { array_vec_len buffer.old + 48 + length (tlv_octets draft.now.body) ≤ N }
+    ensures items { buffer.new.items ≡ buffer.old.items ++ canonical draft.now }
+    ensures fits { Fits draft.now }
+{
+    let mut head = Head::new();
+    put_front(&mut head, draft, 48 + tlv_size(&draft.body) as u16);
+    put_middle(&mut head, draft);
+    put_tlv(buffer, &mut head, &draft.body);
+}
+
+/// Octets 0 to 29: up to the source.
+#[inline(always)]
+fn put_front(head: &mut Head, draft: &Draft<'_>, size: u16)
+    requires sdo { draft.now.sdo < 4096 }
+    requires room { array_vec_len head.old + 30 ≤ 60 }
+    ensures items { head.new.items ≡ head.old.items ++ ((draft.now.sdo / 256 * 16 + 0xd) ∷ 0x12 ∷ [] ++ big_bytes 2 size
+        ++ draft.now.domain ∷ (draft.now.sdo % 256) ∷ [] ++ replicate 14 0 ++ port_identity_octets draft.now.source) }
+    ensures len { array_vec_len head.new ≡ array_vec_len head.old + 30 }
+    ensures fits { PortIdentityFits draft.now.source }
+{
+    put(head, &[(draft.sdo / 256) as u8 * 16 + 0xd, 0x12]);
+    put_u16(head, size);
+    put(head, &[draft.domain, (draft.sdo % 256) as u8]);
+    put(head, &[0; 14]);
+    put_identity(head, &draft.source);
+}
+
+/// Octets 30 to 47: from sequenceId to before the TLV.
+#[inline(always)]
+fn put_middle(head: &mut Head, draft: &Draft<'_>)
+    requires { array_vec_len head.old + 18 ≤ 60 }
+    ensures items { head.new.items ≡ head.old.items ++ (big_bytes 2 draft.now.number ++ 0x04 ∷ 0x7f ∷ []
+        ++ port_identity_octets draft.now.target
+        ++ draft.now.starting_hops ∷ draft.now.hops ∷ action_code (action_of draft.now.body) ∷ 0 ∷ []) }
+    ensures len { array_vec_len head.new ≡ array_vec_len head.old + 18 }
+    ensures number { draft.now.number < 2 ^ 16 }
+    ensures fits { PortIdentityFits draft.now.target }
+{
+    put_u16(head, draft.number);
+    put(head, &[0x04, 0x7f]);
+    put_identity(head, &draft.target);
+    let action = draft.body.action().code();
+    put(head, &[draft.starting_hops, draft.hops, action, 0]);
+}
+
+pub(crate) fn put<const N: usize>(buffer: &mut ArrayVec<u8, N>, octets: &[u8])
+    requires { array_vec_len buffer.old + length octets.now ≤ N }
     ensures items { buffer.new.items ≡ buffer.old.items ++ octets.now }
     ensures len { array_vec_len buffer.new ≡ array_vec_len buffer.old + length octets.now }
 {
     let _ = buffer.try_extend_from_slice(octets);
 }
 
-fn put_u16(buffer: &mut Buffer, number: u16)
-    requires { array_vec_len buffer.old + 2 ≤ MESSAGE_OCTETS }
+fn put_u16<const N: usize>(buffer: &mut ArrayVec<u8, N>, number: u16)
+    requires { array_vec_len buffer.old + 2 ≤ N }
     ensures items { buffer.new.items ≡ buffer.old.items ++ big_bytes 2 number }
     ensures len { array_vec_len buffer.new ≡ array_vec_len buffer.old + 2 }
 {
@@ -62,8 +104,8 @@ fn put_u16(buffer: &mut Buffer, number: u16)
 }
 
 #[tactic(auto, unfolding(crate::specs::Canonical::port_identity_octets))]
-fn put_identity(buffer: &mut Buffer, identity: &PortIdentity)
-    requires { array_vec_len buffer.old + 10 ≤ MESSAGE_OCTETS }
+fn put_identity<const N: usize>(buffer: &mut ArrayVec<u8, N>, identity: &PortIdentity)
+    requires { array_vec_len buffer.old + 10 ≤ N }
     ensures items { buffer.new.items ≡ buffer.old.items ++ port_identity_octets identity.now }
     ensures len { array_vec_len buffer.new ≡ array_vec_len buffer.old + 10 }
     ensures fits { PortIdentityFits identity.now }
@@ -72,54 +114,73 @@ fn put_identity(buffer: &mut Buffer, identity: &PortIdentity)
     put_u16(buffer, identity.port);
 }
 
+/// Appends the head, which holds the 48 octets before the TLV, and the TLV. What the head held is lost.
+#[inline(always)]
 #[tactic(auto, unfolding(crate::specs::Canonical::tlv_octets))]
-fn put_tlv(buffer: &mut Buffer, body: &DraftBody<'_>)
+fn put_tlv<const N: usize>(buffer: &mut ArrayVec<u8, N>, head: &mut Head, body: &DraftBody<'_>)
     requires valid { IsValidBody (body_of body.now) }
-    requires room { array_vec_len buffer.old + length (tlv_octets (body_of body.now)) ≤ MESSAGE_OCTETS }
-    ensures items { buffer.new.items ≡ buffer.old.items ++ tlv_octets (body_of body.now) }
+    requires header { array_vec_len head.old ≡ 48 }
+    requires room { array_vec_len buffer.old + 48 + length (tlv_octets (body_of body.now)) ≤ N }
+    ensures items { buffer.new.items ≡ buffer.old.items ++ (head.old.items ++ tlv_octets (body_of body.now)) }
     ensures fits { BodyFits (body_of body.now) }
 {
     match body {
         DraftBody::Request { id, octets, .. } | DraftBody::Answer { id, octets, .. } => {
-            put_management(buffer, *id, octets);
+            put_management(buffer, head, *id, octets);
         }
         DraftBody::Fault {
             error,
             id,
             text,
             ..
-        } => put_error_status(buffer, *error, *id, text),
+        } => put_error_status(buffer, head, *error, *id, text),
     }
 }
 
-fn put_management(buffer: &mut Buffer, id: u16, octets: &[u8])
+#[inline(always)]
+fn put_management<const N: usize>(
+    buffer: &mut ArrayVec<u8, N>,
+    head: &mut Head,
+    id: u16,
+    octets: &[u8],
+)
     requires small { length octets.now ≤ 1418 }
-    requires room { array_vec_len buffer.old + 6 + length octets.now ≤ MESSAGE_OCTETS }
-    ensures items { buffer.new.items ≡ buffer.old.items ++ management_octets id octets.now }
+    requires header { array_vec_len head.old ≡ 48 }
+    requires room { array_vec_len buffer.old + 54 + length octets.now ≤ N }
+    ensures items { buffer.new.items ≡ buffer.old.items ++ (head.old.items ++ management_octets id octets.now) }
 {
-    put_u16(buffer, 0x0001);
-    put_u16(buffer, 2 + octets.len() as u16);
-    put_u16(buffer, id);
+    put_u16(head, 0x0001);
+    put_u16(head, 2 + octets.len() as u16);
+    put_u16(head, id);
+    put(buffer, head.as_slice());
     put(buffer, octets);
 }
 
-fn put_error_status(buffer: &mut Buffer, error: u16, id: u16, text: &[u8])
+fn put_error_status<const N: usize>(
+    buffer: &mut ArrayVec<u8, N>,
+    head: &mut Head,
+    error: u16,
+    id: u16,
+    text: &[u8],
+)
     requires small { length text.now ≤ 255 }
-    requires room { array_vec_len buffer.old + 12 + length (text_octets text.now) ≤ MESSAGE_OCTETS }
-    ensures items { buffer.new.items ≡ buffer.old.items ++ error_status_octets error id text.now }
+    requires header { array_vec_len head.old ≡ 48 }
+    requires room { array_vec_len buffer.old + 60 + length (text_octets text.now) ≤ N }
+    ensures items { buffer.new.items ≡ buffer.old.items ++ (head.old.items ++ error_status_octets error id text.now) }
 {
-    put_u16(buffer, 0x0002);
-    put_u16(buffer, 8 + text_size(text) as u16);
-    put_u16(buffer, error);
-    put_u16(buffer, id);
-    put(buffer, &[0; 4]);
+    put_u16(head, 0x0002);
+    put_u16(head, 8 + text_size(text) as u16);
+    put_u16(head, error);
+    put_u16(head, id);
+    put(head, &[0; 4]);
+    put(buffer, head.as_slice());
     put_text(buffer, text);
 }
 
 #[tactic(auto, unfolding(crate::specs::Canonical::text_octets))]
-fn put_text(buffer: &mut Buffer, text: &[u8])
+fn put_text<const N: usize>(buffer: &mut ArrayVec<u8, N>, text: &[u8])
     requires small { length text.now ≤ 255 }
-    requires room { array_vec_len buffer.old + length (text_octets text.now) ≤ MESSAGE_OCTETS }
+    requires room { array_vec_len buffer.old + length (text_octets text.now) ≤ N }
     ensures items { buffer.new.items ≡ buffer.old.items ++ text_octets text.now }
 {
     if text.is_empty() {

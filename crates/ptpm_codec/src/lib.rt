@@ -16,7 +16,7 @@ mod viewing;
 
 pub use decoding::{decode, view};
 pub use draft::{Draft, DraftBody};
-pub use encoding::{Buffer, MESSAGE_OCTETS, encode};
+pub use encoding::{Buffer, MESSAGE_OCTETS, append, encode};
 pub use error::{DecodeError, ErrorId, OutOfMemory};
 pub use hops::less_hop;
 pub use identity::{ClockIdentity, PortIdentity};

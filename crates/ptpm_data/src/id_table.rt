@@ -50,6 +50,7 @@ fn port(id: u16, name: &'static str, actions: Actions, layout: Layout) -> Option
 
 /// What the table says of an id; `None` where it is not in the table.
 #[tactic(auto, unfolding(crate::specs::IdTable::row_of))]
+#[inline(always)]
 pub fn row(id: u16) -> Option<Row>
     ensures { option_map entry_of result ≡ row_of id }
 {

@@ -17,6 +17,7 @@ use ptpm_codec::{Action, ErrorId};
 /// Why a request for an id of the table is refused; `None` where it is to be carried out. Judged in this order: the
 /// action, the manager's right, the dataField's length, its value.
 #[tactic(auto, unfolding(crate::specs::Refusals::entry_refusal))]
+#[inline(always)]
 pub(crate) fn refusal(row: &Row, request: &Request<'_>, rights: Rights) -> Option<ErrorId>
     ensures { result ≡ entry_refusal (entry_of row.now) request.now rights }
 {
@@ -89,6 +90,7 @@ fn is_set_length(layout: Layout, octets: &[u8]) -> bool
     }
 }
 
+#[inline(always)]
 fn is_value(action: Action, layout: Layout, octets: &[u8]) -> bool
     requires { is_length action layout octets.now ≡ true }
     ensures { result ≡ is_value action layout octets.now }

@@ -1,10 +1,11 @@
 //! What a request is answered (15.5.3, 15.5.4).
 
 ghost use Rattle.std.specs.Prelude.{◌≡◌};
+ghost use Rattle.arrayvec.specs.ArrayVec.{array_vec_len};
 ghost use Rattle.ptpm_data.specs.Replies.{reply_action};
 
 use crate::data_sets::DataSets;
-use crate::ids::{Row, Scope};
+use crate::ids::{Layout, Row, Scope};
 use crate::reply::{PortAnswer, Reply, Value, What};
 use crate::request::Request;
 use arrayvec::ArrayVec;
@@ -15,11 +16,13 @@ impl DataSets {
     ghost use Rattle.std.specs.List.{range_with_len};
     ghost use Rattle.ptpm_data.specs.IdTable.{entry_of, row_of};
     ghost use Rattle.ptpm_data.specs.Changes.{IsTargetPort};
-    ghost use Rattle.ptpm_data.specs.Reply.{answer_of};
-    ghost use Rattle.ptpm_data.specs.Replies.{answer, named_ports, port_answers, reply_of};
+    ghost use Rattle.ptpm_data.specs.DataField.{data_field_of};
+    ghost use Rattle.ptpm_data.specs.Reply.{Value, answer_of, outcome_of};
+    ghost use Rattle.ptpm_data.specs.Replies.{answer, named_ports, outcome, port_answers, reply_of};
 
     /// Leaves the reply to a request for an id of the table, which was carried out, or refused for this reason.
     #[tactic(auto, unfolding(crate::specs::Replies::reply_of))]
+    #[inline(always)]
     pub(crate) fn put_reply(
         &self,
         row: &Row,
@@ -33,14 +36,18 @@ impl DataSets {
     {
         reply.action = reply_action(request.action);
         reply.id = request.id;
-        reply.answers.clear();
         match row.scope {
             Scope::Clock => self.put_clock_answer(row, request, refusal, &mut reply.answers),
-            Scope::Port => self.put_answers(row, request, refusal, &mut reply.answers),
+            Scope::Port => {
+                reply.answers.clear();
+                self.put_answers(row, request, refusal, &mut reply.answers);
+            }
         }
     }
 
-    /// Appends the answer of the clock.
+    /// Leaves the answer of the clock, and no other. It is written over the first that was there, if any, since an answer
+    /// takes 160 octets.
+    #[inline(always)]
     #[tactic(auto, unfolding(crate::specs::Replies::answer))]
     fn put_clock_answer(
         &self,
@@ -50,27 +57,45 @@ impl DataSets {
         answers: &mut ArrayVec<PortAnswer, 8>,
     )
         requires row { row_of request.now.id ≡ Some (entry_of row.now) }
-        requires empty { answers.old.items ≡ [] }
         ensures { map answer_of answers.new.items
             ≡ answer refusal request.now.action request.now.id self.now None ∷ [] }
     {
+        leave_one(answers);
+        if let [answer] = answers.as_mut_slice() {
+            answer.port = None;
+            self.set_outcome(row, request, refusal, &mut answer.what);
+        }
+    }
+
+    /// Makes this the outcome of the clock's answer.
+    fn set_outcome(
+        &self,
+        row: &Row,
+        request: &Request<'_>,
+        refusal: Option<ErrorId>,
+        what: &mut What,
+    )
+        requires row { row_of request.now.id ≡ Some (entry_of row.now) }
+        ensures { outcome_of what.new ≡ outcome refusal request.now.action request.now.id 0 self.now }
+    {
         match refusal {
-            Some(error) => answers.push(PortAnswer {
-                port: None,
-                what: What::Refused(error),
-            }),
-            None if request.action == Action::Command => answers.push(PortAnswer {
-                port: None,
-                what: What::Done,
-            }),
-            None => {
-                let mut value = Value::new();
-                self.put_data_field(row.layout, 0, &mut value);
-                answers.push(PortAnswer {
-                    port: None,
-                    what: What::Value(value),
-                });
-            }
+            Some(error) => *what = What::Refused(error),
+            None if request.action == Action::Command => *what = What::Done,
+            None => self.set_value(row.layout, what),
+        }
+    }
+
+    /// Makes this the dataField of an id of the clock.
+    fn set_value(&self, layout: Layout, what: &mut What)
+        ensures { outcome_of what.new ≡ Value (data_field_of layout 0 self.now) }
+    {
+        if let What::Value(value) = what {
+            *value = Value::new();
+            self.put_data_field(layout, 0, value);
+        } else {
+            let mut value = Value::new();
+            self.put_data_field(layout, 0, &mut value);
+            *what = What::Value(value);
         }
     }
 
@@ -160,6 +185,16 @@ impl Reply {
             port: None,
             what: What::Refused(error),
         });
+    }
+}
+
+/// Leaves one answer: the first, or where there is none, any.
+fn leave_one(answers: &mut ArrayVec<PortAnswer, 8>)
+    ensures { array_vec_len answers.new ≡ 1 }
+{
+    answers.truncate(1);
+    if answers.is_empty() {
+        answers.push(PortAnswer::default());
     }
 }
 

@@ -191,7 +191,7 @@ kept_more e of_port sizes octets m kept one least = record {
 
 -- ---- sizes
 
-canonical_length : (v : Message) → Fits v → length (canonical v) ≡ 48 + length (tlv_octets v.body)
+pub canonical_length : (v : Message) → Fits v → length (canonical v) ≡ 48 + length (tlv_octets v.body)
 unfolding port_identity_octets
 canonical_length v fits =
     by_clocks (λ w. length (canonical w) ≡ 48 + length (tlv_octets w.body)) v fits
@@ -208,6 +208,11 @@ body_length request action id most (reply.Refused error) least fits = omega arit
 abbrev pub most_octets : Bool → ℕ
 most_octets false = 184
 most_octets true = 80
+
+tlv_small : (of_port : Bool) (request action : Action) (id : ℕ) (a : Answer) → FitsAnswer of_port request a
+    → 48 + length (tlv_octets (answer_body action id a.outcome)) ≤ most_octets of_port
+tlv_small false request action id a suits = omega (arith, body_length request action id 130 a.outcome (omega arith) suits.1)
+tlv_small true request action id a suits = omega (arith, body_length request action id 26 a.outcome (omega arith) suits.1)
 
 pub kept_length : (of_port : Bool) (e : Envelope) (request : Action) (a : Answer) → FitsAnswer of_port request a → Fits (kept_message e a)
     → length (canonical (kept_message e a)) ≤ most_octets of_port
@@ -230,7 +235,7 @@ pub filled_more : (of_port : Bool) (done filled size : ℕ) → filled ≤ done 
 filled_more false done filled size full small = omega arith
 filled_more true done filled size full small = omega arith
 
-most_of_all : (of_port : Bool) → most_octets of_port ≤ 184
+pub most_of_all : (of_port : Bool) → most_octets of_port ≤ 184
 most_of_all false = omega arith
 most_of_all true = omega arith
 
@@ -239,7 +244,6 @@ pub record IsEncoded (of_port : Bool) (e : Envelope) (a : Answer) (v : Message) 
   pub kept : IsKept e of_port (canonical v)
   pub back : answer_in of_port (canonical v) ≡ a
   pub small : length (canonical v) ≤ most_octets of_port
-  pub smallest : length (canonical v) ≤ 184
   pub least : 54 ≤ length (canonical v)
 
 pub encoded : (of_port : Bool) (e : Envelope) (request : Action) (a : Answer) (v : Message) → kept_message e a ≡ v → e.action ≡ reply_action request
@@ -249,7 +253,6 @@ encoded of_port e request a v message action asks suits =
       kept = kept_back of_port e request a action asks suits valid fits;
       back = answer_back of_port e request a action asks suits valid fits;
       small = kept_length of_port e request a suits fits;
-      smallest = omega (arith, kept_length of_port e request a suits fits, most_of_all of_port);
       least = kept_least e a valid fits;
     })
 
@@ -262,14 +265,26 @@ answers_more of_port ms m xs i d inside before one =
     ∙ sym (map-append answer_of (take i xs) (get_or xs i d ∷ []))
     ∙ ap (map answer_of) (sym (take_more xs i d inside))
 
+suit_at : (of_port : Bool) (request : Action) (answers : List PortAnswer) (i : ℕ) (item : PortAnswer) → item ≡ get_or answers i item
+    → i < length answers → All (λ a. FitsAnswer of_port request (answer_of a)) answers → FitsAnswer of_port request (answer_of item)
+suit_at of_port request answers i item is inside suit =
+    subst (λ (x : PortAnswer). FitsAnswer of_port request (answer_of x)) (sym is) (suit i item inside)
+
+-- the message of an answer has room
+pub made_small : (of_port : Bool) (e : Envelope) (request action : Action) (answers : List PortAnswer) (i : ℕ) (item : PortAnswer) (v : Message)
+    → item ≡ get_or answers i item → i < length answers → All (λ a. FitsAnswer of_port request (answer_of a)) answers
+    → v ≡ reply_message e.clock (first_copy e) action e.id 0 (answer_of item) → 48 + length (tlv_octets v.body) ≤ most_octets of_port
+made_small of_port e request action answers i item v is inside suit message =
+    subst (λ (w : Message). 48 + length (tlv_octets w.body) ≤ most_octets of_port) (sym message)
+    (tlv_small of_port request action e.id (answer_of item) (suit_at of_port request answers i item is inside suit))
+
 -- the message of an answer, as it is encoded
 pub made : (of_port : Bool) (e : Envelope) (request action : Action) (answers : List PortAnswer) (i : ℕ) (item : PortAnswer) (v : Message)
     → item ≡ get_or answers i item → i < length answers → All (λ a. FitsAnswer of_port request (answer_of a)) answers
     → v ≡ reply_message e.clock (first_copy e) action e.id 0 (answer_of item) → action ≡ reply_action request → e.action ≡ reply_action request
     → IsRequestAction request → IsValid v → Fits v → IsEncoded of_port e (answer_of item) v
 made of_port e request action answers i item v is inside suit message chosen own asks valid fits =
-    let suits : FitsAnswer of_port request (answer_of item) =
-    subst (λ (x : PortAnswer). FitsAnswer of_port request (answer_of x)) (sym is) (suit i item inside) in
+    let suits = suit_at of_port request answers i item is inside suit in
     let same : kept_message e (answer_of item) ≡ v =
     ap (λ (x : Action). reply_message e.clock (first_copy e) x e.id 0 (answer_of item)) (own ∙ sym chosen) ∙ sym message in
     encoded of_port e request (answer_of item) v same own asks suits valid fits

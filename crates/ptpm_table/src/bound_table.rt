@@ -18,23 +18,21 @@ use crate::outbox::Outbox;
 use crate::reply_table::{Look, ReplyTable, SureTable};
 use crate::slot::{Kept, Slot};
 use arrayvec::ArrayVec;
-use ptpm_codec::{Buffer, ClockIdentity, OutOfMemory, PortIdentity};
+use ptpm_codec::{ClockIdentity, OutOfMemory, PortIdentity};
 use ptpm_data::{Reply, Request, Rights};
 
-/// The latest accepted requests in sixteen slots inside the value, which has 35,800 octets. Replies are kept as octets,
+/// The latest accepted requests in sixteen slots inside the value, which has 34,320 octets. Replies are kept as octets,
 /// encoded once by `keep`; `resend` copies them and writes over what depends on the copy that is answered. It takes no
 /// memory, and `keep` is never refused.
 #[derive(Drop)]
 pub struct BoundTable {
     clock: ClockIdentity,
     slots: ArrayVec<Slot, MANAGERS>,
-    /// Where messages are encoded.
-    scratch: Buffer,
     ghost distinct: { has_twice (identities (configured slots.items)) ≡ false },
     ghost own: { All (λ c. c ≡ clock) (clocks slots.items) },
 }
 
-const _: () = prove!(size_of::<BoundTable>() == 35_800);
+const _: () = prove!(size_of::<BoundTable>() == 34_320);
 
 impl BoundTable {
     /// A table without entries, of this clock and these managers. At most sixteen managers, and each identity once.
@@ -53,12 +51,7 @@ impl BoundTable {
             return Err(error);
         }
         let slots = empty_slots(&clock, managers);
-        let scratch = ArrayVec::new();
-        Ok(BoundTable {
-            clock,
-            slots,
-            scratch,
-        })
+        Ok(BoundTable { clock, slots })
     }
 }
 
@@ -108,14 +101,7 @@ fn place_of(slots: &[Slot], who: &PortIdentity) -> Option<usize>
 }
 
 /// Keeps a request in its manager's slot.
-fn put(
-    slots: &mut [Slot],
-    who: &PortIdentity,
-    number: u16,
-    request: &Request<'_>,
-    reply: &Reply,
-    scratch: &mut Buffer,
-)
+fn put(slots: &mut [Slot], who: &PortIdentity, number: u16, request: &Request<'_>, reply: &Reply)
     requires action { IsRequestAction request.now.action }
     requires known { IsTrue (is_known who.now (identities (configured slots.old))) }
     requires distinct { has_twice (identities (configured slots.old)) ≡ false }
@@ -129,7 +115,7 @@ fn put(
     if let Some(place) = place_of(slots, who) {
         let slot = &mut slots[place];
         slot.taken = true;
-        slot.kept.replace(number, request, reply, scratch);
+        slot.kept.replace(number, request, reply);
     }
 }
 
@@ -185,6 +171,7 @@ impl ReplyTable for BoundTable {
         Ok(())
     }
 
+    #[inline(always)]
     fn resend(&self, heard: &Heard, ingress: u16, out: &mut Outbox) {
         match slot_at(self.slots.as_slice(), &heard.source) {
             Some(slot) => slot.kept.resend(heard, ingress, out),
@@ -196,6 +183,6 @@ impl ReplyTable for BoundTable {
 impl SureTable for BoundTable {
     fn replace(&mut self, who: &PortIdentity, number: u16, request: &Request<'_>, reply: &Reply) {
         let slots = self.slots.as_mut_slice();
-        put(slots, who, number, request, reply, &mut self.scratch);
+        put(slots, who, number, request, reply);
     }
 }

@@ -2,7 +2,7 @@
 
 ghost use Rattle.std.specs.Prelude.{All, ◌≡◌, ◌+◌, ◌∷◌, ◌++◌, ◌≤◌, ◌<◌, [], length, map};
 ghost use Rattle.arrayvec.specs.ArrayVec.{array_vec_len};
-ghost use Rattle.ptpm_codec.specs.Canonical.{canonical};
+ghost use Rattle.ptpm_codec.specs.Canonical.{canonical, tlv_octets};
 ghost use Rattle.ptpm_codec.specs.Message.{Fits, IsRequestAction, IsValid};
 ghost use Rattle.ptpm_data.specs.Replies.{reply_action};
 ghost use Rattle.ptpm_data.specs.Reply.{answer_of};
@@ -13,7 +13,7 @@ use crate::heard::Heard;
 use crate::outbox::Outbox;
 use crate::rendering::draft_of;
 use arrayvec::ArrayVec;
-use ptpm_codec::{Action, Buffer, ClockIdentity, Draft, PortIdentity, encode};
+use ptpm_codec::{Action, ClockIdentity, Draft, PortIdentity, append};
 use ptpm_data::PortAnswer;
 
 /// Room for the sizes of a reply's messages.
@@ -78,18 +78,18 @@ pub(crate) fn resend_each(
 }
 
 /// Appends the canonical spelling of a draft, and its size.
-fn append(draft: &Draft<'_>, scratch: &mut Buffer, sizes: &mut Sizes, messages: &mut Messages)
+fn append_message(draft: &Draft<'_>, sizes: &mut Sizes, messages: &mut Messages)
     requires valid { IsValid draft.now }
-    requires small { Fits draft.now → length (canonical draft.now) ≤ 184 }
+    requires small { 48 + length (tlv_octets draft.now.body) ≤ 184 }
     requires count { array_vec_len sizes.old < 8 }
-    requires room { Fits draft.now → array_vec_len messages.old + length (canonical draft.now) ≤ 640 }
+    requires room { array_vec_len messages.old + 48 + length (tlv_octets draft.now.body) ≤ 640 }
     ensures sizes { sizes.new.items ≡ sizes.old.items ++ length (canonical draft.now) ∷ [] }
     ensures messages { messages.new.items ≡ messages.old.items ++ canonical draft.now }
     ensures fits { Fits draft.now }
 {
-    encode(draft, scratch);
-    sizes.push(scratch.len() as u8);
-    let _ = messages.try_extend_from_slice(scratch.as_slice());
+    let before = messages.len();
+    append(draft, messages);
+    sizes.push((messages.len() - before) as u8);
 }
 
 /// Leaves the messages of a reply's answers, and nothing else.
@@ -97,7 +97,6 @@ pub(crate) fn encode_each(
     exchange: &Exchange,
     of_port: bool,
     answers: &[PortAnswer],
-    scratch: &mut Buffer,
     sizes: &mut Sizes,
     messages: &mut Messages,
 )
@@ -107,7 +106,7 @@ pub(crate) fn encode_each(
     ensures kept { IsKeptReply (envelope_of exchange.now) of_port sizes.new.items messages.new.items }
     ensures answers { map (answer_in of_port) (pieces sizes.new.items messages.new.items) ≡ map answer_of answers.now }
 {
-    sizes.clear();
+    *sizes = Sizes::new();
     messages.clear();
     let action = reply_action(exchange.action);
     let copy = Heard {
@@ -119,7 +118,7 @@ pub(crate) fn encode_each(
     };
     for answer in answers {
         let draft = draft_of(&exchange.clock, &copy, action, exchange.id, answer, 0);
-        append(&draft, scratch, sizes, messages);
+        append_message(&draft, sizes, messages);
     }
 }
 

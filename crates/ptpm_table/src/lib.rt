@@ -2,6 +2,7 @@
 #![tactic(auto)]
 
 mod bound_table;
+mod buffers;
 mod error;
 mod heard;
 mod kept;

@@ -8,8 +8,8 @@ ghost use Rattle.ptpm_codec.specs.Reading.{IsWellFormed};
 ghost use Rattle.ptpm_table.specs.KeptMessages.{renewed};
 ghost use Rattle.ptpm_table.specs.Outbox.{sent};
 
+use crate::buffers::overwrite;
 use crate::kept_messages::{Renewal, renew};
-use arrayvec::ArrayVec;
 use ptpm_codec::{Buffer, Draft, MESSAGE_OCTETS, encode, less_hop};
 use std::marker::Model;
 
@@ -70,8 +70,7 @@ impl Outbox {
     {
         let place = &mut self.places[self.count];
         place.0 = port;
-        place.1.clear();
-        let _ = place.1.try_extend_from_slice(octets);
+        overwrite(&mut place.1, octets);
         self.count += 1;
     }
 
@@ -111,8 +110,7 @@ impl Outbox {
     {
         let place = &mut self.places[self.count];
         place.0 = port;
-        place.1.clear();
-        let _ = place.1.try_extend_from_slice(message);
+        overwrite(&mut place.1, message);
         renew(place.1.as_mut_slice(), renewal);
         self.count += 1;
     }

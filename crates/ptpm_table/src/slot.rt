@@ -5,13 +5,14 @@ ghost use Rattle.ptpm_codec.specs.Message.{IsDataField, IsRequestAction};
 ghost use Rattle.ptpm_table.specs.Entries.{FitsRequest};
 ghost use Rattle.ptpm_table.specs.Rendering.{rendered};
 
+use crate::buffers::overwrite;
 use crate::heard::Heard;
 use crate::kept_messages::{
     Exchange, Messages, Renewal, Sizes, encode_each, has_port, port_for, resend_each,
 };
 use crate::outbox::Outbox;
 use arrayvec::ArrayVec;
-use ptpm_codec::{Action, Buffer, ClockIdentity, PortIdentity};
+use ptpm_codec::{Action, ClockIdentity, PortIdentity};
 use ptpm_data::{Reply, Request, Rights};
 use std::marker::Model;
 
@@ -126,14 +127,8 @@ impl Kept {
         }
     }
 
-    /// Keeps another request, with its number and reply, in place of this one. What was in the scratch is lost.
-    pub(crate) fn replace(
-        &mut self,
-        number: u16,
-        request: &Request<'_>,
-        reply: &Reply,
-        scratch: &mut Buffer,
-    )
+    /// Keeps another request, with its number and reply, in place of this one. The reply's messages are encoded right here.
+    pub(crate) fn replace(&mut self, number: u16, request: &Request<'_>, reply: &Reply)
         requires action { IsRequestAction request.now.action }
         requires octets { IsDataField request.now.octets }
         requires fits { FitsRequest request.now reply.now }
@@ -143,8 +138,7 @@ impl Kept {
         self.action = request.action;
         self.id = request.id;
         self.port = request.port;
-        self.octets.clear();
-        let _ = self.octets.try_extend_from_slice(request.octets);
+        overwrite(&mut self.octets, request.octets);
         let answers = reply.answers.as_slice();
         self.of_port = has_port(answers);
         let exchange = Exchange {
@@ -155,10 +149,11 @@ impl Kept {
             id: request.id,
         };
         let (sizes, messages) = (&mut self.sizes, &mut self.messages);
-        encode_each(&exchange, self.of_port, answers, scratch, sizes, messages);
+        encode_each(&exchange, self.of_port, answers, sizes, messages);
     }
 
     /// Appends the messages of the reply, for the copy of the request that was heard.
+    #[inline(always)]
     pub(crate) fn resend(&self, heard: &Heard, ingress: u16, out: &mut Outbox)
         requires manager { heard.now.source ≡ self.now.manager }
         requires number { heard.now.number ≡ self.now.entry.number }
