@@ -19,7 +19,8 @@ use Rattle.ptpm_agent.specs.declared.verdict.Verdict.{Verdict}
 use Rattle.ptpm_agent.specs.declared.verdict.Verdict.TheVariants as verdicts
 use Rattle.ptpm_agent.specs.Turn.{Clock, State, Turned, heard_of, is_repeat, judged, kept_reply_of, look, next_by, outbox_of, reply_by, reply_messages, request_of, turn, turn_by, verdict_at}
 use Rattle.ptpm_agent.specs.Once.{Delivery, RequestCopy, History, after, after_arrival, after_copy, applied_once, beginning, copy_by, copy_from, copy_of, due_reply, greatest, is_copy, joins, kept_for, kept_reply}
-use Rattle.ptpm_agent.specs.Window.{number_of, IsInTime, IsNumbered, KeepsWindow}
+use Rattle.ptpm_codec.specs.SequenceNumber.{number_of}
+use Rattle.ptpm_agent.specs.Window.{IsInTime, IsNumbered, KeepsWindow}
 use Rattle.ptpm_agent.specs.Laws.{IsKept, IsLatest, StandsAt, due_messages, fresh, turns}
 use Rattle.ptpm_agent.proofs.Entries.{StandsAt-joined, accepted_at}
 use Rattle.ptpm_agent.proofs.Numbers.{serial_of-number_of}

@@ -10,7 +10,8 @@ use Rattle.ptpm_data.specs.Members.{DataSetsValue}
 use Rattle.ptpm_table.specs.Entries.{Entries, Entry}
 use Rattle.ptpm_agent.specs.Turn.{Clock, State, carried_out, request_of, new_reply}
 use Rattle.ptpm_agent.specs.Once.{Accepted, Delivery, History, RequestCopy, accepted_from, copy_from, greatest, joined, kept_reply}
-use Rattle.ptpm_agent.specs.Window.{number_of, IsNumbered}
+use Rattle.ptpm_codec.specs.SequenceNumber.{number_of}
+use Rattle.ptpm_agent.specs.Window.{IsNumbered}
 use Rattle.ptpm_agent.specs.Laws.{IsKept, IsLatest, StandsAt}
 use Rattle.ptpm_table.proofs.Identities.{identities_total, same_identity-true, same_identity-refl, tied_identities}
 

@@ -3,7 +3,7 @@ use Rattle.std.proofs.Common.{arith, ◌≡◌, ℕ, ◌<◌, ◌+◌, ◌-◌, 
 use Rattle.std.proofs.lemmas.Bool.Decides.{nat_tests}
 use Rattle.ptpm_table.specs.Serial.{serial_of, order_of, InWindow}
 use Rattle.ptpm_table.proofs.SerialLaws.{serial_in_window}
-use Rattle.ptpm_agent.specs.Window.{number_of}
+use Rattle.ptpm_codec.specs.SequenceNumber.{number_of}
 
 -- the same first number shifts both indexes
 shifted : (first g k : ℕ) → 0 < g → 0 < k → InWindow g k → InWindow (first + (g - 1)) (first + (k - 1))

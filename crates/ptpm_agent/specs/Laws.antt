@@ -7,7 +7,7 @@ use Rattle.ptpm_data.specs.Reply.{ReplyValue}
 use Rattle.ptpm_table.specs.Entries.{Entries, Entry, is_known}
 use Rattle.ptpm_agent.specs.Turn.{Clock, State, turn, reply_messages}
 use Rattle.ptpm_agent.specs.Once.{Delivery, RequestCopy, History, greatest, kept_reply}
-use Rattle.ptpm_agent.specs.Window.{number_of}
+use Rattle.ptpm_codec.specs.SequenceNumber.{number_of}
 
 -- a clock that has heard nothing yet
 abbrev pub fresh : DataSetsValue → State

@@ -1,23 +1,12 @@
 -- How a verdict is written (this project's profile).
-use Rattle.std.specs.Prelude.{ℕ, List, codes}
-use Rattle.ptpm_codec.specs.declared.error.DecodeError.{DecodeError}
-use Rattle.ptpm_codec.specs.declared.error.DecodeError.TheVariants as causes
+use Rattle.std.specs.Prelude.{ℕ, List, ◌++◌, codes}
+use Rattle.ptpm_codec.specs.ErrorText.{refusal_text}
 use Rattle.ptpm_agent.specs.declared.verdict.Verdict.{Verdict}
 use Rattle.ptpm_agent.specs.declared.verdict.Verdict.TheVariants as verdicts
 
-abbrev pub malformed_text : DecodeError → List ℕ
-malformed_text causes.TooShort = codes "Malformed TooShort"
-malformed_text causes.NotManagement = codes "Malformed NotManagement"
-malformed_text causes.BadVersion = codes "Malformed BadVersion"
-malformed_text causes.BadLength = codes "Malformed BadLength"
-malformed_text causes.BadAction = codes "Malformed BadAction"
-malformed_text causes.BadTlvType = codes "Malformed BadTlvType"
-malformed_text causes.BadTlvLength = codes "Malformed BadTlvLength"
-malformed_text causes.BadText = codes "Malformed BadText"
-malformed_text causes.OutOfMemory = codes "Malformed OutOfMemory"
-
+-- behind Malformed stands the name of its cause
 abbrev pub verdict_text : Verdict → List ℕ
-verdict_text (verdicts.Malformed cause) = malformed_text cause
+verdict_text (verdicts.Malformed cause) = codes "Malformed " ++ refusal_text cause
 verdict_text verdicts.OtherDomain = codes "OtherDomain"
 verdict_text verdicts.OwnMessage = codes "OwnMessage"
 verdict_text verdicts.NotAddressed = codes "NotAddressed"

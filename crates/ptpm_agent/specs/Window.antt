@@ -1,13 +1,10 @@
 -- Under which deliveries sequenceIds of 16 bits tell what the indexes tell (this project's profile).
-use Rattle.std.specs.Prelude.{◌≡◌, ℕ, ◌+◌, ◌-◌, ◌%◌, ◌<◌, List, [], ◌∷◌, Some}
+use Rattle.std.specs.Prelude.{◌≡◌, ℕ, ◌<◌, List, [], ◌∷◌, Some}
 use Rattle.ptpm_codec.specs.declared.identity.PortIdentity.{PortIdentity}
+use Rattle.ptpm_codec.specs.SequenceNumber.{number_of}
 use Rattle.ptpm_table.specs.Serial.{InWindow}
 use Rattle.ptpm_agent.specs.Once.{Delivery, RequestCopy, History, copy_of, after, greatest}
 use Rattle.ptpm_agent.specs.Turn.{Clock}
-
--- the sequenceId of request k of a manager whose first request has this one
-abbrev pub number_of : ℕ → ℕ → ℕ
-number_of first k = (first + (k - 1)) % 65536
 
 -- index and sequenceId of a copy go together
 pub record IsNumbered (first : PortIdentity → ℕ) (x : RequestCopy) : Type 0 where

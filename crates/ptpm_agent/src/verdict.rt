@@ -1,8 +1,5 @@
 //! What a clock decides on a datagram.
 
-ghost use Rattle.std.specs.Prelude.{◌≡◌};
-ghost use Rattle.ptpm_agent.specs.VerdictText.{malformed_text};
-
 use ptpm_codec::DecodeError;
 use std::fmt;
 
@@ -40,34 +37,17 @@ impl fmt::Display for Verdict {
     ghost output = { λ verdict. Some (verdict_text verdict) };
 
     fn fmt<W: fmt::Write>(&self, f: &mut fmt::Formatter<W>) -> fmt::Result {
-        f.write_str(match self {
-            Verdict::Malformed(cause) => malformed(*cause),
-            Verdict::OtherDomain => "OtherDomain",
-            Verdict::OwnMessage => "OwnMessage",
-            Verdict::NotAddressed => "NotAddressed",
-            Verdict::NotARequest => "NotARequest",
-            Verdict::AnsweredNew => "AnsweredNew",
-            Verdict::AnsweredRepeat => "AnsweredRepeat",
-            Verdict::DroppedOld => "DroppedOld",
-            Verdict::DroppedConflict => "DroppedConflict",
-            Verdict::AnsweredUnnumbered => "AnsweredUnnumbered",
-        })
-    }
-}
-
-/// `Malformed` and the name of the cause.
-fn malformed(cause: DecodeError) -> &'static str
-    ensures { result.now ≡ malformed_text cause }
-{
-    match cause {
-        DecodeError::TooShort => "Malformed TooShort",
-        DecodeError::NotManagement => "Malformed NotManagement",
-        DecodeError::BadVersion => "Malformed BadVersion",
-        DecodeError::BadLength => "Malformed BadLength",
-        DecodeError::BadAction => "Malformed BadAction",
-        DecodeError::BadTlvType => "Malformed BadTlvType",
-        DecodeError::BadTlvLength => "Malformed BadTlvLength",
-        DecodeError::BadText => "Malformed BadText",
-        DecodeError::OutOfMemory => "Malformed OutOfMemory",
+        match self {
+            Verdict::Malformed(cause) => write!(f, "Malformed {cause}"),
+            Verdict::OtherDomain => f.write_str("OtherDomain"),
+            Verdict::OwnMessage => f.write_str("OwnMessage"),
+            Verdict::NotAddressed => f.write_str("NotAddressed"),
+            Verdict::NotARequest => f.write_str("NotARequest"),
+            Verdict::AnsweredNew => f.write_str("AnsweredNew"),
+            Verdict::AnsweredRepeat => f.write_str("AnsweredRepeat"),
+            Verdict::DroppedOld => f.write_str("DroppedOld"),
+            Verdict::DroppedConflict => f.write_str("DroppedConflict"),
+            Verdict::AnsweredUnnumbered => f.write_str("AnsweredUnnumbered"),
+        }
     }
 }

@@ -7,3 +7,5 @@ pub mod Canonical
 pub mod Ordered
 pub mod Refusal
 pub mod Reading
+pub mod SequenceNumber
+pub mod ErrorText

@@ -12,32 +12,45 @@ pub struct OutOfMemory;
 #[derive(Clone, Copy, Debug, PartialEq, Eq, Error)]
 pub enum DecodeError {
     /// Under 54 octets, which a management message has at least.
-    #[error("TooShort")]
     TooShort,
     /// messageType is not 0xD (13.3.2.3).
-    #[error("NotManagement")]
     NotManagement,
     /// versionPTP is not 2 (13.3.2.5).
-    #[error("BadVersion")]
     BadVersion,
     /// messageLength is under 54, over the datagram, or over 1,472 (13.3.2.6; the last is this project's profile).
-    #[error("BadLength")]
     BadLength,
     /// actionField is over 4 (15.4.1.6).
-    #[error("BadAction")]
     BadAction,
     /// tlvType is neither MANAGEMENT nor, in an answer, MANAGEMENT_ERROR_STATUS (14.1.1).
-    #[error("BadTlvType")]
     BadTlvType,
     /// lengthField is odd, too small for its TLV, or does not end where the message ends (14.1.1).
-    #[error("BadTlvLength")]
     BadTlvLength,
     /// displayData is there, and is not one PTPText with its pad (5.3.9, 15.5.4.4).
-    #[error("BadText")]
     BadText,
     /// Memory for the value was refused. This says nothing of the datagram.
-    #[error("OutOfMemory")]
     OutOfMemory,
+}
+
+/// The name, as `TooShort`.
+impl fmt::Display for DecodeError {
+    ghost use Rattle.std.specs.Prelude.{Some};
+    ghost use Rattle.ptpm_codec.specs.ErrorText.{refusal_text};
+
+    ghost output = { λ e. Some (refusal_text e) };
+
+    fn fmt<W: fmt::Write>(&self, f: &mut fmt::Formatter<W>) -> fmt::Result {
+        f.write_str(match self {
+            DecodeError::TooShort => "TooShort",
+            DecodeError::NotManagement => "NotManagement",
+            DecodeError::BadVersion => "BadVersion",
+            DecodeError::BadLength => "BadLength",
+            DecodeError::BadAction => "BadAction",
+            DecodeError::BadTlvType => "BadTlvType",
+            DecodeError::BadTlvLength => "BadTlvLength",
+            DecodeError::BadText => "BadText",
+            DecodeError::OutOfMemory => "OutOfMemory",
+        })
+    }
 }
 
 /// A managementErrorId that the standard names (15.5.4.3).

@@ -6,3 +6,4 @@ pub mod Session
 pub mod Enquiry
 pub mod Answers
 pub mod Survey
+pub mod ErrorText

@@ -16,7 +16,7 @@ use Rattle.ptpm_manager.specs.declared.receiving.Received.TheVariants as receive
 use Rattle.ptpm_codec.specs.Ordered.{first_of}
 use Rattle.ptpm_manager.specs.Report.{outcome_of}
 use Rattle.ptpm_manager.specs.Session.{SessionValue, answered, is_waiting}
-use Rattle.ptpm_manager.specs.Setup.{number_of}
+use Rattle.ptpm_codec.specs.SequenceNumber.{number_of}
 
 -- ---- tests of a message
 

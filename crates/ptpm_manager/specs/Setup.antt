@@ -1,10 +1,11 @@
 -- What a session is set up with, and its requests as messages (IEEE 1588-2019, 15.4.1). The numbering of requests is this
 -- project's profile.
-use Rattle.std.specs.Prelude.{◌≡◌, ℕ, false, ◌+◌, ◌-◌, ◌%◌}
+use Rattle.std.specs.Prelude.{◌≡◌, ℕ, false}
 use Rattle.ptpm_codec.specs.declared.identity.ClockIdentity.{ClockIdentity}
 use Rattle.ptpm_codec.specs.declared.message.Message.{Message}
 use Rattle.ptpm_codec.specs.declared.message.Body.TheVariants as bodies
 use Rattle.ptpm_codec.specs.Identity.{every_clock, same_clock}
+use Rattle.ptpm_codec.specs.SequenceNumber.{number_of}
 use Rattle.ptpm_data.specs.Request.{RequestValue}
 use Rattle.ptpm_manager.specs.declared.setup.Setup.{Setup}
 
@@ -13,10 +14,6 @@ pub record AreTwoClocks (me target : ClockIdentity) : Type 0 where
   pub me_is_one : same_clock me every_clock ≡ false
   pub target_is_one : same_clock target every_clock ≡ false
   pub apart : same_clock me target ≡ false
-
--- the sequence number of the k-th request, counted from 1
-abbrev pub number_of : ℕ → ℕ → ℕ
-number_of first k = (first + (k - 1)) % 65536
 
 -- the k-th request as a message, in the domain that the session has now
 abbrev pub request_message : Setup → ℕ → ℕ → RequestValue → Message

@@ -1,37 +1,64 @@
 //! Why a session refuses.
 
+use std::fmt;
 use thiserror::Error;
 
 /// Why a request is not begun, in the order in which the reasons are judged. The session stays as it was.
 #[derive(Clone, Copy, Debug, PartialEq, Eq, Error)]
 pub enum BeginError {
     /// A request is not answered yet, even where all its attempts are used: its number may still be accepted.
-    #[error("Busy")]
     Busy,
     /// The id is of a port, and no port of the clock is named.
-    #[error("NeedsPort")]
     NeedsPort,
     /// The action is RESPONSE or ACKNOWLEDGE, which are no requests.
-    #[error("NotPermitted")]
     NotPermitted,
     /// The dataField has an odd number of octets, or over 1,418.
-    #[error("BadValue")]
     BadValue,
     /// The session has begun 1,000,000 requests.
-    #[error("CountAtMaximum")]
     CountAtMaximum,
     /// Memory for the dataField was refused.
-    #[error("OutOfMemory")]
     OutOfMemory,
+}
+
+/// The name, as `Busy`.
+impl fmt::Display for BeginError {
+    ghost use Rattle.std.specs.Prelude.{Some};
+    ghost use Rattle.ptpm_manager.specs.ErrorText.{begin_error_text};
+
+    ghost output = { λ e. Some (begin_error_text e) };
+
+    fn fmt<W: fmt::Write>(&self, f: &mut fmt::Formatter<W>) -> fmt::Result {
+        f.write_str(match self {
+            BeginError::Busy => "Busy",
+            BeginError::NeedsPort => "NeedsPort",
+            BeginError::NotPermitted => "NotPermitted",
+            BeginError::BadValue => "BadValue",
+            BeginError::CountAtMaximum => "CountAtMaximum",
+            BeginError::OutOfMemory => "OutOfMemory",
+        })
+    }
 }
 
 /// Why nothing is sent, in the order in which the reasons are judged. The session stays as it was.
 #[derive(Clone, Copy, Debug, PartialEq, Eq, Error)]
 pub enum SendError {
     /// No request is unanswered.
-    #[error("Idle")]
     Idle,
     /// No attempts are left. The request is kept: `resume` gives it more.
-    #[error("GaveUp")]
     GaveUp,
+}
+
+/// The name, as `Idle`.
+impl fmt::Display for SendError {
+    ghost use Rattle.std.specs.Prelude.{Some};
+    ghost use Rattle.ptpm_manager.specs.ErrorText.{send_error_text};
+
+    ghost output = { λ e. Some (send_error_text e) };
+
+    fn fmt<W: fmt::Write>(&self, f: &mut fmt::Formatter<W>) -> fmt::Result {
+        f.write_str(match self {
+            SendError::Idle => "Idle",
+            SendError::GaveUp => "GaveUp",
+        })
+    }
 }

@@ -30,6 +30,11 @@ pub enum Reason {
 
 /// The name, and after it the cause where there is one.
 impl fmt::Display for Reason {
+    ghost use Rattle.std.specs.Prelude.{Some};
+    ghost use Rattle.ptpm_manager.specs.ErrorText.{reason_text};
+
+    ghost output = { λ reason. Some (reason_text reason) };
+
     fn fmt<W: fmt::Write>(&self, f: &mut fmt::Formatter<W>) -> fmt::Result {
         match self {
             Reason::Malformed(cause) => write!(f, "Malformed {cause}"),

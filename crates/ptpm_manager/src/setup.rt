@@ -2,7 +2,8 @@
 
 ghost use Rattle.std.specs.Prelude.{◌≡◌, ◌≤◌};
 ghost use Rattle.ptpm_manager.specs.Ask.{pending_request};
-ghost use Rattle.ptpm_manager.specs.Setup.{number_of, request_message};
+ghost use Rattle.ptpm_codec.specs.SequenceNumber.{number_of};
+ghost use Rattle.ptpm_manager.specs.Setup.{request_message};
 
 use crate::ask::Pending;
 use ptpm_codec::{ClockIdentity, Draft, DraftBody, PortIdentity};

@@ -18,7 +18,7 @@ use Rattle.ptpm_agent.specs.Turn.{Clock}
 use Rattle.ptpm_agent.proofs.AtMostOnce.{DeliversCopy, delivers_copy}
 use Rattle.ptpm_table.proofs.Identities.{same_identity-true}
 use Rattle.ptpm_agent.proofs.Turns.{copy_parts}
-use Rattle.ptpm_manager.specs.Setup.{number_of}
+use Rattle.ptpm_codec.specs.SequenceNumber.{number_of}
 use Rattle.ptpm_world.specs.DataSets.{AreDataSets, IsForOne}
 use Rattle.ptpm_world.specs.Invariant.{IsInStep, IsReached}
 use Rattle.ptpm_world.specs.Machine.{arrives, delivery, index_of}

@@ -15,7 +15,7 @@ use Rattle.ptpm_data.specs.Request.{RequestValue}
 use Rattle.ptpm_table.specs.declared.heard.Heard.{Heard}
 use Rattle.ptpm_agent.specs.Forwarding.{with_less_hop}
 use Rattle.ptpm_agent.specs.Once.{Accepted, kept_reply}
-use Rattle.ptpm_manager.specs.Setup.{number_of}
+use Rattle.ptpm_codec.specs.SequenceNumber.{number_of}
 use Rattle.ptpm_world.specs.DataSets.{Answers, HasOneAnswer, IsSendable}
 use Rattle.ptpm_world.specs.Invariant.{IsAsked, IsForeign, IsFrame, IsMessage, IsOfOrigin, IsReached}
 use Rattle.ptpm_world.specs.Machine.{forwarded_frames}

@@ -8,7 +8,8 @@ use Rattle.ptpm_table.specs.Serial.{InWindow}
 use Rattle.ptpm_agent.specs.Laws.{fresh, turns}
 use Rattle.ptpm_agent.specs.Once.{Delivery, History, RequestCopy, after, applied_once, beginning, copy_of, greatest}
 use Rattle.ptpm_agent.specs.Turn.{Clock}
-use Rattle.ptpm_agent.specs.Window.{IsInTime, KeepsWindow, number_of}
+use Rattle.ptpm_codec.specs.SequenceNumber.{number_of}
+use Rattle.ptpm_agent.specs.Window.{IsInTime, KeepsWindow}
 use Rattle.ptpm_agent.proofs.AtMostOnce.{sets_once}
 use Rattle.ptpm_world.specs.Events.{Event, Begin, Deliver, IsInRange, Refusal, Resume, Retune, Send, Stranger, frame_at, refusal, no_port, forged, no_room, is_forged, Forged}
 use Rattle.ptpm_world.specs.Invariant.{IsFrame, IsReached}

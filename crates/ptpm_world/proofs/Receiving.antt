@@ -29,7 +29,7 @@ use Rattle.ptpm_codec.specs.Ordered.{first_of}
 use Rattle.ptpm_manager.specs.Receiving.{answer_by, answer_to, is_answered_by, is_content, is_from_asked_port, is_from_target, is_in_domain, reason_of, received_of}
 use Rattle.ptpm_manager.specs.Report.{outcome_of}
 use Rattle.ptpm_manager.specs.Session.{SessionValue, is_waiting}
-use Rattle.ptpm_manager.specs.Setup.{number_of}
+use Rattle.ptpm_codec.specs.SequenceNumber.{number_of}
 use Rattle.ptpm_world.specs.Events.{Event, IsInRange, frame_at}
 use Rattle.ptpm_world.specs.Invariant.{IsOfOrigin, IsReached}
 use Rattle.ptpm_world.specs.Machine.{is_answer, report_from, run, told_by}

@@ -16,7 +16,8 @@ use Rattle.ptpm_table.specs.declared.heard.Heard.{Heard}
 use Rattle.ptpm_table.specs.Rendering.{reply_message}
 use Rattle.ptpm_agent.specs.Once.{Accepted, greatest, kept_reply}
 use Rattle.ptpm_manager.specs.declared.setup.Setup.{Setup}
-use Rattle.ptpm_manager.specs.Setup.{number_of, request_message}
+use Rattle.ptpm_codec.specs.SequenceNumber.{number_of}
+use Rattle.ptpm_manager.specs.Setup.{request_message}
 use Rattle.ptpm_world.specs.DataSets.{Answers, AreDataSets, HasOneAnswer, IsForOne}
 use Rattle.ptpm_world.specs.Network.{HasEnd, Network, manager, ports}
 use Rattle.ptpm_world.specs.State.{Frame, NetworkState, Origin, RequestOf, ReplyTo, Neither, SessionState, accepted_at_target, history, outcomes_kept}

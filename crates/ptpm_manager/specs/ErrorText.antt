@@ -1,0 +1,32 @@
+-- How a session's refusals, and its reasons to ignore a datagram, are written (this project's profile).
+use Rattle.std.specs.Prelude.{ℕ, List, ◌++◌, codes}
+use Rattle.ptpm_codec.specs.ErrorText.{refusal_text}
+use Rattle.ptpm_manager.specs.declared.error.BeginError.{BeginError}
+use Rattle.ptpm_manager.specs.declared.error.BeginError.TheVariants as begins
+use Rattle.ptpm_manager.specs.declared.error.SendError.{SendError}
+use Rattle.ptpm_manager.specs.declared.error.SendError.TheVariants as sends
+use Rattle.ptpm_manager.specs.declared.receiving.Reason.{Reason}
+use Rattle.ptpm_manager.specs.declared.receiving.Reason.TheVariants as reasons
+
+abbrev pub begin_error_text : BeginError → List ℕ
+begin_error_text begins.Busy = codes "Busy"
+begin_error_text begins.NeedsPort = codes "NeedsPort"
+begin_error_text begins.NotPermitted = codes "NotPermitted"
+begin_error_text begins.BadValue = codes "BadValue"
+begin_error_text begins.CountAtMaximum = codes "CountAtMaximum"
+begin_error_text begins.OutOfMemory = codes "OutOfMemory"
+
+abbrev pub send_error_text : SendError → List ℕ
+send_error_text sends.Idle = codes "Idle"
+send_error_text sends.GaveUp = codes "GaveUp"
+
+-- behind Malformed stands the name of its cause
+abbrev pub reason_text : Reason → List ℕ
+reason_text (reasons.Malformed cause) = codes "Malformed " ++ refusal_text cause
+reason_text reasons.OtherDomain = codes "OtherDomain"
+reason_text reasons.NotAReply = codes "NotAReply"
+reason_text reasons.OtherTarget = codes "OtherTarget"
+reason_text reasons.OtherSource = codes "OtherSource"
+reason_text reasons.NothingAsked = codes "NothingAsked"
+reason_text reasons.OtherNumber = codes "OtherNumber"
+reason_text reasons.OtherContent = codes "OtherContent"
