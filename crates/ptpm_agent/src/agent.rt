@@ -90,16 +90,7 @@ impl<T: ReplyTable + Drop> Agent<T> {
                 let reply = self.try_accept(&message)?;
                 self.send(&reply, ingress, &message, out);
             }
-            _ => Agent::answer(
-                &self.sets,
-                &self.table,
-                &mut self.scratch,
-                verdict,
-                ingress,
-                datagram,
-                &message,
-                out,
-            ),
+            _ => self.answer(verdict, ingress, datagram, &message, out),
         }
         Ok(verdict)
     }
@@ -176,63 +167,70 @@ impl<T: ReplyTable + Drop> Agent<T> {
 
     /// Leaves in the outbox what is sent for a message that is not carried out, and nothing else.
     fn answer(
-        sets: &DataSets,
-        table: &T,
-        scratch: &mut Reply,
+        &mut self,
         verdict: Verdict,
         ingress: u16,
         datagram: &[u8],
         message: &View<'_>,
         out: &mut Outbox,
     )
-        requires port { HasPort ingress sets.now }
+        requires port { HasPort ingress self.old.sets }
         requires read { reading datagram.now ≡ Ok message.now }
         requires spelled { Spells message.now (message_octets datagram.now) }
         requires verdict { verdict ≡ judged
-            (clock_of T.identity T.managers T.rights_of table.now)
-            (state_of T.entries sets.now table.now) message.now }
+            (clock_of T.identity T.managers T.rights_of self.old.table)
+            (state_of T.entries self.old.sets self.old.table) message.now }
         requires repeat { verdict ≡ Verdict.AnsweredRepeat →
-            HasEntry (T.entries table.now) message.now.source message.now.number }
+            HasEntry (T.entries self.old.table) message.now.source message.now.number }
         requires not_new { verdict ≢ Verdict.AnsweredNew }
         requires valid { IsValid message.now }
-        ensures { out.new ≡ forwarded (T.identity table.now) ingress sets.now datagram.now ++ reply_messages
-            (clock_of T.identity T.managers T.rights_of table.now) ingress (heard_of message.now)
-            (reply_by verdict (clock_of T.identity T.managers T.rights_of table.now)
-            (state_of T.entries sets.now table.now) message.now) }
+        ensures sent { out.new ≡ forwarded (T.identity self.old.table) ingress self.old.sets datagram.now ++ reply_messages
+            (clock_of T.identity T.managers T.rights_of self.old.table) ingress (heard_of message.now)
+            (reply_by verdict (clock_of T.identity T.managers T.rights_of self.old.table)
+            (state_of T.entries self.old.sets self.old.table) message.now) }
+        ensures sets { self.new.sets ≡ self.old.sets }
+        ensures table { self.new.table ≡ self.old.table }
     {
-        forward(&table.clock(), sets, ingress, datagram, message, out);
-        Agent::reply(sets, table, scratch, verdict, ingress, message, out);
+        forward(
+            &self.table.clock(),
+            &self.sets,
+            ingress,
+            datagram,
+            message,
+            out,
+        );
+        self.reply(verdict, ingress, message, out);
     }
 
     /// Appends the reply to a message that is not carried out, if it gets one.
-    fn reply(
-        sets: &DataSets,
-        table: &T,
-        scratch: &mut Reply,
-        verdict: Verdict,
-        ingress: u16,
-        message: &View<'_>,
-        out: &mut Outbox,
-    )
+    fn reply(&mut self, verdict: Verdict, ingress: u16, message: &View<'_>, out: &mut Outbox)
         requires verdict { verdict ≡ judged
-            (clock_of T.identity T.managers T.rights_of table.now)
-            (state_of T.entries sets.now table.now) message.now }
+            (clock_of T.identity T.managers T.rights_of self.old.table)
+            (state_of T.entries self.old.sets self.old.table) message.now }
         requires repeat { verdict ≡ Verdict.AnsweredRepeat →
-            HasEntry (T.entries table.now) message.now.source message.now.number }
+            HasEntry (T.entries self.old.table) message.now.source message.now.number }
         requires not_new { verdict ≢ Verdict.AnsweredNew }
         requires valid { IsValid message.now }
         requires room { length out.old ≤ 7 }
-        ensures { out.new ≡ out.old ++ reply_messages
-            (clock_of T.identity T.managers T.rights_of table.now) ingress (heard_of message.now)
-            (reply_by verdict (clock_of T.identity T.managers T.rights_of table.now)
-            (state_of T.entries sets.now table.now) message.now) }
+        ensures sent { out.new ≡ out.old ++ reply_messages
+            (clock_of T.identity T.managers T.rights_of self.old.table) ingress (heard_of message.now)
+            (reply_by verdict (clock_of T.identity T.managers T.rights_of self.old.table)
+            (state_of T.entries self.old.sets self.old.table) message.now) }
+        ensures sets { self.new.sets ≡ self.old.sets }
+        ensures table { self.new.table ≡ self.old.table }
     {
         match verdict {
-            Verdict::AnsweredRepeat => table.resend(&heard_of(message), ingress, out),
+            Verdict::AnsweredRepeat => self.table.resend(&heard_of(message), ingress, out),
             Verdict::AnsweredUnnumbered => {
-                data_sets_law(sets);
-                sets.read_into(&request_of(message), scratch);
-                render(&table.clock(), &heard_of(message), scratch, ingress, out);
+                data_sets_law(&self.sets);
+                self.sets.read_into(&request_of(message), &mut self.scratch);
+                render(
+                    &self.table.clock(),
+                    &heard_of(message),
+                    &self.scratch,
+                    ingress,
+                    out,
+                );
             }
             _ => {}
         }
@@ -301,16 +299,7 @@ impl<T: SureTable + Drop> Agent<T> {
                 self.accept(&message);
                 self.send_kept(ingress, &message, out);
             }
-            _ => Agent::answer(
-                &self.sets,
-                &self.table,
-                &mut self.scratch,
-                verdict,
-                ingress,
-                datagram,
-                &message,
-                out,
-            ),
+            _ => self.answer(verdict, ingress, datagram, &message, out),
         }
         verdict
     }

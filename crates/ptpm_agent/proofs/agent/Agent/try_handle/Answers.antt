@@ -27,9 +27,11 @@ returns-in_default g c = record {
   turned =
       turned_other (clock_of g.T.ReplyTable.identity g.T.ReplyTable.managers g.T.ReplyTable.rights_of c.args.self.now.table)
       (state_of g.T.ReplyTable.entries c.args.self.now.sets c.args.self.now.table) c.args.ingress c.args.datagram.now c.in-Ok.message
-      c.judge-verdict.result c.answer.new.out (state_of g.T.ReplyTable.entries c.args.self.now.sets c.args.self.now.table)
-      (sym c.view.ensures.exact ∙ c.in-Ok.is) c.judge-verdict.ensures.verdict c.in_default.not-AnsweredNew c.answer.ensures refl;
+      c.judge-verdict.result c.answer.new.out (state_of g.T.ReplyTable.entries c.answer.new.self.sets c.answer.new.self.table)
+      (sym c.view.ensures.exact ∙ c.in-Ok.is) c.judge-verdict.ensures.verdict c.in_default.not-AnsweredNew c.answer.ensures.sent
+      (λ i. state_of g.T.ReplyTable.entries (c.answer.ensures.sets i) (c.answer.ensures.table i));
   refused = tt;
   nothing_sent = tt;
-  clock = refl;
+  clock =
+      λ i. clock_of g.T.ReplyTable.identity g.T.ReplyTable.managers g.T.ReplyTable.rights_of (c.answer.ensures.table i);
 }
