@@ -5,21 +5,21 @@ use Rattle.std.proofs.lemmas.List.{length-map}
 use Rattle.std.specs.Prelude.{slice_get, slice_index_or}
 use Rattle.std.specs.List.{AllByRecursion, filter}
 use Rattle.ptpm_codec.specs.declared.identity.PortIdentity.{PortIdentity}
-use Rattle.ptpm_codec.specs.Identity.{same_clock, same_identity}
+use Rattle.ptpm_codec.specs.Identity.{same_identity}
 use Rattle.ptpm_codec.specs.Message.{PortIdentityFits}
 use Rattle.ptpm_data.specs.RequestLaws.{IsSized}
 use Rattle.ptpm_data.specs.Start.{port_data_set}
 use Rattle.ptpm_table.specs.Entries.{is_known}
 use Rattle.ptpm_table.specs.Managers.{identities}
+use Rattle.ptpm_table.proofs.Identities.{same_identity-true, same_identity-refl}
+use Rattle.ptpm_network.specs.Network as machine
+use Rattle.ptpm_network.specs.Network.{HasEnd, IsClock, IsSession}
+use Rattle.ptpm_network.proofs.Lists.{all_get, all_made, get_within}
 use Rattle.ptpm_world.specs.declared.network.End.{End}
 use Rattle.ptpm_world.specs.declared.network.End.TheVariants as ends
 use Rattle.ptpm_world.specs.declared.network.NetworkSession.{NetworkSession}
 use Rattle.ptpm_world.specs.Described.{AreSized, clock_at, configured, described, described_end, first_sets, no_clock, no_session, session_at, with_rights}
-use Rattle.ptpm_world.specs.Network as machine
-use Rattle.ptpm_world.specs.Network.{HasEnd, IsClock, IsSession}
 use Rattle.ptpm_world.specs.NetworkValue.{CanStart, IsAccepted, IsEndOf, IsLinkOf, IsSessionOf, NetworkValue}
-use Rattle.ptpm_world.proofs.Identities.{same_clock-true, same_clock-refl}
-use Rattle.ptpm_world.proofs.Lists.{all_get, all_made, get_within}
 
 -- ---- what stands at a place
 
@@ -53,16 +53,6 @@ described-clock n facts sized c h =
     }
 
 -- ---- the configured managers
-
-same_identity-refl : (a : PortIdentity) → same_identity a a ≡ true
-same_identity-refl a = rw (same_clock-refl a.clock, eq-eqb a.port a.port refl) refl
-
-same_identity-true : (a b : PortIdentity) → same_identity a b ≡ true → a ≡ b
-same_identity-true a b h =
-    let p = and_parts (same_clock a.clock b.clock) (a.port == b.port) h in
-    let clock = same_clock-true a.clock b.clock p.0 in
-    let port = eqb-true a.port b.port p.1 in
-    (λ i. record { clock = clock i; port = port i })
 
 -- with one more session, that is a manager of the clock or is none
 known-more : (here : Bool) (m : PortIdentity) (s : NetworkSession) (ss : List NetworkSession)

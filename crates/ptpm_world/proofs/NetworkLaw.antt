@@ -21,6 +21,7 @@ use Rattle.ptpm_data.specs.declared.start.StartError.{StartError}
 use Rattle.ptpm_data.specs.Members.{DataSetsValue}
 use Rattle.ptpm_data.specs.Start.{all_ones, clock_fault, count_fault, start_fault, start_of, unless}
 use Rattle.ptpm_data.proofs.StartLemmas.{count_sound, passes}
+use Rattle.ptpm_network.proofs.Identities.{same_clock-refl}
 use Rattle.ptpm_world.specs.declared.link_entries.EndEntry.{EndEntry}
 use Rattle.ptpm_world.specs.declared.net_error.NetError.{NetError}
 use Rattle.ptpm_world.specs.declared.net_error.NetError.TheVariants.{BadShape, NoSuchName, NotToml}
@@ -34,7 +35,6 @@ use Rattle.ptpm_world.specs.NetworkFile.{FileValue, file_of, file_of_table, file
 use Rattle.ptpm_world.specs.NetworkText.{all_ports, and_then, clock_of, clock_place, end_by_name, end_by_place, given, has_like, has_own_ports, has_port, has_too_many, has_twice, if_started, is_clock, link_of, managers_of, map_all, network_of, network_of_file, placed, port_at_clock, same_end, same_name_or_clock, same_name_or_identity, same_port, session_at, session_of}
 use Rattle.ptpm_world.specs.NetworkValue.{CanStart, ClockValue, IsAccepted, IsEndOf, IsLinkOf, IsSessionOf, NetworkValue}
 use Rattle.ptpm_world.specs.Values.{natural_at, port_at, text_at}
-use Rattle.ptpm_world.proofs.Identities.{same_clock-refl}
 use Rattle.ptpm_world.proofs.NetworkLemmas.{or_none, or_second, none_at, and_then_ok, given_ok, made_length, made_from, made_of, made_count, none_or_one, all_made, made_apart, made_flat, found}
 
 -- ---- options and tests

@@ -10,11 +10,11 @@ use Rattle.ptpm_data.specs.RequestLaws.{IsSized}
 use Rattle.ptpm_data.specs.Start.{default_clock, started}
 use Rattle.ptpm_table.specs.Managers.{identities, no_rights, rights_in}
 use Rattle.ptpm_agent.specs.Turn.{Clock}
+use Rattle.ptpm_network.specs.Network as machine
+use Rattle.ptpm_network.specs.Network.{Network, SessionStart}
 use Rattle.ptpm_world.specs.declared.network.End.{End}
 use Rattle.ptpm_world.specs.declared.network.End.TheVariants as ends
 use Rattle.ptpm_world.specs.declared.network.NetworkSession.{NetworkSession}
-use Rattle.ptpm_world.specs.Network as machine
-use Rattle.ptpm_world.specs.Network.{Network, SessionStart}
 use Rattle.ptpm_world.specs.NetworkValue.{ClockValue, NetworkValue}
 
 -- ---- what stands at a place; past the last, something that no definition looks at

@@ -1,10 +1,3 @@
-pub mod DataSets
-pub mod Network
-pub mod State
-pub mod Events
-pub mod Machine
-pub mod Invariant
-pub mod Stands
 pub mod Words
 pub mod Numbers
 pub mod Document

@@ -2,8 +2,8 @@
 //! speaks of the definitions alone.
 
 ghost use Rattle.std.specs.Prelude.{◌≡◌, ℕ, List, Ok};
+ghost use Rattle.ptpm_network.specs.Network.{IsNetwork};
 ghost use Rattle.ptpm_world.specs.Described.{described};
-ghost use Rattle.ptpm_world.specs.Network.{IsNetwork};
 ghost use Rattle.ptpm_world.specs.NetworkText.{network_of};
 ghost use Rattle.ptpm_world.specs.NetworkValue.{IsAccepted, NetworkValue};
 

@@ -1,0 +1,140 @@
+-- The frames that a clock makes of one that comes in keep the invariant.
+use Rattle.std.proofs.Common.{arith, ◌≡◌, ℕ, ◌<◌, ◌≤◌, ◌^◌, ◌==◌, List, [], ◌∷◌, Option, Some, None, true, false, refl, sym, ◌∙◌, ap, subst, ⊎_elim}
+use Rattle.std.proofs.lemmas.Bool.{cases_Bool, and_from, cond-true, cond-false, eq-eqb}
+use Rattle.std.proofs.lemmas.Option.{same_Some}
+use Rattle.std.specs.Prelude.{map}
+use Rattle.std.specs.List.{AllByRecursion}
+use Rattle.ptpm_codec.specs.declared.identity.ClockIdentity.{ClockIdentity}
+use Rattle.ptpm_codec.specs.declared.identity.PortIdentity.{PortIdentity}
+use Rattle.ptpm_codec.specs.Canonical.{canonical}
+use Rattle.ptpm_data.specs.Reply.{Answer, ReplyValue}
+use Rattle.ptpm_table.specs.declared.heard.Heard.{Heard}
+use Rattle.ptpm_table.specs.Numbering.{same_request}
+use Rattle.ptpm_table.specs.Rendering.{hops_passed, rendered, reply_message}
+use Rattle.ptpm_agent.specs.Laws.{due_messages}
+use Rattle.ptpm_agent.specs.Once.{Accepted, History, RequestCopy, accepted_from, after_arrival, after_copy, copy_of, due_reply, greatest, joins, kept_for, kept_reply}
+use Rattle.ptpm_agent.specs.Turn.{Clock}
+use Rattle.ptpm_table.proofs.Identities.{same_identity-refl}
+use Rattle.ptpm_network.specs.DataSets.{IsSendable}
+use Rattle.ptpm_network.specs.Invariant.{IsFrame, IsOfOrigin, IsReached}
+use Rattle.ptpm_network.specs.Machine.{arrives, delivery, reply_frames, reply_origin}
+use Rattle.ptpm_network.specs.Network.{AtPort, HasEnd, IsNetwork, Network, manager, peers, ports}
+use Rattle.ptpm_network.specs.State.{Frame, NetworkState, Origin, ReplyTo, accepted_at_target, history}
+use Rattle.ptpm_network.proofs.Arriving.{IsCopyOf, history-here}
+use Rattle.ptpm_network.proofs.Frames.{says_kept}
+use Rattle.ptpm_network.proofs.Lists.{all_flat, all_made}
+use Rattle.ptpm_network.proofs.Steps.{has_peers, new_frames-are}
+
+-- ---- the reply that is due is the one that is kept from then on
+
+pub record IsDue (c : Clock) (h : History) (copy : RequestCopy) (r : ReplyValue) : Type 0 where
+  pub entry : Accepted
+  pub kept : kept_reply copy.heard.source copy.index (after_copy c h copy).accepted ≡ Some entry
+  pub reply : entry.reply ≡ r
+
+same_reply : (r u : ReplyValue) → Some r ≡ Some u → r ≡ u
+same_reply r u e = same_Some r u e
+
+kept_for-some : (copy : RequestCopy) (o : Option Accepted) (r : ReplyValue) → kept_for copy o ≡ Some r → (e : Accepted) × (o ≡ Some e) × (e.reply ≡ r)
+kept_for-some copy None r e = absurd (cc)
+kept_for-some copy (Some a) r e = ⊎_elim
+    (λ (y : same_request a.request copy.request ≡ true). (a, refl, same_reply a.reply r (sym (cond-true _ _ _ y) ∙ e)))
+    (λ (n : same_request a.request copy.request ≡ false). let none : None ≡ Some r = sym (cond-false _ _ _ n) ∙ e in absurd (cc))
+    (cases_Bool (same_request a.request copy.request))
+
+kept-accepted : (c : Clock) (h : History) (copy : RequestCopy) → kept_reply copy.heard.source copy.index (accepted_from c h copy ∷ h.accepted) ≡ Some (accepted_from c h copy)
+kept-accepted c h copy = cond-true _ _ _ (and_from _ _ (same_identity-refl copy.heard.source) (eq-eqb copy.index copy.index refl))
+
+due-joins : (c : Clock) (h : History) (copy : RequestCopy) (r : ReplyValue) → joins h copy ≡ true → due_reply c h copy ≡ Some r → IsDue c h copy r
+due-joins c h copy r y e = record {
+  entry = accepted_from c h copy;
+  kept = ap (λ (g : History). kept_reply copy.heard.source copy.index g.accepted) (cond-true _ _ _ y) ∙ kept-accepted c h copy;
+  reply = same_reply (accepted_from c h copy).reply r (sym (cond-true _ _ _ y) ∙ e);
+}
+
+due-repeats : (c : Clock) (h : History) (copy : RequestCopy) (r : ReplyValue) → joins h copy ≡ false → due_reply c h copy ≡ Some r → IsDue c h copy r
+due-repeats c h copy r j e = ⊎_elim
+    (λ (y : greatest copy.heard.source h.accepted == copy.index ≡ true).
+    let p = kept_for-some copy (kept_reply copy.heard.source copy.index h.accepted) r (sym (cond-true _ _ _ y) ∙ (sym (cond-false _ _ _ j) ∙ e)) in
+    record { entry = p.0; kept = ap (λ (g : History). kept_reply copy.heard.source copy.index g.accepted) (cond-false _ _ _ j) ∙ p.1; reply = p.2 })
+    (λ (n : greatest copy.heard.source h.accepted == copy.index ≡ false).
+    let none : None ≡ Some r = sym (cond-false _ _ _ n) ∙ (sym (cond-false _ _ _ j) ∙ e) in absurd (cc))
+    (cases_Bool (greatest copy.heard.source h.accepted == copy.index))
+
+pub is_due : (c : Clock) (h : History) (copy : RequestCopy) (r : ReplyValue) → due_reply c h copy ≡ Some r → IsDue c h copy r
+is_due c h copy r e = ⊎_elim
+    (λ (y : joins h copy ≡ true). due-joins c h copy r y e)
+    (λ (n : joins h copy ≡ false). due-repeats c h copy r n e)
+    (cases_Bool (joins h copy))
+
+-- ---- frames of new messages
+
+pub reply_frames-are : (N : Network) (w : NetworkState) (c : ℕ) (o : Origin) (sent : List (ℕ × List ℕ)) → IsNetwork N → AllByRecursion (λ m. IsOfOrigin N w m.1 o) sent → AllByRecursion (IsFrame N w) (reply_frames N c o sent)
+reply_frames-are N w c o sent n a =
+    all_flat (λ m. IsOfOrigin N w m.1 o) (IsFrame N w) _ (λ m p. new_frames-are N w (peers N.links (AtPort c m.0)) m.1 o (has_peers N (AtPort c m.0) n) p) sent a
+
+rendered-one : (me : ClockIdentity) (heard : Heard) (r : ReplyValue) (ingress : ℕ) (a : Answer) → r.answers ≡ a ∷ [] → rendered me heard r ingress ≡ (ingress, canonical (reply_message me heard r.action r.id ingress a)) ∷ []
+unfolding rendered
+rendered-one me heard r ingress a e = ap (map (λ (b : Answer). (ingress, canonical (reply_message me heard r.action r.id ingress b)))) e
+
+pub rendered-all : (P : List ℕ → Type 0) (me : ClockIdentity) (heard : Heard) (r : ReplyValue) (ingress : ℕ) → ((a : Answer) → IsSendable a → P (canonical (reply_message me heard r.action r.id ingress a))) → AllByRecursion IsSendable r.answers
+    → AllByRecursion (λ (m : ℕ × List ℕ). P m.1) (rendered me heard r ingress)
+unfolding rendered
+rendered-all P me heard r ingress each a = all_made IsSendable (λ (m : ℕ × List ℕ). P m.1) _ each r.answers a
+
+-- ---- the reply to a numbered copy
+
+pub small : (p n : ℕ) → p ≤ n → n ≤ 8 → p < 2 ^ 16
+small p n a b = omega arith
+
+-- it is a frame of the reply that is kept for the copy's request
+due-origin : (N : Network) (w : NetworkState) (c port : ℕ) (f : Frame) (copy : RequestCopy) (r : ReplyValue) → IsNetwork N → IsReached N (arrives w c (delivery port f)) → HasEnd N (AtPort c port)
+    → (of : IsCopyOf N w c port f copy) → copy_of (N.clock c) (history N w c).sets (delivery port f) ≡ Some copy → due_reply (N.clock c) (history N w c) copy ≡ Some r
+    → AllByRecursion (λ m. IsOfOrigin N (arrives w c (delivery port f)) m.1 (ReplyTo of.session of.k)) (rendered (N.clock c).identity copy.heard r copy.ingress)
+due-origin N w c port f copy r n reached end of e d =
+    let u = arrives w c (delivery port f) in
+    let due = is_due (N.clock c) (history N w c) copy r d in
+    let here : history N u c ≡ after_copy (N.clock c) (history N w c) copy =
+    history-here N w c (delivery port f) ∙ ap (after_arrival (N.clock c) (history N w c)) e in
+    let kept_here : kept_reply copy.heard.source copy.index (history N u c).accepted ≡ Some due.entry =
+    ap (λ (h : History). kept_reply copy.heard.source copy.index h.accepted) here ∙ due.kept in
+    let kept_m : kept_reply (manager N of.session) of.k (history N u c).accepted ≡ Some due.entry =
+    subst (λ k. kept_reply (manager N of.session) k (history N u c).accepted ≡ Some due.entry) of.index
+    (subst (λ (m : PortIdentity). kept_reply m copy.index (history N u c).accepted ≡ Some due.entry) of.source kept_here) in
+    let kept : kept_reply (manager N of.session) of.k (accepted_at_target N u of.session) ≡ Some due.entry =
+    subst (λ j. kept_reply (manager N of.session) of.k (history N u j).accepted ≡ Some due.entry) (sym of.target) kept_m in
+    let says = says_kept N u of.session of.k due.entry reached of.says.place of.says.positive kept in
+    let a = says.one.answer in
+    let session = n.are_sessions of.session of.says.place in
+    let target : (N.clock c).identity ≡ (N.session of.session).setup.target = sym (session.target ∙ ap (λ j. (N.clock j).identity) of.target) in
+    subst (AllByRecursion (λ m. IsOfOrigin N u m.1 (ReplyTo of.session of.k)))
+    (sym (rendered-one (N.clock c).identity copy.heard r copy.ingress a (ap (λ (z : ReplyValue). z.answers) (sym due.reply) ∙ says.one.is))) (
+      (
+        of.says.place,
+        record {
+          positive = of.says.positive;
+          entry = due.entry;
+          kept = kept;
+          answer = a;
+          one = says.one.is;
+          heard = copy.heard;
+          source = of.source;
+          number = of.number;
+          ingress = copy.ingress;
+          port = subst (λ p. p < 2 ^ 16) (sym of.ingress) (small port (ports N c) end.2 (n.are_clocks c end.0).at_most_eight);
+          hops = hops_passed copy.heard;
+          is = ap (λ (x : ClockIdentity). canonical (reply_message x copy.heard r.action r.id copy.ingress a)) target
+              ∙ ap (λ (z : ReplyValue). canonical (reply_message (N.session of.session).setup.target copy.heard z.action z.id copy.ingress a)) (sym due.reply);
+        },
+      ),
+      tt,
+    )
+
+pub due-frames : (N : Network) (w : NetworkState) (c port : ℕ) (f : Frame) (copy : RequestCopy) (o : Option ReplyValue) → IsNetwork N → IsReached N (arrives w c (delivery port f)) → HasEnd N (AtPort c port)
+    → IsCopyOf N w c port f copy → copy_of (N.clock c) (history N w c).sets (delivery port f) ≡ Some copy → due_reply (N.clock c) (history N w c) copy ≡ o
+    → AllByRecursion (IsFrame N (arrives w c (delivery port f))) (reply_frames N c (reply_origin f.origin) (due_messages (N.clock c) copy o))
+due-frames N w c port f copy None n reached end of e d = tt
+due-frames N w c port f copy (Some r) n reached end of e d =
+    reply_frames-are N (arrives w c (delivery port f)) c (reply_origin f.origin) (rendered (N.clock c).identity copy.heard r copy.ingress) n
+    (subst (λ (x : Origin). AllByRecursion (λ m. IsOfOrigin N (arrives w c (delivery port f)) m.1 (reply_origin x)) (rendered (N.clock c).identity copy.heard r copy.ingress)) (sym of.origin)
+    (due-origin N w c port f copy r n reached end of e d))

@@ -1,0 +1,226 @@
+-- What a delivery at a clock does to what the clock accepted.
+use Rattle.std.proofs.Common.{◌≡◌, ℕ, ◌<◌, ◌≤◌, ◌-◌, ◌==◌, nat_lt, List, [], ◌∷◌, ◌++◌, Option, Some, None, true, false, refl, sym, ◌∙◌, ap, subst, ⊎_elim, ◌⊎◌, inl, inr, length}
+use Rattle.std.proofs.lemmas.Bool.{cases_Bool, and_parts, cond-true, cond-false, eq-eqb, eqb-true, ltb-true, not-true, true≢false}
+use Rattle.std.proofs.lemmas.Option.{same_Some}
+use Rattle.std.specs.Prelude.{slice_get}
+use Rattle.ptpm_codec.specs.declared.identity.PortIdentity.{PortIdentity}
+use Rattle.ptpm_codec.specs.declared.message.Action.{Action}
+use Rattle.ptpm_codec.specs.declared.message.Message.{Message}
+use Rattle.ptpm_codec.specs.Identity.{same_identity}
+use Rattle.ptpm_codec.specs.Message.{action_of, is_reply}
+use Rattle.ptpm_codec.specs.Reading.{message_of}
+use Rattle.ptpm_data.specs.Reply as reply
+use Rattle.ptpm_data.specs.Reply.{Outcome, ReplyValue}
+use Rattle.ptpm_data.specs.Request.{RequestValue}
+use Rattle.ptpm_table.specs.Rendering.{answer_body}
+use Rattle.ptpm_agent.specs.Once.{Accepted, Delivery, History, RequestCopy, accepted_from, after, after_arrival, after_copy, applied_once, beginning, copy_from, copy_of, greatest, is_copy, joined, joins, kept_reply}
+use Rattle.ptpm_agent.specs.Turn.{Clock}
+use Rattle.ptpm_agent.proofs.AtMostOnce.{DeliversCopy, delivers_copy}
+use Rattle.ptpm_table.proofs.Identities.{same_identity-true}
+use Rattle.ptpm_agent.proofs.Turns.{copy_parts}
+use Rattle.ptpm_codec.specs.SequenceNumber.{number_of}
+use Rattle.ptpm_network.specs.DataSets.{AreDataSets, IsForOne}
+use Rattle.ptpm_network.specs.Invariant.{IsInStep, IsReached}
+use Rattle.ptpm_network.specs.Machine.{arrives, delivery, index_of}
+use Rattle.ptpm_network.specs.Network.{IsNetwork, Network, manager, ports}
+use Rattle.ptpm_network.specs.State.{Frame, NetworkState, Origin, RequestOf, ReplyTo, Neither, accepted_at_target, history}
+use Rattle.ptpm_network.proofs.Accepting.{IsAbove, JoinsOwn, in_step-joined, kept-joined, kept-le}
+use Rattle.ptpm_network.proofs.Frames.{IsHeard, SaysRequest, same_read, says_reply, says_request}
+use Rattle.ptpm_network.proofs.Lists.{with_place-other, with_place-same}
+use Rattle.ptpm_network.proofs.Messages.{reply_action-is_reply, request_at}
+use Rattle.ptpm_network.proofs.Requests.{answered, kept, once}
+use Rattle.ptpm_network.proofs.Steps.{KeptStays, frames-stay}
+
+-- ---- the session that a numbered copy is of
+
+pub record IsCopyOf (N : Network) (w : NetworkState) (c port : ℕ) (f : Frame) (copy : RequestCopy) : Type 0 where
+  pub session : ℕ
+  pub k : ℕ
+  pub origin : f.origin ≡ RequestOf session k
+  pub target : (N.session session).target ≡ c
+  pub says : SaysRequest N w session k f.octets
+  -- the parts of the copy
+  pub index : copy.index ≡ k
+  pub ingress : copy.ingress ≡ port
+  pub source : copy.heard.source ≡ manager N session
+  pub number : copy.heard.number ≡ number_of (N.session session).setup.first k
+  pub request : copy.request ≡ says.request
+  pub read : (v : Message) → message_of f.octets ≡ Some v → is_copy (N.clock c) (history N w c).sets v ≡ true
+
+pub action_of-answer_body : (action : Action) (id : ℕ) (o : Outcome) → action_of (answer_body action id o) ≡ action
+action_of-answer_body action id (reply.Value octets) = refl
+action_of-answer_body action id reply.Done = refl
+action_of-answer_body action id (reply.Refused error) = refl
+
+copy_of-origin : (N : Network) (w : NetworkState) (c port : ℕ) (f : Frame) (o : Origin) (copy : RequestCopy) → f.origin ≡ o → IsNetwork N → IsReached N w → c < N.clocks → IsHeard N w f.octets o
+    → DeliversCopy (N.clock c) (history N w c).sets (delivery port f) copy → IsCopyOf N w c port f copy
+copy_of-origin N w c port f (RequestOf t k) copy e n r place i d =
+    let says = says_request N w t k f.octets n r i in
+    let v : Message = request_at N t k says.domain says.hops says.request in
+    let same : d.message ≡ v = same_read f.octets d.message v says.message d.read in
+    let parts = copy_parts (N.clock c) (history N w c).sets d.message d.passes in
+    let m = n.managers c d.message.source place parts.known in
+    let source : manager N m.0 ≡ manager N t = m.2 ∙ ap (λ (u : Message). u.source) same in
+    let ts : m.0 ≡ t = n.sessions_apart m.0 t m.1 says.place source in
+    let is : copy_from (delivery port f) v ≡ copy = subst (λ (u : Message). copy_from (delivery port f) u ≡ copy) same d.copy in
+    record {
+      session = t;
+      k = k;
+      origin = e;
+      target = ap (λ j. (N.session j).target) (sym ts) ∙ m.3;
+      says = says;
+      index = sym (ap (λ (x : RequestCopy). x.index) is) ∙ ap index_of e;
+      ingress = sym (ap (λ (x : RequestCopy). x.ingress) is);
+      source = sym (ap (λ (x : RequestCopy). x.heard.source) is);
+      number = sym (ap (λ (x : RequestCopy). x.heard.number) is);
+      request = sym (ap (λ (x : RequestCopy). x.request) is);
+      read = λ u h. subst (λ (z : Message). is_copy (N.clock c) (history N w c).sets z ≡ true) (same_Some d.message u (sym d.read ∙ h)) d.passes;
+    }
+copy_of-origin N w c port f (ReplyTo t k) copy e n r place i d =
+    let says = says_reply N w t k f.octets n r i in
+    let same = same_read f.octets d.message _ says.message d.read in
+    let parts = copy_parts (N.clock c) (history N w c).sets d.message d.passes in
+    let answers : is_reply (action_of d.message.body) ≡ true =
+    ap (λ (u : Message). is_reply (action_of u.body)) same
+    ∙ ap is_reply (action_of-answer_body says.entry.reply.action says.entry.reply.id says.answer.outcome ∙ says.says.answers.action)
+    ∙ reply_action-is_reply says.entry.request.action in
+    absurd (true≢false (sym answers ∙ not-true _ parts.request))
+copy_of-origin N w c port f Neither copy e n r place i d =
+    let parts = copy_parts (N.clock c) (history N w c).sets d.message d.passes in
+    let m = n.managers c d.message.source place parts.known in
+    absurd ((i d.message d.read).1.no_request m.0 m.1 (sym m.2))
+
+pub is_copy_of : (N : Network) (w : NetworkState) (c port : ℕ) (f : Frame) (copy : RequestCopy) → IsNetwork N → IsReached N w → c < N.clocks → IsHeard N w f.octets f.origin → copy_of (N.clock c) (history N w c).sets (delivery port f) ≡ Some copy → IsCopyOf N w c port f copy
+is_copy_of N w c port f copy n r place i e =
+    copy_of-origin N w c port f f.origin copy refl n r place i (delivers_copy (N.clock c) (history N w c).sets (delivery port f) copy e)
+
+-- ---- what a delivery leaves of a clock
+
+pub applied_once-append : (c : Clock) (h : History) (xs : List Delivery) (x : Delivery) → applied_once c h (xs ++ x ∷ []) ≡ after c (applied_once c h xs) x
+applied_once-append c h [] x = refl
+applied_once-append c h (y ∷ ys) x = applied_once-append c (after c h y) ys x
+
+pub history-here : (N : Network) (w : NetworkState) (c : ℕ) (x : Delivery) → history N (arrives w c x) c ≡ after (N.clock c) (history N w c) x
+history-here N w c x =
+    ap (applied_once (N.clock c) (beginning (N.start c))) (with_place-same w.arrivals c (w.arrivals c ++ x ∷ []) c (eq-eqb c c refl))
+    ∙ applied_once-append (N.clock c) (beginning (N.start c)) (w.arrivals c) x
+
+pub history-elsewhere : (N : Network) (w : NetworkState) (c : ℕ) (x : Delivery) (d : ℕ) → d == c ≡ false → history N (arrives w c x) d ≡ history N w d
+history-elsewhere N w c x d n = ap (applied_once (N.clock d) (beginning (N.start d))) (with_place-other w.arrivals c (w.arrivals c ++ x ∷ []) d n)
+
+-- a copy joins
+pub record JoinsAt (N : Network) (w : NetworkState) (c port : ℕ) (f : Frame) : Type 0 where
+  pub copy : RequestCopy
+  pub of : IsCopyOf N w c port f copy
+  pub above : greatest copy.heard.source (history N w c).accepted < copy.index
+  pub is : history N (arrives w c (delivery port f)) c ≡ joined (N.clock c) (history N w c) copy
+
+abbrev HereAfter : Network → NetworkState → ℕ → ℕ → Frame → Type 0
+HereAfter N w c port f = (history N (arrives w c (delivery port f)) c ≡ history N w c) ⊎ JoinsAt N w c port f
+
+here_by : (N : Network) (w : NetworkState) (c port : ℕ) (f : Frame) (o : Option RequestCopy) → IsNetwork N → IsReached N w → c < N.clocks → IsHeard N w f.octets f.origin → copy_of (N.clock c) (history N w c).sets (delivery port f) ≡ o → HereAfter N w c port f
+here_by N w c port f None n r place i e =
+    inl (history-here N w c (delivery port f) ∙ ap (after_arrival (N.clock c) (history N w c)) e)
+here_by N w c port f (Some copy) n r place i e =
+    let is : history N (arrives w c (delivery port f)) c ≡ after_copy (N.clock c) (history N w c) copy =
+    history-here N w c (delivery port f) ∙ ap (after_arrival (N.clock c) (history N w c)) e in
+    ⊎_elim
+    (λ (y : joins (history N w c) copy ≡ true). inr (record {
+      copy = copy;
+      of = is_copy_of N w c port f copy n r place i e;
+      above = ltb-true _ _ (and_parts (copy.heard.domain == (history N w c).sets.default.domain) (nat_lt (greatest copy.heard.source (history N w c).accepted) copy.index) y).1;
+      is = is ∙ cond-true _ _ _ y;
+    }))
+    (λ (f : joins (history N w c) copy ≡ false). inl (is ∙ cond-false _ _ _ f))
+    (cases_Bool (joins (history N w c) copy))
+
+pub here_after : (N : Network) (w : NetworkState) (c port : ℕ) (f : Frame) → IsNetwork N → IsReached N w → c < N.clocks → IsHeard N w f.octets f.origin → HereAfter N w c port f
+here_after N w c port f n r place i = here_by N w c port f (copy_of (N.clock c) (history N w c).sets (delivery port f)) n r place i refl
+
+-- ---- data sets stay data sets
+
+clock-after : (N : Network) (w : NetworkState) (c port : ℕ) (f : Frame) → IsNetwork N → IsReached N w → c < N.clocks → IsHeard N w f.octets f.origin → AreDataSets (ports N c) (history N (arrives w c (delivery port f)) c).sets
+clock-after N w c port f n r place i = ⊎_elim
+    (λ (e : history N (arrives w c (delivery port f)) c ≡ history N w c). subst (λ (h : History). AreDataSets (ports N c) h.sets) (sym e) (r.clocks c place))
+    (λ (j : JoinsAt N w c port f). subst (λ (h : History). AreDataSets (ports N c) h.sets) (sym j.is)
+    (kept j.copy.request ((N.clock c).rights j.copy.heard.source) (ports N c) (history N w c).sets (r.clocks c place)))
+    (here_after N w c port f n r place i)
+
+clocks-after : (N : Network) (w : NetworkState) (c port : ℕ) (f : Frame) → IsNetwork N → IsReached N w → c < N.clocks → IsHeard N w f.octets f.origin → (d : ℕ) → d < N.clocks → AreDataSets (ports N d) (history N (arrives w c (delivery port f)) d).sets
+clocks-after N w c port f n r place i d exists = ⊎_elim
+    (λ (y : d == c ≡ true). subst (λ j. AreDataSets (ports N j) (history N (arrives w c (delivery port f)) j).sets) (sym (eqb-true d c y)) (clock-after N w c port f n r place i))
+    (λ (o : d == c ≡ false). subst (λ (h : History). AreDataSets (ports N d) h.sets) (sym (history-elsewhere N w c (delivery port f) d o)) (r.clocks d exists))
+    (cases_Bool (d == c))
+
+-- ---- what was accepted of a session
+
+pub record Gains (m : PortIdentity) (begun : List RequestValue) (new old : List Accepted) : Type 0 where
+  pub entry : Accepted
+  pub is : new ≡ entry ∷ old
+  pub above : IsAbove m old entry
+  pub own : same_identity m entry.manager ≡ true → JoinsOwn m begun entry
+
+abbrev pub StaysOrGains : PortIdentity → List RequestValue → List Accepted → List Accepted → Type 0
+StaysOrGains m begun new old = (new ≡ old) ⊎ Gains m begun new old
+
+joins-own : (N : Network) (w : NetworkState) (c port : ℕ) (f : Frame) → IsReached N w → c < N.clocks → (j : JoinsAt N w c port f) → JoinsOwn (manager N j.of.session) (w.session j.of.session).begun (accepted_from (N.clock c) (history N w c) j.copy)
+joins-own N w c port f r place j =
+    let says = j.of.says in
+    let asked = says.asked in
+    let sets = r.clocks c place in
+    let rights = (N.clock c).rights j.copy.heard.source in
+    let of_ports : ports N (N.session j.of.session).target ≡ ports N c = ap (ports N) j.of.target in
+    record {
+      index = subst (λ k. k ≤ length (w.session j.of.session).begun) (sym j.of.index) says.within;
+      begun_as = subst (λ k. slice_get (w.session j.of.session).begun (k - 1) ≡ Some j.copy.request) (sym j.of.index) (says.begun_as ∙ ap Some (sym j.of.request));
+      answers = answered j.copy.request rights (ports N c) (history N w c).sets sets;
+      one = once j.copy.request rights (ports N c) (history N w c).sets sets
+          (subst (λ (q : RequestValue). IsForOne (ports N c) q) (sym j.of.request) (subst (λ p. IsForOne p says.request) of_ports asked.one));
+    }
+
+gains-here : (N : Network) (w : NetworkState) (c port : ℕ) (f : Frame) → IsNetwork N → IsReached N w → c < N.clocks → IsHeard N w f.octets f.origin → (t : ℕ) → t < N.sessions
+    → StaysOrGains (manager N t) (w.session t).begun (history N (arrives w c (delivery port f)) c).accepted (history N w c).accepted
+gains-here N w c port f n r place i t exists = ⊎_elim
+    (λ (e : history N (arrives w c (delivery port f)) c ≡ history N w c). inl (ap (λ (h : History). h.accepted) e))
+    (λ (j : JoinsAt N w c port f). inr (record {
+      entry = accepted_from (N.clock c) (history N w c) j.copy;
+      is = ap (λ (h : History). h.accepted) j.is;
+      above = λ y. subst (λ (m : PortIdentity). greatest m (history N w c).accepted < j.copy.index) (sym (same_identity-true (manager N t) j.copy.heard.source y)) j.above;
+      own = λ y.
+          let ts : t ≡ j.of.session = n.sessions_apart t j.of.session exists j.of.says.place (same_identity-true (manager N t) j.copy.heard.source y ∙ j.of.source) in
+          subst (λ s. JoinsOwn (manager N s) (w.session s).begun (accepted_from (N.clock c) (history N w c) j.copy)) (sym ts) (joins-own N w c port f r place j);
+    }))
+    (here_after N w c port f n r place i)
+
+pub gains : (N : Network) (w : NetworkState) (c port : ℕ) (f : Frame) → IsNetwork N → IsReached N w → c < N.clocks → IsHeard N w f.octets f.origin → (t : ℕ) → t < N.sessions
+    → StaysOrGains (manager N t) (w.session t).begun (accepted_at_target N (arrives w c (delivery port f)) t) (accepted_at_target N w t)
+gains N w c port f n r place i t exists = ⊎_elim
+    (λ (y : (N.session t).target == c ≡ true).
+    subst (λ d. StaysOrGains (manager N t) (w.session t).begun (history N (arrives w c (delivery port f)) d).accepted (history N w d).accepted)
+    (sym (eqb-true (N.session t).target c y)) (gains-here N w c port f n r place i t exists))
+    (λ (o : (N.session t).target == c ≡ false). inl (ap (λ (h : History). h.accepted) (history-elsewhere N w c (delivery port f) (N.session t).target o)))
+    (cases_Bool ((N.session t).target == c))
+
+-- ---- the invariant, before the clock sends anything
+
+pub kept-stays : (N : Network) (w : NetworkState) (c port : ℕ) (f : Frame) → IsNetwork N → IsReached N w → c < N.clocks → IsHeard N w f.octets f.origin → KeptStays N w (arrives w c (delivery port f))
+kept-stays N w c port f n r place i t k e exists h = ⊎_elim
+    (λ (q : accepted_at_target N (arrives w c (delivery port f)) t ≡ accepted_at_target N w t). ap (kept_reply (manager N t) k) q ∙ h)
+    (λ (g : Gains (manager N t) (w.session t).begun (accepted_at_target N (arrives w c (delivery port f)) t) (accepted_at_target N w t)).
+    ap (kept_reply (manager N t) k) g.is
+    ∙ kept-joined (manager N t) (accepted_at_target N w t) g.entry k g.above (kept-le (manager N t) k (accepted_at_target N w t) e h)
+    ∙ h)
+    (gains N w c port f n r place i t exists)
+
+pub arrives-reached : (N : Network) (w : NetworkState) (c port : ℕ) (f : Frame) → IsNetwork N → IsReached N w → c < N.clocks → IsHeard N w f.octets f.origin → IsReached N (arrives w c (delivery port f))
+arrives-reached N w c port f n r place i = record {
+  sessions = λ t exists. ⊎_elim
+      (λ (q : accepted_at_target N (arrives w c (delivery port f)) t ≡ accepted_at_target N w t).
+      subst (λ es. IsInStep (manager N t) (ports N (N.session t).target) es (w.session t)) (sym q) (r.sessions t exists))
+      (λ (g : Gains (manager N t) (w.session t).begun (accepted_at_target N (arrives w c (delivery port f)) t) (accepted_at_target N w t)).
+      subst (λ es. IsInStep (manager N t) (ports N (N.session t).target) es (w.session t)) (sym g.is)
+      (in_step-joined (manager N t) (ports N (N.session t).target) (accepted_at_target N w t) g.entry (w.session t) g.above g.own (r.sessions t exists)))
+      (gains N w c port f n r place i t exists);
+  clocks = clocks-after N w c port f n r place i;
+  frames = frames-stay N w (arrives w c (delivery port f)) (λ s j q e. e) (kept-stays N w c port f n r place i) w.frames r.frames;
+}

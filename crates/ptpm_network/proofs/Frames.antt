@@ -1,0 +1,222 @@
+-- What a frame of each origin says, and that what a clock passes on keeps its origin.
+use Rattle.std.proofs.Common.{arith, ◌≡◌, ℕ, ◌<◌, ◌≤◌, ◌+◌, ◌-◌, ◌^◌, List, [], ◌∷◌, Some, sym, ◌∙◌, ap, subst, length}
+use Rattle.std.proofs.lemmas.Option.{same_Some}
+use Rattle.std.specs.Prelude.{slice_get}
+use Rattle.std.specs.List.{AllByRecursion}
+use Rattle.ptpm_codec.specs.declared.identity.ClockIdentity.{ClockIdentity}
+use Rattle.ptpm_codec.specs.declared.identity.PortIdentity.{PortIdentity}
+use Rattle.ptpm_codec.specs.declared.message.Message.{Message}
+use Rattle.ptpm_codec.specs.Canonical.{canonical}
+use Rattle.ptpm_codec.specs.Layout.{boundary_hops}
+use Rattle.ptpm_codec.specs.Message.{Fits}
+use Rattle.ptpm_codec.specs.Reading.{message_of}
+use Rattle.ptpm_data.specs.Reply.{Answer}
+use Rattle.ptpm_data.specs.Request.{RequestValue}
+use Rattle.ptpm_table.specs.declared.heard.Heard.{Heard}
+use Rattle.ptpm_agent.specs.Forwarding.{with_less_hop}
+use Rattle.ptpm_agent.specs.Once.{Accepted, kept_reply}
+use Rattle.ptpm_codec.specs.SequenceNumber.{number_of}
+use Rattle.ptpm_network.specs.DataSets.{Answers, HasOneAnswer, IsSendable}
+use Rattle.ptpm_network.specs.Invariant.{IsAsked, IsForeign, IsFrame, IsMessage, IsOfOrigin, IsReached}
+use Rattle.ptpm_network.specs.Machine.{forwarded_frames}
+use Rattle.ptpm_network.specs.Network.{AtPort, HasEnd, IsNetwork, Network, manager, peers, ports}
+use Rattle.ptpm_network.specs.State.{Frame, NetworkState, Origin, RequestOf, ReplyTo, Neither, accepted_at_target, frames_to, issued}
+use Rattle.ptpm_network.proofs.Accepting.{kept-le}
+use Rattle.ptpm_network.proofs.Lists.{all_flat, all_made, get_within}
+use Rattle.ptpm_network.proofs.Messages.{IsPassedOn, canonical-message, less_hop-canonical, less_hop-hops, less_hop-message, message-hops, reply_at, reply-fits, reply-valid, request_at, request-fits, request-valid}
+use Rattle.ptpm_network.proofs.Steps.{has_peers}
+
+-- ---- a frame of a request
+
+pub record SaysRequest (N : Network) (w : NetworkState) (s k : ℕ) (octets : List ℕ) : Type 0 where
+  pub place : s < N.sessions
+  pub positive : 0 < k
+  pub within : k ≤ issued w s
+  pub request : RequestValue
+  pub begun_as : slice_get (w.session s).begun (k - 1) ≡ Some request
+  pub asked : IsAsked (ports N (N.session s).target) request
+  pub domain : ℕ
+  pub hops : ℕ
+  pub is : octets ≡ canonical (request_at N s k domain hops request)
+  pub message : IsMessage octets (request_at N s k domain hops request)
+
+up_to : (k n : ℕ) → 0 < k → k - 1 < n → k ≤ n
+up_to k n p h = omega arith
+
+pub says_request : (N : Network) (w : NetworkState) (s k : ℕ) (octets : List ℕ) → IsNetwork N → IsReached N w → IsOfOrigin N w octets (RequestOf s k) → SaysRequest N w s k octets
+says_request N w s k octets n r (place, i) =
+    let asked = (r.sessions s place).asked (k - 1) i.request i.begun_as in
+    let v : Message = request_at N s k i.domain i.hops i.request in
+    record {
+      place = place;
+      positive = i.positive;
+      within = up_to k (issued w s) i.positive (get_within (w.session s).begun (k - 1) i.request i.begun_as);
+      request = i.request;
+      begun_as = i.begun_as;
+      asked = asked;
+      domain = i.domain;
+      hops = i.hops;
+      is = i.is;
+      message = subst (λ m. IsMessage m v) (sym i.is)
+          (canonical-message v (request-valid N s k i.domain i.hops (ports N (N.session s).target) i.request asked)
+          (request-fits N s k i.domain i.hops (ports N (N.session s).target) i.request n place asked));
+    }
+
+-- ---- a frame of a reply
+
+-- what was accepted as request k, with the one answer to it
+pub record SaysKept (N : Network) (w : NetworkState) (s k : ℕ) (e : Accepted) : Type 0 where
+  pub begun_as : slice_get (w.session s).begun (k - 1) ≡ Some e.request
+  pub asked : IsAsked (ports N (N.session s).target) e.request
+  pub answers : Answers e.request e.reply
+  pub one : HasOneAnswer e.request e.reply
+  pub within : k ≤ issued w s
+
+pub le_le : (a b c : ℕ) → a ≤ b → b ≤ c → a ≤ c
+le_le a b c x y = omega arith
+
+pub says_kept : (N : Network) (w : NetworkState) (s k : ℕ) (e : Accepted) → IsReached N w → s < N.sessions → 0 < k → kept_reply (manager N s) k (accepted_at_target N w s) ≡ Some e → SaysKept N w s k e
+says_kept N w s k e r place positive kept =
+    let at = r.sessions s place in
+    let le = kept-le (manager N s) k (accepted_at_target N w s) e kept in
+    let was = at.without_gap k positive le in
+    let same : was.entry ≡ e = same_Some was.entry e (sym was.is ∙ kept) in
+    record {
+      begun_as = subst (λ (a : Accepted). slice_get (w.session s).begun (k - 1) ≡ Some a.request) same was.begun_as;
+      asked = subst (λ (a : Accepted). IsAsked (ports N (N.session s).target) a.request) same (at.asked (k - 1) was.entry.request was.begun_as);
+      answers = subst (λ (a : Accepted). Answers a.request a.reply) same was.answers;
+      one = subst (λ (a : Accepted). HasOneAnswer a.request a.reply) same was.one;
+      within = le_le k _ _ le at.begun_before;
+    }
+
+pub record SaysReply (N : Network) (w : NetworkState) (s k : ℕ) (octets : List ℕ) : Type 0 where
+  pub place : s < N.sessions
+  pub positive : 0 < k
+  pub entry : Accepted
+  pub kept : kept_reply (manager N s) k (accepted_at_target N w s) ≡ Some entry
+  pub says : SaysKept N w s k entry
+  pub answer : Answer
+  pub one : entry.reply.answers ≡ answer ∷ []
+  pub heard : Heard
+  pub source : heard.source ≡ manager N s
+  pub number : heard.number ≡ number_of (N.session s).setup.first k
+  pub ingress : ℕ
+  pub port : ingress < 2 ^ 16
+  pub hops : ℕ
+  pub is : octets ≡ canonical (reply_at (N.session s).setup.target heard entry.reply ingress hops answer)
+  pub message : IsMessage octets (reply_at (N.session s).setup.target heard entry.reply ingress hops answer)
+
+number-fits : (n first k : ℕ) → n ≡ number_of first k → n < 2 ^ 16
+number-fits n first k e = omega arith
+
+sendable-one : (q : RequestValue) (e : Accepted) (a : Answer) → e.reply.answers ≡ a ∷ [] → Answers q e.reply → IsSendable a
+sendable-one q e a one answers = (subst (AllByRecursion IsSendable) one answers.sendable).0
+
+pub says_reply : (N : Network) (w : NetworkState) (s k : ℕ) (octets : List ℕ) → IsNetwork N → IsReached N w → IsOfOrigin N w octets (ReplyTo s k) → SaysReply N w s k octets
+says_reply N w s k octets n r (place, i) =
+    let session = n.are_sessions s place in
+    let clock = n.are_clocks (N.session s).target session.exists in
+    let says = says_kept N w s k i.entry r place i.positive i.kept in
+    let sendable = sendable-one i.entry.request i.entry i.answer i.one says.answers in
+    let identity : length (N.session s).setup.target.0 ≡ 8 = subst (λ (c : ClockIdentity). length c.0 ≡ 8) (sym session.target) clock.identity in
+    let source : length i.heard.source.clock.0 ≡ 8 = subst (λ (m : PortIdentity). length m.clock.0 ≡ 8) (sym i.source) session.identity.clock in
+    let port : i.heard.source.port < 2 ^ 16 = subst (λ (m : PortIdentity). m.port < 2 ^ 16) (sym i.source) session.identity.port in
+    let v : Message = reply_at (N.session s).setup.target i.heard i.entry.reply i.ingress i.hops i.answer in
+    record {
+      place = place;
+      positive = i.positive;
+      entry = i.entry;
+      kept = i.kept;
+      says = says;
+      answer = i.answer;
+      one = i.one;
+      heard = i.heard;
+      source = i.source;
+      number = i.number;
+      ingress = i.ingress;
+      port = i.port;
+      hops = i.hops;
+      is = i.is;
+      message = subst (λ m. IsMessage m v) (sym i.is)
+          (canonical-message v (reply-valid (N.session s).setup.target i.heard i.entry.request i.entry.reply i.ingress i.hops i.answer says.answers sendable)
+          (reply-fits (N.session s).setup.target i.heard i.entry.request i.entry.reply i.ingress i.hops i.answer identity source port (number-fits i.heard.number (N.session s).setup.first k i.number) i.port says.asked.id says.answers sendable));
+    }
+
+-- ---- a frame that comes in
+
+-- a stranger's datagram may be no message, and longer than its message
+abbrev pub IsHeard : Network → NetworkState → List ℕ → Origin → Type 0
+IsHeard N w octets (RequestOf s k) = IsOfOrigin N w octets (RequestOf s k)
+IsHeard N w octets (ReplyTo s k) = IsOfOrigin N w octets (ReplyTo s k)
+IsHeard N w octets Neither = (v : Message) → message_of octets ≡ Some v → Fits v × IsForeign N v
+
+pub heard-frame : (N : Network) (w : NetworkState) (octets : List ℕ) (o : Origin) → IsOfOrigin N w octets o → IsHeard N w octets o
+heard-frame N w octets (RequestOf s k) i = i
+heard-frame N w octets (ReplyTo s k) i = i
+heard-frame N w octets Neither i = λ v e.
+    let same : i.message ≡ v = same_Some i.message v (sym i.is.read ∙ e) in
+    (subst Fits same i.is.fits, subst (IsForeign N) same i.foreign)
+
+-- the message that a request's frame, or a reply's, is of
+pub same_read : (octets : List ℕ) (v u : Message) → IsMessage octets u → message_of octets ≡ Some v → v ≡ u
+same_read octets v u m e = same_Some v u (sym e ∙ m.read)
+
+-- ---- with one hop less
+
+pub passed_on-origin : (N : Network) (w : NetworkState) (octets : List ℕ) (o : Origin) (v : Message) → IsNetwork N → IsReached N w → IsHeard N w octets o → message_of octets ≡ Some v → IsOfOrigin N w (with_less_hop octets) o
+passed_on-origin N w octets (RequestOf s k) v n r i e =
+    let says = says_request N w s k octets n r i in (
+      says.place,
+      record {
+        positive = says.positive;
+        request = says.request;
+        begun_as = says.begun_as;
+        domain = says.domain;
+        hops = says.hops - 1;
+        is = ap with_less_hop says.is ∙ less_hop-canonical (request_at N s k says.domain says.hops says.request)
+            (request-valid N s k says.domain says.hops (ports N (N.session s).target) says.request says.asked) says.message.fits;
+      },
+    )
+passed_on-origin N w octets (ReplyTo s k) v n r i e =
+    let says = says_reply N w s k octets n r i in (
+      says.place,
+      record {
+        positive = says.positive;
+        entry = says.entry;
+        kept = says.kept;
+        answer = says.answer;
+        one = says.one;
+        heard = says.heard;
+        source = says.source;
+        number = says.number;
+        ingress = says.ingress;
+        port = says.port;
+        hops = says.hops - 1;
+        is = ap with_less_hop says.is ∙ less_hop-canonical (reply_at (N.session s).setup.target says.heard says.entry.reply says.ingress says.hops says.answer)
+            (reply-valid (N.session s).setup.target says.heard says.entry.request says.entry.reply says.ingress says.hops says.answer says.says.answers (sendable-one says.entry.request says.entry says.answer says.one says.says.answers)) says.message.fits;
+      },
+    )
+passed_on-origin N w octets Neither v n r i e =
+    let p = i v e in
+    record { message = record v { hops = v.hops - 1 }; is = less_hop-message v octets e p.0; foreign = record { no_request = p.1.no_request; no_reply = p.1.no_reply } }
+
+one_hop : (before after' forwardings first hops : ℕ) → before + forwardings ≡ first → hops ≡ before → 0 < hops → after' ≡ before - 1 → after' + (forwardings + 1) ≡ first
+one_hop before after' forwardings first hops a b c d = omega arith
+
+-- what a clock passes on of a frame is of the frame's origin, with a hop less and a forwarding more
+passed_on-frames : (N : Network) (w : NetworkState) (c : ℕ) (f : Frame) → IsNetwork N → IsReached N w → IsHeard N w f.octets f.origin → boundary_hops f.octets + f.forwardings ≡ f.first_hops → (m : ℕ × List ℕ) → IsPassedOn f.octets m
+    → AllByRecursion (IsFrame N w) (frames_to (peers N.links (AtPort c m.0)) m.1 f.origin f.first_hops (f.forwardings + 1))
+passed_on-frames N w c f n r i hops m p =
+    all_made (HasEnd N) (IsFrame N w) _
+    (λ e h. record {
+      end = h;
+      origin = subst (λ octets. IsOfOrigin N w octets f.origin) (sym p.octets) (passed_on-origin N w f.octets f.origin p.message n r i p.read);
+      hops = subst (λ octets. boundary_hops octets + (f.forwardings + 1) ≡ f.first_hops) (sym p.octets)
+          (one_hop (boundary_hops f.octets) (boundary_hops (with_less_hop f.octets)) f.forwardings f.first_hops p.message.hops hops (message-hops p.message f.octets p.read) p.hop (less_hop-hops p.message f.octets p.read));
+    })
+    (peers N.links (AtPort c m.0)) (has_peers N (AtPort c m.0) n)
+
+pub forwarded_frames-are : (N : Network) (w : NetworkState) (c port : ℕ) (f : Frame) (sent : List (ℕ × List ℕ)) → AllByRecursion (IsPassedOn f.octets) sent → IsNetwork N → IsReached N w → IsHeard N w f.octets f.origin → boundary_hops f.octets + f.forwardings ≡ f.first_hops
+    → AllByRecursion (IsFrame N w) (forwarded_frames N c f sent)
+forwarded_frames-are N w c port f sent a n r i hops =
+    all_flat (IsPassedOn f.octets) (IsFrame N w) _ (λ m p. passed_on-frames N w c f n r i hops m p) sent a

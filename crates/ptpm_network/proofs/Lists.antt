@@ -1,0 +1,51 @@
+-- What holds of each element of a list, and functions of places that change at one.
+use Rattle.std.proofs.Common.{suc, zero, ◌≡◌, ℕ, ◌<◌, ◌==◌, List, [], ◌∷◌, ◌++◌, Some, true, false, subst, length, arith}
+use Rattle.std.proofs.lemmas.Bool.{cond-true, cond-false}
+use Rattle.std.specs.Prelude.{slice_get, flat_map, map}
+use Rattle.std.specs.List.{AllByRecursion}
+use Rattle.ptpm_network.specs.Machine.{with_place}
+
+pub all_weaker : {X : Type 0} (P Q : X → Type 0) → ((x : X) → P x → Q x) → (xs : List X) → AllByRecursion P xs → AllByRecursion Q xs
+all_weaker P Q f [] a = tt
+all_weaker P Q f (x ∷ xs) a = (f x a.0, all_weaker P Q f xs a.1)
+
+pub all_append : {X : Type 0} (P : X → Type 0) → (xs ys : List X) → AllByRecursion P xs → AllByRecursion P ys → AllByRecursion P (xs ++ ys)
+all_append P [] ys a b = b
+all_append P (x ∷ xs) ys a b = (a.0, all_append P xs ys a.1 b)
+
+-- what is made of elements of which P holds
+pub all_made : {X Y : Type 0} (P : X → Type 0) (Q : Y → Type 0) (make : X → Y) → ((x : X) → P x → Q (make x)) → (xs : List X) → AllByRecursion P xs → AllByRecursion Q (map make xs)
+all_made P Q make f [] a = tt
+all_made P Q make f (x ∷ xs) a = (f x a.0, all_made P Q make f xs a.1)
+
+pub all_flat : {X Y : Type 0} (P : X → Type 0) (Q : Y → Type 0) (make : X → List Y) → ((x : X) → P x → AllByRecursion Q (make x)) → (xs : List X) → AllByRecursion P xs → AllByRecursion Q (flat_map make xs)
+all_flat P Q make f [] a = tt
+all_flat P Q make f (x ∷ xs) a = all_append Q (make x) (flat_map make xs) (f x a.0) (all_flat P Q make f xs a.1)
+
+pub all_get : {X : Type 0} (P : X → Type 0) → (xs : List X) (i : ℕ) (x : X) → AllByRecursion P xs → slice_get xs i ≡ Some x → P x
+all_get P [] i x a e = absurd (cc)
+all_get P (y ∷ ys) zero x a e = let q : y ≡ x = cc in subst P q a.0
+all_get P (y ∷ ys) (suc i) x a e = all_get P ys i x a.1 e
+
+pub get_append : {X : Type 0} (xs ys : List X) (i : ℕ) (x : X) → slice_get xs i ≡ Some x → slice_get (xs ++ ys) i ≡ Some x
+get_append [] ys i x e = absurd (cc)
+get_append (y ∷ xs) ys zero x e = e
+get_append (y ∷ xs) ys (suc i) x e = get_append xs ys i x e
+
+-- the element that was appended, or one that was there
+pub get_appended : {X : Type 0} (P : X → Type 0) (xs : List X) (y : X) (i : ℕ) (x : X) → P y → ((z : X) → slice_get xs i ≡ Some z → P z) → slice_get (xs ++ y ∷ []) i ≡ Some x → P x
+get_appended P [] y zero x new old e = let q : y ≡ x = cc in subst P q new
+get_appended P [] y (suc i) x new old e = absurd (cc)
+get_appended P (z ∷ xs) y zero x new old e = old x e
+get_appended P (z ∷ xs) y (suc i) x new old e = get_appended P xs y i x new old e
+
+pub get_within : {X : Type 0} (xs : List X) (i : ℕ) (x : X) → slice_get xs i ≡ Some x → i < length xs
+get_within [] i x e = absurd (cc)
+get_within (y ∷ xs) zero x e = omega arith
+get_within (y ∷ xs) (suc i) x e = omega (arith, get_within xs i x e)
+
+pub with_place-same : {A : Type 0} (f : ℕ → A) (i : ℕ) (v : A) (j : ℕ) → j == i ≡ true → with_place f i v j ≡ v
+with_place-same f i v j y = cond-true _ _ _ y
+
+pub with_place-other : {A : Type 0} (f : ℕ → A) (i : ℕ) (v : A) (j : ℕ) → j == i ≡ false → with_place f i v j ≡ f j
+with_place-other f i v j n = cond-false _ _ _ n

@@ -1,0 +1,181 @@
+-- What requests and replies say as octets, and what stays of them as they are passed on.
+use Rattle.std.proofs.Common.{arith, ◌≡◌, ℕ, ◌<◌, ◌-◌, ◌^◌, ◌==◌, ◌&&◌, nat_lt, not, List, [], ◌∷◌, Option, Some, None, Bool, true, false, refl, sym, ◌∙◌, ap, subst, ⊎_elim, length, take}
+use Rattle.std.proofs.lemmas.Bool.{cases_Bool, and_parts, cond-true, cond-false, ltb-true}
+use Rattle.std.proofs.lemmas.List.{append-nil, get_or-set_other, get_or-set_same, length-set, take_all}
+use Rattle.std.specs.Prelude.{map, slice_set, unwrap_or}
+use Rattle.std.specs.List.{AllByRecursion}
+use Rattle.ptpm_codec.specs.declared.error.ErrorId.{ErrorId}
+use Rattle.ptpm_codec.specs.declared.error.ErrorId.TheVariants as errors
+use Rattle.ptpm_codec.specs.declared.identity.ClockIdentity.{ClockIdentity}
+use Rattle.ptpm_codec.specs.declared.message.Action.{Action}
+use Rattle.ptpm_codec.specs.declared.message.Action.TheVariants as actions
+use Rattle.ptpm_codec.specs.declared.message.Message.{Message}
+use Rattle.ptpm_codec.specs.Canonical.{canonical}
+use Rattle.ptpm_codec.specs.Identity.{same_clock}
+use Rattle.ptpm_codec.specs.Layout.{boundary_hops, message_length, message_octets}
+use Rattle.ptpm_codec.specs.Message.{BodyFits, Fits, IsReplyAction, IsValid, IsValidBody, error_number, is_reply}
+use Rattle.ptpm_codec.specs.Reading.{message_of}
+use Rattle.ptpm_codec.specs.Spelling.{Spells}
+use Rattle.ptpm_codec.proofs.CanonicalLaws.{canonical_octets, canonical_spells}
+use Rattle.ptpm_codec.proofs.PlaceLaws.{number_at-octets, octet-take}
+use Rattle.ptpm_codec.proofs.ReadingLaws.{message_of-some, message_of-spells, message_size, spells-message_of}
+use Rattle.ptpm_codec.proofs.RewritingLaws.{less_hop_message, set_hops}
+use Rattle.ptpm_data.specs.Members.{DataSetsValue, may_forward}
+use Rattle.ptpm_data.specs.Reply as reply
+use Rattle.ptpm_data.specs.Reply.{Answer, Outcome, ReplyValue}
+use Rattle.ptpm_data.specs.Request.{RequestValue}
+use Rattle.ptpm_table.specs.declared.heard.Heard.{Heard}
+use Rattle.ptpm_data.specs.Replies.{reply_action}
+use Rattle.ptpm_table.specs.Rendering.{answer_body, reply_message}
+use Rattle.ptpm_agent.specs.Forwarding.{egress_ports, forwarded, forwarded_by, is_forwarded, with_less_hop}
+use Rattle.ptpm_manager.specs.Setup.{request_message}
+use Rattle.ptpm_network.specs.DataSets.{Answers, IsPort, IsSendable, IsSendableOutcome}
+use Rattle.ptpm_network.specs.Invariant.{IsAsked, IsMessage}
+use Rattle.ptpm_network.specs.Network.{IsNetwork, Network, ports}
+
+-- ---- canonical spellings
+
+pub canonical-message : (v : Message) → IsValid v → Fits v → IsMessage (canonical v) v
+canonical-message v valid fits =
+    let whole : message_octets (canonical v) ≡ canonical v = subst (λ m. message_octets m ≡ canonical v) (append-nil (canonical v)) (canonical_octets v [] valid fits) in
+    record {
+      read = spells-message_of v (canonical v) (subst (Spells v) (sym whole) (canonical_spells v valid fits));
+      whole = whole;
+      fits = fits;
+    }
+
+-- ---- one hop less
+
+pub message-hops : (v : Message) (d : List ℕ) → message_of d ≡ Some v → v.hops ≡ boundary_hops d
+message-hops v d e =
+    let size = message_size d (message_of-some d v e).0 in
+    let low = size.0 in
+    (message_of-spells v d e).hops ∙ octet-take 45 (message_length d) d (omega arith)
+
+pub less_hop-canonical : (v : Message) → IsValid v → Fits v → with_less_hop (canonical v) ≡ canonical (record v { hops = v.hops - 1 })
+less_hop-canonical v valid fits =
+    ap (λ m. slice_set m 45 (boundary_hops (canonical v) - 1)) (canonical-message v valid fits).whole
+    ∙ ap (λ n. slice_set (canonical v) 45 (n - 1)) (sym (canonical_spells v valid fits).hops)
+    ∙ set_hops v (v.hops - 1) fits
+
+message_length-set : (m : List ℕ) (n : ℕ) → message_length (slice_set m 45 n) ≡ message_length m
+message_length-set m n =
+    let high = get_or-set_other m 45 2 n 0 (λ e. omega arith) in
+    let low = get_or-set_other m 45 3 n 0 (λ e. omega arith) in
+    omega (arith, number_at-octets 2 m, number_at-octets 2 (slice_set m 45 n), high, low)
+
+pub less_hop-message : (v : Message) (d : List ℕ) → message_of d ≡ Some v → Fits v → IsMessage (with_less_hop d) (record v { hops = v.hops - 1 })
+less_hop-message v d e fits =
+    let m = message_octets d in
+    let n = boundary_hops d - 1 in
+    let size : length (slice_set m 45 n) ≡ length m = length-set m 45 n in
+    let number : message_length (slice_set m 45 n) ≡ length m = message_length-set m n ∙ (message_of-spells v d e).message_length in
+    record {
+      read = less_hop_message v d e;
+      whole = ap (λ k. take k (slice_set m 45 n)) number ∙ take_all (length m) (slice_set m 45 n) (omega (arith, size));
+      fits = record { source = fits.source; number = fits.number; target = fits.target; body = fits.body };
+    }
+
+pub less_hop-hops : (v : Message) (d : List ℕ) → message_of d ≡ Some v → boundary_hops (with_less_hop d) ≡ boundary_hops d - 1
+less_hop-hops v d e =
+    let low = (message_of-spells v d e).at_least in
+    get_or-set_same (message_octets d) 45 (boundary_hops d - 1) 0 (omega arith)
+
+-- what a clock passes on is one message with one hop less
+pub record IsPassedOn (d : List ℕ) (sent : ℕ × List ℕ) : Type 0 where
+  pub message : Message
+  pub read : message_of d ≡ Some message
+  pub hop : 0 < message.hops
+  pub octets : sent.1 ≡ with_less_hop d
+
+all_pairs : {X Y : Type 0} (P : X × Y → Type 0) (y : Y) → ((x : X) → P (x, y)) → (xs : List X) → AllByRecursion P (map (λ x. (x, y)) xs)
+all_pairs P y f [] = tt
+all_pairs P y f (x ∷ xs) = (f x, all_pairs P y f xs)
+
+has_hop : (a b c d e f : Bool) → (a && (b && (c && (d && (e && f))))) ≡ true → e ≡ true
+has_hop a b c d e f y = (and_parts e f (and_parts d (e && f) (and_parts c (d && (e && f)) (and_parts b (c && (d && (e && f))) (and_parts a (b && (c && (d && (e && f)))) y).1).1).1).1).0
+
+passed_on-by : (me : ClockIdentity) (port : ℕ) (sets : DataSetsValue) (d : List ℕ) (o : Option Message) → message_of d ≡ o → AllByRecursion (IsPassedOn d) (forwarded_by me port sets d o)
+passed_on-by me port sets d None e = tt
+passed_on-by me port sets d (Some v) e = ⊎_elim
+    (λ (y : is_forwarded me port sets v ≡ true).
+    let hop = ltb-true 0 v.hops (has_hop (v.sdo == 0) (v.domain == sets.default.domain) (not (same_clock v.source.clock me)) (not (same_clock v.target.clock me)) (nat_lt 0 v.hops) (may_forward port sets) y) in
+    subst (AllByRecursion (IsPassedOn d)) (sym (cond-true _ _ _ y))
+    (all_pairs (IsPassedOn d) (with_less_hop d) (λ p. record { message = v; read = e; hop = hop; octets = refl }) (egress_ports port sets)))
+    (λ (n : is_forwarded me port sets v ≡ false). subst (AllByRecursion (IsPassedOn d)) (sym (cond-false _ _ _ n)) tt)
+    (cases_Bool (is_forwarded me port sets v))
+
+pub passed_on : (me : ClockIdentity) (port : ℕ) (sets : DataSetsValue) (d : List ℕ) → AllByRecursion (IsPassedOn d) (forwarded me port sets d)
+unfolding forwarded
+passed_on me port sets d = passed_on-by me port sets d (message_of d) refl
+
+-- ---- requests
+
+-- the message of request k of a session
+abbrev pub request_at : Network → ℕ → ℕ → ℕ → ℕ → RequestValue → Message
+request_at N s k domain hops q = record (request_message (N.session s).setup domain k q) { hops = hops }
+
+pub request-valid : (N : Network) (s k domain hops ports : ℕ) (q : RequestValue) → IsAsked ports q → IsValid (request_at N s k domain hops q)
+request-valid N s k domain hops ports q asked = record { sdo = omega arith; body = (asked.action, asked.octets) }
+
+pub request-fits : (N : Network) (s k domain hops ports : ℕ) (q : RequestValue) → IsNetwork N → s < N.sessions → IsAsked ports q → Fits (request_at N s k domain hops q)
+request-fits N s k domain hops ports q n place asked =
+    let session = n.are_sessions s place in
+    let clock = n.are_clocks (N.session s).target session.exists in
+    record {
+      source = session.identity;
+      number = omega arith;
+      target = record { clock = subst (λ (c : ClockIdentity). length c.0 ≡ 8) (sym session.target) clock.identity; port = asked.port };
+      body = asked.id;
+    }
+
+-- ---- replies
+
+pub reply_action-is_reply : (a : Action) → is_reply (reply_action a) ≡ true
+reply_action-is_reply actions.Get = refl
+reply_action-is_reply actions.Set = refl
+reply_action-is_reply actions.Response = refl
+reply_action-is_reply actions.Command = refl
+reply_action-is_reply actions.Acknowledge = refl
+
+error_number-fits : (e : ErrorId) → error_number e < 2 ^ 16
+error_number-fits errors.ResponseTooBig = omega arith
+error_number-fits errors.NoSuchId = omega arith
+error_number-fits errors.WrongLength = omega arith
+error_number-fits errors.WrongValue = omega arith
+error_number-fits errors.NotSetable = omega arith
+error_number-fits errors.NotSupported = omega arith
+error_number-fits errors.GeneralError = omega arith
+
+answer_body-valid : (action : Action) (id : ℕ) (o : Outcome) → IsReplyAction action → IsSendableOutcome o → IsValidBody (answer_body action id o)
+answer_body-valid action id (reply.Value octets) a s = (a, s)
+answer_body-valid action id reply.Done a s = (a, record { even = refl; small = omega arith })
+answer_body-valid action id (reply.Refused error) a s = (a, omega arith)
+
+answer_body-fits : (action : Action) (id : ℕ) (o : Outcome) → id < 2 ^ 16 → BodyFits (answer_body action id o)
+answer_body-fits action id (reply.Value octets) h = h
+answer_body-fits action id reply.Done h = h
+answer_body-fits action id (reply.Refused error) h = (error_number-fits error, h)
+
+port-fits : (o : Option ℕ) (ingress : ℕ) → IsPort o → ingress < 2 ^ 16 → unwrap_or o ingress < 2 ^ 16
+port-fits None ingress o h = h
+port-fits (Some port) ingress o h = o
+
+-- the message of one answer
+abbrev pub reply_at : ClockIdentity → Heard → ReplyValue → ℕ → ℕ → Answer → Message
+reply_at me heard r ingress hops a = record (reply_message me heard r.action r.id ingress a) { hops = hops }
+
+pub reply-valid : (me : ClockIdentity) (heard : Heard) (q : RequestValue) (r : ReplyValue) (ingress hops : ℕ) (a : Answer) → Answers q r → IsSendable a → IsValid (reply_at me heard r ingress hops a)
+reply-valid me heard q r ingress hops a answers sendable = record {
+  sdo = omega arith;
+  body = answer_body-valid r.action r.id a.outcome (ap is_reply answers.action ∙ reply_action-is_reply q.action) sendable.outcome;
+}
+
+pub reply-fits : (me : ClockIdentity) (heard : Heard) (q : RequestValue) (r : ReplyValue) (ingress hops : ℕ) (a : Answer) → length me.0 ≡ 8 → length heard.source.clock.0 ≡ 8 → heard.source.port < 2 ^ 16 → heard.number < 2 ^ 16 → ingress < 2 ^ 16 → q.id < 2 ^ 16 → Answers q r → IsSendable a
+    → Fits (reply_at me heard r ingress hops a)
+reply-fits me heard q r ingress hops a identity source port number in' id answers sendable = record {
+  source = record { clock = identity; port = port-fits a.port ingress sendable.port in' };
+  number = number;
+  target = record { clock = source; port = port };
+  body = answer_body-fits r.action r.id a.outcome (subst (λ i. i < 2 ^ 16) (sym answers.id) id);
+}

@@ -1,0 +1,261 @@
+-- A session tells the answer to its request by octets as the machine tells it by origins.
+use Rattle.std.proofs.Common.{arith, ◌≡◌, ℕ, ◌<◌, ◌≤◌, ◌+◌, ◌==◌, ◌&&◌, not, List, [], ◌∷◌, Option, Some, None, Result, Ok, Err, Bool, true, false, refl, sym, ◌∙◌, ap, subst, ⊎_elim, length}
+use Rattle.std.proofs.lemmas.Bool.{cases_Bool, and_from, and_parts, cond-true, cond-false, eq-eqb, eqb-true, ltb-false, not-false, not-true, or_left, or_right, true≢false, false≢true}
+use Rattle.std.proofs.lemmas.Option.{same_Some}
+use Rattle.std.specs.Prelude.{is_some, unwrap_or}
+use Rattle.std.specs.List.{AllByRecursion}
+use Rattle.ptpm_codec.proofs.OrderedLaws.{first_of-none}
+use Rattle.ptpm_codec.specs.declared.error.DecodeError.{DecodeError}
+use Rattle.ptpm_codec.specs.declared.identity.PortIdentity.{PortIdentity}
+use Rattle.ptpm_codec.specs.declared.message.Action.{Action}
+use Rattle.ptpm_codec.specs.declared.message.Action.TheVariants as actions
+use Rattle.ptpm_codec.specs.declared.message.Message.{Message}
+use Rattle.ptpm_codec.specs.Identity.{every_port, same_clock, same_identity}
+use Rattle.ptpm_codec.specs.Message.{action_of, id_of, is_reply}
+use Rattle.ptpm_codec.specs.Reading.{message_of, reading}
+use Rattle.ptpm_data.specs.IdTable.{is_of_port}
+use Rattle.ptpm_data.specs.Reply as reply
+use Rattle.ptpm_data.specs.Reply.{Answer, Outcome}
+use Rattle.ptpm_data.specs.Replies.{reply_action}
+use Rattle.ptpm_table.specs.Rendering.{answer_body}
+use Rattle.ptpm_table.proofs.Identities.{same_identity-refl, same_identity-true}
+use Rattle.ptpm_network.proofs.Identities.{same_clock-refl, same_clock-true}
+use Rattle.ptpm_agent.proofs.Turns.{message_of-reading, reading-message_of}
+use Rattle.ptpm_manager.specs.declared.receiving.Reason.{Reason}
+use Rattle.ptpm_manager.specs.declared.receiving.Reason.TheVariants as reasons
+use Rattle.ptpm_manager.specs.declared.receiving.Received.TheVariants as received
+use Rattle.ptpm_manager.specs.declared.report.Report.{Report}
+use Rattle.ptpm_codec.specs.Ordered.{first_of}
+use Rattle.ptpm_manager.specs.Receiving.{answer_by, answer_to, is_answered_by, is_content, is_from_asked_port, is_from_target, is_in_domain, reason_of, received_of}
+use Rattle.ptpm_manager.specs.Report.{outcome_of}
+use Rattle.ptpm_manager.specs.Session.{SessionValue, is_waiting}
+use Rattle.ptpm_codec.specs.SequenceNumber.{number_of}
+use Rattle.ptpm_network.specs.Events.{Event, IsInRange, frame_at}
+use Rattle.ptpm_network.specs.Invariant.{IsOfOrigin, IsReached}
+use Rattle.ptpm_network.specs.Machine.{is_answer, report_from, run, told_by}
+use Rattle.ptpm_network.specs.Network.{AtSession, HasEnd, IsNetwork, Network, SessionStart, manager}
+use Rattle.ptpm_network.specs.State.{Frame, NetworkState, Origin, RequestOf, ReplyTo, Neither, SessionState, at_first, is_idle, is_late, issued, session_value, unanswered}
+use Rattle.ptpm_network.proofs.Arriving.{action_of-answer_body}
+use Rattle.ptpm_network.proofs.Frames.{SaysReply, same_read, says_reply, says_request}
+use Rattle.ptpm_network.proofs.Messages.{reply_action-is_reply, reply_at, request_at}
+use Rattle.ptpm_network.proofs.Reaching.{frame_at-is, no_report, told-message}
+use Rattle.ptpm_network.proofs.Schedule.{reached}
+
+-- ---- the tests of a session, one by one
+
+-- none of the reasons to ignore a message holds
+pub record IsAccepted (s : SessionValue) (v : Message) : Type 0 where
+  pub domain : is_in_domain s.domain v ≡ true
+  pub reply : is_reply (action_of v.body) ≡ true
+  pub target : same_identity v.target s.setup.me ≡ true
+  pub source : is_from_target s v.source ≡ true
+  pub waiting : is_waiting s ≡ true
+  pub number : v.number == number_of s.setup.first s.issued ≡ true
+  pub content : is_content s.unanswered (action_of v.body) (id_of v.body) ≡ true
+
+all_pass : {A : Type 0} (a b c d e f g : Bool) (p q r s t u v : A) → a ≡ true → b ≡ true → c ≡ true → d ≡ true → e ≡ true → f ≡ true → g ≡ true
+    → first_of ((not a, p) ∷ (not b, q) ∷ (not c, r) ∷ (not d, s) ∷ (not e, t) ∷ (not f, u) ∷ (not g, v) ∷ []) ≡ None
+all_pass a b c d e f g p q r s t u v h1 h2 h3 h4 h5 h6 h7 = rw (h1, h2, h3, h4, h5, h6, h7) refl
+
+each_passes : {A : Type 0} (a b c d e f g : Bool) (p q r s t u v : A)
+    → first_of ((not a, p) ∷ (not b, q) ∷ (not c, r) ∷ (not d, s) ∷ (not e, t) ∷ (not f, u) ∷ (not g, v) ∷ []) ≡ None
+    → (a ≡ true) × (b ≡ true) × (c ≡ true) × (d ≡ true) × (e ≡ true) × (f ≡ true) × (g ≡ true)
+each_passes a b c d e f g p q r s t u v h =
+    let h1 = first_of-none (not a) p ((not b, q) ∷ (not c, r) ∷ (not d, s) ∷ (not e, t) ∷ (not f, u) ∷ (not g, v) ∷ []) h in
+    let h2 = first_of-none (not b) q ((not c, r) ∷ (not d, s) ∷ (not e, t) ∷ (not f, u) ∷ (not g, v) ∷ []) h1.1 in
+    let h3 = first_of-none (not c) r ((not d, s) ∷ (not e, t) ∷ (not f, u) ∷ (not g, v) ∷ []) h2.1 in
+    let h4 = first_of-none (not d) s ((not e, t) ∷ (not f, u) ∷ (not g, v) ∷ []) h3.1 in
+    let h5 = first_of-none (not e) t ((not f, u) ∷ (not g, v) ∷ []) h4.1 in
+    let h6 = first_of-none (not f) u ((not g, v) ∷ []) h5.1 in
+    let h7 = first_of-none (not g) v [] h6.1 in
+    (not-false a h1.0, not-false b h2.0, not-false c h3.0, not-false d h4.0, not-false e h5.0, not-false f h6.0, not-false g h7.0)
+
+no_reason : (s : SessionValue) (v : Message) → IsAccepted s v → reason_of s v ≡ None
+unfolding reason_of
+no_reason s v a = all_pass (is_in_domain s.domain v) (is_reply (action_of v.body)) (same_identity v.target s.setup.me) (is_from_target s v.source) (is_waiting s) (v.number == number_of s.setup.first s.issued) (is_content s.unanswered (action_of v.body) (id_of v.body))
+    reasons.OtherDomain reasons.NotAReply reasons.OtherTarget reasons.OtherSource reasons.NothingAsked reasons.OtherNumber reasons.OtherContent
+    a.domain a.reply a.target a.source a.waiting a.number a.content
+
+is_accepted : (s : SessionValue) (v : Message) → reason_of s v ≡ None → IsAccepted s v
+unfolding reason_of
+is_accepted s v e =
+    let p = each_passes (is_in_domain s.domain v) (is_reply (action_of v.body)) (same_identity v.target s.setup.me) (is_from_target s v.source) (is_waiting s) (v.number == number_of s.setup.first s.issued) (is_content s.unanswered (action_of v.body) (id_of v.body))
+    reasons.OtherDomain reasons.NotAReply reasons.OtherTarget reasons.OtherSource reasons.NothingAsked reasons.OtherNumber reasons.OtherContent e in
+    record { domain = p.0; reply = p.1; target = p.2; source = p.3; waiting = p.4; number = p.5; content = p.6 }
+
+-- ---- the reply to the unanswered request passes them
+
+answered_by-reply_action : (a : Action) → is_reply a ≡ false → is_answered_by a (reply_action a) ≡ true
+answered_by-reply_action actions.Get h = refl
+answered_by-reply_action actions.Set h = refl
+answered_by-reply_action actions.Response h = absurd (true≢false h)
+answered_by-reply_action actions.Command h = refl
+answered_by-reply_action actions.Acknowledge h = absurd (true≢false h)
+
+id_of-answer_body : (action : Action) (id : ℕ) (o : Outcome) → id_of (answer_body action id o) ≡ id
+id_of-answer_body action id (reply.Value octets) = refl
+id_of-answer_body action id reply.Done = refl
+id_of-answer_body action id (reply.Refused error) = refl
+
+same_answer : (a b : Answer) → a ∷ [] ≡ b ∷ [] → a ≡ b
+same_answer a b e = cc
+
+abbrev message_said : (N : Network) (w : NetworkState) (s k : ℕ) (octets : List ℕ) → SaysReply N w s k octets → Message
+message_said N w s k octets says = reply_at (N.session s).setup.target says.heard says.entry.reply says.ingress says.hops says.answer
+
+asked-port : (N : Network) (w : NetworkState) (s k : ℕ) (octets : List ℕ) (says : SaysReply N w s k octets) → is_from_asked_port (Some says.entry.request) (message_said N w s k octets says).source.port ≡ true
+asked-port N w s k octets says = ⊎_elim
+    (λ (y : is_of_port says.entry.request.id ≡ true).
+    let same : says.answer ≡ says.says.one.answer = same_answer says.answer says.says.one.answer (sym says.one ∙ says.says.one.is) in
+    let port : unwrap_or says.answer.port says.ingress ≡ says.entry.request.port =
+    ap (λ (a : Answer). unwrap_or a.port says.ingress) same ∙ ap (λ (o : Option ℕ). unwrap_or o says.ingress) (says.says.one.port y) in
+    or_right _ _ (eq-eqb says.entry.request.port (unwrap_or says.answer.port says.ingress) (sym port)))
+    (λ (n : is_of_port says.entry.request.id ≡ false). or_left _ _ (eq-eqb says.entry.request.port every_port (says.says.asked.every n)))
+    (cases_Bool (is_of_port says.entry.request.id))
+
+content-said : (N : Network) (w : NetworkState) (s k : ℕ) (octets : List ℕ) (says : SaysReply N w s k octets) → is_content (Some says.entry.request) (action_of (message_said N w s k octets says).body) (id_of (message_said N w s k octets says).body) ≡ true
+content-said N w s k octets says =
+    let q = says.entry.request in
+    let r = says.entry.reply in
+    let action : action_of (answer_body r.action r.id says.answer.outcome) ≡ reply_action q.action = action_of-answer_body r.action r.id says.answer.outcome ∙ says.says.answers.action in
+    let id : id_of (answer_body r.action r.id says.answer.outcome) ≡ q.id = id_of-answer_body r.action r.id says.answer.outcome ∙ says.says.answers.id in
+    and_from _ _
+    (ap (is_answered_by q.action) action ∙ answered_by-reply_action q.action says.says.asked.action)
+    (eq-eqb q.id _ (sym id))
+
+-- what is unanswered is the request that the reply is to
+unanswered-said : (N : Network) (w : NetworkState) (s : ℕ) (octets : List ℕ) (says : SaysReply N w s (issued w s) octets) → is_idle (w.session s) ≡ false → unanswered (w.session s) ≡ Some says.entry.request
+unanswered-said N w s octets says busy = cond-false _ _ _ busy ∙ says.says.begun_as
+
+answer-accepted : (N : Network) (w : NetworkState) (s : ℕ) (octets : List ℕ) (says : SaysReply N w s (issued w s) octets) → is_idle (w.session s) ≡ false → says.heard.domain == (w.session s).domain ≡ true
+    → IsAccepted (session_value (N.session s) (w.session s)) (message_said N w s (issued w s) octets says)
+answer-accepted N w s octets says busy domain =
+    let asked = unanswered-said N w s octets says busy in
+    let r = says.entry.reply in
+    record {
+      domain = domain;
+      reply = ap is_reply (action_of-answer_body r.action r.id says.answer.outcome ∙ says.says.answers.action) ∙ reply_action-is_reply says.entry.request.action;
+      target = ap (λ (m : PortIdentity). same_identity m (manager N s)) says.source ∙ same_identity-refl (manager N s);
+      source = and_from _ _ (same_clock-refl (N.session s).setup.target)
+          (ap (λ o. is_from_asked_port o (message_said N w s (issued w s) octets says).source.port) asked ∙ asked-port N w s (issued w s) octets says);
+      waiting = ap is_some asked;
+      number = eq-eqb says.heard.number _ says.number;
+      content = ap (λ o. is_content o (action_of (message_said N w s (issued w s) octets says).body) (id_of (message_said N w s (issued w s) octets says).body)) asked
+          ∙ content-said N w s (issued w s) octets says;
+    }
+
+-- what is received of a message that passes
+received-message : (s : SessionValue) (octets : List ℕ) (v : Message) → message_of octets ≡ Some v → reason_of s v ≡ None → received_of s octets ≡ received.Answered (record { index = s.issued; outcome = outcome_of v.body })
+received-message s octets v e none =
+    ap (answer_to s) (reading-message_of octets v e) ∙ ap (λ (o : Option Reason). answer_by o s v) none
+
+told-domain : (state : SessionState) (o : Option Message) (v : Message) (r : Report) → o ≡ Some v → told_by state o ≡ Some r → v.domain == state.domain ≡ true
+told-domain state o v r e h = ⊎_elim
+    (λ (y : v.domain == state.domain ≡ true). y)
+    (λ (n : v.domain == state.domain ≡ false). no_report r (sym (ap (told_by state) e ∙ cond-false _ _ _ n) ∙ h))
+    (cases_Bool (v.domain == state.domain))
+
+received-by : (N : Network) (w : NetworkState) (s : ℕ) (octets : List ℕ) (o : Origin) (r : Report) → IsNetwork N → IsReached N w → IsOfOrigin N w octets o → is_answer s (w.session s) o ≡ true → told_by (w.session s) (message_of octets) ≡ Some r
+    → received_of (session_value (N.session s) (w.session s)) octets ≡ received.Answered r
+received-by N w s octets (RequestOf t k) r n reached i y e = absurd (false≢true y)
+received-by N w s octets Neither r n reached i y e = absurd (false≢true y)
+received-by N w s octets (ReplyTo t k) r n reached i y e =
+    let outer = and_parts (t == s) (k == length (w.session s).begun && not (is_idle (w.session s))) y in
+    let inner = and_parts (k == length (w.session s).begun) (not (is_idle (w.session s))) outer.1 in
+    let ts : t ≡ s = eqb-true t s outer.0 in
+    let last : k ≡ issued w s = eqb-true k (issued w s) inner.0 in
+    let own : IsOfOrigin N w octets (ReplyTo s (issued w s)) = subst (IsOfOrigin N w octets) (ap (λ j. ReplyTo j k) ts ∙ ap (ReplyTo s) last) i in
+    let says = says_reply N w s (issued w s) octets n reached own in
+    let v : Message = message_said N w s (issued w s) octets says in
+    let accepted = answer-accepted N w s octets says (not-true _ inner.1) (told-domain (w.session s) (message_of octets) v r says.message.read e) in
+    received-message (session_value (N.session s) (w.session s)) octets v says.message.read (no_reason (session_value (N.session s) (w.session s)) v accepted)
+    ∙ ap received.Answered (sym (told-message (w.session s) (message_of octets) v r says.message.read e))
+
+-- ---- and nothing else does
+
+no_answer : {X : Type 0} (reason : Reason) (r : Report) → received.Ignored reason ≡ received.Answered r → X
+no_answer reason r e = absurd (cc)
+
+same_reports : (p r : Report) → received.Answered p ≡ received.Answered r → p ≡ r
+same_reports p r e = cc
+
+-- the message that was taken for the answer
+pub record Takes (s : SessionValue) (octets : List ℕ) (r : Report) : Type 0 where
+  pub message : Message
+  pub read : message_of octets ≡ Some message
+  pub accepted : IsAccepted s message
+  pub is : record { index = s.issued; outcome = outcome_of message.body } ≡ r
+
+takes-message : (s : SessionValue) (octets : List ℕ) (v : Message) (r : Report) (o : Option Reason) → reason_of s v ≡ o → message_of octets ≡ Some v → answer_by o s v ≡ received.Answered r → Takes s octets r
+takes-message s octets v r (Some reason) h e a = no_answer reason r a
+takes-message s octets v r None h e a = record { message = v; read = e; accepted = is_accepted s v h; is = same_reports _ r a }
+
+takes-by : (s : SessionValue) (octets : List ℕ) (r : Report) (o : Result Message DecodeError) → reading octets ≡ o → answer_to s o ≡ received.Answered r → Takes s octets r
+takes-by s octets r (Err cause) h a = no_answer (reasons.Malformed cause) r a
+takes-by s octets r (Ok v) h a = takes-message s octets v r (reason_of s v) refl (message_of-reading octets v h) a
+
+same_number : (first k n : ℕ) → 0 < k → k ≤ n → n ≤ k + 32768 → number_of first k ≡ number_of first n → k ≡ n
+same_number first k n p le late e = omega arith
+
+not_idle : (start : SessionStart) (s : SessionState) → is_waiting (session_value start s) ≡ true → is_idle s ≡ false
+not_idle start s h = ⊎_elim
+    (λ (y : is_idle s ≡ true). absurd (false≢true (sym (ap is_some (cond-true _ _ _ y)) ∙ h)))
+    (λ (n : is_idle s ≡ false). n)
+    (cases_Bool (is_idle s))
+
+takes-answer : (N : Network) (w : NetworkState) (s : ℕ) (octets : List ℕ) (o : Origin) (r : Report) → IsNetwork N → IsReached N w → s < N.sessions → IsOfOrigin N w octets o → is_late w o ≡ false → Takes (session_value (N.session s) (w.session s)) octets r → is_answer s (w.session s) o ≡ true
+takes-answer N w s octets (RequestOf t k) r n reached place i late takes =
+    let says = says_request N w t k octets n reached i in
+    let same = same_read octets takes.message (request_at N t k says.domain says.hops says.request) says.message takes.read in
+    absurd (true≢false (sym takes.accepted.reply ∙ (ap (λ (u : Message). is_reply (action_of u.body)) same ∙ says.asked.action)))
+takes-answer N w s octets Neither r n reached place i late takes =
+    let session = n.are_sessions s place in
+    let same : i.message ≡ takes.message = same_Some i.message takes.message (sym i.is.read ∙ takes.read) in
+    let clock : takes.message.source.clock ≡ (N.session s).setup.target = same_clock-true takes.message.source.clock (N.session s).setup.target
+    (and_parts (same_clock takes.message.source.clock (N.session s).setup.target) (is_from_asked_port (unanswered (w.session s)) takes.message.source.port) takes.accepted.source).0 in
+    absurd (i.foreign.no_reply (N.session s).target s session.exists place
+    (ap (λ (u : Message). u.source.clock) same ∙ clock ∙ session.target)
+    (ap (λ (u : Message). u.target) same ∙ same_identity-true takes.message.target (manager N s) takes.accepted.target))
+takes-answer N w s octets (ReplyTo t k) r n reached place i late takes =
+    let says = says_reply N w t k octets n reached i in
+    let same = same_read octets takes.message (message_said N w t k octets says) says.message takes.read in
+    let target : manager N t ≡ manager N s = sym says.source ∙ ap (λ (u : Message). u.target) (sym same) ∙ same_identity-true takes.message.target (manager N s) takes.accepted.target in
+    let ts : t ≡ s = n.sessions_apart t s says.place place target in
+    let within : k ≤ issued w s = subst (λ j. k ≤ issued w j) ts says.says.within in
+    let now : issued w s ≤ k + 32768 = subst (λ j. issued w j ≤ k + 32768) ts (ltb-false (k + 32768) (issued w t) late) in
+    let number : number_of (N.session s).setup.first k ≡ number_of (N.session s).setup.first (issued w s) =
+    subst (λ j. number_of (N.session j).setup.first k ≡ number_of (N.session s).setup.first (issued w s)) ts
+    (sym says.number ∙ ap (λ (u : Message). u.number) (sym same) ∙ eqb-true takes.message.number (number_of (N.session s).setup.first (issued w s)) takes.accepted.number) in
+    let last : k ≡ issued w s = same_number (N.session s).setup.first k (issued w s) says.positive within now number in
+    and_from _ _ (eq-eqb t s ts) (and_from _ _ (eq-eqb k (issued w s) last) (ap not (not_idle (N.session s) (w.session s) takes.accepted.waiting)))
+
+takes-told : (start : SessionStart) (state : SessionState) (octets : List ℕ) (r : Report) → Takes (session_value start state) octets r → told_by state (message_of octets) ≡ Some r
+takes-told start state octets r takes =
+    ap (told_by state) takes.read
+    ∙ cond-true _ _ _ (and_parts (takes.message.sdo == 0) (takes.message.domain == state.domain) takes.accepted.domain).1
+    ∙ ap Some takes.is
+
+-- ---- both
+
+pub received-as_reported : (N : Network) (w : NetworkState) (s : ℕ) (f : Frame) (r : Report) → IsNetwork N → IsReached N w → s < N.sessions → IsOfOrigin N w f.octets f.origin → is_late w f.origin ≡ false
+    → (report_from s (w.session s) f ≡ Some r → received_of (session_value (N.session s) (w.session s)) f.octets ≡ received.Answered r)
+    × (received_of (session_value (N.session s) (w.session s)) f.octets ≡ received.Answered r → report_from s (w.session s) f ≡ Some r)
+received-as_reported N w s f r n reached place i late = (
+  λ e. ⊎_elim
+      (λ (y : is_answer s (w.session s) f.origin ≡ true). received-by N w s f.octets f.origin r n reached i y (sym (cond-true _ _ _ y) ∙ e))
+      (λ (n' : is_answer s (w.session s) f.origin ≡ false). no_report r (sym (cond-false _ _ _ n') ∙ e))
+      (cases_Bool (is_answer s (w.session s) f.origin)),
+  λ e.
+      let takes = takes-by (session_value (N.session s) (w.session s)) f.octets r (reading f.octets) refl e in
+      cond-true _ _ _ (takes-answer N w s f.octets f.origin r n reached place i late takes) ∙ takes-told (N.session s) (w.session s) f.octets r takes,
+)
+
+pub frame-as_reported : (N : Network) (es : List Event) (k s : ℕ) (f : Frame) (r : Report) → IsNetwork N → AllByRecursion IsInRange es
+    → frame_at (run N (at_first N) es).frames k ≡ Some f → f.end ≡ AtSession s → is_late (run N (at_first N) es) f.origin ≡ false
+    → (report_from s ((run N (at_first N) es).session s) f ≡ Some r → received_of (session_value (N.session s) ((run N (at_first N) es).session s)) f.octets ≡ received.Answered r)
+    × (received_of (session_value (N.session s) ((run N (at_first N) es).session s)) f.octets ≡ received.Answered r → report_from s ((run N (at_first N) es).session s) f ≡ Some r)
+frame-as_reported N es k s f r n i e end late =
+    let w : NetworkState = run N (at_first N) es in
+    let reached' = reached N es n i in
+    let frame = frame_at-is N w k f reached' e in
+    received-as_reported N w s f r n reached' (subst (HasEnd N) end frame.end) frame.origin late

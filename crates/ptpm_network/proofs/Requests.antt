@@ -1,0 +1,129 @@
+-- What a request keeps of the data sets, and what its reply says.
+use Rattle.std.proofs.Common.{arith, ◌≡◌, ◌∙◌, refl, sym, subst, ℕ, zero, suc, ◌+◌, ◌<◌, ◌≤◌, ◌^◌, Bool, true, false, List, length, Option, Some, None, ⊎_elim}
+use Rattle.std.proofs.lemmas.Bool.{cases_Bool, cond-true, cond-false}
+use Rattle.std.specs.List.{AllByRecursion, filter, range_with_len}
+use Rattle.ptpm_codec.specs.declared.error.ErrorId.{ErrorId}
+use Rattle.ptpm_codec.specs.declared.message.Action.{Action}
+use Rattle.ptpm_codec.specs.declared.message.Action.TheVariants as actions
+use Rattle.ptpm_codec.specs.Message.{IsDataField}
+use Rattle.ptpm_data.specs.declared.rights.Rights.{Rights}
+use Rattle.ptpm_data.specs.Changes.{changed_by, is_named}
+use Rattle.ptpm_data.specs.DataField.{data_field_of_id}
+use Rattle.ptpm_data.specs.IdTable.{is_of_port}
+use Rattle.ptpm_data.specs.Members.{DataSetsValue}
+use Rattle.ptpm_data.specs.Refusals.{refusal_of}
+use Rattle.ptpm_data.specs.Replies.{answer, answers_of, named_ports, outcome, port_answers, read_refusal, read_reply_to, reply_of, reply_to}
+use Rattle.ptpm_data.specs.Reply.{ReplyValue}
+use Rattle.ptpm_data.specs.Request.{RequestValue}
+use Rattle.ptpm_data.specs.RequestLaws.{IsFieldWithin, IsOneAnswer, IsSized, answerer, answerer_of, field_limit}
+use Rattle.ptpm_data.proofs.FieldSizes.{of_id}
+use Rattle.ptpm_data.proofs.Keeping.{changed_by-ports, changed_by-sized}
+use Rattle.ptpm_data.proofs.ReplyLemmas.{reply_of-one}
+use Rattle.ptpm_network.specs.DataSets.{Answers, AreDataSets, HasOneAnswer, IsForOne, IsSendable, IsSendableOutcome}
+use Rattle.ptpm_network.proofs.Lists.{all_made}
+
+-- ---- data sets of a number of ports
+
+sized : (ports : ℕ) (d : DataSetsValue) → AreDataSets ports d → IsSized d
+sized ports d s =
+    let same : length d.ports ≡ ports = s.ports_are in
+    let low : 1 ≤ ports = s.some_port in
+    let high : ports ≤ 8 = s.at_most_eight in
+    record {
+      some_port = omega arith;
+      at_most_eight = omega arith;
+      text = s.description;
+      identity = s.identity;
+      parent = s.parent;
+      grandmaster = s.grandmaster;
+    }
+
+pub kept : (q : RequestValue) (r : Rights) (ports : ℕ) (d : DataSetsValue) → AreDataSets ports d → AreDataSets ports (changed_by q r d)
+kept q r ports d s =
+    let after = changed_by-sized q r d (sized ports d s) in
+    record {
+      identity = after.identity;
+      parent = after.parent;
+      grandmaster = after.grandmaster;
+      description = after.text;
+      ports_are = changed_by-ports q r d ∙ s.ports_are;
+      some_port = s.some_port;
+      at_most_eight = s.at_most_eight;
+    }
+
+-- ---- what an answer says
+
+field_fits : (b : Bool) (octets : List ℕ) → IsFieldWithin (field_limit b) octets → IsDataField octets
+field_fits true octets f = let small : length octets ≤ 26 = f.small in record { even = f.even; small = omega arith }
+field_fits false octets f = let small : length octets ≤ 130 = f.small in record { even = f.even; small = omega arith }
+
+shown : (id port : ℕ) (d : DataSetsValue) → IsSized d → IsDataField (data_field_of_id id port d)
+shown id port d s = field_fits (is_of_port id) (data_field_of_id id port d) (of_id id port d s)
+
+outcome-sendable : (refusal : Option ErrorId) (action : Action) (id port : ℕ) (d : DataSetsValue) → IsSized d → IsSendableOutcome (outcome refusal action id port d)
+outcome-sendable (Some error) action id port d s = tt
+outcome-sendable None actions.Get id port d s = shown id port d s
+outcome-sendable None actions.Set id port d s = shown id port d s
+outcome-sendable None actions.Command id port d s = tt
+outcome-sendable None actions.Response id port d s = shown id port d s
+outcome-sendable None actions.Acknowledge id port d s = shown id port d s
+
+-- ---- whose it is
+
+named-small : (port a n : ℕ) → a + n < 2 ^ 16 → AllByRecursion (λ k. k < 2 ^ 16) (filter (is_named port) (range_with_len a n))
+named-small port a zero below = tt
+named-small port a (suc n) below =
+    let first : a < 2 ^ 16 = omega arith in
+    let others = named-small port (a + 1) n (omega arith) in
+    ⊎_elim
+    (λ (y : is_named port a ≡ true). subst (AllByRecursion (λ k. k < 2 ^ 16)) (sym (cond-true _ _ _ y)) (first, others))
+    (λ (o : is_named port a ≡ false). subst (AllByRecursion (λ k. k < 2 ^ 16)) (sym (cond-false _ _ _ o)) others)
+    (cases_Bool (is_named port a))
+
+named_ports-small : (port n : ℕ) → n ≤ 8 → AllByRecursion (λ k. k < 2 ^ 16) (named_ports port n)
+unfolding named_ports
+named_ports-small port n small = named-small port 1 n (omega arith)
+
+-- ---- the whole reply
+
+answers-sendable : (b : Bool) (q : RequestValue) (refusal : Option ErrorId) (d : DataSetsValue) → IsSized d → AllByRecursion IsSendable (answers_of b refusal q d)
+unfolding port_answers answer
+answers-sendable true q refusal d s =
+    all_made (λ k. k < 2 ^ 16) IsSendable _
+    (λ k small. record { port = small; outcome = outcome-sendable refusal q.action q.id k d s })
+    (named_ports q.port (length d.ports)) (named_ports-small q.port (length d.ports) s.at_most_eight)
+answers-sendable false q refusal d s = (record { port = tt; outcome = outcome-sendable refusal q.action q.id 0 d s }, tt)
+
+reply_of-answers : (q : RequestValue) (refusal : Option ErrorId) (d : DataSetsValue) → IsSized d → Answers q (reply_of q refusal d)
+unfolding reply_of
+reply_of-answers q refusal d s = record { action = refl; id = refl; sendable = answers-sendable (is_of_port q.id) q refusal d s }
+
+pub answered : (q : RequestValue) (r : Rights) (ports : ℕ) (d : DataSetsValue) → AreDataSets ports d → Answers q (reply_to q r d)
+unfolding reply_to
+answered q r ports d s = reply_of-answers q (refusal_of q r) (changed_by q r d) (changed_by-sized q r d (sized ports d s))
+
+pub read_answered : (q : RequestValue) (ports : ℕ) (d : DataSetsValue) → AreDataSets ports d → Answers q (read_reply_to q d)
+unfolding read_reply_to
+read_answered q ports d s = reply_of-answers q (read_refusal q) d (sized ports d s)
+
+-- ---- one answer
+
+own_answerer : (b : Bool) (port : ℕ) → b ≡ true → answerer_of b port ≡ Some port
+own_answerer true port e = refl
+own_answerer false port e = cc
+
+one_answer : (q : RequestValue) (reply : ReplyValue) → IsOneAnswer (answerer q) reply → HasOneAnswer q reply
+one_answer q reply one = record {
+  answer = record { port = answerer q; outcome = one.0 };
+  is = one.1;
+  port = own_answerer (is_of_port q.id) q.port;
+}
+
+pub once : (q : RequestValue) (r : Rights) (ports : ℕ) (d : DataSetsValue) → AreDataSets ports d → IsForOne ports q → HasOneAnswer q (reply_to q r d)
+unfolding reply_to
+once q r ports d s one =
+    let after = kept q r ports d s in
+    let has : is_of_port q.id ≡ true → (1 ≤ q.port) × (q.port ≤ length (changed_by q r d).ports) =
+    λ e. ((one e).0, subst (λ n. q.port ≤ n) (sym after.ports_are) (one e).1) in
+    one_answer q (reply_of q (refusal_of q r) (changed_by q r d))
+    (reply_of-one q (refusal_of q r) (changed_by q r d) has (sized ports (changed_by q r d) after).at_most_eight)

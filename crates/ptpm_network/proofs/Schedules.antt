@@ -1,0 +1,252 @@
+-- Worked schedules: what the machine makes of them.
+use Rattle.std.proofs.Common.{◌≡◌, ℕ, List, [], ◌∷◌, Option, Some, None, refl, true, false, map, replicate, arith, ◌<◌, ◌||◌, sym, ◌∙◌, ap, ⊎_elim}
+use Rattle.std.specs.Prelude.{◌++◌, ◌==◌, slice_set, if◌then◌else◌}
+use Rattle.std.proofs.lemmas.Bool.{cases_Bool, or_left, true≢false}
+use Rattle.ptpm_codec.specs.declared.identity.ClockIdentity.{ClockIdentity}
+use Rattle.ptpm_codec.specs.declared.identity.PortIdentity.{PortIdentity}
+use Rattle.ptpm_codec.specs.declared.message.Action.TheVariants as actions
+use Rattle.ptpm_codec.specs.Identity.{every_clock, same_identity}
+use Rattle.ptpm_codec.specs.Layout.{number_at, port_identity_at, octet}
+use Rattle.ptpm_codec.specs.Canonical.{port_identity_octets, tlv_octets}
+use Rattle.ptpm_codec.specs.Reading.{body_at, message_of}
+use Rattle.ptpm_codec.specs.Refusal.{frame_refusal, tlv_refusal, text_refusal}
+use Rattle.ptpm_data.specs.Start.{default_clock, default_port, started}
+use Rattle.ptpm_data.specs.declared.rights.Rights.{Rights}
+use Rattle.ptpm_data.specs.IdTable.{row_of}
+use Rattle.ptpm_data.specs.DataField.{data_field_of}
+use Rattle.ptpm_data.specs.Refusals.{entry_refusal, is_set_length, is_set_value}
+use Rattle.ptpm_data.specs.Replies.{answer, reply_of, reply_to, read_reply_to}
+use Rattle.ptpm_data.specs.Changes.{changed_by, set_members}
+use Rattle.ptpm_agent.specs.Forwarding.{forwarded}
+use Rattle.ptpm_table.proofs.Identities.{same_identity-refl, same_identity-true}
+use Rattle.ptpm_table.specs.Entries.{is_known}
+use Rattle.ptpm_agent.specs.Once.{Accepted}
+use Rattle.ptpm_table.specs.Rendering.{rendered}
+use Rattle.ptpm_manager.specs.declared.ask.Ask.{Ask}
+use Rattle.ptpm_manager.specs.declared.error.BeginError.TheVariants as begins
+use Rattle.ptpm_manager.specs.declared.error.SendError.TheVariants as sends
+use Rattle.ptpm_manager.specs.declared.report.Outcome.TheVariants as outcomes
+use Rattle.ptpm_manager.specs.Ask.{ask_refusal, target_port}
+use Rattle.ptpm_manager.specs.Session.{begin_refusal, send_refusal}
+use Rattle.ptpm_network.specs.Network.{IsNetwork, End, AtPort, AtSession, Network, SessionStart}
+use Rattle.ptpm_network.specs.State.{Frame, NetworkState, Origin, RequestOf, ReplyTo, at_first, history, is_late_at}
+use Rattle.ptpm_network.specs.Events.{Event, Begin, Send, Resume, Retune, Deliver, Stranger, Refusal, NoSuchName, NoSuchFrame, Forged, BeginRefused, SendRefused, refusal}
+use Rattle.ptpm_network.specs.Machine.{happens, run}
+
+-- ---- one clock of two ports, and one session at its port 1
+
+abbrev clock_k : ClockIdentity
+clock_k = record { 0 = 0xaa ∷ 0xbb ∷ 0xcc ∷ 0xff ∷ 0xfe ∷ 0xdd ∷ 0xee ∷ 0x01 ∷ [] }
+
+abbrev manager_m : PortIdentity
+manager_m = record { clock = record { 0 = 0x00 ∷ 0x11 ∷ 0x22 ∷ 0x33 ∷ 0x44 ∷ 0x55 ∷ 0x66 ∷ 0x77 ∷ [] }; port = 1 }
+
+abbrev all_rights : Rights
+all_rights = record { 0 = 7 }
+
+abbrev session_to : ClockIdentity → ℕ → ℕ → ℕ → SessionStart
+session_to target ports first hops = record {
+  setup = record { me = manager_m; target = target; ports = ports; first = first; hops = hops; attempts = 2 };
+  target = 0;
+  domain = 0;
+}
+
+abbrev one_clock : Network
+one_clock = record {
+  clocks = 1;
+  clock = λ c. record { identity = clock_k; managers = manager_m ∷ []; rights = λ m. all_rights };
+  start = λ c. started (default_clock clock_k 0) (default_port ∷ default_port ∷ []);
+  sessions = 1;
+  session = λ s. session_to clock_k 2 7 1;
+  links = (AtPort 0 1 ∷ AtSession 0 ∷ []) ∷ [];
+}
+
+abbrev get_priority1 : Ask
+get_priority1 = record { action = actions.Get; id = 0x2005; port = None; octets = [] }
+
+abbrev set_domain : Ask
+set_domain = record { action = actions.Set; id = 0x2007; port = None; octets = 0x05 ∷ 0x00 ∷ [] }
+
+-- GET PRIORITY1 with sequenceId 7, hops 1 of 1
+abbrev get_octets : List ℕ
+get_octets =
+    0x0d ∷ 0x12 ∷ 0x00 ∷ 0x36 ∷ replicate 16 0
+    ++ 0x00 ∷ 0x11 ∷ 0x22 ∷ 0x33 ∷ 0x44 ∷ 0x55 ∷ 0x66 ∷ 0x77 ∷ 0x00 ∷ 0x01 ∷ 0x00 ∷ 0x07 ∷ 0x04 ∷ 0x7f ∷ []
+    ++ 0xaa ∷ 0xbb ∷ 0xcc ∷ 0xff ∷ 0xfe ∷ 0xdd ∷ 0xee ∷ 0x01 ∷ 0xff ∷ 0xff ∷ 0x01 ∷ 0x01 ∷ 0x00 ∷ 0x00 ∷ []
+    ++ 0x00 ∷ 0x01 ∷ 0x00 ∷ 0x02 ∷ 0x20 ∷ 0x05 ∷ []
+
+abbrev sent_once : NetworkState
+sent_once = run one_clock (at_first one_clock) (Begin 0 get_priority1 ∷ Send 0 ∷ [])
+
+-- the request goes to the other end of the session's link
+first_script-sent : sent_once.frames ≡ record { end = AtPort 0 1; octets = get_octets; origin = RequestOf 0 1; first_hops = 1; forwardings = 0 } ∷ []
+unfolding refusal happens begin_refusal send_refusal ask_refusal target_port row_of port_identity_octets tlv_octets
+first_script-sent = refl
+
+abbrev by_whom : Accepted → PortIdentity × ℕ
+by_whom a = (a.manager, a.index)
+
+-- a copy of it joins at the clock once, however often it is delivered
+first_script-accepted : map by_whom (history one_clock (run one_clock sent_once (Deliver 1 ∷ Deliver 1 ∷ [])) 0).accepted ≡ (manager_m, 1) ∷ []
+unfolding refusal happens begin_refusal send_refusal ask_refusal target_port row_of port_identity_octets tlv_octets message_of frame_refusal tlv_refusal text_refusal body_at number_at port_identity_at changed_by entry_refusal forwarded answer data_field_of reply_of reply_to read_reply_to rendered
+first_script-accepted = refl
+
+-- the clock's RESPONSE: priority1 is 128
+abbrev reply_octets : List ℕ
+reply_octets =
+    0x0d ∷ 0x12 ∷ 0x00 ∷ 0x38 ∷ replicate 16 0
+    ++ 0xaa ∷ 0xbb ∷ 0xcc ∷ 0xff ∷ 0xfe ∷ 0xdd ∷ 0xee ∷ 0x01 ∷ 0x00 ∷ 0x01 ∷ 0x00 ∷ 0x07 ∷ 0x04 ∷ 0x7f ∷ []
+    ++ 0x00 ∷ 0x11 ∷ 0x22 ∷ 0x33 ∷ 0x44 ∷ 0x55 ∷ 0x66 ∷ 0x77 ∷ 0x00 ∷ 0x01 ∷ 0x00 ∷ 0x00 ∷ 0x02 ∷ 0x00 ∷ []
+    ++ 0x00 ∷ 0x01 ∷ 0x00 ∷ 0x04 ∷ 0x20 ∷ 0x05 ∷ 0x80 ∷ 0x00 ∷ []
+
+abbrev whole_script : NetworkState
+whole_script = run one_clock sent_once (Deliver 1 ∷ Deliver 2 ∷ Deliver 1 ∷ Deliver 3 ∷ [])
+
+-- the request, the reply to it, and the same reply to its repeat
+first_script-frames : map (λ f. f.octets) whole_script.frames ≡ get_octets ∷ reply_octets ∷ reply_octets ∷ []
+unfolding refusal happens begin_refusal send_refusal ask_refusal target_port row_of port_identity_octets tlv_octets message_of frame_refusal tlv_refusal text_refusal body_at number_at port_identity_at changed_by entry_refusal forwarded answer data_field_of reply_of reply_to read_reply_to rendered
+first_script-frames = refl
+
+-- it is reported once
+first_script-reports : (whole_script.session 0).reports ≡ record { index = 1; outcome = outcomes.Value (0x80 ∷ 0x00 ∷ []) } ∷ []
+unfolding refusal happens begin_refusal send_refusal ask_refusal target_port row_of port_identity_octets tlv_octets message_of frame_refusal tlv_refusal text_refusal body_at number_at port_identity_at changed_by entry_refusal forwarded answer data_field_of reply_of reply_to read_reply_to rendered
+first_script-reports = refl
+
+-- ---- it is a network of an accepted file
+
+abbrev first_octet : ClockIdentity → ℕ
+first_octet c = octet 0 c.0
+
+apart : (a b : ℕ) → a < b → a ≡ b → ⊥
+apart a b l e = omega arith
+
+not_every : clock_k ≡ every_clock → ⊥
+not_every e = apart 0xaa 0xff (omega arith) (ap first_octet e)
+
+manager-not_every : manager_m.clock ≡ every_clock → ⊥
+manager-not_every e = apart 0x00 0xff (omega arith) (ap first_octet e)
+
+manager-no_clock : manager_m.clock ≡ clock_k → ⊥
+manager-no_clock e = apart 0x00 0xaa (omega arith) (ap first_octet e)
+
+only_one : (c d : ℕ) → c < 1 → d < 1 → c ≡ d
+only_one c d p q = omega arith
+
+one_known : (m : PortIdentity) → is_known m (manager_m ∷ []) ≡ true → manager_m ≡ m
+one_known m y = ⊎_elim
+    (λ (h : same_identity m manager_m ≡ true). sym (same_identity-true m manager_m h))
+    (λ (n : same_identity m manager_m ≡ false). absurd (true≢false (sym y ∙ ap (λ b. b || false) n)))
+    (cases_Bool (same_identity m manager_m))
+
+one_clock-IsNetwork : IsNetwork one_clock
+one_clock-IsNetwork = record {
+  are_clocks = λ c place. record {
+    identity = refl;
+    is_one = not_every;
+    some_port = omega arith;
+    at_most_eight = omega arith;
+    start = record { identity = refl; parent = refl; grandmaster = refl; description = omega arith; ports_are = refl; some_port = omega arith; at_most_eight = omega arith };
+  };
+  are_sessions = λ s place. record {
+    identity = record { clock = refl; port = omega arith };
+    is_one = manager-not_every;
+    exists = omega arith;
+    target = refl;
+    ports = refl;
+  };
+  clocks_apart = λ c d p q e. only_one c d p q;
+  sessions_apart = λ s t p q e. only_one s t p q;
+  no_clock = λ s c p q. manager-no_clock;
+  configured = λ s place. or_left (same_identity manager_m manager_m) false (same_identity-refl manager_m);
+  managers = λ c m place y. (0, omega arith, one_known m y, only_one 0 c (omega arith) place);
+  ends = (((omega arith, omega arith, omega arith), (omega arith, tt)), tt);
+}
+
+-- ---- refused events
+
+abbrev refused : List Event → Event → Option Refusal
+refused before e = refusal one_clock (run one_clock (at_first one_clock) before) e
+
+abbrev get_log_sync_interval : Ask
+get_log_sync_interval = record { action = actions.Get; id = 0x200b; port = None; octets = [] }
+
+refused_events : map (refused []) (Send 0 ∷ Send 1 ∷ Deliver 1 ∷ Stranger 0 1 get_octets ∷ Stranger 0 2 (0 ∷ []) ∷ Begin 0 get_log_sync_interval ∷ Retune 1 0 ∷ Stranger 0 3 [] ∷ Stranger 1 1 [] ∷ [])
+    ≡ Some (SendRefused sends.Idle) ∷ Some NoSuchName ∷ Some NoSuchFrame ∷ Some Forged ∷ None ∷ Some (BeginRefused begins.NeedsPort) ∷ Some NoSuchName ∷ Some NoSuchName ∷ Some NoSuchName ∷ []
+unfolding refusal begin_refusal send_refusal ask_refusal row_of number_at port_identity_at
+refused_events = refl
+
+-- no second request while the first is unanswered, and no third sending of it
+refused_after : map (refused (Begin 0 get_priority1 ∷ Send 0 ∷ Send 0 ∷ [])) (Begin 0 get_priority1 ∷ Send 0 ∷ Resume 0 1 ∷ Deliver 0 ∷ Deliver 2 ∷ Deliver 3 ∷ [])
+    ≡ Some (BeginRefused begins.Busy) ∷ Some (SendRefused sends.GaveUp) ∷ None ∷ Some NoSuchFrame ∷ None ∷ Some NoSuchFrame ∷ []
+unfolding refusal happens begin_refusal send_refusal ask_refusal target_port row_of
+refused_after = refl
+
+-- ---- another domain
+
+-- between two sendings of a request its domain changes, and no other octet
+retune-sent : map (λ f. f.octets) (run one_clock (at_first one_clock) (Begin 0 get_priority1 ∷ Send 0 ∷ Retune 0 5 ∷ Send 0 ∷ [])).frames
+    ≡ get_octets ∷ slice_set get_octets 4 5 ∷ []
+unfolding refusal happens begin_refusal send_refusal ask_refusal target_port row_of port_identity_octets tlv_octets
+retune-sent = refl
+
+-- A SET of DOMAIN is answered in the former domain, and its repeat too; then the clock is heard in the new one alone, and a
+-- reply in the former one comes too late.
+abbrev other_domain : NetworkState
+other_domain = run one_clock (at_first one_clock) (
+    Begin 0 set_domain ∷ Send 0 ∷ Deliver 1 ∷ Send 0 ∷ Deliver 3 ∷ Deliver 4
+    ∷ Begin 0 get_priority1 ∷ Send 0 ∷ Deliver 5 ∷ Retune 0 5 ∷ Send 0 ∷ Deliver 6 ∷ Deliver 2 ∷ Deliver 7 ∷ [])
+
+retune-reports : (other_domain.session 0).reports
+    ≡ record { index = 1; outcome = outcomes.Value (0x05 ∷ 0x00 ∷ []) } ∷ record { index = 2; outcome = outcomes.Value (0x80 ∷ 0x00 ∷ []) } ∷ []
+unfolding refusal happens begin_refusal send_refusal ask_refusal target_port row_of port_identity_octets tlv_octets message_of frame_refusal tlv_refusal text_refusal body_at number_at port_identity_at changed_by entry_refusal is_set_length is_set_value set_members forwarded answer data_field_of reply_of reply_to read_reply_to rendered
+retune-reports = refl
+
+retune-domain : (history one_clock other_domain 0).sets.default.domain ≡ 5
+unfolding refusal happens begin_refusal send_refusal ask_refusal target_port row_of port_identity_octets tlv_octets message_of frame_refusal tlv_refusal text_refusal body_at number_at port_identity_at changed_by entry_refusal is_set_length is_set_value set_members forwarded answer data_field_of reply_of reply_to read_reply_to rendered
+retune-domain = refl
+
+retune-frames : map (λ f. octet 4 f.octets) other_domain.frames ≡ 0 ∷ 0 ∷ 0 ∷ 0 ∷ 0 ∷ 5 ∷ 5 ∷ []
+unfolding refusal happens begin_refusal send_refusal ask_refusal target_port row_of port_identity_octets tlv_octets message_of frame_refusal tlv_refusal text_refusal body_at number_at port_identity_at changed_by entry_refusal is_set_length is_set_value set_members forwarded answer data_field_of reply_of reply_to read_reply_to rendered
+retune-frames = refl
+
+-- ---- a ring of three clocks
+
+-- clock n of the ring, at place n
+abbrev clock_of : ℕ → ClockIdentity
+clock_of c = record { 0 = 0xaa ∷ 0xbb ∷ 0xcc ∷ 0xff ∷ 0xfe ∷ 0xdd ∷ 0xee ∷ c ∷ [] }
+
+-- the session at port 1 of clock 0, whose ports 2 and 3 lead to clocks 1 and 2, which are linked by their ports 2
+abbrev ring_of_three_clocks : Network
+ring_of_three_clocks = record {
+  clocks = 3;
+  clock = λ c. record { identity = clock_of c; managers = if c == 1 then manager_m ∷ [] else []; rights = λ m. all_rights };
+  start = λ c. started (default_clock (clock_of c) 0) (replicate (if c == 0 then 3 else 2) default_port);
+  sessions = 1;
+  session = λ s. record { setup = record { me = manager_m; target = clock_of 1; ports = 2; first = 7; hops = 2; attempts = 2 }; target = 1; domain = 0 };
+  links = (AtPort 0 1 ∷ AtSession 0 ∷ []) ∷ (AtPort 0 2 ∷ AtPort 1 1 ∷ []) ∷ (AtPort 0 3 ∷ AtPort 2 1 ∷ []) ∷ (AtPort 1 2 ∷ AtPort 2 2 ∷ []) ∷ [];
+}
+
+abbrev in_ring : List Event → NetworkState
+in_ring es = run ring_of_three_clocks (at_first ring_of_three_clocks) es
+
+-- end, boundaryHops, forwardings and origin
+abbrev seen : Frame → End × ℕ × ℕ × Origin
+seen f = (f.end, octet 45 f.octets, f.forwardings, f.origin)
+
+-- clock 0 passes the request on at ports 2 and 3; clock 2 passes its copy on at port 2, with no hop left; clock 1 replies at
+-- its port 2, where the copy came in, with as many hops as the copy had lost
+ring_of_three_clocks-frames : map seen (in_ring (Begin 0 get_priority1 ∷ Send 0 ∷ Deliver 1 ∷ Deliver 3 ∷ Deliver 4 ∷ [])).frames
+    ≡ (AtPort 0 1, 2, 0, RequestOf 0 1) ∷ (AtPort 1 1, 1, 1, RequestOf 0 1) ∷ (AtPort 2 1, 1, 1, RequestOf 0 1) ∷ (AtPort 1 2, 0, 2, RequestOf 0 1) ∷ (AtPort 2 2, 2, 0, ReplyTo 0 1) ∷ []
+unfolding refusal happens begin_refusal send_refusal ask_refusal target_port row_of port_identity_octets tlv_octets message_of frame_refusal tlv_refusal text_refusal body_at number_at port_identity_at changed_by entry_refusal forwarded answer data_field_of reply_of reply_to read_reply_to rendered
+ring_of_three_clocks-frames = refl
+
+-- both ways it comes to clock 1, which accepts it once
+ring_of_three_clocks-accepted : map by_whom (history ring_of_three_clocks (in_ring (Begin 0 get_priority1 ∷ Send 0 ∷ Deliver 1 ∷ Deliver 2 ∷ Deliver 3 ∷ Deliver 4 ∷ [])) 1).accepted ≡ (manager_m, 1) ∷ []
+unfolding refusal happens begin_refusal send_refusal ask_refusal target_port row_of port_identity_octets tlv_octets message_of frame_refusal tlv_refusal text_refusal body_at number_at port_identity_at changed_by entry_refusal forwarded answer data_field_of reply_of reply_to read_reply_to rendered
+ring_of_three_clocks-accepted = refl
+
+-- ---- lateness
+
+-- a copy of request 1 is late from request 32,770 on
+late_copy : (is_late_at 1 32769 ≡ false) × (is_late_at 1 32770 ≡ true)
+late_copy = (refl, refl)

@@ -1,0 +1,79 @@
+-- A clock that takes its turn at a frame goes where the machine goes.
+use Rattle.std.proofs.Common.{◌≡◌, ℕ, ◌<◌, ◌==◌, List, ◌++◌, Some, true, false, refl, sym, ◌∙◌, ap, subst, ⊎_elim}
+use Rattle.std.proofs.lemmas.Bool.{cases_Bool, eqb-true}
+use Rattle.std.proofs.lemmas.List.{map-append}
+use Rattle.std.specs.Prelude.{map}
+use Rattle.std.specs.List.{AllByRecursion}
+use Rattle.ptpm_codec.specs.declared.identity.PortIdentity.{PortIdentity}
+use Rattle.ptpm_data.specs.Members.{DataSetsValue}
+use Rattle.ptpm_agent.specs.Forwarding.{forwarded}
+use Rattle.ptpm_agent.specs.Laws.{StandsAt}
+use Rattle.ptpm_agent.specs.Once.{History, RequestCopy, copy_of}
+use Rattle.ptpm_agent.specs.Turn.{State, turn}
+use Rattle.ptpm_agent.specs.Window.{IsInTime}
+use Rattle.ptpm_agent.proofs.AtMostOnce.{stands_after, stands_fresh}
+use Rattle.ptpm_network.specs.Events.{Event, IsInRange, frame_at}
+use Rattle.ptpm_network.specs.Machine.{answer_messages, answer_origin, arrives, delivered_at_clock, delivery, forwarded_frames, made_frames, reply_frames, run, with_place}
+use Rattle.ptpm_network.specs.Network.{AtPort, HasEnd, IsNetwork, Network}
+use Rattle.ptpm_network.specs.Stands.{AreFirsts, Running, Stands, after_turn, held, starting, turn_frames}
+use Rattle.ptpm_network.specs.State.{Frame, NetworkState, at_first, history, is_late}
+use Rattle.ptpm_network.proofs.Arriving.{history-elsewhere, history-here}
+use Rattle.ptpm_network.proofs.Frames.{heard-frame}
+use Rattle.ptpm_network.proofs.InTime.{in_window}
+use Rattle.ptpm_network.proofs.Lists.{with_place-other, with_place-same}
+use Rattle.ptpm_network.proofs.Reaching.{frame_at-is}
+use Rattle.ptpm_network.proofs.Schedule.{reached}
+use Rattle.ptpm_network.proofs.Turning.{turn-answers, turn-passes_on}
+
+-- they are the frames that the machine makes
+turn_frames-made : (N : Network) (first : PortIdentity → ℕ) (s : State) (h : History) (c port : ℕ) (f : Frame) → StandsAt first s h → ((k : RequestCopy) → copy_of (N.clock c) h.sets (delivery port f) ≡ Some k → IsInTime first h k) → turn_frames N s c port f ≡ made_frames N c h port f
+turn_frames-made N first s h c port f at time =
+    ap (λ sent. forwarded_frames N c f sent ++ reply_frames N c (answer_origin f.origin (copy_of (N.clock c) s.sets (delivery port f))) (turn (N.clock c) s port f.octets).replies) (turn-passes_on (N.clock c) first s h port f at)
+    ∙ ap (λ sent. forwarded_frames N c f (forwarded (N.clock c).identity port h.sets f.octets) ++ reply_frames N c (answer_origin f.origin (copy_of (N.clock c) s.sets (delivery port f))) sent) (turn-answers (N.clock c) first s h port f at time)
+    ∙ ap (λ (d : DataSetsValue). forwarded_frames N c f (forwarded (N.clock c).identity port h.sets f.octets)
+    ++ reply_frames N c (answer_origin f.origin (copy_of (N.clock c) d (delivery port f))) (answer_messages (N.clock c) h port f.octets (copy_of (N.clock c) h.sets (delivery port f)))) at.sets
+
+clock-stands : (N : Network) (first : PortIdentity → ℕ) (r : Running) (w : NetworkState) (c port : ℕ) (f : Frame) → Stands N first r w → c < N.clocks → ((k : RequestCopy) → copy_of (N.clock c) (history N w c).sets (delivery port f) ≡ Some k → IsInTime first (history N w c) k)
+    → (d : ℕ) → d < N.clocks → StandsAt first (with_place r.clock c (turn (N.clock c) (r.clock c) port f.octets).next d) (history N (arrives w c (delivery port f)) d)
+clock-stands N first r w c port f at place time d there = ⊎_elim
+    (λ (y : d == c ≡ true).
+    subst (λ (s : State). StandsAt first s (history N (arrives w c (delivery port f)) d)) (sym (with_place-same r.clock c (turn (N.clock c) (r.clock c) port f.octets).next d y))
+    (subst (λ j. StandsAt first (turn (N.clock c) (r.clock c) port f.octets).next (history N (arrives w c (delivery port f)) j)) (sym (eqb-true d c y))
+    (subst (StandsAt first (turn (N.clock c) (r.clock c) port f.octets).next) (sym (history-here N w c (delivery port f)))
+    (stands_after first (N.clock c) (r.clock c) (history N w c) (delivery port f) (at.clocks c place) time))))
+    (λ (n : d == c ≡ false).
+    subst (λ (s : State). StandsAt first s (history N (arrives w c (delivery port f)) d)) (sym (with_place-other r.clock c (turn (N.clock c) (r.clock c) port f.octets).next d n))
+    (subst (StandsAt first (r.clock d)) (sym (history-elsewhere N w c (delivery port f) d n)) (at.clocks d there)))
+    (cases_Bool (d == c))
+
+stands-turned : (N : Network) (first : PortIdentity → ℕ) (r : Running) (w : NetworkState) (c port : ℕ) (f : Frame) → Stands N first r w → c < N.clocks → ((k : RequestCopy) → copy_of (N.clock c) (history N w c).sets (delivery port f) ≡ Some k → IsInTime first (history N w c) k)
+    → Stands N first (after_turn N r c port f) (delivered_at_clock N w c port f)
+stands-turned N first r w c port f at place time = record {
+  clocks = clock-stands N first r w c port f at place time;
+  sessions = at.sessions;
+  reports = at.reports;
+  frames = ap (λ fs. fs ++ map held (turn_frames N (r.clock c) c port f)) at.frames
+      ∙ ap (λ fs. map held w.frames ++ map held fs) (turn_frames-made N first (r.clock c) (history N w c) c port f (at.clocks c place) time)
+      ∙ sym (map-append held w.frames (made_frames N c (history N w c) port f));
+}
+
+-- a running network that stands where a schedule leads stands there after a turn, too
+pub stands-delivered : (N : Network) (es : List Event) (first : PortIdentity → ℕ) (r : Running) (k c port : ℕ) (f : Frame) → IsNetwork N → AllByRecursion IsInRange es → AreFirsts N first → Stands N first r (run N (at_first N) es)
+    → frame_at (run N (at_first N) es).frames k ≡ Some f → f.end ≡ AtPort c port → is_late (run N (at_first N) es) f.origin ≡ false
+    → Stands N first (after_turn N r c port f) (delivered_at_clock N (run N (at_first N) es) c port f)
+stands-delivered N es first r k c port f n i firsts at e end late =
+    let w : NetworkState = run N (at_first N) es in
+    let reached' = reached N es n i in
+    let frame = frame_at-is N w k f reached' e in
+    let place = (subst (HasEnd N) end frame.end).0 in
+    stands-turned N first r w c port f at place
+    (λ copy is. in_window first N w c port f copy firsts n reached' place (heard-frame N w f.octets f.origin frame.origin) late is)
+
+-- and it stands so as it starts
+pub stands-at_first : (N : Network) (first : PortIdentity → ℕ) → Stands N first (starting N) (at_first N)
+stands-at_first N first = record {
+  clocks = λ c place. stands_fresh first (N.start c);
+  sessions = λ s place. refl;
+  reports = λ s place. refl;
+  frames = refl;
+}

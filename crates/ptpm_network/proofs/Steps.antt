@@ -1,0 +1,158 @@
+-- What sessions do keeps the invariant.
+use Rattle.std.proofs.Common.{arith, ◌≡◌, ℕ, ◌<◌, ◌-◌, ◌==◌, List, [], ◌∷◌, ◌++◌, Option, Some, None, Bool, true, false, refl, sym, ◌∙◌, subst, ⊎_elim, length}
+use Rattle.std.proofs.lemmas.Bool.{cases_Bool, eqb-true, cond-true, cond-false}
+use Rattle.std.specs.Prelude.{option_map, slice_get}
+use Rattle.std.specs.List.{AllByRecursion, filter, list_any}
+use Rattle.ptpm_data.specs.Request.{RequestValue}
+use Rattle.ptpm_agent.specs.Once.{Accepted, kept_reply}
+use Rattle.ptpm_manager.specs.Setup.{request_message}
+use Rattle.ptpm_network.specs.Invariant.{IsFrame, IsInStep, IsOfOrigin, IsReached}
+use Rattle.ptpm_network.specs.Machine.{sends, sent_frames, with_frames, with_session}
+use Rattle.ptpm_network.specs.Network.{End, AtSession, HasEnd, IsNetwork, Network, manager, peers, ports, same_end}
+use Rattle.ptpm_network.specs.State.{Frame, NetworkState, Origin, RequestOf, ReplyTo, Neither, SessionState, accepted_at_target, is_idle, new_frames, unanswered}
+use Rattle.ptpm_network.proofs.Accepting.{in_step-set}
+use Rattle.ptpm_network.proofs.Lists.{all_append, all_made, all_weaker, get_within, with_place-other, with_place-same}
+
+-- ---- ends
+
+all_filter : {X : Type 0} (P : X → Type 0) (test : X → Bool) (xs : List X) → AllByRecursion P xs → AllByRecursion P (filter test xs)
+all_filter P test [] a = tt
+all_filter P test (x ∷ xs) a = ⊎_elim
+    (λ (y : test x ≡ true). subst (AllByRecursion P) (sym (cond-true _ _ _ y)) (a.0, all_filter P test xs a.1))
+    (λ (n : test x ≡ false). subst (AllByRecursion P) (sym (cond-false _ _ _ n)) (all_filter P test xs a.1))
+    (cases_Bool (test x))
+
+-- the ends that a message goes to exist
+peers_exist : (N : Network) (links : List (List End)) (e : End) → AllByRecursion (AllByRecursion (HasEnd N)) links → AllByRecursion (HasEnd N) (peers links e)
+peers_exist N [] e a = tt
+peers_exist N (link ∷ links) e a = ⊎_elim
+    (λ (y : list_any (same_end e) link ≡ true). subst (AllByRecursion (HasEnd N)) (sym (cond-true _ _ _ y)) (all_filter (HasEnd N) _ link a.0))
+    (λ (n : list_any (same_end e) link ≡ false). subst (AllByRecursion (HasEnd N)) (sym (cond-false _ _ _ n)) (peers_exist N links e a.1))
+    (cases_Bool (list_any (same_end e) link))
+
+pub has_peers : (N : Network) (e : End) → IsNetwork N → AllByRecursion (HasEnd N) (peers N.links e)
+has_peers N e n = peers_exist N N.links e n.ends
+
+-- ---- what stays from state to state
+
+-- nothing that was begun is lost
+abbrev pub BegunStays : NetworkState → NetworkState → Type 0
+BegunStays w u = (s i : ℕ) (q : RequestValue) → slice_get (w.session s).begun i ≡ Some q → slice_get (u.session s).begun i ≡ Some q
+
+-- nor is any reply that is kept
+abbrev pub KeptStays : Network → NetworkState → NetworkState → Type 0
+KeptStays N w u = (s k : ℕ) (e : Accepted) → s < N.sessions → kept_reply (manager N s) k (accepted_at_target N w s) ≡ Some e → kept_reply (manager N s) k (accepted_at_target N u s) ≡ Some e
+
+pub origin-stays : (N : Network) (w u : NetworkState) → BegunStays w u → KeptStays N w u → (octets : List ℕ) (o : Origin) → IsOfOrigin N w octets o → IsOfOrigin N u octets o
+origin-stays N w u begun kept octets (RequestOf s k) (place, r) = (
+  place,
+  record {
+    positive = r.positive;
+    request = r.request;
+    begun_as = begun s (k - 1) r.request r.begun_as;
+    domain = r.domain;
+    hops = r.hops;
+    is = r.is;
+  },
+)
+origin-stays N w u begun kept octets (ReplyTo s k) (place, r) = (
+  place,
+  record {
+    positive = r.positive;
+    entry = r.entry;
+    kept = kept s k r.entry place r.kept;
+    answer = r.answer;
+    one = r.one;
+    heard = r.heard;
+    source = r.source;
+    number = r.number;
+    ingress = r.ingress;
+    port = r.port;
+    hops = r.hops;
+    is = r.is;
+  },
+)
+origin-stays N w u begun kept octets Neither r = r
+
+pub frame-stays : (N : Network) (w u : NetworkState) → BegunStays w u → KeptStays N w u → (f : Frame) → IsFrame N w f → IsFrame N u f
+frame-stays N w u begun kept f i = record { end = i.end; origin = origin-stays N w u begun kept f.octets f.origin i.origin; hops = i.hops }
+
+pub frames-stay : (N : Network) (w u : NetworkState) → BegunStays w u → KeptStays N w u → (fs : List Frame) → AllByRecursion (IsFrame N w) fs → AllByRecursion (IsFrame N u) fs
+frames-stay N w u begun kept fs a = all_weaker (IsFrame N w) (IsFrame N u) (λ f i. frame-stays N w u begun kept f i) fs a
+
+-- ---- one session changes
+
+begun-stays : (w : NetworkState) (s : ℕ) (v : SessionState) → ((i : ℕ) (q : RequestValue) → slice_get (w.session s).begun i ≡ Some q → slice_get v.begun i ≡ Some q) → BegunStays w (with_session w s v)
+begun-stays w s v g t i q e = ⊎_elim
+    (λ (y : t == s ≡ true).
+    subst (λ (x : SessionState). slice_get x.begun i ≡ Some q) (sym (with_place-same w.session s v t y))
+    (g i q (subst (λ j. slice_get (w.session j).begun i ≡ Some q) (eqb-true t s y) e)))
+    (λ (n : t == s ≡ false). subst (λ (x : SessionState). slice_get x.begun i ≡ Some q) (sym (with_place-other w.session s v t n)) e)
+    (cases_Bool (t == s))
+
+abbrev pub InStep : Network → NetworkState → ℕ → SessionState → Type 0
+InStep N w s v = IsInStep (manager N s) (ports N (N.session s).target) (accepted_at_target N w s) v
+
+pub session-changes : (N : Network) (w : NetworkState) (s : ℕ) (v : SessionState) → ((i : ℕ) (q : RequestValue) → slice_get (w.session s).begun i ≡ Some q → slice_get v.begun i ≡ Some q) → InStep N w s v → IsReached N w → IsReached N (with_session w s v)
+session-changes N w s v g at r = record {
+  sessions = λ t place. ⊎_elim
+      (λ (y : t == s ≡ true). subst (InStep N w t) (sym (with_place-same w.session s v t y)) (subst (λ j. InStep N w j v) (sym (eqb-true t s y)) at))
+      (λ (n : t == s ≡ false). subst (InStep N w t) (sym (with_place-other w.session s v t n)) (r.sessions t place))
+      (cases_Bool (t == s));
+  clocks = r.clocks;
+  frames = frames-stay N w (with_session w s v) (begun-stays w s v g) (λ t k e place h. h) w.frames r.frames;
+}
+
+-- its domain and attempts alone
+pub session-set : (N : Network) (w : NetworkState) (s domain attempts : ℕ) → s < N.sessions → IsReached N w → IsReached N (with_session w s (record { domain = domain; attempts_left = attempts; begun = (w.session s).begun; reports = (w.session s).reports }))
+session-set N w s domain attempts place r =
+    session-changes N w s _ (λ i q e. e)
+    (in_step-set (manager N s) (ports N (N.session s).target) (accepted_at_target N w s) (w.session s) domain attempts (r.sessions s place)) r
+
+-- ---- more frames
+
+pub more-frames : (N : Network) (w : NetworkState) (fs : List Frame) → AllByRecursion (IsFrame N w) fs → IsReached N w → IsReached N (with_frames w fs)
+more-frames N w fs a r = record {
+  sessions = r.sessions;
+  clocks = r.clocks;
+  frames = frames-stay N w (with_frames w fs) (λ s i q e. e) (λ s k e place h. h) (w.frames ++ fs) (all_append (IsFrame N w) w.frames fs r.frames a);
+}
+
+-- the frames of a message that is sent for the first time
+pub new_frames-are : (N : Network) (w : NetworkState) (ends : List End) (octets : List ℕ) (o : Origin) → AllByRecursion (HasEnd N) ends → IsOfOrigin N w octets o → AllByRecursion (IsFrame N w) (new_frames ends octets o)
+new_frames-are N w ends octets o a i = all_made (HasEnd N) (IsFrame N w) _ (λ e h. record { end = h; origin = i; hops = omega arith }) ends a
+
+-- what is not answered yet was begun last
+unanswered-last : (s : SessionState) (q : RequestValue) → unanswered s ≡ Some q → slice_get s.begun (length s.begun - 1) ≡ Some q
+unanswered-last s q e = ⊎_elim
+    (λ (y : is_idle s ≡ true). let none : None ≡ Some q = sym (cond-true _ _ _ y) ∙ e in absurd (cc))
+    (λ (n : is_idle s ≡ false). sym (cond-false _ _ _ n) ∙ e)
+    (cases_Bool (is_idle s))
+
+positive : (n : ℕ) → n - 1 < n → 0 < n
+positive n h = omega arith
+
+sent_frames-are : (N : Network) (w : NetworkState) (s : ℕ) (o : Option RequestValue) → s < N.sessions → AllByRecursion (HasEnd N) (peers N.links (AtSession s)) → unanswered (w.session s) ≡ o
+    → AllByRecursion (IsFrame N w) (sent_frames (peers N.links (AtSession s)) s (length (w.session s).begun) (option_map (request_message (N.session s).setup (w.session s).domain (length (w.session s).begun)) o))
+sent_frames-are N w s None place ends e = tt
+sent_frames-are N w s (Some q) place ends e =
+    let last = unanswered-last (w.session s) q e in
+    new_frames-are N w (peers N.links (AtSession s)) _ (RequestOf s (length (w.session s).begun)) ends (
+      place,
+      record {
+        positive = positive (length (w.session s).begun) (get_within (w.session s).begun (length (w.session s).begun - 1) q last);
+        request = q;
+        begun_as = last;
+        domain = (w.session s).domain;
+        hops = (N.session s).setup.hops;
+        is = refl;
+      },
+    )
+
+pub sends-reached : (N : Network) (w : NetworkState) (s : ℕ) → IsNetwork N → s < N.sessions → IsReached N w → IsReached N (sends N w s)
+sends-reached N w s n place r =
+    let v : SessionState = record (w.session s) { attempts_left = (w.session s).attempts_left - 1 } in
+    more-frames N (with_session w s v) _
+    (frames-stay N w (with_session w s v) (begun-stays w s v (λ i q e. e)) (λ t k e p h. h) _
+    (sent_frames-are N w s (unanswered (w.session s)) place (has_peers N (AtSession s) n) refl))
+    (session-set N w s (w.session s).domain ((w.session s).attempts_left - 1) place r)

@@ -1,0 +1,113 @@
+-- A stranger's datagram that is not refused is of no clock and of no session.
+use Rattle.std.proofs.Common.{suc, zero, arith, ◌≡◌, ℕ, ◌<◌, ◌≤◌, ◌+◌, ◌-◌, ◌^◌, List, Some, Bool, true, false, refl, sym, ◌∙◌, ap, subst, ⊎_elim, length, take, drop}
+use Rattle.std.proofs.lemmas.Bool.{cases_eq, or_parts, and_cases, le-leb, true≢false}
+use Rattle.std.proofs.lemmas.List.{drop-take, length-drop, length-take-le, take-take}
+use Rattle.std.specs.Prelude.{nat_le}
+use Rattle.std.specs.List.{list_any, range_with_len}
+use Rattle.ptpm_codec.specs.declared.identity.ClockIdentity.{ClockIdentity}
+use Rattle.ptpm_codec.specs.declared.identity.PortIdentity.{PortIdentity}
+use Rattle.ptpm_codec.specs.declared.message.Body.{Body}
+use Rattle.ptpm_codec.specs.declared.message.Body.TheVariants as bodies
+use Rattle.ptpm_codec.specs.declared.message.Message.{Message}
+use Rattle.ptpm_codec.specs.Identity.{same_clock, same_identity}
+use Rattle.ptpm_codec.specs.Layout.{message_length, message_octets, number_at, port_identity_at, source_port_identity}
+use Rattle.ptpm_codec.specs.Message.{BodyFits, Fits, PortIdentityFits}
+use Rattle.ptpm_codec.specs.Reading.{message_of}
+use Rattle.ptpm_codec.specs.Spelling.{Spells, SpellsBody}
+use Rattle.ptpm_codec.proofs.PlaceLaws.{number_at-octets, number-take}
+use Rattle.ptpm_codec.proofs.ReadingLaws.{IsOctets, message_of-some, message_of-spells, message_size, octets-take}
+use Rattle.ptpm_table.proofs.Identities.{same_identity-refl}
+use Rattle.ptpm_network.proofs.Identities.{same_clock-refl}
+use Rattle.ptpm_network.specs.Events.{is_forged, is_taken}
+use Rattle.ptpm_network.specs.Invariant.{IsForeign}
+use Rattle.ptpm_network.specs.Network.{Network, manager}
+
+-- ---- ranges
+
+number-fits : (place : ℕ) (m : List ℕ) → IsOctets m → number_at place m < 2 ^ 16
+number-fits place m h = let high = h place in let low = h (place + 1) in omega (arith, number_at-octets place m, high, low)
+
+identity-fits : (place : ℕ) (m : List ℕ) → IsOctets m → place + 10 ≤ length m → PortIdentityFits (port_identity_at place m)
+unfolding port_identity_at
+identity-fits place m h long = record {
+  clock = length-take-le 8 (drop place m) (omega (arith, length-drop place m));
+  port = number-fits (place + 8) m h;
+}
+
+body-fits : (b : Body) (m : List ℕ) → IsOctets m → SpellsBody b m → BodyFits b
+body-fits (bodies.Request action id octets) m h (asks, s) = subst (λ n. n < 2 ^ 16) (sym s.id_is) (number-fits 52 m h)
+body-fits (bodies.Answer action id octets) m h (answers, s) = subst (λ n. n < 2 ^ 16) (sym s.id_is) (number-fits 52 m h)
+body-fits (bodies.Fault action error id text) m h (answers, s) =
+    (subst (λ n. n < 2 ^ 16) (sym s.error_is) (number-fits 52 m h), subst (λ n. n < 2 ^ 16) (sym s.id_is) (number-fits 54 m h))
+
+spelled-fits : (v : Message) (m : List ℕ) → IsOctets m → Spells v m → Fits v
+spelled-fits v m h s =
+    let low = s.at_least in
+    record {
+      source = subst PortIdentityFits (sym s.source) (identity-fits 20 m h (omega arith));
+      number = subst (λ n. n < 2 ^ 16) (sym s.number) (number-fits 30 m h);
+      target = subst PortIdentityFits (sym s.target) (identity-fits 34 m h (omega arith));
+      body = body-fits v.body m h s.body;
+    }
+
+-- ---- identities
+
+none_of_range : (test : ℕ → Bool) (n a i : ℕ) → list_any test (range_with_len a n) ≡ false → a ≤ i → i < a + n → test i ≡ false
+none_of_range test zero a i e le lt = absurd (omega arith)
+none_of_range test (suc n) a i e le lt =
+    let p = or_parts (test a) (list_any test (range_with_len (a + 1) n)) e in
+    ⊎_elim
+    (λ (q : a ≡ i). subst (λ j. test j ≡ false) q p.0)
+    (λ (ne : a ≡ i → ⊥). none_of_range test n (a + 1) i p.1 (omega arith) (omega arith))
+    (cases_eq a i)
+
+not_taken-clock : (who : PortIdentity) (clock : ClockIdentity) → same_clock who.clock clock ≡ false → who.clock ≡ clock → ⊥
+not_taken-clock who clock n h = true≢false (sym (same_clock-refl who.clock) ∙ (ap (same_clock who.clock) h ∙ n))
+
+not_taken-session : (who m : PortIdentity) → same_identity who m ≡ false → who ≡ m → ⊥
+not_taken-session who m n h = true≢false (sym (same_identity-refl who) ∙ (ap (same_identity who) h ∙ n))
+
+below : (i n : ℕ) → i < n → i < 0 + n
+below i n h = omega arith
+
+untaken : (N : Network) (v : Message) (who : PortIdentity) → v.source ≡ who → is_taken N who ≡ false → IsForeign N v
+untaken N v who e none =
+    let parts = or_parts (list_any (λ c. same_clock who.clock (N.clock c).identity) (range_with_len 0 N.clocks)) (list_any (λ s. same_identity who (manager N s)) (range_with_len 0 N.sessions)) none in
+    record {
+      no_request = λ s exists h. not_taken-session who (manager N s)
+          (none_of_range (λ t. same_identity who (manager N t)) N.sessions 0 s parts.1 (omega arith) (below s N.sessions exists)) (sym e ∙ h);
+      no_reply = λ c s there exists from' h. not_taken-clock who (N.clock c).identity
+          (none_of_range (λ d. same_clock who.clock (N.clock d).identity) N.clocks 0 c parts.0 (omega arith) (below c N.clocks there))
+          (ap (λ (m : PortIdentity). m.clock) (sym e) ∙ from');
+    }
+
+-- ---- the source of a message stands within it
+
+port_identity-take : (n : ℕ) (m : List ℕ) → 30 ≤ n → port_identity_at 20 (take n m) ≡ port_identity_at 20 m
+unfolding port_identity_at
+port_identity-take n m long =
+    let size : n ≡ 20 + (n - 20) = omega arith in
+    let behind : drop 20 (take n m) ≡ take (n - 20) (drop 20 m) = ap (λ k. drop 20 (take k m)) size ∙ drop-take 20 (n - 20) m in
+    let clock : take 8 (drop 20 (take n m)) ≡ take 8 (drop 20 m) = ap (take 8) behind ∙ take-take 8 (n - 20) (drop 20 m) (omega arith) in
+    let port : number_at 28 (take n m) ≡ number_at 28 m = number-take 28 n m (omega arith) in
+    rw (clock, port) refl
+
+message-source : (v : Message) (d : List ℕ) → message_of d ≡ Some v → v.source ≡ source_port_identity d
+message-source v d e =
+    let size = message_size d (message_of-some d v e).0 in
+    let low = size.0 in
+    (message_of-spells v d e).source ∙ port_identity-take (message_length d) d (omega arith)
+
+pub strange-message : (N : Network) (d : List ℕ) (v : Message) → IsOctets d → is_forged N d ≡ false → message_of d ≡ Some v → Fits v × IsForeign N v
+strange-message N d v octets honest e =
+    let size = message_size d (message_of-some d v e).0 in
+    let low = size.0 in
+    let inside = size.1 in
+    let long : nat_le 30 (length d) ≡ true = le-leb 30 (length d) (omega arith) in
+    let free : is_taken N (source_port_identity d) ≡ false = ⊎_elim
+    (λ (short : nat_le 30 (length d) ≡ false). absurd (true≢false (sym long ∙ short)))
+    (λ (n : is_taken N (source_port_identity d) ≡ false). n)
+    (and_cases (nat_le 30 (length d)) (is_taken N (source_port_identity d)) honest) in (
+      spelled-fits v (message_octets d) (octets-take (message_length d) d octets) (message_of-spells v d e),
+      untaken N v (source_port_identity d) (message-source v d e) free,
+    )

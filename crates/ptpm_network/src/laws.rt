@@ -1,0 +1,119 @@
+//! What the network promises over every list of events. Each law is the contract of a function that does nothing, and
+//! speaks of the definitions alone.
+
+ghost use Rattle.std.specs.Prelude.{◌≡◌, ◌↔◌, ◌+◌, ◌<◌, ◌≤◌, ℕ, false, length, List, None, Some};
+ghost use Rattle.std.specs.List.{AllByRecursion};
+ghost use Rattle.ptpm_codec.specs.declared.identity.PortIdentity.{PortIdentity};
+ghost use Rattle.ptpm_codec.specs.Layout.{boundary_hops};
+ghost use Rattle.ptpm_agent.specs.Forwarding.{forwarded};
+ghost use Rattle.ptpm_agent.specs.Laws.{StandsAt, fresh, turns};
+ghost use Rattle.ptpm_agent.specs.Once.{Accepted, History, RequestCopy, beginning, copy_of, kept_reply};
+ghost use Rattle.ptpm_agent.specs.Turn.{Clock, State, turn};
+ghost use Rattle.ptpm_agent.specs.Window.{IsInTime, KeepsWindow};
+ghost use Rattle.ptpm_manager.specs.declared.receiving.Received.TheVariants as received;
+ghost use Rattle.ptpm_manager.specs.declared.report.Report.{Report};
+ghost use Rattle.ptpm_manager.specs.Receiving.{received_of};
+ghost use Rattle.ptpm_network.specs.Events.{Event, IsInRange, frame_at};
+ghost use Rattle.ptpm_network.specs.Invariant.{IsReached};
+ghost use Rattle.ptpm_network.specs.Machine.{AreInTime, answer_messages, delivered_at_clock, delivery, report_from, run};
+ghost use Rattle.ptpm_network.specs.Network.{AtPort, AtSession, IsNetwork, Network, manager};
+ghost use Rattle.ptpm_network.specs.Stands.{AreFirsts, Running, Stands, after_turn, starting};
+ghost use Rattle.ptpm_network.specs.State.{Frame, accepted_at_target, at_first, greatest_accepted, history, is_late, issued, outcomes_kept, session_value};
+
+/// The invariant holds after every list of events, late deliveries among them.
+pub fn every_schedule()
+    ensures { (N : Network) (es : List Event) →
+        IsNetwork N → AllByRecursion IsInRange es →
+        IsReached N (run N (at_first N) es) }
+{}
+
+/// One request at a time. After every list of events, late deliveries among them, for each session:
+/// - the greatest index that its target accepted is the number of its requests or one less, and what was accepted of it is
+///   exactly 1 to that index;
+/// - it has as many reports as requests or one less, and they are the outcomes of the replies that are kept for its first
+///   requests, in order.
+pub fn one_request_at_a_time()
+    ensures accepted_begun { (N : Network) (es : List Event) (s : ℕ) →
+        IsNetwork N → AllByRecursion IsInRange es → s < N.sessions →
+        greatest_accepted N (run N (at_first N) es) s ≤ issued (run N (at_first N) es) s }
+    ensures begun_accepted { (N : Network) (es : List Event) (s : ℕ) →
+        IsNetwork N → AllByRecursion IsInRange es → s < N.sessions →
+        issued (run N (at_first N) es) s ≤ greatest_accepted N (run N (at_first N) es) s + 1 }
+    ensures accepted { (N : Network) (es : List Event) (s k : ℕ) →
+        IsNetwork N → AllByRecursion IsInRange es → s < N.sessions →
+        ((0 < k) × (k ≤ greatest_accepted N (run N (at_first N) es) s))
+        ↔ ((e : Accepted) × (kept_reply (manager N s) k (accepted_at_target N (run N (at_first N) es) s) ≡ Some e)) }
+    ensures reported_begun { (N : Network) (es : List Event) (s : ℕ) →
+        IsNetwork N → AllByRecursion IsInRange es → s < N.sessions →
+        length ((run N (at_first N) es).session s).reports ≤ issued (run N (at_first N) es) s }
+    ensures begun_reported { (N : Network) (es : List Event) (s : ℕ) →
+        IsNetwork N → AllByRecursion IsInRange es → s < N.sessions →
+        issued (run N (at_first N) es) s ≤ length ((run N (at_first N) es).session s).reports + 1 }
+    ensures reports { (N : Network) (es : List Event) (s : ℕ) →
+        IsNetwork N → AllByRecursion IsInRange es → s < N.sessions →
+        ((run N (at_first N) es).session s).reports
+        ≡ outcomes_kept (manager N s) (accepted_at_target N (run N (at_first N) es) s) (length ((run N (at_first N) es).session s).reports) }
+{}
+
+/// A frame loses a hop with each forwarding, and nowhere else: its boundaryHops when it was first sent are its boundaryHops
+/// now and the number of its forwardings.
+pub fn hops_lost()
+    ensures { (N : Network) (es : List Event) (n : ℕ) (f : Frame) →
+        IsNetwork N → AllByRecursion IsInRange es →
+        frame_at (run N (at_first N) es).frames n ≡ Some f → boundary_hops f.octets + f.forwardings ≡ f.first_hops }
+{}
+
+/// The window of 65,536 sequenceIds in which a clock tells new requests from old is never left:
+/// - a copy of a manager's request that is not late lies in it, whatever came before;
+/// - where no delivery of a list of events was late, so do all arrivals of each clock;
+/// - then a clock that takes its turn at each of them has the data sets after its managers' accepted requests, each applied
+///   once, in order of first acceptance.
+pub fn in_the_window()
+    ensures copy { (N : Network) (es : List Event) (first : PortIdentity → ℕ) (n c port : ℕ) (f : Frame) (copy : RequestCopy) →
+        IsNetwork N → AllByRecursion IsInRange es →
+        AreFirsts N first →
+        frame_at (run N (at_first N) es).frames n ≡ Some f → f.end ≡ AtPort c port → is_late (run N (at_first N) es) f.origin ≡ false →
+        copy_of (N.clock c) (history N (run N (at_first N) es) c).sets (delivery port f) ≡ Some copy →
+        IsInTime first (history N (run N (at_first N) es) c) copy }
+    ensures arrivals { (N : Network) (es : List Event) (first : PortIdentity → ℕ) (c : ℕ) →
+        IsNetwork N → AllByRecursion IsInRange es →
+        AreFirsts N first →
+        AreInTime N (at_first N) es → c < N.clocks →
+        KeepsWindow (N.clock c) first (beginning (N.start c)) ((run N (at_first N) es).arrivals c) }
+    ensures sets { (N : Network) (es : List Event) (first : PortIdentity → ℕ) (c : ℕ) →
+        IsNetwork N → AllByRecursion IsInRange es →
+        AreFirsts N first →
+        AreInTime N (at_first N) es → c < N.clocks →
+        (turns (N.clock c) (fresh (N.start c)) ((run N (at_first N) es).arrivals c)).sets ≡ (history N (run N (at_first N) es) c).sets }
+{}
+
+/// What a clock sends in one turn, where it stands at its history and the copy is in its window, is what the machine makes
+/// frames of: the copies that are passed on, and the reply that is due to a numbered copy, or what any other request reads.
+pub fn outbox_of_turns()
+    ensures forwards { (c : Clock) (first : PortIdentity → ℕ) (s : State) (h : History) (ingress : ℕ) (f : Frame) → StandsAt first s h →
+        (turn c s ingress f.octets).forwards ≡ forwarded c.identity ingress h.sets f.octets }
+    ensures replies { (c : Clock) (first : PortIdentity → ℕ) (s : State) (h : History) (ingress : ℕ) (f : Frame) → StandsAt first s h →
+        ((k : RequestCopy) → copy_of c h.sets (delivery ingress f) ≡ Some k → IsInTime first h k) →
+        (turn c s ingress f.octets).replies ≡ answer_messages c h ingress f.octets (copy_of c h.sets (delivery ingress f)) }
+{}
+
+/// A running network, whose clocks tell requests apart by sequenceIds, stands where the machine stands: as both start, and,
+/// where it stood there before, after a clock's turn at a frame that is not late.
+pub fn clocks_stand()
+    ensures first { (N : Network) (first : PortIdentity → ℕ) → Stands N first (starting N) (at_first N) }
+    ensures turned { (N : Network) (es : List Event) (first : PortIdentity → ℕ) (r : Running) (n c ingress : ℕ) (f : Frame) →
+        IsNetwork N → AllByRecursion IsInRange es →
+        AreFirsts N first → Stands N first r (run N (at_first N) es) →
+        frame_at (run N (at_first N) es).frames n ≡ Some f → f.end ≡ AtPort c ingress → is_late (run N (at_first N) es) f.origin ≡ false →
+        Stands N first (after_turn N r c ingress f) (delivered_at_clock N (run N (at_first N) es) c ingress f) }
+{}
+
+/// A session takes a frame that is not late for the answer to its request, by the octets of the frame, exactly where the frame
+/// belongs to the reply to that request; and then it reports the same.
+pub fn answers_by_octets()
+    ensures { (N : Network) (es : List Event) (n s : ℕ) (f : Frame) (report : Report) →
+        IsNetwork N → AllByRecursion IsInRange es →
+        frame_at (run N (at_first N) es).frames n ≡ Some f → f.end ≡ AtSession s → is_late (run N (at_first N) es) f.origin ≡ false →
+        (report_from s ((run N (at_first N) es).session s) f ≡ Some report)
+        ↔ (received_of (session_value (N.session s) ((run N (at_first N) es).session s)) f.octets ≡ received.Answered report) }
+{}

@@ -1,0 +1,11 @@
+//! A network of boundary clocks and the sessions that manage them, as a machine in which messages are lost, repeated and
+//! reordered as a list of events says (IEEE 1588-2019, clause 15): its definitions, the invariant that each event keeps, and
+//! what the network promises over every list of events.
+#![tactic(auto)]
+
+mod laws;
+
+pub use laws::{
+    answers_by_octets, clocks_stand, every_schedule, hops_lost, in_the_window,
+    one_request_at_a_time, outbox_of_turns,
+};
