@@ -1,10 +1,12 @@
--- Eight octets are told apart by the number that they spell.
-use Rattle.std.proofs.Common.{◌≡◌, ℕ, ◌==◌, ◌<◌, true, List, length, get_or, sym, ◌∙◌, ap}
+-- Identities: the test of equality, and eight octets told apart by the number that they spell.
+use Rattle.std.proofs.Common.{◌≡◌, ℕ, ◌==◌, ◌<◌, true, List, length, get_or, refl, sym, ◌∙◌, ap}
 use Rattle.std.specs.Int.{from_be_bytes, to_be_bytes, w64}
 use Rattle.std.specs.Str.{bytes_eq}
 use Rattle.std.proofs.lemmas.Bool.Decides.{Decides-eqb, same_from_decides}
 use Rattle.std.proofs.lemmas.Nat.{be_bytes_8}
 use Rattle.std.proofs.lemmas.Slice.Eq.{bytes_eq-Decides}
+use Rattle.ptpm_codec.specs.declared.identity.ClockIdentity.{ClockIdentity}
+use Rattle.ptpm_codec.specs.Identity.{same_clock}
 
 pub octets_by_number : (a b : List ℕ) (m n : ℕ) → length a ≡ 8 → length b ≡ 8 → ((i : ℕ) → get_or a i 0 < 256) → ((i : ℕ) → get_or b i 0 < 256) → m ≡ from_be_bytes w64 a → n ≡ from_be_bytes w64 b → (m == n) ≡ bytes_eq a b
 octets_by_number a b m n la lb sa sb ma nb =
@@ -12,3 +14,9 @@ octets_by_number a b m n la lb sa sb ma nb =
     sym (be_bytes_8 a m la sa ma) ∙ (ap (to_be_bytes w64) ((Decides-eqb m n).0 e) ∙ be_bytes_8 b n lb sb nb) in
     let back : a ≡ b → m == n ≡ true = λ e. (Decides-eqb m n).1 (ma ∙ (ap (from_be_bytes w64) e ∙ sym nb)) in
     same_from_decides {P = a ≡ b} (m == n) (bytes_eq a b) (forth, back) (bytes_eq-Decides a b)
+
+pub same_clock-true : (a b : ClockIdentity) → same_clock a b ≡ true → a ≡ b
+same_clock-true a b h = let octets = (bytes_eq-Decides a.0 b.0).0 h in (λ i. record { 0 = octets i })
+
+pub same_clock-refl : (a : ClockIdentity) → same_clock a a ≡ true
+same_clock-refl a = (bytes_eq-Decides a.0 a.0).1 refl

@@ -19,7 +19,7 @@ use Rattle.ptpm_data.specs.Reply.{Answer, Outcome}
 use Rattle.ptpm_data.specs.Replies.{reply_action}
 use Rattle.ptpm_table.specs.Rendering.{answer_body}
 use Rattle.ptpm_table.proofs.Identities.{same_identity-refl, same_identity-true}
-use Rattle.ptpm_network.proofs.Identities.{same_clock-refl, same_clock-true}
+use Rattle.ptpm_codec.proofs.IdentityLaws.{same_clock-refl, same_clock-true}
 use Rattle.ptpm_agent.proofs.Turns.{message_of-reading, reading-message_of}
 use Rattle.ptpm_manager.specs.declared.receiving.Reason.{Reason}
 use Rattle.ptpm_manager.specs.declared.receiving.Reason.TheVariants as reasons
@@ -197,7 +197,7 @@ takes-by s octets r (Ok v) h a = takes-message s octets v r (reason_of s v) refl
 same_number : (first k n : ℕ) → 0 < k → k ≤ n → n ≤ k + 32768 → number_of first k ≡ number_of first n → k ≡ n
 same_number first k n p le late e = omega arith
 
-not_idle : (start : SessionStart) (s : SessionState) → is_waiting (session_value start s) ≡ true → is_idle s ≡ false
+pub not_idle : (start : SessionStart) (s : SessionState) → is_waiting (session_value start s) ≡ true → is_idle s ≡ false
 not_idle start s h = ⊎_elim
     (λ (y : is_idle s ≡ true). absurd (false≢true (sym (ap is_some (cond-true _ _ _ y)) ∙ h)))
     (λ (n : is_idle s ≡ false). n)

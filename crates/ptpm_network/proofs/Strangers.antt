@@ -17,7 +17,7 @@ use Rattle.ptpm_codec.specs.Spelling.{Spells, SpellsBody}
 use Rattle.ptpm_codec.proofs.PlaceLaws.{number_at-octets, number-take}
 use Rattle.ptpm_codec.proofs.ReadingLaws.{IsOctets, message_of-some, message_of-spells, message_size, octets-take}
 use Rattle.ptpm_table.proofs.Identities.{same_identity-refl}
-use Rattle.ptpm_network.proofs.Identities.{same_clock-refl}
+use Rattle.ptpm_codec.proofs.IdentityLaws.{same_clock-refl}
 use Rattle.ptpm_network.specs.Events.{is_forged, is_taken}
 use Rattle.ptpm_network.specs.Invariant.{IsForeign}
 use Rattle.ptpm_network.specs.Network.{Network, manager}

@@ -15,11 +15,11 @@ use Rattle.ptpm_table.proofs.Identities.{same_identity-true, same_identity-refl}
 use Rattle.ptpm_network.specs.Network as machine
 use Rattle.ptpm_network.specs.Network.{HasEnd, IsClock, IsSession}
 use Rattle.ptpm_network.proofs.Lists.{all_get, all_made, get_within}
-use Rattle.ptpm_world.specs.declared.network.End.{End}
-use Rattle.ptpm_world.specs.declared.network.End.TheVariants as ends
-use Rattle.ptpm_world.specs.declared.network.NetworkSession.{NetworkSession}
-use Rattle.ptpm_world.specs.Described.{AreSized, clock_at, configured, described, described_end, first_sets, no_clock, no_session, session_at, with_rights}
-use Rattle.ptpm_world.specs.NetworkValue.{CanStart, IsAccepted, IsEndOf, IsLinkOf, IsSessionOf, NetworkValue}
+use Rattle.ptpm_script.specs.declared.network.End.{End}
+use Rattle.ptpm_script.specs.declared.network.End.TheVariants as ends
+use Rattle.ptpm_script.specs.declared.network.NetworkSession.{NetworkSession}
+use Rattle.ptpm_world.specs.Described.{clock_at, configured, described, described_end, no_clock, no_session, session_at, with_rights}
+use Rattle.ptpm_script.specs.NetworkValue.{AreSized, CanStart, IsAccepted, IsEndOf, IsLinkOf, IsSessionOf, NetworkValue, first_sets}
 
 -- ---- what stands at a place
 

@@ -1,9 +1,1 @@
-pub mod WordLemmas
-pub mod NumberLemmas
-pub mod EntryLemmas
-pub mod PlaceLemmas
-pub mod RepeatLemmas
-pub mod NetworkLemmas
-pub mod NetworkLaw
 pub mod DescribedLaws
-pub mod SizeLaw

@@ -1,21 +1,18 @@
 -- The network that a file describes, as the network machine has it: clocks and sessions by their places.
 use Rattle.std.specs.Prelude.{ℕ, ◌==◌, List, [], map, length, slice_index_or}
-use Rattle.std.specs.List.{AllByRecursion, filter}
+use Rattle.std.specs.List.{filter}
 use Rattle.ptpm_codec.specs.declared.identity.PortIdentity.{PortIdentity}
 use Rattle.ptpm_codec.specs.Identity.{every_clock}
-use Rattle.ptpm_codec.specs.Message.{PortIdentityFits}
 use Rattle.ptpm_data.specs.declared.rights.Rights.{Rights}
-use Rattle.ptpm_data.specs.Members.{DataSetsValue}
-use Rattle.ptpm_data.specs.RequestLaws.{IsSized}
-use Rattle.ptpm_data.specs.Start.{default_clock, started}
+use Rattle.ptpm_data.specs.Start.{default_clock}
 use Rattle.ptpm_table.specs.Managers.{identities, no_rights, rights_in}
 use Rattle.ptpm_agent.specs.Turn.{Clock}
 use Rattle.ptpm_network.specs.Network as machine
 use Rattle.ptpm_network.specs.Network.{Network, SessionStart}
-use Rattle.ptpm_world.specs.declared.network.End.{End}
-use Rattle.ptpm_world.specs.declared.network.End.TheVariants as ends
-use Rattle.ptpm_world.specs.declared.network.NetworkSession.{NetworkSession}
-use Rattle.ptpm_world.specs.NetworkValue.{ClockValue, NetworkValue}
+use Rattle.ptpm_script.specs.declared.network.End.{End}
+use Rattle.ptpm_script.specs.declared.network.End.TheVariants as ends
+use Rattle.ptpm_script.specs.declared.network.NetworkSession.{NetworkSession}
+use Rattle.ptpm_script.specs.NetworkValue.{ClockValue, NetworkValue, first_sets}
 
 -- ---- what stands at a place; past the last, something that no definition looks at
 
@@ -41,9 +38,6 @@ abbrev pub session_at : NetworkValue → ℕ → NetworkSession
 session_at n s = slice_index_or n.sessions s no_session
 
 -- ---- clocks
-
-abbrev pub first_sets : ClockValue → DataSetsValue
-first_sets c = started c.start c.ports
 
 abbrev pub with_rights : NetworkSession → PortIdentity × Rights
 with_rights s = (s.identity, s.rights)
@@ -92,8 +86,3 @@ described n = record {
   session = λ s. described_session n (session_at n s);
   links = map (map described_end) n.links;
 }
-
--- identities of eight octets, portNumbers of 16 bits, and data sets of their sizes: a value of the program has no others
-pub record AreSized (n : NetworkValue) : Type 0 where
-  pub clocks : AllByRecursion (λ c. IsSized (first_sets c)) n.clocks
-  pub sessions : AllByRecursion (λ s. PortIdentityFits s.identity) n.sessions

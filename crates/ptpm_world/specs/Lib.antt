@@ -1,10 +1,1 @@
-pub mod Words
-pub mod Numbers
-pub mod Document
-pub mod Values
-pub mod EventLine
-pub mod NetworkValue
-pub mod Entries
-pub mod NetworkFile
-pub mod NetworkText
 pub mod Described

@@ -1,32 +1,7 @@
-//! Networks of clocks and sessions as texts (this project's profile): which network a network file describes, which event a
-//! line of a script asks for, and that the network of every file is one that the laws of networks speak of.
+//! Networks that run: that the network of every network file is one that the laws of networks speak of (IEEE 1588-2019, clause
+//! 15; the files are this project's profile).
 #![tactic(auto)]
 
-mod clock_entries;
-mod entries;
-mod event;
-mod event_line;
-mod file;
-mod limits;
-mod link_entries;
-mod names;
-mod net_error;
-mod network;
 mod network_laws;
-mod numbers;
-mod repeats;
-mod session_entries;
-mod shapes;
-mod spellings;
-mod values;
-mod words;
 
-pub use event::{Event, EventError};
-pub use event_line::read_event;
-pub use names::Name;
-pub use net_error::NetError;
-pub use network::{End, Network, NetworkClock, NetworkLink, NetworkSession};
-pub use network_laws::{accepted_networks, described_networks};
-
-#[cfg(test)]
-mod tests;
+pub use network_laws::described_networks;

@@ -1,6 +1,6 @@
 use Rattle.ptpm_world.proofs.DescribedLaws.{described-network}
-use Rattle.ptpm_world.proofs.NetworkLaw.{accepted}
-use Rattle.ptpm_world.proofs.SizeLaw.{sized}
+use Rattle.ptpm_script.proofs.NetworkLaw.{accepted}
+use Rattle.ptpm_script.proofs.SizeLaw.{sized}
 use Rattle.ptpm_world.proofs.network_laws.described_networks.Goals as goal
 
 pub returns : goal.returns

@@ -1,0 +1,103 @@
+-- What a line of a script does (this project's profile), by its words. A line that is no event is refused with the first
+-- that holds of: an unknown verb or action, a wrong number of words, and then a bad number, id, or hexadecimal digits.
+use Rattle.std.specs.Prelude.{ℕ, if◌then◌else◌, List, [], ◌∷◌, codes, bytes_eq, Option, Some, None, option_map, Result, Ok, Err, ◌≡◌, ◌⊎◌, drop}
+use Rattle.std.specs.Option.{option_or}
+use Rattle.std.specs.Result.{result_ok}
+use Rattle.hex.specs.Hex.{decode_of}
+use Rattle.ptpm_codec.specs.declared.message.Action.{Action}
+use Rattle.ptpm_codec.specs.declared.message.Action.TheVariants as actions
+use Rattle.ptpm_data.specs.IdTable.{row_named}
+use Rattle.ptpm_script.specs.declared.event.Event.{Event}
+use Rattle.ptpm_script.specs.declared.event.Event.TheVariants.{Begin, Send, Resume, Retune, Deliver, Stranger}
+use Rattle.ptpm_script.specs.declared.event.EventError.{EventError}
+use Rattle.ptpm_script.specs.declared.event.EventError.TheVariants.{UnknownWord, WordCount, BadNumber, BadId, BadHex, OutOfMemory}
+use Rattle.ptpm_script.specs.Numbers.{decimal_up_to, four_digits}
+use Rattle.ptpm_script.specs.Words.{words, one_word, two_words, three_words, first_words}
+
+-- ---- single words
+
+-- no value is meant
+abbrev pub dash : List ℕ
+dash = codes "-"
+
+abbrev pub action_named : List ℕ → Option Action
+action_named word =
+    if bytes_eq word (codes "get") then Some actions.Get
+    else if bytes_eq word (codes "set") then Some actions.Set
+    else if bytes_eq word (codes "command") then Some actions.Command
+    else None
+
+-- a name of the table, or four hexadecimal digits
+unfoldable pub management_id : List ℕ → Option ℕ
+management_id word = option_or (option_map (λ e. e.id) (row_named word)) (four_digits word)
+
+-- a port, where one is named
+unfoldable pub port_named : List ℕ → Option (Option ℕ)
+port_named word = if bytes_eq word dash then Some None else option_map (λ port. Some port) (decimal_up_to 65535 word)
+
+-- two hexadecimal digits for each octet
+unfoldable pub octets_of : List ℕ → Option (List ℕ)
+octets_of word = if bytes_eq word dash then Some [] else result_ok (decode_of word)
+
+-- ---- lines, without their verb
+
+-- what is made of a value, if it is there
+abbrev pub given : {A : Type 0} → Option A → EventError → (A → Result Event EventError) → Result Event EventError
+given None e make = Err e
+given (Some a) e make = make a
+
+-- session
+abbrev pub send_of : List (List ℕ) → Result Event EventError
+send_of ws = given (one_word ws) WordCount (λ session. Ok (Send session))
+
+-- session, attempts
+abbrev pub resume_of : List (List ℕ) → Result Event EventError
+resume_of ws = given (two_words ws) WordCount (λ w. given (decimal_up_to 255 w.1) BadNumber (λ n. Ok (Resume w.0 n)))
+
+-- session, domain
+abbrev pub retune_of : List (List ℕ) → Result Event EventError
+retune_of ws = given (two_words ws) WordCount (λ w. given (decimal_up_to 255 w.1) BadNumber (λ n. Ok (Retune w.0 n)))
+
+-- frame; a network holds 400,000 at most
+abbrev pub deliver_of : List (List ℕ) → Result Event EventError
+deliver_of ws = given (one_word ws) WordCount (λ w. given (decimal_up_to 400000 w) BadNumber (λ n. Ok (Deliver n)))
+
+-- clock, port, octets
+abbrev pub stranger_of : List (List ℕ) → Result Event EventError
+stranger_of ws = given (three_words ws) WordCount (λ w.
+    given (decimal_up_to 65535 w.1) BadNumber (λ port.
+    given (octets_of w.2) BadHex (λ octets.
+    Ok (Stranger w.0 port octets))))
+
+-- id, port, octets
+abbrev pub ask_of : List ℕ → Action → List (List ℕ) → Result Event EventError
+ask_of session action ws = given (three_words ws) WordCount (λ w.
+    given (port_named w.1) BadNumber (λ port.
+    given (management_id w.0) BadId (λ id.
+    given (octets_of w.2) BadHex (λ octets.
+    Ok (Begin session (record { action = action; id = id; port = port; octets = octets }))))))
+
+-- session, action, and what is asked; an unknown action is judged only where there is one
+abbrev pub begin_of : List (List ℕ) → Result Event EventError
+begin_of ws = given (first_words ws) WordCount (λ w. given (action_named w.1) UnknownWord (λ action. ask_of w.0 action (drop 2 ws)))
+
+-- ---- lines
+
+abbrev pub event_of : List (List ℕ) → Result Event EventError
+event_of [] = Err UnknownWord
+event_of (verb ∷ more) =
+    if bytes_eq verb (codes "begin") then begin_of more
+    else if bytes_eq verb (codes "send") then send_of more
+    else if bytes_eq verb (codes "resume") then resume_of more
+    else if bytes_eq verb (codes "retune") then retune_of more
+    else if bytes_eq verb (codes "deliver") then deliver_of more
+    else if bytes_eq verb (codes "stranger") then stranger_of more
+    else Err UnknownWord
+
+abbrev pub reading : List ℕ → Result Event EventError
+reading line = event_of (words line)
+
+-- an answer is this one, or memory was refused
+abbrev pub IsAnswer : Result Event EventError → Result Event EventError → Type 0
+IsAnswer (Ok e) wanted = wanted ≡ Ok e
+IsAnswer (Err e) wanted = (e ≡ OutOfMemory) ⊎ (wanted ≡ Err e)

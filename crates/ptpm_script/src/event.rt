@@ -1,0 +1,57 @@
+//! What can happen in a network.
+
+use crate::names::Name;
+use ptpm_codec::{Octets, OutOfMemory};
+use ptpm_manager::Ask;
+use thiserror::Error;
+
+/// One thing that happens in a network.
+#[derive(Debug, Drop)]
+pub enum Event {
+    /// A session begins a request.
+    Begin(Name, Ask),
+    /// A session sends its request, for the first time or again.
+    Send(Name),
+    /// A session is given so many further attempts.
+    Resume(Name, u8),
+    /// A session sends and hears in this domain from now on.
+    Retune(Name, u8),
+    /// A frame, by its number from 1, reaches its end, for the first time or again.
+    Deliver(u32),
+    /// Octets of someone whom the network file does not name reach a clock at a port.
+    Stranger(Name, u16, Octets),
+}
+
+/// Why a line is no event, in the order in which the reasons are judged.
+#[derive(Clone, Copy, Debug, PartialEq, Eq, Error)]
+pub enum EventError {
+    /// The first word is no verb, or the action of `begin` is none.
+    #[error("UnknownWord")]
+    UnknownWord,
+    /// The verb takes fewer words, or more.
+    #[error("WordCount")]
+    WordCount,
+    /// A number is not decimal digits, at most ten, or is over its limit.
+    #[error("BadNumber")]
+    BadNumber,
+    /// A management id is neither a name of the table nor four hexadecimal digits.
+    #[error("BadId")]
+    BadId,
+    /// Octets are not an even number of hexadecimal digits.
+    #[error("BadHex")]
+    BadHex,
+    /// Memory was refused.
+    #[error("OutOfMemory")]
+    OutOfMemory,
+}
+
+impl From<OutOfMemory> for EventError {
+    ghost use Rattle.std.specs.Prelude.{◌≡◌};
+    ghost use Rattle.ptpm_script.specs.declared.event.EventError.TheVariants as errors;
+
+    ghost from_gives = { λ _ e. e ≡ errors.OutOfMemory };
+
+    fn from(_refused: OutOfMemory) -> EventError {
+        EventError::OutOfMemory
+    }
+}

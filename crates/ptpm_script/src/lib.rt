@@ -1,0 +1,32 @@
+//! Networks of clocks and sessions, and what happens in them, as texts (this project's profile): which network a network file
+//! describes, and which event a line of a script asks for.
+#![tactic(auto)]
+
+mod clock_entries;
+mod entries;
+mod event;
+mod event_line;
+mod file;
+mod limits;
+mod link_entries;
+mod names;
+mod net_error;
+mod network;
+mod network_laws;
+mod numbers;
+mod repeats;
+mod session_entries;
+mod shapes;
+mod spellings;
+mod values;
+mod words;
+
+pub use event::{Event, EventError};
+pub use event_line::read_event;
+pub use names::Name;
+pub use net_error::NetError;
+pub use network::{End, Network, NetworkClock, NetworkLink, NetworkSession};
+pub use network_laws::accepted_networks;
+
+#[cfg(test)]
+mod tests;

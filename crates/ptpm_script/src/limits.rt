@@ -1,0 +1,72 @@
+//! How much a network may have (this project's profile).
+
+ghost use Rattle.std.specs.Prelude.{◌≡◌, nat_lt};
+ghost use Rattle.std.specs.List.{list_any};
+ghost use Rattle.ptpm_script.specs.NetworkText.{has_bad_size, has_too_many, managers_of};
+
+use crate::file::NetworkFile;
+use crate::link_entries::LinkEntry;
+use crate::session_entries::SessionEntry;
+
+/// The octets of a network file.
+pub(crate) const TEXT_OCTETS: usize = 262_144;
+
+const CLOCKS: usize = 64;
+
+const SESSIONS: usize = 256;
+
+const LINKS: usize = 256;
+/// The sessions whose target is one clock.
+const MANAGERS: usize = 16;
+
+const LEAST_ENDS: usize = 2;
+
+const MOST_ENDS: usize = 16;
+
+/// Whether a limit is passed.
+#[tactic(auto, unfolding(crate::specs::NetworkText::has_too_many))]
+pub(crate) fn has_too_many(file: &NetworkFile) -> bool
+    ensures { result ≡ has_too_many file.now }
+{
+    file.clocks.len() > CLOCKS
+        || file.sessions.len() > SESSIONS
+        || file.links.len() > LINKS
+        || has_bad_link(file.links.as_slice())
+        || has_crowded_target(file.sessions.as_slice())
+}
+
+fn has_bad_link(links: &[LinkEntry]) -> bool
+    ensures { result ≡ list_any has_bad_size links.now }
+{
+    for link in links {
+        if link.ends.len() < LEAST_ENDS || MOST_ENDS < link.ends.len() {
+            return true;
+        }
+    }
+    false
+}
+
+fn has_crowded_target(sessions: &[SessionEntry]) -> bool
+    ensures { result ≡ list_any (λ s. nat_lt 16 (managers_of s.target sessions.now)) sessions.now }
+{
+    for session in sessions {
+        if managers_of(session.target.as_str(), sessions) > MANAGERS {
+            return true;
+        }
+    }
+    false
+}
+
+/// How many sessions have this target.
+#[tactic(auto, unfolding(crate::specs::NetworkText::managers_of))]
+fn managers_of(target: &str, sessions: &[SessionEntry]) -> usize
+    ensures { result ≡ managers_of target.now sessions.now }
+{
+    let mut count = 0;
+    for session in sessions {
+        if session.target.as_str() == target {
+            count += 1;
+        }
+    }
+    count
+}

@@ -1,0 +1,13 @@
+//! What holds of the network of every text that is one: the contract of a function that does nothing, and speaks of the
+//! definitions alone.
+
+ghost use Rattle.std.specs.Prelude.{◌≡◌, ℕ, List, Ok};
+ghost use Rattle.ptpm_script.specs.NetworkText.{network_of};
+ghost use Rattle.ptpm_script.specs.NetworkValue.{IsAccepted, NetworkValue};
+
+/// A network that a text is keeps its limits. Each clock can start, with 1 to 8 ports and an identity that is not all ones.
+/// No two clocks and no two sessions have one name or one identity, no session has a clock's name or clockIdentity, and each
+/// has a target that is there. The ends of links are there, and no end stands twice.
+pub fn accepted_networks()
+    ensures { (text : List ℕ) (n : NetworkValue) → network_of text ≡ Ok n → IsAccepted n }
+{}

@@ -1,0 +1,80 @@
+//! Numbers as scripts and network files write them.
+
+ghost use Rattle.std.specs.Prelude.{◌≡◌, ◌<◌, ◌^◌};
+ghost use Rattle.std.specs.Str.{all_ascii_digits};
+ghost use Rattle.ptpm_script.specs.Numbers.{decimal, decimal_up_to, four_digits};
+
+/// Whether each octet is a decimal digit.
+fn is_digits(text: &str) -> bool
+    ensures { result ≡ all_ascii_digits text.now }
+{
+    for octet in text.as_bytes() {
+        if !matches!(octet, b'0'..=b'9') {
+            return false;
+        }
+    }
+    true
+}
+
+/// The number that decimal digits write, at least one and at most ten.
+#[tactic(auto, unfolding(crate::specs::Numbers::decimal))]
+fn decimal(text: &str) -> Option<u64>
+    ensures { result ≡ decimal text.now }
+{
+    if text.is_empty() || text.len() > 10 || !is_digits(text) {
+        return None;
+    }
+    text.parse::<u64>().ok()
+}
+
+/// The same, where the number is at most so much.
+fn decimal_up_to(most: u64, text: &str) -> Option<u64>
+    ensures { result ≡ decimal_up_to most text.now }
+{
+    match decimal(text) {
+        Some(number) if number <= most => Some(number),
+        _ => None,
+    }
+}
+
+/// A decimal number of one octet.
+pub(crate) fn decimal_u8(text: &str) -> Option<u8>
+    ensures { result ≡ decimal_up_to 255 text.now }
+{
+    match decimal_up_to(0xff, text) {
+        Some(number) => Some(number as u8),
+        None => None,
+    }
+}
+
+/// A decimal number of two octets.
+pub(crate) fn decimal_u16(text: &str) -> Option<u16>
+    ensures { result ≡ decimal_up_to 65535 text.now }
+{
+    match decimal_up_to(0xffff, text) {
+        Some(number) => Some(number as u16),
+        None => None,
+    }
+}
+
+/// The number of a frame, of which a network holds 400,000 at most.
+pub(crate) fn frame_number(text: &str) -> Option<u32>
+    ensures { result ≡ decimal_up_to 400000 text.now }
+{
+    match decimal_up_to(400_000, text) {
+        Some(number) => Some(number as u32),
+        None => None,
+    }
+}
+
+/// The number that four hexadecimal digits write.
+#[tactic(auto, unfolding(crate::specs::Numbers::four_digits))]
+pub(crate) fn four_digits(text: &str) -> Option<u16>
+    ensures { result ≡ four_digits text.now }
+{
+    let mut octets = [0, 0];
+    match hex::decode_to_slice(text, &mut octets) {
+        Ok(()) => Some(octets[0] as u16 * 256 + octets[1] as u16),
+        Err(_) => None,
+    }
+}

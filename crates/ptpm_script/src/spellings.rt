@@ -1,0 +1,48 @@
+//! Identities and ends as a network file writes them (this project's profile).
+
+ghost use Rattle.std.specs.Prelude.{◌≡◌, option_map};
+ghost use Rattle.ptpm_script.specs.Document.{clock_identity, end_of, port_identity};
+
+use crate::names::is_name;
+use crate::numbers::decimal_u16;
+use ptpm_codec::{ClockIdentity, PortIdentity};
+
+/// A clockIdentity of sixteen hexadecimal digits, not all ones.
+#[tactic(auto, unfolding(crate::specs::Document::clock_identity))]
+pub(crate) fn clock_identity(text: &str) -> Option<ClockIdentity>
+    ensures { result ≡ clock_identity text.now }
+{
+    let mut octets = [0; 8];
+    match hex::decode_to_slice(text, &mut octets) {
+        Ok(()) if ClockIdentity(octets) != ClockIdentity::EVERY => Some(ClockIdentity(octets)),
+        _ => None,
+    }
+}
+
+/// A clockIdentity, a slash and a decimal port.
+#[tactic(auto, unfolding(crate::specs::Document::port_identity))]
+pub(crate) fn port_identity(text: &str) -> Option<PortIdentity>
+    ensures { result ≡ port_identity text.now }
+{
+    let (clock, port) = text.split_once('/')?;
+    Some(PortIdentity {
+        clock: clock_identity(clock)?,
+        port: decimal_u16(port)?,
+    })
+}
+
+/// An end of a link: a session's name, or a clock's, a dot and a decimal port.
+#[tactic(auto, unfolding(crate::specs::Document::end_of))]
+pub(crate) fn end_spelling(text: &str) -> Option<(&str, Option<u16>)>
+    ensures { option_map (λ e. (e.0.now, e.1)) result ≡ end_of text.now }
+{
+    let (name, port) = match text.split_once('.') {
+        Some((name, port)) => (name, Some(decimal_u16(port)?)),
+        None => (text, None),
+    };
+    if is_name(name) {
+        Some((name, port))
+    } else {
+        None
+    }
+}

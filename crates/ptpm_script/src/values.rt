@@ -1,0 +1,203 @@
+//! The values at the keys of a table that keeps to its rules: where one is of another kind, there is none.
+
+ghost use Rattle.std.specs.Prelude.{◌≡◌, IfOk, option_map, option_and_then, unwrap_or, [], take, length, ◌≤◌};
+ghost use Rattle.toml.specs.Data.{as_str, as_bool, as_integer, get_member};
+ghost use Rattle.toml.specs.View.{view, table_view};
+ghost use Rattle.ptpm_script.specs.Values.{clock_at, description_at, integer_at, natural_at, port_at, signed_at, text_at, flag_at};
+
+use crate::names::Name;
+use crate::spellings::{clock_identity, port_identity};
+use arrayvec::ArrayVec;
+use ptpm_codec::{ClockIdentity, OutOfMemory, PortIdentity};
+use std::alloc::Global;
+use toml::{Table, Value};
+
+/// The value at a key.
+pub(crate) fn value_at<'a>(table: &'a Table, key: &str) -> Option<&'a Value>
+    ensures { option_map (λ v. view v.now) result ≡ get_member key.now (table_view table.now) }
+{
+    table.get(key)
+}
+
+pub(crate) fn text_at<'a>(table: &'a Table, key: &str) -> Option<&'a str>
+    ensures { option_map (λ s. s.now) result ≡ text_at key.now (table_view table.now) }
+{
+    match value_at(table, key) {
+        Some(value) => value.as_str(),
+        None => None,
+    }
+}
+
+pub(crate) fn flag_at(table: &Table, key: &str) -> Option<bool>
+    ensures { result ≡ flag_at key.now (table_view table.now) }
+{
+    match value_at(table, key) {
+        Some(value) => value.as_bool(),
+        None => None,
+    }
+}
+
+pub(crate) fn i64_at(table: &Table, key: &str) -> Option<i64>
+    ensures { result ≡ integer_at key.now (table_view table.now) }
+{
+    match value_at(table, key) {
+        Some(value) => value.as_integer(),
+        None => None,
+    }
+}
+
+#[tactic(auto, unfolding(crate::specs::Values::natural_at))]
+pub(crate) fn u8_at(table: &Table, key: &str) -> Option<u8>
+    ensures { result ≡ natural_at 255 key.now (table_view table.now) }
+{
+    match i64_at(table, key) {
+        Some(number) if 0 <= number && number <= 0xff => Some(number as u8),
+        _ => None,
+    }
+}
+
+#[tactic(auto, unfolding(crate::specs::Values::natural_at))]
+pub(crate) fn u16_at(table: &Table, key: &str) -> Option<u16>
+    ensures { result ≡ natural_at 65535 key.now (table_view table.now) }
+{
+    match i64_at(table, key) {
+        Some(number) if 0 <= number && number <= 0xffff => Some(number as u16),
+        _ => None,
+    }
+}
+
+#[tactic(auto, unfolding(crate::specs::Values::signed_at))]
+pub(crate) fn i8_at(table: &Table, key: &str) -> Option<i8>
+    ensures { result ≡ signed_at 128 key.now (table_view table.now) }
+{
+    match i64_at(table, key) {
+        Some(number) if -0x80 <= number && number <= 0x7f => Some(number as i8),
+        _ => None,
+    }
+}
+
+#[tactic(auto, unfolding(crate::specs::Values::signed_at))]
+pub(crate) fn i16_at(table: &Table, key: &str) -> Option<i16>
+    ensures { result ≡ signed_at 32768 key.now (table_view table.now) }
+{
+    match i64_at(table, key) {
+        Some(number) if -0x8000 <= number && number <= 0x7fff => Some(number as i16),
+        _ => None,
+    }
+}
+
+#[tactic(auto, unfolding(crate::specs::Values::signed_at))]
+pub(crate) fn i32_at(table: &Table, key: &str) -> Option<i32>
+    ensures { result ≡ signed_at 2147483648 key.now (table_view table.now) }
+{
+    match i64_at(table, key) {
+        Some(number) if -0x8000_0000 <= number && number <= 0x7fff_ffff => Some(number as i32),
+        _ => None,
+    }
+}
+
+pub(crate) fn flag_or(table: &Table, key: &str, default: bool) -> bool
+    ensures { result ≡ unwrap_or (flag_at key.now (table_view table.now)) default }
+{
+    match flag_at(table, key) {
+        Some(value) => value,
+        None => default,
+    }
+}
+
+pub(crate) fn u8_or(table: &Table, key: &str, default: u8) -> u8
+    ensures { result ≡ unwrap_or (natural_at 255 key.now (table_view table.now)) default }
+{
+    match u8_at(table, key) {
+        Some(value) => value,
+        None => default,
+    }
+}
+
+pub(crate) fn u16_or(table: &Table, key: &str, default: u16) -> u16
+    ensures { result ≡ unwrap_or (natural_at 65535 key.now (table_view table.now)) default }
+{
+    match u16_at(table, key) {
+        Some(value) => value,
+        None => default,
+    }
+}
+
+pub(crate) fn i8_or(table: &Table, key: &str, default: i8) -> i8
+    ensures { result ≡ unwrap_or (signed_at 128 key.now (table_view table.now)) default }
+{
+    match i8_at(table, key) {
+        Some(value) => value,
+        None => default,
+    }
+}
+
+pub(crate) fn i16_or(table: &Table, key: &str, default: i16) -> i16
+    ensures { result ≡ unwrap_or (signed_at 32768 key.now (table_view table.now)) default }
+{
+    match i16_at(table, key) {
+        Some(value) => value,
+        None => default,
+    }
+}
+
+pub(crate) fn i32_or(table: &Table, key: &str, default: i32) -> i32
+    ensures { result ≡ unwrap_or (signed_at 2147483648 key.now (table_view table.now)) default }
+{
+    match i32_at(table, key) {
+        Some(value) => value,
+        None => default,
+    }
+}
+
+pub(crate) fn i64_or(table: &Table, key: &str, default: i64) -> i64
+    ensures { result ≡ unwrap_or (integer_at key.now (table_view table.now)) default }
+{
+    match i64_at(table, key) {
+        Some(value) => value,
+        None => default,
+    }
+}
+
+pub(crate) fn clock_at(table: &Table, key: &str) -> Option<ClockIdentity>
+    ensures { result ≡ clock_at key.now (table_view table.now) }
+{
+    clock_identity(text_at(table, key)?)
+}
+
+pub(crate) fn port_at(table: &Table, key: &str) -> Option<PortIdentity>
+    ensures { result ≡ port_at key.now (table_view table.now) }
+{
+    port_identity(text_at(table, key)?)
+}
+
+/// A text as a name.
+pub(crate) fn name_at(alloc: Global, table: &Table, key: &str) -> Result<Name, OutOfMemory>
+    ensures { IfOk result (λ n. n ≡ unwrap_or (text_at key.now (table_view table.now)) []) }
+{
+    Name::copy_of(alloc, text_at(table, key).unwrap_or(""))
+}
+
+/// The first octets of a text, at most so many.
+fn first_octets(octets: &[u8], most: usize) -> &[u8]
+    ensures front { result.now ≡ take most octets.now }
+    ensures few { length result.now ≤ most }
+{
+    if octets.len() <= most {
+        octets
+    } else {
+        &octets[..most]
+    }
+}
+
+/// The first 129 octets of a text: one more than a userDescription may have, so that a text too long is refused.
+#[tactic(auto, unfolding(crate::specs::Values::description_at))]
+pub(crate) fn description_at(table: &Table, key: &str) -> ArrayVec<u8, 129>
+    ensures { result.items ≡ description_at key.now (table_view table.now) }
+{
+    let mut description = ArrayVec::new();
+    if let Some(text) = text_at(table, key) {
+        let _ = description.try_extend_from_slice(first_octets(text.as_bytes(), 129));
+    }
+    description
+}

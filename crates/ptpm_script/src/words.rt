@@ -1,0 +1,61 @@
+//! The words of a line.
+
+ghost use Rattle.std.specs.Prelude.{◌≡◌, ◌∷◌, [], None, Some, MatchOption, option_map, drop};
+ghost use Rattle.ptpm_script.specs.Words.{words, one_word, two_words, three_words, first_words};
+
+/// The first word of a text and what follows it; `None` where it has no words.
+pub(crate) fn split_word<'a>(text: &'a str) -> Option<(&'a str, &'a str)>
+    ensures { MatchOption result (words text.now ≡ []) (λ r. words text.now ≡ r.0.now ∷ words r.1.now) }
+{
+    let mut rest = text;
+    while let Some((piece, after)) = rest.split_once(' ') {
+        if !piece.is_empty() {
+            return Some((piece, after));
+        }
+        rest = after;
+    }
+    if rest.is_empty() {
+        None
+    } else {
+        Some((rest, ""))
+    }
+}
+
+/// The word of a text that has one and no more.
+pub(crate) fn one_word(text: &str) -> Option<&str>
+    ensures { option_map (λ a. a.now) result ≡ one_word (words text.now) }
+{
+    let (first, rest) = split_word(text)?;
+    match split_word(rest) {
+        None => Some(first),
+        Some(_) => None,
+    }
+}
+
+/// The words of a text that has two and no more.
+pub(crate) fn two_words(text: &str) -> Option<(&str, &str)>
+    ensures { option_map (λ w. (w.0.now, w.1.now)) result ≡ two_words (words text.now) }
+{
+    let (first, rest) = split_word(text)?;
+    let second = one_word(rest)?;
+    Some((first, second))
+}
+
+/// The words of a text that has three and no more.
+pub(crate) fn three_words(text: &str) -> Option<(&str, &str, &str)>
+    ensures { option_map (λ w. (w.0.now, w.1.now, w.2.now)) result ≡ three_words (words text.now) }
+{
+    let (first, rest) = split_word(text)?;
+    let (second, third) = two_words(rest)?;
+    Some((first, second, third))
+}
+
+/// The first two words of a text that has two or more, and what follows them.
+pub(crate) fn split_two_words(text: &str) -> Option<(&str, &str, &str)>
+    ensures words { option_map (λ w. (w.0.now, w.1.now)) result ≡ first_words (words text.now) }
+    ensures rest { MatchOption result (first_words (words text.now) ≡ None) (λ w. words w.2.now ≡ drop 2 (words text.now)) }
+{
+    let (first, rest) = split_word(text)?;
+    let (second, rest) = split_word(rest)?;
+    Some((first, second, rest))
+}
