@@ -1,5 +1,4 @@
 pub mod Schedules
-pub mod Identities
 pub mod Lists
 pub mod Requests
 pub mod Accepting
@@ -17,3 +16,8 @@ pub mod InTime
 pub mod Receiving
 pub mod Turning
 pub mod Standing
+pub mod Held
+pub mod Refusing
+pub mod Hearing
+pub mod Taking
+pub mod Running

@@ -1,6 +1,6 @@
 -- What holds of each element of a list, and functions of places that change at one.
-use Rattle.std.proofs.Common.{suc, zero, ◌≡◌, ℕ, ◌<◌, ◌==◌, List, [], ◌∷◌, ◌++◌, Some, true, false, subst, length, arith}
-use Rattle.std.proofs.lemmas.Bool.{cond-true, cond-false}
+use Rattle.std.proofs.Common.{suc, zero, ◌≡◌, ℕ, ◌<◌, ◌==◌, List, [], ◌∷◌, ◌++◌, Some, true, false, refl, sym, subst, ⊎_elim, length, arith}
+use Rattle.std.proofs.lemmas.Bool.{cases_Bool, cond-true, cond-false, eqb-true}
 use Rattle.std.specs.Prelude.{slice_get, flat_map, map}
 use Rattle.std.specs.List.{AllByRecursion}
 use Rattle.ptpm_network.specs.Machine.{with_place}
@@ -39,6 +39,10 @@ get_appended P [] y (suc i) x new old e = absurd (cc)
 get_appended P (z ∷ xs) y zero x new old e = old x e
 get_appended P (z ∷ xs) y (suc i) x new old e = get_appended P xs y i x new old e
 
+pub get_last : {X : Type 0} (xs : List X) (x : X) → slice_get (xs ++ x ∷ []) (length xs) ≡ Some x
+get_last [] x = refl
+get_last (y ∷ xs) x = get_last xs x
+
 pub get_within : {X : Type 0} (xs : List X) (i : ℕ) (x : X) → slice_get xs i ≡ Some x → i < length xs
 get_within [] i x e = absurd (cc)
 get_within (y ∷ xs) zero x e = omega arith
@@ -49,3 +53,20 @@ with_place-same f i v j y = cond-true _ _ _ y
 
 pub with_place-other : {A : Type 0} (f : ℕ → A) (i : ℕ) (v : A) (j : ℕ) → j == i ≡ false → with_place f i v j ≡ f j
 with_place-other f i v j n = cond-false _ _ _ n
+
+-- what holds where one place has another value
+pub at_place : {B : Type 0} (P : ℕ → B → Type 0) (g : ℕ → B) (i : ℕ) (b : B) (j : ℕ) → P i b → P j (g j) → P j (with_place g i b j)
+at_place P g i b j new old = ⊎_elim
+    (λ (y : j == i ≡ true). subst (P j) (sym (with_place-same g i b j y)) (subst (λ k. P k b) (sym (eqb-true j i y)) new))
+    (λ (n : j == i ≡ false). subst (P j) (sym (with_place-other g i b j n)) old)
+    (cases_Bool (j == i))
+
+pub at_places : {A B : Type 0} (P : ℕ → A → B → Type 0) (f : ℕ → A) (g : ℕ → B) (i : ℕ) (a : A) (b : B) (j : ℕ) → P i a b → P j (f j) (g j) → P j (with_place f i a j) (with_place g i b j)
+at_places P f g i a b j new old = ⊎_elim
+    (λ (y : j == i ≡ true).
+    subst (λ x. P j x (with_place g i b j)) (sym (with_place-same f i a j y))
+    (subst (P j a) (sym (with_place-same g i b j y)) (subst (λ k. P k a b) (sym (eqb-true j i y)) new)))
+    (λ (n : j == i ≡ false).
+    subst (λ x. P j x (with_place g i b j)) (sym (with_place-other f i a j n))
+    (subst (P j (f j)) (sym (with_place-other g i b j n)) old))
+    (cases_Bool (j == i))

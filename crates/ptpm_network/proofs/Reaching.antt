@@ -108,10 +108,10 @@ delivered-reached N w k (Some f) n r e =
 
 -- ---- any event
 
-session-exists : (N : Network) (s : ℕ) → no_session N s ≡ None → s < N.sessions
+pub session-exists : (N : Network) (s : ℕ) → no_session N s ≡ None → s < N.sessions
 session-exists N s e = ltb-true s N.sessions (not-false _ (first_of-none (not (nat_lt s N.sessions)) NoSuchName [] e).0)
 
-port-exists : (N : Network) (c port : ℕ) → no_port N c port ≡ None → HasEnd N (AtPort c port)
+pub port-exists : (N : Network) (c port : ℕ) → no_port N c port ≡ None → HasEnd N (AtPort c port)
 port-exists N c port e =
     let outer = and_parts (nat_lt c N.clocks) (has_port port (N.start c)) (not-false _ (first_of-none (not (nat_lt c N.clocks && has_port port (N.start c))) NoSuchName [] e).0) in
     let inner = and_parts (nat_le 1 port) (nat_le port (ports N c)) outer.1 in

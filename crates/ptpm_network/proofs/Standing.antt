@@ -46,7 +46,7 @@ clock-stands N first r w c port f at place time d there = ⊎_elim
     (subst (StandsAt first (r.clock d)) (sym (history-elsewhere N w c (delivery port f) d n)) (at.clocks d there)))
     (cases_Bool (d == c))
 
-stands-turned : (N : Network) (first : PortIdentity → ℕ) (r : Running) (w : NetworkState) (c port : ℕ) (f : Frame) → Stands N first r w → c < N.clocks → ((k : RequestCopy) → copy_of (N.clock c) (history N w c).sets (delivery port f) ≡ Some k → IsInTime first (history N w c) k)
+pub stands-turned : (N : Network) (first : PortIdentity → ℕ) (r : Running) (w : NetworkState) (c port : ℕ) (f : Frame) → Stands N first r w → c < N.clocks → ((k : RequestCopy) → copy_of (N.clock c) (history N w c).sets (delivery port f) ≡ Some k → IsInTime first (history N w c) k)
     → Stands N first (after_turn N r c port f) (delivered_at_clock N w c port f)
 stands-turned N first r w c port f at place time = record {
   clocks = clock-stands N first r w c port f at place time;

@@ -5,3 +5,4 @@ pub mod Events
 pub mod Machine
 pub mod Invariant
 pub mod Stands
+pub mod Happening

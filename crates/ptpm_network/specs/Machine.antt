@@ -1,6 +1,6 @@
 -- The network machine: what each event does to its state. It tells requests apart by their sessions and indexes, and reads no
 -- sequenceId.
-use Rattle.std.specs.Prelude.{◌≡◌, ℕ, ◌+◌, ◌-◌, ◌==◌, ◌&&◌, not, Bool, false, List, [], ◌∷◌, ◌++◌, length, flat_map, Option, Some, None, if◌then◌else◌}
+use Rattle.std.specs.Prelude.{◌≡◌, ℕ, ◌+◌, ◌-◌, ◌==◌, ◌&&◌, not, Bool, false, List, [], ◌∷◌, ◌++◌, length, flat_map, Option, Some, None, is_none, if◌then◌else◌}
 use Rattle.ptpm_codec.specs.declared.message.Message.{Message}
 use Rattle.ptpm_codec.specs.Canonical.{canonical}
 use Rattle.ptpm_codec.specs.Layout.{boundary_hops}
@@ -171,6 +171,11 @@ step N w e = step_by (refusal N w e) N w e
 abbrev pub run : Network → NetworkState → List Event → NetworkState
 run N w [] = w
 run N w (e ∷ es) = run N (step N w e) es
+
+-- the events of a schedule up to the first that is refused
+abbrev pub taken : Network → NetworkState → List Event → List Event
+taken N w [] = []
+taken N w (e ∷ es) = if is_none (refusal N w e) then e ∷ taken N (step N w e) es else []
 
 -- ---- lateness
 

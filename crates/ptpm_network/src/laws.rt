@@ -1,7 +1,7 @@
 //! What the network promises over every list of events. Each law is the contract of a function that does nothing, and
 //! speaks of the definitions alone.
 
-ghost use Rattle.std.specs.Prelude.{◌≡◌, ◌↔◌, ◌+◌, ◌<◌, ◌≤◌, ℕ, false, length, List, None, Some};
+ghost use Rattle.std.specs.Prelude.{◌≡◌, ◌↔◌, ◌+◌, ◌++◌, ◌∷◌, ◌<◌, ◌≤◌, ℕ, false, length, List, None, Some};
 ghost use Rattle.std.specs.List.{AllByRecursion};
 ghost use Rattle.ptpm_codec.specs.declared.identity.PortIdentity.{PortIdentity};
 ghost use Rattle.ptpm_codec.specs.Layout.{boundary_hops};
@@ -13,12 +13,13 @@ ghost use Rattle.ptpm_agent.specs.Window.{IsInTime, KeepsWindow};
 ghost use Rattle.ptpm_manager.specs.declared.receiving.Received.TheVariants as received;
 ghost use Rattle.ptpm_manager.specs.declared.report.Report.{Report};
 ghost use Rattle.ptpm_manager.specs.Receiving.{received_of};
-ghost use Rattle.ptpm_network.specs.Events.{Event, IsInRange, frame_at};
+ghost use Rattle.ptpm_network.specs.Events.{Event, IsInRange, frame_at, refusal};
+ghost use Rattle.ptpm_network.specs.Happening.{happened, ran, refused};
 ghost use Rattle.ptpm_network.specs.Invariant.{IsReached};
-ghost use Rattle.ptpm_network.specs.Machine.{AreInTime, answer_messages, delivered_at_clock, delivery, report_from, run};
+ghost use Rattle.ptpm_network.specs.Machine.{AreInTime, answer_messages, delivered_at_clock, delivery, happens, is_late_delivery, report_from, run, taken};
 ghost use Rattle.ptpm_network.specs.Network.{AtPort, AtSession, IsNetwork, Network, manager};
 ghost use Rattle.ptpm_network.specs.Stands.{AreFirsts, Running, Stands, after_turn, starting};
-ghost use Rattle.ptpm_network.specs.State.{Frame, accepted_at_target, at_first, greatest_accepted, history, is_late, issued, outcomes_kept, session_value};
+ghost use Rattle.ptpm_network.specs.State.{Frame, NetworkState, accepted_at_target, at_first, greatest_accepted, history, is_late, issued, outcomes_kept, session_value};
 
 /// The invariant holds after every list of events, late deliveries among them.
 pub fn every_schedule()
@@ -116,4 +117,39 @@ pub fn answers_by_octets()
         frame_at (run N (at_first N) es).frames n ≡ Some f → f.end ≡ AtSession s → is_late (run N (at_first N) es) f.origin ≡ false →
         (report_from s ((run N (at_first N) es).session s) f ≡ Some report)
         ↔ (received_of (session_value (N.session s) ((run N (at_first N) es).session s)) f.octets ≡ received.Answered report) }
+{}
+
+/// What is taken of a list of events is all before the first that is refused. It is the whole list where none of it is refused
+/// in its turn, and what the other laws ask of a list holds of what is taken of it.
+pub fn events_taken()
+    ensures whole { (N : Network) (w : NetworkState) (es : List Event) →
+        ((front rest : List Event) (e : Event) → es ≡ front ++ e ∷ rest → refusal N (run N w front) e ≡ None) →
+        taken N w es ≡ es }
+    ensures in_range { (N : Network) (w : NetworkState) (es : List Event) →
+        AllByRecursion IsInRange es → AllByRecursion IsInRange (taken N w es) }
+    ensures in_time { (N : Network) (w : NetworkState) (es : List Event) →
+        AreInTime N w es → AreInTime N w (taken N w es) }
+{}
+
+/// A running network, whose clocks and sessions tell requests apart by sequenceIds and octets, goes through every list of
+/// events as the machine does:
+/// - where it stands at a state that the machine reaches, it refuses the events that the machine refuses, for the same reasons;
+/// - after an event that is not refused, and is no late delivery, it stands at the machine's next state;
+/// - so from its start, where no delivery is late, it goes through the events up to the first that is refused, and stands where
+///   they lead the machine.
+pub fn running_networks_stand()
+    ensures refused { (N : Network) (es : List Event) (first : PortIdentity → ℕ) (r : Running) (e : Event) →
+        IsNetwork N → AllByRecursion IsInRange es →
+        Stands N first r (run N (at_first N) es) →
+        refused N r e ≡ refusal N (run N (at_first N) es) e }
+    ensures happened { (N : Network) (es : List Event) (first : PortIdentity → ℕ) (r : Running) (e : Event) →
+        IsNetwork N → AllByRecursion IsInRange es →
+        AreFirsts N first → Stands N first r (run N (at_first N) es) →
+        IsInRange e → refusal N (run N (at_first N) es) e ≡ None → is_late_delivery (run N (at_first N) es) e ≡ false →
+        Stands N first (happened N r e) (happens N (run N (at_first N) es) e) }
+    ensures every { (N : Network) (es : List Event) (first : PortIdentity → ℕ) →
+        IsNetwork N → AllByRecursion IsInRange es →
+        AreFirsts N first →
+        AreInTime N (at_first N) es →
+        Stands N first (ran N (starting N) es) (run N (at_first N) (taken N (at_first N) es)) }
 {}

@@ -6,6 +6,6 @@
 mod laws;
 
 pub use laws::{
-    answers_by_octets, clocks_stand, every_schedule, hops_lost, in_the_window,
-    one_request_at_a_time, outbox_of_turns,
+    answers_by_octets, clocks_stand, events_taken, every_schedule, hops_lost, in_the_window,
+    one_request_at_a_time, outbox_of_turns, running_networks_stand,
 };

@@ -1,0 +1,59 @@
+-- Frames as a running network holds them, without their first hops and forwardings.
+use Rattle.std.proofs.Common.{◌≡◌, ℕ, ◌+◌, ◌-◌, ◌==◌, List, [], ◌∷◌, ◌++◌, Option, Some, None, true, false, refl, sym, ◌∙◌, ap, ⊎_elim}
+use Rattle.std.proofs.lemmas.Bool.{cases_Bool, cond-true, cond-false}
+use Rattle.std.proofs.lemmas.List.{map-append}
+use Rattle.std.proofs.lemmas.Option.{slice_get-map}
+use Rattle.std.specs.Prelude.{flat_map, map, option_map, slice_get}
+use Rattle.ptpm_codec.specs.declared.message.Message.{Message}
+use Rattle.ptpm_codec.specs.Canonical.{canonical}
+use Rattle.ptpm_codec.specs.Layout.{boundary_hops}
+use Rattle.ptpm_agent.specs.Once.{copy_of}
+use Rattle.ptpm_agent.specs.Turn.{turn}
+use Rattle.ptpm_network.specs.Events.{frame_at}
+use Rattle.ptpm_network.specs.Happening.{held_at, posted, seen, sent_posted}
+use Rattle.ptpm_network.specs.Machine.{answer_origin, delivery, forwarded_frames, reply_frames, sent_frames, with_place}
+use Rattle.ptpm_network.specs.Network.{AtPort, End, Network, peers}
+use Rattle.ptpm_network.specs.Stands.{Held, Running, after_turn, held, turn_frames}
+use Rattle.ptpm_network.specs.State.{Frame, Origin, RequestOf, frames_to}
+
+-- a frame by its number
+pub held_at-map : (fs : List Frame) (n : ℕ) → held_at (map held fs) n ≡ option_map held (frame_at fs n)
+held_at-map fs n = ⊎_elim
+    (λ (y : n == 0 ≡ true).
+    let none : frame_at fs n ≡ None = cond-true _ _ _ y in
+    cond-true _ _ _ y ∙ sym (ap (option_map held) none))
+    (λ (o : n == 0 ≡ false).
+    let some : frame_at fs n ≡ slice_get fs (n - 1) = cond-false _ _ _ o in
+    cond-false _ _ _ o ∙ slice_get-map held fs (n - 1) ∙ sym (ap (option_map held) some))
+    (cases_Bool (n == 0))
+
+-- ---- frames that are made
+
+pub held-frames_to : (ends : List End) (octets : List ℕ) (o : Origin) (first_hops forwardings : ℕ) → map held (frames_to ends octets o first_hops forwardings) ≡ posted ends octets o
+held-frames_to [] octets o first_hops forwardings = refl
+held-frames_to (e ∷ ends) octets o first_hops forwardings =
+    let h : Held = record { end = e; octets = octets; origin = o } in
+    ap (λ (hs : List Held). h ∷ hs) (held-frames_to ends octets o first_hops forwardings)
+
+pub held-sent_frames : (ends : List End) (s k : ℕ) (o : Option Message) → map held (sent_frames ends s k o) ≡ sent_posted ends s k o
+held-sent_frames ends s k None = refl
+held-sent_frames ends s k (Some v) = held-frames_to ends (canonical v) (RequestOf s k) (boundary_hops (canonical v)) 0
+
+held-forwarded : (N : Network) (c : ℕ) (f : Frame) (sent : List (ℕ × List ℕ)) → map held (forwarded_frames N c f sent) ≡ flat_map (λ m. posted (peers N.links (AtPort c m.0)) m.1 f.origin) sent
+held-forwarded N c f [] = refl
+held-forwarded N c f (m ∷ ms) =
+    let fs : List Frame = frames_to (peers N.links (AtPort c m.0)) m.1 f.origin f.first_hops (f.forwardings + 1) in
+    map-append held fs (forwarded_frames N c f ms)
+    ∙ ap (λ (hs : List Held). hs ++ map held (forwarded_frames N c f ms)) (held-frames_to (peers N.links (AtPort c m.0)) m.1 f.origin f.first_hops (f.forwardings + 1))
+    ∙ ap (λ (hs : List Held). posted (peers N.links (AtPort c m.0)) m.1 f.origin ++ hs) (held-forwarded N c f ms)
+
+-- a clock that hears a frame sends the same, whatever the frame's first hops and forwardings
+pub turned-seen : (N : Network) (r : Running) (c port : ℕ) (f : Frame) → after_turn N r c port (seen (held f)) ≡ after_turn N r c port f
+turned-seen N r c port f =
+    let sent = turn (N.clock c) (r.clock c) port f.octets in
+    let replies : List Frame = reply_frames N c (answer_origin f.origin (copy_of (N.clock c) (r.clock c).sets (delivery port f))) sent.replies in
+    let frames : map held (turn_frames N (r.clock c) c port (seen (held f))) ≡ map held (turn_frames N (r.clock c) c port f) =
+    map-append held (forwarded_frames N c (seen (held f)) sent.forwards) replies
+    ∙ ap (λ (hs : List Held). hs ++ map held replies) (held-forwarded N c (seen (held f)) sent.forwards ∙ sym (held-forwarded N c f sent.forwards))
+    ∙ sym (map-append held (forwarded_frames N c f sent.forwards) replies) in
+    λ j. record { clock = with_place r.clock c sent.next; session = r.session; reports = r.reports; frames = r.frames ++ frames j }
