@@ -14,7 +14,7 @@ use Rattle.ptpm_manager.specs.declared.receiving.Reason.TheVariants as reasons
 use Rattle.ptpm_manager.specs.declared.receiving.Received.{Received}
 use Rattle.ptpm_manager.specs.declared.receiving.Received.TheVariants as received
 use Rattle.ptpm_codec.specs.Ordered.{first_of}
-use Rattle.ptpm_manager.specs.Report.{outcome_of}
+use Rattle.ptpm_manager.specs.Report.{IsCopied, outcome_of}
 use Rattle.ptpm_manager.specs.Session.{SessionValue, answered, is_waiting}
 use Rattle.ptpm_codec.specs.SequenceNumber.{number_of}
 
@@ -89,6 +89,11 @@ left_by s (received.Ignored reason) = s
 -- what a session answers to a datagram
 abbrev pub received_of : SessionValue → List ℕ → Received
 received_of s datagram = answer_to s (reading datagram)
+
+-- memory is asked for a dataField that answers, and for nothing else
+abbrev pub NeedsMemory : Received → Type 0
+NeedsMemory (received.Answered report) = IsCopied report.outcome
+NeedsMemory (received.Ignored reason) = ⊥
 
 -- what is answered is counted: reports have the indexes 1, 2, 3, .. in their order
 abbrev pub IsCounted : Received → ℕ → ℕ → Type 0

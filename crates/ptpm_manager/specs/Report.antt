@@ -22,3 +22,9 @@ outcome_by None action octets = success action octets
 
 abbrev pub outcome_of : Body → Outcome
 outcome_of body = outcome_by (error_of body) (action_of body) (octets_of body)
+
+-- the octets of a dataField are copied, and nothing else needs memory
+abbrev pub IsCopied : Outcome → Type 0
+IsCopied (outcomes.Value octets) = Unit {0}
+IsCopied outcomes.Done = ⊥
+IsCopied (outcomes.Refused error) = ⊥

@@ -53,7 +53,7 @@ impl Model for Session {
 }
 
 impl Session {
-    ghost use Rattle.ptpm_manager.specs.Receiving.{IsCounted, left_by, reason_of, received_of};
+    ghost use Rattle.ptpm_manager.specs.Receiving.{IsCounted, NeedsMemory, left_by, reason_of, received_of};
     ghost use Rattle.ptpm_manager.specs.Session.{answered_count, begin_refusal, begun, count_limit, due_message, fresh, is_waiting, resumed, retuned, send_refusal, sent};
     ghost use Rattle.ptpm_manager.specs.Setup.{AreTwoClocks};
 
@@ -187,6 +187,7 @@ impl Session {
         ensures exact { IfOk result (λ received. received ≡ received_of self.old datagram.now) }
         ensures left { IfOk result (λ received. self.new ≡ left_by self.old received) }
         ensures counted { IfOk result (λ received. IsCounted received (answered_count self.old) (answered_count self.new)) }
+        ensures memory { OnErr result (NeedsMemory (received_of self.old datagram.now)) }
         ensures ignored { (r : Reason) → received_of self.old datagram.now ≡ Received.Ignored r → result ≡ Ok (Received.Ignored r) }
         ensures unchanged { OnErr result (self.new ≡ self.old) }
     {
