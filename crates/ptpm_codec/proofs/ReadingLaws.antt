@@ -1,5 +1,5 @@
 -- A datagram that is not refused spells the message that is read from it, and no other; one that spells any is not refused.
-use Rattle.std.proofs.Common.{◌≡◌, ℕ, zero, suc, ◌+◌, ◌-◌, ◌%◌, ◌≤◌, ◌<◌, Bool, true, false, cond, List, [], ◌∷◌, length, take, drop, get_or, Option, Some, None, Result, Ok, Err, refl, sym, ap, subst, ◌∙◌, inl, inr, arith}
+use Rattle.std.proofs.Common.{◌≡◌, ℕ, zero, suc, ◌+◌, ◌-◌, ◌%◌, ◌≤◌, ◌<◌, Bool, true, false, cond, List, [], ◌∷◌, length, take, drop, get_or, Option, Some, None, refl, sym, ap, subst, ◌∙◌, inl, inr, arith}
 use Rattle.std.proofs.lemmas.Bool.{cases_lt, eq-eqb, eqb-true}
 use Rattle.std.proofs.lemmas.List.{length-take, length-take-le, length-drop, get_or-take, get_or-drop, get_or_past}
 use Rattle.std.specs.Option.{option_or}
@@ -15,9 +15,9 @@ use Rattle.ptpm_codec.specs.declared.tlv.TlvKind.TheVariants.{Management, ErrorS
 use Rattle.ptpm_codec.specs.Layout as layout
 use Rattle.ptpm_codec.specs.Layout.{octet, even_up, message_length, message_octets}
 use Rattle.ptpm_codec.specs.Message.{action_code, is_reply, action_of, IsDataField, IsValid, IsValidBody}
-use Rattle.ptpm_codec.specs.Spelling.{Spells, SpellsBody, SpellsManagement, SpellsErrorStatus, SpellsText}
+use Rattle.ptpm_codec.specs.Spelling.{Spells, SpellsBody, SpellsManagement, SpellsText}
 use Rattle.ptpm_codec.specs.Refusal.{action_from, is_text, frame_refusal, tlv_refusal, text_refusal, message_refusal, refusal}
-use Rattle.ptpm_codec.specs.Reading.{action_at, tlv_kind_at, text_at, body_from, body_at, message_at, ok_unless, some_unless, reading, message_of, IsWellFormed}
+use Rattle.ptpm_codec.specs.Reading.{action_at, tlv_kind_at, text_at, body_from, body_at, message_at, some_unless, message_of, IsWellFormed}
 use Rattle.ptpm_codec.proofs.PlaceLaws.{octet-take, number-take}
 use Rattle.ptpm_codec.proofs.OrderedLaws.{option_or-none}
 use Rattle.ptpm_codec.proofs.RefusalLaws.{IsFramed, framed, not_refused-frame, IsTlv, is_tlv, not_refused-tlv, is_text-status, not_refused-status, not_refused-management}

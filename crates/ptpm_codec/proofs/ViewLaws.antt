@@ -1,5 +1,5 @@
 -- The parts of the body that a view sees, by the kind of its TLV.
-use Rattle.std.proofs.Common.{◌≡◌, ℕ, Bool, true, false, cond, List, [], Option, Some, None, refl, sym, ap, subst, ◌∙◌}
+use Rattle.std.proofs.Common.{◌≡◌, ℕ, Bool, true, false, cond, List, [], Option, Some, None, refl, sym, ap, ◌∙◌}
 use Rattle.ptpm_codec.specs.declared.message.Action.{Action}
 use Rattle.ptpm_codec.specs.declared.message.Body.{Body}
 use Rattle.ptpm_codec.specs.declared.message.Body.TheVariants as bodies
@@ -8,7 +8,7 @@ use Rattle.ptpm_codec.specs.declared.tlv.TlvKind.{TlvKind}
 use Rattle.ptpm_codec.specs.declared.tlv.TlvKind.TheVariants.{Management, ErrorStatus}
 use Rattle.ptpm_codec.specs.Layout as layout
 use Rattle.ptpm_codec.specs.Message.{is_reply, action_of, id_of, octets_of, error_of, text_of}
-use Rattle.ptpm_codec.specs.Reading.{text_at, body_from, body_at, message_at, IsViewed}
+use Rattle.ptpm_codec.specs.Reading.{body_from, body_at, message_at, IsViewed}
 use Rattle.ptpm_codec.proofs.ReadingLaws.{action_of-body_from}
 
 -- the body of a view whose TLV was found to be of this kind

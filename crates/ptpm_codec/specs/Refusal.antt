@@ -1,5 +1,5 @@
 -- The refusals of a datagram, in their order: the answer is the first whose test holds.
-use Rattle.std.specs.Prelude.{ℕ, ◌+◌, ◌%◌, Bool, true, false, not, nat_lt, ◌==◌, ◌||◌, ◌&&◌, if◌then◌else◌, List, [], ◌∷◌, length, Option, Some, None}
+use Rattle.std.specs.Prelude.{ℕ, ◌+◌, ◌%◌, Bool, true, not, nat_lt, ◌==◌, ◌||◌, ◌&&◌, if◌then◌else◌, List, [], ◌∷◌, length, Option, None}
 use Rattle.std.specs.Option.{option_or}
 use Rattle.ptpm_codec.specs.declared.error.DecodeError.{DecodeError}
 use Rattle.ptpm_codec.specs.declared.error.DecodeError.TheVariants.{TooShort, NotManagement, BadVersion, BadLength, BadAction, BadTlvType, BadTlvLength, BadText}

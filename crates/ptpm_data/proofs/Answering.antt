@@ -1,5 +1,5 @@
 -- The reply and the data sets after a request, for an id of the table and for any other.
-use Rattle.std.proofs.Common.{◌≡◌, true, false, ◌∙◌, refl, sym, ap, ℕ, ◌≤◌, List, length, Option, Some, None, ◌⊎◌}
+use Rattle.std.proofs.Common.{◌≡◌, true, false, ◌∙◌, refl, sym, ap, ℕ, Option, Some, None}
 use Rattle.std.specs.Option.{option_map}
 use Rattle.ptpm_codec.specs.declared.error.ErrorId.{ErrorId}
 use Rattle.ptpm_codec.specs.declared.error.ErrorId.TheVariants.{NoSuchId, NotSupported}
@@ -9,7 +9,7 @@ use Rattle.ptpm_data.specs.IdTable.{Entry, entry_of, row_of}
 use Rattle.ptpm_data.specs.Members.{DataSetsValue}
 use Rattle.ptpm_data.specs.Request.{RequestValue}
 use Rattle.ptpm_data.specs.Refusals.{entry_refusal, refusal_at}
-use Rattle.ptpm_data.specs.Changes.{carried_out, changed_at, changed_by, unless_refused, IsTargetOf}
+use Rattle.ptpm_data.specs.Changes.{carried_out, changed_at, changed_by, unless_refused}
 use Rattle.ptpm_data.specs.Replies.{answer, refused_by_clock, reply_of, reply_to, is_get, no_rights, read_reply_to}
 
 pub no_entry : {r : Option Row} {e : Option Entry} → option_map entry_of r ≡ e → r ≡ None → e ≡ None

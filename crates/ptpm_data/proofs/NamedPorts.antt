@@ -1,5 +1,5 @@
 -- The ports that a target port means: all of them for 0xFFFF, else the one of that number.
-use Rattle.std.proofs.Common.{◌≡◌, ◌∙◌, sym, ap, refl, ℕ, zero, suc, ◌+◌, ◌-◌, ◌<◌, ◌≤◌, Bool, true, false, ◌==◌, ◌||◌, cond, List, [], take, drop, take_all, append-nil, ◌∷◌, ◌++◌, map, length, get_or, set, ◌⊎◌, inl, inr, arith, Option, Some}
+use Rattle.std.proofs.Common.{◌≡◌, ◌∙◌, sym, ap, refl, ℕ, zero, suc, ◌+◌, ◌-◌, ◌<◌, ◌≤◌, Bool, true, false, ◌==◌, ◌||◌, List, [], take, drop, take_all, append-nil, ◌∷◌, ◌++◌, map, length, get_or, set, inl, inr, arith, Option, Some}
 use Rattle.std.specs.List.{filter, range_with_len, enumerate_from}
 use Rattle.std.proofs.lemmas.Bool.{cond-false, cond-true, or_from, ne_eqb, eq-eqb, cases_lt}
 use Rattle.ptpm_data.specs.Changes.{is_named, IsTargetOf, changed_if, named_changed}
@@ -10,7 +10,7 @@ use Rattle.ptpm_codec.specs.declared.error.ErrorId.{ErrorId}
 use Rattle.ptpm_codec.specs.declared.message.Action.{Action}
 use Rattle.ptpm_data.specs.declared.reply.PortAnswer.{PortAnswer}
 use Rattle.ptpm_data.specs.Members.{DataSetsValue}
-use Rattle.ptpm_data.specs.Reply.{Answer, answer_of}
+use Rattle.ptpm_data.specs.Reply.{answer_of}
 use Rattle.ptpm_data.specs.Replies.{named_ports, answer, port_answers}
 
 -- ---- which numbers are named

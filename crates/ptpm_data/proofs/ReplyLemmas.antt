@@ -1,19 +1,19 @@
 -- What holds of every reply.
-use Rattle.std.proofs.Common.{◌≡◌, ◌∙◌, refl, sym, ap, ℕ, ◌≤◌, ◌-◌, ◌+◌, Bool, true, false, List, [], ◌∷◌, map, length, Option, Some, None, ◌⊎◌, inl, inr, arith}
-use Rattle.std.specs.List.{All, Contains, filter, range_with_len}
+use Rattle.std.proofs.Common.{◌≡◌, ◌∙◌, refl, ap, ℕ, ◌≤◌, ◌-◌, ◌+◌, Bool, true, false, [], ◌∷◌, length, Option, Some, None, inl, inr, arith}
+use Rattle.std.specs.List.{All, range_with_len}
 use Rattle.std.proofs.lemmas.List.{length-map}
 use Rattle.std.proofs.lemmas.List.FromFn.{length-range_with_len}
-use Rattle.std.proofs.lemmas.List.Elements.{All-map, All-cons, All-contains}
+use Rattle.std.proofs.lemmas.List.Elements.{All-map, All-cons}
 use Rattle.ptpm_codec.specs.Message.{IsRequestAction}
 use Rattle.ptpm_codec.specs.declared.message.Action.{Action}
 use Rattle.ptpm_codec.specs.declared.message.Action.TheVariants as actions
 use Rattle.ptpm_codec.specs.declared.error.ErrorId.{ErrorId}
 use Rattle.ptpm_data.specs.IdTable.{is_of_port}
 use Rattle.ptpm_data.specs.Request.{RequestValue}
-use Rattle.ptpm_data.specs.Reply.{Outcome, Refused, Answer, ReplyValue}
+use Rattle.ptpm_data.specs.Reply.{Outcome, Answer}
 use Rattle.ptpm_data.specs.Members.{DataSetsValue, HasPort}
 use Rattle.ptpm_data.specs.Changes.{IsTargetOf, IsTargetPort}
-use Rattle.ptpm_data.specs.Replies.{accepted, answer, answers_of, named_ports, outcome, port_answers, port_number, reply_of}
+use Rattle.ptpm_data.specs.Replies.{answer, answers_of, named_ports, outcome, port_answers, port_number, reply_of}
 use Rattle.ptpm_data.specs.RequestLaws.{IsSized, IsForOne, IsOneAnswer, IsOutcomeOf, answerer, answerer_of}
 use Rattle.ptpm_data.proofs.FieldSizes.{of_id}
 use Rattle.ptpm_data.proofs.NamedPorts.{named_ports-one, named_ports-every}

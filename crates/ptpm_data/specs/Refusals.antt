@@ -1,6 +1,6 @@
 -- Why a request is refused (IEEE 1588-2019, 15.5.4.3). Which actions an id permits, the rights, the ranges, and the order and
 -- choice of the errors are this project's profile.
-use Rattle.std.specs.Prelude.{ℕ, Bool, true, not, ◌&&◌, ◌==◌, if◌then◌else◌, bit_and, List, [], ◌∷◌, length, Option, Some, None, is_some}
+use Rattle.std.specs.Prelude.{ℕ, Bool, true, not, ◌&&◌, ◌==◌, bit_and, List, [], ◌∷◌, length, Option, Some, None, is_some}
 use Rattle.ptpm_codec.specs.declared.message.Action.{Action}
 use Rattle.ptpm_codec.specs.declared.message.Action.TheVariants as actions
 use Rattle.ptpm_codec.specs.declared.error.ErrorId.{ErrorId}

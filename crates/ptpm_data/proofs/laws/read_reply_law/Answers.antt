@@ -1,4 +1,4 @@
-use Rattle.std.proofs.Common.{◌≡◌, refl}
+use Rattle.std.proofs.Common.{refl}
 use Rattle.ptpm_data.specs.Replies.{read_reply_to, reply_of, read_refusal}
 use Rattle.ptpm_data.proofs.ReplyLemmas.{reply_of-one, reply_of-outcomes, reply_of-count}
 use Rattle.ptpm_data.proofs.laws.read_reply_law.Goals as goal

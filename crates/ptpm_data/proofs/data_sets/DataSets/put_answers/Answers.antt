@@ -1,4 +1,4 @@
-use Rattle.std.proofs.Common.{◌≡◌, ◌+◌, ◌-◌, ap, arith, refl}
+use Rattle.std.proofs.Common.{◌≡◌, ◌-◌, ap, arith, refl}
 use Rattle.ptpm_data.specs.Request.{RequestValue}
 use Rattle.ptpm_data.proofs.NamedPorts.{port_answers-none, port_answers-more}
 use Rattle.ptpm_data.proofs.data_sets.DataSets.put_answers.Goals as goal

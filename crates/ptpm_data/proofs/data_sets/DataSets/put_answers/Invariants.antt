@@ -1,4 +1,4 @@
-use Rattle.std.proofs.Common.{◌≡◌, ◌-◌, ◌≤◌, ◌+◌, length, ℕ, map}
+use Rattle.std.proofs.Common.{◌≡◌, ◌-◌, ◌+◌, length, map}
 use Rattle.std.specs.List.{range_with_len}
 use Rattle.ptpm_data.specs.Reply.{answer_of}
 use Rattle.ptpm_data.specs.Replies.{port_answers}

@@ -1,5 +1,4 @@
 use Rattle.std.proofs.Common.{◌≡◌, ◌∙◌, ap, sym}
-use Rattle.ptpm_codec.specs.declared.message.Action.{Action}
 use Rattle.ptpm_data.specs.IdTable.{entry_of, row_of}
 use Rattle.ptpm_data.specs.Request.{RequestValue}
 use Rattle.ptpm_data.specs.Replies.{is_get}
