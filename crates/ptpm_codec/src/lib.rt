@@ -22,6 +22,7 @@ pub use hops::less_hop;
 pub use identity::{ClockIdentity, PortIdentity};
 pub use message::{Action, Body, Message};
 pub use octets::Octets;
+pub use places::source_port_identity;
 pub use tlv::TlvKind;
 pub use viewing::View;
 

@@ -1,7 +1,7 @@
 //! Numbers and identities at their places in a message.
 
-ghost use Rattle.std.specs.Prelude.{◌≡◌, ◌+◌, ◌≤◌, length};
-ghost use Rattle.ptpm_codec.specs.Layout.{number_at, port_identity_at};
+ghost use Rattle.std.specs.Prelude.{◌≡◌, ◌+◌, ◌≤◌, if◌then◌else◌, length, nat_le, None, Some};
+ghost use Rattle.ptpm_codec.specs.Layout.{number_at, port_identity_at, source_port_identity};
 
 use crate::identity::{ClockIdentity, PortIdentity};
 use byteorder::{BigEndian, ByteOrder};
@@ -27,4 +27,15 @@ pub(crate) fn identity_at(octets: &[u8], place: usize) -> PortIdentity
         clock: ClockIdentity(clock),
         port: u16_at(octets, place + 8),
     }
+}
+
+/// What stands where a message has its sourcePortIdentity (13.3.2.11), whether the octets are a message or not; `None` where
+/// there are too few of them.
+pub fn source_port_identity(octets: &[u8]) -> Option<PortIdentity>
+    ensures { result ≡ (if nat_le 30 (length octets.now) then Some (source_port_identity octets.now) else None) }
+{
+    if octets.len() < 30 {
+        return None;
+    }
+    Some(identity_at(octets, 20))
 }

@@ -148,6 +148,18 @@ fn get_priority1(rt: HostRuntime) -> Result<(), Fail> {
 }
 
 #[test]
+fn source_stands_in_thirty_octets(rt: HostRuntime) {
+    let (thirty, _) = REQUEST.split_at(30);
+    let (short, _) = REQUEST.split_at(29);
+    let clock = ClockIdentity([0x00, 0x11, 0x22, 0x33, 0x44, 0x55, 0x66, 0x77]);
+    assert_eq!(rt;
+        source_port_identity(thirty),
+        Some(PortIdentity { clock, port: 1 })
+    );
+    assert_eq!(rt; source_port_identity(short), None);
+}
+
+#[test]
 fn get_with_data_and_trailing_octets(rt: HostRuntime) -> Result<(), Fail> {
     let edits = [(1, 0x02), (3, 0x38), (31, 0x08), (51, 0x04)];
     let datagram = edited(REQUEST, &edits, &[0; 4]);
