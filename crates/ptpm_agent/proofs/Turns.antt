@@ -156,7 +156,7 @@ forwarded-refused me ingress d datagram cause e =
 -- ---- any other message changes nothing
 
 -- a numbered request in the clock's domain, or a repeat, is a copy
-is_copy-numbered : (c : Clock) (s : State) (v : Message) → is_in_domain c s v ≡ true → is_own c v ≡ false → is_addressed c s.sets v ≡ true → is_request v ≡ true → is_numbered c v ≡ true → is_copy c s.sets v ≡ true
+pub is_copy-numbered : (c : Clock) (s : State) (v : Message) → is_in_domain c s v ≡ true → is_own c v ≡ false → is_addressed c s.sets v ≡ true → is_request v ≡ true → is_numbered c v ≡ true → is_copy c s.sets v ≡ true
 is_copy-numbered c s v d o a q n =
     let sdo = (and_parts (v.sdo == 0) (v.domain == s.sets.default.domain || is_accepted_repeat c s v) d).0 in
     let port = (and_parts (is_for_this_clock c v || same_clock v.target.clock every_clock) (names_port s.sets v.target.port) a).1 in
@@ -164,7 +164,7 @@ is_copy-numbered c s v d o a q n =
     and_from _ _ sdo (and_from _ _ (ap not o) (and_from _ _ numbered.0 (and_from _ _ numbered.1 (and_from _ _ port q))))
 
 -- what holds of each verdict where it is the first that holds, holds of the verdict
-judged-each : (P : Verdict → Type 0) (c : Clock) (s : State) (v : Message) → P verdicts.OtherDomain → P verdicts.OwnMessage → P verdicts.NotAddressed → P verdicts.NotARequest → (is_in_domain c s v ≡ true → is_own c v ≡ false → is_addressed c s.sets v ≡ true → is_request v ≡ true → P (verdict_at (look c s v))) → P (judged c s v)
+pub judged-each : (P : Verdict → Type 0) (c : Clock) (s : State) (v : Message) → P verdicts.OtherDomain → P verdicts.OwnMessage → P verdicts.NotAddressed → P verdicts.NotARequest → (is_in_domain c s v ≡ true → is_own c v ≡ false → is_addressed c s.sets v ≡ true → is_request v ≡ true → P (verdict_at (look c s v))) → P (judged c s v)
 judged-each P c s v foreign own away reply request = ⊎_elim
     (λ (d : is_in_domain c s v ≡ true). ⊎_elim
     (λ (o : is_own c v ≡ true). subst P (sym (judged-own c s v d o)) own)
@@ -180,7 +180,7 @@ judged-each P c s v foreign own away reply request = ⊎_elim
     (cases_Bool (is_in_domain c s v))
 
 -- a request without a number is answered from the data sets as they stand
-verdict_at-unnumbered : (c : Clock) (s : State) (v : Message) → is_numbered c v ≡ false → verdict_at (look c s v) ≡ verdicts.AnsweredUnnumbered
+pub verdict_at-unnumbered : (c : Clock) (s : State) (v : Message) → is_numbered c v ≡ false → verdict_at (look c s v) ≡ verdicts.AnsweredUnnumbered
 verdict_at-unnumbered c s v n = ap verdict_at (cond-false _ _ _ n)
 
 pub next_by-no_copy : (c : Clock) (s : State) (v : Message) → is_copy c s.sets v ≡ false → next_by (judged c s v) c s v ≡ s

@@ -21,3 +21,6 @@ pub mod Refusing
 pub mod Hearing
 pub mod Taking
 pub mod Running
+pub mod TurnSends
+pub mod Posting
+pub mod TurnKeeps

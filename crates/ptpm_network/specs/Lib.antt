@@ -6,3 +6,4 @@ pub mod Machine
 pub mod Invariant
 pub mod Stands
 pub mod Happening
+pub mod Replying

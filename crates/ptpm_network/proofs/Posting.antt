@@ -1,0 +1,81 @@
+-- The frames of a turn, message by message of the outbox.
+use Rattle.std.proofs.Common.{◌≡◌, ℕ, ◌+◌, ◌==◌, ◌⊎◌, inl, inr, List, [], ◌∷◌, ◌++◌, refl, sym, ◌∙◌, ap, ⊎_elim}
+use Rattle.std.proofs.lemmas.Bool.{cond-true, cond-false}
+use Rattle.std.proofs.lemmas.Grind.{flat_map-append}
+use Rattle.std.proofs.lemmas.List.{map-append}
+use Rattle.std.specs.Prelude.{flat_map, map}
+use Rattle.std.specs.List.{AllByRecursion}
+use Rattle.ptpm_codec.specs.Layout.{boundary_hops}
+use Rattle.ptpm_agent.specs.Once.{copy_of}
+use Rattle.ptpm_agent.specs.Turn.{State, Turned, outbox_of, turn}
+use Rattle.ptpm_network.specs.Happening.{posted}
+use Rattle.ptpm_network.specs.Machine.{answer_origin, delivery, forwarded_frames, reply_frames}
+use Rattle.ptpm_network.specs.Network.{AtPort, End, Network, peers}
+use Rattle.ptpm_network.specs.Replying.{origin_by, posted_by}
+use Rattle.ptpm_network.specs.Stands.{Held, held, turn_frames}
+use Rattle.ptpm_network.specs.State.{Frame, Origin, frames_to}
+use Rattle.ptpm_network.proofs.TurnSends.{IsAt, IsAway, forwards-away, replies-at, reply-origin}
+
+-- frames, as they are held
+held-frames_to : (ends : List End) (octets : List ℕ) (origin : Origin) (first_hops forwardings : ℕ) → map held (frames_to ends octets origin first_hops forwardings) ≡ posted ends octets origin
+held-frames_to [] octets origin first_hops forwardings = refl
+held-frames_to (e ∷ es) octets origin first_hops forwardings = ap (λ (hs : List Held). record { end = e; octets = octets; origin = origin } ∷ hs) (held-frames_to es octets origin first_hops forwardings)
+
+held-forwarded : (N : Network) (c : ℕ) (f : Frame) (sent : List (ℕ × List ℕ)) → map held (forwarded_frames N c f sent) ≡ flat_map (λ m. posted (peers N.links (AtPort c m.0)) m.1 f.origin) sent
+held-forwarded N c f [] = refl
+held-forwarded N c f (m ∷ ms) =
+    map-append held (frames_to (peers N.links (AtPort c m.0)) m.1 f.origin f.first_hops (f.forwardings + 1)) (forwarded_frames N c f ms)
+    ∙ ap (λ hs. hs ++ map held (forwarded_frames N c f ms)) (held-frames_to (peers N.links (AtPort c m.0)) m.1 f.origin f.first_hops (f.forwardings + 1))
+    ∙ ap (λ hs. posted (peers N.links (AtPort c m.0)) m.1 f.origin ++ hs) (held-forwarded N c f ms)
+
+held-replied : (N : Network) (c : ℕ) (origin : Origin) (sent : List (ℕ × List ℕ)) → map held (reply_frames N c origin sent) ≡ flat_map (λ m. posted (peers N.links (AtPort c m.0)) m.1 origin) sent
+held-replied N c origin [] = refl
+held-replied N c origin (m ∷ ms) =
+    map-append held (frames_to (peers N.links (AtPort c m.0)) m.1 origin (boundary_hops m.1) 0) (reply_frames N c origin ms)
+    ∙ ap (λ hs. hs ++ map held (reply_frames N c origin ms)) (held-frames_to (peers N.links (AtPort c m.0)) m.1 origin (boundary_hops m.1) 0)
+    ∙ ap (λ hs. posted (peers N.links (AtPort c m.0)) m.1 origin ++ hs) (held-replied N c origin ms)
+
+-- what leaves at other ports belongs to what came in
+posted-away : (links : List (List End)) (c ingress : ℕ) (passed reply : Origin) (sent : List (ℕ × List ℕ)) → AllByRecursion (IsAway ingress) sent
+    → flat_map (λ m. posted (peers links (AtPort c m.0)) m.1 passed) sent ≡ flat_map (posted_by links c ingress passed reply) sent
+posted-away links c ingress passed reply [] away = refl
+posted-away links c ingress passed reply (m ∷ ms) away =
+    ap (λ (o : Origin). posted (peers links (AtPort c m.0)) m.1 o ++ flat_map (λ m. posted (peers links (AtPort c m.0)) m.1 passed) ms) (sym (cond-false (m.0 == ingress) reply passed away.0))
+    ∙ ap (λ hs. posted_by links c ingress passed reply m ++ hs) (posted-away links c ingress passed reply ms away.1)
+
+-- what leaves at that port is the reply
+posted-at : (links : List (List End)) (c ingress : ℕ) (passed reply : Origin) (sent : List (ℕ × List ℕ)) → AllByRecursion (IsAt ingress) sent
+    → flat_map (λ m. posted (peers links (AtPort c m.0)) m.1 reply) sent ≡ flat_map (posted_by links c ingress passed reply) sent
+posted-at links c ingress passed reply [] at = refl
+posted-at links c ingress passed reply (m ∷ ms) at =
+    ap (λ (o : Origin). posted (peers links (AtPort c m.0)) m.1 o ++ flat_map (λ m. posted (peers links (AtPort c m.0)) m.1 reply) ms) (sym (cond-true (m.0 == ingress) reply passed at.0))
+    ∙ ap (λ hs. posted_by links c ingress passed reply m ++ hs) (posted-at links c ingress passed reply ms at.1)
+
+-- replies belong to what the verdict says, or there are none
+reply_origins : (N : Network) (c : ℕ) (due told : Origin) (replies : List (ℕ × List ℕ)) → (replies ≡ []) ⊎ (told ≡ due)
+    → flat_map (λ m. posted (peers N.links (AtPort c m.0)) m.1 due) replies ≡ flat_map (λ m. posted (peers N.links (AtPort c m.0)) m.1 told) replies
+reply_origins N c due told replies cases = ⊎_elim
+    (λ (none : replies ≡ []). ap (flat_map (λ m. posted (peers N.links (AtPort c m.0)) m.1 due)) none ∙ sym (ap (flat_map (λ m. posted (peers N.links (AtPort c m.0)) m.1 told)) none))
+    (λ (same : told ≡ due). ap (λ (o : Origin). flat_map (λ m. posted (peers N.links (AtPort c m.0)) m.1 o) replies) (sym same))
+    cases
+
+told_or_none : (N : Network) (s : State) (c ingress : ℕ) (f : Frame) →
+    ((turn (N.clock c) s ingress f.octets).replies ≡ []) ⊎ (origin_by (turn (N.clock c) s ingress f.octets).verdict f.origin ≡ answer_origin f.origin (copy_of (N.clock c) s.sets (delivery ingress f)))
+told_or_none N s c ingress f = ⊎_elim (λ none. inl none) (λ told. inr (told f.origin)) (reply-origin (N.clock c) s (delivery ingress f))
+
+-- the frames of a turn are those of its outbox, each message by the port that it leaves at
+pub held-turn_frames : (N : Network) (s : State) (c ingress : ℕ) (f : Frame) →
+    flat_map (posted_by N.links c ingress f.origin (origin_by (turn (N.clock c) s ingress f.octets).verdict f.origin)) (outbox_of (turn (N.clock c) s ingress f.octets))
+    ≡ map held (turn_frames N s c ingress f)
+held-turn_frames N s c ingress f =
+    let t : Turned = turn (N.clock c) s ingress f.octets in
+    let told : Origin = origin_by t.verdict f.origin in
+    let due : Origin = answer_origin f.origin (copy_of (N.clock c) s.sets (delivery ingress f)) in
+    flat_map-append (posted_by N.links c ingress f.origin told) t.forwards t.replies
+    ∙ ap (λ hs. hs ++ flat_map (posted_by N.links c ingress f.origin told) t.replies)
+    (sym (posted-away N.links c ingress f.origin told t.forwards (forwards-away (N.clock c) s ingress f.octets)) ∙ sym (held-forwarded N c f t.forwards))
+    ∙ ap (λ hs. map held (forwarded_frames N c f t.forwards) ++ hs)
+    (sym (posted-at N.links c ingress f.origin told t.replies (replies-at (N.clock c) s ingress f.octets))
+    ∙ sym (reply_origins N c due told t.replies (told_or_none N s c ingress f))
+    ∙ sym (held-replied N c due t.replies))
+    ∙ sym (map-append held (forwarded_frames N c f t.forwards) (reply_frames N c due t.replies))
