@@ -1,8 +1,10 @@
 pub mod WordLemmas
 pub mod NumberLemmas
+mod OctetTextLemmas
 pub mod EntryLemmas
 pub mod PlaceLemmas
 pub mod RepeatLemmas
 pub mod NetworkLemmas
 pub mod NetworkLaw
 pub mod SizeLaw
+pub mod NetworkFacts

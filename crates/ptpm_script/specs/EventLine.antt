@@ -101,3 +101,13 @@ reading line = event_of (words line)
 abbrev pub IsAnswer : Result Event EventError → Result Event EventError → Type 0
 IsAnswer (Ok e) wanted = wanted ≡ Ok e
 IsAnswer (Err e) wanted = (e ≡ OutOfMemory) ⊎ (wanted ≡ Err e)
+
+-- ---- verbs
+
+abbrev pub verb_of : Event → List ℕ
+verb_of (Begin session ask) = codes "begin"
+verb_of (Send session) = codes "send"
+verb_of (Resume session attempts) = codes "resume"
+verb_of (Retune session domain) = codes "retune"
+verb_of (Deliver frame) = codes "deliver"
+verb_of (Stranger clock port octets) = codes "stranger"

@@ -1,4 +1,5 @@
 pub mod Words
+pub mod OctetText
 pub mod Numbers
 pub mod Document
 pub mod Values
@@ -7,3 +8,4 @@ pub mod NetworkValue
 pub mod Entries
 pub mod NetworkFile
 pub mod NetworkText
+pub mod NetworkView

@@ -201,3 +201,7 @@ network_of text =
     if nat_lt 262144 (length text) then Err TooLong
     else and_then (given (parse_document text) NotToml) (λ ms.
     and_then (given (file_of ms) BadShape) network_of_file)
+
+-- what some text is the network of
+abbrev pub IsOfText : NetworkValue → Type 0
+IsOfText n = (text : List ℕ) × (network_of text ≡ Ok n)

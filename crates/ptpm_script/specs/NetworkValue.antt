@@ -10,7 +10,6 @@ use Rattle.ptpm_data.specs.declared.start.ClockStart.{ClockStart}
 use Rattle.ptpm_data.specs.declared.start.PortStart.{PortStart}
 use Rattle.ptpm_script.specs.declared.network.End.{End}
 use Rattle.ptpm_script.specs.declared.network.End.TheVariants as ends
-use Rattle.ptpm_script.specs.declared.network.Network.{Network}
 use Rattle.ptpm_script.specs.declared.network.NetworkClock.{NetworkClock}
 use Rattle.ptpm_script.specs.declared.network.NetworkSession.{NetworkSession}
 use Rattle.ptpm_script.specs.declared.network.NetworkLink.{NetworkLink}
@@ -33,11 +32,12 @@ clock_value c = record { name = c.name; start = c.start; ports = c.ports.items }
 abbrev pub link_value : NetworkLink → List End
 link_value l = l.ends.items
 
-abbrev pub network_value : Network → NetworkValue
-network_value n = record {
-  clocks = map clock_value n.clocks.items;
-  sessions = n.sessions.items;
-  links = map link_value n.links.items;
+-- of these clocks, sessions and links
+abbrev pub value_of : List NetworkClock → List NetworkSession → List NetworkLink → NetworkValue
+value_of clocks sessions links = record {
+  clocks = map clock_value clocks;
+  sessions = sessions;
+  links = map link_value links;
 }
 
 -- ---- what holds of the network of every text that is one

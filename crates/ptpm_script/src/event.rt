@@ -22,6 +22,25 @@ pub enum Event {
     Stranger(Name, u16, Octets),
 }
 
+impl Event {
+    ghost use Rattle.std.specs.Prelude.{◌≡◌};
+    ghost use Rattle.ptpm_script.specs.EventLine.{verb_of};
+
+    /// The first word of its line.
+    pub fn verb(&self) -> &'static str
+        ensures { result.now ≡ verb_of self.now }
+    {
+        match self {
+            Event::Begin(..) => "begin",
+            Event::Send(..) => "send",
+            Event::Resume(..) => "resume",
+            Event::Retune(..) => "retune",
+            Event::Deliver(..) => "deliver",
+            Event::Stranger(..) => "stranger",
+        }
+    }
+}
+
 /// Why a line is no event, in the order in which the reasons are judged.
 #[derive(Clone, Copy, Debug, PartialEq, Eq, Error)]
 pub enum EventError {

@@ -7,6 +7,7 @@ mod entries;
 mod event;
 mod event_line;
 mod file;
+mod hexadecimal;
 mod limits;
 mod link_entries;
 mod names;
@@ -23,10 +24,12 @@ mod words;
 
 pub use event::{Event, EventError};
 pub use event_line::read_event;
+pub use hexadecimal::Hexadecimal;
+pub use limits::TEXT_OCTETS;
 pub use names::Name;
 pub use net_error::NetError;
 pub use network::{End, Network, NetworkClock, NetworkLink, NetworkSession};
-pub use network_laws::accepted_networks;
+pub use network_laws::{accepted_networks, network_law};
 
 #[cfg(test)]
 mod tests;

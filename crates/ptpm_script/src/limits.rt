@@ -9,7 +9,7 @@ use crate::link_entries::LinkEntry;
 use crate::session_entries::SessionEntry;
 
 /// The octets of a network file.
-pub(crate) const TEXT_OCTETS: usize = 262_144;
+pub const TEXT_OCTETS: usize = 262_144;
 
 const CLOCKS: usize = 64;
 

@@ -33,6 +33,13 @@ impl Name {
         }
     }
 
+    /// The same name once more. Nothing is made where memory is refused.
+    pub fn copy(&self, alloc: Global) -> Result<Name, OutOfMemory>
+        ensures { IfOk result (λ n. n ≡ self.now) }
+    {
+        Name::copy_of(alloc, self.as_str())
+    }
+
     /// Its text, lent.
     pub fn as_str(&self) -> &str
         ensures { result.now ≡ self.now }

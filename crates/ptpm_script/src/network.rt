@@ -2,8 +2,8 @@
 
 ghost use Rattle.std.specs.Prelude.{◌≡◌, ◌≤◌, length, map, false, unwrap_or};
 ghost use Rattle.std.specs.List.{list_all};
-ghost use Rattle.ptpm_script.specs.NetworkValue.{clock_value, link_value, network_value};
-ghost use Rattle.ptpm_script.specs.NetworkText.{IsAnswerAs, all_rights, clock_of, clock_place, end_by_place, has_own_ports, has_too_many, link_of, map_all, network_of, network_of_file, placed, session_of, session_place};
+ghost use Rattle.ptpm_script.specs.NetworkValue.{clock_value, link_value, value_of};
+ghost use Rattle.ptpm_script.specs.NetworkText.{IsAnswerAs, IsOfText, all_rights, clock_of, clock_place, end_by_place, has_own_ports, has_too_many, link_of, map_all, network_of, network_of_file, placed, session_of, session_place};
 
 use crate::clock_entries::ClockEntry;
 use crate::file::NetworkFile;
@@ -18,9 +18,18 @@ use ptpm_codec::PortIdentity;
 use ptpm_data::{ClockStart, DataSets, PortStart, Rights};
 use std::alloc::Global;
 
-/// The clocks, sessions and links of a network file, each in the file's order.
+/// The clocks, sessions and links of a network file, each in the file's order. Every value is the network of some text.
 #[derive(Debug, Drop)]
 pub struct Network {
+    clocks: Vec<NetworkClock>,
+    sessions: Vec<NetworkSession>,
+    links: Vec<NetworkLink>,
+    ghost of_text: { ∥ IsOfText (value_of clocks.items sessions.items links.items) ∥₁ },
+}
+
+/// The parts of a network, by places.
+#[derive(Drop)]
+struct Parts {
     clocks: Vec<NetworkClock>,
     sessions: Vec<NetworkSession>,
     links: Vec<NetworkLink>,
@@ -69,6 +78,8 @@ pub enum End {
 }
 
 impl Network {
+    ghost use Rattle.ptpm_script.specs.NetworkView.{network_value};
+
     /// The network of a TOML document.
     ///
     /// Refused with the first `NetError` that holds anywhere in the text; only want of memory may come in place of
@@ -77,58 +88,11 @@ impl Network {
     pub fn from_toml(alloc: Global, text: &str) -> Result<Network, NetError>
         ensures { IsAnswerAs network_value result (network_of text.now) }
     {
-        if text.len() > TEXT_OCTETS {
-            return Err(NetError::TooLong);
-        }
-        let table = match toml::table_from_str(alloc, text) {
-            Ok(table) => table,
-            Err(error) if error.is_memory() => return Err(NetError::OutOfMemory),
-            Err(_) => return Err(NetError::NotToml),
-        };
-        let file = NetworkFile::read(alloc, &table)?;
-        Network::of_file(alloc, file)
-    }
-
-    /// The network of a file.
-    #[tactic(auto, unfolding(crate::specs::NetworkText::network_of_file))]
-    fn of_file(alloc: Global, file: NetworkFile) -> Result<Network, NetError>
-        ensures { IsAnswerAs network_value result (network_of_file file) }
-    {
-        if has_too_many(&file) {
-            return Err(NetError::TooMany);
-        }
-        if has_twice(&file) {
-            return Err(NetError::Twice);
-        }
-        if !have_own_ports(file.clocks.as_slice()) {
-            return Err(NetError::NoSuchName);
-        }
-        Network::placed(alloc, file)
-    }
-
-    /// The network of a file within the limits, by places.
-    #[tactic(auto, unfolding(crate::specs::NetworkText::placed))]
-    fn placed(alloc: Global, file: NetworkFile) -> Result<Network, NetError>
-        requires { has_too_many file ≡ false }
-        ensures { IsAnswerAs network_value result (placed file) }
-    {
-        let NetworkFile {
-            clocks,
-            sessions,
-            links,
-        } = file;
-        let links = place_links(
-            alloc,
-            clocks.as_slice(),
-            sessions.as_slice(),
-            links.as_slice(),
-        )?;
-        let sessions = place_sessions(alloc, clocks.as_slice(), sessions)?;
-        let clocks = start_clocks(alloc, clocks)?;
+        let parts = Parts::from_toml(alloc, text)?;
         Ok(Network {
-            clocks,
-            sessions,
-            links,
+            clocks: parts.clocks,
+            sessions: parts.sessions,
+            links: parts.links,
         })
     }
 
@@ -151,6 +115,68 @@ impl Network {
         ensures { result.now ≡ self.now.links.items }
     {
         self.links.as_slice()
+    }
+}
+
+impl Parts {
+    /// The parts of the network of a TOML document.
+    #[tactic(auto, unfolding(crate::specs::NetworkText::network_of))]
+    fn from_toml(alloc: Global, text: &str) -> Result<Parts, NetError>
+        ensures { IsAnswerAs (λ p. value_of p.clocks.items p.sessions.items p.links.items) result (network_of text.now) }
+    {
+        if text.len() > TEXT_OCTETS {
+            return Err(NetError::TooLong);
+        }
+        let table = match toml::table_from_str(alloc, text) {
+            Ok(table) => table,
+            Err(error) if error.is_memory() => return Err(NetError::OutOfMemory),
+            Err(_) => return Err(NetError::NotToml),
+        };
+        let file = NetworkFile::read(alloc, &table)?;
+        Parts::of_file(alloc, file)
+    }
+
+    /// The parts of the network of a file.
+    #[tactic(auto, unfolding(crate::specs::NetworkText::network_of_file))]
+    fn of_file(alloc: Global, file: NetworkFile) -> Result<Parts, NetError>
+        ensures { IsAnswerAs (λ p. value_of p.clocks.items p.sessions.items p.links.items) result (network_of_file file) }
+    {
+        if has_too_many(&file) {
+            return Err(NetError::TooMany);
+        }
+        if has_twice(&file) {
+            return Err(NetError::Twice);
+        }
+        if !have_own_ports(file.clocks.as_slice()) {
+            return Err(NetError::NoSuchName);
+        }
+        Parts::placed(alloc, file)
+    }
+
+    /// The parts of the network of a file within the limits, by places.
+    #[tactic(auto, unfolding(crate::specs::NetworkText::placed))]
+    fn placed(alloc: Global, file: NetworkFile) -> Result<Parts, NetError>
+        requires { has_too_many file ≡ false }
+        ensures { IsAnswerAs (λ p. value_of p.clocks.items p.sessions.items p.links.items) result (placed file) }
+    {
+        let NetworkFile {
+            clocks,
+            sessions,
+            links,
+        } = file;
+        let links = place_links(
+            alloc,
+            clocks.as_slice(),
+            sessions.as_slice(),
+            links.as_slice(),
+        )?;
+        let sessions = place_sessions(alloc, clocks.as_slice(), sessions)?;
+        let clocks = start_clocks(alloc, clocks)?;
+        Ok(Parts {
+            clocks,
+            sessions,
+            links,
+        })
     }
 }
 

@@ -1,9 +1,12 @@
-//! What holds of the network of every text that is one: the contract of a function that does nothing, and speaks of the
-//! definitions alone.
+//! What holds of the network of every text that is one. Each law is the contract of a function that does nothing; the first
+//! speaks of the definitions alone.
 
 ghost use Rattle.std.specs.Prelude.{◌≡◌, ℕ, List, Ok};
-ghost use Rattle.ptpm_script.specs.NetworkText.{network_of};
+ghost use Rattle.ptpm_script.specs.NetworkText.{IsOfText, network_of};
 ghost use Rattle.ptpm_script.specs.NetworkValue.{IsAccepted, NetworkValue};
+ghost use Rattle.ptpm_script.specs.NetworkView.{network_value};
+
+use crate::network::Network;
 
 /// A network that a text is keeps its limits. Each clock can start, with 1 to 8 ports and an identity that is not all ones.
 /// No two clocks and no two sessions have one name or one identity, no session has a clock's name or clockIdentity, and each
@@ -11,3 +14,11 @@ ghost use Rattle.ptpm_script.specs.NetworkValue.{IsAccepted, NetworkValue};
 pub fn accepted_networks()
     ensures { (text : List ℕ) (n : NetworkValue) → network_of text ≡ Ok n → IsAccepted n }
 {}
+
+/// Every `Network` is one that some text is, and keeps those limits.
+pub fn network_law(network: &Network)
+    ensures of_text { ∥ IsOfText (network_value network.now) ∥₁ }
+    ensures accepted { IsAccepted (network_value network.now) }
+{
+    let _ = network;
+}

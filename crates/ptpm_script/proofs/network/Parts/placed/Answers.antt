@@ -1,6 +1,6 @@
 use Rattle.std.proofs.Common.{◌∙◌, ap, length, arith}
 use Rattle.ptpm_script.proofs.PlaceLemmas.{few_clocks, few_sessions}
-use Rattle.ptpm_script.proofs.network.Network.placed.Goals as goal
+use Rattle.ptpm_script.proofs.network.Parts.placed.Goals as goal
 
 pub place_links-requires-clause-clocks : goal.place_links-requires-clause-clocks
 place_links-requires-clause-clocks c =
