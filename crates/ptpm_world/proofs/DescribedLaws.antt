@@ -23,12 +23,12 @@ use Rattle.ptpm_script.specs.NetworkValue.{AreSized, CanStart, IsAccepted, IsEnd
 
 -- ---- what stands at a place
 
-there : {X : Type 0} (xs : List X) (i : ℕ) (d : X) → i < length xs → slice_get xs i ≡ Some (slice_index_or xs i d)
+pub there : {X : Type 0} (xs : List X) (i : ℕ) (d : X) → i < length xs → slice_get xs i ≡ Some (slice_index_or xs i d)
 there [] i d h = absurd (omega (arith, h))
 there (x ∷ xs) zero d h = refl
 there (x ∷ xs) (suc i) d h = there xs i d (omega (arith, h))
 
-of_place : {X : Type 0} (P : X → Type 0) (xs : List X) (i : ℕ) (d : X) → AllByRecursion P xs → i < length xs → P (slice_index_or xs i d)
+pub of_place : {X : Type 0} (P : X → Type 0) (xs : List X) (i : ℕ) (d : X) → AllByRecursion P xs → i < length xs → P (slice_index_or xs i d)
 of_place P xs i d all h = all_get P xs i (slice_index_or xs i d) all (there xs i d h)
 
 -- ---- clocks
@@ -93,7 +93,7 @@ place-first x xs m c h =
     let p = and_parts (x.target == c) (same_identity m x.identity) h in
     (zero, omega (arith), sym (same_identity-true m x.identity p.1), eqb-true x.target c p.0)
 
-known-place : (ss : List NetworkSession) (m : PortIdentity) (c : ℕ) → is_known m (identities (configured ss c)) ≡ true → PlaceOf ss m c
+pub known-place : (ss : List NetworkSession) (m : PortIdentity) (c : ℕ) → is_known m (identities (configured ss c)) ≡ true → PlaceOf ss m c
 known-place [] m c k = absurd (cc)
 known-place (x ∷ xs) m c k =
     let parts = sym (known-more (x.target == c) m x (filter (λ s. s.target == c) xs)) ∙ k in
@@ -113,7 +113,7 @@ described-session n facts sized s h = record {
 
 -- ---- links
 
-at_place : {X : Type 0} (xs : List X) (i : ℕ) (x d : X) → slice_get xs i ≡ Some x → slice_index_or xs i d ≡ x
+pub at_place : {X : Type 0} (xs : List X) (i : ℕ) (x d : X) → slice_get xs i ≡ Some x → slice_index_or xs i d ≡ x
 at_place xs i x d e = let here : Some (slice_index_or xs i d) ≡ Some x = sym (there xs i d (get_within xs i x e)) ∙ e in cc
 
 described-has_end : (n : NetworkValue) (e : End) → IsEndOf n e → HasEnd (described n) (described_end e)

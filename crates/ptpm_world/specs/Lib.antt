@@ -1,1 +1,9 @@
 pub mod Described
+pub mod Stored
+pub mod Ends
+pub mod Frames
+pub mod Running
+pub mod Placed
+pub mod Starting
+pub mod Took
+pub mod Stepping

@@ -1,7 +1,24 @@
-//! Networks that run: that the network of every network file is one that the laws of networks speak of (IEEE 1588-2019, clause
-//! 15; the files are this project's profile).
+//! A network of boundary clocks and the sessions that manage them, run event by event: whatever the events lose, repeat,
+//! reorder or duplicate, each clock carries out each request once (IEEE 1588-2019, clause 15).
 #![tactic(auto)]
 
+mod frames;
+mod lines;
 mod network_laws;
+mod script;
+mod script_error;
+mod starting;
+mod stepping;
+mod took;
+mod trace;
+mod world;
 
-pub use network_laws::described_networks;
+pub use frames::Frame;
+pub use network_laws::{described_network, described_networks};
+pub use script::run_script;
+pub use script_error::ScriptError;
+pub use took::{StepError, Took};
+pub use world::World;
+
+#[cfg(test)]
+mod tests;

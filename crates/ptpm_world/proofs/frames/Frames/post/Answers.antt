@@ -1,0 +1,109 @@
+use Rattle.std.proofs.Common.{arith, rules, ◌≡◌, ◌+◌, ◌++◌, Bool, List, [], Some, None, true, cond, sym, ap, ◌∙◌, length, map, refl}
+use Rattle.std.specs.Option.{option_copied}
+use Rattle.std.specs.Prelude.{is_ok, vec_len}
+use Rattle.std.proofs.lemmas.List.{append-nil}
+use Rattle.ptpm_network.specs.Happening.{posted}
+use Rattle.ptpm_network.specs.Network as machine
+use Rattle.ptpm_network.specs.Network.{peers}
+use Rattle.ptpm_world.specs.declared.frames.Stored.{Stored}
+use Rattle.ptpm_world.specs.Described.{described_end}
+use Rattle.ptpm_world.specs.Frames.{held_in, link_ends, origin_of}
+use Rattle.ptpm_world.specs.Stored.{at_end, others}
+use Rattle.ptpm_world.proofs.FrameLemmas.{Posting, few_others, found_peers, link_of, peers_found, posting-count, posting-frames, posting-there, posting-within}
+use Rattle.ptpm_world.proofs.frames.Frames.post.Goals as goal
+
+pub returns-in_default-clause-frames : goal.returns-in_default-clause-frames
+returns-in_default-clause-frames c =
+    let frames = held_in c.args.self.now in
+    let lost : link_of c.args.from c.args.links.now ≡ None = sym c.link_at.ensures ∙ ap option_copied c.in_default.is in
+    let nobody : peers (link_ends c.args.links.now) (described_end c.args.from) ≡ [] =
+    peers_found c.args.from c.args.links.now ∙ ap (found_peers c.args.from) lost in
+    sym (ap (λ (es : List machine.End). frames ++ posted es c.args.octets.now (origin_of c.args.origin)) nobody ∙ append-nil frames)
+
+pub push_others-requires : goal.push_others-requires
+push_others-requires c =
+    let link = c.in-Some.link.now in
+    let found : link_of c.args.from c.args.links.now ≡ Some link = sym c.link_at.ensures ∙ ap option_copied c.in-Some.is in
+    let few = few_others c.requires.few.0 c.requires.few.1 c.args.from c.args.links.now link c.requires.few.2 found in
+    let here : length (others c.args.from c.as_slice.result.now) ≡ length (others c.args.from link.ends.items) =
+    ap (λ es. length (others c.args.from es)) c.as_slice.ensures.value in
+    omega (arith, few, here, c.requires.room.frames)
+
+pub invariant_of-self : goal.invariant_of-self
+invariant_of-self c =
+    let link = c.in-Some.link.now in
+    let found : link_of c.args.from c.args.links.now ≡ Some link = sym c.link_at.ensures ∙ ap option_copied c.in-Some.is in
+    let sent : Stored = record { end = c.args.from; origin = c.args.origin; start = c.len-start.result; size = length c.args.octets.now } in
+    let store = c.args.self.now.octets.items in
+    let stored = c.args.self.now.stored.items in
+    let ok : is_ok c.extend_from_slice.result ≡ true = c.extend_from_slice.ensures.succeeds (omega (arith, c.requires.room.octets, c.requires.small)) in
+    let start : c.len-start.result ≡ length store = search rules in
+    let p : Posting c.args.links.now link sent store c.args.octets.now c.extend_from_slice.new.self.items stored c.push_others.new.stored.items = record {
+      found = found;
+      behind = record { start = start; size = refl };
+      within = c.args.self.now.within;
+      grown = c.extend_from_slice.ensures.items ∙ ap (λ (b : Bool). cond b (store ++ c.args.octets.now) store) ok;
+      longer = c.push_others.ensures.items ∙ ap (λ es. stored ++ map (at_end sent) (others c.args.from es)) c.as_slice.ensures.value;
+    } in
+    let few = few_others c.requires.few.0 c.requires.few.1 c.args.from c.args.links.now link c.requires.few.2 found in
+    record { within = posting-within p; few = omega (arith, few, posting-count p, c.requires.room.limit) }
+
+pub returns-clause-frames : goal.returns-clause-frames
+returns-clause-frames c =
+    let link = c.in-Some.link.now in
+    let found : link_of c.args.from c.args.links.now ≡ Some link = sym c.link_at.ensures ∙ ap option_copied c.in-Some.is in
+    let sent : Stored = record { end = c.args.from; origin = c.args.origin; start = c.len-start.result; size = length c.args.octets.now } in
+    let store = c.args.self.now.octets.items in
+    let stored = c.args.self.now.stored.items in
+    let ok : is_ok c.extend_from_slice.result ≡ true = c.extend_from_slice.ensures.succeeds (omega (arith, c.requires.room.octets, c.requires.small)) in
+    let start : c.len-start.result ≡ length store = search rules in
+    let p : Posting c.args.links.now link sent store c.args.octets.now c.extend_from_slice.new.self.items stored c.push_others.new.stored.items = record {
+      found = found;
+      behind = record { start = start; size = refl };
+      within = c.args.self.now.within;
+      grown = c.extend_from_slice.ensures.items ∙ ap (λ (b : Bool). cond b (store ++ c.args.octets.now) store) ok;
+      longer = c.push_others.ensures.items ∙ ap (λ es. stored ++ map (at_end sent) (others c.args.from es)) c.as_slice.ensures.value;
+    } in
+    posting-frames p
+
+pub returns-clause-room : goal.returns-clause-room
+returns-clause-room c = λ n room.
+    let link = c.in-Some.link.now in
+    let found : link_of c.args.from c.args.links.now ≡ Some link = sym c.link_at.ensures ∙ ap option_copied c.in-Some.is in
+    let sent : Stored = record { end = c.args.from; origin = c.args.origin; start = c.len-start.result; size = length c.args.octets.now } in
+    let store = c.args.self.now.octets.items in
+    let stored = c.args.self.now.stored.items in
+    let ok : is_ok c.extend_from_slice.result ≡ true = c.extend_from_slice.ensures.succeeds (omega (arith, c.requires.room.octets, c.requires.small)) in
+    let start : c.len-start.result ≡ length store = search rules in
+    let p : Posting c.args.links.now link sent store c.args.octets.now c.extend_from_slice.new.self.items stored c.push_others.new.stored.items = record {
+      found = found;
+      behind = record { start = start; size = refl };
+      within = c.args.self.now.within;
+      grown = c.extend_from_slice.ensures.items ∙ ap (λ (b : Bool). cond b (store ++ c.args.octets.now) store) ok;
+      longer = c.push_others.ensures.items ∙ ap (λ es. stored ++ map (at_end sent) (others c.args.from es)) c.as_slice.ensures.value;
+    } in
+    let few = few_others c.requires.few.0 c.requires.few.1 c.args.from c.args.links.now link c.requires.few.2 found in
+    let size = c.extend_from_slice.ensures.len ∙ ap (λ (b : Bool). cond b (vec_len c.args.self.now.octets + length c.args.octets.now) (vec_len c.args.self.now.octets)) ok in
+    record {
+      limit = omega (arith, few, posting-count p, room.limit);
+      frames = omega (arith, few, posting-count p, room.frames, c.push_others.ensures.capacity);
+      octets = omega (arith, size, room.octets, c.extend_from_slice.ensures.capacity, c.requires.small);
+    }
+
+pub returns-clause-stored : goal.returns-clause-stored
+returns-clause-stored c = λ counts sessions before all origin.
+    let link = c.in-Some.link.now in
+    let found : link_of c.args.from c.args.links.now ≡ Some link = sym c.link_at.ensures ∙ ap option_copied c.in-Some.is in
+    let sent : Stored = record { end = c.args.from; origin = c.args.origin; start = c.len-start.result; size = length c.args.octets.now } in
+    let store = c.args.self.now.octets.items in
+    let stored = c.args.self.now.stored.items in
+    let ok : is_ok c.extend_from_slice.result ≡ true = c.extend_from_slice.ensures.succeeds (omega (arith, c.requires.room.octets, c.requires.small)) in
+    let start : c.len-start.result ≡ length store = search rules in
+    let p : Posting c.args.links.now link sent store c.args.octets.now c.extend_from_slice.new.self.items stored c.push_others.new.stored.items = record {
+      found = found;
+      behind = record { start = start; size = refl };
+      within = c.args.self.now.within;
+      grown = c.extend_from_slice.ensures.items ∙ ap (λ (b : Bool). cond b (store ++ c.args.octets.now) store) ok;
+      longer = c.push_others.ensures.items ∙ ap (λ es. stored ++ map (at_end sent) (others c.args.from es)) c.as_slice.ensures.value;
+    } in
+    posting-there p counts sessions before all origin

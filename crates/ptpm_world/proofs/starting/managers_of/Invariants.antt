@@ -1,0 +1,6 @@
+use Rattle.std.proofs.Common.{◌≡◌, take}
+use Rattle.ptpm_world.specs.Described.{configured}
+use Rattle.ptpm_world.proofs.starting.managers_of.Given as goal
+
+abbrev pub invariant-loop-session : goal.invariant-loop-session
+invariant-loop-session l = l.managers.items ≡ configured (take l.session-index l.sessions) l.place

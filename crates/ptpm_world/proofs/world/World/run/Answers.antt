@@ -1,0 +1,60 @@
+use Rattle.std.proofs.Common.{◌≡◌, ◌<◌, ◌≤◌, ◌∙◌, ap, arith, length, map, option_map, refl, subst, sym, take}
+use Rattle.std.proofs.lemmas.List.{take_all}
+use Rattle.std.proofs.lemmas.Option.{same_Some, slice_get_read}
+use Rattle.std.specs.Prelude.{List}
+use Rattle.ptpm_network.specs.Happening.{ran, refused}
+use Rattle.ptpm_network.specs.Network.{Network}
+use Rattle.ptpm_network.specs.Stands.{Running}
+use Rattle.ptpm_script.specs.declared.event.Event.{Event}
+use Rattle.ptpm_world.specs.Placed.{Names, names_in, placed}
+use Rattle.ptpm_world.specs.Running.{IsOf, running}
+use Rattle.ptpm_world.specs.Stepping.{AllHappen}
+use Rattle.ptpm_world.specs.Took.{error_of}
+use Rattle.ptpm_world.proofs.Places.{map_more}
+use Rattle.ptpm_world.proofs.Scheduling.{schedule-more}
+use Rattle.ptpm_world.proofs.world.World.run.Goals as goal
+
+pub returns-in-Err-clause-stopped : goal.returns-in-Err-clause-stopped
+returns-in-Err-clause-stopped c = λ N is. c.in-Err.ensures.unchanged ∙ c.loop-place.invariant.ran N is
+
+pub returns-in-Err-clause-refused : goal.returns-in-Err-clause-refused
+returns-in-Err-clause-refused c = λ N is other event at.
+    let now = c.loop-place.self in
+    let item = c.index-events-place.result in
+    let within : c.loop-place.place < length c.args.events.now = omega arith in
+    let same : item ≡ event = same_Some item event (sym (slice_get_read c.args.events.now _ c.loop-place.place item refl within c.index-events-place.is) ∙ at) in
+    ap (λ (r : Running). option_map error_of (refused N r (placed (names_in c.args.self.now) event))) c.in-Err.ensures.unchanged
+    ∙ ap (λ (e : Event). option_map error_of (refused N (running now) (placed (names_in c.args.self.now) e))) (sym same)
+    ∙ ap (λ (n : Names). option_map error_of (refused N (running now) (placed n item))) (sym c.loop-place.invariant.names)
+    ∙ c.in-Err.ensures.refused N (c.loop-place.invariant.network N is) other
+
+pub returns-in-Err-clause-network : goal.returns-in-Err-clause-network
+returns-in-Err-clause-network c = λ N is. c.in-Err.ensures.network N (c.loop-place.invariant.network N is)
+
+pub loop-place-preserved : goal.loop-place-preserved
+loop-place-preserved c =
+    let first = names_in c.args.self.now in
+    let now = c.loop-place.self in
+    let item = c.index-events-place.result in
+    let events = map (placed first) (take c.loop-place.place c.args.events.now) in
+    let within : c.loop-place.place < length c.args.events.now = omega arith in
+    let more = map_more (placed first) c.args.events.now c.loop-place.place item within c.index-events-place.is in
+    let both = λ (N : Network) (is : IsOf N c.args.self.now). schedule-more N (running c.args.self.now) (running now) (running c.step.new.self) events (placed first item) (placed (names_in now) item)
+    (c.loop-place.invariant.happened N is) (c.loop-place.invariant.ran N is) (ap (λ (n : Names). placed n item) c.loop-place.invariant.names)
+    (c.in_default.ensures.permitted N (c.loop-place.invariant.network N is)) (c.in_default.ensures.happened N (c.loop-place.invariant.network N is)) in
+    record {
+      names = c.in_default.ensures.names ∙ c.loop-place.invariant.names;
+      network = λ N is. c.in_default.ensures.network N (c.loop-place.invariant.network N is);
+      ran = λ N is. (both N is).0 ∙ ap (ran N (running c.args.self.now)) (sym more);
+      happened = λ N is. subst (AllHappen N (running c.args.self.now)) (sym more) (both N is).1;
+    }
+
+pub returns-clause-ran : goal.returns-clause-ran
+returns-clause-ran c = λ N is.
+    let past : length c.args.events.now ≤ c.loop-place.place = omega arith in
+    c.loop-place.invariant.ran N is ∙ ap (λ (es : List Event). ran N (running c.args.self.now) (map (placed (names_in c.args.self.now)) es)) (take_all c.loop-place.place c.args.events.now past)
+
+pub returns-clause-happened : goal.returns-clause-happened
+returns-clause-happened c = λ N is.
+    let past : length c.args.events.now ≤ c.loop-place.place = omega arith in
+    subst (λ (es : List Event). AllHappen N (running c.args.self.now) (map (placed (names_in c.args.self.now)) es)) (take_all c.loop-place.place c.args.events.now past) (c.loop-place.invariant.happened N is)

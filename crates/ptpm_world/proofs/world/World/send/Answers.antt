@@ -1,0 +1,61 @@
+use Rattle.std.proofs.Common.{◌≡◌, Some, refl, sym, ◌∙◌, ap, subst, All, length}
+use Rattle.std.proofs.lemmas.Option.{slice_get_read}
+use Rattle.std.specs.Prelude.{slice_get}
+use Rattle.ptpm_manager.specs.Session.{SessionValue}
+use Rattle.ptpm_network.specs.Network.{AtSession}
+use Rattle.ptpm_network.specs.State.{RequestOf}
+use Rattle.ptpm_world.specs.Ends.{AreLinks, IsStoredFrame, port_counts}
+use Rattle.ptpm_world.specs.Frames.{held_in, link_ends}
+use Rattle.ptpm_world.proofs.Changing.{names-session}
+use Rattle.ptpm_world.proofs.Kept.{kept-session}
+use Rattle.ptpm_world.proofs.SessionSteps.{message_due, posted_same, send-fine, send-no_name, send-refused, send-too_many}
+use Rattle.ptpm_world.proofs.world.World.send.Goals as goal
+
+pub returns-in_default-clause-step : goal.returns-in_default-clause-step
+returns-in_default-clause-step c = λ N is. send-no_name N c.args.self.now _ is c.in_default.ensures.none
+
+pub returns-then-is_full-clause-step : goal.returns-then-is_full-clause-step
+returns-then-is_full-clause-step c = λ N is.
+    send-too_many N c.args.self.now _ c.in-Some.place _ is
+    (record { clock_count = is.clock_count; clocks = is.clocks; session_count = is.session_count; sessions = is.sessions; links = is.links })
+    c.in-Some.ensures.found.1 (sym c.is_full.ensures ∙ c.if-is_full.true) c.in-Some.ensures.found.0
+
+pub returns-in_err-send-clause-step : goal.returns-in_err-send-clause-step
+returns-in_err-send-clause-step c = λ N is.
+    let x = c.index_mut.result.now in
+    let at : slice_get c.args.self.now.sessions.items c.in-Some.place ≡ Some x = slice_get_read c.args.self.now.sessions.items _ c.in-Some.place x refl c.in-Some.ensures.found.1 c.index_mut.ensures.value in
+    send-refused N c.args.self.now _ c.in-Some.place _ x _ c.in_err-send.field-0.0 c.from_residual-in_err-send.result is (record { at = at; sessions = refl; clocks = refl; links = refl; name = refl; identity = refl })
+    (sym c.is_full.ensures ∙ c.if-is_full.false) c.in_err-send.ensures.refusal c.from_residual-in_err-send.ensures.1 c.in-Some.ensures.found.0
+
+pub post-requires-clause-few : goal.post-requires-clause-few
+post-requires-clause-few c =
+    let w = c.args.self.now in
+    (port_counts w.clocks.items, length w.sessions.items, subst (AreLinks (port_counts w.clocks.items) (length w.sessions.items)) (sym c.as_slice.ensures.value) w.links_there)
+
+pub invariant_of-self-2 : goal.invariant_of-self-2
+invariant_of-self-2 c =
+    let w = c.args.self.now in
+    let counts = port_counts w.clocks.items in
+    let sessions = length w.sessions.items in
+    let before = subst (All (IsStoredFrame counts sessions)) (sym c.in_ok-make_room.ensures.stored) w.frames_there in
+    let links = subst (AreLinks counts sessions) (sym c.as_slice.ensures.value) w.links_there in
+    let kept = kept-session w c.in-Some.place _ _ (c.post.ensures.stored counts sessions before links (c.in-Some.ensures.found.1, c.issued.ensures.limit)) in
+    record { few_clocks = kept.few_clocks; few_sessions = kept.few_sessions; links_there = kept.links_there; frames_there = kept.frames_there }
+
+pub returns-clause-step : goal.returns-clause-step
+returns-clause-step c = λ N is.
+    let w = c.args.self.now in
+    let x = c.index_mut.result.now in
+    let at : slice_get w.sessions.items c.in-Some.place ≡ Some x = slice_get_read w.sessions.items _ c.in-Some.place x refl c.in-Some.ensures.found.1 c.index_mut.ensures.value in
+    let due = message_due x.session c.in_ok-send.ensures.refusal in
+    let count = sym (c.issued.ensures.count ∙ ap (λ (z : SessionValue). z.issued) c.in_ok-send.ensures.sent) in
+    let frames = posted_same _ _ (held_in w.frames) (link_ends c.as_slice.result.now) (link_ends w.links.items) (AtSession c.in-Some.place) c.as_slice-2.result.now c.send.new.buffer.items (RequestOf c.in-Some.place c.issued.result)
+    c.post.ensures.frames c.in_ok-make_room.ensures.frames (ap link_ends c.as_slice.ensures.value) c.as_slice-2.ensures.value in
+    send-fine N w _ c.in-Some.place _ c.issued.result x _ c.send.new.buffer.items due.0 is (record { at = at; sessions = refl; clocks = refl; links = refl; name = refl; identity = refl })
+    c.in_ok-send.ensures.sent refl count due.1 (c.in_ok-send.ensures.octets due.0 due.1) frames (sym c.is_full.ensures ∙ c.if-is_full.false) c.in_ok-send.ensures.refusal c.in-Some.ensures.found.0
+
+pub returns-clause-names : goal.returns-clause-names
+returns-clause-names c =
+    let x = c.index_mut.result.now in
+    let at : slice_get c.args.self.now.sessions.items c.in-Some.place ≡ Some x = slice_get_read c.args.self.now.sessions.items _ c.in-Some.place x refl c.in-Some.ensures.found.1 c.index_mut.ensures.value in
+    names-session c.args.self.now c.in-Some.place x _ at refl

@@ -1,0 +1,359 @@
+//! One event after another.
+
+ghost use Rattle.std.specs.Prelude.{◌≡◌, ◌≢◌, ◌<◌, ◌≤◌, ◌++◌, ℕ, All, IfErr, IfOk, IsSomeAnd, List, None, OnErr, OnOk, Some, false, flat_map, length, map, nat_lt, option_map, slice_get, take};
+ghost use Rattle.std.specs.List.{list_any};
+ghost use Rattle.ptpm_codec.specs.Identity.{same_clock, same_identity};
+ghost use Rattle.ptpm_codec.specs.Layout.{source_port_identity};
+ghost use Rattle.ptpm_data.specs.Members.{HasPort};
+ghost use Rattle.ptpm_agent.specs.Agent.{IsTurned};
+ghost use Rattle.ptpm_agent.specs.Turn.{turn};
+ghost use Rattle.ptpm_table.specs.Outbox.{sent};
+ghost use Rattle.ptpm_network.specs.Events as machine;
+ghost use Rattle.ptpm_network.specs.Events.{is_forged};
+ghost use Rattle.ptpm_network.specs.Happening.{happened, held_at, ran, refused};
+ghost use Rattle.ptpm_network.specs.Network.{Network};
+ghost use Rattle.ptpm_network.specs.Network as net;
+ghost use Rattle.ptpm_network.specs.Replying.{origin_by, posted_by};
+ghost use Rattle.ptpm_script.specs.declared.event.Event.{Event};
+ghost use Rattle.ptpm_world.specs.declared.took.StepError.{StepError};
+ghost use Rattle.ptpm_world.specs.Frames.{HasRoom, held_in, link_ends, origin_of};
+ghost use Rattle.ptpm_world.specs.Placed.{names_in, place_in, placed};
+ghost use Rattle.ptpm_world.specs.Running.{AreLinks, IsOf, IsOfSession, IsStoredFrame, agent_clock, agent_state, running};
+ghost use Rattle.ptpm_world.specs.Stepping.{AllHappen, IsStep};
+ghost use Rattle.ptpm_manager.specs.Receiving.{left_by, received_of};
+ghost use Rattle.ptpm_world.specs.Took.{error_of, heard, reports_in, took};
+
+use crate::frames::{FRAMES_LIMIT, Frames, Origin};
+use crate::took::{StepError, Took};
+use crate::world::{RunningClock, RunningSession, World};
+use ptpm_agent::Verdict;
+use ptpm_codec::{Buffer, PortIdentity, source_port_identity};
+use ptpm_manager::{Ask, Received};
+use ptpm_script::{End, Event, NetworkLink};
+use ptpm_table::{Outbox, ReplyTable};
+
+impl World {
+    /// Lets an event happen. The first reason that holds is why it is refused, and then the network stays as it was; only
+    /// want of memory may come in place of another answer.
+    pub fn step(&mut self, event: &Event) -> Result<Took, StepError>
+        ensures happened { (N : Network) → IsOf N self.old
+            → OnOk result (running self.new ≡ happened N (running self.old) (placed (names_in self.old) event.now)) }
+        ensures took { (N : Network) → IsOf N self.old
+            → IfOk result (λ t. t ≡ took N (running self.old) (placed (names_in self.old) event.now)) }
+        ensures permitted { (N : Network) → IsOf N self.old
+            → OnOk result (refused N (running self.old) (placed (names_in self.old) event.now) ≡ None) }
+        ensures refused { (N : Network) → IsOf N self.old
+            → IfErr result (λ e. e ≢ StepError.OutOfMemory
+            → option_map error_of (refused N (running self.old) (placed (names_in self.old) event.now)) ≡ Some e) }
+        ensures unchanged { OnErr result (running self.new ≡ running self.old) }
+        ensures names { names_in self.new ≡ names_in self.old }
+        ensures network { (N : Network) → IsOf N self.old → IsOf N self.new }
+    {
+        match event {
+            Event::Begin(name, ask) => self.begin(name.as_str(), ask),
+            Event::Send(name) => self.send(name.as_str()),
+            Event::Resume(name, attempts) => self.resume(name.as_str(), *attempts),
+            Event::Retune(name, domain) => self.retune(name.as_str(), *domain),
+            Event::Deliver(number) => self.deliver(*number),
+            Event::Stranger(name, port, octets) => {
+                self.intrude(name.as_str(), *port, octets.as_slice())
+            }
+        }
+    }
+
+    /// Lets events happen in their order. Stops at the first that is refused, and names its place, counted from 0; those
+    /// before it stand.
+    pub fn run(&mut self, events: &[Event]) -> Result<(), (usize, StepError)>
+        ensures ran { (N : Network) → IsOf N self.old
+            → OnOk result (running self.new ≡ ran N (running self.old) (map (placed (names_in self.old)) events.now)) }
+        ensures happened { (N : Network) → IsOf N self.old
+            → OnOk result (AllHappen N (running self.old) (map (placed (names_in self.old)) events.now)) }
+        ensures place { IfErr result (λ e. e.0 < length events.now) }
+        ensures stopped { (N : Network) → IsOf N self.old
+            → IfErr result (λ e. running self.new ≡ ran N (running self.old) (map (placed (names_in self.old)) (take e.0 events.now))) }
+        ensures before { (N : Network) → IsOf N self.old
+            → IfErr result (λ e. AllHappen N (running self.old) (map (placed (names_in self.old)) (take e.0 events.now))) }
+        ensures refused { (N : Network) → IsOf N self.old
+            → IfErr result (λ e. e.1 ≢ StepError.OutOfMemory → (event : Event) → slice_get events.now e.0 ≡ Some event
+            → option_map error_of (refused N (running self.new) (placed (names_in self.old) event)) ≡ Some e.1) }
+        ensures names { names_in self.new ≡ names_in self.old }
+        ensures network { (N : Network) → IsOf N self.old → IsOf N self.new }
+    {
+        for place in 0..events.len() {
+            if let Err(error) = self.step(&events[place]) {
+                return Err((place, error));
+            }
+        }
+        Ok(())
+    }
+
+    fn begin(&mut self, name: &str, ask: &Ask) -> Result<Took, StepError>
+        ensures step { (N : Network) → IsOf N self.old
+            → IsStep N self.old self.new (machine.Begin (place_in (names_in self.old).sessions name.now) ask.now) result }
+        ensures unchanged { OnErr result (running self.new ≡ running self.old) }
+        ensures names { names_in self.new ≡ names_in self.old }
+    {
+        let Some(place) = self.session_place(name) else {
+            return Err(StepError::NoSuchName);
+        };
+        self.sessions[place].session.begin(ask)?;
+        Ok(Took::Fine)
+    }
+
+    fn send(&mut self, name: &str) -> Result<Took, StepError>
+        ensures step { (N : Network) → IsOf N self.old
+            → IsStep N self.old self.new (machine.Send (place_in (names_in self.old).sessions name.now)) result }
+        ensures unchanged { OnErr result (running self.new ≡ running self.old) }
+        ensures names { names_in self.new ≡ names_in self.old }
+    {
+        let Some(place) = self.session_place(name) else {
+            return Err(StepError::NoSuchName);
+        };
+        if self.frames.is_full() {
+            return Err(StepError::FramesAtMaximum);
+        }
+        self.frames.make_room()?;
+        let session = &mut self.sessions[place].session;
+        session.send(&mut self.buffer)?;
+        let place = place as u16;
+        let origin = Origin::Request {
+            session: place,
+            index: session.issued(),
+        };
+        self.frames.post(
+            self.links.as_slice(),
+            End::Session(place),
+            self.buffer.as_slice(),
+            origin,
+        );
+        Ok(Took::Fine)
+    }
+
+    fn resume(&mut self, name: &str, attempts: u8) -> Result<Took, StepError>
+        ensures step { (N : Network) → IsOf N self.old
+            → IsStep N self.old self.new (machine.Resume (place_in (names_in self.old).sessions name.now) attempts) result }
+        ensures unchanged { OnErr result (running self.new ≡ running self.old) }
+        ensures names { names_in self.new ≡ names_in self.old }
+    {
+        let Some(place) = self.session_place(name) else {
+            return Err(StepError::NoSuchName);
+        };
+        self.sessions[place].session.resume(attempts)?;
+        Ok(Took::Fine)
+    }
+
+    fn retune(&mut self, name: &str, domain: u8) -> Result<Took, StepError>
+        ensures step { (N : Network) → IsOf N self.old
+            → IsStep N self.old self.new (machine.Retune (place_in (names_in self.old).sessions name.now) domain) result }
+        ensures unchanged { OnErr result (running self.new ≡ running self.old) }
+        ensures names { names_in self.new ≡ names_in self.old }
+    {
+        let Some(place) = self.session_place(name) else {
+            return Err(StepError::NoSuchName);
+        };
+        self.sessions[place].session.retune(domain);
+        Ok(Took::Fine)
+    }
+
+    /// A frame reaches its end.
+    fn deliver(&mut self, number: u32) -> Result<Took, StepError>
+        ensures step { (N : Network) → IsOf N self.old → IsStep N self.old self.new (machine.Deliver number) result }
+        ensures unchanged { OnErr result (running self.new ≡ running self.old) }
+        ensures names { names_in self.new ≡ names_in self.old }
+    {
+        let Some(frame) = self.frames.get(number) else {
+            return Err(StepError::NoSuchFrame);
+        };
+        let (end, origin) = (frame.end(), frame.origin());
+        if self.frames.is_full() {
+            return Err(StepError::FramesAtMaximum);
+        }
+        match end {
+            End::Clock(place, port) => self.deliver_at_clock(number, place, port, origin),
+            End::Session(place) => self.deliver_at_session(number, place),
+        }
+    }
+
+    fn deliver_at_clock(
+        &mut self,
+        number: u32,
+        place: u8,
+        port: u16,
+        origin: Origin,
+    ) -> Result<Took, StepError>
+        requires frame { IsSomeAnd (held_at (held_in self.old.frames) number) (λ h. (h.end ≡ net.AtPort place port) × (h.origin ≡ origin_of origin)) }
+        requires room { nat_lt FRAMES_LIMIT (length (held_in self.old.frames)) ≡ false }
+        ensures step { (N : Network) → IsOf N self.old → IsStep N self.old self.new (machine.Deliver number) result }
+        ensures unchanged { OnErr result (running self.new ≡ running self.old) }
+        ensures names { names_in self.new ≡ names_in self.old }
+    {
+        self.frames.make_room()?;
+        let Some(frame) = self.frames.get(number) else {
+            unreachable!()
+        };
+        let clock = &mut self.clocks[place as usize];
+        let verdict = clock.take_turn(port, frame.octets(), &mut self.outbox);
+        post_turn(
+            &mut self.frames,
+            self.links.as_slice(),
+            place,
+            port,
+            origin,
+            verdict,
+            self.outbox.entries(),
+        );
+        Ok(Took::AtClock(verdict))
+    }
+
+    fn deliver_at_session(&mut self, number: u32, place: u16) -> Result<Took, StepError>
+        requires frame { IsSomeAnd (held_at (held_in self.old.frames) number) (λ h. h.end ≡ net.AtSession place) }
+        requires room { nat_lt FRAMES_LIMIT (length (held_in self.old.frames)) ≡ false }
+        ensures step { (N : Network) → IsOf N self.old → IsStep N self.old self.new (machine.Deliver number) result }
+        ensures unchanged { OnErr result (running self.new ≡ running self.old) }
+        ensures names { names_in self.new ≡ names_in self.old }
+    {
+        let Some(frame) = self.frames.get(number) else {
+            unreachable!()
+        };
+        self.sessions[place as usize].hear(frame.octets())
+    }
+
+    /// A stranger's datagram comes in at a port of a clock.
+    fn intrude(&mut self, name: &str, port: u16, datagram: &[u8]) -> Result<Took, StepError>
+        ensures step { (N : Network) → IsOf N self.old
+            → IsStep N self.old self.new (machine.Stranger (place_in (names_in self.old).clocks name.now) port datagram.now) result }
+        ensures unchanged { OnErr result (running self.new ≡ running self.old) }
+        ensures names { names_in self.new ≡ names_in self.old }
+    {
+        let Some(place) = self.clock_place(name) else {
+            return Err(StepError::NoSuchName);
+        };
+        if !self.clocks[place].agent.sets().has_port(port) {
+            return Err(StepError::NoSuchName);
+        }
+        if self.is_forged(datagram) {
+            return Err(StepError::Forged);
+        }
+        if self.frames.is_full() {
+            return Err(StepError::FramesAtMaximum);
+        }
+        self.frames.make_room()?;
+        let clock = &mut self.clocks[place];
+        let verdict = clock.take_turn(port, datagram, &mut self.outbox);
+        post_turn(
+            &mut self.frames,
+            self.links.as_slice(),
+            place as u8,
+            port,
+            Origin::Other,
+            verdict,
+            self.outbox.entries(),
+        );
+        Ok(Took::AtClock(verdict))
+    }
+
+    /// Whether a stranger's datagram has the identity of a clock or of a session where a message has its source.
+    fn is_forged(&self, datagram: &[u8]) -> bool
+        ensures { (N : Network) → IsOf N self.now → result ≡ is_forged N datagram.now }
+    {
+        let Some(source) = source_port_identity(datagram) else {
+            return false;
+        };
+        is_of_clock(self.clocks.as_slice(), &source)
+            || is_of_session(self.sessions.as_slice(), &source)
+    }
+}
+
+/// Whether an identity is of one of these clocks.
+fn is_of_clock(clocks: &[RunningClock], who: &PortIdentity) -> bool
+    ensures { result ≡ list_any (λ x. same_clock who.now.clock x.agent.table.clock) clocks.now }
+{
+    clocks
+        .iter()
+        .any(|clock| who.clock == clock.agent.table().clock())
+}
+
+/// Whether an identity is of one of these sessions.
+fn is_of_session(sessions: &[RunningSession], who: &PortIdentity) -> bool
+    ensures { result ≡ list_any (λ x. same_identity who.now x.identity) sessions.now }
+{
+    sessions.iter().any(|session| *who == session.identity)
+}
+
+impl RunningClock {
+    /// The clock takes its turn at a datagram. The outbox then holds what it sends, and nothing else.
+    fn take_turn(&mut self, ingress: u16, datagram: &[u8], outbox: &mut Outbox) -> Verdict
+        requires port { HasPort ingress self.old.agent.sets }
+        ensures turned { IsTurned (turn (agent_clock self.old.agent) (agent_state self.old.agent) ingress datagram.now)
+            result outbox.new (agent_state self.new.agent) }
+        ensures clock { agent_clock self.new.agent ≡ agent_clock self.old.agent }
+        ensures name { self.new.name ≡ self.old.name }
+    {
+        self.agent.handle(ingress, datagram, outbox)
+    }
+}
+
+impl RunningSession {
+    /// A datagram comes in at the session, which keeps the report where it is the answer. Where memory is refused, the
+    /// session stays as it was.
+    fn hear(&mut self, datagram: &[u8]) -> Result<Took, StepError>
+        ensures answers { IfOk result (λ t. t ≡ heard (received_of self.old.session datagram.now)) }
+        ensures session { OnOk result (self.new.session ≡ left_by self.old.session (received_of self.old.session datagram.now)) }
+        ensures reports { OnOk result (self.new.reports.items ≡ self.old.reports.items ++ reports_in (received_of self.old.session datagram.now)) }
+        ensures refused { IfErr result (λ e. e ≡ StepError.OutOfMemory) }
+        ensures unchanged { OnErr result ((self.new.session ≡ self.old.session) × (self.new.reports.items ≡ self.old.reports.items)) }
+        ensures name { self.new.name ≡ self.old.name }
+        ensures identity { self.new.identity ≡ self.old.identity }
+    {
+        if self.reports.reserve(1).is_err() {
+            return Err(StepError::OutOfMemory);
+        }
+        match self.session.receive(datagram)? {
+            Received::Answered(report) => {
+                self.reports.push_reserved(report);
+                Ok(Took::Answered)
+            }
+            Received::Ignored(reason) => Ok(Took::Ignored(reason)),
+        }
+    }
+}
+
+/// Sends what a clock left in the outbox in its turn at a datagram: copies that it passes on belong to what the datagram
+/// belongs to, a reply to a numbered request to that request, and any other reply to nothing.
+fn post_turn(
+    frames: &mut Frames,
+    links: &[NetworkLink],
+    place: u8,
+    ingress: u16,
+    origin: Origin,
+    verdict: Verdict,
+    entries: &[(u16, Buffer)],
+)
+    requires room { HasRoom 15 frames.old }
+    requires few { length entries.now ≤ 15 }
+    requires links { (counts : List ℕ) × (sessions : ℕ) × AreLinks counts sessions links.now }
+    ensures frames { held_in frames.new ≡ held_in frames.old
+        ++ flat_map (posted_by (link_ends links.now) place ingress (origin_of origin) (origin_by verdict (origin_of origin))) (sent entries.now) }
+    ensures stored { (counts : List ℕ) (sessions : ℕ) → All (IsStoredFrame counts sessions) frames.old.stored.items
+        → AreLinks counts sessions links.now → IsOfSession sessions origin
+        → All (IsStoredFrame counts sessions) frames.new.stored.items }
+{
+    let reply = reply_origin(origin, verdict);
+    for (port, message) in entries {
+        let origin = if *port == ingress { reply } else { origin };
+        frames.post(links, End::Clock(place, *port), message.as_slice(), origin);
+    }
+}
+
+/// What a clock's reply belongs to.
+fn reply_origin(origin: Origin, verdict: Verdict) -> Origin
+    ensures origin { origin_of result ≡ origin_by verdict (origin_of origin) }
+    ensures session { (sessions : ℕ) → IsOfSession sessions origin → IsOfSession sessions result }
+{
+    match (verdict, origin) {
+        (Verdict::AnsweredNew | Verdict::AnsweredRepeat, Origin::Request { session, index }) => {
+            Origin::Reply { session, index }
+        }
+        _ => Origin::Other,
+    }
+}

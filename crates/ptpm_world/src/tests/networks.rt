@@ -1,0 +1,53 @@
+//! The networks of the scripts.
+
+/// A clock of two ports with one manager at port 1.
+pub const ONE_CLOCK: &str = r#"version = 1
+[[clock]]
+name = "K"
+identity = "aabbccfffeddee01"
+domain = 0
+ports = 2
+[[session]]
+name = "m"
+identity = "0011223344556677/1"
+target = "K"
+first = 7
+hops = 1
+attempts = 2
+[[link]]
+ends = ["K.1", "m"]
+"#;
+
+/// Three clocks in a ring, with B's manager at a further port of A.
+pub const RING: &str = r#"version = 1
+[[clock]]
+name = "A"
+identity = "aabbccfffeddee0a"
+domain = 0
+ports = 3
+[[clock]]
+name = "B"
+identity = "aabbccfffeddee0b"
+domain = 0
+ports = 2
+[[clock]]
+name = "C"
+identity = "aabbccfffeddee0c"
+domain = 0
+ports = 2
+[[session]]
+name = "m"
+identity = "0011223344556677/1"
+target = "B"
+first = 1
+hops = 2
+attempts = 1
+[[link]]
+ends = ["m", "A.1"]
+[[link]]
+ends = ["A.2", "B.1"]
+[[link]]
+ends = ["A.3", "C.1"]
+[[link]]
+ends = ["B.2", "C.2"]
+"#;

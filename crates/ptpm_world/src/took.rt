@@ -1,0 +1,80 @@
+//! What an event did, and why one is refused.
+
+use ptpm_agent::Verdict;
+use ptpm_manager::{BeginError, Reason, SendError};
+use thiserror::Error;
+
+/// What an event did.
+#[derive(Clone, Copy, Debug, PartialEq, Eq)]
+pub enum Took {
+    /// A session did what it was told.
+    Fine,
+    /// A datagram came in at a clock, which decided this.
+    AtClock(Verdict),
+    /// It came in at a session, which took it for the answer to its request: the report is the last of its reports.
+    Answered,
+    /// It came in at a session, which ignored it.
+    Ignored(Reason),
+}
+
+/// Why nothing happened, in the order in which the reasons are judged. The network stays as it was.
+#[derive(Clone, Copy, Debug, PartialEq, Eq, Error)]
+pub enum StepError {
+    /// No session or clock has the name, or the clock lacks the port.
+    #[error("NoSuchName")]
+    NoSuchName,
+    /// No frame has the number.
+    #[error("NoSuchFrame")]
+    NoSuchFrame,
+    /// A stranger's datagram has the identity of a clock or of a session where a message has its source.
+    #[error("Forged")]
+    Forged,
+    /// More than 399,775 frames are held.
+    #[error("FramesAtMaximum")]
+    FramesAtMaximum,
+    /// The session does not begin the request.
+    #[error("{0}")]
+    Begin(BeginError),
+    /// The session does not send, or has nothing to resume.
+    #[error("{0}")]
+    Send(SendError),
+    /// Memory was refused.
+    #[error("OutOfMemory")]
+    OutOfMemory,
+}
+
+impl From<ptpm_codec::OutOfMemory> for StepError {
+    ghost use Rattle.std.specs.Prelude.{◌≡◌};
+    ghost use Rattle.ptpm_world.specs.declared.took.StepError.TheVariants as errors;
+
+    ghost from_gives = { λ _ e. e ≡ errors.OutOfMemory };
+
+    fn from(_refused: ptpm_codec::OutOfMemory) -> StepError {
+        StepError::OutOfMemory
+    }
+}
+
+impl From<BeginError> for StepError {
+    ghost use Rattle.std.specs.Prelude.{◌≡◌};
+    ghost use Rattle.ptpm_world.specs.Took.{begin_error};
+
+    ghost from_gives = { λ error e. e ≡ begin_error error };
+
+    fn from(error: BeginError) -> StepError {
+        match error {
+            BeginError::OutOfMemory => StepError::OutOfMemory,
+            _ => StepError::Begin(error),
+        }
+    }
+}
+
+impl From<SendError> for StepError {
+    ghost use Rattle.std.specs.Prelude.{◌≡◌};
+    ghost use Rattle.ptpm_world.specs.declared.took.StepError.TheVariants as errors;
+
+    ghost from_gives = { λ error e. e ≡ errors.Send error };
+
+    fn from(error: SendError) -> StepError {
+        StepError::Send(error)
+    }
+}

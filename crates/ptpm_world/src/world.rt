@@ -1,0 +1,142 @@
+//! A network that runs: its clocks and sessions, the links between them, and every frame that was sent.
+
+ghost use Rattle.std.specs.Prelude.{◌≡◌, ◌≤◌, ◌<◌, All, IfNone, IfSome, bytes_eq, length, option_map, position};
+ghost use Rattle.ptpm_world.specs.Ends.{AreLinks, AreLinks-prop, AreStored-prop, IsStoredFrame, port_counts};
+
+use crate::frames::{Frame, Frames, Origin};
+use ptpm_agent::Agent;
+use ptpm_codec::{Buffer, PortIdentity};
+use ptpm_data::DataSets;
+use ptpm_manager::{Report, Session};
+use ptpm_script::{Name, NetworkLink};
+use ptpm_table::{BoundTable, Outbox};
+
+/// A clock at its place.
+#[derive(Drop)]
+pub(crate) struct RunningClock {
+    pub(crate) name: Name,
+    pub(crate) agent: Agent<BoundTable>,
+}
+
+/// A session at its place, with the reports of its answers.
+#[derive(Drop)]
+pub(crate) struct RunningSession {
+    pub(crate) name: Name,
+    pub(crate) identity: PortIdentity,
+    pub(crate) session: Session,
+    pub(crate) reports: Vec<Report>,
+}
+
+/// A network that runs. Events change it one by one, by `step`; nothing else does.
+#[derive(Drop)]
+pub struct World {
+    pub(crate) clocks: Vec<RunningClock>,
+    pub(crate) sessions: Vec<RunningSession>,
+    pub(crate) links: Vec<NetworkLink>,
+    pub(crate) frames: Frames,
+    /// What a clock sends in one turn.
+    pub(crate) outbox: Outbox,
+    /// What a session sends.
+    pub(crate) buffer: Buffer,
+    ghost few_clocks: { length clocks.items ≤ 64 },
+    ghost few_sessions: { length sessions.items ≤ 256 },
+    ghost links_there: { AreLinks (port_counts clocks.items) (length sessions.items) links.items } by { AreLinks-prop (port_counts clocks.items) (length sessions.items) links.items },
+    ghost frames_there: { All (IsStoredFrame (port_counts clocks.items) (length sessions.items)) frames.stored.items } by { AreStored-prop (port_counts clocks.items) (length sessions.items) frames.stored.items },
+}
+
+impl World {
+    ghost use Rattle.ptpm_manager.specs.Session.{count_limit};
+    ghost use Rattle.ptpm_network.specs.Happening.{held_at};
+    ghost use Rattle.ptpm_network.specs.State.{is_late_at};
+    ghost use Rattle.ptpm_world.specs.Frames.{frame_value};
+    ghost use Rattle.ptpm_world.specs.Placed.{names_in, place_in};
+    ghost use Rattle.ptpm_world.specs.Running.{is_late_held, reports_named, running, sets_named};
+
+    /// A clock's data sets as they stand, if there is a clock of this name.
+    pub fn sets(&self, clock: &str) -> Option<&DataSets>
+        ensures { option_map (λ d. d.now) result ≡ sets_named self.now clock.now }
+    {
+        match self.clock_place(clock) {
+            Some(place) => Some(self.clocks[place].agent.sets()),
+            None => None,
+        }
+    }
+
+    /// The reports of a session's answers, in order, if there is a session of this name.
+    pub fn reports(&self, session: &str) -> Option<&[Report]>
+        ensures { option_map (λ r. r.now) result ≡ reports_named self.now session.now }
+    {
+        match self.session_place(session) {
+            Some(place) => Some(self.sessions[place].reports.as_slice()),
+            None => None,
+        }
+    }
+
+    /// How many frames are held: 400,000 at most.
+    pub fn frames(&self) -> u32
+        ensures { result ≡ length (running self.now).frames }
+    {
+        self.frames.count() as u32
+    }
+
+    /// The frame of a number, counted from 1.
+    pub fn frame(&self, number: u32) -> Option<Frame<'_>>
+        ensures { option_map frame_value result ≡ held_at (running self.now).frames number }
+    {
+        self.frames.get(number)
+    }
+
+    /// Whether delivering a frame is late: it is a copy of a request, or of a reply to one, and its session has begun over
+    /// 32,768 requests since. No frame that is not there is late.
+    pub fn is_late(&self, number: u32) -> bool
+        ensures { result ≡ is_late_held (running self.now) (held_at (running self.now).frames number) }
+    {
+        let Some(frame) = self.frames.get(number) else {
+            return false;
+        };
+        match frame.origin() {
+            Origin::Request { session, index } => self.is_left_behind(session, index),
+            Origin::Reply { session, index } => self.is_left_behind(session, index),
+            Origin::Other => false,
+        }
+    }
+
+    /// Whether a session has begun over 32,768 requests since this one.
+    fn is_left_behind(&self, session: u16, index: u64) -> bool
+        requires session { session < length self.now.sessions.items }
+        requires index { index ≤ count_limit }
+        ensures { result ≡ is_late_at index ((running self.now).session session).issued }
+    {
+        self.sessions[session as usize].session.issued() > index + 32_768
+    }
+
+    /// The place of a clock's name.
+    pub(crate) fn clock_place(&self, name: &str) -> Option<usize>
+        ensures found { IfSome result (λ place. (place ≡ place_in (names_in self.now).clocks name.now) × (place < length self.now.clocks.items)) }
+        ensures none { IfNone result (place_in (names_in self.now).clocks name.now ≡ length self.now.clocks.items) }
+    {
+        place_of_clock(self.clocks.as_slice(), name)
+    }
+
+    /// The place of a session's name.
+    pub(crate) fn session_place(&self, name: &str) -> Option<usize>
+        ensures found { IfSome result (λ place. (place ≡ place_in (names_in self.now).sessions name.now) × (place < length self.now.sessions.items)) }
+        ensures none { IfNone result (place_in (names_in self.now).sessions name.now ≡ length self.now.sessions.items) }
+    {
+        place_of_session(self.sessions.as_slice(), name)
+    }
+}
+
+fn place_of_clock(clocks: &[RunningClock], name: &str) -> Option<usize>
+    ensures { result ≡ position (λ c. bytes_eq c.name name.now) clocks.now }
+{
+    clocks.iter().position(|clock| clock.name.as_str() == name)
+}
+
+fn place_of_session(sessions: &[RunningSession], name: &str) -> Option<usize>
+    ensures { result ≡ position (λ s. bytes_eq s.name name.now) sessions.now }
+{
+    sessions
+        .iter()
+        .position(|session| session.name.as_str() == name)
+}
