@@ -2,7 +2,7 @@
 
 use crate::clock::fresh_clock;
 use crate::faults::Fault;
-use crate::hexadecimal::Hexadecimal;
+use ptpm_script::Hexadecimal;
 use ptpm_table::Outbox;
 use std::alloc::Global;
 use std::io::Write;

@@ -7,20 +7,21 @@ use crate::make::{RequestWords, make};
 use crate::show::show;
 use clap::error::ErrorKind;
 use clap::{Arg, ArgAction, ArgMatches, Command, value_parser};
+use ptpm_world::run_script;
 use std::alloc::{AllocError, Global};
 use std::io::{Read, Write};
 
 /// Does what the words say, the first of which is the program's name, and answers the exit status: 0 where it was done;
 /// 1 at a fault, with the line `ptpm: FAULT` on `err`; 2 where the words were refused, with the reason on `err`. What
-/// `err` does changes nothing. No command reads yet.
+/// `err` does changes nothing. `run` alone reads.
 pub fn command<R: Read, O: Write, E: Write>(
     alloc: Global,
     words: &[&str],
-    _reader: &mut R,
+    reader: &mut R,
     out: &mut O,
     err: &mut E,
 ) -> u8 {
-    match run(alloc, words, out) {
+    match run(alloc, words, reader, out) {
         Ok(()) => 0,
         Err(Failure::Fault(fault)) => {
             let _ = writeln!(err, "ptpm: {fault}");
@@ -45,12 +46,18 @@ impl From<Fault> for Failure {
     }
 }
 
-fn run<O: Write>(alloc: Global, words: &[&str], out: &mut O) -> Result<(), Failure> {
+fn run<R: Read, O: Write>(
+    alloc: Global,
+    words: &[&str],
+    reader: &mut R,
+    out: &mut O,
+) -> Result<(), Failure> {
     match parse(alloc, words) {
         Ok(Task::Answer(text)) => answer(alloc, text, out)?,
         Ok(Task::Show(text)) => show(alloc, text, out)?,
         Ok(Task::Ids) => ids(out)?,
         Ok(Task::Make(words)) => make(alloc, &words, out)?,
+        Ok(Task::Run) => run_script(alloc, reader, out).map_err(Fault::from)?,
         Err(error) if error.kind() == ErrorKind::OutOfMemory => {
             return Err(Failure::Fault(Fault::OutOfMemory));
         }
@@ -69,6 +76,8 @@ enum Task<'a> {
     Show(&'a str),
     Ids,
     Make(RequestWords<'a>),
+    /// `run`, with a script on standard input.
+    Run,
 }
 
 /// The task, or why there is none: the words were refused, or they ask for help.
@@ -90,6 +99,7 @@ fn task_of<'a>(name: &str, values: &ArgMatches<'a>) -> Option<Task<'a>> {
         "show" => Some(Task::Show(values.get_str("HEX")?)),
         "ids" => Some(Task::Ids),
         "make" => Some(Task::Make(request_words(values)?)),
+        "run" => Some(Task::Run),
         _ => None,
     }
 }
@@ -115,6 +125,9 @@ fn command_line<'a>(alloc: Global) -> Result<Command<'a>, AllocError> {
         .about("Prints the fields of a management message")
         .arg(datagram(alloc))?;
     let ids = Command::new(alloc, "ids").about("Prints the table of management ids");
+    let run = Command::new(alloc, "run").about(
+        "Runs a network as the script on standard input says, and prints the trace",
+    );
     Command::new(alloc, "ptpm")
         .bin_name("ptpm")?
         .about("Management messages of the Precision Time Protocol")
@@ -123,7 +136,8 @@ fn command_line<'a>(alloc: Global) -> Result<Command<'a>, AllocError> {
         .subcommand(answer)?
         .subcommand(show)?
         .subcommand(ids)?
-        .subcommand(make_command(alloc)?)
+        .subcommand(make_command(alloc)?)?
+        .subcommand(run)
 }
 
 fn datagram<'a>(alloc: Global) -> Arg<'a> {

@@ -5,7 +5,6 @@ mod answer;
 mod clock;
 mod command;
 mod faults;
-mod hexadecimal;
 mod identity_text;
 mod ids;
 mod make;

@@ -5,12 +5,12 @@ ghost use Rattle.ptpm_cli.specs.RequestWords.{action_of_word, id_of_digits, id_o
 ghost use Rattle.ptpm_codec.specs.Message.{IsRequestAction, IsValid};
 
 use crate::faults::Fault;
-use crate::hexadecimal::Hexadecimal;
 use crate::identity_text::identity_of;
 use arrayvec::ArrayVec;
 use hex::FromHex;
 use ptpm_codec::{Action, Draft, DraftBody, encode};
 use ptpm_data::by_name;
+use ptpm_script::Hexadecimal;
 use std::alloc::Global;
 use std::io::Write;
 

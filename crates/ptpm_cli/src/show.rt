@@ -1,9 +1,9 @@
 //! `ptpm show`: the fields of a message, a line each.
 
 use crate::faults::Fault;
-use crate::hexadecimal::Hexadecimal;
 use ptpm_codec::{ErrorId, View, view};
 use ptpm_data::row;
+use ptpm_script::Hexadecimal;
 use std::alloc::Global;
 use std::io;
 use std::io::Write;

@@ -1,6 +1,7 @@
 //! What the program prints and how it ends.
 
 mod making;
+mod running;
 
 use crate::command::command;
 use std::alloc::Global;
@@ -323,7 +324,7 @@ fn refused_command_lines(rt: HostRuntime) {
         (
             &["ptpm"],
             b"error: 'ptpm' requires a subcommand but one was not provided\n  \
-            [subcommands: answer, show, ids, make]\n\n\
+            [subcommands: answer, show, ids, make, run]\n\n\
             Usage: ptpm <COMMAND>\n\n\
             For more information, try '--help'.\n",
         ),
