@@ -118,7 +118,7 @@ module _ {X : Type 0} (test good : X → Bool) where
       rw (← same) first
   found_first false y x rest e first others = others e
 
-  found : (xs : List X) (x : X) → list_all good xs ≡ true → find test xs ≡ Some x → good x ≡ true
+  pub found : (xs : List X) (x : X) → list_all good xs ≡ true → find test xs ≡ Some x → good x ≡ true
   found [] x all e = cc
   found (y ∷ ys) x all e =
       let parts = both_parts (good y) (list_all good ys) all in

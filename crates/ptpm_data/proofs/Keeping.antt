@@ -1,5 +1,5 @@
 -- What a request keeps of the data sets.
-use Rattle.std.proofs.Common.{◌≡◌, refl, ℕ, ◌≤◌, Bool, true, false, if◌then◌else◌, List, length, Option, Some, None, leb-true}
+use Rattle.std.proofs.Common.{◌≡◌, refl, ℕ, ◌≤◌, Bool, true, false, List, length, Option, Some, None, leb-true}
 use Rattle.std.specs.List.{Contains}
 use Rattle.std.proofs.lemmas.List.Elements.{All-contains}
 use Rattle.ptpm_codec.specs.declared.message.Action.{Action}
@@ -19,7 +19,7 @@ use Rattle.ptpm_data.specs.Reply.{Refused, Answer}
 use Rattle.ptpm_data.specs.Members.{DataSetsValue, is_own_grandmaster}
 use Rattle.ptpm_data.specs.SetField.{octet, ptp_text}
 use Rattle.ptpm_data.specs.Refusals.{entry_refusal, refusal_at, refusal_of, is_set_value, is_value}
-use Rattle.ptpm_data.specs.Changes.{carried_out, changed_at, changed_by, commanded, set_members, unless_refused, with_mechanism}
+use Rattle.ptpm_data.specs.Changes.{carried_out, changed_at, changed_by, commanded, grandmaster_changed, set_members, unless_refused, with_mechanism}
 use Rattle.ptpm_data.specs.Replies.{answer, outcome, reply_of, reply_to, port_number}
 use Rattle.ptpm_data.specs.RequestLaws.{IsSized}
 use Rattle.ptpm_data.proofs.Carrying.{Suits, suits_from, carried_out-ports}
@@ -36,13 +36,13 @@ record Keeps (d e : DataSetsValue) : Type 0 where
 same : (d : DataSetsValue) → Keeps d d
 same d = record { identity = refl; parent_port = refl; grandmaster = refl }
 
-shown_port : (b : Bool) (parent : ParentDataSet) (p : ClockPrecedence) → (if b then record parent { precedence = p } else parent).parent_port ≡ parent.parent_port
-shown_port true parent p = refl
-shown_port false parent p = refl
+shown_port : (b : Bool) (change : ClockPrecedence → ClockPrecedence) (parent : ParentDataSet) → (grandmaster_changed b change parent).parent_port ≡ parent.parent_port
+shown_port true change parent = refl
+shown_port false change parent = refl
 
-shown_grandmaster : (b : Bool) (parent : ParentDataSet) (p : ClockPrecedence) → (if b then record parent { precedence = p } else parent).grandmaster ≡ parent.grandmaster
-shown_grandmaster true parent p = refl
-shown_grandmaster false parent p = refl
+shown_grandmaster : (b : Bool) (change : ClockPrecedence → ClockPrecedence) (parent : ParentDataSet) → (grandmaster_changed b change parent).grandmaster ≡ parent.grandmaster
+shown_grandmaster true change parent = refl
+shown_grandmaster false change parent = refl
 
 with_mechanism-keeps : (port : ℕ) (d : DataSetsValue) (m : Option DelayMechanism) → Keeps d (with_mechanism port d m)
 with_mechanism-keeps port d None = same d
@@ -51,9 +51,9 @@ with_mechanism-keeps port d (Some m) = record { identity = refl; parent_port = r
 set_members-keeps : (layout : Layout) (port : ℕ) (octets : List ℕ) (d : DataSetsValue) → Keeps d (set_members layout port octets d)
 unfolding set_members
 set_members-keeps layouts.DelayMechanism port octets d = with_mechanism-keeps port d (mechanism_of (octet 0 octets))
-set_members-keeps layouts.Priority1 port octets d = record { identity = refl; parent_port = shown_port (is_own_grandmaster d) d.parent _; grandmaster = shown_grandmaster (is_own_grandmaster d) d.parent _ }
-set_members-keeps layouts.Priority2 port octets d = record { identity = refl; parent_port = shown_port (is_own_grandmaster d) d.parent _; grandmaster = shown_grandmaster (is_own_grandmaster d) d.parent _ }
-set_members-keeps layouts.ClockAccuracy port octets d = record { identity = refl; parent_port = shown_port (is_own_grandmaster d) d.parent _; grandmaster = shown_grandmaster (is_own_grandmaster d) d.parent _ }
+set_members-keeps layouts.Priority1 port octets d = record { identity = refl; parent_port = shown_port (is_own_grandmaster d) _ d.parent; grandmaster = shown_grandmaster (is_own_grandmaster d) _ d.parent }
+set_members-keeps layouts.Priority2 port octets d = record { identity = refl; parent_port = shown_port (is_own_grandmaster d) _ d.parent; grandmaster = shown_grandmaster (is_own_grandmaster d) _ d.parent }
+set_members-keeps layouts.ClockAccuracy port octets d = record { identity = refl; parent_port = shown_port (is_own_grandmaster d) _ d.parent; grandmaster = shown_grandmaster (is_own_grandmaster d) _ d.parent }
 set_members-keeps _ port octets d = record { identity = refl; parent_port = refl; grandmaster = refl }
 
 commanded-keeps : (layout : Layout) (port : ℕ) (d : DataSetsValue) → Keeps d (commanded layout port d)

@@ -6,4 +6,7 @@ pub mod StartLemmas
 pub mod FieldSizes
 pub mod ReplyLemmas
 pub mod Keeping
+pub mod Getting
+pub mod Setting
+pub mod Following
 pub mod MapLemmas

@@ -1,5 +1,5 @@
 -- The data sets after a request (IEEE 1588-2019, clause 15).
-use Rattle.std.specs.Prelude.{◌≡◌, ℕ, ◌≤◌, Bool, ◌||◌, ◌==◌, if◌then◌else◌, List, length, map, Option, Some, None, ◌⊎◌}
+use Rattle.std.specs.Prelude.{◌≡◌, ℕ, ◌≤◌, Bool, true, false, ◌||◌, ◌==◌, if◌then◌else◌, List, length, map, Option, Some, None, ◌⊎◌}
 use Rattle.std.specs.List.{enumerate_from}
 use Rattle.ptpm_codec.specs.declared.message.Action.{Action}
 use Rattle.ptpm_codec.specs.declared.message.Action.TheVariants as actions
@@ -8,6 +8,7 @@ use Rattle.ptpm_data.specs.declared.rights.Rights.{Rights}
 use Rattle.ptpm_data.specs.declared.ids.Layout.{Layout}
 use Rattle.ptpm_data.specs.declared.ids.Layout.TheVariants as layouts
 use Rattle.ptpm_data.specs.declared.data_sets.ClockPrecedence.{ClockPrecedence}
+use Rattle.ptpm_data.specs.declared.data_sets.ParentDataSet.{ParentDataSet}
 use Rattle.ptpm_data.specs.declared.data_sets.TimePropertiesDataSet.{TimePropertiesDataSet}
 use Rattle.ptpm_data.specs.declared.data_sets.PortDataSet.{PortDataSet}
 use Rattle.ptpm_data.specs.declared.port_state.PortState.TheVariants as states
@@ -45,11 +46,15 @@ with_ports port d change = record d { ports = named_changed port change d.ports 
 
 -- ---- the clock
 
--- Its own precedence changes; a clock that is its own grandmaster shows it in its parent data set too (9.3.5, table 30).
-abbrev pub with_precedence : DataSetsValue → ClockPrecedence → DataSetsValue
-with_precedence d p = record d {
-  default = record d.default { precedence = p };
-  parent = if is_own_grandmaster d then record d.parent { precedence = p } else d.parent;
+-- the precedence of the grandmaster changes with the clock's own where the clock is its own grandmaster (9.3.5, table 30)
+abbrev pub grandmaster_changed : Bool → (ClockPrecedence → ClockPrecedence) → ParentDataSet → ParentDataSet
+grandmaster_changed false change p = p
+grandmaster_changed true change p = record p { precedence = change p.precedence }
+
+abbrev pub with_precedence : DataSetsValue → (ClockPrecedence → ClockPrecedence) → DataSetsValue
+with_precedence d change = record d {
+  default = record d.default { precedence = change d.default.precedence };
+  parent = grandmaster_changed (is_own_grandmaster d) change d.parent;
 }
 
 abbrev pub with_utc_properties : TimePropertiesDataSet → List ℕ → TimePropertiesDataSet
@@ -80,9 +85,9 @@ set_port_member _ port octets d = d
 -- SET: the members of the id are what the dataField says
 unfoldable pub set_members : Layout → ℕ → List ℕ → DataSetsValue → DataSetsValue
 set_members layouts.UserDescription port octets d = record d { description = ptp_text octets }
-set_members layouts.Priority1 port octets d = with_precedence d (record d.default.precedence { priority1 = octet 0 octets })
-set_members layouts.Priority2 port octets d = with_precedence d (record d.default.precedence { priority2 = octet 0 octets })
-set_members layouts.ClockAccuracy port octets d = with_precedence d (record d.default.precedence { accuracy = octet 0 octets })
+set_members layouts.Priority1 port octets d = with_precedence d (λ p. record p { priority1 = octet 0 octets })
+set_members layouts.Priority2 port octets d = with_precedence d (λ p. record p { priority2 = octet 0 octets })
+set_members layouts.ClockAccuracy port octets d = with_precedence d (λ p. record p { accuracy = octet 0 octets })
 set_members layouts.Domain port octets d = record d { default = record d.default { domain = octet 0 octets } }
 set_members layouts.UtcProperties port octets d = record d { time = with_utc_properties d.time octets }
 set_members layout port octets d = set_port_member layout port octets d

@@ -9,8 +9,11 @@ pub mod DataField
 pub mod SetField
 pub mod Refusals
 pub mod PortChange
+pub mod PrecedenceChange
 pub mod MemberMap
 pub mod Start
+pub mod ErrorText
 pub mod Changes
 pub mod Replies
 pub mod RequestLaws
+pub mod SetLaws

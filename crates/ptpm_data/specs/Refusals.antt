@@ -54,14 +54,16 @@ abbrev pub set_right : Scope → ℕ
 set_right Clock = 1
 set_right Port = 2
 
-abbrev pub command_right : Layout → ℕ
-command_right layouts.NullPtpManagement = 0
-command_right _ = 4
+-- a COMMAND of an id of a port needs the right to it, but for NULL_PTP_MANAGEMENT
+abbrev pub command_right : Scope → Layout → ℕ
+command_right Clock _ = 0
+command_right Port layouts.NullPtpManagement = 0
+command_right Port _ = 4
 
--- what a request needs: a GET nothing, and a COMMAND of NULL_PTP_MANAGEMENT nothing
+-- what a request needs: a GET nothing
 abbrev pub needed_right : Action → Scope → Layout → ℕ
 needed_right actions.Set scope layout = set_right scope
-needed_right actions.Command scope layout = command_right layout
+needed_right actions.Command scope layout = command_right scope layout
 needed_right _ scope layout = 0
 
 abbrev pub has_right : ℕ → Rights → Bool

@@ -3,12 +3,14 @@
 ghost use Rattle.std.specs.Prelude.{◌≡◌, true, length};
 ghost use Rattle.ptpm_data.specs.Changes.{IsTargetOf, named_changed, with_utc_properties};
 ghost use Rattle.ptpm_data.specs.PortChange.{port_after};
+ghost use Rattle.ptpm_data.specs.PrecedenceChange.{precedence_after};
 ghost use Rattle.ptpm_data.specs.Ranges.{is_description};
 
-use crate::data_sets::{ClockPrecedence, DataSets, PortDataSet, TimePropertiesDataSet};
+use crate::data_sets::{DataSets, PortDataSet, TimePropertiesDataSet};
 use crate::ids::{Layout, Row};
 use crate::port_change::PortChange;
 use crate::port_state::DelayMechanism;
+use crate::precedence_change::PrecedenceChange;
 use crate::refusals::refusal;
 use crate::request::Request;
 use crate::rights::Rights;
@@ -65,18 +67,11 @@ impl DataSets {
     {
         match layout {
             Layout::UserDescription => self.set_description(ptp_text(octets)),
-            Layout::Priority1 => self.set_precedence(ClockPrecedence {
-                priority1: octets[0],
-                ..self.default.precedence
-            }),
-            Layout::Priority2 => self.set_precedence(ClockPrecedence {
-                priority2: octets[0],
-                ..self.default.precedence
-            }),
-            Layout::ClockAccuracy => self.set_precedence(ClockPrecedence {
-                accuracy: octets[0],
-                ..self.default.precedence
-            }),
+            Layout::Priority1 => self.change_precedence(PrecedenceChange::Priority1(octets[0])),
+            Layout::Priority2 => self.change_precedence(PrecedenceChange::Priority2(octets[0])),
+            Layout::ClockAccuracy => self.change_precedence(PrecedenceChange::ClockAccuracy(
+                octets[0],
+            )),
             Layout::Domain => self.default.domain = octets[0],
             Layout::UtcProperties => set_utc_properties(&mut self.time, octets),
             _ => self.set_port_member(layout, port, octets),
@@ -133,14 +128,14 @@ impl DataSets {
         put_description(&mut self.description, text);
     }
 
-    /// A clock that is its own grandmaster shows its own precedence in its parent data set (9.3.5, table 30).
-    fn set_precedence(&mut self, precedence: ClockPrecedence)
-        ensures { self.new ≡ with_precedence self.old precedence }
+    /// In a clock that is its own grandmaster the grandmaster's member changes with its own (9.3.5, table 30).
+    fn change_precedence(&mut self, change: PrecedenceChange)
+        ensures { self.new ≡ with_precedence self.old (precedence_after change) }
     {
         if self.parent.grandmaster == self.default.identity {
-            self.parent.precedence = precedence;
+            self.parent.precedence.change(change);
         }
-        self.default.precedence = precedence;
+        self.default.precedence.change(change);
     }
 
     fn change_ports(&mut self, port: u16, change: PortChange)

@@ -6,6 +6,7 @@ ghost use Rattle.std.specs.List.{All, Contains};
 ghost use Rattle.ptpm_codec.specs.declared.error.ErrorId.{ErrorId};
 ghost use Rattle.ptpm_codec.specs.declared.message.Action.TheVariants.{Get};
 ghost use Rattle.ptpm_codec.specs.Message.{IsRequestAction};
+ghost use Rattle.ptpm_data.specs.declared.members.Member.TheVariants.{ClockAccuracy, GrandmasterAccuracy, GrandmasterPriority1, GrandmasterPriority2, Priority1, Priority2};
 ghost use Rattle.ptpm_data.specs.declared.rights.Rights.{Rights};
 ghost use Rattle.ptpm_data.specs.Changes.{changed_by, IsTargetPort};
 ghost use Rattle.ptpm_data.specs.IdTable.{id_table, row_of, row_named};
@@ -15,6 +16,8 @@ ghost use Rattle.ptpm_data.specs.Replies.{read_reply_to, reply_action, reply_to}
 ghost use Rattle.ptpm_data.specs.Reply.{Answer, Refused};
 ghost use Rattle.ptpm_data.specs.Request.{RequestValue};
 ghost use Rattle.ptpm_data.specs.RequestLaws.{answerer, IsForOne, IsOneAnswer, IsOutcomeOf, IsSized};
+ghost use Rattle.ptpm_data.specs.SetField.{octet};
+ghost use Rattle.ptpm_data.specs.SetLaws.{get_of, IsAcceptedSet, MovesWithGrandmaster};
 
 use crate::data_sets::DataSets;
 use crate::id_table::MANAGEMENT_IDS;
@@ -53,7 +56,7 @@ fn identity_law(identity: &ClockIdentity)
     let _ = octets.len();
 }
 
-/// What holds of the reply to a request that is not numbered.
+/// What holds of the reply to a request that is not numbered. A GET is answered as a numbered one, whatever the rights.
 pub fn read_reply_law()
     ensures action { (q : RequestValue) (d : DataSetsValue) → (read_reply_to q d).action ≡ reply_action q.action }
     ensures id { (q : RequestValue) (d : DataSetsValue) → (read_reply_to q d).id ≡ q.id }
@@ -65,6 +68,8 @@ pub fn read_reply_law()
         → 1 ≤ length (read_reply_to q d).answers }
     ensures at_most_eight_answers { (q : RequestValue) (d : DataSetsValue) → IsSized d → IsTargetPort q.port d
         → length (read_reply_to q d).answers ≤ 8 }
+    ensures get { (q : RequestValue) (rights : Rights) (d : DataSetsValue) → q.action ≡ Get
+        → read_reply_to q d ≡ reply_to q rights d }
 {}
 
 /// What holds of the reply to a numbered request.
@@ -91,4 +96,22 @@ pub fn change_law()
     ensures get { (q : RequestValue) (rights : Rights) (d : DataSetsValue) → q.action ≡ Get → changed_by q rights d ≡ d }
     ensures refused { (q : RequestValue) (rights : Rights) (d : DataSetsValue) (a : Answer) (error : ErrorId)
         → Contains (reply_to q rights d).answers a → a.outcome ≡ Refused error → changed_by q rights d ≡ d }
+{}
+
+/// An accepted SET is answered by the dataFields as they are after it: the reply is that to a GET of the same id and target
+/// port right after it.
+pub fn set_law()
+    ensures { (q : RequestValue) (rights : Rights) (d : DataSetsValue) → IsAcceptedSet q rights
+        → reply_to q rights d ≡ read_reply_to (get_of q) (changed_by q rights d) }
+{}
+
+/// An accepted SET of PRIORITY1, PRIORITY2 or CLOCK_ACCURACY moves that member to its first octet; in a clock that is its own
+/// grandmaster the grandmaster's member of that name follows (9.3.5, table 30). No other member moves, whatever the data sets.
+pub fn grandmaster_law()
+    ensures priority1 { (q : RequestValue) (rights : Rights) (d : DataSetsValue) → IsAcceptedSet q rights → q.id ≡ 0x2005
+        → MovesWithGrandmaster Priority1 GrandmasterPriority1 (octet 0 q.octets) d (changed_by q rights d) }
+    ensures priority2 { (q : RequestValue) (rights : Rights) (d : DataSetsValue) → IsAcceptedSet q rights → q.id ≡ 0x2006
+        → MovesWithGrandmaster Priority2 GrandmasterPriority2 (octet 0 q.octets) d (changed_by q rights d) }
+    ensures accuracy { (q : RequestValue) (rights : Rights) (d : DataSetsValue) → IsAcceptedSet q rights → q.id ≡ 0x2010
+        → MovesWithGrandmaster ClockAccuracy GrandmasterAccuracy (octet 0 q.octets) d (changed_by q rights d) }
 {}

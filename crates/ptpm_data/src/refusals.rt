@@ -62,8 +62,8 @@ fn needed_right(action: Action, scope: Scope, layout: Layout) -> Rights
     match (action, scope, layout) {
         (Action::Set, Scope::Clock, _) => Rights::CLOCK_SET,
         (Action::Set, Scope::Port, _) => Rights::PORT_SET,
-        (Action::Command, _, Layout::NullPtpManagement) => Rights::empty(),
-        (Action::Command, _, _) => Rights::PORT_COMMAND,
+        (Action::Command, Scope::Port, Layout::NullPtpManagement) => Rights::empty(),
+        (Action::Command, Scope::Port, _) => Rights::PORT_COMMAND,
         _ => Rights::empty(),
     }
 }

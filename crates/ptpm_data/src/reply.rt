@@ -26,7 +26,13 @@ pub struct PortAnswer {
 }
 
 impl Default for PortAnswer {
-    fn default() -> PortAnswer {
+    ghost use Rattle.std.specs.Prelude.{◌≡◌, None};
+    ghost use Rattle.ptpm_data.specs.Reply.{Done, answer_of};
+
+    /// The clock's answer that a COMMAND is done.
+    fn default() -> PortAnswer
+        ensures { answer_of result ≡ record { port = None; outcome = Done } }
+    {
         PortAnswer {
             port: None,
             what: What::Done,

@@ -12,6 +12,7 @@ use crate::port_state::{DelayMechanism, PortState};
 use crate::ranges;
 use arrayvec::ArrayVec;
 use ptpm_codec::{ClockIdentity, PortIdentity};
+use std::fmt;
 use thiserror::Error;
 
 /// The start values of a clock's own members. `None` is the clock's own value, or for `parent_port` its port 0.
@@ -84,17 +85,30 @@ pub struct PortStart {
 #[derive(Clone, Copy, Debug, PartialEq, Eq, Error)]
 pub enum StartError {
     /// A clock has a port at least.
-    #[error("NoPorts")]
     NoPorts,
     /// A clock has eight ports at most.
-    #[error("TooManyPorts")]
     TooManyPorts,
     /// A member is out of its range: the first such of the clock, else of the first port that has one.
-    #[error("BadValue {0}")]
     BadValue(Member),
     /// The clock is its own grandmaster, and a priority or quality of its grandmaster is not its own.
-    #[error("GrandmasterDiffers")]
     GrandmasterDiffers,
+}
+
+/// The name, and after `BadValue` that of the member.
+impl fmt::Display for StartError {
+    ghost use Rattle.std.specs.Prelude.{Some};
+    ghost use Rattle.ptpm_data.specs.ErrorText.{start_error_text};
+
+    ghost output = { λ fault. Some (start_error_text fault) };
+
+    fn fmt<W: fmt::Write>(&self, f: &mut fmt::Formatter<W>) -> fmt::Result {
+        match self {
+            StartError::NoPorts => f.write_str("NoPorts"),
+            StartError::TooManyPorts => f.write_str("TooManyPorts"),
+            StartError::BadValue(member) => write!(f, "BadValue {member}"),
+            StartError::GrandmasterDiffers => f.write_str("GrandmasterDiffers"),
+        }
+    }
 }
 
 impl ClockStart {

@@ -1,6 +1,7 @@
 use Rattle.std.proofs.Common.{refl}
 use Rattle.ptpm_data.specs.Replies.{read_reply_to, reply_of, read_refusal}
 use Rattle.ptpm_data.proofs.ReplyLemmas.{reply_of-one, reply_of-outcomes, reply_of-count}
+use Rattle.ptpm_data.proofs.Getting.{read-as-numbered}
 use Rattle.ptpm_data.proofs.laws.read_reply_law.Goals as goal
 
 pub returns-clause-action : goal.returns-clause-action
@@ -26,3 +27,6 @@ returns-clause-some_answer c = λ q d s target. (reply_of-count q (read_refusal 
 pub returns-clause-at_most_eight_answers : goal.returns-clause-at_most_eight_answers
 unfolding read_reply_to
 returns-clause-at_most_eight_answers c = λ q d s target. (reply_of-count q (read_refusal q) d target s).1
+
+pub returns-clause-get : goal.returns-clause-get
+returns-clause-get c = read-as-numbered

@@ -1,0 +1,12 @@
+-- How the refusal of a start is written (this project's profile).
+use Rattle.std.specs.Prelude.{ℕ, List, ◌++◌, codes}
+use Rattle.ptpm_data.specs.declared.start.StartError.{StartError}
+use Rattle.ptpm_data.specs.declared.start.StartError.TheVariants as faults
+use Rattle.ptpm_data.specs.MemberNames.{member_name}
+
+-- behind BadValue stands the name of the member
+abbrev pub start_error_text : StartError → List ℕ
+start_error_text faults.NoPorts = codes "NoPorts"
+start_error_text faults.TooManyPorts = codes "TooManyPorts"
+start_error_text (faults.BadValue member) = codes "BadValue " ++ member_name member
+start_error_text faults.GrandmasterDiffers = codes "GrandmasterDiffers"
