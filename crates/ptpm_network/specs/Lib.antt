@@ -7,3 +7,4 @@ pub mod Invariant
 pub mod Stands
 pub mod Happening
 pub mod Replying
+pub mod Headline
