@@ -21,6 +21,7 @@ pub mod Refusing
 pub mod Hearing
 pub mod Taking
 pub mod Running
+pub mod Promise
 pub mod TurnSends
 pub mod Posting
 pub mod TurnKeeps

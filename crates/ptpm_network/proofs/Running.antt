@@ -1,5 +1,5 @@
 -- A running network goes through every event as the machine does.
-use Rattle.std.proofs.Common.{◌≡◌, ℕ, ◌<◌, List, [], ◌∷◌, Option, Some, None, true, false, refl, sym, ◌∙◌, ap, subst, ⊎_elim, length}
+use Rattle.std.proofs.Common.{◌≡◌, ℕ, ◌<◌, List, [], ◌∷◌, ◌++◌, Option, Some, None, true, false, refl, sym, ◌∙◌, ap, subst, ⊎_elim, length}
 use Rattle.std.proofs.lemmas.Bool.{cases_Bool, cond-true, cond-false}
 use Rattle.std.specs.Prelude.{is_none, option_map}
 use Rattle.std.specs.List.{AllByRecursion}
@@ -14,18 +14,18 @@ use Rattle.ptpm_network.specs.Happening.{happened, held_at, ran, reaches, reache
 use Rattle.ptpm_network.specs.Invariant.{IsFrame, IsReached}
 use Rattle.ptpm_network.specs.Machine.{AreInTime, begun_in, delivered, delivered_at, delivered_at_clock, happens, is_late_delivery, is_late_frame, report_from, run, step, step_by, strange_frame, taken}
 use Rattle.ptpm_network.specs.Network.{AtPort, AtSession, End, HasEnd, IsNetwork, Network}
-use Rattle.ptpm_network.specs.Stands.{AreFirsts, Held, Running, Stands, held, starting}
+use Rattle.ptpm_network.specs.Stands.{AreFirsts, Held, Running, Stands, held}
 use Rattle.ptpm_network.specs.State.{Frame, NetworkState, at_first, is_late}
 use Rattle.ptpm_network.proofs.Frames.{heard-frame, le_le}
 use Rattle.ptpm_network.proofs.Hearing.{begun-value, hears-stands, sends-stand, session-stands}
 use Rattle.ptpm_network.proofs.Held.{held_at-map, turned-seen}
 use Rattle.ptpm_network.proofs.InTime.{in_window}
-use Rattle.ptpm_network.proofs.Reaching.{first-reached, frame_at-is, port-exists, session-exists, step-reached}
+use Rattle.ptpm_network.proofs.Reaching.{frame_at-is, port-exists, session-exists, step-reached}
 use Rattle.ptpm_network.proofs.Refusing.{refused-as}
 use Rattle.ptpm_network.proofs.Schedule.{reached}
-use Rattle.ptpm_network.proofs.Standing.{stands-at_first, stands-turned}
+use Rattle.ptpm_network.proofs.Standing.{stands-turned}
 use Rattle.ptpm_network.proofs.Strangers.{strange-message}
-use Rattle.ptpm_network.proofs.Taking.{is_none-none}
+use Rattle.ptpm_network.proofs.Taking.{is_none-none, run-append}
 
 -- ---- a frame comes in
 
@@ -90,19 +90,20 @@ happened-stands N first r w (Stranger c port datagram) firsts n reached at i e l
 
 -- ---- a list of events
 
-ran-stands : (N : Network) (first : PortIdentity → ℕ) (r : Running) (w : NetworkState) (es : List Event) → AreFirsts N first → IsNetwork N → IsReached N w → Stands N first r w → AllByRecursion IsInRange es → AreInTime N w es
+ran-stands : (N : Network) (first : PortIdentity → ℕ) (r : Running) (w : NetworkState) (es : List Event) → AreFirsts N first → IsNetwork N → IsReached N w → Stands N first r w → AllByRecursion IsInRange es → AreInTime N w (taken N w es)
     → Stands N first (ran N r es) (run N w (taken N w es))
 ran-stands N first r w [] firsts n reached at i time = at
 ran-stands N first r w (e ∷ es) firsts n reached at i time = ⊎_elim
     (λ (y : is_none (refusal N w e) ≡ true).
     let none : refusal N w e ≡ None = is_none-none (refusal N w e) y in
     let next : step N w e ≡ happens N w e = ap (λ (o : Option Refusal). step_by o N w e) none in
-    let there : Stands N first (happened N r e) (step N w e) = subst (Stands N first (happened N r e)) (sym next) (happened-stands N first r w e firsts n reached at i.0 none (time.0 none)) in
     let goes : taken N w (e ∷ es) ≡ e ∷ taken N (step N w e) es = cond-true _ _ _ y in
+    let timely : AreInTime N w (e ∷ taken N (step N w e) es) = subst (AreInTime N w) goes time in
+    let there : Stands N first (happened N r e) (step N w e) = subst (Stands N first (happened N r e)) (sym next) (happened-stands N first r w e firsts n reached at i.0 none (timely.0 none)) in
     let runs : ran N r (e ∷ es) ≡ ran N (happened N r e) es = cond-true _ _ _ (ap is_none (refused-as N first r w e reached at) ∙ y) in
     subst (λ (x : Running). Stands N first x (run N w (taken N w (e ∷ es)))) (sym runs)
     (subst (λ (ts : List Event). Stands N first (ran N (happened N r e) es) (run N w ts)) (sym goes)
-    (ran-stands N first (happened N r e) (step N w e) es firsts n (step-reached N w e n i.0 reached) there i.1 time.1)))
+    (ran-stands N first (happened N r e) (step N w e) es firsts n (step-reached N w e n i.0 reached) there i.1 timely.1)))
     (λ (o : is_none (refusal N w e) ≡ false).
     let stops : taken N w (e ∷ es) ≡ [] = cond-false _ _ _ o in
     let halts : ran N r (e ∷ es) ≡ r = cond-false _ _ _ (ap is_none (refused-as N first r w e reached at) ∙ o) in
@@ -119,6 +120,10 @@ pub happened-running : (N : Network) (es : List Event) (first : PortIdentity →
     → IsInRange e → refusal N (run N (at_first N) es) e ≡ None → is_late_delivery (run N (at_first N) es) e ≡ false → Stands N first (happened N r e) (happens N (run N (at_first N) es) e)
 happened-running N es first r e n i firsts at range none late = happened-stands N first r (run N (at_first N) es) e firsts n (reached N es n i) at range none late
 
-pub ran-running : (N : Network) (es : List Event) (first : PortIdentity → ℕ) → IsNetwork N → AllByRecursion IsInRange es → AreFirsts N first → AreInTime N (at_first N) es
-    → Stands N first (ran N (starting N) es) (run N (at_first N) (taken N (at_first N) es))
-ran-running N es first n i firsts time = ran-stands N first (starting N) (at_first N) es firsts n (first-reached N n) (stands-at_first N first) i time
+pub ran-running : (N : Network) (past es : List Event) (first : PortIdentity → ℕ) (r : Running) → IsNetwork N → AllByRecursion IsInRange past → AreFirsts N first → Stands N first r (run N (at_first N) past)
+    → AllByRecursion IsInRange es → AreInTime N (run N (at_first N) past) (taken N (run N (at_first N) past) es)
+    → Stands N first (ran N r es) (run N (at_first N) (past ++ taken N (run N (at_first N) past) es))
+ran-running N past es first r n i firsts at range time =
+    let w : NetworkState = run N (at_first N) past in
+    subst (Stands N first (ran N r es)) (sym (run-append N (at_first N) past (taken N w es)))
+    (ran-stands N first r w es firsts n (reached N past n i) at range time)

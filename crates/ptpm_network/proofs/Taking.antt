@@ -1,4 +1,4 @@
--- What is taken of a list of events: all before the first that is refused.
+-- One list of events after another, and what is taken of a list: all before the first that is refused.
 use Rattle.std.proofs.Common.{◌≡◌, List, [], ◌∷◌, ◌++◌, Option, Some, None, true, false, refl, sym, ◌∙◌, ap, subst, ⊎_elim}
 use Rattle.std.proofs.lemmas.Bool.{cases_Bool, cond-true, cond-false}
 use Rattle.std.specs.Prelude.{is_none}
@@ -11,6 +11,22 @@ use Rattle.ptpm_network.specs.State.{NetworkState}
 pub is_none-none : {A : Type 0} (o : Option A) → is_none o ≡ true → o ≡ None
 is_none-none None y = refl
 is_none-none (Some a) y = absurd (cc)
+
+-- ---- one list after another
+
+pub run-append : (N : Network) (w : NetworkState) (es fs : List Event) → run N w (es ++ fs) ≡ run N (run N w es) fs
+run-append N w [] fs = refl
+run-append N w (e ∷ es) fs = run-append N (step N w e) es fs
+
+pub in_time-append : (N : Network) (w : NetworkState) (es fs : List Event) → AreInTime N w es → AreInTime N (run N w es) fs → AreInTime N w (es ++ fs)
+in_time-append N w [] fs front rest = rest
+in_time-append N w (e ∷ es) fs front rest = (front.0, in_time-append N (step N w e) es fs front.1 rest)
+
+pub in_time-parts : (N : Network) (w : NetworkState) (es fs : List Event) → AreInTime N w (es ++ fs) → AreInTime N w es × AreInTime N (run N w es) fs
+in_time-parts N w [] fs time = (tt, time)
+in_time-parts N w (e ∷ es) fs time = let p = in_time-parts N (step N w e) es fs time.1 in ((time.0, p.0), p.1)
+
+-- ---- what is taken
 
 -- the whole list, where no event of it is refused in its turn
 pub taken-whole : (N : Network) (w : NetworkState) (es : List Event) → ((front rest : List Event) (e : Event) → es ≡ front ++ e ∷ rest → refusal N (run N w front) e ≡ None) → taken N w es ≡ es
@@ -32,4 +48,20 @@ taken-in_time N w [] time = tt
 taken-in_time N w (e ∷ es) time = ⊎_elim
     (λ (y : is_none (refusal N w e) ≡ true). subst (AreInTime N w) (sym (cond-true _ _ _ y)) (time.0, taken-in_time N (step N w e) es time.1))
     (λ (n : is_none (refusal N w e) ≡ false). subst (AreInTime N w) (sym (cond-false _ _ _ n)) tt)
+    (cases_Bool (is_none (refusal N w e)))
+
+same_rest : (e : Event) (es fs : List Event) → e ∷ es ≡ e ∷ fs → es ≡ fs
+same_rest e es fs h = cc
+
+none_left : {X : Type 0} (e : Event) (es : List Event) → [] ≡ e ∷ es → X
+none_left e es h = absurd (cc)
+
+-- what is taken of a list whose front is taken whole
+pub taken-append : (N : Network) (w : NetworkState) (es fs : List Event) → taken N w es ≡ es → taken N w (es ++ fs) ≡ es ++ taken N (run N w es) fs
+taken-append N w [] fs whole = refl
+taken-append N w (e ∷ es) fs whole = ⊎_elim
+    (λ (y : is_none (refusal N w e) ≡ true).
+    let rest : taken N (step N w e) es ≡ es = same_rest e (taken N (step N w e) es) es (sym (cond-true _ _ _ y) ∙ whole) in
+    cond-true _ _ _ y ∙ ap (λ (ts : List Event). e ∷ ts) (taken-append N (step N w e) es fs rest))
+    (λ (n : is_none (refusal N w e) ≡ false). none_left e es (sym (cond-false _ _ _ n) ∙ whole))
     (cases_Bool (is_none (refusal N w e)))

@@ -120,7 +120,8 @@ pub fn answers_by_octets()
 {}
 
 /// What is taken of a list of events is all before the first that is refused. It is the whole list where none of it is refused
-/// in its turn, and what the other laws ask of a list holds of what is taken of it.
+/// in its turn, and what the other laws ask of a list holds of what is taken of it. Of two lists, one after another, it is the
+/// first and what is taken of the second, where the first is taken whole.
 pub fn events_taken()
     ensures whole { (N : Network) (w : NetworkState) (es : List Event) →
         ((front rest : List Event) (e : Event) → es ≡ front ++ e ∷ rest → refusal N (run N w front) e ≡ None) →
@@ -129,14 +130,25 @@ pub fn events_taken()
         AllByRecursion IsInRange es → AllByRecursion IsInRange (taken N w es) }
     ensures in_time { (N : Network) (w : NetworkState) (es : List Event) →
         AreInTime N w es → AreInTime N w (taken N w es) }
+    ensures appended { (N : Network) (w : NetworkState) (front rest : List Event) →
+        taken N w front ≡ front → taken N w (front ++ rest) ≡ front ++ taken N (run N w front) rest }
+{}
+
+/// Two lists of events, one after another, lead where the second leads from where the first does; and no delivery of both is
+/// late where none of either is.
+pub fn events_appended()
+    ensures run { (N : Network) (w : NetworkState) (front rest : List Event) →
+        run N w (front ++ rest) ≡ run N (run N w front) rest }
+    ensures in_time { (N : Network) (w : NetworkState) (front rest : List Event) →
+        AreInTime N w (front ++ rest) ↔ (AreInTime N w front × AreInTime N (run N w front) rest) }
 {}
 
 /// A running network, whose clocks and sessions tell requests apart by sequenceIds and octets, goes through every list of
 /// events as the machine does:
 /// - where it stands at a state that the machine reaches, it refuses the events that the machine refuses, for the same reasons;
 /// - after an event that is not refused, and is no late delivery, it stands at the machine's next state;
-/// - so from its start, where no delivery is late, it goes through the events up to the first that is refused, and stands where
-///   they lead the machine.
+/// - so, from any such state, it goes through the events up to the first that is refused, and stands where they lead the
+///   machine, if none of these delivers a frame late.
 pub fn running_networks_stand()
     ensures refused { (N : Network) (es : List Event) (first : PortIdentity → ℕ) (r : Running) (e : Event) →
         IsNetwork N → AllByRecursion IsInRange es →
@@ -147,9 +159,9 @@ pub fn running_networks_stand()
         AreFirsts N first → Stands N first r (run N (at_first N) es) →
         IsInRange e → refusal N (run N (at_first N) es) e ≡ None → is_late_delivery (run N (at_first N) es) e ≡ false →
         Stands N first (happened N r e) (happens N (run N (at_first N) es) e) }
-    ensures every { (N : Network) (es : List Event) (first : PortIdentity → ℕ) →
-        IsNetwork N → AllByRecursion IsInRange es →
-        AreFirsts N first →
-        AreInTime N (at_first N) es →
-        Stands N first (ran N (starting N) es) (run N (at_first N) (taken N (at_first N) es)) }
+    ensures every { (N : Network) (past es : List Event) (first : PortIdentity → ℕ) (r : Running) →
+        IsNetwork N → AllByRecursion IsInRange past →
+        AreFirsts N first → Stands N first r (run N (at_first N) past) →
+        AllByRecursion IsInRange es → AreInTime N (run N (at_first N) past) (taken N (run N (at_first N) past) es) →
+        Stands N first (ran N r es) (run N (at_first N) (past ++ taken N (run N (at_first N) past) es)) }
 {}

@@ -3,9 +3,11 @@
 //! what the network promises over every list of events.
 #![tactic(auto)]
 
+mod headline_laws;
 mod laws;
 
+pub use headline_laws::{headline, stands_after};
 pub use laws::{
-    answers_by_octets, clocks_stand, events_taken, every_schedule, hops_lost, in_the_window,
-    one_request_at_a_time, outbox_of_turns, running_networks_stand,
+    answers_by_octets, clocks_stand, events_appended, events_taken, every_schedule, hops_lost,
+    in_the_window, one_request_at_a_time, outbox_of_turns, running_networks_stand,
 };

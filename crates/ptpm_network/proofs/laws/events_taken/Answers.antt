@@ -1,4 +1,4 @@
-use Rattle.ptpm_network.proofs.Taking.{taken-in_range, taken-in_time, taken-whole}
+use Rattle.ptpm_network.proofs.Taking.{taken-append, taken-in_range, taken-in_time, taken-whole}
 use Rattle.ptpm_network.proofs.laws.events_taken.Goals as goal
 
 pub returns-clause-whole : goal.returns-clause-whole
@@ -9,3 +9,6 @@ returns-clause-in_range c = taken-in_range
 
 pub returns-clause-in_time : goal.returns-clause-in_time
 returns-clause-in_time c = taken-in_time
+
+pub returns-clause-appended : goal.returns-clause-appended
+returns-clause-appended c = taken-append

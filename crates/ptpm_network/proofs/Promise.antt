@@ -1,0 +1,151 @@
+-- The promise of a network, and the states of a running network in which it holds.
+use Rattle.std.proofs.Common.{suc, zero, arith, ◌≡◌, ℕ, ◌<◌, ◌≤◌, List, [], ◌∷◌, ◌++◌, Option, Some, None, true, false, sym, ◌∙◌, ap, subst, ⊎_elim, length, append_assoc}
+use Rattle.std.proofs.lemmas.Bool.{cases_Bool, cases_eq, cond-true, cond-false, true≢false}
+use Rattle.std.proofs.lemmas.List.{append-nil}
+use Rattle.std.specs.Prelude.{if◌then◌else◌}
+use Rattle.std.specs.List.{AllByRecursion}
+use Rattle.ptpm_codec.specs.declared.identity.PortIdentity.{PortIdentity}
+use Rattle.ptpm_codec.specs.Identity.{same_identity}
+use Rattle.ptpm_table.proofs.Identities.{same_identity-refl, same_identity-true}
+use Rattle.ptpm_agent.specs.Once.{Accepted, kept_reply}
+use Rattle.ptpm_manager.specs.declared.report.Report.{Report}
+use Rattle.ptpm_network.specs.Events.{Event, IsInRange, Refusal, refusal}
+use Rattle.ptpm_network.specs.Happening.{happened, ran, refused}
+use Rattle.ptpm_network.specs.Headline.{Headline, IsPromised, StandsAfter}
+use Rattle.ptpm_network.specs.Invariant.{IsReached}
+use Rattle.ptpm_network.specs.Machine.{AreInTime, happens, is_late_delivery, run, step_by, taken}
+use Rattle.ptpm_network.specs.Network.{IsNetwork, Network, manager}
+use Rattle.ptpm_network.specs.Stands.{AreFirsts, Running, Stands, starting}
+use Rattle.ptpm_network.specs.State.{NetworkState, accepted_at_target, at_first, greatest_accepted, outcomes_kept, reports_of}
+use Rattle.ptpm_network.proofs.Lists.{all_append}
+use Rattle.ptpm_network.proofs.Running.{happened-running, ran-running, refused-running}
+use Rattle.ptpm_network.proofs.Schedule.{reached}
+use Rattle.ptpm_network.proofs.Standing.{stands-at_first}
+use Rattle.ptpm_network.proofs.Taking.{in_time-append, run-append, taken-in_range}
+
+-- ---- first sequenceIds
+
+-- of the first n sessions, and 0 of everyone else
+first_of_sessions : Network → ℕ → PortIdentity → ℕ
+first_of_sessions N zero m = 0
+first_of_sessions N (suc n) m = if same_identity m (manager N n) then (N.session n).setup.first else first_of_sessions N n m
+
+none_below : {X : Type 0} (s : ℕ) → s < 0 → X
+none_below s h = absurd (omega arith)
+
+first_of-session : (N : Network) (n s : ℕ) → IsNetwork N → n ≤ N.sessions → s < n → first_of_sessions N n (manager N s) ≡ (N.session s).setup.first
+unfolding first_of_sessions
+first_of-session N zero s is le below = none_below s below
+first_of-session N (suc n) s is le below = ⊎_elim
+    (λ (y : same_identity (manager N s) (manager N n) ≡ true).
+    let same : s ≡ n = is.sessions_apart s n (omega arith) (omega arith) (same_identity-true (manager N s) (manager N n) y) in
+    cond-true _ _ _ y ∙ ap (λ j. (N.session j).setup.first) (sym same))
+    (λ (o : same_identity (manager N s) (manager N n) ≡ false). ⊎_elim
+    (λ (q : s ≡ n). absurd (true≢false (sym (same_identity-refl (manager N n)) ∙ (ap (λ j. same_identity (manager N j) (manager N n)) (sym q) ∙ o))))
+    (λ (ne : s ≡ n → ⊥). cond-false _ _ _ o ∙ first_of-session N n s is (omega arith) (omega arith))
+    (cases_eq s n))
+    (cases_Bool (same_identity (manager N s) (manager N n)))
+
+-- there are such as the sessions have
+firsts : (N : Network) → IsNetwork N → AreFirsts N (first_of_sessions N N.sessions)
+firsts N is s place = first_of-session N N.sessions s is (omega arith) place
+
+-- ---- the promise
+
+-- what a manager is to be told begins with what it is to be told of its first requests
+told-begins : (m : PortIdentity) (accepted : List Accepted) (g n : ℕ) → n ≤ g → (rest : List Report) × (outcomes_kept m accepted g ≡ outcomes_kept m accepted n ++ rest)
+told-begins m accepted zero n le =
+    let none : n ≡ 0 = omega arith in
+    ([], sym (append-nil (outcomes_kept m accepted n) ∙ ap (outcomes_kept m accepted) none))
+told-begins m accepted (suc g) n le = ⊎_elim
+    (λ (q : n ≡ suc g). ([], sym (append-nil (outcomes_kept m accepted n) ∙ ap (outcomes_kept m accepted) q)))
+    (λ (ne : n ≡ suc g → ⊥).
+    let p = told-begins m accepted g n (omega arith) in
+    let last : List Report = reports_of (suc g) (kept_reply m (suc g) accepted) in
+    (p.0 ++ last, ap (λ (rs : List Report). rs ++ last) p.1 ∙ append_assoc (outcomes_kept m accepted n) p.0 last))
+    (cases_eq n (suc g))
+
+reached-headline : (N : Network) (first : PortIdentity → ℕ) (w : NetworkState) (r : Running) → IsReached N w → Stands N first r w → Headline N w r
+reached-headline N first w r reached at = record {
+  sets = λ c place. (at.clocks c place).sets;
+  frames = at.frames;
+  reports = λ s place.
+      let session = reached.sessions s place in
+      let p = told-begins (manager N s) (accepted_at_target N w s) (greatest_accepted N w s) (length (w.session s).reports) session.accepted_before in
+      (p.0, p.1 ∙ ap (λ (rs : List Report). rs ++ p.0) (sym session.reports ∙ sym (at.reports s place)));
+  at_most_begun = λ s place.
+      let session = reached.sessions s place in
+      omega (arith, ap length (at.reports s place), session.accepted_before, session.begun_before);
+  at_most_one_less = λ s place.
+      let session = reached.sessions s place in
+      omega (arith, ap length (at.reports s place), session.one_at_a_time);
+  at_most_accepted = λ s place.
+      let session = reached.sessions s place in
+      omega (arith, ap length (at.reports s place), session.accepted_before);
+}
+
+pub stands-headline : (N : Network) (events : List Event) (r : Running) → StandsAfter N events r → Headline N (run N (at_first N) events) r
+stands-headline N events r at =
+    let p = at.promised in
+    reached-headline N (first_of_sessions N N.sessions) (run N (at_first N) events) r (reached N events p.network p.in_range)
+    (at.stands (first_of_sessions N N.sessions) (firsts N p.network))
+
+-- ---- where it holds
+
+pub stands-first : (N : Network) → IsNetwork N → StandsAfter N [] (starting N)
+stands-first N n = record {
+  promised = record { network = n; in_range = tt; in_time = tt };
+  stands = λ first firsts. stands-at_first N first;
+}
+
+-- the premises hold of more events
+promised-more : (N : Network) (past es : List Event) → IsPromised N past → AllByRecursion IsInRange es → AreInTime N (run N (at_first N) past) es → IsPromised N (past ++ es)
+promised-more N past es p range time = record {
+  network = p.network;
+  in_range = all_append IsInRange past es p.in_range range;
+  in_time = in_time-append N (at_first N) past es p.in_time time;
+}
+
+pub stands-happened : (N : Network) (past : List Event) (r : Running) (e : Event) → StandsAfter N past r → IsInRange e → refusal N (run N (at_first N) past) e ≡ None → is_late_delivery (run N (at_first N) past) e ≡ false
+    → StandsAfter N (past ++ e ∷ []) (happened N r e)
+stands-happened N past r e at range none late =
+    let p = at.promised in
+    let w : NetworkState = run N (at_first N) past in
+    let next : run N (at_first N) (past ++ e ∷ []) ≡ happens N w e =
+    run-append N (at_first N) past (e ∷ []) ∙ ap (λ (o : Option Refusal). step_by o N w e) none in
+    record {
+      promised = promised-more N past (e ∷ []) p (range, tt) ((λ accepted. late), tt);
+      stands = λ first firsts. subst (Stands N first (happened N r e)) (sym next)
+          (happened-running N past first r e p.network p.in_range firsts (at.stands first firsts) range none late);
+    }
+
+some_none : {X : Type 0} (reason : Refusal) → Some reason ≡ None → X
+some_none reason h = absurd (cc)
+
+pub stands-refused : (N : Network) (past : List Event) (r : Running) (e : Event) (reason : Refusal) → StandsAfter N past r → IsInRange e → refusal N (run N (at_first N) past) e ≡ Some reason
+    → StandsAfter N (past ++ e ∷ []) r
+stands-refused N past r e reason at range some =
+    let p = at.promised in
+    let w : NetworkState = run N (at_first N) past in
+    let stays : run N (at_first N) (past ++ e ∷ []) ≡ w =
+    run-append N (at_first N) past (e ∷ []) ∙ ap (λ (o : Option Refusal). step_by o N w e) some in
+    record {
+      promised = promised-more N past (e ∷ []) p (range, tt) ((λ none. some_none reason (sym some ∙ none)), tt);
+      stands = λ first firsts. subst (Stands N first r) (sym stays) (at.stands first firsts);
+    }
+
+pub stands-ran : (N : Network) (past : List Event) (r : Running) (es : List Event) → StandsAfter N past r → AllByRecursion IsInRange es → AreInTime N (run N (at_first N) past) (taken N (run N (at_first N) past) es)
+    → StandsAfter N (past ++ taken N (run N (at_first N) past) es) (ran N r es)
+stands-ran N past r es at range time =
+    let p = at.promised in
+    let w : NetworkState = run N (at_first N) past in
+    record {
+      promised = promised-more N past (taken N w es) p (taken-in_range N w es range) time;
+      stands = λ first firsts. ran-running N past es first r p.network p.in_range firsts (at.stands first firsts) range time;
+    }
+
+pub stands-judged : (N : Network) (past : List Event) (r : Running) (e : Event) → StandsAfter N past r → refused N r e ≡ refusal N (run N (at_first N) past) e
+stands-judged N past r e at =
+    let p = at.promised in
+    let first : PortIdentity → ℕ = first_of_sessions N N.sessions in
+    refused-running N past first r e p.network p.in_range (at.stands first (firsts N p.network))
