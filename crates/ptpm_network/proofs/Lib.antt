@@ -25,3 +25,4 @@ pub mod Promise
 pub mod TurnSends
 pub mod Posting
 pub mod TurnKeeps
+pub mod Worth

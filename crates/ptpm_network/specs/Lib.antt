@@ -8,3 +8,4 @@ pub mod Stands
 pub mod Happening
 pub mod Replying
 pub mod Headline
+pub mod Worth

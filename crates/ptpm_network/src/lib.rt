@@ -5,9 +5,11 @@
 
 mod headline_laws;
 mod laws;
+mod progress_laws;
 
 pub use headline_laws::{headline, stands_after};
 pub use laws::{
     answers_by_octets, clocks_stand, events_appended, events_taken, every_schedule, hops_lost,
     in_the_window, one_request_at_a_time, outbox_of_turns, running_networks_stand,
 };
+pub use progress_laws::reported_exactly_once;

@@ -1,0 +1,271 @@
+-- What a report is worth: its request was carried out exactly once, and the report tells the answer of that moment.
+use Rattle.std.proofs.Common.{suc, zero, arith, ◌≡◌, ℕ, ◌<◌, ◌≤◌, ◌+◌, ◌-◌, ◌==◌, ◌&&◌, max, Bool, List, [], ◌∷◌, ◌++◌, Option, Some, None, true, false, refl, sym, ◌∙◌, ap, subst, ⊎_elim, ◌⊎◌, inl, inr, length, length-append, append_assoc}
+use Rattle.std.proofs.lemmas.Bool.{cases_Bool, and_parts, and_left, and_right, eqb-true, ltb-true, ne_eqb, cond-true, cond-false, lt-ltb}
+use Rattle.std.proofs.lemmas.List.{append-nil}
+use Rattle.std.specs.Prelude.{is_some, nat_lt, not, option_map, slice_get}
+use Rattle.std.specs.Option.{option_or}
+use Rattle.std.specs.List.{AllByRecursion, find}
+use Rattle.ptpm_codec.specs.declared.identity.PortIdentity.{PortIdentity}
+use Rattle.ptpm_codec.specs.Identity.{same_identity}
+use Rattle.ptpm_codec.specs.Ordered.{first_of}
+use Rattle.ptpm_data.specs.Members.{DataSetsValue}
+use Rattle.ptpm_data.specs.Reply.{Answer}
+use Rattle.ptpm_data.specs.Request.{RequestValue}
+use Rattle.ptpm_table.proofs.Identities.{same_identity-true}
+use Rattle.ptpm_agent.specs.Once.{Accepted, Delivery, History, RequestCopy, accepted_from, after, after_arrival, applied_once, beginning, copy_of, greatest, joins, kept_reply}
+use Rattle.ptpm_agent.specs.Turn.{Clock}
+use Rattle.ptpm_manager.specs.declared.ask.Ask.{Ask}
+use Rattle.ptpm_manager.specs.declared.error.BeginError.TheVariants as begins
+use Rattle.ptpm_manager.specs.declared.report.Report.{Report}
+use Rattle.ptpm_manager.specs.Ask.{ask_refusal}
+use Rattle.ptpm_manager.specs.Session.{SessionValue, begin_refusal, count_limit, is_waiting}
+use Rattle.ptpm_network.specs.Events.{Begin, BeginRefused, Event, IsInRange, NoSuchName, begin_refused, no_session, refusal}
+use Rattle.ptpm_network.specs.Invariant.{IsReached, WasAccepted}
+use Rattle.ptpm_network.specs.Machine.{run}
+use Rattle.ptpm_network.specs.Network.{IsNetwork, Network, manager}
+use Rattle.ptpm_network.specs.State.{NetworkState, SessionState, accepted_at_target, at_first, history, issued, outcomes_kept, reports_by, reports_of, session_value, unanswered}
+use Rattle.ptpm_network.specs.Worth.{IsWorth, WasCarriedOut, entries_of}
+use Rattle.ptpm_network.proofs.Accepting.{report_of}
+use Rattle.ptpm_network.proofs.Arriving.{applied_once-append}
+use Rattle.ptpm_network.proofs.Lists.{all_weaker}
+use Rattle.ptpm_network.proofs.Refusals.{get-below}
+use Rattle.ptpm_network.proofs.Schedule.{reached}
+
+-- ---- no request is carried out twice
+
+above-same : (g h index k : ℕ) → g ≡ max index h → g < k → (h < k) × (index ≡ k → ⊥)
+above-same g h index k e lt = (omega arith, λ q. omega arith)
+
+-- above the greatest index of a manager nothing was accepted
+none_above : (m : PortIdentity) (k : ℕ) (es : List Accepted) → greatest m es < k → entries_of m k es ≡ []
+none_above m k [] above = refl
+none_above m k (d ∷ es) above = ⊎_elim
+    (λ (y : same_identity m d.manager ≡ true).
+    let p = above-same (greatest m (d ∷ es)) (greatest m es) d.index k (cond-true _ _ _ y) above in
+    cond-false _ _ _ (and_right _ _ (ne_eqb d.index k p.1)) ∙ none_above m k es p.0)
+    (λ (n : same_identity m d.manager ≡ false).
+    let other : greatest m (d ∷ es) ≡ greatest m es = cond-false _ _ _ n in
+    cond-false _ _ _ (and_left _ _ n) ∙ none_above m k es (subst (λ g. g < k) other above))
+    (cases_Bool (same_identity m d.manager))
+
+abbrev pub AreOnce : List Accepted → Type 0
+AreOnce es = (m : PortIdentity) (k : ℕ) → length (entries_of m k es) ≤ 1
+
+once-joined : (es : List Accepted) (d : Accepted) → greatest d.manager es < d.index → AreOnce es → AreOnce (d ∷ es)
+once-joined es d above once m k = ⊎_elim
+    (λ (y : (same_identity m d.manager && d.index == k) ≡ true).
+    let parts = and_parts (same_identity m d.manager) (d.index == k) y in
+    let at_m : greatest m es < d.index = subst (λ (n : PortIdentity). greatest n es < d.index) (sym (same_identity-true m d.manager parts.0)) above in
+    let none : entries_of m k es ≡ [] = none_above m k es (subst (λ j. greatest m es < j) (eqb-true d.index k parts.1) at_m) in
+    let one : length (entries_of m k (d ∷ es)) ≡ 1 = ap length (cond-true _ _ _ y) ∙ ap (λ rest. length (d ∷ rest)) none in
+    omega (arith, one))
+    (λ (n : (same_identity m d.manager && d.index == k) ≡ false). subst (λ (rest : List Accepted). length rest ≤ 1) (sym (cond-false _ _ _ n)) (once m k))
+    (cases_Bool (same_identity m d.manager && d.index == k))
+
+once-by : (c : Clock) (h : History) (o : Option RequestCopy) → AreOnce h.accepted → AreOnce (after_arrival c h o).accepted
+once-by c h None once = once
+once-by c h (Some x) once = ⊎_elim
+    (λ (y : joins h x ≡ true).
+    let above : greatest x.heard.source h.accepted < x.index = ltb-true _ _ (and_parts (x.heard.domain == h.sets.default.domain) (nat_lt (greatest x.heard.source h.accepted) x.index) y).1 in
+    subst (λ (g : History). AreOnce g.accepted) (sym (cond-true _ _ _ y)) (once-joined h.accepted (accepted_from c h x) above once))
+    (λ (n : joins h x ≡ false). subst (λ (g : History). AreOnce g.accepted) (sym (cond-false _ _ _ n)) once)
+    (cases_Bool (joins h x))
+
+once-applied : (c : Clock) (h : History) (xs : List Delivery) → AreOnce h.accepted → AreOnce (applied_once c h xs).accepted
+once-applied c h [] once = once
+once-applied c h (x ∷ xs) once = once-applied c (after c h x) xs (once-by c h (copy_of c h.sets x) once)
+
+pub at_most_once : (N : Network) (w : NetworkState) (c : ℕ) → AreOnce (history N w c).accepted
+at_most_once N w c = once-applied (N.clock c) (beginning (N.start c)) (w.arrivals c) (λ m k. omega arith)
+
+-- what is kept is the only entry
+first-entry : (m : PortIdentity) (k : ℕ) (es : List Accepted) (e : Accepted) → kept_reply m k es ≡ Some e → (rest : List Accepted) × (entries_of m k es ≡ e ∷ rest)
+first-entry m k [] e kept = absurd (cc)
+first-entry m k (d ∷ es) e kept = ⊎_elim
+    (λ (y : (same_identity m d.manager && d.index == k) ≡ true).
+    let same : Some d ≡ Some e = sym (cond-true _ _ _ y) ∙ kept in
+    let is : d ≡ e = cc in
+    (entries_of m k es, cond-true _ _ _ y ∙ ap (λ (a : Accepted). a ∷ entries_of m k es) is))
+    (λ (n : (same_identity m d.manager && d.index == k) ≡ false).
+    let rest = first-entry m k es e (sym (cond-false _ _ _ n) ∙ kept) in
+    (rest.0, cond-false _ _ _ n ∙ rest.1))
+    (cases_Bool (same_identity m d.manager && d.index == k))
+
+alone : (e : Accepted) (rest es : List Accepted) → es ≡ e ∷ rest → length es ≤ 1 → es ≡ e ∷ []
+alone e [] es is few = is
+alone e (d ∷ rest) es is few = let size : length es ≡ suc (suc (length rest)) = ap length is in absurd (omega arith)
+
+only-entry : (m : PortIdentity) (k : ℕ) (es : List Accepted) (e : Accepted) → AreOnce es → kept_reply m k es ≡ Some e → entries_of m k es ≡ e ∷ []
+only-entry m k es e once kept = let first = first-entry m k es e kept in alone e first.0 (entries_of m k es) first.1 (once m k)
+
+-- ---- the moment at which a request was carried out
+
+carried_out-before : (c : Clock) (start : DataSetsValue) (xs : List Delivery) (x : Delivery) (e : Accepted) → WasCarriedOut c start xs e → WasCarriedOut c start (xs ++ x ∷ []) e
+carried_out-before c start xs x e was = record {
+  before = was.before;
+  arrival = was.arrival;
+  later = was.later ++ x ∷ [];
+  came_in = ap (λ ys. ys ++ x ∷ []) was.came_in ∙ append_assoc was.before (was.arrival ∷ was.later) (x ∷ []);
+  copy = was.copy;
+  is_copy = was.is_copy;
+  joined = was.joined;
+  is = was.is;
+}
+
+abbrev AreCarriedOut : Clock → DataSetsValue → List Delivery → List Accepted → Type 0
+AreCarriedOut c start xs es = AllByRecursion (WasCarriedOut c start xs) es
+
+carried_out-by : (c : Clock) (start : DataSetsValue) (xs : List Delivery) (x : Delivery) (o : Option RequestCopy) → copy_of c (applied_once c (beginning start) xs).sets x ≡ o
+    → AreCarriedOut c start (xs ++ x ∷ []) (applied_once c (beginning start) xs).accepted → AreCarriedOut c start (xs ++ x ∷ []) (after_arrival c (applied_once c (beginning start) xs) o).accepted
+carried_out-by c start xs x None e all = all
+carried_out-by c start xs x (Some copy) e all =
+    let h : History = applied_once c (beginning start) xs in
+    ⊎_elim
+    (λ (y : joins h copy ≡ true). subst (λ (g : History). AreCarriedOut c start (xs ++ x ∷ []) g.accepted) (sym (cond-true _ _ _ y)) (
+      record { before = xs; arrival = x; later = []; came_in = refl; copy = copy; is_copy = e; joined = y; is = refl },
+      all,
+    ))
+    (λ (n : joins h copy ≡ false). subst (λ (g : History). AreCarriedOut c start (xs ++ x ∷ []) g.accepted) (sym (cond-false _ _ _ n)) all)
+    (cases_Bool (joins h copy))
+
+abbrev AllCarriedOut : Clock → DataSetsValue → List Delivery → Type 0
+AllCarriedOut c start xs = AreCarriedOut c start xs (applied_once c (beginning start) xs).accepted
+
+carried_out-next : (c : Clock) (start : DataSetsValue) (xs : List Delivery) (x : Delivery) → AllCarriedOut c start xs → AllCarriedOut c start (xs ++ x ∷ [])
+carried_out-next c start xs x all =
+    let h : History = applied_once c (beginning start) xs in
+    subst (λ (g : History). AreCarriedOut c start (xs ++ x ∷ []) g.accepted) (sym (applied_once-append c (beginning start) xs x))
+    (carried_out-by c start xs x (copy_of c h.sets x) refl (all_weaker (WasCarriedOut c start xs) (WasCarriedOut c start (xs ++ x ∷ [])) (carried_out-before c start xs x) h.accepted all))
+
+carried_out-from : (c : Clock) (start : DataSetsValue) (xs ys : List Delivery) → AllCarriedOut c start xs → AllCarriedOut c start (xs ++ ys)
+carried_out-from c start xs [] all = subst (AllCarriedOut c start) (sym (append-nil xs)) all
+carried_out-from c start xs (y ∷ ys) all = subst (AllCarriedOut c start) (append_assoc xs (y ∷ []) ys) (carried_out-from c start (xs ++ y ∷ []) ys (carried_out-next c start xs y all))
+
+found : (P : Accepted → Type 0) (test : Accepted → Bool) (es : List Accepted) (e : Accepted) → AllByRecursion P es → find test es ≡ Some e → P e
+found P test [] e all is = absurd (cc)
+found P test (d ∷ es) e all is = ⊎_elim
+    (λ (y : test d ≡ true).
+    let same : Some d ≡ Some e = sym (cond-true _ _ _ y) ∙ is in
+    let q : d ≡ e = cc in subst P q all.0)
+    (λ (n : test d ≡ false). found P test es e all.1 (sym (cond-false _ _ _ n) ∙ is))
+    (cases_Bool (test d))
+
+carried_out : (N : Network) (w : NetworkState) (c : ℕ) (m : PortIdentity) (k : ℕ) (e : Accepted) → kept_reply m k (history N w c).accepted ≡ Some e → WasCarriedOut (N.clock c) (N.start c) (w.arrivals c) e
+carried_out N w c m k e kept =
+    found (WasCarriedOut (N.clock c) (N.start c) (w.arrivals c)) _ (history N w c).accepted e (carried_out-from (N.clock c) (N.start c) [] (w.arrivals c) tt) kept
+
+-- ---- each report tells the one answer to its request
+
+-- what the report of request k tells
+record IsTold (m : PortIdentity) (begun : List RequestValue) (es : List Accepted) (k : ℕ) (report : Report) : Type 0 where
+  pub entry : Accepted
+  pub kept : kept_reply m k es ≡ Some entry
+  pub begun_as : slice_get begun (k - 1) ≡ Some entry.request
+  pub answer : Answer
+  pub one : entry.reply.answers ≡ answer ∷ []
+  pub is : report ≡ report_of k entry answer
+
+get_appended-cases : {X : Type 0} (xs : List X) (y : X) (i : ℕ) (x : X) → slice_get (xs ++ y ∷ []) i ≡ Some x → (slice_get xs i ≡ Some x) ⊎ ((i ≡ length xs) × (y ≡ x))
+get_appended-cases [] y zero x e = inr (refl, cc)
+get_appended-cases [] y (suc i) x e = absurd (cc)
+get_appended-cases (z ∷ xs) y zero x e = inl e
+get_appended-cases (z ∷ xs) y (suc i) x e = ⊎_elim
+    (λ (old : slice_get xs i ≡ Some x). inl old)
+    (λ (new : (i ≡ length xs) × (y ≡ x)). inr (ap suc new.0, new.1))
+    (get_appended-cases xs y i x e)
+
+abbrev AreAccepted : PortIdentity → List RequestValue → List Accepted → Type 0
+AreAccepted m begun es = (k : ℕ) → 0 < k → k ≤ greatest m es → WasAccepted m begun es k
+
+reports_of-was : (m : PortIdentity) (begun : List RequestValue) (es : List Accepted) (k : ℕ) (was : WasAccepted m begun es k) → reports_of k (kept_reply m k es) ≡ report_of k was.entry was.one.answer ∷ []
+reports_of-was m begun es k was = ap (reports_of k) was.is ∙ ap (reports_by k was.entry.reply) was.one.is
+
+outcomes-length : (m : PortIdentity) (begun : List RequestValue) (es : List Accepted) (n : ℕ) → AreAccepted m begun es → n ≤ greatest m es → length (outcomes_kept m es n) ≡ n
+outcomes-length m begun es zero all le = refl
+outcomes-length m begun es (suc n) all le =
+    let was = all (suc n) (omega arith) le in
+    let more : length (outcomes_kept m es (suc n)) ≡ length (outcomes_kept m es n) + 1 =
+    ap (λ rs. length (outcomes_kept m es n ++ rs)) (reports_of-was m begun es (suc n) was) ∙ length-append (outcomes_kept m es n) (report_of (suc n) was.entry was.one.answer ∷ []) in
+    omega (arith, more, outcomes-length m begun es n all (omega arith))
+
+told_at : (m : PortIdentity) (begun : List RequestValue) (es : List Accepted) (n i : ℕ) (r : Report) → AreAccepted m begun es → n ≤ greatest m es → slice_get (outcomes_kept m es n) i ≡ Some r → IsTold m begun es (suc i) r
+told_at m begun es zero i r all le e = absurd (cc)
+told_at m begun es (suc n) i r all le e =
+    let was = all (suc n) (omega arith) le in
+    let last : slice_get (outcomes_kept m es n ++ report_of (suc n) was.entry was.one.answer ∷ []) i ≡ Some r =
+    subst (λ rs. slice_get (outcomes_kept m es n ++ rs) i ≡ Some r) (reports_of-was m begun es (suc n) was) e in
+    ⊎_elim
+    (λ (old : slice_get (outcomes_kept m es n) i ≡ Some r). told_at m begun es n i r all (omega arith) old)
+    (λ (new : (i ≡ length (outcomes_kept m es n)) × (report_of (suc n) was.entry was.one.answer ≡ r)).
+    subst (λ j. IsTold m begun es (suc j) r) (sym (new.0 ∙ outcomes-length m begun es n all (omega arith)))
+    (record { entry = was.entry; kept = was.is; begun_as = was.begun_as; answer = was.one.answer; one = was.one.is; is = sym new.1 }))
+    (get_appended-cases (outcomes_kept m es n) (report_of (suc n) was.entry was.one.answer) i r last)
+
+told : (N : Network) (w : NetworkState) (s i : ℕ) (r : Report) → IsReached N w → s < N.sessions → slice_get (w.session s).reports i ≡ Some r → IsTold (manager N s) (w.session s).begun (accepted_at_target N w s) (suc i) r
+told N w s i r reached place e =
+    let at = reached.sessions s place in
+    told_at (manager N s) (w.session s).begun (accepted_at_target N w s) (length (w.session s).reports) i r at.without_gap at.accepted_before
+    (subst (λ rs. slice_get rs i ≡ Some r) at.reports e)
+
+-- ---- the law
+
+pub report-index : (N : Network) (es : List Event) (s i : ℕ) (r : Report) → IsNetwork N → AllByRecursion IsInRange es → s < N.sessions → slice_get ((run N (at_first N) es).session s).reports i ≡ Some r → r.index ≡ i + 1
+report-index N es s i r n range place e =
+    let index : r.index ≡ suc i = ap (λ (p : Report). p.index) (told N (run N (at_first N) es) s i r (reached N es n range) place e).is in
+    omega arith
+
+pub report-worth : (N : Network) (es : List Event) (s i : ℕ) (r : Report) → IsNetwork N → AllByRecursion IsInRange es → s < N.sessions → slice_get ((run N (at_first N) es).session s).reports i ≡ Some r → IsWorth N (run N (at_first N) es) s r
+report-worth N es s i r n range place e =
+    let w : NetworkState = run N (at_first N) es in
+    let is = told N w s i r (reached N es n range) place e in
+    let index : suc i ≡ r.index = sym (ap (λ (p : Report). p.index) is.is) in
+    let kept : kept_reply (manager N s) r.index (accepted_at_target N w s) ≡ Some is.entry = subst (λ k. kept_reply (manager N s) k (accepted_at_target N w s) ≡ Some is.entry) index is.kept in
+    record {
+      entry = is.entry;
+      once = only-entry (manager N s) r.index (accepted_at_target N w s) is.entry (at_most_once N w (N.session s).target) kept;
+      begun_as = subst (λ k. slice_get (w.session s).begun (k - 1) ≡ Some is.entry.request) index is.begun_as;
+      carried_out = carried_out N w (N.session s).target (manager N s) r.index is.entry kept;
+      answer = is.answer;
+      one = is.one;
+      outcome = ap (λ (p : Report). p.outcome) is.is;
+    }
+
+pub once : (N : Network) (es : List Event) (c : ℕ) (m : PortIdentity) (k : ℕ) → length (entries_of m k (history N (run N (at_first N) es) c).accepted) ≤ 1
+once N es c m k = at_most_once N (run N (at_first N) es) c m k
+
+-- ---- a session waits for its report
+
+begin-busy : (s : SessionValue) (a : Ask) → is_waiting s ≡ true → begin_refusal s a ≡ Some begins.Busy
+unfolding begin_refusal
+begin-busy s a waits = ap (λ b. option_or (first_of ((b, begins.Busy) ∷ [])) (option_or (ask_refusal s.setup.ports a) (first_of ((not (nat_lt s.issued count_limit), begins.CountAtMaximum) ∷ [])))) waits
+
+pub session-named : (N : Network) (s : ℕ) → s < N.sessions → no_session N s ≡ None
+session-named N s place = ap (λ b. first_of ((not b, NoSuchName) ∷ [])) (lt-ltb s N.sessions place)
+
+below_some : (reports begun : ℕ) → reports < begun → begun - 1 < begun
+below_some reports begun lt = omega arith
+
+not_equal : (a b : ℕ) → a < b → a ≡ b → ⊥
+not_equal a b lt e = omega arith
+
+-- the request that is not answered, where fewer were reported than begun
+pub unanswered-some : (s : SessionState) → length s.reports < length s.begun → (q : RequestValue) × (unanswered s ≡ Some q)
+unanswered-some s lt =
+    let last = get-below s.begun (length s.begun - 1) (below_some (length s.reports) (length s.begun) lt) in
+    (last.0, cond-false _ _ _ (ne_eqb (length s.reports) (length s.begun) (not_equal (length s.reports) (length s.begun) lt)) ∙ last.1)
+
+pub begins-busy : (N : Network) (w : NetworkState) (s : ℕ) (a : Ask) → s < N.sessions → length (w.session s).reports < issued w s → refusal N w (Begin s a) ≡ Some (BeginRefused begins.Busy)
+unfolding refusal
+begins-busy N w s a place lt =
+    let waits : is_waiting (session_value (N.session s) (w.session s)) ≡ true = ap is_some (unanswered-some (w.session s) lt).1 in
+    ap (λ o. option_or o (begin_refused N w s a)) (session-named N s place)
+    ∙ ap (option_map BeginRefused) (begin-busy (session_value (N.session s) (w.session s)) a waits)
+
+last_one : (reports begun k : ℕ) → begun ≤ reports + 1 → reports < k → k ≤ begun → k ≡ begun
+last_one reports begun k a b c = omega arith
+
+pub unreported-last : (N : Network) (es : List Event) (s k : ℕ) → IsNetwork N → AllByRecursion IsInRange es → s < N.sessions → length ((run N (at_first N) es).session s).reports < k → k ≤ issued (run N (at_first N) es) s → k ≡ issued (run N (at_first N) es) s
+unreported-last N es s k n range place lt le = last_one (length ((run N (at_first N) es).session s).reports) (issued (run N (at_first N) es) s) k ((reached N es n range).sessions s place).one_at_a_time lt le
+
+pub waits-for_report : (N : Network) (es : List Event) (s : ℕ) (a : Ask) → s < N.sessions → length ((run N (at_first N) es).session s).reports < issued (run N (at_first N) es) s → refusal N (run N (at_first N) es) (Begin s a) ≡ Some (BeginRefused begins.Busy)
+waits-for_report N es s a place lt = begins-busy N (run N (at_first N) es) s a place lt
