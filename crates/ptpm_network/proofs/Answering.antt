@@ -73,7 +73,7 @@ pub reply_frames-are : (N : Network) (w : NetworkState) (c : ℕ) (o : Origin) (
 reply_frames-are N w c o sent n a =
     all_flat (λ m. IsOfOrigin N w m.1 o) (IsFrame N w) _ (λ m p. new_frames-are N w (peers N.links (AtPort c m.0)) m.1 o (has_peers N (AtPort c m.0) n) p) sent a
 
-rendered-one : (me : ClockIdentity) (heard : Heard) (r : ReplyValue) (ingress : ℕ) (a : Answer) → r.answers ≡ a ∷ [] → rendered me heard r ingress ≡ (ingress, canonical (reply_message me heard r.action r.id ingress a)) ∷ []
+pub rendered-one : (me : ClockIdentity) (heard : Heard) (r : ReplyValue) (ingress : ℕ) (a : Answer) → r.answers ≡ a ∷ [] → rendered me heard r ingress ≡ (ingress, canonical (reply_message me heard r.action r.id ingress a)) ∷ []
 unfolding rendered
 rendered-one me heard r ingress a e = ap (map (λ (b : Answer). (ingress, canonical (reply_message me heard r.action r.id ingress b)))) e
 

@@ -109,7 +109,7 @@ pub record SaysReply (N : Network) (w : NetworkState) (s k : ℕ) (octets : List
 number-fits : (n first k : ℕ) → n ≡ number_of first k → n < 2 ^ 16
 number-fits n first k e = omega arith
 
-sendable-one : (q : RequestValue) (e : Accepted) (a : Answer) → e.reply.answers ≡ a ∷ [] → Answers q e.reply → IsSendable a
+pub sendable-one : (q : RequestValue) (e : Accepted) (a : Answer) → e.reply.answers ≡ a ∷ [] → Answers q e.reply → IsSendable a
 sendable-one q e a one answers = (subst (AllByRecursion IsSendable) one answers.sendable).0
 
 pub says_reply : (N : Network) (w : NetworkState) (s k : ℕ) (octets : List ℕ) → IsNetwork N → IsReached N w → IsOfOrigin N w octets (ReplyTo s k) → SaysReply N w s k octets

@@ -26,3 +26,4 @@ pub mod TurnSends
 pub mod Posting
 pub mod TurnKeeps
 pub mod Worth
+pub mod Exchanging

@@ -9,3 +9,4 @@ pub mod Happening
 pub mod Replying
 pub mod Headline
 pub mod Worth
+pub mod Exchange

@@ -1,16 +1,18 @@
 //! What a report is worth, and what the network has to do for a request to be answered. Each law is the contract of a function
 //! that does nothing, and speaks of the definitions alone.
 
-ghost use Rattle.std.specs.Prelude.{◌≡◌, ◌+◌, ◌<◌, ◌≤◌, ℕ, length, List, slice_get, Some};
+ghost use Rattle.std.specs.Prelude.{◌≡◌, ◌+◌, ◌<◌, ◌≤◌, ℕ, false, length, List, None, slice_get, Some};
 ghost use Rattle.std.specs.List.{AllByRecursion};
 ghost use Rattle.ptpm_codec.specs.declared.identity.PortIdentity.{PortIdentity};
+ghost use Rattle.ptpm_codec.specs.Layout.{domain_number};
 ghost use Rattle.ptpm_manager.specs.declared.ask.Ask.{Ask};
 ghost use Rattle.ptpm_manager.specs.declared.error.BeginError.TheVariants as begins;
 ghost use Rattle.ptpm_manager.specs.declared.report.Report.{Report};
-ghost use Rattle.ptpm_network.specs.Events.{Begin, BeginRefused, Event, IsInRange, refusal};
-ghost use Rattle.ptpm_network.specs.Machine.{run};
-ghost use Rattle.ptpm_network.specs.Network.{IsNetwork, Network};
-ghost use Rattle.ptpm_network.specs.State.{at_first, history, issued};
+ghost use Rattle.ptpm_network.specs.Events.{Begin, BeginRefused, Deliver, Event, IsInRange, frame_at, refusal};
+ghost use Rattle.ptpm_network.specs.Exchange.{HasReplied, HasReported, HasRoom, IsHeardBy};
+ghost use Rattle.ptpm_network.specs.Machine.{run, step};
+ghost use Rattle.ptpm_network.specs.Network.{AtPort, AtSession, IsNetwork, Network};
+ghost use Rattle.ptpm_network.specs.State.{Frame, NetworkState, ReplyTo, RequestOf, at_first, history, is_idle, is_late, issued};
 ghost use Rattle.ptpm_network.specs.Worth.{IsWorth, entries_of};
 
 /// What is reported was carried out exactly once. After every list of events, late deliveries among them:
@@ -36,4 +38,30 @@ pub fn reported_exactly_once()
         s < N.sessions →
         length ((run N (at_first N) es).session s).reports < issued (run N (at_first N) es) s →
         refusal N (run N (at_first N) es) (Begin s a) ≡ Some (BeginRefused begins.Busy) }
+{}
+
+/// One copy each way suffices. After every list of events, for the last request that a session has begun:
+/// - its copies and those of the reply are never late, and a delivery is not refused where there is room for frames;
+/// - a copy of the request that comes in at a port of the session's target, in the clock's domain or as a repeat, makes a copy
+///   of the reply for each other end of that port's link, and no other frame;
+/// - a copy of the reply that comes in at the session, in the session's domain and while the request is not reported, is
+///   reported then, and the session waits for nothing after it.
+pub fn one_copy_each_way()
+    ensures in_time { (w : NetworkState) (s : ℕ) →
+        (is_late w (RequestOf s (issued w s)) ≡ false) × (is_late w (ReplyTo s (issued w s)) ≡ false) }
+    ensures taken { (N : Network) (w : NetworkState) (n : ℕ) (f : Frame) →
+        frame_at w.frames n ≡ Some f → HasRoom w → refusal N w (Deliver n) ≡ None }
+    ensures request { (N : Network) (es : List Event) (n s port : ℕ) (f : Frame) →
+        IsNetwork N → AllByRecursion IsInRange es → s < N.sessions →
+        frame_at (run N (at_first N) es).frames n ≡ Some f → f.end ≡ AtPort (N.session s).target port →
+        f.origin ≡ RequestOf s (issued (run N (at_first N) es) s) →
+        IsHeardBy N (run N (at_first N) es) s f.octets → HasRoom (run N (at_first N) es) →
+        HasReplied N (run N (at_first N) es) (step N (run N (at_first N) es) (Deliver n)) s port f.octets }
+    ensures reply { (N : Network) (es : List Event) (n s : ℕ) (f : Frame) →
+        IsNetwork N → AllByRecursion IsInRange es → s < N.sessions →
+        frame_at (run N (at_first N) es).frames n ≡ Some f → f.end ≡ AtSession s →
+        f.origin ≡ ReplyTo s (issued (run N (at_first N) es) s) →
+        is_idle ((run N (at_first N) es).session s) ≡ false →
+        domain_number f.octets ≡ ((run N (at_first N) es).session s).domain → HasRoom (run N (at_first N) es) →
+        HasReported (run N (at_first N) es) (step N (run N (at_first N) es) (Deliver n)) s }
 {}

@@ -1,0 +1,325 @@
+-- What one copy of a session's last request brings about at its target, and one of the reply at the session.
+use Rattle.std.proofs.Common.{arith, ◌≡◌, ℕ, ◌<◌, ◌≤◌, ◌+◌, ◌-◌, ◌^◌, ◌==◌, List, [], ◌∷◌, ◌++◌, Option, Some, None, true, false, refl, sym, ◌∙◌, ap, subst, ⊎_elim, ◌⊎◌, length, length-append}
+use Rattle.std.proofs.lemmas.Bool.{and_from, and_left, and_right, cases_Bool, cases_eq, cond-false, cond-true, eq-eqb, eqb-false, false_from_ne_true, le-leb, le-ltb, lt-ltb, or_left, or_right}
+use Rattle.std.proofs.lemmas.List.{append-nil}
+use Rattle.std.proofs.lemmas.Option.{same_Some}
+use Rattle.std.proofs.lemmas.Slice.Eq.{bytes_eq-Decides}
+use Rattle.std.specs.Prelude.{nat_le, nat_lt, not}
+use Rattle.std.specs.List.{AllByRecursion}
+use Rattle.std.specs.Option.{option_or}
+use Rattle.ptpm_codec.specs.declared.identity.ClockIdentity.{ClockIdentity}
+use Rattle.ptpm_codec.specs.declared.identity.PortIdentity.{PortIdentity}
+use Rattle.ptpm_codec.specs.declared.message.Message.{Message}
+use Rattle.ptpm_codec.specs.Canonical.{canonical}
+use Rattle.ptpm_codec.specs.Identity.{every_port, same_clock}
+use Rattle.ptpm_codec.specs.Layout.{domain_number, message_length}
+use Rattle.ptpm_codec.specs.Message.{Fits, IsValid}
+use Rattle.ptpm_codec.specs.Ordered.{first_of}
+use Rattle.ptpm_codec.specs.Reading.{message_of}
+use Rattle.ptpm_codec.proofs.CanonicalLaws.{canonical_spells}
+use Rattle.ptpm_codec.proofs.IdentityLaws.{same_clock-refl, same_clock-true}
+use Rattle.ptpm_codec.proofs.PlaceLaws.{octet-take}
+use Rattle.ptpm_codec.proofs.ReadingLaws.{message_of-some, message_of-spells, message_size}
+use Rattle.ptpm_data.specs.IdTable.{is_of_port}
+use Rattle.ptpm_data.specs.Members.{DataSetsValue}
+use Rattle.ptpm_data.specs.Replies.{reply_to}
+use Rattle.ptpm_data.specs.Reply.{Answer, ReplyValue}
+use Rattle.ptpm_data.specs.Request.{RequestValue}
+use Rattle.ptpm_table.specs.Entries.{is_known}
+use Rattle.ptpm_table.specs.Numbering.{same_request}
+use Rattle.ptpm_table.specs.Rendering.{hops_passed, reply_message}
+use Rattle.ptpm_agent.specs.Forwarding.{forwarded, forwarded_by}
+use Rattle.ptpm_agent.specs.Laws.{due_messages}
+use Rattle.ptpm_agent.specs.Once.{Accepted, History, RequestCopy, after_arrival, after_copy, copy_by, copy_from, copy_of, due_reply, greatest, is_copy, kept_for, kept_reply}
+use Rattle.ptpm_agent.specs.Turn.{Clock, is_for_this_clock, is_own, is_request, names_port}
+use Rattle.ptpm_manager.specs.declared.report.Report.{Report}
+use Rattle.ptpm_manager.specs.Report.{outcome_of}
+use Rattle.ptpm_network.specs.DataSets.{AreDataSets}
+use Rattle.ptpm_network.specs.Events.{Deliver, Event, FramesAtMaximum, IsInRange, frame_at, frames_limit, no_frame, no_room, refusal}
+use Rattle.ptpm_network.specs.Exchange.{HasReplied, HasReported, HasRoom, IsHeardBy}
+use Rattle.ptpm_network.specs.Invariant.{IsAsked, IsFrame, IsOfOrigin, IsReached}
+use Rattle.ptpm_network.specs.Machine.{answering_frames, arrives, delivered, delivered_at, delivered_at_clock, delivery, forwarded_frames, happens, index_of, is_answer, made_frames, reply_frames, reply_origin, report_from, reported, run, step, step_by, told_by}
+use Rattle.ptpm_network.specs.Network.{AtPort, AtSession, End, HasEnd, IsNetwork, Network, manager, peers, ports}
+use Rattle.ptpm_network.specs.State.{Frame, NetworkState, Origin, RequestOf, ReplyTo, SessionState, accepted_at_target, at_first, greatest_accepted, history, is_idle, is_late, issued, new_frames}
+use Rattle.ptpm_network.proofs.Answering.{is_due, rendered-one, small}
+use Rattle.ptpm_network.proofs.Arriving.{arrives-reached, history-here}
+use Rattle.ptpm_network.proofs.Frames.{SaysRequest, heard-frame, says_kept, says_reply, says_request, sendable-one}
+use Rattle.ptpm_network.proofs.Lists.{with_place-same}
+use Rattle.ptpm_network.proofs.Messages.{message-hops, reply-fits, reply-valid, reply_at, request_at}
+use Rattle.ptpm_network.proofs.Reaching.{frame_at-is}
+use Rattle.ptpm_network.proofs.Schedule.{reached}
+
+-- ---- an event that is not refused
+
+pub is_room : (w : NetworkState) → HasRoom w → no_room w.frames ≡ None
+is_room w room = ap (λ b. first_of ((b, FramesAtMaximum) ∷ [])) (le-ltb frames_limit (length w.frames) room)
+
+pub delivery-taken : (N : Network) (w : NetworkState) (n : ℕ) (f : Frame) → frame_at w.frames n ≡ Some f → HasRoom w → refusal N w (Deliver n) ≡ None
+unfolding refusal
+delivery-taken N w n f e room = ap (λ o. option_or (no_frame o) (no_room w.frames)) e ∙ is_room w room
+
+happens-delivery : (N : Network) (w : NetworkState) (n : ℕ) (f : Frame) (end : End) → frame_at w.frames n ≡ Some f → f.end ≡ end → happens N w (Deliver n) ≡ delivered_at N w f end
+unfolding happens
+happens-delivery N w n f end e q = ap (delivered N w) e ∙ ap (delivered_at N w f) q
+
+pub step-taken : (N : Network) (w : NetworkState) (e : Event) → refusal N w e ≡ None → step N w e ≡ happens N w e
+step-taken N w e none = ap (λ o. step_by o N w e) none
+
+pub delivery-step : (N : Network) (w : NetworkState) (n : ℕ) (f : Frame) (end : End) → frame_at w.frames n ≡ Some f → f.end ≡ end → HasRoom w → step N w (Deliver n) ≡ delivered_at N w f end
+delivery-step N w n f end e q room = step-taken N w (Deliver n) (delivery-taken N w n f e room) ∙ happens-delivery N w n f end e q
+
+-- ---- fields of a message
+
+pub message-domain : (v : Message) (d : List ℕ) → message_of d ≡ Some v → v.domain ≡ domain_number d
+message-domain v d e =
+    let size = message_size d (message_of-some d v e).0 in
+    let low = size.0 in
+    (message_of-spells v d e).domain ∙ octet-take 4 (message_length d) d (omega arith)
+
+pub clocks_apart : (a b : ClockIdentity) → (a ≡ b → ⊥) → same_clock a b ≡ false
+clocks_apart a b ne = false_from_ne_true (same_clock a b) (λ y. ne (same_clock-true a b y))
+
+pub clocks_same : (a b : ClockIdentity) → a ≡ b → same_clock a b ≡ true
+clocks_same a b e = subst (λ (x : ClockIdentity). same_clock a x ≡ true) e (same_clock-refl a)
+
+-- ---- a copy of a session's request at its target
+
+port-named : (p : ℕ) (q : RequestValue) (d : DataSetsValue) → AreDataSets p d → IsAsked p q → names_port d q.port ≡ true
+port-named p q d sets asked = ⊎_elim
+    (λ (y : is_of_port q.id ≡ true).
+    let one = asked.one y in
+    let last : q.port ≤ length d.ports = subst (λ n. q.port ≤ n) (sym sets.ports_are) one.1 in
+    or_right _ _ (and_from (nat_le 1 q.port) (nat_le q.port (length d.ports)) (le-leb 1 q.port one.0) (le-leb q.port (length d.ports) last)))
+    (λ (n : is_of_port q.id ≡ false). or_left _ _ (eq-eqb q.port every_port (asked.every n)))
+    (cases_Bool (is_of_port q.id))
+
+request-is_copy : (N : Network) (w : NetworkState) (s k domain hops : ℕ) (q : RequestValue) → IsNetwork N → IsReached N w → s < N.sessions → IsAsked (ports N (N.session s).target) q
+    → is_copy (N.clock (N.session s).target) (history N w (N.session s).target).sets (request_at N s k domain hops q) ≡ true
+request-is_copy N w s k domain hops q n r place asked =
+    let session = n.are_sessions s place in
+    let c : Clock = N.clock (N.session s).target in
+    let d = (history N w (N.session s).target).sets in
+    let v : Message = request_at N s k domain hops q in
+    let not_own : not (is_own c v) ≡ true = ap not (clocks_apart (manager N s).clock c.identity (n.no_clock s (N.session s).target place session.exists)) in
+    let here : is_for_this_clock c v ≡ true = clocks_same (N.session s).setup.target c.identity session.target in
+    let named : names_port d v.target.port ≡ true = port-named (ports N (N.session s).target) q d (r.clocks (N.session s).target session.exists) asked in
+    let asks : is_request v ≡ true = ap not asked.action in
+    and_from (v.sdo == 0) _ refl
+    (and_from (not (is_own c v)) _ not_own
+    (and_from (is_known v.source c.managers) _ (n.configured s place)
+    (and_from (is_for_this_clock c v) _ here
+    (and_from (names_port d v.target.port) (is_request v) named asks))))
+
+copy-is : (N : Network) (w : NetworkState) (s port : ℕ) (f : Frame) (v : Message) → message_of f.octets ≡ Some v → is_copy (N.clock (N.session s).target) (history N w (N.session s).target).sets v ≡ true
+    → copy_of (N.clock (N.session s).target) (history N w (N.session s).target).sets (delivery port f) ≡ Some (copy_from (delivery port f) v)
+copy-is N w s port f v e is =
+    ap (copy_by (N.clock (N.session s).target) (history N w (N.session s).target).sets (delivery port f)) e ∙ cond-true _ _ _ is
+
+-- what is for exactly this clock is not passed on
+here-kept : (c : Clock) (port : ℕ) (d : DataSetsValue) (octets : List ℕ) (v : Message) → message_of octets ≡ Some v → is_for_this_clock c v ≡ true → forwarded c.identity port d octets ≡ []
+unfolding forwarded
+here-kept c port d octets v e here =
+    ap (forwarded_by c.identity port d octets) e
+    ∙ cond-false _ _ _ (and_right (v.sdo == 0) _ (and_right (v.domain == d.default.domain) _ (and_right (not (same_clock v.source.clock c.identity)) _ (and_left (not (same_clock v.target.clock c.identity)) _ (ap not here)))))
+
+-- ---- a reply is due to it
+
+same_request-same : (a b : RequestValue) → a ≡ b → same_request a b ≡ true
+same_request-same a b e = subst (λ (x : RequestValue). same_request a x ≡ true) e
+    (and_from _ _ (eq-eqb _ _ refl) (and_from _ _ (eq-eqb a.id a.id refl) (and_from _ _ (eq-eqb a.port a.port refl) ((bytes_eq-Decides a.octets a.octets).1 refl))))
+
+due-latest : (c : Clock) (h : History) (x : RequestCopy) (e : Accepted) → greatest x.heard.source h.accepted ≡ x.index → kept_reply x.heard.source x.index h.accepted ≡ Some e → e.request ≡ x.request → due_reply c h x ≡ Some e.reply
+due-latest c h x e g kept same =
+    cond-false _ _ _ (and_right (x.heard.domain == h.sets.default.domain) (nat_lt (greatest x.heard.source h.accepted) x.index) (le-ltb (greatest x.heard.source h.accepted) x.index (omega (arith, g))))
+    ∙ cond-true _ _ _ (eq-eqb (greatest x.heard.source h.accepted) x.index g)
+    ∙ ap (kept_for x) kept
+    ∙ cond-true _ _ _ (same_request-same e.request x.request same)
+
+due-new : (c : Clock) (h : History) (x : RequestCopy) → x.heard.domain ≡ h.sets.default.domain → greatest x.heard.source h.accepted < x.index → due_reply c h x ≡ Some (reply_to x.request (c.rights x.heard.source) h.sets)
+due-new c h x domain above = cond-true _ _ _ (and_from (x.heard.domain == h.sets.default.domain) (nat_lt (greatest x.heard.source h.accepted) x.index) (eq-eqb _ _ domain) (lt-ltb _ _ above))
+
+below : (g k begun : ℕ) → g ≤ begun → k ≡ begun → (g ≡ begun → ⊥) → g < k
+below g k begun a b ne = omega arith
+
+not_more : (k g begun : ℕ) → k ≡ begun → g ≡ begun → k ≤ g
+not_more k g begun a b = omega arith
+
+abbrev IsDueTo : Clock → History → RequestCopy → Type 0
+IsDueTo c h x = (r : ReplyValue) × (due_reply c h x ≡ Some r)
+
+-- the parts of a copy of the last request
+pub record IsLatestCopy (N : Network) (w : NetworkState) (s : ℕ) (octets : List ℕ) (x : RequestCopy) : Type 0 where
+  pub says : SaysRequest N w s (issued w s) octets
+  pub source : x.heard.source ≡ manager N s
+  pub index : x.index ≡ issued w s
+  pub request : x.request ≡ says.request
+  pub domain : x.heard.domain ≡ domain_number octets
+
+due-repeat : (N : Network) (w : NetworkState) (s : ℕ) (octets : List ℕ) (x : RequestCopy) → IsReached N w → s < N.sessions → IsLatestCopy N w s octets x → greatest_accepted N w s ≡ issued w s → IsDueTo (N.clock (N.session s).target) (history N w (N.session s).target) x
+due-repeat N w s octets x r place of g =
+    let at = r.sessions s place in
+    let was = at.without_gap (issued w s) of.says.positive (not_more (issued w s) (greatest_accepted N w s) (issued w s) refl g) in
+    let here : greatest x.heard.source (accepted_at_target N w s) ≡ x.index = ap (λ (m : PortIdentity). greatest m (accepted_at_target N w s)) of.source ∙ g ∙ sym of.index in
+    let kept : kept_reply x.heard.source x.index (accepted_at_target N w s) ≡ Some was.entry =
+    ap (λ (m : PortIdentity). kept_reply m x.index (accepted_at_target N w s)) of.source ∙ ap (λ k. kept_reply (manager N s) k (accepted_at_target N w s)) of.index ∙ was.is in
+    let same : was.entry.request ≡ x.request = same_Some was.entry.request of.says.request (sym was.begun_as ∙ of.says.begun_as) ∙ sym of.request in
+    (was.entry.reply, due-latest (N.clock (N.session s).target) (history N w (N.session s).target) x was.entry here kept same)
+
+due-first : (N : Network) (w : NetworkState) (s : ℕ) (octets : List ℕ) (x : RequestCopy) → IsReached N w → s < N.sessions → IsLatestCopy N w s octets x → domain_number octets ≡ (history N w (N.session s).target).sets.default.domain → (greatest_accepted N w s ≡ issued w s → ⊥)
+    → IsDueTo (N.clock (N.session s).target) (history N w (N.session s).target) x
+due-first N w s octets x r place of domain ne =
+    let above : greatest (manager N s) (accepted_at_target N w s) < x.index = below (greatest_accepted N w s) x.index (issued w s) (r.sessions s place).begun_before of.index ne in
+    (_, due-new (N.clock (N.session s).target) (history N w (N.session s).target) x (of.domain ∙ domain) (subst (λ (m : PortIdentity). greatest m (accepted_at_target N w s) < x.index) (sym of.source) above))
+
+due-to : (N : Network) (w : NetworkState) (s : ℕ) (octets : List ℕ) (x : RequestCopy) → IsReached N w → s < N.sessions → IsLatestCopy N w s octets x → IsHeardBy N w s octets → IsDueTo (N.clock (N.session s).target) (history N w (N.session s).target) x
+due-to N w s octets x r place of heard = ⊎_elim
+    (λ (g : greatest_accepted N w s ≡ issued w s). due-repeat N w s octets x r place of g)
+    (λ (ne : greatest_accepted N w s ≡ issued w s → ⊥). ⊎_elim
+    (λ (domain : domain_number octets ≡ (history N w (N.session s).target).sets.default.domain). due-first N w s octets x r place of domain ne)
+    (λ (g : greatest_accepted N w s ≡ issued w s). absurd (ne g))
+    heard)
+    (cases_eq (greatest_accepted N w s) (issued w s))
+
+-- ---- it is one message
+
+-- the message of the reply that is due
+pub record IsReplyMessage (me : ClockIdentity) (x : RequestCopy) (r : ReplyValue) : Type 0 where
+  pub answer : Answer
+  pub one : r.answers ≡ answer ∷ []
+  pub valid : IsValid (reply_message me x.heard r.action r.id x.ingress answer)
+  pub fits : Fits (reply_message me x.heard r.action r.id x.ingress answer)
+
+reply-message : (N : Network) (w : NetworkState) (s port : ℕ) (f : Frame) (x : RequestCopy) (r : ReplyValue) → IsNetwork N → IsReached N w → s < N.sessions → HasEnd N (AtPort (N.session s).target port) → f.origin ≡ RequestOf s (issued w s)
+    → IsOfOrigin N w f.octets f.origin → IsLatestCopy N w s f.octets x → x.ingress ≡ port → x.heard.number < 2 ^ 16 → copy_of (N.clock (N.session s).target) (history N w (N.session s).target).sets (delivery port f) ≡ Some x
+    → due_reply (N.clock (N.session s).target) (history N w (N.session s).target) x ≡ Some r → IsReplyMessage (N.clock (N.session s).target).identity x r
+reply-message N w s port f x r n reached place end origin i of ingress number e d =
+    let c = (N.session s).target in
+    let session = n.are_sessions s place in
+    let u = arrives w c (delivery port f) in
+    let heard = heard-frame N w f.octets f.origin i in
+    let reached_u : IsReached N u = arrives-reached N w c port f n reached session.exists heard in
+    let due = is_due (N.clock c) (history N w c) x r d in
+    let here : history N u c ≡ after_copy (N.clock c) (history N w c) x = history-here N w c (delivery port f) ∙ ap (after_arrival (N.clock c) (history N w c)) e in
+    let kept_x : kept_reply x.heard.source x.index (accepted_at_target N u s) ≡ Some due.entry = ap (λ (h : History). kept_reply x.heard.source x.index h.accepted) here ∙ due.kept in
+    let kept_m : kept_reply (manager N s) x.index (accepted_at_target N u s) ≡ Some due.entry = subst (λ (m : PortIdentity). kept_reply m x.index (accepted_at_target N u s) ≡ Some due.entry) of.source kept_x in
+    let kept : kept_reply (manager N s) (issued w s) (accepted_at_target N u s) ≡ Some due.entry = subst (λ k. kept_reply (manager N s) k (accepted_at_target N u s) ≡ Some due.entry) of.index kept_m in
+    let says = says_kept N u s (issued w s) due.entry reached_u place of.says.positive kept in
+    let sendable = sendable-one due.entry.request due.entry says.one.answer says.one.is says.answers in
+    let clock = n.are_clocks c session.exists in
+    let source : length x.heard.source.clock.0 ≡ 8 = subst (λ (m : PortIdentity). length m.clock.0 ≡ 8) (sym of.source) session.identity.clock in
+    let source_port : x.heard.source.port < 2 ^ 16 = subst (λ (m : PortIdentity). m.port < 2 ^ 16) (sym of.source) session.identity.port in
+    let in' : x.ingress < 2 ^ 16 = subst (λ p. p < 2 ^ 16) (sym ingress) (small port (ports N c) end.2 clock.at_most_eight) in
+    let a = says.one.answer in
+    subst (IsReplyMessage (N.clock c).identity x) due.reply (record {
+      answer = a;
+      one = says.one.is;
+      valid = reply-valid (N.clock c).identity x.heard due.entry.request due.entry.reply x.ingress (hops_passed x.heard) a says.answers sendable;
+      fits = reply-fits (N.clock c).identity x.heard due.entry.request due.entry.reply x.ingress (hops_passed x.heard) a clock.identity source source_port number in' says.asked.id says.answers sendable;
+    })
+
+-- ---- the target replies
+
+-- all that the target makes of the copy is the reply
+made-reply : (N : Network) (w : NetworkState) (s port : ℕ) (f : Frame) (x : RequestCopy) (v : Message) (r : ReplyValue) → f.origin ≡ RequestOf s (issued w s) → message_of f.octets ≡ Some v → is_for_this_clock (N.clock (N.session s).target) v ≡ true
+    → copy_of (N.clock (N.session s).target) (history N w (N.session s).target).sets (delivery port f) ≡ Some x → due_reply (N.clock (N.session s).target) (history N w (N.session s).target) x ≡ Some r → x.ingress ≡ port
+    → (m : IsReplyMessage (N.clock (N.session s).target).identity x r)
+    → made_frames N (N.session s).target (history N w (N.session s).target) port f
+    ≡ new_frames (peers N.links (AtPort (N.session s).target port)) (canonical (reply_message (N.clock (N.session s).target).identity x.heard r.action r.id x.ingress m.answer)) (ReplyTo s (issued w s))
+made-reply N w s port f x v r origin e here is due ingress m =
+    let c = (N.session s).target in
+    let h : History = history N w c in
+    let octets = canonical (reply_message (N.clock c).identity x.heard r.action r.id x.ingress m.answer) in
+    ap (λ sent. forwarded_frames N c f sent ++ answering_frames N c h port f (copy_of (N.clock c) h.sets (delivery port f))) (here-kept (N.clock c) port h.sets f.octets v e here)
+    ∙ ap (answering_frames N c h port f) is
+    ∙ ap (λ (o : Origin). reply_frames N c (reply_origin o) (due_messages (N.clock c) x (due_reply (N.clock c) h x))) origin
+    ∙ ap (λ (o : Option ReplyValue). reply_frames N c (ReplyTo s (issued w s)) (due_messages (N.clock c) x o)) due
+    ∙ ap (reply_frames N c (ReplyTo s (issued w s))) (rendered-one (N.clock c).identity x.heard r x.ingress m.answer m.one)
+    ∙ ap (λ p. new_frames (peers N.links (AtPort c p)) octets (ReplyTo s (issued w s)) ++ []) ingress
+    ∙ append-nil (new_frames (peers N.links (AtPort c port)) octets (ReplyTo s (issued w s)))
+
+pub replied : (N : Network) (w : NetworkState) (s port : ℕ) (f : Frame) → IsNetwork N → IsReached N w → s < N.sessions → IsFrame N w f → f.end ≡ AtPort (N.session s).target port → f.origin ≡ RequestOf s (issued w s) → IsHeardBy N w s f.octets
+    → HasReplied N w (delivered_at_clock N w (N.session s).target port f) s port f.octets
+replied N w s port f n r place i end origin heard =
+    let c = (N.session s).target in
+    let session = n.are_sessions s place in
+    let own : IsOfOrigin N w f.octets (RequestOf s (issued w s)) = subst (λ (o : Origin). IsOfOrigin N w f.octets o) origin i.origin in
+    let says = says_request N w s (issued w s) f.octets n r own in
+    let v : Message = request_at N s (issued w s) says.domain says.hops says.request in
+    let x : RequestCopy = copy_from (delivery port f) v in
+    let domain : says.domain ≡ domain_number f.octets = message-domain v f.octets says.message.read in
+    let of : IsLatestCopy N w s f.octets x = record { says = says; source = refl; index = ap index_of origin; request = refl; domain = domain } in
+    let is = copy-is N w s port f v says.message.read (request-is_copy N w s (issued w s) says.domain says.hops says.request n r place says.asked) in
+    let due = due-to N w s f.octets x r place of heard in
+    let m = reply-message N w s port f x due.0 n r place (subst (HasEnd N) end i.end) origin i.origin of refl says.message.fits.number is due.1 in
+    let u : Message = reply_message (N.clock c).identity x.heard (due.0).action (due.0).id x.ingress m.answer in
+    let spells = canonical_spells u m.valid m.fits in
+    record {
+      reply = canonical u;
+      frames = ap (λ fs. w.frames ++ fs) (made-reply N w s port f x v due.0 origin says.message.read (clocks_same (N.session s).setup.target (N.clock c).identity session.target) is due.1 refl m);
+      domain = sym spells.domain ∙ domain;
+      hops = sym spells.hops ∙ ap (λ k. (N.session s).setup.hops - k) (message-hops v f.octets says.message.read);
+    }
+
+-- ---- the session reports
+
+told-in_domain : (state : SessionState) (octets : List ℕ) (v : Message) → message_of octets ≡ Some v → domain_number octets ≡ state.domain → told_by state (message_of octets) ≡ Some (record { index = length state.begun; outcome = outcome_of v.body })
+told-in_domain state octets v e domain = ap (told_by state) e ∙ cond-true _ _ _ (eq-eqb v.domain state.domain (message-domain v octets e ∙ domain))
+
+answer-is : (s : ℕ) (state : SessionState) (o : Origin) → o ≡ ReplyTo s (length state.begun) → is_idle state ≡ false → is_answer s state o ≡ true
+answer-is s state o origin busy = ap (is_answer s state) origin ∙ and_from _ _ (eq-eqb s s refl) (and_from _ _ (eq-eqb (length state.begun) (length state.begun) refl) (ap not busy))
+
+all_reported : (reports begun more : ℕ) → begun ≤ reports + 1 → reports ≤ begun → (reports ≡ begun → ⊥) → more ≡ reports + 1 → more ≡ begun
+all_reported reports begun more a b ne d = omega arith
+
+le_through : (a b c : ℕ) → a ≤ b → b ≤ c → a ≤ c
+le_through a b c x y = omega arith
+
+pub reports-answer : (N : Network) (w : NetworkState) (s : ℕ) (f : Frame) → IsNetwork N → IsReached N w → s < N.sessions → IsFrame N w f → f.origin ≡ ReplyTo s (issued w s) → is_idle (w.session s) ≡ false → domain_number f.octets ≡ (w.session s).domain
+    → HasReported w (delivered_at N w f (AtSession s)) s
+reports-answer N w s f n r place i origin busy domain =
+    let at = r.sessions s place in
+    let own : IsOfOrigin N w f.octets (ReplyTo s (issued w s)) = subst (λ (o : Origin). IsOfOrigin N w f.octets o) origin i.origin in
+    let says = says_reply N w s (issued w s) f.octets n r own in
+    let v : Message = reply_at (N.session s).setup.target says.heard says.entry.reply says.ingress says.hops says.answer in
+    let report : Report = record { index = issued w s; outcome = outcome_of v.body } in
+    let from : report_from s (w.session s) f ≡ Some report =
+    cond-true _ _ _ (answer-is s (w.session s) f.origin origin busy) ∙ told-in_domain (w.session s) f.octets v says.message.read domain in
+    let now : (delivered_at N w f (AtSession s)).session s ≡ reported (w.session s) (Some report) =
+    with_place-same w.session s (reported (w.session s) (report_from s (w.session s) f)) s (eq-eqb s s refl) ∙ ap (reported (w.session s)) from in
+    let size : length ((w.session s).reports ++ report ∷ []) ≡ length (w.session s).reports + 1 = length-append (w.session s).reports (report ∷ []) in
+    let all : length ((w.session s).reports ++ report ∷ []) ≡ length (w.session s).begun =
+    all_reported (length (w.session s).reports) (length (w.session s).begun) (length ((w.session s).reports ++ report ∷ [])) at.one_at_a_time (le_through (length (w.session s).reports) (greatest_accepted N w s) (length (w.session s).begun) at.accepted_before at.begun_before) (eqb-false _ _ busy) size in
+    record {
+      report = report;
+      index = refl;
+      reports = ap (λ (x : SessionState). x.reports) now;
+      idle = ap is_idle now ∙ eq-eqb _ _ all;
+    }
+
+-- ---- the laws
+
+pub never-late : (w : NetworkState) (s : ℕ) → (is_late w (RequestOf s (issued w s)) ≡ false) × (is_late w (ReplyTo s (issued w s)) ≡ false)
+never-late w s = let now = le-ltb (issued w s + 32768) (issued w s) (omega arith) in (now, now)
+
+pub copy-taken : (N : Network) (w : NetworkState) (n : ℕ) (f : Frame) → frame_at w.frames n ≡ Some f → HasRoom w → refusal N w (Deliver n) ≡ None
+copy-taken N w n f e room = delivery-taken N w n f e room
+
+pub copy-replied : (N : Network) (es : List Event) (n s port : ℕ) (f : Frame) → IsNetwork N → AllByRecursion IsInRange es → s < N.sessions
+    → frame_at (run N (at_first N) es).frames n ≡ Some f → f.end ≡ AtPort (N.session s).target port → f.origin ≡ RequestOf s (issued (run N (at_first N) es) s)
+    → IsHeardBy N (run N (at_first N) es) s f.octets → HasRoom (run N (at_first N) es)
+    → HasReplied N (run N (at_first N) es) (step N (run N (at_first N) es) (Deliver n)) s port f.octets
+copy-replied N es n s port f net range place e end origin heard room =
+    let w : NetworkState = run N (at_first N) es in
+    let r = reached N es net range in
+    subst (λ (u : NetworkState). HasReplied N w u s port f.octets) (sym (delivery-step N w n f (AtPort (N.session s).target port) e end room))
+    (replied N w s port f net r place (frame_at-is N w n f r e) end origin heard)
+
+pub reply-reported : (N : Network) (es : List Event) (n s : ℕ) (f : Frame) → IsNetwork N → AllByRecursion IsInRange es → s < N.sessions
+    → frame_at (run N (at_first N) es).frames n ≡ Some f → f.end ≡ AtSession s → f.origin ≡ ReplyTo s (issued (run N (at_first N) es) s)
+    → is_idle ((run N (at_first N) es).session s) ≡ false → domain_number f.octets ≡ ((run N (at_first N) es).session s).domain → HasRoom (run N (at_first N) es)
+    → HasReported (run N (at_first N) es) (step N (run N (at_first N) es) (Deliver n)) s
+reply-reported N es n s f net range place e end origin busy domain room =
+    let w : NetworkState = run N (at_first N) es in
+    let r = reached N es net range in
+    subst (λ (u : NetworkState). HasReported w u s) (sym (delivery-step N w n f (AtSession s) e end room))
+    (reports-answer N w s f net r place (frame_at-is N w n f r e) origin busy domain)
