@@ -1,5 +1,5 @@
 -- What one copy of a session's last request brings about at its target, and one of the reply at the session.
-use Rattle.std.proofs.Common.{arith, ◌≡◌, ℕ, ◌<◌, ◌≤◌, ◌+◌, ◌-◌, ◌^◌, ◌==◌, List, [], ◌∷◌, ◌++◌, Option, Some, None, true, false, refl, sym, ◌∙◌, ap, subst, ⊎_elim, ◌⊎◌, length, length-append}
+use Rattle.std.proofs.Common.{arith, ◌≡◌, ℕ, ◌<◌, ◌≤◌, ◌+◌, ◌-◌, ◌^◌, ◌==◌, List, [], ◌∷◌, ◌++◌, Option, Some, None, true, false, refl, sym, ◌∙◌, ap, subst, ⊎_elim, length, length-append}
 use Rattle.std.proofs.lemmas.Bool.{and_from, and_left, and_right, cases_Bool, cases_eq, cond-false, cond-true, eq-eqb, eqb-false, false_from_ne_true, le-leb, le-ltb, lt-ltb, or_left, or_right}
 use Rattle.std.proofs.lemmas.List.{append-nil}
 use Rattle.std.proofs.lemmas.Option.{same_Some}
@@ -12,7 +12,7 @@ use Rattle.ptpm_codec.specs.declared.identity.PortIdentity.{PortIdentity}
 use Rattle.ptpm_codec.specs.declared.message.Message.{Message}
 use Rattle.ptpm_codec.specs.Canonical.{canonical}
 use Rattle.ptpm_codec.specs.Identity.{every_port, same_clock}
-use Rattle.ptpm_codec.specs.Layout.{domain_number, message_length}
+use Rattle.ptpm_codec.specs.Layout.{boundary_hops, domain_number, message_length}
 use Rattle.ptpm_codec.specs.Message.{Fits, IsValid}
 use Rattle.ptpm_codec.specs.Ordered.{first_of}
 use Rattle.ptpm_codec.specs.Reading.{message_of}
@@ -217,6 +217,13 @@ reply-message N w s port f x r n reached place end origin i of ingress number e 
       fits = reply-fits (N.clock c).identity x.heard due.entry.request due.entry.reply x.ingress (hops_passed x.heard) a clock.identity source source_port number in' says.asked.id says.answers sendable;
     })
 
+-- what its canonical spelling says
+pub said-domain : (v : Message) (domain : ℕ) → IsValid v → Fits v → v.domain ≡ domain → domain_number (canonical v) ≡ domain
+said-domain v domain valid fits e = sym (canonical_spells v valid fits).domain ∙ e
+
+pub said-hops : (v : Message) (hops : ℕ) → IsValid v → Fits v → v.hops ≡ hops → boundary_hops (canonical v) ≡ hops
+said-hops v hops valid fits e = sym (canonical_spells v valid fits).hops ∙ e
+
 -- ---- the target replies
 
 -- all that the target makes of the copy is the reply
@@ -252,12 +259,11 @@ replied N w s port f n r place i end origin heard =
     let due = due-to N w s f.octets x r place of heard in
     let m = reply-message N w s port f x due.0 n r place (subst (HasEnd N) end i.end) origin i.origin of refl says.message.fits.number is due.1 in
     let u : Message = reply_message (N.clock c).identity x.heard (due.0).action (due.0).id x.ingress m.answer in
-    let spells = canonical_spells u m.valid m.fits in
     record {
       reply = canonical u;
       frames = ap (λ fs. w.frames ++ fs) (made-reply N w s port f x v due.0 origin says.message.read (clocks_same (N.session s).setup.target (N.clock c).identity session.target) is due.1 refl m);
-      domain = sym spells.domain ∙ domain;
-      hops = sym spells.hops ∙ ap (λ k. (N.session s).setup.hops - k) (message-hops v f.octets says.message.read);
+      domain = said-domain u (domain_number f.octets) m.valid m.fits domain;
+      hops = said-hops u ((N.session s).setup.hops - boundary_hops f.octets) m.valid m.fits (ap (λ k. (N.session s).setup.hops - k) (message-hops v f.octets says.message.read));
     }
 
 -- ---- the session reports

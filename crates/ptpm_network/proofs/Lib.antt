@@ -27,3 +27,6 @@ pub mod Posting
 pub mod TurnKeeps
 pub mod Worth
 pub mod Exchanging
+pub mod Carrying
+pub mod Answerable
+pub mod Ways

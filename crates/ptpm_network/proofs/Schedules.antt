@@ -51,7 +51,7 @@ session_to target ports first hops = record {
   domain = 0;
 }
 
-abbrev one_clock : Network
+abbrev pub one_clock : Network
 one_clock = record {
   clocks = 1;
   clock = λ c. record { identity = clock_k; managers = manager_m ∷ []; rights = λ m. all_rights };
@@ -61,7 +61,7 @@ one_clock = record {
   links = (AtPort 0 1 ∷ AtSession 0 ∷ []) ∷ [];
 }
 
-abbrev get_priority1 : Ask
+abbrev pub get_priority1 : Ask
 get_priority1 = record { action = actions.Get; id = 0x2005; port = None; octets = [] }
 
 abbrev set_domain : Ask
@@ -138,7 +138,7 @@ one_known m y = ⊎_elim
     (λ (n : same_identity m manager_m ≡ false). absurd (true≢false (sym y ∙ ap (λ b. b || false) n)))
     (cases_Bool (same_identity m manager_m))
 
-one_clock-IsNetwork : IsNetwork one_clock
+pub one_clock-IsNetwork : IsNetwork one_clock
 one_clock-IsNetwork = record {
   are_clocks = λ c place. record {
     identity = refl;
@@ -216,7 +216,7 @@ abbrev clock_of : ℕ → ClockIdentity
 clock_of c = record { 0 = 0xaa ∷ 0xbb ∷ 0xcc ∷ 0xff ∷ 0xfe ∷ 0xdd ∷ 0xee ∷ c ∷ [] }
 
 -- the session at port 1 of clock 0, whose ports 2 and 3 lead to clocks 1 and 2, which are linked by their ports 2
-abbrev ring_of_three_clocks : Network
+abbrev pub ring_of_three_clocks : Network
 ring_of_three_clocks = record {
   clocks = 3;
   clock = λ c. record { identity = clock_of c; managers = if c == 1 then manager_m ∷ [] else []; rights = λ m. all_rights };
@@ -226,7 +226,7 @@ ring_of_three_clocks = record {
   links = (AtPort 0 1 ∷ AtSession 0 ∷ []) ∷ (AtPort 0 2 ∷ AtPort 1 1 ∷ []) ∷ (AtPort 0 3 ∷ AtPort 2 1 ∷ []) ∷ (AtPort 1 2 ∷ AtPort 2 2 ∷ []) ∷ [];
 }
 
-abbrev in_ring : List Event → NetworkState
+abbrev pub in_ring : List Event → NetworkState
 in_ring es = run ring_of_three_clocks (at_first ring_of_three_clocks) es
 
 -- end, boundaryHops, forwardings and origin

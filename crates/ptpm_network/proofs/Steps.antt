@@ -123,7 +123,7 @@ pub new_frames-are : (N : Network) (w : NetworkState) (ends : List End) (octets 
 new_frames-are N w ends octets o a i = all_made (HasEnd N) (IsFrame N w) _ (λ e h. record { end = h; origin = i; hops = omega arith }) ends a
 
 -- what is not answered yet was begun last
-unanswered-last : (s : SessionState) (q : RequestValue) → unanswered s ≡ Some q → slice_get s.begun (length s.begun - 1) ≡ Some q
+pub unanswered-last : (s : SessionState) (q : RequestValue) → unanswered s ≡ Some q → slice_get s.begun (length s.begun - 1) ≡ Some q
 unanswered-last s q e = ⊎_elim
     (λ (y : is_idle s ≡ true). let none : None ≡ Some q = sym (cond-true _ _ _ y) ∙ e in absurd (cc))
     (λ (n : is_idle s ≡ false). sym (cond-false _ _ _ n) ∙ e)

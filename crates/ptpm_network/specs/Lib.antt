@@ -10,3 +10,4 @@ pub mod Replying
 pub mod Headline
 pub mod Worth
 pub mod Exchange
+pub mod Way

@@ -12,4 +12,4 @@ pub use laws::{
     answers_by_octets, clocks_stand, events_appended, events_taken, every_schedule, hops_lost,
     in_the_window, one_request_at_a_time, outbox_of_turns, running_networks_stand,
 };
-pub use progress_laws::{one_copy_each_way, reported_exactly_once};
+pub use progress_laws::{answerable_along_a_way, one_copy_each_way, reported_exactly_once};

@@ -8,11 +8,12 @@ ghost use Rattle.ptpm_codec.specs.Layout.{domain_number};
 ghost use Rattle.ptpm_manager.specs.declared.ask.Ask.{Ask};
 ghost use Rattle.ptpm_manager.specs.declared.error.BeginError.TheVariants as begins;
 ghost use Rattle.ptpm_manager.specs.declared.report.Report.{Report};
-ghost use Rattle.ptpm_network.specs.Events.{Begin, BeginRefused, Deliver, Event, IsInRange, frame_at, refusal};
+ghost use Rattle.ptpm_network.specs.Events.{Begin, BeginRefused, Deliver, Event, IsInRange, frame_at, frames_limit, refusal};
 ghost use Rattle.ptpm_network.specs.Exchange.{HasReplied, HasReported, HasRoom, IsHeardBy};
-ghost use Rattle.ptpm_network.specs.Machine.{run, step};
+ghost use Rattle.ptpm_network.specs.Machine.{AreInTime, run, step, taken};
 ghost use Rattle.ptpm_network.specs.Network.{AtPort, AtSession, IsNetwork, Network};
 ghost use Rattle.ptpm_network.specs.State.{Frame, NetworkState, ReplyTo, RequestOf, at_first, history, is_idle, is_late, issued};
+ghost use Rattle.ptpm_network.specs.Way.{Hop, IsAnswerable, IsExchange, IsWay, LinksHaveAtMost, made_each_way};
 ghost use Rattle.ptpm_network.specs.Worth.{IsWorth, entries_of};
 
 /// What is reported was carried out exactly once. After every list of events, late deliveries among them:
@@ -64,4 +65,21 @@ pub fn one_copy_each_way()
         is_idle ((run N (at_first N) es).session s) ≡ false →
         domain_number f.octets ≡ ((run N (at_first N) es).session s).domain → HasRoom (run N (at_first N) es) →
         HasReported (run N (at_first N) es) (step N (run N (at_first N) es) (Deliver n)) s }
+{}
+
+/// Nothing deadlocks. After every list of events, late deliveries among them: where a session waits for a report and may send
+/// once more, a way leads to its target over clocks that pass messages on, and there is room for the frames, the request can
+/// be answered: the session sends it, one copy comes in at each clock of the way and at the target, and one of the reply at
+/// each clock on the way back and at the session. No event of these is refused, and no delivery is late, so a running network
+/// goes through them as the machine does.
+pub fn answerable_along_a_way()
+    ensures answered { (N : Network) (es : List Event) (s : ℕ) (hops : List Hop) (port ends : ℕ) →
+        IsNetwork N → AllByRecursion IsInRange es → s < N.sessions →
+        is_idle ((run N (at_first N) es).session s) ≡ false → 0 < ((run N (at_first N) es).session s).attempts_left →
+        IsWay N (run N (at_first N) es) s hops port → LinksHaveAtMost N ends →
+        length (run N (at_first N) es).frames + made_each_way ends hops ≤ frames_limit →
+        IsAnswerable N (run N (at_first N) es) s hops }
+    ensures runs { (N : Network) (s : ℕ) (w : NetworkState) (more : List Event) →
+        IsExchange N s w more →
+        AllByRecursion IsInRange more × (taken N w more ≡ more) × AreInTime N w more }
 {}

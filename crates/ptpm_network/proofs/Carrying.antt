@@ -1,0 +1,332 @@
+-- What a clock on the way does with a copy of a request, or of the reply: it passes it on, and nothing else changes.
+use Rattle.std.proofs.Common.{suc, zero, arith, ◌≡◌, ℕ, ◌<◌, ◌≤◌, ◌+◌, ◌-◌, ◌*◌, ◌/◌, ◌==◌, ◌&&◌, ◌||◌, Bool, List, [], ◌∷◌, ◌++◌, Option, Some, None, true, false, refl, sym, ◌∙◌, ap, subst, ⊎_elim, length, length-append}
+use Rattle.std.proofs.lemmas.Bool.{and_from, and_left, and_parts, and_right, cases_Bool, cond-false, cond-true, eq-eqb, eqb-false, eqb-true, false≢true, lt-ltb, ne_eqb, or_cases, or_from}
+use Rattle.std.proofs.lemmas.List.{append-nil}
+use Rattle.std.specs.Prelude.{flat_map, map, nat_lt, not, slice_get}
+use Rattle.std.specs.List.{AllByRecursion, filter, list_any, range_with_len}
+use Rattle.ptpm_codec.specs.declared.identity.ClockIdentity.{ClockIdentity}
+use Rattle.ptpm_codec.specs.declared.identity.PortIdentity.{PortIdentity}
+use Rattle.ptpm_codec.specs.declared.message.Message.{Message}
+use Rattle.ptpm_codec.specs.Identity.{every_clock, same_clock}
+use Rattle.ptpm_codec.specs.Layout.{boundary_hops, domain_number}
+use Rattle.ptpm_codec.specs.Message.{Fits}
+use Rattle.ptpm_codec.specs.Reading.{message_of}
+use Rattle.ptpm_data.specs.declared.data_sets.PortDataSet.{PortDataSet}
+use Rattle.ptpm_data.specs.Members.{DataSetsValue, is_forwarding_port, may_forward}
+use Rattle.ptpm_table.specs.Entries.{is_known}
+use Rattle.ptpm_agent.specs.Forwarding.{egress_ports, forwarded, forwarded_by, with_less_hop}
+use Rattle.ptpm_agent.specs.Once.{History, RequestCopy, after_arrival, copy_by, copy_of}
+use Rattle.ptpm_agent.specs.Turn.{Clock, is_addressed, is_for_this_clock, is_own, names_port}
+use Rattle.ptpm_network.specs.DataSets.{AreDataSets}
+use Rattle.ptpm_network.specs.Invariant.{IsOfOrigin, IsReached}
+use Rattle.ptpm_network.specs.Machine.{answering_frames, arrives, delivered_at_clock, delivery, forwarded_frames, made_frames, read_messages, reply_frames}
+use Rattle.ptpm_network.specs.Network.{AtPort, AtSession, End, IsNetwork, Network, manager, peers, ports, same_end}
+use Rattle.ptpm_network.specs.State.{Frame, NetworkState, RequestOf, ReplyTo, Neither, frames_to, history}
+use Rattle.ptpm_network.specs.Way.{LinksHaveAtMost, passed_at_most}
+use Rattle.ptpm_network.proofs.Arriving.{history-elsewhere, history-here}
+use Rattle.ptpm_network.proofs.Exchanging.{clocks_apart, message-domain}
+use Rattle.ptpm_network.proofs.Frames.{says_reply, says_request}
+use Rattle.ptpm_network.proofs.Lists.{get_append, get_within}
+use Rattle.ptpm_network.proofs.Messages.{less_hop-hops, less_hop-message, message-hops, reply_at, request_at}
+
+-- ---- elements of lists
+
+-- it stands somewhere in the list
+abbrev pub IsIn : {X : Type 0} → List X → X → Type 0
+IsIn xs x = (i : ℕ) × (slice_get xs i ≡ Some x)
+
+pub in_left : {X : Type 0} (xs ys : List X) (x : X) → IsIn xs x → IsIn (xs ++ ys) x
+in_left xs ys x p = (p.0, get_append xs ys p.0 x p.1)
+
+pub in_right : {X : Type 0} (xs ys : List X) (x : X) → IsIn ys x → IsIn (xs ++ ys) x
+in_right [] ys x p = p
+in_right (z ∷ xs) ys x p = let q = in_right xs ys x p in (suc q.0, q.1)
+
+in_map-at : {X Y : Type 0} (f : X → Y) (xs : List X) (i : ℕ) (x : X) → slice_get xs i ≡ Some x → slice_get (map f xs) i ≡ Some (f x)
+in_map-at f [] i x e = absurd (cc)
+in_map-at f (y ∷ xs) zero x e = let q : y ≡ x = cc in ap (λ z. Some (f z)) q
+in_map-at f (y ∷ xs) (suc i) x e = in_map-at f xs i x e
+
+pub in_map : {X Y : Type 0} (f : X → Y) (xs : List X) (x : X) → IsIn xs x → IsIn (map f xs) (f x)
+in_map f xs x p = (p.0, in_map-at f xs p.0 x p.1)
+
+in_flat-at : {X Y : Type 0} (f : X → List Y) (xs : List X) (i : ℕ) (x : X) (y : Y) → slice_get xs i ≡ Some x → IsIn (f x) y → IsIn (flat_map f xs) y
+in_flat-at f [] i x y e p = absurd (cc)
+in_flat-at f (z ∷ xs) zero x y e p = let q : z ≡ x = cc in in_left (f z) (flat_map f xs) y (subst (λ a. IsIn (f a) y) (sym q) p)
+in_flat-at f (z ∷ xs) (suc i) x y e p = in_right (f z) (flat_map f xs) y (in_flat-at f xs i x y e p)
+
+pub in_flat : {X Y : Type 0} (f : X → List Y) (xs : List X) (x : X) (y : Y) → IsIn xs x → IsIn (f x) y → IsIn (flat_map f xs) y
+in_flat f xs x y p q = in_flat-at f xs p.0 x y p.1 q
+
+in_filter-at : {X : Type 0} (test : X → Bool) (xs : List X) (i : ℕ) (x : X) → slice_get xs i ≡ Some x → test x ≡ true → IsIn (filter test xs) x
+in_filter-at test [] i x e t = absurd (cc)
+in_filter-at test (y ∷ xs) zero x e t =
+    let q : y ≡ x = cc in
+    subst (λ ys. IsIn ys x) (sym (cond-true _ _ _ (ap test q ∙ t))) (0, e)
+in_filter-at test (y ∷ xs) (suc i) x e t =
+    let rest = in_filter-at test xs i x e t in
+    ⊎_elim
+    (λ (h : test y ≡ true). subst (λ ys. IsIn ys x) (sym (cond-true _ _ _ h)) (suc rest.0, rest.1))
+    (λ (h : test y ≡ false). subst (λ ys. IsIn ys x) (sym (cond-false _ _ _ h)) rest)
+    (cases_Bool (test y))
+
+pub in_filter : {X : Type 0} (test : X → Bool) (xs : List X) (x : X) → IsIn xs x → test x ≡ true → IsIn (filter test xs) x
+in_filter test xs x p t = in_filter-at test xs p.0 x p.1 t
+
+in_range-at : (a n i : ℕ) → i < n → slice_get (range_with_len a n) i ≡ Some (a + i)
+in_range-at a zero i lt = absurd (omega arith)
+in_range-at a (suc n) zero lt = let q : a ≡ a + 0 = omega arith in ap Some q
+in_range-at a (suc n) (suc i) lt =
+    let q : (a + 1) + i ≡ a + suc i = omega arith in
+    in_range-at (a + 1) n i (omega arith) ∙ ap Some q
+
+pub in_range : (n p : ℕ) → 1 ≤ p → p ≤ n → IsIn (range_with_len 1 n) p
+in_range n p low high =
+    let q : 1 + (p - 1) ≡ p = omega arith in
+    (p - 1, in_range-at 1 n (p - 1) (omega arith) ∙ ap Some q)
+
+pub same_end-true : (a b : End) → same_end a b ≡ true → a ≡ b
+same_end-true (AtPort c p) (AtPort d q) y =
+    let parts = and_parts (c == d) (p == q) y in
+    ap (λ x. AtPort x p) (eqb-true c d parts.0) ∙ ap (AtPort d) (eqb-true p q parts.1)
+same_end-true (AtSession s) (AtSession t) y = ap AtSession (eqb-true s t y)
+same_end-true (AtSession s) (AtPort c p) y = absurd (false≢true y)
+same_end-true (AtPort c p) (AtSession s) y = absurd (false≢true y)
+
+pub in_any : (e : End) (ends : List End) → list_any (same_end e) ends ≡ true → IsIn ends e
+in_any e [] y = absurd (false≢true y)
+in_any e (d ∷ ends) y = ⊎_elim
+    (λ (h : same_end e d ≡ true). let q : d ≡ e = sym (same_end-true e d h) in (0, ap Some q))
+    (λ (h : list_any (same_end e) ends ≡ true). let rest = in_any e ends h in (suc rest.0, rest.1))
+    (or_cases (same_end e d) (list_any (same_end e) ends) y)
+
+-- ---- the ports that a clock passes messages on at
+
+forwarding-at : (o : Option PortDataSet) → is_forwarding_port o ≡ true → (p : PortDataSet) × (o ≡ Some p)
+forwarding-at None y = absurd (false≢true y)
+forwarding-at (Some p) y = (p, refl)
+
+between : (q n : ℕ) → (q ≡ 0 → ⊥) → q - 1 < n → (1 ≤ q) × (q ≤ n)
+between q n a b = (omega arith, omega arith)
+
+forwarding-exists : (q : ℕ) (d : DataSetsValue) → may_forward q d ≡ true → (1 ≤ q) × (q ≤ length d.ports)
+forwarding-exists q d y = ⊎_elim
+    (λ (z : q == 0 ≡ true). absurd (false≢true (sym (ap is_forwarding_port (cond-true _ _ _ z)) ∙ y)))
+    (λ (n : q == 0 ≡ false).
+    let some = forwarding-at (slice_get d.ports (q - 1)) (sym (ap is_forwarding_port (cond-false _ _ _ n)) ∙ y) in
+    between q (length d.ports) (eqb-false q 0 n) (get_within d.ports (q - 1) some.0 some.1))
+    (cases_Bool (q == 0))
+
+egress-in : (p q : ℕ) (d : DataSetsValue) → (q ≡ p → ⊥) → may_forward q d ≡ true → IsIn (egress_ports p d) q
+egress-in p q d ne y =
+    let exists = forwarding-exists q d y in
+    in_filter (λ port. not (port == p) && may_forward port d) (range_with_len 1 (length d.ports)) q (in_range (length d.ports) q exists.0 exists.1)
+    (and_from (not (q == p)) (may_forward q d) (ap not (ne_eqb q p ne)) y)
+
+-- ---- how many frames a message makes at most
+
+length-filter_le : {X : Type 0} (test : X → Bool) (xs : List X) → length (filter test xs) ≤ length xs
+length-filter_le test [] = omega arith
+length-filter_le test (x ∷ xs) =
+    let rest = length-filter_le test xs in
+    ⊎_elim
+    (λ (h : test x ≡ true). let is : length (filter test (x ∷ xs)) ≡ suc (length (filter test xs)) = ap length (cond-true _ _ _ h) in omega (arith, is, rest))
+    (λ (h : test x ≡ false). let is : length (filter test (x ∷ xs)) ≡ length (filter test xs) = ap length (cond-false _ _ _ h) in omega (arith, is, rest))
+    (cases_Bool (test x))
+
+length-range : (a n : ℕ) → length (range_with_len a n) ≡ n
+length-range a zero = refl
+length-range a (suc n) = omega (arith, length-range (a + 1) n)
+
+pub length-map_same : {X Y : Type 0} (f : X → Y) (xs : List X) → length (map f xs) ≡ length xs
+length-map_same f [] = refl
+length-map_same f (x ∷ xs) = omega (arith, length-map_same f xs)
+
+pub few-egress : (p : ℕ) (d : DataSetsValue) → length d.ports ≤ 8 → length (egress_ports p d) ≤ 8
+few-egress p d few = omega (arith, length-filter_le (λ port. not (port == p) && may_forward port d) (range_with_len 1 (length d.ports)), length-range 1 (length d.ports))
+
+-- as often as this list has elements
+abbrev times : ℕ → ℕ → ℕ
+times zero m = 0
+times (suc n) m = m + times n m
+
+times-le : (n k m : ℕ) → n ≤ k → times n m ≤ times k m
+times-le zero k m le = omega arith
+times-le (suc n) zero m le = absurd (omega arith)
+times-le (suc n) (suc k) m le = omega (arith, times-le n k m (omega arith))
+
+flat-times : {X Y : Type 0} (f : X → List Y) (m : ℕ) (xs : List X) → ((x : X) → length (f x) ≤ m) → length (flat_map f xs) ≤ times (length xs) m
+flat-times f m [] each = omega arith
+flat-times f m (x ∷ xs) each = omega (arith, length-append (f x) (flat_map f xs), each x, flat-times f m xs each)
+
+le_both : (a b c : ℕ) → a ≤ b → b ≤ c → a ≤ c
+le_both a b c x y = omega arith
+
+-- eight times an eighth
+eighth : (x most : ℕ) → 8 * x ≤ most → x ≤ most / 8
+eighth x most le = omega arith
+
+eight_eighths : (most : ℕ) → times 8 (most / 8) ≤ most
+eight_eighths most = omega arith
+
+at_most-made : (made n most : ℕ) → made ≤ times n (most / 8) → n ≤ 8 → made ≤ most
+at_most-made made n most a le = omega (arith, a, times-le n 8 (most / 8) le, eight_eighths most)
+
+-- each end has so few others that eight of them make no more frames than this
+abbrev pub MakesAtMost : Network → ℕ → Type 0
+MakesAtMost N most = (e : End) → 8 * length (peers N.links e) ≤ most
+
+few-peers : (ends : ℕ) (links : List (List End)) (e : End) → AllByRecursion (λ link. length link ≤ ends) links → length (peers links e) ≤ ends
+few-peers ends [] e all = omega arith
+few-peers ends (link ∷ links) e all = ⊎_elim
+    (λ (y : list_any (same_end e) link ≡ true).
+    subst (λ es. length es ≤ ends) (sym (cond-true _ _ _ y)) (le_both (length (filter (λ other. not (same_end e other)) link)) (length link) ends (length-filter_le (λ other. not (same_end e other)) link) all.0))
+    (λ (n : list_any (same_end e) link ≡ false). subst (λ es. length es ≤ ends) (sym (cond-false _ _ _ n)) (few-peers ends links e all.1))
+    (cases_Bool (list_any (same_end e) link))
+
+pub few-made : (N : Network) (ends : ℕ) → LinksHaveAtMost N ends → MakesAtMost N (passed_at_most ends)
+few-made N ends all e = let few = few-peers ends N.links e all in omega (arith, few)
+
+pub few-forwarded : (N : Network) (most c : ℕ) (f : Frame) (sent : List (ℕ × List ℕ)) → MakesAtMost N most → length sent ≤ 8 → length (forwarded_frames N c f sent) ≤ most
+few-forwarded N most c f sent few le =
+    at_most-made (length (forwarded_frames N c f sent)) (length sent) most
+    (flat-times (λ (m : ℕ × List ℕ). frames_to (peers N.links (AtPort c m.0)) m.1 f.origin f.first_hops (f.forwardings + 1)) (most / 8) sent
+    (λ m. subst (λ n. n ≤ most / 8) (sym (length-map_same (λ end. record { end = end; octets = m.1; origin = f.origin; first_hops = f.first_hops; forwardings = f.forwardings + 1 }) (peers N.links (AtPort c m.0)))) (eighth (length (peers N.links (AtPort c m.0))) most (few (AtPort c m.0)))))
+    le
+
+-- ---- a message on its way is for neither this clock nor every clock
+
+pub record IsPassing (me : ClockIdentity) (octets : List ℕ) : Type 0 where
+  pub message : Message
+  pub read : message_of octets ≡ Some message
+  pub fits : Fits message
+  pub sdo : message.sdo ≡ 0
+  pub source : message.source.clock ≡ me → ⊥
+  pub target : message.target.clock ≡ me → ⊥
+  pub every : message.target.clock ≡ every_clock → ⊥
+
+pub request-passing : (N : Network) (w : NetworkState) (s k c : ℕ) (octets : List ℕ) → IsNetwork N → IsReached N w → c < N.clocks → (c ≡ (N.session s).target → ⊥) → IsOfOrigin N w octets (RequestOf s k) → IsPassing (N.clock c).identity octets
+request-passing N w s k c octets n r exists ne i =
+    let says = says_request N w s k octets n r i in
+    let session = n.are_sessions s says.place in
+    record {
+      message = request_at N s k says.domain says.hops says.request;
+      read = says.message.read;
+      fits = says.message.fits;
+      sdo = refl;
+      source = n.no_clock s c says.place exists;
+      target = λ (h : (N.session s).setup.target ≡ (N.clock c).identity). ne (n.clocks_apart c (N.session s).target exists session.exists (sym h ∙ session.target));
+      every = λ (h : (N.session s).setup.target ≡ every_clock). (n.are_clocks (N.session s).target session.exists).is_one (sym session.target ∙ h);
+    }
+
+pub reply-passing : (N : Network) (w : NetworkState) (s k c : ℕ) (octets : List ℕ) → IsNetwork N → IsReached N w → c < N.clocks → (c ≡ (N.session s).target → ⊥) → IsOfOrigin N w octets (ReplyTo s k) → IsPassing (N.clock c).identity octets
+reply-passing N w s k c octets n r exists ne i =
+    let says = says_reply N w s k octets n r i in
+    let session = n.are_sessions s says.place in
+    let to_manager : says.heard.source.clock ≡ (manager N s).clock = ap (λ (m : PortIdentity). m.clock) says.source in
+    record {
+      message = reply_at (N.session s).setup.target says.heard says.entry.reply says.ingress says.hops says.answer;
+      read = says.message.read;
+      fits = says.message.fits;
+      sdo = refl;
+      source = λ (h : (N.session s).setup.target ≡ (N.clock c).identity). ne (n.clocks_apart c (N.session s).target exists session.exists (sym h ∙ session.target));
+      target = λ (h : says.heard.source.clock ≡ (N.clock c).identity). n.no_clock s c says.place exists (sym to_manager ∙ h);
+      every = λ (h : says.heard.source.clock ≡ every_clock). session.is_one (sym to_manager ∙ h);
+    }
+
+-- ---- it is passed on
+
+-- the clock passes it on from this port
+pub record MayPass (d : DataSetsValue) (p q : ℕ) (octets : List ℕ) : Type 0 where
+  pub domain : domain_number octets ≡ d.default.domain
+  pub hop : 0 < boundary_hops octets
+  pub two_ports : q ≡ p → ⊥
+  pub ingress : may_forward p d ≡ true
+  pub egress : may_forward q d ≡ true
+
+passing-forwarded : (me : ClockIdentity) (p q : ℕ) (d : DataSetsValue) (octets : List ℕ) → IsPassing me octets → MayPass d p q octets → forwarded me p d octets ≡ map (λ port. (port, with_less_hop octets)) (egress_ports p d)
+unfolding forwarded
+passing-forwarded me p q d octets v may =
+    let m : Message = v.message in
+    let hop : 0 < m.hops = subst (λ h. 0 < h) (sym (message-hops m octets v.read)) may.hop in
+    ap (forwarded_by me p d octets) v.read
+    ∙ cond-true _ _ _
+    (and_from (m.sdo == 0) _ (eq-eqb m.sdo 0 v.sdo)
+    (and_from (m.domain == d.default.domain) _ (eq-eqb m.domain d.default.domain (message-domain m octets v.read ∙ may.domain))
+    (and_from (not (same_clock m.source.clock me)) _ (ap not (clocks_apart m.source.clock me v.source))
+    (and_from (not (same_clock m.target.clock me)) _ (ap not (clocks_apart m.target.clock me v.target))
+    (and_from (nat_lt 0 m.hops) (may_forward p d) (lt-ltb 0 m.hops hop) may.ingress)))))
+
+passing-no_copy : (c : Clock) (d : DataSetsValue) (p : ℕ) (f : Frame) → IsPassing c.identity f.octets → copy_of c d (delivery p f) ≡ None
+passing-no_copy c d p f v =
+    let m : Message = v.message in
+    ap (copy_by c d (delivery p f)) v.read
+    ∙ cond-false _ _ _ (and_right (m.sdo == 0) _ (and_right (not (is_own c m)) _ (and_right (is_known m.source c.managers) _ (and_left (is_for_this_clock c m) _ (clocks_apart m.target.clock c.identity v.target)))))
+
+passing-not_read : (c : Clock) (d : DataSetsValue) (p : ℕ) (octets : List ℕ) → IsPassing c.identity octets → read_messages c d p (message_of octets) ≡ []
+passing-not_read c d p octets v =
+    let m : Message = v.message in
+    ap (read_messages c d p) v.read
+    ∙ cond-false _ _ _ (and_right (m.sdo == 0) _ (and_right (m.domain == d.default.domain) _ (and_right (not (is_own c m)) _
+    (and_left (is_addressed c d m) _ (and_left (is_for_this_clock c m || same_clock m.target.clock every_clock) (names_port d m.target.port)
+    (or_from (is_for_this_clock c m) (same_clock m.target.clock every_clock) (clocks_apart m.target.clock c.identity v.target) (clocks_apart m.target.clock every_clock v.every)))))))
+
+made-passing : (N : Network) (w : NetworkState) (c p q : ℕ) (f : Frame) → IsPassing (N.clock c).identity f.octets → MayPass (history N w c).sets p q f.octets
+    → made_frames N c (history N w c) p f ≡ forwarded_frames N c f (map (λ port. (port, with_less_hop f.octets)) (egress_ports p (history N w c).sets))
+made-passing N w c p q f v may =
+    let h : History = history N w c in
+    let sent : List (ℕ × List ℕ) = map (λ port. (port, with_less_hop f.octets)) (egress_ports p h.sets) in
+    ap (λ fs. forwarded_frames N c f fs ++ answering_frames N c h p f (copy_of (N.clock c) h.sets (delivery p f))) (passing-forwarded (N.clock c).identity p q h.sets f.octets v may)
+    ∙ ap (λ (o : Option RequestCopy). forwarded_frames N c f sent ++ answering_frames N c h p f o) (passing-no_copy (N.clock c) h.sets p f v)
+    ∙ ap (λ ms. forwarded_frames N c f sent ++ reply_frames N c Neither ms) (passing-not_read (N.clock c) h.sets p f.octets v)
+    ∙ append-nil (forwarded_frames N c f sent)
+
+-- no clock's history changes
+pub passing-history : (N : Network) (w : NetworkState) (c p : ℕ) (f : Frame) (d : ℕ) → IsPassing (N.clock c).identity f.octets → history N (delivered_at_clock N w c p f) d ≡ history N w d
+passing-history N w c p f d v = ⊎_elim
+    (λ (y : d == c ≡ true).
+    subst (λ j. history N (arrives w c (delivery p f)) j ≡ history N w j) (sym (eqb-true d c y))
+    (history-here N w c (delivery p f) ∙ ap (after_arrival (N.clock c) (history N w c)) (passing-no_copy (N.clock c) (history N w c).sets p f v)))
+    (λ (n : d == c ≡ false). history-elsewhere N w c (delivery p f) d n)
+    (cases_Bool (d == c))
+
+-- the copy for this end
+abbrev pub passed_copy : Frame → End → Frame
+passed_copy f e = record { end = e; octets = with_less_hop f.octets; origin = f.origin; first_hops = f.first_hops; forwardings = f.forwardings + 1 }
+
+pub passing-made : (N : Network) (w : NetworkState) (c p q : ℕ) (f : Frame) (e : End) → IsPassing (N.clock c).identity f.octets → MayPass (history N w c).sets p q f.octets → list_any (same_end e) (peers N.links (AtPort c q)) ≡ true
+    → IsIn (delivered_at_clock N w c p f).frames (passed_copy f e)
+passing-made N w c p q f e v may link =
+    let d = (history N w c).sets in
+    let sent : List (ℕ × List ℕ) = map (λ port. (port, with_less_hop f.octets)) (egress_ports p d) in
+    in_right w.frames (made_frames N c (history N w c) p f) (passed_copy f e)
+    (subst (λ fs. IsIn fs (passed_copy f e)) (sym (made-passing N w c p q f v may))
+    (in_flat (λ (m : ℕ × List ℕ). frames_to (peers N.links (AtPort c m.0)) m.1 f.origin f.first_hops (f.forwardings + 1)) sent (q, with_less_hop f.octets) (passed_copy f e)
+    (in_map (λ port. (port, with_less_hop f.octets)) (egress_ports p d) q (egress-in p q d may.two_ports may.egress))
+    (in_map (λ end. record { end = end; octets = with_less_hop f.octets; origin = f.origin; first_hops = f.first_hops; forwardings = f.forwardings + 1 }) (peers N.links (AtPort c q)) e (in_any e (peers N.links (AtPort c q)) link))))
+
+pub add_most : (a b most : ℕ) → b ≤ most → a + b ≤ a + most
+add_most a b most le = omega arith
+
+few-ports : (n : ℕ) (d : DataSetsValue) → AreDataSets n d → length d.ports ≤ 8
+few-ports n d sets = let eight = sets.at_most_eight in let are = sets.ports_are in omega (arith, eight, are)
+
+pub passing-few : (N : Network) (w : NetworkState) (most c p q : ℕ) (f : Frame) → MakesAtMost N most → AreDataSets (ports N c) (history N w c).sets → IsPassing (N.clock c).identity f.octets → MayPass (history N w c).sets p q f.octets
+    → length (delivered_at_clock N w c p f).frames ≤ length w.frames + most
+passing-few N w most c p q f few sets v may =
+    let d = (history N w c).sets in
+    let sent : List (ℕ × List ℕ) = map (λ port. (port, with_less_hop f.octets)) (egress_ports p d) in
+    let size : length sent ≤ 8 = subst (λ n. n ≤ 8) (sym (length-map_same (λ port. (port, with_less_hop f.octets)) (egress_ports p d))) (few-egress p d (few-ports (ports N c) d sets)) in
+    let made : length (made_frames N c (history N w c) p f) ≤ most = subst (λ fs. length fs ≤ most) (sym (made-passing N w c p q f v may)) (few-forwarded N most c f sent few size) in
+    let all : length (w.frames ++ made_frames N c (history N w c) p f) ≡ length w.frames + length (made_frames N c (history N w c) p f) = length-append w.frames (made_frames N c (history N w c) p f) in
+    subst (λ n. n ≤ length w.frames + most) (sym all) (add_most (length w.frames) (length (made_frames N c (history N w c) p f)) most made)
+
+-- a hop less, in the same domain
+pub passed-hops : (me : ClockIdentity) (octets : List ℕ) → IsPassing me octets → boundary_hops (with_less_hop octets) ≡ boundary_hops octets - 1
+passed-hops me octets v = less_hop-hops v.message octets v.read
+
+pub passed-domain : (me : ClockIdentity) (octets : List ℕ) → IsPassing me octets → domain_number (with_less_hop octets) ≡ domain_number octets
+passed-domain me octets v =
+    let m : Message = v.message in
+    let less = less_hop-message m octets v.read v.fits in
+    sym (message-domain (record m { hops = m.hops - 1 }) (with_less_hop octets) less.read) ∙ message-domain m octets v.read

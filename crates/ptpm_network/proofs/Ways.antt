@@ -1,0 +1,49 @@
+-- Worked ways: that what the law of one copy each way asks for is met, and an exchange that it speaks of.
+use Rattle.std.proofs.Common.{◌≡◌, List, [], ◌∷◌, refl, inl, arith}
+use Rattle.ptpm_codec.specs.Layout.{number_at, port_identity_at}
+use Rattle.ptpm_codec.specs.Canonical.{port_identity_octets, tlv_octets}
+use Rattle.ptpm_codec.specs.Reading.{body_at, message_of}
+use Rattle.ptpm_codec.specs.Refusal.{frame_refusal, tlv_refusal, text_refusal}
+use Rattle.ptpm_data.specs.IdTable.{row_of}
+use Rattle.ptpm_data.specs.DataField.{data_field_of}
+use Rattle.ptpm_data.specs.Refusals.{entry_refusal}
+use Rattle.ptpm_data.specs.Replies.{answer, reply_of, reply_to, read_reply_to}
+use Rattle.ptpm_data.specs.Changes.{changed_by}
+use Rattle.ptpm_agent.specs.Forwarding.{forwarded}
+use Rattle.ptpm_table.specs.Rendering.{rendered}
+use Rattle.ptpm_manager.specs.declared.report.Outcome.TheVariants as outcomes
+use Rattle.ptpm_manager.specs.Ask.{ask_refusal, target_port}
+use Rattle.ptpm_manager.specs.Session.{begin_refusal, send_refusal}
+use Rattle.ptpm_network.specs.Events.{Begin, Deliver, Send, refusal}
+use Rattle.ptpm_network.specs.Machine.{happens, run}
+use Rattle.ptpm_network.specs.State.{at_first}
+use Rattle.ptpm_network.specs.Way.{Hop, IsAnswerable, IsWay}
+use Rattle.ptpm_network.proofs.Answerable.{answerable}
+use Rattle.ptpm_network.proofs.Schedules.{get_priority1, in_ring, one_clock, one_clock-IsNetwork, ring_of_three_clocks}
+
+-- the session on the link of its clock's port 1 has begun a GET, and can be answered with no clock between
+one_clock-answerable : IsAnswerable one_clock (run one_clock (at_first one_clock) (Begin 0 get_priority1 ∷ [])) 0 []
+unfolding refusal happens begin_refusal ask_refusal target_port row_of
+one_clock-answerable =
+    answerable one_clock (Begin 0 get_priority1 ∷ []) 0 [] 1 2 one_clock-IsNetwork (omega arith, tt) (omega arith) refl (omega arith)
+    (record { leads = record { there = refl; back = refl }; passes = tt; hops_suffice = omega arith; heard = inl refl })
+    (omega arith, tt) (omega arith)
+
+-- in the ring a way leads over clock 0, in at port 1 and out at port 2, to port 1 of clock 1
+abbrev over_clock_0 : List Hop
+over_clock_0 = record { clock = 0; near = 1; far = 2 } ∷ []
+
+ring-way : IsWay ring_of_three_clocks (in_ring (Begin 0 get_priority1 ∷ [])) 0 over_clock_0 1
+unfolding refusal happens begin_refusal ask_refusal target_port row_of
+ring-way = record {
+  leads = (record { there = refl; back = refl }, record { there = refl; back = refl });
+  passes = (record { other = λ e. omega arith; two_ports = λ e. omega arith; in_domain = refl; near = refl; far = refl }, tt);
+  hops_suffice = omega arith;
+  heard = inl refl;
+}
+
+-- sent once, handed in at clock 0, at clock 1, at clock 0 on the way back and at the session: the request is reported
+ring-reports : ((in_ring (Begin 0 get_priority1 ∷ Send 0 ∷ Deliver 1 ∷ Deliver 2 ∷ Deliver 4 ∷ Deliver 5 ∷ [])).session 0).reports
+    ≡ record { index = 1; outcome = outcomes.Value (0x80 ∷ 0x00 ∷ []) } ∷ []
+unfolding refusal happens begin_refusal send_refusal ask_refusal target_port row_of port_identity_octets tlv_octets message_of frame_refusal tlv_refusal text_refusal body_at number_at port_identity_at changed_by entry_refusal forwarded answer data_field_of reply_of reply_to read_reply_to rendered
+ring-reports = refl
