@@ -3,6 +3,9 @@ use Rattle.std.specs.Prelude.{ℕ, List, codes}
 use Rattle.ptpm_codec.specs.declared.error.DecodeError.{DecodeError}
 use Rattle.ptpm_codec.specs.declared.error.DecodeError.TheVariants as refusals
 
+abbrev pub out_of_memory_text : List ℕ
+out_of_memory_text = codes "OutOfMemory"
+
 abbrev pub refusal_text : DecodeError → List ℕ
 refusal_text refusals.TooShort = codes "TooShort"
 refusal_text refusals.NotManagement = codes "NotManagement"

@@ -5,8 +5,19 @@ use thiserror::Error;
 
 /// Memory was asked for and refused.
 #[derive(Clone, Copy, Debug, PartialEq, Eq, Error)]
-#[error("OutOfMemory")]
 pub struct OutOfMemory;
+
+/// The name.
+impl fmt::Display for OutOfMemory {
+    ghost use Rattle.std.specs.Prelude.{Some};
+    ghost use Rattle.ptpm_codec.specs.ErrorText.{out_of_memory_text};
+
+    ghost output = { λ _. Some out_of_memory_text };
+
+    fn fmt<W: fmt::Write>(&self, f: &mut fmt::Formatter<W>) -> fmt::Result {
+        f.write_str("OutOfMemory")
+    }
+}
 
 /// Why a datagram holds no management message, in the order in which the reasons are judged.
 #[derive(Clone, Copy, Debug, PartialEq, Eq, Error)]
