@@ -65,7 +65,7 @@ at_port : (layout : Layout) (identity : ClockIdentity) (port : ℕ) (set : Optio
 at_port layout identity port None h = within 26 0 refl refl (omega arith)
 at_port layout identity port (Some p) h = of_port layout identity port p h
 
-is_port_layout : Layout → Bool
+unfoldable pub is_port_layout : Layout → Bool
 is_port_layout layouts.UserDescription = false
 is_port_layout layouts.DefaultDataSet = false
 is_port_layout layouts.CurrentDataSet = false
@@ -136,7 +136,7 @@ agree true l e = e
 agree false true e = cc
 agree false false e = refl
 
-layout_of : (id : ℕ) (e : Entry) → row_of id ≡ Some e → is_port_layout e.layout ≡ is_port_scope e.scope
+pub layout_of : (id : ℕ) (e : Entry) → row_of id ≡ Some e → is_port_layout e.layout ≡ is_port_scope e.scope
 unfolding row_of
 layout_of id e is = agree (is_port_scope e.scope) (is_port_layout e.layout) (found (λ x. x.id == id) scope_agrees id_table e table_agrees is)
 

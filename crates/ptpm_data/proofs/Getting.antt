@@ -7,8 +7,7 @@ use Rattle.ptpm_data.specs.IdTable.{Entry, row_of}
 use Rattle.ptpm_data.specs.Members.{DataSetsValue}
 use Rattle.ptpm_data.specs.Request.{RequestValue}
 use Rattle.ptpm_data.specs.Refusals.{entry_refusal, refusal_at, refusal_of}
-use Rattle.ptpm_data.specs.Changes.{changed_by}
-use Rattle.ptpm_data.specs.Replies.{is_get, no_rights, read_refusal, read_reply_to, reply_of, reply_to}
+use Rattle.ptpm_data.specs.Replies.{is_get, no_rights, read_refusal, read_reply_to, reply_to}
 use Rattle.ptpm_data.proofs.Keeping.{changed_by-get}
 
 module _ (q : RequestValue) (rights : Rights) (get : q.action ≡ actions.Get) where

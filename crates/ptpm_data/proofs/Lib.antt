@@ -9,4 +9,7 @@ pub mod Keeping
 pub mod Getting
 pub mod Setting
 pub mod Following
+pub mod OwnFields
+pub mod OwnOctets
+pub mod PlainMap
 pub mod MapLemmas

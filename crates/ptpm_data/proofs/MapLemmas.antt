@@ -60,7 +60,7 @@ state_same s t h = some_same s t (sym (state_back s) ∙ ap state_of (natural_sa
 mechanism_back : (m : DelayMechanism) → mechanism_of (mechanism_number m) ≡ Some m
 mechanism_back mechanisms.EndToEnd = refl
 mechanism_back mechanisms.PeerToPeer = refl
-mechanism_back mechanisms.Disabled = refl
+mechanism_back mechanisms.NoMechanism = refl
 
 mechanism_same : (m n : DelayMechanism) → natural (mechanism_number m) ≡ natural (mechanism_number n) → m ≡ n
 mechanism_same m n h = some_same m n (sym (mechanism_back m) ∙ ap mechanism_of (natural_same _ _ h) ∙ mechanism_back n)

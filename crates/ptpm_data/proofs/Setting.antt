@@ -1,10 +1,9 @@
 -- What an accepted SET changes and is answered, and what a GET after it is answered.
-use Rattle.std.proofs.Common.{◌≡◌, ◌∙◌, refl, ap, subst, ℕ, ◌==◌, Bool, true, false, not, ◌||◌, List, drop, Option, Some, None}
+use Rattle.std.proofs.Common.{◌≡◌, ◌∙◌, refl, ap, subst, ◌==◌, Bool, true, false, not, ◌||◌, List, drop, Option, Some, None}
 use Rattle.std.specs.List.{list_all}
 use Rattle.std.proofs.lemmas.Bool.{not-false}
 use Rattle.ptpm_codec.specs.declared.message.Action.{Action}
 use Rattle.ptpm_codec.specs.declared.message.Action.TheVariants as actions
-use Rattle.ptpm_codec.proofs.OrderedLaws.{first_of-none}
 use Rattle.ptpm_data.specs.declared.rights.Rights.{Rights}
 use Rattle.ptpm_data.specs.IdTable.{Entry, has_action, id_table, is_of_port, row_of}
 use Rattle.ptpm_data.specs.Members.{DataSetsValue}
@@ -14,6 +13,7 @@ use Rattle.ptpm_data.specs.Refusals.{entry_refusal, refusal_at, refusal_of, refu
 use Rattle.ptpm_data.specs.Changes.{changed_by, set_members}
 use Rattle.ptpm_data.specs.Replies.{answer, answers_of, no_rights, port_answers, read_reply_to, reply_of, reply_to}
 use Rattle.ptpm_data.specs.SetLaws.{IsAcceptedSet, get_of}
+use Rattle.ptpm_data.proofs.Carrying.{first_of-none}
 use Rattle.ptpm_data.proofs.FieldSizes.{found}
 
 -- ---- an id that permits SET permits GET
@@ -24,11 +24,11 @@ gets_what_it_sets e = not (has_action actions.Set e.actions) || has_action actio
 table_gets : list_all gets_what_it_sets id_table ≡ true
 table_gets = refl
 
-then_get : (s g : Bool) → (not s || g) ≡ true → s ≡ true → g ≡ true
+pub then_get : (s g : Bool) → (not s || g) ≡ true → s ≡ true → g ≡ true
 then_get true g e h = e
 then_get false g e h = cc
 
-permitted : (e : Entry) (q : RequestValue) (rights : Rights) → q.action ≡ actions.Set → entry_refusal e q rights ≡ None → has_action actions.Set e.actions ≡ true
+pub permitted : (e : Entry) (q : RequestValue) (rights : Rights) → q.action ≡ actions.Set → entry_refusal e q rights ≡ None → has_action actions.Set e.actions ≡ true
 unfolding entry_refusal
 permitted e q rights set none =
     let action = first_of-none (not (has_action q.action e.actions)) (unpermitted q.action) (drop 1 (refusals e q rights)) none in

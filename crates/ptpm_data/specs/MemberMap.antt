@@ -1,6 +1,7 @@
 -- The data sets as a finite map, from the members of the clock and of each of its ports to their values (IEEE 1588-2019,
 -- clause 8): what a data sets value means, member by member.
-use Rattle.std.specs.Prelude.{ℕ, ℤ, pos, Bool, if◌then◌else◌, List, Option, Some, None, option_and_then}
+use Rattle.std.specs.Prelude.{ℕ, ℤ, pos, Bool, if◌then◌else◌, List, ◌++◌, Option, Some, None, option_and_then}
+use Rattle.byteorder.specs.Endian.{big_bytes}
 use Rattle.ptpm_codec.specs.declared.identity.ClockIdentity.{ClockIdentity}
 use Rattle.ptpm_codec.specs.declared.identity.PortIdentity.{PortIdentity}
 use Rattle.ptpm_data.specs.declared.members.Member.{Member}
@@ -14,6 +15,17 @@ pub data MemberValue : Type 0 where
   Number : (number : ℤ) → MemberValue
   Octets : (octets : List ℕ) → MemberValue
   PortOf : (clock : List ℕ) → (port : ℕ) → MemberValue
+
+-- The same as a whole number or a list of octets alone: a portIdentity has ten, those of its clock and then those of its
+-- port's number (5.3.5).
+pub data PlainValue : Type 0 where
+  WholeNumber : (number : ℤ) → PlainValue
+  OctetList : (octets : List ℕ) → PlainValue
+
+abbrev pub plain : MemberValue → PlainValue
+plain (Number n) = WholeNumber n
+plain (Octets octets) = OctetList octets
+plain (PortOf clock port) = OctetList (clock ++ big_bytes 2 port)
 
 -- where a member is: of the clock, or of a port
 pub data Place : Type 0 where

@@ -31,7 +31,7 @@ is_forwarding states.Slave = true
 abbrev pub mechanism_number : DelayMechanism → ℕ
 mechanism_number mechanisms.EndToEnd = 1
 mechanism_number mechanisms.PeerToPeer = 2
-mechanism_number mechanisms.Disabled = 0xfe
+mechanism_number mechanisms.NoMechanism = 0xfe
 
 -- the state of a number, where it is one's
 abbrev pub state_of : ℕ → Option PortState
@@ -45,4 +45,4 @@ state_of n =
 abbrev pub mechanism_of : ℕ → Option DelayMechanism
 mechanism_of n =
     if n == 1 then Some mechanisms.EndToEnd else if n == 2 then Some mechanisms.PeerToPeer
-    else if n == 0xfe then Some mechanisms.Disabled else None
+    else if n == 0xfe then Some mechanisms.NoMechanism else None

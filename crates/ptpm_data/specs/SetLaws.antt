@@ -1,12 +1,16 @@
 -- The words of what an accepted SET is answered and changes (IEEE 1588-2019, 15.5.3).
-use Rattle.std.specs.Prelude.{◌≡◌, ◌≢◌, ℕ, Bool, true, false, [], Option, Some, None}
+use Rattle.std.specs.Prelude.{◌≡◌, ◌≢◌, ◌<◌, ◌+◌, ◌%◌, ℕ, true, false, List, [], ◌∷◌, ◌++◌, take, replicate, Option, Some, None}
 use Rattle.ptpm_codec.specs.declared.message.Action.TheVariants as actions
+use Rattle.ptpm_data.specs.declared.ids.Layout.{Layout}
+use Rattle.ptpm_data.specs.declared.ids.Layout.TheVariants as layouts
 use Rattle.ptpm_data.specs.declared.members.Member.{Member}
 use Rattle.ptpm_data.specs.declared.rights.Rights.{Rights}
+use Rattle.ptpm_data.specs.IdTable.{Entry}
 use Rattle.ptpm_data.specs.MemberMap.{OfClock, Place, natural, value_of}
 use Rattle.ptpm_data.specs.Members.{DataSetsValue, is_own_grandmaster}
 use Rattle.ptpm_data.specs.Refusals.{refusal_of}
 use Rattle.ptpm_data.specs.Request.{RequestValue}
+use Rattle.ptpm_data.specs.SetField.{octet}
 
 -- a SET that is carried out
 pub record IsAcceptedSet (q : RequestValue) (rights : Rights) : Type 0 where
@@ -16,6 +20,22 @@ pub record IsAcceptedSet (q : RequestValue) (rights : Rights) : Type 0 where
 -- a GET of the same id, of the same target port
 abbrev pub get_of : RequestValue → RequestValue
 get_of q = record { action = actions.Get; id = q.id; port = q.port; octets = [] }
+
+-- octets are numbers below 256
+abbrev pub AreOctets : List ℕ → Type 0
+AreOctets octets = (place : ℕ) → octet place octets < 256
+
+-- The dataField of an accepted SET as the standard has it: a reserved octet is 0, a text has a pad of 0 where its size would be
+-- odd, and of the flags of UTC_PROPERTIES there are the three that it sets.
+abbrev pub standard_field : Layout → List ℕ → List ℕ
+standard_field layouts.NullPtpManagement octets = []
+standard_field layouts.UserDescription octets = take (1 + octet 0 octets) octets ++ replicate ((1 + octet 0 octets) % 2) 0
+standard_field layouts.UtcProperties octets = take 2 octets ++ octet 2 octets % 8 ∷ 0 ∷ []
+standard_field _ octets = octet 0 octets ∷ 0 ∷ []
+
+abbrev pub standard_field_at : Option Entry → List ℕ → List ℕ
+standard_field_at None octets = octets
+standard_field_at (Some e) octets = standard_field e.layout octets
 
 -- A member of the clock's own becomes a number, and the grandmaster's member becomes the same where the clock is its own
 -- grandmaster (9.3.5, table 30). Every other member stays, whatever the data sets are.

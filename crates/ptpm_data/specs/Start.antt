@@ -129,7 +129,7 @@ port_data_set p = record {
   log_announce = p.log_announce;
   receipt_timeout = p.receipt_timeout;
   log_sync = p.log_sync;
-  delay_mechanism = unwrap_or (mechanism_of p.delay_mechanism) mechanisms.Disabled;
+  delay_mechanism = unwrap_or (mechanism_of p.delay_mechanism) mechanisms.NoMechanism;
   log_min_pdelay = p.log_min_pdelay;
 }
 

@@ -1,7 +1,7 @@
 //! What holds of the table of management ids, of every clock's data sets, and of every reply, for whoever proves something
 //! over them. Each law is the contract of a function that does nothing.
 
-ghost use Rattle.std.specs.Prelude.{◌≡◌, ◌≤◌, length, map, Some};
+ghost use Rattle.std.specs.Prelude.{◌≡◌, ◌<◌, ◌≤◌, ◌^◌, length, map, option_map, Some};
 ghost use Rattle.std.specs.List.{All, Contains};
 ghost use Rattle.ptpm_codec.specs.declared.error.ErrorId.{ErrorId};
 ghost use Rattle.ptpm_codec.specs.declared.message.Action.TheVariants.{Get};
@@ -10,18 +10,18 @@ ghost use Rattle.ptpm_data.specs.declared.members.Member.TheVariants.{ClockAccur
 ghost use Rattle.ptpm_data.specs.declared.rights.Rights.{Rights};
 ghost use Rattle.ptpm_data.specs.Changes.{changed_by, IsTargetPort};
 ghost use Rattle.ptpm_data.specs.IdTable.{id_table, row_of, row_named};
-ghost use Rattle.ptpm_data.specs.MemberMap.{Place, value_of};
+ghost use Rattle.ptpm_data.specs.MemberMap.{Place, plain, value_of};
 ghost use Rattle.ptpm_data.specs.Members.{DataSetsValue, IsConsistent};
 ghost use Rattle.ptpm_data.specs.Replies.{read_reply_to, reply_action, reply_to};
-ghost use Rattle.ptpm_data.specs.Reply.{Answer, Refused};
+ghost use Rattle.ptpm_data.specs.Reply.{Answer, Refused, Value};
 ghost use Rattle.ptpm_data.specs.Request.{RequestValue};
 ghost use Rattle.ptpm_data.specs.RequestLaws.{answerer, IsForOne, IsOneAnswer, IsOutcomeOf, IsSized};
 ghost use Rattle.ptpm_data.specs.SetField.{octet};
-ghost use Rattle.ptpm_data.specs.SetLaws.{get_of, IsAcceptedSet, MovesWithGrandmaster};
+ghost use Rattle.ptpm_data.specs.SetLaws.{AreOctets, get_of, IsAcceptedSet, MovesWithGrandmaster, standard_field_at};
 
 use crate::data_sets::DataSets;
 use crate::id_table::MANAGEMENT_IDS;
-use ptpm_codec::ClockIdentity;
+use ptpm_codec::{ClockIdentity, PortIdentity};
 
 /// Each entry of the table is found by its id and by its name: so ids are distinct, and so are names. `MANAGEMENT_IDS` are
 /// the ids of all entries, in order.
@@ -48,12 +48,29 @@ pub fn member_map_law()
     ensures { (a : DataSetsValue) → (b : DataSetsValue) → ((place : Place) → value_of place a ≡ value_of place b) → a ≡ b }
 {}
 
+/// The same of two clocks' data sets, whose members are whole numbers and lists of octets alone.
+pub fn plain_map_law(a: &DataSets, b: &DataSets)
+    ensures { ((place : Place) → option_map plain (value_of place a.now) ≡ option_map plain (value_of place b.now)) → a.now ≡ b.now }
+{
+    port_identity_law(&a.parent.parent_port);
+    port_identity_law(&b.parent.parent_port);
+}
+
 /// An identity has eight octets.
 fn identity_law(identity: &ClockIdentity)
     ensures { length identity.now.0 ≡ 8 }
 {
     let octets: &[u8] = &identity.0;
     let _ = octets.len();
+}
+
+/// A portIdentity has eight octets and a number of sixteen bits.
+fn port_identity_law(identity: &PortIdentity)
+    ensures clock { length identity.now.clock.0 ≡ 8 }
+    ensures port { identity.now.port < 2 ^ 16 }
+{
+    identity_law(&identity.clock);
+    let _port = identity.port;
 }
 
 /// What holds of the reply to a request that is not numbered. A GET is answered as a numbered one, whatever the rights.
@@ -99,10 +116,13 @@ pub fn change_law()
 {}
 
 /// An accepted SET is answered by the dataFields as they are after it: the reply is that to a GET of the same id and target
-/// port right after it.
+/// port right after it. Each answer is the SET's own octets, with reserved octets, unused flags and a text's pad as the
+/// standard has them.
 pub fn set_law()
-    ensures { (q : RequestValue) (rights : Rights) (d : DataSetsValue) → IsAcceptedSet q rights
+    ensures read_back { (q : RequestValue) (rights : Rights) (d : DataSetsValue) → IsAcceptedSet q rights
         → reply_to q rights d ≡ read_reply_to (get_of q) (changed_by q rights d) }
+    ensures own_octets { (q : RequestValue) (rights : Rights) (d : DataSetsValue) → IsAcceptedSet q rights → AreOctets q.octets
+        → All (λ a. a.outcome ≡ Value (standard_field_at (row_of q.id) q.octets)) (reply_to q rights d).answers }
 {}
 
 /// An accepted SET of PRIORITY1, PRIORITY2 or CLOCK_ACCURACY moves that member to its first octet; in a clock that is its own

@@ -32,8 +32,8 @@ pub use data_sets::{
 pub use id_table::{MANAGEMENT_IDS, by_name, row};
 pub use ids::{Layout, Row, Scope};
 pub use laws::{
-    change_law, data_sets_law, grandmaster_law, id_table_law, member_map_law, read_reply_law,
-    reply_law, set_law,
+    change_law, data_sets_law, grandmaster_law, id_table_law, member_map_law, plain_map_law,
+    read_reply_law, reply_law, set_law,
 };
 pub use members::Member;
 pub use port_state::{DelayMechanism, PortState};

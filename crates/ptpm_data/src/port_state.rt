@@ -58,12 +58,12 @@ impl PortState {
     }
 }
 
-/// delayMechanism: E2E is 1, P2P is 2, and 0xFE means that none is in use.
+/// delayMechanism: E2E is 1, P2P is 2, and NO_MECHANISM, none in use, is 0xFE (8.2.15.4.4, table 21).
 #[derive(Clone, Copy, Debug, PartialEq, Eq)]
 pub enum DelayMechanism {
     EndToEnd,
     PeerToPeer,
-    Disabled,
+    NoMechanism,
 }
 
 impl DelayMechanism {
@@ -78,7 +78,7 @@ impl DelayMechanism {
         match self {
             DelayMechanism::EndToEnd => 1,
             DelayMechanism::PeerToPeer => 2,
-            DelayMechanism::Disabled => 0xfe,
+            DelayMechanism::NoMechanism => 0xfe,
         }
     }
 
@@ -91,7 +91,7 @@ impl DelayMechanism {
         match number {
             1 => Some(DelayMechanism::EndToEnd),
             2 => Some(DelayMechanism::PeerToPeer),
-            0xfe => Some(DelayMechanism::Disabled),
+            0xfe => Some(DelayMechanism::NoMechanism),
             _ => None,
         }
     }

@@ -1,0 +1,235 @@
+-- An accepted SET is answered by its own octets.
+use Rattle.std.proofs.Common.{◌≡◌, ◌∙◌, arith, refl, sym, ap, subst, ℕ, zero, suc, ◌+◌, ◌-◌, ◌<◌, ◌≤◌, ◌==◌, Bool, true, false, not, ◌||◌, if◌then◌else◌, List, [], ◌∷◌, length, map, slice_get, Option, Some, None, inl, inr}
+use Rattle.std.specs.Int.{w8}
+use Rattle.std.specs.List.{All, enumerate_from, filter, list_all, range_with_len}
+use Rattle.std.specs.Option.{is_some, option_map}
+use Rattle.std.proofs.lemmas.Bool.{cases_Bool, eqb-true}
+use Rattle.std.proofs.lemmas.Bool.Decides.{nat_tests}
+use Rattle.std.proofs.lemmas.Int.{of_z-to_z}
+use Rattle.std.proofs.lemmas.List.Elements.{All-cons, All-map}
+use Rattle.ptpm_codec.specs.declared.message.Action.{Action}
+use Rattle.ptpm_codec.specs.declared.message.Action.TheVariants as actions
+use Rattle.ptpm_data.specs.declared.ids.Layout.{Layout}
+use Rattle.ptpm_data.specs.declared.ids.Layout.TheVariants as layouts
+use Rattle.ptpm_data.specs.declared.data_sets.PortDataSet.{PortDataSet}
+use Rattle.ptpm_data.specs.declared.port_state.DelayMechanism.{DelayMechanism}
+use Rattle.ptpm_data.specs.declared.port_state.DelayMechanism.TheVariants as mechanisms
+use Rattle.ptpm_data.specs.declared.rights.Rights.{Rights}
+use Rattle.ptpm_data.specs.IdTable.{Entry, has_action, id_table, is_of_port, is_port_entry, row_of}
+use Rattle.ptpm_data.specs.Members.{DataSetsValue, port_of}
+use Rattle.ptpm_data.specs.PortState.{mechanism_number, mechanism_of}
+use Rattle.ptpm_data.specs.Request.{RequestValue}
+use Rattle.ptpm_data.specs.Reply.{Answer, Value}
+use Rattle.ptpm_data.specs.SetField.{first_i8, octet}
+use Rattle.ptpm_data.specs.DataField.{data_field_of, data_field_of_id, field_of_port, i8_octet, octet_data_field, port_field_of}
+use Rattle.ptpm_data.specs.Refusals.{is_length, is_set_length, is_set_value, is_value, refusal_at}
+use Rattle.ptpm_data.specs.Changes.{changed_by, changed_if, is_named, named_changed, set_members, with_mechanism, with_ports}
+use Rattle.ptpm_data.specs.Replies.{accepted, answer, answers_of, named_ports, outcome, port_answers, reply_of, reply_to}
+use Rattle.ptpm_data.specs.SetLaws.{AreOctets, IsAcceptedSet, standard_field, standard_field_at}
+use Rattle.ptpm_data.proofs.Carrying.{suits_from}
+use Rattle.ptpm_data.proofs.FieldSizes.{found, is_port_layout, layout_of}
+use Rattle.ptpm_data.proofs.Keeping.{changed_by-ports}
+use Rattle.ptpm_data.proofs.OwnFields.{nothing_held, text_back, utc_back}
+use Rattle.ptpm_data.proofs.Setting.{accepted_by, permitted, set_changes, then_get}
+
+-- ---- the port that is shown
+
+named_at : (port : ℕ) (change : PortDataSet → PortDataSet) (k i : ℕ) (ports : List PortDataSet)
+    → slice_get (map (λ e. changed_if (is_named port e.0) change e.1) (enumerate_from k ports)) i ≡ option_map (changed_if (is_named port (k + i)) change) (slice_get ports i)
+named_at port change k i [] = refl
+named_at port change k zero (p ∷ ps) =
+    let same : k + 0 ≡ k = omega arith in
+    rw same refl
+named_at port change k (suc i) (p ∷ ps) =
+    let same : k + suc i ≡ k + 1 + i = omega arith in
+    rw same (named_at port change (k + 1) i ps)
+
+some_at : (ports : List PortDataSet) (i : ℕ) → i < length ports → (p : PortDataSet) × (slice_get ports i ≡ Some p)
+some_at [] i below = absurd (omega arith)
+some_at (p ∷ ps) zero below = (p, refl)
+some_at (p ∷ ps) (suc i) below = some_at ps i (omega arith)
+
+-- one of the ports that the SET is for
+pub record IsShown (port n count : ℕ) : Type 0 where
+  pub positive : 1 ≤ n
+  pub within : n ≤ count
+  pub named : is_named port n ≡ true
+
+shown_port : (port n : ℕ) (change : PortDataSet → PortDataSet) (d : DataSetsValue) → IsShown port n (length d.ports)
+    → (p : PortDataSet) × (port_of n (with_ports port d change) ≡ Some (change p))
+unfolding named_changed
+shown_port port n change d s =
+    let low = s.positive in
+    let high = s.within in
+    let found = some_at d.ports (n - 1) (omega arith) in
+    let no : n == 0 ≡ false = grind (arith, nat_tests) in
+    let place : 1 + (n - 1) ≡ n = omega arith in
+    (found.0, rw (no, named_at port change 1 (n - 1) d.ports, place, s.named, found.1) refl)
+
+-- ---- which ids a SET may name
+
+abbrev has_one_number : Layout → Bool
+has_one_number layouts.Priority1 = true
+has_one_number layouts.Priority2 = true
+has_one_number layouts.Domain = true
+has_one_number layouts.ClockAccuracy = true
+has_one_number layouts.LogAnnounceInterval = true
+has_one_number layouts.AnnounceReceiptTimeout = true
+has_one_number layouts.LogSyncInterval = true
+has_one_number layouts.DelayMechanism = true
+has_one_number layouts.LogMinPdelayReqInterval = true
+has_one_number _ = false
+
+abbrev is_settable : Layout → Bool
+is_settable layouts.NullPtpManagement = true
+is_settable layouts.UserDescription = true
+is_settable layouts.UtcProperties = true
+is_settable layout = has_one_number layout
+
+abbrev sets_what_it_holds : Entry → Bool
+sets_what_it_holds e = not (has_action actions.Set e.actions) || is_settable e.layout
+
+table_sets : list_all sets_what_it_holds id_table ≡ true
+table_sets = refl
+
+settable : (id : ℕ) (e : Entry) → row_of id ≡ Some e → has_action actions.Set e.actions ≡ true → is_settable e.layout ≡ true
+unfolding row_of
+settable id e is may = then_get _ _ (found (λ x. x.id == id) sets_what_it_holds id_table e table_sets is) may
+
+-- ---- the dataField of each id of one number
+
+module _ (octets : List ℕ) (range : AreOctets octets) where
+  back : i8_octet (first_i8 octets) ≡ octet 0 octets
+  unfolding i8_octet first_i8
+  back = of_z-to_z w8 (octet 0 octets) (range 0)
+
+mechanism_named : (n : ℕ) → is_some (mechanism_of n) ≡ true → (m : DelayMechanism) × (mechanism_of n ≡ Some m) × (mechanism_number m ≡ n)
+mechanism_named n h =
+    elim (cases_Bool (n == 1)) [
+      | inl one ↦ let e = eqb-true n 1 one in rw e (mechanisms.EndToEnd, refl, refl)
+      | inr not_one ↦ elim (cases_Bool (n == 2)) [
+        | inl two ↦ let e = eqb-true n 2 two in rw e (mechanisms.PeerToPeer, refl, refl)
+        | inr not_two ↦ elim (cases_Bool (n == 0xfe)) [
+          | inl none ↦ let e = eqb-true n 0xfe none in rw e (mechanisms.NoMechanism, refl, refl)
+          | inr not_none ↦
+              let nothing : mechanism_of n ≡ None = rw (not_one, not_two, not_none) refl in
+              let P : Option DelayMechanism → Type 0 = λ o. is_some o ≡ true in
+              let wrong : false ≡ true = subst P nothing h in
+              cc
+        ]
+      ]
+    ]
+
+module _ (port n : ℕ) (octets : List ℕ) (d : DataSetsValue) (range : AreOctets octets) (s : IsShown port n (length d.ports)) where
+  shown_mechanism : (o : Option DelayMechanism) → ((m : DelayMechanism) × (o ≡ Some m) × (mechanism_number m ≡ octet 0 octets))
+      → field_of_port (port_field_of layouts.DelayMechanism (with_mechanism port d o).default.identity n) (port_of n (with_mechanism port d o)) ≡ octet_data_field (octet 0 octets)
+  unfolding port_field_of
+  shown_mechanism None known = let wrong = known.1 in cc
+  shown_mechanism (Some m) known =
+      let at = shown_port port n (λ p. record p { delay_mechanism = m }) d s in
+      let same : m ≡ known.0 = let e = known.1 in cc in
+      let number : mechanism_number m ≡ octet 0 octets = rw same known.2 in
+      rw at.1 (ap octet_data_field number)
+
+  shown_field : (layout : Layout) → has_one_number layout ≡ true → is_port_layout layout ≡ true → is_set_value layout octets ≡ true
+      → data_field_of layout n (set_members layout port octets d) ≡ octet_data_field (octet 0 octets)
+  unfolding data_field_of set_members port_field_of is_port_layout is_set_value
+  shown_field layouts.LogAnnounceInterval one at good =
+      rw (shown_port port n (λ p. record p { log_announce = first_i8 octets }) d s).1 (ap octet_data_field (back octets range))
+  shown_field layouts.AnnounceReceiptTimeout one at good =
+      rw (shown_port port n (λ p. record p { receipt_timeout = octet 0 octets }) d s).1 refl
+  shown_field layouts.LogSyncInterval one at good =
+      rw (shown_port port n (λ p. record p { log_sync = first_i8 octets }) d s).1 (ap octet_data_field (back octets range))
+  shown_field layouts.LogMinPdelayReqInterval one at good =
+      rw (shown_port port n (λ p. record p { log_min_pdelay = first_i8 octets }) d s).1 (ap octet_data_field (back octets range))
+  shown_field layouts.DelayMechanism one at good = shown_mechanism (mechanism_of (octet 0 octets)) (mechanism_named (octet 0 octets) good)
+  shown_field _ one at good = cc
+
+clock_field : (layout : Layout) (port n : ℕ) (octets : List ℕ) (d : DataSetsValue) → has_one_number layout ≡ true → is_port_layout layout ≡ false
+    → data_field_of layout n (set_members layout port octets d) ≡ octet_data_field (octet 0 octets)
+unfolding data_field_of set_members is_port_layout
+clock_field layouts.Priority1 port n octets d one clock = refl
+clock_field layouts.Priority2 port n octets d one clock = refl
+clock_field layouts.Domain port n octets d one clock = refl
+clock_field layouts.ClockAccuracy port n octets d one clock = refl
+clock_field _ port n octets d one clock = cc
+
+number_field : (layout : Layout) → has_one_number layout ≡ true → (octets : List ℕ) → octet_data_field (octet 0 octets) ≡ standard_field layout octets
+number_field layouts.NullPtpManagement one octets = cc
+number_field layouts.UserDescription one octets = cc
+number_field layouts.UtcProperties one octets = cc
+number_field _ one octets = refl
+
+module _ (port n : ℕ) (octets : List ℕ) (d : DataSetsValue) (range : AreOctets octets) where
+  one_number : (layout : Layout) → has_one_number layout ≡ true → is_set_value layout octets ≡ true → (b : Bool) → is_port_layout layout ≡ b → (b ≡ true → IsShown port n (length d.ports))
+      → data_field_of layout n (set_members layout port octets d) ≡ standard_field layout octets
+  one_number layout one good true at s = shown_field port n octets d range (s refl) layout one at good ∙ number_field layout one octets
+  one_number layout one good false at s = clock_field layout port n octets d one at ∙ number_field layout one octets
+
+  own_field : (layout : Layout) → is_settable layout ≡ true → is_set_length layout octets ≡ true → is_set_value layout octets ≡ true
+      → (is_port_layout layout ≡ true → IsShown port n (length d.ports)) → data_field_of layout n (set_members layout port octets d) ≡ standard_field layout octets
+  unfolding data_field_of set_members is_set_length
+  own_field layouts.NullPtpManagement may size good s = nothing_held d.default.identity n (port_of n d)
+  own_field layouts.UserDescription may size good s = text_back octets size
+  own_field layouts.UtcProperties may size good s = utc_back octets d.time (eqb-true _ _ size) range
+  own_field layout may size good s = one_number layout may good (is_port_layout layout) refl s
+
+-- ---- every answer
+
+kept : (b : Bool) (P : ℕ → Type 0) (a : ℕ) (rest : List ℕ) → (b ≡ true → P a) → All P rest → All P (if b then a ∷ rest else rest)
+kept true P a rest h all = All-cons P a rest (h refl) all
+kept false P a rest h all = all
+
+filtered : (P : ℕ → Type 0) (p : ℕ → Bool) (a n : ℕ) → ((k : ℕ) → a ≤ k → k < a + n → p k ≡ true → P k) → All P (filter p (range_with_len a n))
+filtered P p a zero h = λ k x below. absurd (omega arith)
+filtered P p a (suc n) h =
+    kept (p a) P a (filter p (range_with_len (a + 1) n)) (λ yes. h a (omega arith) (omega arith) yes)
+    (filtered P p (a + 1) n (λ k low high yes. h k (omega arith) (omega arith) yes))
+
+said : (action : Action) (id n : ℕ) (e : DataSetsValue) (octets : List ℕ) → action ≡ actions.Set → data_field_of_id id n e ≡ octets → outcome None action id n e ≡ Value octets
+said actions.Set id n e octets set field = ap (λ (xs : List ℕ). Value xs) field
+said actions.Get id n e octets set field = cc
+said actions.Command id n e octets set field = cc
+said actions.Response id n e octets set field = cc
+said actions.Acknowledge id n e octets set field = cc
+
+each : (b : Bool) (q : RequestValue) (e : DataSetsValue) (octets : List ℕ) → q.action ≡ actions.Set
+    → ((n : ℕ) → (b ≡ true → IsShown q.port n (length e.ports)) → data_field_of_id q.id n e ≡ octets)
+    → All (λ a. a.outcome ≡ Value octets) (answers_of b None q e)
+unfolding port_answers answer named_ports
+each true q e octets set field =
+    let P : Answer → Type 0 = λ a. a.outcome ≡ Value octets in
+    All-map P (λ n. answer None q.action q.id e (Some n)) (named_ports q.port (length e.ports))
+    (filtered (λ n. outcome None q.action q.id n e ≡ Value octets) (is_named q.port) 1 (length e.ports)
+    (λ k low high yes. said q.action q.id k e octets set (field k (λ same. record { positive = low; within = omega arith; named = yes }))))
+each false q e octets set field =
+    let P : Answer → Type 0 = λ a. a.outcome ≡ Value octets in
+    All-cons P (answer None q.action q.id e None) [] (said q.action q.id 0 e octets set (field 0 (λ same. cc))) (λ k x below. absurd (omega arith))
+
+module _ (q : RequestValue) (rights : Rights) (d : DataSetsValue) (a : IsAcceptedSet q rights) (range : AreOctets q.octets) where
+  field_after : (e : Entry) → row_of q.id ≡ Some e → (n : ℕ) → (is_port_layout e.layout ≡ true → IsShown q.port n (length d.ports))
+      → data_field_of_id q.id n (changed_by q rights d) ≡ standard_field e.layout q.octets
+  field_after e is n shown =
+      let none = accepted_by q rights e a is in
+      let suits = suits_from e q rights none in
+      let P : Action → Type 0 = λ action. is_value action e.layout q.octets ≡ true in
+      let L : Action → Type 0 = λ action. is_length action e.layout q.octets ≡ true in
+      rw (set_changes q rights d e a is, is)
+      (own_field q.port n q.octets d range e.layout (settable q.id e is (permitted e q rights a.set none)) (subst L a.set suits.size) (subst P a.set suits.value) shown)
+
+  answered : (o : Option Entry) → row_of q.id ≡ o
+      → (n : ℕ) → (is_of_port q.id ≡ true → IsShown q.port n (length (changed_by q rights d).ports)) → data_field_of_id q.id n (changed_by q rights d) ≡ standard_field_at o q.octets
+  answered None is n shown =
+      let P : Option Entry → Type 0 = λ o. refusal_at o q rights ≡ None in
+      let wrong = subst P is a.accepted in
+      cc
+  answered (Some e) is n shown =
+      let P : Option Entry → Type 0 = λ o. is_port_entry o ≡ true → IsShown q.port n (length d.ports) in
+      let Q : ℕ → Type 0 = λ count. is_of_port q.id ≡ true → IsShown q.port n count in
+      let here = subst P is (subst Q (changed_by-ports q rights d) shown) in
+      field_after e is n (λ at. here (sym (layout_of q.id e is) ∙ at))
+
+  pub own_octets : All (λ x. x.outcome ≡ Value (standard_field_at (row_of q.id) q.octets)) (reply_to q rights d).answers
+  unfolding reply_to reply_of
+  own_octets =
+      rw a.accepted (each (is_of_port q.id) q (changed_by q rights d) (standard_field_at (row_of q.id) q.octets) a.set (answered (row_of q.id) refl))
