@@ -4,5 +4,6 @@ pub mod Entries
 pub mod Numbering
 pub mod Rendering
 pub mod Managers
+pub mod ErrorText
 pub mod Slots
 pub mod KeptMessages
