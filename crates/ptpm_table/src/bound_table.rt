@@ -1,6 +1,6 @@
 //! A reply table in fixed slots.
 
-ghost use Rattle.std.specs.Prelude.{◌≡◌, ◌≤◌, [], false, IfOk, IfSome, IsTrue, All, MatchResult, None, Some, is_some, length, position};
+ghost use Rattle.std.specs.Prelude.{◌≡◌, ◌≤◌, [], false, IfOk, IfSome, IsOk, IsTrue, OnErr, OnOk, All, MatchResult, None, Some, is_some, length, position};
 ghost use Rattle.std.specs.FinMap as fin;
 ghost use Rattle.std.specs.Option.{option_copied};
 ghost use Rattle.ptpm_codec.specs.declared.identity.ClockIdentity.{ClockIdentity};
@@ -160,13 +160,26 @@ impl ReplyTable for BoundTable {
         }
     }
 
+    /// Never refused.
     fn keep(
         &mut self,
         who: &PortIdentity,
         number: u16,
         request: &Request<'_>,
         reply: &Reply,
-    ) -> Result<(), OutOfMemory> {
+    ) -> Result<(), OutOfMemory>
+        requires known { IsTrue (is_known who.now (⟦<BoundTable as ReplyTable>⟧.managers self.old)) }
+        requires action { IsRequestAction request.now.action }
+        requires octets { IsDataField request.now.octets }
+        requires fits { FitsRequest request.now reply.now }
+        ensures never_refused { IsOk result }
+        ensures ok { OnOk result (⟦<BoundTable as ReplyTable>⟧.entries self.new ≡ fin.insert (⟦<BoundTable as ReplyTable>⟧.entries self.old) who.now
+            (record { number = number; request = request.now; reply = reply.now })) }
+        ensures err { OnErr result (⟦<BoundTable as ReplyTable>⟧.entries self.new ≡ ⟦<BoundTable as ReplyTable>⟧.entries self.old) }
+        ensures managers { ⟦<BoundTable as ReplyTable>⟧.managers self.new ≡ ⟦<BoundTable as ReplyTable>⟧.managers self.old }
+        ensures rights { ⟦<BoundTable as ReplyTable>⟧.rights_of self.new ≡ ⟦<BoundTable as ReplyTable>⟧.rights_of self.old }
+        ensures identity { ⟦<BoundTable as ReplyTable>⟧.identity self.new ≡ ⟦<BoundTable as ReplyTable>⟧.identity self.old }
+    {
         self.replace(who, number, request, reply);
         Ok(())
     }

@@ -84,7 +84,9 @@ pub trait ReplyTable {
         ensures rights { rights_of self.new ≡ rights_of self.old }
         ensures identity { identity self.new ≡ identity self.old };
 
-    /// Appends the messages of the kept reply for the copy that was heard, and changes no entry.
+    /// Appends the messages of the kept reply for the copy that was heard, and changes no entry. At most seven messages
+    /// stand before them, as many as a clock of eight ports passes on: a kept reply has eight at most, and an outbox has room
+    /// for fifteen.
     fn resend(&self, heard: &Heard, ingress: u16, out: &mut Outbox)
         requires kept { HasEntry (entries self.now) heard.now.source heard.now.number }
         requires room { length out.old ≤ 7 }
