@@ -9,3 +9,4 @@ pub mod Entries
 pub mod NetworkFile
 pub mod NetworkText
 pub mod NetworkView
+pub mod ErrorText

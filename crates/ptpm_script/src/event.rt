@@ -3,6 +3,7 @@
 use crate::names::Name;
 use ptpm_codec::{Octets, OutOfMemory};
 use ptpm_manager::Ask;
+use std::fmt;
 use thiserror::Error;
 
 /// One thing that happens in a network.
@@ -45,23 +46,36 @@ impl Event {
 #[derive(Clone, Copy, Debug, PartialEq, Eq, Error)]
 pub enum EventError {
     /// The first word is no verb, or the action of `begin` is none.
-    #[error("UnknownWord")]
     UnknownWord,
     /// The verb takes fewer words, or more.
-    #[error("WordCount")]
     WordCount,
     /// A number is not decimal digits, at most ten, or is over its limit.
-    #[error("BadNumber")]
     BadNumber,
     /// A management id is neither a name of the table nor four hexadecimal digits.
-    #[error("BadId")]
     BadId,
     /// Octets are not an even number of hexadecimal digits.
-    #[error("BadHex")]
     BadHex,
     /// Memory was refused.
-    #[error("OutOfMemory")]
     OutOfMemory,
+}
+
+/// The name, as `WordCount`.
+impl fmt::Display for EventError {
+    ghost use Rattle.std.specs.Prelude.{Some};
+    ghost use Rattle.ptpm_script.specs.ErrorText.{event_error_text};
+
+    ghost output = { λ e. Some (event_error_text e) };
+
+    fn fmt<W: fmt::Write>(&self, f: &mut fmt::Formatter<W>) -> fmt::Result {
+        f.write_str(match self {
+            EventError::UnknownWord => "UnknownWord",
+            EventError::WordCount => "WordCount",
+            EventError::BadNumber => "BadNumber",
+            EventError::BadId => "BadId",
+            EventError::BadHex => "BadHex",
+            EventError::OutOfMemory => "OutOfMemory",
+        })
+    }
 }
 
 impl From<OutOfMemory> for EventError {
