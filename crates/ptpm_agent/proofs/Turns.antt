@@ -1,5 +1,5 @@
 -- What a turn does with a message, by what the message is to the clock.
-use Rattle.std.proofs.Common.{◌≡◌, ℕ, ◌==◌, ◌&&◌, ◌||◌, not, List, [], Option, Some, None, Result, Ok, Err, IfErr, IfOk, map, ◌++◌, Bool, true, false, refl, sym, ◌∙◌, ap, subst, ⊎_elim}
+use Rattle.std.proofs.Common.{◌≡◌, ℕ, ◌==◌, ◌&&◌, ◌||◌, not, List, [], Option, Some, None, Result, Ok, Err, IfErr, IfOk, OnErr, map, ◌++◌, Bool, true, false, refl, sym, ◌∙◌, ap, subst, ⊎_elim}
 use Rattle.std.proofs.lemmas.Bool.{cases_Bool, and_parts, and_from, and_left, and_right, or_left, not-true, cond-true, cond-false, true≢false, false≢true}
 use Rattle.std.proofs.lemmas.Option.{none-some, same_Some}
 use Rattle.std.specs.FinMap.{get}
@@ -19,7 +19,7 @@ use Rattle.ptpm_agent.specs.Agent.{IsTurned}
 use Rattle.ptpm_agent.specs.declared.verdict.Verdict.{Verdict}
 use Rattle.ptpm_agent.specs.declared.verdict.Verdict.TheVariants as verdicts
 use Rattle.ptpm_agent.specs.Forwarding.{egress_ports, forwarded, forwarded_by, is_forwarded, with_less_hop}
-use Rattle.ptpm_agent.specs.Turn.{Clock, State, carried_out, heard_of, is_accepted_repeat, is_addressed, is_for_this_clock, is_in_domain, is_numbered, is_own, is_repeat, is_request, judged, look, names_port, new_reply, next_by, reply_by, reply_messages, request_of, turn, turn_by, verdict_at}
+use Rattle.ptpm_agent.specs.Turn.{Clock, State, carried_out, heard_of, is_accepted_repeat, is_addressed, is_for_this_clock, is_in_domain, is_numbered, is_own, is_repeat, is_request, judged, look, names_port, new_reply, next_by, reply_by, reply_messages, request_of, turn, turn_by, verdict_at, verdict_of}
 use Rattle.ptpm_agent.specs.Once.{is_copy}
 use Rattle.ptpm_agent.specs.Laws.{AreOfManagers}
 use Rattle.ptpm_table.proofs.Identities.{same_identity-true}
@@ -55,6 +55,14 @@ turn_by-next P c s ingress datagram (Ok v) e before each = each v (message_of-re
 pub turn-next : (P : State → Type 0) (c : Clock) (s : State) (ingress : ℕ) (datagram : List ℕ) → P s → ((v : Message) → message_of datagram ≡ Some v → P (next_by (judged c s v) c s v)) → P (turn c s ingress datagram).next
 unfolding turn
 turn-next P c s ingress datagram before each = turn_by-next P c s ingress datagram (reading datagram) refl before each
+
+pub on_err : {A E : Type 0} (r : Result A E) (P : Type 0) → P → OnErr r P
+on_err (Ok a) P p = tt
+on_err (Err e) P p = p
+
+pub verdict_new : (c : Clock) (s : State) (datagram : List ℕ) (v : Message) (verdict : Verdict) → reading datagram ≡ Ok v → verdict ≡ judged c s v
+    → verdict ≡ verdicts.AnsweredNew → verdict_of c s datagram ≡ verdicts.AnsweredNew
+verdict_new c s datagram v verdict read is new = rw read (sym is ∙ new)
 
 -- ---- the verdict on a message
 

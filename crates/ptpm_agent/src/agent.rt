@@ -11,7 +11,7 @@ ghost use Rattle.ptpm_table.specs.Entries.{Entry, HasEntry};
 ghost use Rattle.ptpm_table.specs.Rendering.{IsSendable, rendered};
 ghost use Rattle.ptpm_agent.specs.Agent.{IsTurned, clock_of, state_of};
 ghost use Rattle.ptpm_agent.specs.Forwarding.{forwarded};
-ghost use Rattle.ptpm_agent.specs.Turn.{carried_out, heard_of, is_accepted_repeat, is_addressed, judged, look, new_reply, reply_by, reply_messages, request_of, turn};
+ghost use Rattle.ptpm_agent.specs.Turn.{carried_out, heard_of, is_accepted_repeat, is_addressed, judged, look, new_reply, reply_by, reply_messages, request_of, turn, verdict_of};
 
 use crate::forwarding::forward;
 use crate::verdict::Verdict;
@@ -58,8 +58,9 @@ impl<T: ReplyTable + Drop> Agent<T> {
     }
 
     /// What becomes of a datagram that comes in at a port of the clock: one turn. The outbox then holds what is to be sent
-    /// and nothing else: the copies that are passed on, then the replies. Memory is asked for by the table's `keep` alone;
-    /// where it is refused, nothing has changed, the outbox neither, and the datagram counts as not delivered.
+    /// and nothing else: the copies that are passed on, then the replies. Memory is asked for by the table's `keep` alone,
+    /// where the verdict is `AnsweredNew`; where it is refused, nothing has changed, the outbox neither, and the datagram
+    /// counts as not delivered.
     pub fn try_handle(
         &mut self,
         ingress: u16,
@@ -74,6 +75,9 @@ impl<T: ReplyTable + Drop> Agent<T> {
         ensures refused { OnErr result
             (state_of T.entries self.new.sets self.new.table ≡ state_of T.entries self.old.sets self.old.table) }
         ensures nothing_sent { OnErr result (out.new ≡ out.old) }
+        ensures only_new { OnErr result (verdict_of
+            (clock_of T.identity T.managers T.rights_of self.old.table)
+            (state_of T.entries self.old.sets self.old.table) datagram.now ≡ Verdict.AnsweredNew) }
         ensures clock { clock_of T.identity T.managers T.rights_of self.new.table
             ≡ clock_of T.identity T.managers T.rights_of self.old.table }
     {

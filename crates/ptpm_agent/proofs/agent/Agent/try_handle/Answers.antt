@@ -2,7 +2,7 @@ use Rattle.std.proofs.Common.{refl, sym, ◌∙◌}
 use Rattle.ptpm_table.specs.Rendering.{rendered}
 use Rattle.ptpm_agent.specs.Agent.{clock_of, state_of}
 use Rattle.ptpm_agent.specs.Turn.{heard_of}
-use Rattle.ptpm_agent.proofs.Turns.{turned_new, turned_other, turned_refused}
+use Rattle.ptpm_agent.proofs.Turns.{turned_new, turned_other, turned_refused, on_err, verdict_new}
 use Rattle.ptpm_agent.proofs.agent.Agent.try_handle.Goals as goal
 
 pub returns-in-Err-clause-turned : goal.returns-in-Err-clause-turned
@@ -32,6 +32,14 @@ returns-in_default g c = record {
       (λ i. state_of g.T.ReplyTable.entries (c.answer.ensures.sets i) (c.answer.ensures.table i));
   refused = tt;
   nothing_sent = tt;
+  only_new = tt;
   clock =
       λ i. clock_of g.T.ReplyTable.identity g.T.ReplyTable.managers g.T.ReplyTable.rights_of (c.answer.ensures.table i);
 }
+
+pub returns-in_err-reply-in-AnsweredNew-clause-only_new : goal.returns-in_err-reply-in-AnsweredNew-clause-only_new
+returns-in_err-reply-in-AnsweredNew-clause-only_new g c =
+    on_err _ _
+    (verdict_new (clock_of g.T.ReplyTable.identity g.T.ReplyTable.managers g.T.ReplyTable.rights_of c.args.self.now.table)
+    (state_of g.T.ReplyTable.entries c.args.self.now.sets c.args.self.now.table) c.args.datagram.now c.in-Ok.message
+    c.judge-verdict.result (sym c.view.ensures.exact ∙ c.in-Ok.is) c.judge-verdict.ensures.verdict c.in-AnsweredNew.is)
