@@ -14,8 +14,9 @@ ghost use Rattle.ptpm_agent.specs.Once.{Delivery, History, RequestCopy, after_co
 ghost use Rattle.ptpm_agent.specs.Window.{IsInTime, KeepsWindow};
 ghost use Rattle.ptpm_agent.specs.Laws.{AreOfManagers, StandsAt, due_messages, fresh, turns};
 
-/// At-most-once execution. Whatever list of datagrams comes in at a fresh clock, where no copy of a manager's request is
-/// over 32,768 requests late:
+/// At-most-once execution. Whatever list of datagrams comes in at a fresh clock, where each copy of a manager's request has
+/// the sequenceId that its index gives, and its index is at most 32,768 behind and at most 32,767 ahead of the greatest
+/// accepted one of that manager:
 /// - the data sets are those after the accepted requests, each applied once, in order of first acceptance;
 /// - each copy is sent the reply that is due to it, and nothing else is sent for it;
 /// - a copy of a request that is not newly accepted changes neither data sets nor entries.
@@ -36,7 +37,8 @@ pub fn at_most_once()
 {}
 
 /// One delivery at a clock that stands at a history: a copy in time takes it to where the history goes, and is sent what
-/// is due; any other delivery changes neither data sets nor entries, whatever came before.
+/// is due. A datagram that is no copy of a manager's request changes neither data sets nor entries, whatever came before.
+/// Nothing is said of a copy that is not in time.
 pub fn one_delivery()
     ensures begins { (first : PortIdentity → ℕ) (d : DataSetsValue) → StandsAt first (fresh d) (beginning d) }
     ensures stands { (c : Clock) (first : PortIdentity → ℕ) (s : State) (h : History) (x : Delivery) (k : RequestCopy) →
