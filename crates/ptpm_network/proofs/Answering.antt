@@ -21,7 +21,7 @@ use Rattle.ptpm_network.specs.Machine.{arrives, delivery, reply_frames, reply_or
 use Rattle.ptpm_network.specs.Network.{AtPort, HasEnd, IsNetwork, Network, manager, peers, ports}
 use Rattle.ptpm_network.specs.State.{Frame, NetworkState, Origin, ReplyTo, accepted_at_target, history}
 use Rattle.ptpm_network.proofs.Arriving.{IsCopyOf, history-here}
-use Rattle.ptpm_network.proofs.Frames.{says_kept}
+use Rattle.ptpm_network.proofs.Frames.{SaysKept, says_kept}
 use Rattle.ptpm_network.proofs.Lists.{all_flat, all_made}
 use Rattle.ptpm_network.proofs.Steps.{has_peers, new_frames-are}
 
@@ -87,11 +87,17 @@ rendered-all P me heard r ingress each a = all_made IsSendable (λ (m : ℕ × L
 pub small : (p n : ℕ) → p ≤ n → n ≤ 8 → p < 2 ^ 16
 small p n a b = omega arith
 
--- it is a frame of the reply that is kept for the copy's request
-due-origin : (N : Network) (w : NetworkState) (c port : ℕ) (f : Frame) (copy : RequestCopy) (r : ReplyValue) → IsNetwork N → IsReached N (arrives w c (delivery port f)) → HasEnd N (AtPort c port)
+-- what the clock keeps of the copy's request, once the copy came in
+pub record KeepsDue (N : Network) (u : NetworkState) (s k : ℕ) (r : ReplyValue) : Type 0 where
+  pub entry : Accepted
+  pub kept : kept_reply (manager N s) k (accepted_at_target N u s) ≡ Some entry
+  pub says : SaysKept N u s k entry
+  pub reply : entry.reply ≡ r
+
+pub keeps_due : (N : Network) (w : NetworkState) (c port : ℕ) (f : Frame) (copy : RequestCopy) (r : ReplyValue) → IsReached N (arrives w c (delivery port f))
     → (of : IsCopyOf N w c port f copy) → copy_of (N.clock c) (history N w c).sets (delivery port f) ≡ Some copy → due_reply (N.clock c) (history N w c) copy ≡ Some r
-    → AllByRecursion (λ m. IsOfOrigin N (arrives w c (delivery port f)) m.1 (ReplyTo of.session of.k)) (rendered (N.clock c).identity copy.heard r copy.ingress)
-due-origin N w c port f copy r n reached end of e d =
+    → KeepsDue N (arrives w c (delivery port f)) of.session of.k r
+keeps_due N w c port f copy r reached of e d =
     let u = arrives w c (delivery port f) in
     let due = is_due (N.clock c) (history N w c) copy r d in
     let here : history N u c ≡ after_copy (N.clock c) (history N w c) copy =
@@ -103,20 +109,34 @@ due-origin N w c port f copy r n reached end of e d =
     (subst (λ (m : PortIdentity). kept_reply m copy.index (history N u c).accepted ≡ Some due.entry) of.source kept_here) in
     let kept : kept_reply (manager N of.session) of.k (accepted_at_target N u of.session) ≡ Some due.entry =
     subst (λ j. kept_reply (manager N of.session) of.k (history N u j).accepted ≡ Some due.entry) (sym of.target) kept_m in
-    let says = says_kept N u of.session of.k due.entry reached of.says.place of.says.positive kept in
-    let a = says.one.answer in
+    record {
+      entry = due.entry;
+      kept = kept;
+      says = says_kept N u of.session of.k due.entry reached of.says.place of.says.positive kept;
+      reply = due.reply;
+    }
+
+-- it is a frame of the reply that is kept for the copy's request
+due-origin : (N : Network) (w : NetworkState) (c port : ℕ) (f : Frame) (copy : RequestCopy) (r : ReplyValue) → IsNetwork N → IsReached N (arrives w c (delivery port f)) → HasEnd N (AtPort c port)
+    → (of : IsCopyOf N w c port f copy) → copy_of (N.clock c) (history N w c).sets (delivery port f) ≡ Some copy → due_reply (N.clock c) (history N w c) copy ≡ Some r
+    → AllByRecursion (λ m. IsOfOrigin N (arrives w c (delivery port f)) m.1 (ReplyTo of.session of.k)) (rendered (N.clock c).identity copy.heard r copy.ingress)
+due-origin N w c port f copy r n reached end of e d =
+    let u = arrives w c (delivery port f) in
+    let keeps = keeps_due N w c port f copy r reached of e d in
+    let one = keeps.says.one in
+    let a = one.answer in
     let session = n.are_sessions of.session of.says.place in
     let target : (N.clock c).identity ≡ (N.session of.session).setup.target = sym (session.target ∙ ap (λ j. (N.clock j).identity) of.target) in
     subst (AllByRecursion (λ m. IsOfOrigin N u m.1 (ReplyTo of.session of.k)))
-    (sym (rendered-one (N.clock c).identity copy.heard r copy.ingress a (ap (λ (z : ReplyValue). z.answers) (sym due.reply) ∙ says.one.is))) (
+    (sym (rendered-one (N.clock c).identity copy.heard r copy.ingress a (ap (λ (z : ReplyValue). z.answers) (sym keeps.reply) ∙ one.is))) (
       (
         of.says.place,
         record {
           positive = of.says.positive;
-          entry = due.entry;
-          kept = kept;
+          entry = keeps.entry;
+          kept = keeps.kept;
           answer = a;
-          one = says.one.is;
+          one = one.is;
           heard = copy.heard;
           source = of.source;
           number = of.number;
@@ -124,7 +144,7 @@ due-origin N w c port f copy r n reached end of e d =
           port = subst (λ p. p < 2 ^ 16) (sym of.ingress) (small port (ports N c) end.2 (n.are_clocks c end.0).at_most_eight);
           hops = hops_passed copy.heard;
           is = ap (λ (x : ClockIdentity). canonical (reply_message x copy.heard r.action r.id copy.ingress a)) target
-              ∙ ap (λ (z : ReplyValue). canonical (reply_message (N.session of.session).setup.target copy.heard z.action z.id copy.ingress a)) (sym due.reply);
+              ∙ ap (λ (z : ReplyValue). canonical (reply_message (N.session of.session).setup.target copy.heard z.action z.id copy.ingress a)) (sym keeps.reply);
         },
       ),
       tt,

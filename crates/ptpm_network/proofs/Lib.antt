@@ -30,3 +30,6 @@ pub mod Exchanging
 pub mod Carrying
 pub mod Answerable
 pub mod Ways
+pub mod Counting
+pub mod DueReplies
+pub mod Unchanged

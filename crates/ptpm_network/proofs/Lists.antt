@@ -1,8 +1,8 @@
 -- What holds of each element of a list, and functions of places that change at one.
-use Rattle.std.proofs.Common.{suc, zero, ◌≡◌, ℕ, ◌<◌, ◌==◌, List, [], ◌∷◌, ◌++◌, Some, true, false, refl, sym, subst, ⊎_elim, length, arith}
-use Rattle.std.proofs.lemmas.Bool.{cases_Bool, cond-true, cond-false, eqb-true}
+use Rattle.std.proofs.Common.{suc, zero, ◌≡◌, ℕ, ◌*◌, ◌<◌, ◌≤◌, ◌==◌, ◌||◌, not, List, [], ◌∷◌, ◌++◌, Some, Bool, true, false, refl, sym, ◌∙◌, ap, subst, ⊎_elim, length, length-append, arith}
+use Rattle.std.proofs.lemmas.Bool.{cases_Bool, cond-true, cond-false, eqb-true, true≢false}
 use Rattle.std.specs.Prelude.{slice_get, flat_map, map}
-use Rattle.std.specs.List.{AllByRecursion}
+use Rattle.std.specs.List.{AllByRecursion, filter, list_any}
 use Rattle.ptpm_network.specs.Machine.{with_place}
 
 pub all_weaker : {X : Type 0} (P Q : X → Type 0) → ((x : X) → P x → Q x) → (xs : List X) → AllByRecursion P xs → AllByRecursion Q xs
@@ -70,3 +70,32 @@ at_places P f g i a b j new old = ⊎_elim
     subst (λ x. P j x (with_place g i b j)) (sym (with_place-other f i a j n))
     (subst (P j (f j)) (sym (with_place-other g i b j n)) old))
     (cases_Bool (j == i))
+
+-- ---- how many there are
+
+pub filter-few : {X : Type 0} (test : X → Bool) (xs : List X) → length (filter test xs) ≤ length xs
+filter-few test [] = omega arith
+filter-few test (x ∷ xs) =
+    let rest : length (filter test xs) ≤ length xs = filter-few test xs in
+    ⊎_elim
+    (λ (y : test x ≡ true). let is : filter test (x ∷ xs) ≡ x ∷ filter test xs = cond-true _ _ _ y in omega (arith, ap length is))
+    (λ (n : test x ≡ false). let is : filter test (x ∷ xs) ≡ filter test xs = cond-false _ _ _ n in omega (arith, ap length is))
+    (cases_Bool (test x))
+
+-- one less at least, where one is left out
+pub filter-fewer : {X : Type 0} (test : X → Bool) (xs : List X) → list_any test xs ≡ true → length (filter (λ x. not (test x)) xs) < length xs
+filter-fewer test [] some = absurd (true≢false (sym some))
+filter-fewer test (x ∷ xs) some = ⊎_elim
+    (λ (y : test x ≡ true).
+    let is : filter (λ z. not (test z)) (x ∷ xs) ≡ filter (λ z. not (test z)) xs = cond-false _ _ _ (ap not y) in
+    omega (arith, ap length is, filter-few (λ z. not (test z)) xs))
+    (λ (n : test x ≡ false).
+    let is : filter (λ z. not (test z)) (x ∷ xs) ≡ x ∷ filter (λ z. not (test z)) xs = cond-true _ _ _ (ap not n) in
+    let later : list_any test xs ≡ true = sym (ap (λ b. b || list_any test xs) n) ∙ some in
+    omega (arith, ap length is, filter-fewer test xs later))
+    (cases_Bool (test x))
+
+-- of each at most fifteen
+pub flat-few : {X Y : Type 0} (make : X → List Y) → ((x : X) → length (make x) ≤ 15) → (xs : List X) → length (flat_map make xs) ≤ 15 * length xs
+flat-few make few [] = omega arith
+flat-few make few (x ∷ xs) = omega (arith, length-append (make x) (flat_map make xs), few x, flat-few make few xs)

@@ -26,7 +26,7 @@ use Rattle.ptpm_network.proofs.Taking.{in_time-append, run-append, taken-in_rang
 -- ---- first sequenceIds
 
 -- of the first n sessions, and 0 of everyone else
-first_of_sessions : Network → ℕ → PortIdentity → ℕ
+pub first_of_sessions : Network → ℕ → PortIdentity → ℕ
 first_of_sessions N zero m = 0
 first_of_sessions N (suc n) m = if same_identity m (manager N n) then (N.session n).setup.first else first_of_sessions N n m
 
@@ -47,7 +47,7 @@ first_of-session N (suc n) s is le below = ⊎_elim
     (cases_Bool (same_identity (manager N s) (manager N n)))
 
 -- there are such as the sessions have
-firsts : (N : Network) → IsNetwork N → AreFirsts N (first_of_sessions N N.sessions)
+pub firsts : (N : Network) → IsNetwork N → AreFirsts N (first_of_sessions N N.sessions)
 firsts N is s place = first_of-session N N.sessions s is (omega arith) place
 
 -- ---- the promise

@@ -1,6 +1,8 @@
 -- What a request keeps of the data sets, and what its reply says.
 use Rattle.std.proofs.Common.{arith, ◌≡◌, ◌∙◌, refl, sym, subst, ℕ, zero, suc, ◌+◌, ◌<◌, ◌≤◌, ◌^◌, Bool, true, false, List, length, Option, Some, None, ⊎_elim}
 use Rattle.std.proofs.lemmas.Bool.{cases_Bool, cond-true, cond-false}
+use Rattle.std.proofs.lemmas.List.{length-map}
+use Rattle.std.proofs.lemmas.List.FromFn.{length-range_with_len}
 use Rattle.std.specs.List.{AllByRecursion, filter, range_with_len}
 use Rattle.ptpm_codec.specs.declared.error.ErrorId.{ErrorId}
 use Rattle.ptpm_codec.specs.declared.message.Action.{Action}
@@ -20,7 +22,7 @@ use Rattle.ptpm_data.proofs.FieldSizes.{of_id}
 use Rattle.ptpm_data.proofs.Keeping.{changed_by-ports, changed_by-sized}
 use Rattle.ptpm_data.proofs.ReplyLemmas.{reply_of-one}
 use Rattle.ptpm_network.specs.DataSets.{Answers, AreDataSets, HasOneAnswer, IsForOne, IsSendable, IsSendableOutcome}
-use Rattle.ptpm_network.proofs.Lists.{all_made}
+use Rattle.ptpm_network.proofs.Lists.{all_made, filter-few}
 
 -- ---- data sets of a number of ports
 
@@ -127,3 +129,17 @@ once q r ports d s one =
     λ e. ((one e).0, subst (λ n. q.port ≤ n) (sym after.ports_are) (one e).1) in
     one_answer q (reply_of q (refusal_of q r) (changed_by q r d))
     (reply_of-one q (refusal_of q r) (changed_by q r d) has (sized ports (changed_by q r d) after).at_most_eight)
+
+-- ---- at most eight
+
+few_answers : (b : Bool) (q : RequestValue) (refusal : Option ErrorId) (d : DataSetsValue) → length d.ports ≤ 8 → length (answers_of b refusal q d) ≤ 8
+unfolding port_answers named_ports
+few_answers false q refusal d eight = omega arith
+few_answers true q refusal d eight =
+    let named : List ℕ = filter (is_named q.port) (range_with_len 1 (length d.ports)) in
+    let made : length (port_answers refusal q.action q.id d named) ≡ length named = length-map named _ in
+    omega (arith, made, filter-few (is_named q.port) (range_with_len 1 (length d.ports)), length-range_with_len 1 (length d.ports), eight)
+
+pub read_few : (q : RequestValue) (d : DataSetsValue) → length d.ports ≤ 8 → length (read_reply_to q d).answers ≤ 8
+unfolding read_reply_to reply_of
+read_few q d eight = few_answers (is_of_port q.id) q (read_refusal q) d eight

@@ -1,5 +1,5 @@
 -- What the invariant says of a schedule.
-use Rattle.std.proofs.Common.{suc, zero, arith, ◌≡◌, ℕ, ◌<◌, ◌≤◌, ◌+◌, List, Some, None, sym, ◌∙◌, length}
+use Rattle.std.proofs.Common.{suc, zero, arith, ◌≡◌, ℕ, ◌<◌, ◌≤◌, ◌+◌, ◌-◌, List, Some, None, sym, ◌∙◌, length}
 use Rattle.std.specs.List.{AllByRecursion}
 use Rattle.ptpm_codec.specs.Layout.{boundary_hops}
 use Rattle.ptpm_agent.specs.Once.{Accepted, kept_reply}
@@ -53,5 +53,14 @@ pub reports : (N : Network) (es : List Event) (s : ℕ) → IsNetwork N → AllB
     → ((run N (at_first N) es).session s).reports ≡ outcomes_kept (manager N s) (accepted_at_target N (run N (at_first N) es) s) (length ((run N (at_first N) es).session s).reports)
 reports N es s n i place = (at N es s n i place).reports
 
-pub hops_lost : (N : Network) (es : List Event) (k : ℕ) (f : Frame) → IsNetwork N → AllByRecursion IsInRange es → frame_at (run N (at_first N) es).frames k ≡ Some f → boundary_hops f.octets + f.forwardings ≡ f.first_hops
-hops_lost N es k f n i e = (frame_at-is N (run N (at_first N) es) k f (reached N es n i) e).hops
+hops_and_forwardings : (N : Network) (es : List Event) (k : ℕ) (f : Frame) → IsNetwork N → AllByRecursion IsInRange es → frame_at (run N (at_first N) es).frames k ≡ Some f → boundary_hops f.octets + f.forwardings ≡ f.first_hops
+hops_and_forwardings N es k f n i e = (frame_at-is N (run N (at_first N) es) k f (reached N es n i) e).hops
+
+left_of : (hops forwardings first : ℕ) → hops + forwardings ≡ first → (hops ≡ first - forwardings) × (forwardings ≤ first)
+left_of hops forwardings first e = (omega arith, omega arith)
+
+pub hops_lost : (N : Network) (es : List Event) (k : ℕ) (f : Frame) → IsNetwork N → AllByRecursion IsInRange es → frame_at (run N (at_first N) es).frames k ≡ Some f → boundary_hops f.octets ≡ f.first_hops - f.forwardings
+hops_lost N es k f n i e = (left_of (boundary_hops f.octets) f.forwardings f.first_hops (hops_and_forwardings N es k f n i e)).0
+
+pub forwardings_few : (N : Network) (es : List Event) (k : ℕ) (f : Frame) → IsNetwork N → AllByRecursion IsInRange es → frame_at (run N (at_first N) es).frames k ≡ Some f → f.forwardings ≤ f.first_hops
+forwardings_few N es k f n i e = (left_of (boundary_hops f.octets) f.forwardings f.first_hops (hops_and_forwardings N es k f n i e)).1

@@ -159,7 +159,7 @@ one_clock-IsNetwork = record {
   no_clock = λ s c p q. manager-no_clock;
   configured = λ s place. or_left (same_identity manager_m manager_m) false (same_identity-refl manager_m);
   managers = λ c m place y. (0, omega arith, one_known m y, only_one 0 c (omega arith) place);
-  ends = (((omega arith, omega arith, omega arith), (omega arith, tt)), tt);
+  are_links = (record { two = omega arith; at_most_sixteen = omega arith; ends = ((omega arith, omega arith, omega arith), (omega arith, tt)) }, tt);
 }
 
 -- ---- refused events

@@ -8,7 +8,7 @@ use Rattle.ptpm_agent.specs.Once.{Accepted, kept_reply}
 use Rattle.ptpm_manager.specs.Setup.{request_message}
 use Rattle.ptpm_network.specs.Invariant.{IsFrame, IsInStep, IsOfOrigin, IsReached}
 use Rattle.ptpm_network.specs.Machine.{sends, sent_frames, with_frames, with_session}
-use Rattle.ptpm_network.specs.Network.{End, AtSession, HasEnd, IsNetwork, Network, manager, peers, ports, same_end}
+use Rattle.ptpm_network.specs.Network.{End, AtSession, HasEnd, IsLink, IsNetwork, Network, manager, peers, ports, same_end}
 use Rattle.ptpm_network.specs.State.{Frame, NetworkState, Origin, RequestOf, ReplyTo, Neither, SessionState, accepted_at_target, is_idle, new_frames, unanswered}
 use Rattle.ptpm_network.proofs.Accepting.{in_step-set}
 use Rattle.ptpm_network.proofs.Lists.{all_append, all_made, all_weaker, get_within, with_place-other, with_place-same}
@@ -23,15 +23,15 @@ all_filter P test (x ∷ xs) a = ⊎_elim
     (cases_Bool (test x))
 
 -- the ends that a message goes to exist
-peers_exist : (N : Network) (links : List (List End)) (e : End) → AllByRecursion (AllByRecursion (HasEnd N)) links → AllByRecursion (HasEnd N) (peers links e)
+peers_exist : (N : Network) (links : List (List End)) (e : End) → AllByRecursion (IsLink N) links → AllByRecursion (HasEnd N) (peers links e)
 peers_exist N [] e a = tt
 peers_exist N (link ∷ links) e a = ⊎_elim
-    (λ (y : list_any (same_end e) link ≡ true). subst (AllByRecursion (HasEnd N)) (sym (cond-true _ _ _ y)) (all_filter (HasEnd N) _ link a.0))
+    (λ (y : list_any (same_end e) link ≡ true). subst (AllByRecursion (HasEnd N)) (sym (cond-true _ _ _ y)) (all_filter (HasEnd N) _ link a.0.ends))
     (λ (n : list_any (same_end e) link ≡ false). subst (AllByRecursion (HasEnd N)) (sym (cond-false _ _ _ n)) (peers_exist N links e a.1))
     (cases_Bool (list_any (same_end e) link))
 
 pub has_peers : (N : Network) (e : End) → IsNetwork N → AllByRecursion (HasEnd N) (peers N.links e)
-has_peers N e n = peers_exist N N.links e n.ends
+has_peers N e n = peers_exist N N.links e n.are_links
 
 -- ---- what stays from state to state
 

@@ -11,3 +11,4 @@ pub mod Headline
 pub mod Worth
 pub mod Exchange
 pub mod Way
+pub mod Copies

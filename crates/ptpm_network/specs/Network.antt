@@ -75,6 +75,12 @@ pub record IsSession (N : Network) (s : ℕ) : Type 0 where
   pub target : (N.session s).setup.target ≡ (N.clock (N.session s).target).identity
   pub ports : (N.session s).setup.ports ≡ ports N (N.session s).target
 
+-- a link of 2 to 16 ends, each of which is there
+pub record IsLink (N : Network) (link : List End) : Type 0 where
+  pub two : 2 ≤ length link
+  pub at_most_sixteen : length link ≤ 16
+  pub ends : AllByRecursion (HasEnd N) link
+
 pub record IsNetwork (N : Network) : Type 0 where
   pub are_clocks : (c : ℕ) → c < N.clocks → IsClock N c
   pub are_sessions : (s : ℕ) → s < N.sessions → IsSession N s
@@ -86,4 +92,4 @@ pub record IsNetwork (N : Network) : Type 0 where
   pub configured : (s : ℕ) → s < N.sessions → is_known (manager N s) (N.clock (N.session s).target).managers ≡ true
   pub managers : (c : ℕ) (m : PortIdentity) → c < N.clocks → is_known m (N.clock c).managers ≡ true
       → (s : ℕ) × (s < N.sessions) × (manager N s ≡ m) × ((N.session s).target ≡ c)
-  pub ends : AllByRecursion (AllByRecursion (HasEnd N)) N.links
+  pub are_links : AllByRecursion (IsLink N) N.links

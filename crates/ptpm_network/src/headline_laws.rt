@@ -1,15 +1,21 @@
 //! The promise of a network, and where a running network stands so that it holds. Each law is the contract of a function that
 //! does nothing, and speaks of the definitions alone.
 
-ghost use Rattle.std.specs.Prelude.{◌≡◌, ◌++◌, ◌∷◌, [], false, List, None, Some};
-ghost use Rattle.std.specs.List.{AllByRecursion};
-ghost use Rattle.ptpm_network.specs.Events.{Event, IsInRange, Refusal, refusal};
+ghost use Rattle.std.specs.Prelude.{◌≡◌, ◌++◌, ◌∷◌, ◌<◌, [], ℕ, false, List, None, Some};
+ghost use Rattle.std.specs.List.{AllByRecursion, Contains};
+ghost use Rattle.ptpm_codec.specs.declared.error.ErrorId.{ErrorId};
+ghost use Rattle.ptpm_data.specs.Reply.{Answer, Refused, ReplyValue};
+ghost use Rattle.ptpm_agent.specs.Laws.{due_messages};
+ghost use Rattle.ptpm_agent.specs.Once.{Accepted, Delivery, History, RequestCopy, after, copy_of, due_reply, greatest, kept_reply};
+ghost use Rattle.ptpm_agent.specs.Turn.{Clock};
+ghost use Rattle.ptpm_network.specs.Copies.{IsCopyAt};
+ghost use Rattle.ptpm_network.specs.Events.{Deliver, Event, IsInRange, Refusal, Stranger, refusal};
 ghost use Rattle.ptpm_network.specs.Happening.{happened, ran, refused};
 ghost use Rattle.ptpm_network.specs.Headline.{Headline, StandsAfter};
-ghost use Rattle.ptpm_network.specs.Machine.{AreInTime, is_late_delivery, run, taken};
+ghost use Rattle.ptpm_network.specs.Machine.{AreInTime, happens, is_late_delivery, reply_frames, reply_origin, run, step, taken};
 ghost use Rattle.ptpm_network.specs.Network.{IsNetwork, Network};
 ghost use Rattle.ptpm_network.specs.Stands.{Running, starting};
-ghost use Rattle.ptpm_network.specs.State.{at_first};
+ghost use Rattle.ptpm_network.specs.State.{Frame, NetworkState, at_first, history};
 
 /// The headline. However a network loses, repeats, reorders or duplicates messages, if none arrives after more than 32,768 later
 /// requests of its manager, each clock's data sets are those after its managers' delivered requests, each applied once in order
@@ -39,4 +45,41 @@ pub fn stands_after()
         StandsAfter N past r → AllByRecursion IsInRange es →
         AreInTime N (run N (at_first N) past) (taken N (run N (at_first N) past) es) →
         StandsAfter N (past ++ taken N (run N (at_first N) past) es) (ran N r es) }
+{}
+
+/// Repeats of the latest get the one reply kept, older ones none. In every state that the machine reaches, to a copy of a
+/// manager's request
+/// - that is the latest which its clock accepted of the manager, the reply is due that is kept for this request;
+/// - that is older, none is;
+/// - its delivery makes frames of what is due, and of nothing else.
+pub fn one_reply_kept()
+    ensures latest { (N : Network) (es : List Event) (n c port : ℕ) (f : Frame) (copy : RequestCopy) →
+        IsNetwork N → AllByRecursion IsInRange es →
+        IsCopyAt N (run N (at_first N) es) n c port f copy →
+        greatest copy.heard.source (history N (run N (at_first N) es) c).accepted ≡ copy.index →
+        (kept : Accepted) × (kept_reply copy.heard.source copy.index (history N (run N (at_first N) es) c).accepted ≡ Some kept)
+        × (due_reply (N.clock c) (history N (run N (at_first N) es) c) copy ≡ Some kept.reply) }
+    ensures older { (c : Clock) (h : History) (copy : RequestCopy) →
+        copy.index < greatest copy.heard.source h.accepted → due_reply c h copy ≡ None }
+    ensures delivered { (N : Network) (w : NetworkState) (n c port : ℕ) (f : Frame) (copy : RequestCopy) →
+        IsCopyAt N w n c port f copy →
+        (happens N w (Deliver n)).frames
+        ≡ w.frames ++ reply_frames N c (reply_origin f.origin) (due_messages (N.clock c) copy (due_reply (N.clock c) (history N w c) copy)) }
+{}
+
+/// Strangers change no data set: a stranger's event leaves the history of every clock, its data sets and what it accepted.
+pub fn strangers_change_nothing()
+    ensures { (N : Network) (es : List Event) (c port : ℕ) (datagram : List ℕ) (clock : ℕ) →
+        IsNetwork N → AllByRecursion IsInRange es → IsInRange (Stranger c port datagram) →
+        history N (step N (run N (at_first N) es) (Stranger c port datagram)) clock ≡ history N (run N (at_first N) es) clock }
+{}
+
+/// Refused SETs change no data set, nor does any other request of which an answer is an error; and what is no numbered copy of
+/// a request leaves all that a clock has.
+pub fn refused_requests_change_no_data()
+    ensures refused { (c : Clock) (h : History) (x : Delivery) (copy : RequestCopy) (r : ReplyValue) (a : Answer) (error : ErrorId) →
+        copy_of c h.sets x ≡ Some copy → due_reply c h copy ≡ Some r →
+        Contains r.answers a → a.outcome ≡ Refused error →
+        (after c h x).sets ≡ h.sets }
+    ensures no_copy { (c : Clock) (h : History) (x : Delivery) → copy_of c h.sets x ≡ None → after c h x ≡ h }
 {}

@@ -1,7 +1,7 @@
 //! What the network promises over every list of events. Each law is the contract of a function that does nothing, and
 //! speaks of the definitions alone.
 
-ghost use Rattle.std.specs.Prelude.{◌≡◌, ◌↔◌, ◌+◌, ◌++◌, ◌∷◌, ◌<◌, ◌≤◌, ℕ, false, length, List, None, Some};
+ghost use Rattle.std.specs.Prelude.{◌≡◌, ◌↔◌, ◌+◌, ◌-◌, ◌++◌, ◌∷◌, ◌<◌, ◌≤◌, ℕ, false, length, List, None, Some};
 ghost use Rattle.std.specs.List.{AllByRecursion};
 ghost use Rattle.ptpm_codec.specs.declared.identity.PortIdentity.{PortIdentity};
 ghost use Rattle.ptpm_codec.specs.Layout.{boundary_hops};
@@ -56,12 +56,25 @@ pub fn one_request_at_a_time()
         ≡ outcomes_kept (manager N s) (accepted_at_target N (run N (at_first N) es) s) (length ((run N (at_first N) es).session s).reports) }
 {}
 
-/// A frame loses a hop with each forwarding, and nowhere else: its boundaryHops when it was first sent are its boundaryHops
-/// now and the number of its forwardings.
+/// A frame's boundaryHops are those that it was first sent with, less its forwardings, which are never more than those.
 pub fn hops_lost()
-    ensures { (N : Network) (es : List Event) (n : ℕ) (f : Frame) →
+    ensures hops { (N : Network) (es : List Event) (n : ℕ) (f : Frame) →
         IsNetwork N → AllByRecursion IsInRange es →
-        frame_at (run N (at_first N) es).frames n ≡ Some f → boundary_hops f.octets + f.forwardings ≡ f.first_hops }
+        frame_at (run N (at_first N) es).frames n ≡ Some f → boundary_hops f.octets ≡ f.first_hops - f.forwardings }
+    ensures forwardings { (N : Network) (es : List Event) (n : ℕ) (f : Frame) →
+        IsNetwork N → AllByRecursion IsInRange es →
+        frame_at (run N (at_first N) es).frames n ≡ Some f → f.forwardings ≤ f.first_hops }
+{}
+
+/// An event makes at most 225 frames: at most 15 messages leave a clock in a turn, seven copies that are passed on and eight
+/// answers, and a link takes each of them to 15 other ends at most. So there are never over 400,000 frames.
+pub fn at_most_225_frames()
+    ensures event { (N : Network) (es : List Event) (e : Event) →
+        IsNetwork N → AllByRecursion IsInRange es →
+        IsInRange e → refusal N (run N (at_first N) es) e ≡ None →
+        length (happens N (run N (at_first N) es) e).frames ≤ length (run N (at_first N) es).frames + 225 }
+    ensures ever { (N : Network) (es : List Event) →
+        IsNetwork N → AllByRecursion IsInRange es → length (run N (at_first N) es).frames ≤ 400000 }
 {}
 
 /// The window of 65,536 sequenceIds in which a clock tells new requests from old is never left:

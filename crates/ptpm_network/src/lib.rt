@@ -7,9 +7,13 @@ mod headline_laws;
 mod laws;
 mod progress_laws;
 
-pub use headline_laws::{headline, stands_after};
+pub use headline_laws::{
+    headline, one_reply_kept, refused_requests_change_no_data, stands_after,
+    strangers_change_nothing,
+};
 pub use laws::{
-    answers_by_octets, clocks_stand, events_appended, events_taken, every_schedule, hops_lost,
-    in_the_window, one_request_at_a_time, outbox_of_turns, running_networks_stand,
+    answers_by_octets, at_most_225_frames, clocks_stand, events_appended, events_taken,
+    every_schedule, hops_lost, in_the_window, one_request_at_a_time, outbox_of_turns,
+    running_networks_stand,
 };
 pub use progress_laws::{answerable_along_a_way, one_copy_each_way, reported_exactly_once};

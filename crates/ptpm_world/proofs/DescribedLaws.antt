@@ -13,7 +13,7 @@ use Rattle.ptpm_table.specs.Entries.{is_known}
 use Rattle.ptpm_table.specs.Managers.{identities}
 use Rattle.ptpm_table.proofs.Identities.{same_identity-true, same_identity-refl}
 use Rattle.ptpm_network.specs.Network as machine
-use Rattle.ptpm_network.specs.Network.{HasEnd, IsClock, IsSession}
+use Rattle.ptpm_network.specs.Network.{HasEnd, IsClock, IsLink, IsSession}
 use Rattle.ptpm_network.proofs.Lists.{all_get, all_made, get_within}
 use Rattle.ptpm_script.specs.declared.network.End.{End}
 use Rattle.ptpm_script.specs.declared.network.End.TheVariants as ends
@@ -123,10 +123,14 @@ described-has_end n (ends.Clock place port) is =
     (get_within n.clocks place is.0 is.1, is.2, subst (λ count. port ≤ count) (sym (length-map (clock_at n place).ports port_data_set)) most)
 described-has_end n (ends.Session place) is = is
 
-described-links : (n : NetworkValue) → IsAccepted n → AllByRecursion (AllByRecursion (HasEnd (described n))) (map (map described_end) n.links)
+described-links : (n : NetworkValue) → IsAccepted n → AllByRecursion (IsLink (described n)) (map (map described_end) n.links)
 described-links n facts =
-    all_made (IsLinkOf n) (AllByRecursion (HasEnd (described n))) (map described_end)
-    (λ link is. all_made (IsEndOf n) (HasEnd (described n)) described_end (described-has_end n) link is.ends)
+    all_made (IsLinkOf n) (IsLink (described n)) (map described_end)
+    (λ link is. record {
+      two = subst (λ count. 2 ≤ count) (sym (length-map link described_end)) is.two;
+      at_most_sixteen = subst (λ count. count ≤ 16) (sym (length-map link described_end)) is.at_most_sixteen;
+      ends = all_made (IsEndOf n) (HasEnd (described n)) described_end (described-has_end n) link is.ends;
+    })
     n.links facts.links
 
 -- ---- the network
@@ -141,5 +145,5 @@ described-network n facts sized = record {
       (of_place (IsSessionOf n) n.sessions s no_session facts.sessions hs).no_clock hc;
   configured = λ s h. known-configured n.sessions s (session_at n s).target h refl;
   managers = λ c m h k. known-place n.sessions m c k;
-  ends = described-links n facts;
+  are_links = described-links n facts;
 }

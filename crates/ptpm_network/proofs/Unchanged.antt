@@ -1,0 +1,85 @@
+-- What leaves a clock as it was: a stranger's datagram, and a request that is refused.
+use Rattle.std.proofs.Common.{◌≡◌, ℕ, ◌<◌, ◌==◌, List, [], Option, Some, None, true, false, refl, sym, ◌∙◌, ap, subst, ⊎_elim}
+use Rattle.std.proofs.lemmas.Bool.{cases_Bool, cond-true, cond-false, eqb-true}
+use Rattle.std.proofs.lemmas.Option.{same_Some}
+use Rattle.std.specs.List.{AllByRecursion, Contains}
+use Rattle.ptpm_codec.proofs.OrderedLaws.{first_of-none, option_or-none}
+use Rattle.ptpm_codec.specs.declared.error.ErrorId.{ErrorId}
+use Rattle.ptpm_data.specs.Reply.{Answer, Refused, ReplyValue}
+use Rattle.ptpm_data.proofs.Keeping.{refused_answer}
+use Rattle.ptpm_agent.specs.Once.{Delivery, History, RequestCopy, accepted_from, after, after_arrival, after_copy, copy_of, due_reply, joins}
+use Rattle.ptpm_agent.specs.Turn.{Clock}
+use Rattle.ptpm_network.specs.Events.{Event, Forged, IsInRange, Refusal, Stranger, forged, is_forged, no_port, no_room, refusal}
+use Rattle.ptpm_network.specs.Invariant.{IsReached}
+use Rattle.ptpm_network.specs.Machine.{arrives, delivery, happens, run, step, step_by, strange_frame}
+use Rattle.ptpm_network.specs.Network.{IsNetwork, Network}
+use Rattle.ptpm_network.specs.State.{NetworkState, Neither, RequestOf, at_first, history}
+use Rattle.ptpm_network.proofs.Arriving.{history-elsewhere, history-here, is_copy_of}
+use Rattle.ptpm_network.proofs.Frames.{IsHeard}
+use Rattle.ptpm_network.proofs.Reaching.{port-exists}
+use Rattle.ptpm_network.proofs.Schedule.{reached}
+use Rattle.ptpm_network.proofs.Strangers.{strange-message}
+
+-- ---- strangers
+
+of_nothing : {X : Type 0} (s k : ℕ) → Neither ≡ RequestOf s k → X
+of_nothing s k e = absurd (cc)
+
+-- what belongs to nothing is no copy
+strange-no_copy : (N : Network) (w : NetworkState) (c port : ℕ) (datagram : List ℕ) (o : Option RequestCopy) → IsNetwork N → IsReached N w → c < N.clocks → IsHeard N w datagram Neither
+    → copy_of (N.clock c) (history N w c).sets (delivery port (strange_frame c port datagram)) ≡ o → o ≡ None
+strange-no_copy N w c port datagram None n r place i e = refl
+strange-no_copy N w c port datagram (Some copy) n r place i e =
+    let of = is_copy_of N w c port (strange_frame c port datagram) copy n r place i e in
+    of_nothing of.session of.k of.origin
+
+strange-history : (N : Network) (w : NetworkState) (c port : ℕ) (datagram : List ℕ) (d : ℕ) → IsNetwork N → IsReached N w → c < N.clocks → IsHeard N w datagram Neither
+    → history N (arrives w c (delivery port (strange_frame c port datagram))) d ≡ history N w d
+strange-history N w c port datagram d n r place i =
+    let x : Delivery = delivery port (strange_frame c port datagram) in
+    ⊎_elim
+    (λ (y : d == c ≡ true).
+    subst (λ j. history N (arrives w c x) j ≡ history N w j) (sym (eqb-true d c y))
+    (history-here N w c x ∙ ap (after_arrival (N.clock c) (history N w c)) (strange-no_copy N w c port datagram _ n r place i refl)))
+    (λ (o : d == c ≡ false). history-elsewhere N w c x d o)
+    (cases_Bool (d == c))
+
+strange-happens : (N : Network) (w : NetworkState) (c port : ℕ) (datagram : List ℕ) (d : ℕ) → IsNetwork N → IsReached N w → IsInRange (Stranger c port datagram) → refusal N w (Stranger c port datagram) ≡ None
+    → history N (happens N w (Stranger c port datagram)) d ≡ history N w d
+unfolding refusal happens
+strange-happens N w c port datagram d n r octets none =
+    let p = option_or-none (no_port N c port) _ none in
+    let q = option_or-none (forged N datagram) (no_room w.frames) p.1 in
+    let honest = (first_of-none (is_forged N datagram) Forged [] q.0).0 in
+    strange-history N w c port datagram d n r (port-exists N c port p.0).0 (λ v h. strange-message N datagram v octets honest h)
+
+strange-step_by : (N : Network) (w : NetworkState) (c port : ℕ) (datagram : List ℕ) (d : ℕ) (o : Option Refusal) → refusal N w (Stranger c port datagram) ≡ o → IsNetwork N → IsReached N w → IsInRange (Stranger c port datagram)
+    → history N (step_by o N w (Stranger c port datagram)) d ≡ history N w d
+strange-step_by N w c port datagram d None e n r octets = strange-happens N w c port datagram d n r octets e
+strange-step_by N w c port datagram d (Some reason) e n r octets = refl
+
+pub strangers-leave : (N : Network) (es : List Event) (c port : ℕ) (datagram : List ℕ) (d : ℕ) → IsNetwork N → AllByRecursion IsInRange es → IsInRange (Stranger c port datagram)
+    → history N (step N (run N (at_first N) es) (Stranger c port datagram)) d ≡ history N (run N (at_first N) es) d
+strangers-leave N es c port datagram d n i octets =
+    let w : NetworkState = run N (at_first N) es in
+    strange-step_by N w c port datagram d (refusal N w (Stranger c port datagram)) refl n (reached N es n i) octets
+
+-- ---- refused requests
+
+pub no_copy-leaves : (c : Clock) (h : History) (x : Delivery) → copy_of c h.sets x ≡ None → after c h x ≡ h
+no_copy-leaves c h x none = ap (after_arrival c h) none
+
+refused-copy : (c : Clock) (h : History) (copy : RequestCopy) (r : ReplyValue) (a : Answer) (error : ErrorId) → due_reply c h copy ≡ Some r → Contains r.answers a → a.outcome ≡ Refused error → (after_copy c h copy).sets ≡ h.sets
+refused-copy c h copy r a error due has refused = ⊎_elim
+    (λ (y : joins h copy ≡ true).
+    let same : (accepted_from c h copy).reply ≡ r = same_Some _ r (sym (cond-true _ _ _ y) ∙ due) in
+    ap (λ (g : History). g.sets) (cond-true _ _ _ y)
+    ∙ refused_answer copy.request (c.rights copy.heard.source) h.sets a error
+    (subst (λ (z : ReplyValue). Contains z.answers a) (sym same) has) refused)
+    (λ (n : joins h copy ≡ false). ap (λ (g : History). g.sets) (cond-false _ _ _ n))
+    (cases_Bool (joins h copy))
+
+pub refused-leaves : (c : Clock) (h : History) (x : Delivery) (copy : RequestCopy) (r : ReplyValue) (a : Answer) (error : ErrorId) → copy_of c h.sets x ≡ Some copy → due_reply c h copy ≡ Some r
+    → Contains r.answers a → a.outcome ≡ Refused error → (after c h x).sets ≡ h.sets
+refused-leaves c h x copy r a error is due has refused =
+    ap (λ o. (after_arrival c h o).sets) is ∙ refused-copy c h copy r a error due has refused
