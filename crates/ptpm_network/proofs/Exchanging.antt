@@ -244,6 +244,11 @@ made-reply N w s port f x v r origin e here is due ingress m =
     ∙ ap (λ p. new_frames (peers N.links (AtPort c p)) octets (ReplyTo s (issued w s)) ++ []) ingress
     ∙ append-nil (new_frames (peers N.links (AtPort c port)) octets (ReplyTo s (issued w s)))
 
+replied-by : (N : Network) (w : NetworkState) (s port : ℕ) (f : Frame) (reply : List ℕ)
+    → made_frames N (N.session s).target (history N w (N.session s).target) port f ≡ new_frames (peers N.links (AtPort (N.session s).target port)) reply (ReplyTo s (issued w s))
+    → domain_number reply ≡ domain_number f.octets → boundary_hops reply ≡ (N.session s).setup.hops - boundary_hops f.octets → HasReplied N w (delivered_at_clock N w (N.session s).target port f) s port f.octets
+replied-by N w s port f reply made domain hops = record { reply = reply; frames = ap (λ fs. w.frames ++ fs) made; domain = domain; hops = hops }
+
 pub replied : (N : Network) (w : NetworkState) (s port : ℕ) (f : Frame) → IsNetwork N → IsReached N w → s < N.sessions → IsFrame N w f → f.end ≡ AtPort (N.session s).target port → f.origin ≡ RequestOf s (issued w s) → IsHeardBy N w s f.octets
     → HasReplied N w (delivered_at_clock N w (N.session s).target port f) s port f.octets
 replied N w s port f n r place i end origin heard =
@@ -259,12 +264,9 @@ replied N w s port f n r place i end origin heard =
     let due = due-to N w s f.octets x r place of heard in
     let m = reply-message N w s port f x due.0 n r place (subst (HasEnd N) end i.end) origin i.origin of refl says.message.fits.number is due.1 in
     let u : Message = reply_message (N.clock c).identity x.heard (due.0).action (due.0).id x.ingress m.answer in
-    record {
-      reply = canonical u;
-      frames = ap (λ fs. w.frames ++ fs) (made-reply N w s port f x v due.0 origin says.message.read (clocks_same (N.session s).setup.target (N.clock c).identity session.target) is due.1 refl m);
-      domain = said-domain u (domain_number f.octets) m.valid m.fits domain;
-      hops = said-hops u ((N.session s).setup.hops - boundary_hops f.octets) m.valid m.fits (ap (λ k. (N.session s).setup.hops - k) (message-hops v f.octets says.message.read));
-    }
+    replied-by N w s port f (canonical u) (made-reply N w s port f x v due.0 origin says.message.read (clocks_same (N.session s).setup.target (N.clock c).identity session.target) is due.1 refl m)
+    (said-domain u (domain_number f.octets) m.valid m.fits domain)
+    (said-hops u ((N.session s).setup.hops - boundary_hops f.octets) m.valid m.fits (ap (λ k. (N.session s).setup.hops - k) (message-hops v f.octets says.message.read)))
 
 -- ---- the session reports
 

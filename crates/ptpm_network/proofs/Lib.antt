@@ -33,3 +33,4 @@ pub mod Ways
 pub mod Counting
 pub mod DueReplies
 pub mod Unchanged
+pub mod Reporting

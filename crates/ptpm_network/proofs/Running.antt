@@ -90,7 +90,7 @@ happened-stands N first r w (Stranger c port datagram) firsts n reached at i e l
 
 -- ---- a list of events
 
-ran-stands : (N : Network) (first : PortIdentity → ℕ) (r : Running) (w : NetworkState) (es : List Event) → AreFirsts N first → IsNetwork N → IsReached N w → Stands N first r w → AllByRecursion IsInRange es → AreInTime N w (taken N w es)
+pub ran-stands : (N : Network) (first : PortIdentity → ℕ) (r : Running) (w : NetworkState) (es : List Event) → AreFirsts N first → IsNetwork N → IsReached N w → Stands N first r w → AllByRecursion IsInRange es → AreInTime N w (taken N w es)
     → Stands N first (ran N r es) (run N w (taken N w es))
 ran-stands N first r w [] firsts n reached at i time = at
 ran-stands N first r w (e ∷ es) firsts n reached at i time = ⊎_elim

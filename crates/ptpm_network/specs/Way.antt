@@ -1,11 +1,15 @@
 -- A way from a session to its target over other clocks, and what it takes for one copy each way to come through.
-use Rattle.std.specs.Prelude.{◌≡◌, ◌≢◌, ℕ, ◌+◌, ◌*◌, ◌≤◌, true, false, List, [], ◌∷◌, length, None, ◌⊎◌}
+use Rattle.std.specs.Prelude.{◌≡◌, ◌≢◌, ℕ, ◌+◌, ◌*◌, ◌≤◌, true, false, List, [], ◌∷◌, ◌++◌, length, None, ◌⊎◌}
 use Rattle.std.specs.List.{AllByRecursion, list_any}
 use Rattle.ptpm_data.specs.Members.{may_forward}
+use Rattle.ptpm_manager.specs.declared.report.Report.{Report}
+use Rattle.ptpm_manager.specs.Session.{is_waiting}
 use Rattle.ptpm_network.specs.Events.{Event, Begin, Send, Resume, Retune, Deliver, Stranger, refusal}
 use Rattle.ptpm_network.specs.Exchange.{HasReported}
+use Rattle.ptpm_network.specs.Happening.{ran}
 use Rattle.ptpm_network.specs.Machine.{is_late_delivery, run, step}
 use Rattle.ptpm_network.specs.Network.{AtPort, AtSession, End, Network, peers, same_end}
+use Rattle.ptpm_network.specs.Stands.{Running}
 use Rattle.ptpm_network.specs.State.{NetworkState, greatest_accepted, history, issued}
 
 -- ---- a way
@@ -84,3 +88,11 @@ pub record IsAnswerable (N : Network) (w : NetworkState) (s : ℕ) (hops : List 
   pub exchange : IsExchange N s w more
   pub one_each_way : length more ≡ 2 * length hops + 3
   pub reported : HasReported w (run N w more) s
+
+-- The same of a network that runs: as many events lead it to one report more, and the session waits for nothing then.
+pub record RunsToReport (N : Network) (r : Running) (s : ℕ) (hops : List Hop) : Type 0 where
+  pub more : List Event
+  pub one_each_way : length more ≡ 2 * length hops + 3
+  pub report : Report
+  pub reports : (ran N r more).reports s ≡ r.reports s ++ report ∷ []
+  pub idle : is_waiting ((ran N r more).session s) ≡ false

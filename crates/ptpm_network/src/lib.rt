@@ -16,4 +16,6 @@ pub use laws::{
     every_schedule, hops_lost, in_the_window, one_request_at_a_time, outbox_of_turns,
     running_networks_stand,
 };
-pub use progress_laws::{answerable_along_a_way, one_copy_each_way, reported_exactly_once};
+pub use progress_laws::{
+    answerable_along_a_way, one_copy_each_way, reported_exactly_once, running_networks_report,
+};

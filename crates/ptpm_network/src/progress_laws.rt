@@ -10,10 +10,12 @@ ghost use Rattle.ptpm_manager.specs.declared.error.BeginError.TheVariants as beg
 ghost use Rattle.ptpm_manager.specs.declared.report.Report.{Report};
 ghost use Rattle.ptpm_network.specs.Events.{Begin, BeginRefused, Deliver, Event, IsInRange, frame_at, frames_limit, refusal};
 ghost use Rattle.ptpm_network.specs.Exchange.{HasReplied, HasReported, HasRoom, IsHeardBy};
+ghost use Rattle.ptpm_network.specs.Happening.{ran};
 ghost use Rattle.ptpm_network.specs.Machine.{AreInTime, run, step, taken};
 ghost use Rattle.ptpm_network.specs.Network.{AtPort, AtSession, IsNetwork, Network};
+ghost use Rattle.ptpm_network.specs.Stands.{AreFirsts, Running, Stands, starting};
 ghost use Rattle.ptpm_network.specs.State.{Frame, NetworkState, ReplyTo, RequestOf, at_first, history, is_idle, is_late, issued};
-ghost use Rattle.ptpm_network.specs.Way.{Hop, IsAnswerable, IsExchange, IsWay, LinksHaveAtMost, made_each_way};
+ghost use Rattle.ptpm_network.specs.Way.{Hop, IsAnswerable, IsExchange, IsWay, LinksHaveAtMost, RunsToReport, made_each_way};
 ghost use Rattle.ptpm_network.specs.Worth.{IsWorth, entries_of};
 
 /// What is reported was carried out exactly once. After every list of events, late deliveries among them:
@@ -82,4 +84,23 @@ pub fn answerable_along_a_way()
     ensures runs { (N : Network) (s : ℕ) (w : NetworkState) (more : List Event) →
         IsExchange N s w more →
         AllByRecursion IsInRange more × (taken N w more ≡ more) × AreInTime N w more }
+{}
+
+/// A network that runs, whose clocks and sessions tell requests apart by sequenceIds and octets, reports no less:
+/// - after every list of events of which no delivery is late, its reports are of its requests 1, 2, 3, .. in their order, and
+///   each is worth what it is in the machine;
+/// - where it stands at a state that the machine reaches, and a request can be answered along a way, it is.
+pub fn running_networks_report()
+    ensures worth { (N : Network) (es : List Event) (first : PortIdentity → ℕ) (s i : ℕ) (r : Report) →
+        IsNetwork N → AllByRecursion IsInRange es →
+        AreFirsts N first → AreInTime N (at_first N) es → s < N.sessions →
+        slice_get ((ran N (starting N) es).reports s) i ≡ Some r →
+        (r.index ≡ i + 1) × IsWorth N (run N (at_first N) (taken N (at_first N) es)) s r }
+    ensures answered { (N : Network) (es : List Event) (first : PortIdentity → ℕ) (r : Running) (s : ℕ) (hops : List Hop) (port ends : ℕ) →
+        IsNetwork N → AllByRecursion IsInRange es →
+        AreFirsts N first → Stands N first r (run N (at_first N) es) → s < N.sessions →
+        is_idle ((run N (at_first N) es).session s) ≡ false → 0 < ((run N (at_first N) es).session s).attempts_left →
+        IsWay N (run N (at_first N) es) s hops port → LinksHaveAtMost N ends →
+        length (run N (at_first N) es).frames + made_each_way ends hops ≤ frames_limit →
+        RunsToReport N r s hops }
 {}
