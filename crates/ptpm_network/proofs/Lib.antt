@@ -28,6 +28,7 @@ pub mod TurnKeeps
 pub mod Worth
 pub mod Exchanging
 pub mod Carrying
+pub mod RoundTrip
 pub mod Answerable
 pub mod Ways
 pub mod Counting
