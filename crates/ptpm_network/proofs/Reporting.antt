@@ -1,5 +1,5 @@
 -- What reports of a running network are worth, and that it runs to the report that a way gives.
-use Rattle.std.proofs.Common.{◌≡◌, ℕ, ◌<◌, ◌≤◌, ◌+◌, List, [], ◌∷◌, ◌++◌, Some, true, false, sym, ◌∙◌, ap, subst, length}
+use Rattle.std.proofs.Common.{◌≡◌, ℕ, ◌<◌, ◌≤◌, ◌+◌, List, [], ◌∷◌, ◌++◌, Some, true, false, sym, ◌∙◌, ap, subst, length, tt}
 use Rattle.std.proofs.lemmas.Bool.{cond-true}
 use Rattle.std.specs.Prelude.{is_some, slice_get}
 use Rattle.std.specs.List.{AllByRecursion}
@@ -16,9 +16,9 @@ use Rattle.ptpm_network.specs.Way.{Hop, IsAnswerable, IsWay, LinksHaveAtMost, Ru
 use Rattle.ptpm_network.specs.Worth.{IsWorth}
 use Rattle.ptpm_network.proofs.Answerable.{answerable, exchange-runs}
 use Rattle.ptpm_network.proofs.Running.{ran-running, ran-stands}
-use Rattle.ptpm_network.proofs.Taking.{taken-in_time}
 use Rattle.ptpm_network.proofs.Schedule.{reached}
-use Rattle.ptpm_network.proofs.Taking.{taken-in_range}
+use Rattle.ptpm_network.proofs.Standing.{stands-at_first}
+use Rattle.ptpm_network.proofs.Taking.{taken-in_range, taken-in_time}
 use Rattle.ptpm_network.proofs.Worth.{report-index, report-worth}
 
 pub running-worth : (N : Network) (es : List Event) (first : PortIdentity → ℕ) (s i : ℕ) (r : Report) → IsNetwork N → AllByRecursion IsInRange es → AreFirsts N first → AreInTime N (at_first N) es → s < N.sessions
@@ -26,7 +26,7 @@ pub running-worth : (N : Network) (es : List Event) (first : PortIdentity → �
 running-worth N es first s i r n range firsts time place e =
     let front = taken N (at_first N) es in
     let range_front = taken-in_range N (at_first N) es range in
-    let at = ran-running N es first n range firsts time in
+    let at = ran-running N [] es first (starting N) n tt firsts (stands-at_first N first) range (taken-in_time N (at_first N) es time) in
     let told : slice_get ((run N (at_first N) front).session s).reports i ≡ Some r = subst (λ rs. slice_get rs i ≡ Some r) (at.reports s place) e in
     (report-index N front s i r n range_front place told, report-worth N front s i r n range_front place told)
 
