@@ -5,4 +5,5 @@ pub mod ReadingLaws
 pub mod ViewLaws
 pub mod CanonicalLaws
 pub mod RewritingLaws
+pub mod PiecewiseLaws
 pub mod IdentityLaws

@@ -1,5 +1,5 @@
 -- A datagram that is not refused spells the message that is read from it, and no other; one that spells any is not refused.
-use Rattle.std.proofs.Common.{◌≡◌, ℕ, zero, suc, ◌+◌, ◌-◌, ◌%◌, ◌≤◌, ◌<◌, Bool, true, false, cond, List, [], ◌∷◌, length, take, drop, get_or, Option, Some, None, refl, sym, ap, subst, ◌∙◌, inl, inr, arith}
+use Rattle.std.proofs.Common.{◌≡◌, ℕ, zero, suc, ◌+◌, ◌-◌, ◌%◌, ◌≤◌, ◌<◌, Bool, true, false, cond, List, [], ◌∷◌, length, take, drop, get_or, Option, Some, None, Ok, refl, sym, ap, subst, ◌∙◌, inl, inr, arith}
 use Rattle.std.proofs.lemmas.Bool.{cases_lt, eq-eqb, eqb-true}
 use Rattle.std.proofs.lemmas.List.{length-take, length-take-le, length-drop, get_or-take, get_or-drop, get_or_past}
 use Rattle.std.specs.Option.{option_or}
@@ -17,7 +17,7 @@ use Rattle.ptpm_codec.specs.Layout.{octet, even_up, message_length, message_octe
 use Rattle.ptpm_codec.specs.Message.{action_code, is_reply, action_of, IsDataField, IsValid, IsValidBody}
 use Rattle.ptpm_codec.specs.Spelling.{Spells, SpellsBody, SpellsManagement, SpellsText}
 use Rattle.ptpm_codec.specs.Refusal.{action_from, is_text, frame_refusal, tlv_refusal, text_refusal, message_refusal, refusal}
-use Rattle.ptpm_codec.specs.Reading.{action_at, tlv_kind_at, text_at, body_from, body_at, message_at, some_unless, message_of, IsWellFormed}
+use Rattle.ptpm_codec.specs.Reading.{action_at, tlv_kind_at, text_at, body_from, body_at, message_at, ok_unless, reading, some_unless, message_of, IsWellFormed}
 use Rattle.ptpm_codec.proofs.PlaceLaws.{octet-take, number-take}
 use Rattle.ptpm_codec.proofs.OrderedLaws.{option_or-none}
 use Rattle.ptpm_codec.proofs.RefusalLaws.{IsFramed, framed, not_refused-frame, IsTlv, is_tlv, not_refused-tlv, is_text-status, not_refused-status, not_refused-management}
@@ -273,6 +273,26 @@ spells_read d m kind frame e tlv k text =
     let none : message_refusal m ≡ None = both_none _ _ tlv is in
     let whole = both_none (frame_refusal d) (message_refusal (message_octets d)) frame (ap message_refusal (sym e) ∙ none) in
     subst (λ (n : List ℕ). Spells (message_at n) (message_octets d)) (sym e) (spelled d whole)
+
+-- what passes each test in turn, and has a MANAGEMENT TLV, is well-formed
+pub well_formed_management : (d m : List ℕ) → frame_refusal d ≡ None → m ≡ message_octets d
+    → tlv_refusal (layout.action_field m) (layout.tlv_type m) (layout.length_field m) (length m) ≡ None → layout.tlv_type m ≡ 1
+    → IsWellFormed d
+well_formed_management d m frame e tlv one =
+    none_refused d (message_at m)
+    (spells_read d m Management frame e tlv (sym (tlv_kind-management m one)) (not_refused-management (layout.display_data m)))
+
+-- what is well-formed is read, and spelled
+
+ok_unless-none : (o : Option DecodeError) (v w : Message) → o ≡ None → v ≡ w → ok_unless o v ≡ Ok w
+ok_unless-none None v w h e = rw e refl
+ok_unless-none (Some r) v w h e = absurd cc
+
+pub reading-well_formed : (d m : List ℕ) → IsWellFormed d → m ≡ message_octets d → reading d ≡ Ok (message_at m)
+reading-well_formed d m h e = ok_unless-none (refusal d) (message_at (message_octets d)) (message_at m) h (ap message_at (sym e))
+
+pub spelled-well_formed : (d m : List ℕ) → IsWellFormed d → m ≡ message_octets d → Spells (message_at m) (message_octets d)
+spelled-well_formed d m h e = subst (λ (n : List ℕ). Spells (message_at n) (message_octets d)) (sym e) (spelled d h)
 
 -- ---- `message_of`
 

@@ -1,6 +1,6 @@
 //! Octets to messages: what is judged, in its order.
 
-ghost use Rattle.std.specs.Prelude.{◌≡◌, ◌≢◌, ◌≤◌, true, Err, Some, None, IfErr, IfOk, MatchResult, OnOk, length};
+ghost use Rattle.std.specs.Prelude.{◌≡◌, ◌≢◌, ◌≤◌, true, Ok, Err, Some, None, IfErr, IfOk, IfSome, MatchResult, OnOk, OnSome, length};
 ghost use Rattle.ptpm_codec.specs.declared.error.DecodeError.{DecodeError};
 ghost use Rattle.ptpm_codec.specs.declared.message.Message.{Message};
 ghost use Rattle.ptpm_codec.specs.Layout as layout;
@@ -14,7 +14,7 @@ use crate::encoding::MESSAGE_OCTETS;
 use crate::error::DecodeError;
 use crate::message::Message;
 use crate::places::u16_at;
-use crate::tlv::{TlvKind, tlv};
+use crate::tlv::{TlvKind, management_action, tlv};
 use crate::viewing::View;
 use std::alloc::Global;
 
@@ -86,6 +86,47 @@ pub fn view(datagram: &[u8]) -> Result<View<'_>, DecodeError>
     ensures spelled { IfOk result (λ v. Spells v (message_octets datagram.now)) }
     ensures valid { IfOk result (λ v. IsValid v) }
 
+    ensures well_formed { OnOk result (IsWellFormed datagram.now) }
+    ensures refused { IfErr result (λ e. refusal datagram.now ≡ Some e) }
+{
+    match view_management(datagram) {
+        Some(view) => Ok(view),
+        None => view_any(datagram),
+    }
+}
+
+/// A well-formed message with a MANAGEMENT TLV, as all but the error statuses have; nothing for any other datagram. No
+/// refusal is told apart, so that most datagrams are read by the fewest tests.
+#[inline(always)]
+fn view_management(datagram: &[u8]) -> Option<View<'_>>
+    ensures exact { IfSome result (λ v. reading datagram.now ≡ Ok v) }
+    ensures spelled { IfSome result (λ v. Spells v (message_octets datagram.now)) }
+    ensures valid { IfSome result (λ v. IsValid v) }
+    ensures well_formed { OnSome result (IsWellFormed datagram.now) }
+{
+    let Ok(message) = message_octets(datagram) else {
+        return None;
+    };
+    let action = management_action(
+        message[46] % 16,
+        u16_at(message, 48),
+        u16_at(message, 50),
+        message.len(),
+    )?;
+    Some(View {
+        message,
+        action,
+        tlv: TlvKind::Management,
+    })
+}
+
+/// What `view` answers, where every refusal is told apart.
+#[cold]
+#[inline(never)]
+fn view_any(datagram: &[u8]) -> Result<View<'_>, DecodeError>
+    ensures exact { result ≡ reading datagram.now }
+    ensures spelled { IfOk result (λ v. Spells v (message_octets datagram.now)) }
+    ensures valid { IfOk result (λ v. IsValid v) }
     ensures well_formed { OnOk result (IsWellFormed datagram.now) }
     ensures refused { IfErr result (λ e. refusal datagram.now ≡ Some e) }
 {

@@ -9,6 +9,7 @@ ghost use Rattle.ptpm_codec.specs.Layout.{message_octets};
 ghost use Rattle.ptpm_codec.specs.Message.{BodyFits, Fits, IsValid, IsValidBody, PortIdentityFits, action_code, action_of};
 ghost use Rattle.ptpm_codec.specs.Spelling.{Spells};
 
+use crate::buffers::{overwrite_by_two, put};
 use crate::draft::{Draft, DraftBody};
 use crate::identity::PortIdentity;
 use arrayvec::ArrayVec;
@@ -32,8 +33,21 @@ pub fn encode(draft: &Draft<'_>, buffer: &mut Buffer)
     ensures spells { (rest : List ℕ) → Spells draft.now (message_octets (buffer.new.items ++ rest)) }
     ensures fits { Fits draft.now }
 {
-    buffer.clear();
-    append(draft, buffer);
+    replace(draft, buffer);
+}
+
+/// Leaves the canonical spelling of the draft, as `encode` has it, in a buffer of any size, and nothing else, where there
+/// must be room: 48 octets, and those of the TLV. What the buffer held is written over. Takes no memory.
+pub fn replace<const N: usize>(draft: &Draft<'_>, buffer: &mut ArrayVec<u8, N>)
+    requires valid { IsValid draft.now }
+    requires room { 48 + length (tlv_octets draft.now.body) ≤ N }
+    ensures items { buffer.new.items ≡ canonical draft.now }
+    ensures fits { Fits draft.now }
+{
+    let mut head = Head::new();
+    put_front(&mut head, draft, 48 + tlv_size(&draft.body) as u16);
+    put_middle(&mut head, draft);
+    leave_tlv(buffer, &mut head, &draft.body);
 }
 
 /// Appends the canonical spelling of the draft, as `encode` has it, to what the buffer holds, where there must be room: 48
@@ -85,14 +99,6 @@ fn put_middle(head: &mut Head, draft: &Draft<'_>)
     put(head, &[draft.starting_hops, draft.hops, action, 0]);
 }
 
-pub(crate) fn put<const N: usize>(buffer: &mut ArrayVec<u8, N>, octets: &[u8])
-    requires { array_vec_len buffer.old + length octets.now ≤ N }
-    ensures items { buffer.new.items ≡ buffer.old.items ++ octets.now }
-    ensures len { array_vec_len buffer.new ≡ array_vec_len buffer.old + length octets.now }
-{
-    let _ = buffer.try_extend_from_slice(octets);
-}
-
 fn put_u16<const N: usize>(buffer: &mut ArrayVec<u8, N>, number: u16)
     requires { array_vec_len buffer.old + 2 ≤ N }
     ensures items { buffer.new.items ≡ buffer.old.items ++ big_bytes 2 number }
@@ -137,6 +143,33 @@ fn put_tlv<const N: usize>(buffer: &mut ArrayVec<u8, N>, head: &mut Head, body: 
     }
 }
 
+/// Leaves the head, which holds the 48 octets before the TLV, and the TLV, and nothing else. What the head held is lost.
+#[inline(always)]
+#[tactic(auto, unfolding(crate::specs::Canonical::tlv_octets))]
+fn leave_tlv<const N: usize>(buffer: &mut ArrayVec<u8, N>, head: &mut Head, body: &DraftBody<'_>)
+    requires valid { IsValidBody (body_of body.now) }
+    requires header { array_vec_len head.old ≡ 48 }
+    requires room { 48 + length (tlv_octets (body_of body.now)) ≤ N }
+    ensures items { buffer.new.items ≡ head.old.items ++ tlv_octets (body_of body.now) }
+    ensures fits { BodyFits (body_of body.now) }
+{
+    match body {
+        DraftBody::Request { id, octets, .. } | DraftBody::Answer { id, octets, .. } => {
+            put_management_head(head, *id, octets.len() as u16);
+            overwrite_by_two(buffer, head.as_slice(), octets);
+        }
+        DraftBody::Fault {
+            error,
+            id,
+            text,
+            ..
+        } => {
+            buffer.clear();
+            put_error_status(buffer, head, *error, *id, text);
+        }
+    }
+}
+
 #[inline(always)]
 fn put_management<const N: usize>(
     buffer: &mut ArrayVec<u8, N>,
@@ -149,11 +182,23 @@ fn put_management<const N: usize>(
     requires room { array_vec_len buffer.old + 54 + length octets.now ≤ N }
     ensures items { buffer.new.items ≡ buffer.old.items ++ (head.old.items ++ management_octets id octets.now) }
 {
-    put_u16(head, 0x0001);
-    put_u16(head, 2 + octets.len() as u16);
-    put_u16(head, id);
+    put_management_head(head, id, octets.len() as u16);
     put(buffer, head.as_slice());
     put(buffer, octets);
+}
+
+/// Octets 48 to 53: a MANAGEMENT TLV up to its dataField, of this size.
+#[inline(always)]
+fn put_management_head(head: &mut Head, id: u16, size: u16)
+    requires small { size ≤ 1418 }
+    requires header { array_vec_len head.old ≡ 48 }
+    ensures items { head.new.items ≡ head.old.items ++ big_bytes 2 0x0001 ++ big_bytes 2 (2 + size) ++ big_bytes 2 id }
+    ensures len { array_vec_len head.new ≡ 54 }
+    ensures id { id < 2 ^ 16 }
+{
+    put_u16(head, 0x0001);
+    put_u16(head, 2 + size);
+    put_u16(head, id);
 }
 
 fn put_error_status<const N: usize>(

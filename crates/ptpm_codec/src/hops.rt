@@ -5,7 +5,8 @@ ghost use Rattle.arrayvec.specs.ArrayVec.{array_vec_len};
 ghost use Rattle.ptpm_codec.specs.Layout.{boundary_hops, message_octets, octet};
 ghost use Rattle.ptpm_codec.specs.Reading.{IsWellFormed};
 
-use crate::encoding::{Buffer, put};
+use crate::buffers::overwrite;
+use crate::encoding::Buffer;
 use crate::places::u16_at;
 
 /// Leaves a well-formed datagram's first messageLength octets in the buffer, with boundaryHops (octet 45) less by one
@@ -16,8 +17,7 @@ pub fn less_hop(datagram: &[u8], buffer: &mut Buffer)
     ensures { buffer.new.items ≡ slice_set (message_octets datagram.now) 45 (boundary_hops datagram.now - 1) }
 {
     let length = u16_at(datagram, 2) as usize;
-    buffer.clear();
-    put(buffer, &datagram[..length]);
+    overwrite(buffer, &datagram[..length]);
     lower(buffer, 45);
 }
 

@@ -1,6 +1,7 @@
 //! PTP management messages as octets (IEEE 1588-2019, clause 15): reading, writing, and what they mean.
 #![tactic(auto)]
 
+mod buffers;
 mod decoding;
 mod draft;
 mod encoding;
@@ -14,9 +15,10 @@ mod places;
 mod tlv;
 mod viewing;
 
+pub use buffers::overwrite;
 pub use decoding::{decode, view};
 pub use draft::{Draft, DraftBody};
-pub use encoding::{Buffer, MESSAGE_OCTETS, append, encode};
+pub use encoding::{Buffer, MESSAGE_OCTETS, append, encode, replace};
 pub use error::{DecodeError, ErrorId, OutOfMemory};
 pub use hops::less_hop;
 pub use identity::{ClockIdentity, PortIdentity};

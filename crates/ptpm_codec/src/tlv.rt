@@ -1,6 +1,6 @@
 //! The two TLVs of management messages, told apart by their numbers.
 
-ghost use Rattle.std.specs.Prelude.{◌≡◌, ◌+◌, ◌≤◌, Some, None, IfOk, MatchResult, nat_lt, if◌then◌else◌};
+ghost use Rattle.std.specs.Prelude.{◌≡◌, ◌+◌, ◌≤◌, Some, None, IfOk, IfSome, OnSome, MatchResult, nat_lt, if◌then◌else◌};
 ghost use Rattle.ptpm_codec.specs.Refusal.{action_from, tlv_kind, tlv_refusal};
 
 use crate::error::DecodeError;
@@ -52,4 +52,25 @@ pub(crate) fn tlv(
         return Err(DecodeError::BadTlvLength);
     }
     Ok((action, tlv))
+}
+
+/// The action of a message with a MANAGEMENT TLV, where nothing is wrong with its numbers.
+#[inline(always)]
+#[tactic(auto, unfolding(crate::specs::Refusal::tlv_refusal))]
+pub(crate) fn management_action(
+    code: u8,
+    tlv_type: u16,
+    length_field: u16,
+    size: usize,
+) -> Option<Action>
+    requires { 54 ≤ size }
+    ensures sound { OnSome result (tlv_refusal code tlv_type length_field size ≡ None) }
+    ensures action { IfSome result (λ a. a ≡ action_from code) }
+    ensures tlv { OnSome result (tlv_type ≡ 1) }
+{
+    if tlv_type == 1 && length_field as usize + 52 == size && size % 2 == 0 {
+        action_from(code)
+    } else {
+        None
+    }
 }

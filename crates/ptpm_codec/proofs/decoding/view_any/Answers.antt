@@ -1,7 +1,7 @@
 use Rattle.std.proofs.Common.{arith}
 use Rattle.ptpm_codec.specs.Layout.{message_length, message_octets}
 use Rattle.ptpm_codec.proofs.ReadingLaws.{octets-take, valid_of, spells_read}
-use Rattle.ptpm_codec.proofs.decoding.view.Goals as goal
+use Rattle.ptpm_codec.proofs.decoding.view_any.Goals as goal
 
 pub returns-clause-spelled : goal.returns-clause-spelled
 returns-clause-spelled c =

@@ -1,0 +1,23 @@
+use Rattle.std.proofs.Common.{arith}
+use Rattle.ptpm_codec.specs.Layout.{message_length, message_octets}
+use Rattle.ptpm_codec.proofs.ReadingLaws.{octets-take, reading-well_formed, spelled-well_formed, valid_of, well_formed_management}
+use Rattle.ptpm_codec.proofs.decoding.view_management.Goals as goal
+
+pub returns-clause-well_formed : goal.returns-clause-well_formed
+returns-clause-well_formed c =
+    well_formed_management c.args.datagram.now c.in-Ok.message.now c.in-Ok.ensures.refusal c.in-Ok.ensures.octets
+    (rw (← c.u16_at.ensures, ← c.u16_at-2.ensures) c.in_ok-action.ensures.sound) (rw (← c.u16_at.ensures) c.in_ok-action.ensures.tlv)
+
+pub returns-clause-exact : goal.returns-clause-exact
+returns-clause-exact c =
+    reading-well_formed c.args.datagram.now c.in-Ok.message.now (returns-clause-well_formed c) c.in-Ok.ensures.octets
+
+pub returns-clause-spelled : goal.returns-clause-spelled
+returns-clause-spelled c =
+    spelled-well_formed c.args.datagram.now c.in-Ok.message.now (returns-clause-well_formed c) c.in-Ok.ensures.octets
+
+pub returns-clause-valid : goal.returns-clause-valid
+returns-clause-valid c =
+    valid_of _ (message_octets c.args.datagram.now)
+    (octets-take (message_length c.args.datagram.now) c.args.datagram.now (λ i. omega (arith, c.type_inv.datagram i)))
+    (returns-clause-spelled c)

@@ -1,0 +1,51 @@
+//! Buffers of fixed size, written over.
+
+ghost use Rattle.std.specs.Prelude.{◌≡◌, ◌≤◌, ◌+◌, ◌++◌, length};
+ghost use Rattle.arrayvec.specs.ArrayVec.{array_vec_len};
+
+use arrayvec::ArrayVec;
+
+/// Appends a copy of these octets.
+pub(crate) fn put<const N: usize>(buffer: &mut ArrayVec<u8, N>, octets: &[u8])
+    requires { array_vec_len buffer.old + length octets.now ≤ N }
+    ensures items { buffer.new.items ≡ buffer.old.items ++ octets.now }
+    ensures len { array_vec_len buffer.new ≡ array_vec_len buffer.old + length octets.now }
+{
+    let _ = buffer.try_extend_from_slice(octets);
+}
+
+/// Leaves a copy of these octets in the buffer, and nothing else. What the buffer had is written over and not cleared
+/// before, but for what would stay behind the copy.
+pub fn overwrite<const N: usize>(buffer: &mut ArrayVec<u8, N>, octets: &[u8])
+    requires { length octets.now ≤ N }
+    ensures { buffer.new.items ≡ octets.now }
+{
+    buffer.truncate(octets.len());
+    let (front, back) = octets.split_at(buffer.len());
+    if !front.is_empty() {
+        buffer.as_mut_slice().copy_from_slice(front);
+    }
+    if !back.is_empty() {
+        let _ = buffer.try_extend_from_slice(back);
+    }
+}
+
+/// Leaves copies of these octets in the buffer, one behind the other, and nothing else. Where it had as many octets, all are
+/// written over and none is cleared.
+pub(crate) fn overwrite_by_two<const N: usize>(
+    buffer: &mut ArrayVec<u8, N>,
+    front: &[u8],
+    back: &[u8],
+)
+    requires { length front.now + length back.now ≤ N }
+    ensures { buffer.new.items ≡ front.now ++ back.now }
+{
+    if buffer.len() == front.len() + back.len() {
+        let (first, second) = buffer.as_mut_slice().split_at_mut(front.len());
+        first.copy_from_slice(front);
+        second.copy_from_slice(back);
+    } else {
+        overwrite(buffer, front);
+        put(buffer, back);
+    }
+}
