@@ -70,10 +70,10 @@ module _ (refusal : Option ErrorId) (action : Action) (id : ℕ) (d : DataSetsVa
   unfolding port_answers
   port_answers-none = refl
 
-  pub port_answers-more : (items : List PortAnswer) (x : PortAnswer) (first n m port : ℕ) → first + n ≡ port → m ≡ n + 1 → map answer_of items ≡ port_answers refusal action id d (range_with_len first n) → answer_of x ≡ answer refusal action id d (Some port) → map answer_of (items ++ x ∷ []) ≡ port_answers refusal action id d (range_with_len first m)
+  pub port_answers-after : (items items' : List PortAnswer) (first n m port : ℕ) → first + n ≡ port → m ≡ n + 1 → map answer_of items ≡ port_answers refusal action id d (range_with_len first n) → map answer_of items' ≡ map answer_of items ++ answer refusal action id d (Some port) ∷ [] → map answer_of items' ≡ port_answers refusal action id d (range_with_len first m)
   unfolding port_answers
-  port_answers-more items x first n m port here one before now =
-      rw (one, map-append answer_of items (x ∷ []), map-range_with_len_more (λ k. answer refusal action id d (Some k)) first n port here, before, now) refl
+  port_answers-after items items' first n m port here one before after =
+      after ∙ rw (one, map-range_with_len_more (λ k. answer refusal action id d (Some k)) first n port here, before) refl
 
 -- ---- a change of the named ports
 

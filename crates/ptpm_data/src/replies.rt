@@ -12,7 +12,7 @@ use arrayvec::ArrayVec;
 use ptpm_codec::{Action, ErrorId, PortIdentity};
 
 impl DataSets {
-    ghost use Rattle.std.specs.Prelude.{Some, None, map, [], ◌∷◌, ◌-◌, ◌≤◌, ◌+◌, length};
+    ghost use Rattle.std.specs.Prelude.{Some, None, map, [], ◌∷◌, ◌++◌, ◌-◌, ◌<◌, ◌≤◌, ◌+◌, length};
     ghost use Rattle.std.specs.List.{range_with_len};
     ghost use Rattle.ptpm_data.specs.IdTable.{entry_of, row_of};
     ghost use Rattle.ptpm_data.specs.Changes.{IsTargetPort};
@@ -63,39 +63,36 @@ impl DataSets {
         leave_one(answers);
         if let [answer] = answers.as_mut_slice() {
             answer.port = None;
-            self.set_outcome(row, request, refusal, &mut answer.what);
+            self.set_outcome(row, request, refusal, 0, &mut answer.what);
         }
     }
 
-    /// Makes this the outcome of the clock's answer.
+    /// Makes this the outcome of an answer of the clock, or of a port.
     fn set_outcome(
         &self,
         row: &Row,
         request: &Request<'_>,
         refusal: Option<ErrorId>,
+        port: u16,
         what: &mut What,
     )
         requires row { row_of request.now.id ≡ Some (entry_of row.now) }
-        ensures { outcome_of what.new ≡ outcome refusal request.now.action request.now.id 0 self.now }
+        ensures { outcome_of what.new ≡ outcome refusal request.now.action request.now.id port self.now }
     {
         match refusal {
             Some(error) => *what = What::Refused(error),
             None if request.action == Action::Command => *what = What::Done,
-            None => self.set_value(row.layout, what),
+            None => self.set_value(row.layout, port, what),
         }
     }
 
-    /// Makes this the dataField of an id of the clock.
-    fn set_value(&self, layout: Layout, what: &mut What)
-        ensures { outcome_of what.new ≡ Value (data_field_of layout 0 self.now) }
+    /// Makes this the dataField of an id, made where it stays.
+    fn set_value(&self, layout: Layout, port: u16, what: &mut What)
+        ensures { outcome_of what.new ≡ Value (data_field_of layout port self.now) }
     {
+        *what = What::Value(Value::new());
         if let What::Value(value) = what {
-            *value = Value::new();
-            self.put_data_field(layout, 0, value);
-        } else {
-            let mut value = Value::new();
-            self.put_data_field(layout, 0, &mut value);
-            *what = What::Value(value);
+            self.put_data_field(layout, port, value);
         }
     }
 
@@ -115,7 +112,7 @@ impl DataSets {
     {
         let (first, end) = self.named_ports(request.port);
         for port in first..end {
-            answers.push(self.answer(Some(port), row, request, refusal));
+            self.push_answer(port, row, request, refusal, answers);
         }
     }
 
@@ -134,27 +131,29 @@ impl DataSets {
         }
     }
 
+    /// Appends the answer of a port, made where it stays.
     #[tactic(auto, unfolding(crate::specs::Replies::answer))]
-    fn answer(
+    fn push_answer(
         &self,
-        port: Option<u16>,
+        port: u16,
         row: &Row,
         request: &Request<'_>,
         refusal: Option<ErrorId>,
-    ) -> PortAnswer
-        requires { row_of request.now.id ≡ Some (entry_of row.now) }
-        ensures { answer_of result ≡ answer refusal request.now.action request.now.id self.now port }
+        answers: &mut ArrayVec<PortAnswer, 8>,
+    )
+        requires row { row_of request.now.id ≡ Some (entry_of row.now) }
+        requires room { array_vec_len answers.old < 8 }
+        ensures items { map answer_of answers.new.items
+            ≡ map answer_of answers.old.items ++ answer refusal request.now.action request.now.id self.now (Some port) ∷ [] }
+        ensures len { array_vec_len answers.new ≡ array_vec_len answers.old + 1 }
     {
-        let what = match refusal {
-            Some(error) => What::Refused(error),
-            None if request.action == Action::Command => What::Done,
-            None => {
-                let mut value = Value::new();
-                self.put_data_field(row.layout, port.unwrap_or(0), &mut value);
-                What::Value(value)
-            }
-        };
-        PortAnswer { port, what }
+        answers.push(PortAnswer {
+            port: Some(port),
+            what: What::Done,
+        });
+        if let [.., last] = answers.as_mut_slice() {
+            self.set_outcome(row, request, refusal, port, &mut last.what);
+        }
     }
 }
 

@@ -1,6 +1,6 @@
 use Rattle.std.proofs.Common.{◌≡◌, ◌-◌, ap, arith, refl}
 use Rattle.ptpm_data.specs.Request.{RequestValue}
-use Rattle.ptpm_data.proofs.NamedPorts.{port_answers-none, port_answers-more}
+use Rattle.ptpm_data.proofs.NamedPorts.{port_answers-none, port_answers-after}
 use Rattle.ptpm_data.proofs.data_sets.DataSets.put_answers.Goals as goal
 
 pub loop-port-init : goal.loop-port-init
@@ -10,10 +10,9 @@ loop-port-init c =
 
 pub loop-port-preserved : goal.loop-port-preserved
 loop-port-preserved c = record {
-  count = omega (arith, c.push.ensures.len, c.loop-port.invariant.count);
+  count = omega (arith, c.push_answer.ensures.len, c.loop-port.invariant.count);
   items =
-      rw c.push.ensures.items
-      (port_answers-more _ _ _ _ _ _ _ _ _ c.loop-port.port (omega arith) (omega arith) c.loop-port.invariant.items c.answer.ensures);
+      port_answers-after _ _ _ _ _ _ _ _ _ c.loop-port.port (omega arith) (omega arith) c.loop-port.invariant.items c.push_answer.ensures.items;
 }
 
 pub returns : goal.returns
