@@ -316,6 +316,14 @@ filled_after of_port e answers sizes octets sizes' octets' i item v filled is in
     subst (λ (p : List ℕ × List ℕ). IsFilled of_port e answers p.0 p.1 (i + 1)) (λ j. (sym s j, sym o j))
     (filled_next of_port e answers sizes octets i item v filled is inside made)
 
+-- what is kept of an only answer
+pub filled_one : (of_port : Bool) (e : Envelope) (answers : List PortAnswer) (sizes octets : List ℕ) (item : PortAnswer) (v : Message)
+    → item ≡ get_or answers 0 item → 0 < length answers → IsEncoded of_port e (answer_of item) v
+    → sizes ≡ length (canonical v) ∷ [] → octets ≡ canonical v → IsFilled of_port e answers sizes octets 1
+filled_one of_port e answers sizes octets item v is inside made s o =
+    filled_after of_port e answers [] [] sizes octets 0 item v
+    (record { kept = record { cut = refl; each = tt }; answers_are = refl; count = refl; room = omega arith }) is inside made s o
+
 -- ---- of a reply that fits
 
 pub record SuitsReply (of_port : Bool) (request : Action) (answers : List PortAnswer) : Type 0 where

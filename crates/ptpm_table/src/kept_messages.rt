@@ -13,7 +13,7 @@ use crate::heard::Heard;
 use crate::outbox::Outbox;
 use crate::rendering::draft_of;
 use arrayvec::ArrayVec;
-use ptpm_codec::{Action, ClockIdentity, Draft, PortIdentity, append};
+use ptpm_codec::{Action, ClockIdentity, Draft, PortIdentity, append, replace};
 use ptpm_data::PortAnswer;
 
 /// Room for the sizes of a reply's messages.
@@ -92,6 +92,19 @@ fn append_message(draft: &Draft<'_>, sizes: &mut Sizes, messages: &mut Messages)
     sizes.push((messages.len() - before) as u8);
 }
 
+/// Leaves the canonical spelling of a draft, and its size, and nothing else. The message that was there is written over.
+fn leave_message(draft: &Draft<'_>, sizes: &mut Sizes, messages: &mut Messages)
+    requires valid { IsValid draft.now }
+    requires small { 48 + length (tlv_octets draft.now.body) ≤ 184 }
+    ensures sizes { sizes.new.items ≡ length (canonical draft.now) ∷ [] }
+    ensures messages { messages.new.items ≡ canonical draft.now }
+    ensures fits { Fits draft.now }
+{
+    replace(draft, messages);
+    *sizes = Sizes::new();
+    sizes.push(messages.len() as u8);
+}
+
 /// Leaves the messages of a reply's answers, and nothing else.
 pub(crate) fn encode_each(
     exchange: &Exchange,
@@ -106,8 +119,6 @@ pub(crate) fn encode_each(
     ensures kept { IsKeptReply (envelope_of exchange.now) of_port sizes.new.items messages.new.items }
     ensures answers { map (answer_in of_port) (pieces sizes.new.items messages.new.items) ≡ map answer_of answers.now }
 {
-    *sizes = Sizes::new();
-    messages.clear();
     let action = reply_action(exchange.action);
     let copy = Heard {
         domain: 0,
@@ -116,6 +127,13 @@ pub(crate) fn encode_each(
         starting_hops: 0,
         hops: 0,
     };
+    if let [answer] = answers {
+        let draft = draft_of(&exchange.clock, &copy, action, exchange.id, answer, 0);
+        leave_message(&draft, sizes, messages);
+        return;
+    }
+    *sizes = Sizes::new();
+    messages.clear();
     for answer in answers {
         let draft = draft_of(&exchange.clock, &copy, action, exchange.id, answer, 0);
         append_message(&draft, sizes, messages);

@@ -2,7 +2,6 @@
 #![tactic(auto)]
 
 mod bound_table;
-mod buffers;
 mod error;
 mod heard;
 mod kept;

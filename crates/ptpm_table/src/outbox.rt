@@ -8,9 +8,8 @@ ghost use Rattle.ptpm_codec.specs.Reading.{IsWellFormed};
 ghost use Rattle.ptpm_table.specs.KeptMessages.{renewed};
 ghost use Rattle.ptpm_table.specs.Outbox.{sent};
 
-use crate::buffers::overwrite;
 use crate::kept_messages::{Renewal, renew};
-use ptpm_codec::{Buffer, Draft, MESSAGE_OCTETS, encode, less_hop};
+use ptpm_codec::{Buffer, Draft, MESSAGE_OCTETS, encode, less_hop, overwrite};
 use std::marker::Model;
 
 /// At most fifteen messages, each with the port that it is sent at: seven forwarded copies and eight replies. All fifteen

@@ -5,14 +5,13 @@ ghost use Rattle.ptpm_codec.specs.Message.{IsDataField, IsRequestAction};
 ghost use Rattle.ptpm_table.specs.Entries.{FitsRequest};
 ghost use Rattle.ptpm_table.specs.Rendering.{rendered};
 
-use crate::buffers::overwrite;
 use crate::heard::Heard;
 use crate::kept_messages::{
     Exchange, Messages, Renewal, Sizes, encode_each, has_port, port_for, resend_each,
 };
 use crate::outbox::Outbox;
 use arrayvec::ArrayVec;
-use ptpm_codec::{Action, ClockIdentity, PortIdentity};
+use ptpm_codec::{Action, ClockIdentity, PortIdentity, overwrite};
 use ptpm_data::{Reply, Request, Rights};
 use std::marker::Model;
 
