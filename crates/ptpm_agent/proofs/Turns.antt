@@ -1,6 +1,6 @@
 -- What a turn does with a message, by what the message is to the clock.
 use Rattle.std.proofs.Common.{◌≡◌, ℕ, ◌==◌, ◌&&◌, ◌||◌, not, List, [], Option, Some, None, Result, Ok, Err, IfErr, IfOk, OnErr, map, ◌++◌, Bool, true, false, refl, sym, ◌∙◌, ap, subst, ⊎_elim}
-use Rattle.std.proofs.lemmas.Bool.{cases_Bool, and_parts, and_from, and_left, and_right, or_left, not-true, cond-true, cond-false, true≢false, false≢true}
+use Rattle.std.proofs.lemmas.Bool.{cases_Bool, and_parts, and_from, and_left, and_right, or_left, or_right, not-true, cond-true, cond-false, true≢false, false≢true}
 use Rattle.std.proofs.lemmas.Option.{none-some, same_Some}
 use Rattle.std.specs.FinMap.{get}
 use Rattle.ptpm_codec.specs.declared.error.DecodeError.{DecodeError}
@@ -12,6 +12,8 @@ use Rattle.ptpm_codec.specs.Layout.{message_octets}
 use Rattle.ptpm_codec.specs.Reading.{message_at, message_of, ok_unless, reading, some_unless}
 use Rattle.ptpm_codec.specs.Refusal.{refusal}
 use Rattle.ptpm_data.specs.Members.{DataSetsValue}
+use Rattle.ptpm_table.specs.declared.reply_table.Look.{Look}
+use Rattle.ptpm_table.specs.declared.reply_table.Look.TheVariants as looks
 use Rattle.ptpm_table.specs.Entries.{is_known}
 use Rattle.ptpm_table.specs.Numbering.{look_at}
 use Rattle.ptpm_table.specs.Rendering.{rendered}
@@ -87,6 +89,22 @@ pub judged-request : (c : Clock) (s : State) (v : Message) → is_in_domain c s 
 unfolding judged
 judged-request c s v d o a q =
     cond-false _ _ _ (ap not d) ∙ (cond-false _ _ _ o ∙ (cond-false _ _ _ (ap not a) ∙ cond-false _ _ _ (ap not q)))
+
+repeat_verdict : (l : Look) → is_repeat l ≡ true → verdict_at l ≡ verdicts.AnsweredRepeat
+repeat_verdict looks.Unknown r = absurd (false≢true r)
+repeat_verdict looks.New r = absurd (false≢true r)
+repeat_verdict looks.Repeat r = refl
+repeat_verdict looks.Conflict r = absurd (false≢true r)
+repeat_verdict looks.Old r = absurd (false≢true r)
+
+-- an accepted repeat is answered in every domain
+pub judged-repeat : (c : Clock) (s : State) (v : Message) → v.sdo == 0 ≡ true → is_accepted_repeat c s v ≡ true → judged c s v ≡ verdicts.AnsweredRepeat
+judged-repeat c s v sdo repeat =
+    let own = and_parts (not (is_own c v)) (is_addressed c s.sets v && (is_request v && is_repeat (look c s v))) repeat in
+    let addressed = and_parts (is_addressed c s.sets v) (is_request v && is_repeat (look c s v)) own.1 in
+    let request = and_parts (is_request v) (is_repeat (look c s v)) addressed.1 in
+    let home : is_in_domain c s v ≡ true = and_from _ _ sdo (or_right (v.domain == s.sets.default.domain) (is_accepted_repeat c s v) repeat) in
+    judged-request c s v home (not-true _ own.0) addressed.0 request.0 ∙ repeat_verdict (look c s v) request.1
 
 -- ---- a copy of a numbered request
 

@@ -1,6 +1,6 @@
 //! One clock's management agent, over any reply table.
 
-ghost use Rattle.std.specs.Prelude.{◌≡◌, ◌≢◌, ◌≤◌, ◌++◌, Ok, Some, IfOk, OnOk, OnErr, length};
+ghost use Rattle.std.specs.Prelude.{◌≡◌, ◌≢◌, ◌≤◌, ◌++◌, IsTrue, Ok, Some, IfOk, OnOk, OnErr, length};
 ghost use Rattle.ptpm_codec.specs.Layout.{message_octets};
 ghost use Rattle.ptpm_codec.specs.Message.{IsValid};
 ghost use Rattle.ptpm_codec.specs.Reading.{reading};
@@ -108,10 +108,15 @@ impl<T: ReplyTable + Drop> Agent<T> {
         ensures repeat { result ≡ Verdict.AnsweredRepeat →
             HasEntry (T.entries self.now.table) message.now.source message.now.number }
     {
-        if message.sdo() != 0
-            || message.domain() != self.sets.domain() && !self.is_accepted_repeat(message)
-        {
+        if message.sdo() != 0 {
             return Verdict::OtherDomain;
+        }
+        if message.domain() != self.sets.domain() {
+            return if self.is_accepted_repeat(message) {
+                Verdict::AnsweredRepeat
+            } else {
+                Verdict::OtherDomain
+            };
         }
         if message.source().clock == self.table.clock() {
             return Verdict::OwnMessage;
@@ -133,9 +138,10 @@ impl<T: ReplyTable + Drop> Agent<T> {
 
     /// Whether it is the latest accepted request of its manager once more.
     fn is_accepted_repeat(&self, message: &View<'_>) -> bool
-        ensures { result ≡ is_accepted_repeat
+        ensures exact { result ≡ is_accepted_repeat
             (clock_of T.identity T.managers T.rights_of self.now.table)
             (state_of T.entries self.now.sets self.now.table) message.now }
+        ensures kept { IsTrue result → HasEntry (T.entries self.now.table) message.now.source message.now.number }
     {
         message.source().clock != self.table.clock()
             && self.is_addressed(message)
