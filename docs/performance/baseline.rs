@@ -1,12 +1,15 @@
-//! The same work as plain Rust: a boundary clock's answer to GET and SET of PRIORITY1, with nothing proved.
+//! The same work as plain Rust: a boundary clock's answers to GET and SET, with nothing proved.
 //!
-//!     rustc --edition 2024 -O baseline.rs && ./baseline DATAGRAM STEP COUNT
+//!     rustc --edition 2024 -O baseline.rs && ./baseline DATAGRAM STEP COUNT [PORTS [MANAGERS [FIRST]]]
 //!
-//! handles the datagram, in hexadecimal, COUNT times, with its sequenceId raised by STEP each time, at a clock that has
-//! answered a GET of PRIORITY1 by its manager with sequenceId 7. With STEP `view` it only reads it, with `nothing` not even that.
+//! handles the datagram, in hexadecimal, COUNT times, with its sequenceId raised by STEP each time, at a clock of so many
+//! ports and managers (2 and 1) that has answered a GET by the last of its managers with sequenceId 7: FIRST, or one of
+//! PRIORITY1. With STEP `view` it only reads it, with `nothing` not even that. A datagram that is shorter than its
+//! messageLength gets octets 0.
 //!
 //! It judges a datagram in the same order, keeps one request and reply for each of sixteen managers, writes every message
-//! once, in place, and forwards. Of the management ids it knows PRIORITY1 and PRIORITY2 alone, and no error is answered.
+//! once, in place, and forwards. Of the management ids it knows PRIORITY1, PRIORITY2, PORT_DATA_SET and
+//! LOG_ANNOUNCE_INTERVAL alone, and no error is answered.
 
 type Identity = ([u8; 8], u16);
 
@@ -15,14 +18,28 @@ struct Kept {
     number: u16,
     request: (u8, u16, u16),
     octets: Vec<u8>,
-    reply: Vec<u8>,
+    replies: Vec<Vec<u8>>,
+    of_port: bool,
+}
+
+#[derive(Clone)]
+struct Port {
+    forwarding: bool,
+    state: u8,
+    peer_delay: i64,
+    log_min_delay_req: i8,
+    log_announce: i8,
+    receipt_timeout: u8,
+    log_sync: i8,
+    mechanism: u8,
+    log_min_pdelay: i8,
 }
 
 struct Clock {
     me: [u8; 8],
     domain: u8,
     priority: [u8; 2],
-    forwarding: [bool; 2],
+    ports: Vec<Port>,
     managers: Vec<(Identity, Option<Kept>)>,
 }
 
@@ -100,7 +117,7 @@ impl Clock {
         let manager = self.managers.iter().position(|x| x.0 == source && target.0 == self.me);
         let kept = manager.and_then(|at| self.managers[at].1.as_ref());
         let addressed = (target.0 == self.me || target.0 == [0xff; 8])
-            && (target.1 == 0xffff || target.1 >= 1 && target.1 <= self.forwarding.len() as u16);
+            && (target.1 == 0xffff || target.1 >= 1 && target.1 <= self.ports.len() as u16);
         let is_same = |k: &Kept| k.request == (action, id, port) && k.octets == octets;
         let asks = addressed && source.0 != self.me && action != 2 && action != 4;
         let repeat = || asks && kept.is_some_and(|k| k.number == u16_at(m.0, 30) && is_same(k));
@@ -127,16 +144,57 @@ impl Clock {
         (verdict, manager)
     }
 
+    fn set(&mut self, id: u16, named: std::ops::RangeInclusive<u16>, octets: &[u8]) {
+        match id {
+            0x2005 | 0x2006 => self.priority[(id - 0x2005) as usize] = octets[0],
+            0x2009 => named.for_each(|port| self.ports[port as usize - 1].log_announce = octets[0] as i8),
+            _ => {}
+        }
+    }
+
+    /// Writes the dataField, and tells its size.
+    fn put_data_field(&self, id: u16, number: u16, data: &mut [u8; 26]) -> usize {
+        if id == 0x2005 || id == 0x2006 {
+            data[..2].copy_from_slice(&[self.priority[(id - 0x2005) as usize], 0]);
+            return 2;
+        }
+        let port = &self.ports[number as usize - 1];
+        if id == 0x2009 {
+            data[..2].copy_from_slice(&[port.log_announce as u8, 0]);
+            return 2;
+        }
+        data[..8].copy_from_slice(&self.me);
+        data[8..10].copy_from_slice(&number.to_be_bytes());
+        data[10..12].copy_from_slice(&[port.state, port.log_min_delay_req as u8]);
+        data[12..20].copy_from_slice(&port.peer_delay.to_be_bytes());
+        data[20..26].copy_from_slice(&[
+            port.log_announce as u8, port.receipt_timeout, port.log_sync as u8, port.mechanism, port.log_min_pdelay as u8, 2,
+        ]);
+        26
+    }
+
+    /// Writes the reply, and tells how many messages it has.
+    fn reply(&self, ingress: u16, m: &View, named: std::ops::RangeInclusive<u16>, out: &mut [(u16, Vec<u8>)]) -> usize {
+        let (id, mut data, mut count) = (u16_at(m.0, 52), [0; 26], 0);
+        for number in named {
+            let size = self.put_data_field(id, number, &mut data);
+            let source = if is_of_port(id) { number } else { ingress };
+            out[count].0 = ingress;
+            encode(&self.me, source, m, 2, id, &data[..size], &mut out[count].1);
+            count += 1;
+        }
+        count
+    }
+
     #[inline(never)]
     fn handle(&mut self, ingress: u16, datagram: &[u8], out: &mut [(u16, Vec<u8>)]) -> (Verdict, usize) {
         let Some(m) = view(datagram) else { return (Verdict::Malformed, 0) };
         let (verdict, manager) = self.judge(&m);
         let (action, id, port, octets) = m.request();
-        let at = (id - 0x2005) as usize % 2;
         let mut count = 0;
-        if m.identity(34).0 != self.me && m.0[45] > 0 && self.forwarding[ingress as usize - 1] {
-            for port in 1..=self.forwarding.len() as u16 {
-                if port != ingress && self.forwarding[port as usize - 1] {
+        if m.identity(34).0 != self.me && m.0[45] > 0 && self.ports[ingress as usize - 1].forwarding {
+            for port in 1..=self.ports.len() as u16 {
+                if port != ingress && self.ports[port as usize - 1].forwarding {
                     out[count].0 = port;
                     out[count].1.clear();
                     out[count].1.extend_from_slice(m.0);
@@ -145,38 +203,52 @@ impl Clock {
                 }
             }
         }
-        let (place, me) = (&mut out[count], &self.me);
-        place.0 = ingress;
+        let named = match port {
+            _ if !is_of_port(id) => 1..=1,
+            0xffff => 1..=self.ports.len() as u16,
+            _ => port..=port,
+        };
         match (verdict, manager) {
             (Verdict::AnsweredNew, Some(manager)) => {
                 if action == 1 && octets.len() == 2 {
-                    self.priority[at] = octets[0];
+                    self.set(id, named.clone(), octets);
                 }
-                encode(me, ingress, &m, 2, id, &[self.priority[at], 0], &mut place.1);
+                let replies = self.reply(ingress, &m, named, out);
                 let kept = self.managers[manager].1.get_or_insert_with(Kept::default);
                 (kept.number, kept.request) = (u16_at(m.0, 30), (action, id, port));
                 kept.octets.clear();
                 kept.octets.extend_from_slice(octets);
-                kept.reply.clear();
-                kept.reply.extend_from_slice(&place.1);
-                count += 1;
+                kept.of_port = is_of_port(id);
+                kept.replies.resize_with(replies, Vec::new);
+                for (kept, (_, sent)) in kept.replies.iter_mut().zip(&*out) {
+                    kept.clear();
+                    kept.extend_from_slice(sent);
+                }
+                count += replies;
             }
             (Verdict::AnsweredRepeat, Some(manager)) => {
-                place.1.clear();
-                place.1.extend_from_slice(&self.managers[manager].1.as_ref().unwrap().reply);
-                place.1[4] = m.0[4];
-                place.1[28..30].copy_from_slice(&ingress.to_be_bytes());
-                place.1[44..46].fill(m.0[44].saturating_sub(m.0[45]));
-                count += 1;
+                let kept = self.managers[manager].1.as_ref().unwrap();
+                for (reply, place) in kept.replies.iter().zip(&mut *out) {
+                    place.0 = ingress;
+                    place.1.clear();
+                    place.1.extend_from_slice(reply);
+                    place.1[4] = m.0[4];
+                    if !kept.of_port {
+                        place.1[28..30].copy_from_slice(&ingress.to_be_bytes());
+                    }
+                    place.1[44..46].fill(m.0[44].saturating_sub(m.0[45]));
+                    count += 1;
+                }
             }
-            (Verdict::AnsweredUnnumbered, _) if action == 0 => {
-                encode(me, ingress, &m, 2, id, &[self.priority[at], 0], &mut place.1);
-                count += 1;
-            }
+            (Verdict::AnsweredUnnumbered, _) if action == 0 => count += self.reply(ingress, &m, named, &mut out[count..]),
             _ => {}
         }
         (verdict, count)
     }
+}
+
+fn is_of_port(id: u16) -> bool {
+    id == 0x2004 || id == 0x2009
 }
 
 fn main() {
@@ -185,12 +257,19 @@ fn main() {
         (0..text.len() / 2).map(|i| u8::from_str_radix(&text[2 * i..2 * i + 2], 16).unwrap()).collect()
     };
     let first = "0d12003600000000000000000000000000000000001122334455667700010007047faabbccfffeddee01ffff01010000000100022005";
+    let number = |place: usize, otherwise: usize| words.get(place).map_or(otherwise, |word| word.parse().unwrap());
     let me = [0xaa, 0xbb, 0xcc, 0xff, 0xfe, 0xdd, 0xee, 0x01];
-    let manager = ([0x00, 0x11, 0x22, 0x33, 0x44, 0x55, 0x66, 0x77], 1);
-    let mut clock = Clock { me, domain: 0, priority: [128; 2], forwarding: [true; 2], managers: vec![(manager, None)] };
+    let asks = [0x00, 0x11, 0x22, 0x33, 0x44, 0x55, 0x66, 0x77];
+    let port = Port {
+        forwarding: true, state: 6, peer_delay: 0, log_min_delay_req: 0, log_announce: 1, receipt_timeout: 3, log_sync: 0,
+        mechanism: 1, log_min_pdelay: 0,
+    };
+    let managers = (1..=number(5, 1) as u16).rev().map(|port| ((asks, port), None)).collect();
+    let mut clock = Clock { me, domain: 0, priority: [128; 2], ports: vec![port; number(4, 2)], managers };
     let mut out: Vec<(u16, Vec<u8>)> = (0..15).map(|_| (0, Vec::with_capacity(1472))).collect();
-    let mut last = clock.handle(1, &octets(first), &mut out);
+    let mut last = clock.handle(1, &octets(words.get(6).map_or(first, |word| word)), &mut out);
     let (mut datagram, step) = (octets(&words[1]), words[2].parse().unwrap_or(0));
+    datagram.resize(datagram.len().max(u16_at(&datagram, 2) as usize), 0);
     for _ in 0..words[3].parse::<u32>().unwrap() {
         let number = u16_at(&datagram, 30).wrapping_add(step);
         datagram[30..32].copy_from_slice(&number.to_be_bytes());

@@ -1,4 +1,4 @@
-//! The clock that is measured: two ports, both MASTER, and one configured manager.
+//! The clocks that are measured: their ports are all MASTER, and every manager may change everything.
 
 use ptpm_agent::Agent;
 use ptpm_codec::{ClockIdentity, PortIdentity};
@@ -12,14 +12,49 @@ const MANAGER: PortIdentity = PortIdentity {
     port: 1,
 };
 
+/// How large a clock is.
+#[derive(Clone, Copy, Debug, PartialEq, Eq)]
+pub enum Size {
+    /// Two ports and one manager.
+    TwoPorts,
+    /// Eight ports and one manager.
+    EightPorts,
+    /// Two ports and sixteen managers, of which the one that asks is the last.
+    SixteenManagers,
+}
+
 /// The clock, which has heard nothing yet.
-pub fn fresh_clock() -> Option<Agent<BoundTable>> {
-    let ports = [PortStart::new(), PortStart::new()];
-    let sets = DataSets::new(&ClockStart::new(CLOCK, 0), &ports).ok()?;
-    let table = BoundTable::new(CLOCK, &[(MANAGER, Rights(7))]).ok()?;
+pub fn fresh_clock(size: Size) -> Option<Agent<BoundTable>> {
+    let sets = match size {
+        Size::EightPorts => data_sets(&[PortStart::new(); 8]),
+        Size::TwoPorts | Size::SixteenManagers => data_sets(&[PortStart::new(); 2]),
+    }?;
+    let table = match size {
+        Size::SixteenManagers => table(&sixteen_managers()),
+        Size::TwoPorts | Size::EightPorts => table(&[(MANAGER, Rights(7))]),
+    }?;
     if sets.identity() == table.clock() {
         Some(Agent::new(sets, table))
     } else {
         None
     }
+}
+
+fn data_sets(ports: &[PortStart]) -> Option<DataSets> {
+    DataSets::new(&ClockStart::new(CLOCK, 0), ports).ok()
+}
+
+fn table(managers: &[(PortIdentity, Rights)]) -> Option<BoundTable> {
+    BoundTable::new(CLOCK, managers).ok()
+}
+
+/// The manager behind fifteen others, at ports 2 to 16 of its node.
+fn sixteen_managers() -> [(PortIdentity, Rights); 16] {
+    let mut managers = [(MANAGER, Rights(7)); 16];
+    let mut port = MANAGER.port;
+    for manager in &mut managers[..15] {
+        port = port.saturating_add(1);
+        manager.0.port = port;
+    }
+    managers
 }

@@ -1,7 +1,7 @@
 //! A datagram handled as often as told.
 
 use crate::clock::fresh_clock;
-use crate::list::{GET_PRIORITY1, List};
+use crate::list::List;
 use ptpm_agent::{Agent, Verdict};
 use ptpm_codec::view;
 use ptpm_table::{BoundTable, Outbox};
@@ -19,9 +19,9 @@ pub struct Outcome {
 /// Handles the list's datagram as often as told, at a clock that has answered one request before. `None` where the clock
 /// lacks the port 1.
 pub fn handle_each(list: List, count: u32) -> Option<Outcome> {
-    let mut clock = fresh_clock()?;
+    let mut clock = fresh_clock(list.clock())?;
     let mut out = Outbox::new();
-    let mut verdict = hear(&mut clock, &GET_PRIORITY1, &mut out)?;
+    let mut verdict = hear(&mut clock, list.first(), &mut out)?;
     let mut datagrams = Datagrams::of(list);
     for _ in 0..count {
         verdict = hear(&mut clock, datagrams.advance(), &mut out)?;
@@ -68,7 +68,7 @@ fn hear(clock: &mut Agent<BoundTable>, datagram: &[u8], out: &mut Outbox) -> Opt
 /// A datagram whose sequenceId rises, in two places that take turns, so that no compiler reads it once for all.
 #[derive(Drop)]
 struct Datagrams {
-    places: [[u8; 56]; 2],
+    places: [[u8; 1472]; 2],
     size: usize,
     number: u16,
     step: u16,
@@ -77,13 +77,13 @@ struct Datagrams {
 
 impl Datagrams {
     fn of(list: List) -> Datagrams {
-        let mut octets = [0; 56];
+        let mut octets = [0; 1472];
         let datagram = list.datagram();
-        let size = datagram.len().min(56);
-        octets[..size].copy_from_slice(&datagram[..size]);
+        let given = datagram.len().min(1472);
+        octets[..given].copy_from_slice(&datagram[..given]);
         Datagrams {
             places: [octets, octets],
-            size,
+            size: list.size(),
             number: u16::from_be_bytes([octets[30], octets[31]]),
             step: list.step(),
             turn: 0,
@@ -98,6 +98,6 @@ impl Datagrams {
         let octets = &mut self.places[(self.turn % 2) as usize];
         octets[30] = high;
         octets[31] = low;
-        &octets[..self.size.min(56)]
+        &octets[..self.size.min(1472)]
     }
 }
