@@ -15,7 +15,7 @@ use Rattle.ptpm_world.specs.declared.frames.Stored.{Stored}
 use Rattle.ptpm_world.specs.Described.{described_end}
 use Rattle.ptpm_world.specs.Frames.{ends_of, frame_in, link_ends, origin_of}
 use Rattle.ptpm_world.specs.Ends.{AreLinks, IsOfSession, IsStoredFrame, IsThere}
-use Rattle.ptpm_world.specs.Stored.{IsWithin, at_end, is_same, others}
+use Rattle.ptpm_world.specs.Stored.{IsShort, IsWithin, at_end, is_same, others}
 
 -- ---- lists
 
@@ -203,6 +203,16 @@ posting-within {links} {l} {s} {store} {octets} {next} {xs} {ys} p =
     subst (λ (o : List ℕ). All (IsWithin o) ys) (sym p.grown)
     (subst (λ (fs : List Stored). All (IsWithin (store ++ octets)) fs) (sym p.longer)
     (within_posted store octets xs s (others s.end l.ends.items) p.within p.behind))
+
+-- frames of a message of at most 1,472 octets, at these ends
+short_ends : (s : Stored) (ends : List End) → IsShort s → All IsShort (map (at_end s) ends)
+short_ends s ends short = All-map IsShort (at_end s) ends (λ k d below. short)
+
+pub posting-short : {links : List NetworkLink} {l : NetworkLink} {s : Stored} {store octets next : List ℕ} {xs ys : List Stored}
+    → Posting links l s store octets next xs ys → All IsShort xs → IsShort s → All IsShort ys
+posting-short {links} {l} {s} {store} {octets} {next} {xs} {ys} p before short =
+    subst (λ (fs : List Stored). All IsShort fs) (sym p.longer)
+    (All-append IsShort xs (map (at_end s) (others s.end l.ends.items)) before (short_ends s (others s.end l.ends.items) short))
 
 pub posting-count : {links : List NetworkLink} {l : NetworkLink} {s : Stored} {store octets next : List ℕ} {xs ys : List Stored}
     → Posting links l s store octets next xs ys → length ys ≡ length xs + length (others s.end l.ends.items)

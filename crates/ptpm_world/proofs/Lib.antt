@@ -11,6 +11,10 @@ pub mod There
 pub mod Kept
 pub mod PostingTurn
 pub mod Scheduling
+pub mod Following
+pub mod EveryWorld
+pub mod Lateness
+pub mod Naming
 pub mod NetworkFacts
 pub mod StartingLemmas
 pub mod WorldLemmas

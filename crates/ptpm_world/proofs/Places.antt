@@ -1,7 +1,7 @@
 -- Lists of which one element is written over, place by place.
-use Rattle.std.proofs.Common.{◌≡◌, ℕ, ◌<◌, ◌≤◌, ◌==◌, zero, suc, List, [], ◌∷◌, ◌++◌, ◌+◌, get_or, take, Option, Some, None, Bool, true, false, refl, sym, ◌∙◌, ap, subst, ⊎_elim, arith, length}
+use Rattle.std.proofs.Common.{◌≡◌, ℕ, ◌<◌, ◌≤◌, ◌==◌, zero, suc, List, [], ◌∷◌, ◌++◌, ◌+◌, get_or, drop, take, Option, Some, None, Bool, true, false, refl, sym, ◌∙◌, ap, subst, ⊎_elim, arith, length}
 use Rattle.std.proofs.lemmas.Bool.{cases_Bool, eqb-true, eqb-false, eq-eqb, ne_eqb, cond-true, cond-false}
-use Rattle.std.proofs.lemmas.List.{map-append, take_more}
+use Rattle.std.proofs.lemmas.List.{append_assoc, map-append, take-append-drop, take_more}
 use Rattle.std.proofs.lemmas.Option.{same_Some, slice_get-get_or, get_or_from_slice_get, slice_get_within}
 use Rattle.std.specs.Prelude.{map, slice_get, slice_set}
 use Rattle.ptpm_network.specs.Machine.{with_place}
@@ -56,3 +56,13 @@ each-set P xs i x y e each new j z at = ⊎_elim
 pub map_more : {X A : Type 0} (view : X → A) (entries : List X) (i : ℕ) (e : X) → i < length entries → e ≡ get_or entries i e → map view (take (i + 1) entries) ≡ map view (take i entries) ++ view e ∷ []
 map_more view entries i e h is =
     ap (map view) (take_more entries i e h) ∙ map-append view (take i entries) (get_or entries i e ∷ []) ∙ sym (ap (λ x. map view (take i entries) ++ view x ∷ []) is)
+
+-- what is made of all elements: of those before a place, of the one at it, and of the rest
+pub map_split : {X A : Type 0} (view : X → A) (entries : List X) (i : ℕ) (e : X) → i < length entries → e ≡ get_or entries i e
+    → map view entries ≡ map view (take i entries) ++ view e ∷ map view (drop (i + 1) entries)
+map_split view entries i e h is =
+    let rest = map view (drop (i + 1) entries) in
+    ap (map view) (sym (take-append-drop (i + 1) entries))
+    ∙ map-append view (take (i + 1) entries) (drop (i + 1) entries)
+    ∙ ap (λ front. front ++ rest) (map_more view entries i e h is)
+    ∙ append_assoc (map view (take i entries)) (view e ∷ []) rest

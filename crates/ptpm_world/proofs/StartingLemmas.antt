@@ -82,7 +82,7 @@ same_maps f g (x ∷ xs) (y ∷ ys) n h =
     ap (λ a. a ∷ map f xs) (h zero x y refl refl)
     ∙ ap (λ more. g y ∷ more) (same_maps f g xs ys (omega (arith, n)) (λ i a b p q. h (suc i) a b p q))
 
-some_at : {X : Type 0} (xs : List X) (i : ℕ) → i < length xs → (x : X) × (slice_get xs i ≡ Some x)
+pub some_at : {X : Type 0} (xs : List X) (i : ℕ) → i < length xs → (x : X) × (slice_get xs i ≡ Some x)
 some_at [] i h = absurd (omega (arith, h))
 some_at (x ∷ xs) zero h = (x, refl)
 some_at (x ∷ xs) (suc i) h = some_at xs i (omega (arith, h))

@@ -97,7 +97,7 @@ own_origin sessions (origins.Request s k) is = is
 own_origin sessions (origins.Reply s k) is = is
 own_origin sessions origins.Other is = is
 
-made_at : {X Y : Type 0} (make : X → Y) (xs : List X) (i : ℕ) (y : Y) → slice_get (map make xs) i ≡ Some y
+pub made_at : {X Y : Type 0} (make : X → Y) (xs : List X) (i : ℕ) (y : Y) → slice_get (map make xs) i ≡ Some y
     → (x : X) × (slice_get xs i ≡ Some x) × (make x ≡ y)
 made_at make [] i y e = absurd (cc)
 made_at make (x ∷ xs) zero y e = (x, refl, same_Some (make x) y e)

@@ -1,5 +1,5 @@
--- What a step owes at an event.
-use Rattle.std.specs.Prelude.{◌≡◌, ◌≢◌, IfErr, IfOk, List, [], ◌∷◌, None, OnOk, Result, Some, option_map}
+-- What a step owes at an event, and which events of a list a run carries out.
+use Rattle.std.specs.Prelude.{◌≡◌, ◌≢◌, ℕ, Err, IfErr, IfOk, List, [], ◌∷◌, None, Ok, OnOk, Result, Some, option_map, take}
 use Rattle.ptpm_network.specs.Events.{Event}
 use Rattle.ptpm_network.specs.Happening.{happened, refused}
 use Rattle.ptpm_network.specs.Network.{Network}
@@ -23,3 +23,8 @@ pub record IsStep (N : Network) (old new : World) (e : Event) (result : Result T
 abbrev pub AllHappen : Network → Running → List Event → Type 0
 AllHappen N r [] = Unit {0}
 AllHappen N r (e ∷ es) = (refused N r e ≡ None) × AllHappen N (happened N r e) es
+
+-- the elements of a list of events that a run carries out: all of them, or those before the one where it stops
+abbrev pub carried_out : {A B E : Type 0} → Result A (ℕ × B) → List E → List E
+carried_out (Ok done) events = events
+carried_out (Err stop) events = take stop.0 events

@@ -10,6 +10,10 @@ use Rattle.ptpm_world.specs.Described.{described_end}
 abbrev pub IsWithin : List ℕ → Stored → Type 0
 IsWithin store s = s.start + s.size ≤ length store
 
+-- it is a message of at most 1,472 octets
+abbrev pub IsShort : Stored → Type 0
+IsShort s = s.size ≤ 1472
+
 abbrev pub is_same : End → End → Bool
 is_same a b = same_end (described_end a) (described_end b)
 

@@ -3,7 +3,7 @@
 ghost use Rattle.std.specs.Prelude.{◌≡◌, ◌≤◌, ◌+◌, ◌++◌, ℕ, List, [], All, OnOk, find, length, map, nat_lt, option_map, vec_capacity};
 ghost use Rattle.std.specs.List.{list_any};
 ghost use Rattle.std.specs.Option.{option_copied};
-ghost use Rattle.ptpm_world.specs.Stored.{IsWithin, at_end, is_same, others};
+ghost use Rattle.ptpm_world.specs.Stored.{IsShort, IsWithin, at_end, is_same, others};
 
 use ptpm_codec::{MESSAGE_OCTETS, OutOfMemory};
 use ptpm_script::{End, NetworkLink};
@@ -54,6 +54,7 @@ pub(crate) struct Frames {
     stored: Vec<Stored>,
     octets: Vec<u8>,
     ghost within: { All (IsWithin octets.items) stored.items },
+    ghost short: { All IsShort stored.items },
     ghost few: { length stored.items ≤ 400000 },
 }
 

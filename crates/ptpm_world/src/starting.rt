@@ -1,8 +1,9 @@
 //! A network as it starts: every clock with its first data sets and nothing kept, every session with nothing begun.
 
-ghost use Rattle.std.specs.Prelude.{◌≡◌, ◌<◌, ℕ, IfOk, None, length, map};
+ghost use Rattle.std.specs.Prelude.{◌≡◌, ◌<◌, ℕ, IfOk, List, [], None, length, map};
 ghost use Rattle.ptpm_codec.specs.declared.identity.PortIdentity.{PortIdentity};
 ghost use Rattle.ptpm_agent.specs.Laws.{fresh};
+ghost use Rattle.ptpm_network.specs.Headline.{StandsAfter};
 ghost use Rattle.ptpm_network.specs.Stands.{Stands};
 ghost use Rattle.ptpm_network.specs.State.{at_first};
 ghost use Rattle.ptpm_script.specs.NetworkValue.{CanStart, clock_value, first_sets, link_value};
@@ -30,6 +31,7 @@ impl World {
         ensures network { IfOk result (λ w. IsOf (described (network_value network.now)) w) }
         ensures stands { IfOk result (λ w. (first : PortIdentity → ℕ) →
             Stands (described (network_value network.now)) first (running w) (at_first (described (network_value network.now)))) }
+        ensures after { IfOk result (λ w. StandsAfter (described (network_value network.now)) [] (running w)) }
         ensures names { IfOk result (λ w. names_in w ≡ names_of (network_value network.now)) }
     {
         Ok(World {

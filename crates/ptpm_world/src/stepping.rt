@@ -1,6 +1,6 @@
 //! One event after another.
 
-ghost use Rattle.std.specs.Prelude.{◌≡◌, ◌≢◌, ◌<◌, ◌≤◌, ◌++◌, ℕ, All, IfErr, IfOk, IsSomeAnd, List, None, OnErr, OnOk, Some, false, flat_map, length, map, nat_lt, option_map, slice_get, take};
+ghost use Rattle.std.specs.Prelude.{◌≡◌, ◌≢◌, ◌<◌, ◌≤◌, ◌++◌, ◌∷◌, [], ℕ, All, IfErr, IfOk, IsSomeAnd, List, None, OnErr, OnOk, Some, false, flat_map, length, map, nat_lt, option_map, slice_get, take};
 ghost use Rattle.std.specs.List.{list_any};
 ghost use Rattle.ptpm_codec.specs.Identity.{same_clock, same_identity};
 ghost use Rattle.ptpm_codec.specs.Layout.{source_port_identity};
@@ -9,21 +9,25 @@ ghost use Rattle.ptpm_agent.specs.Agent.{IsTurned};
 ghost use Rattle.ptpm_agent.specs.Turn.{turn};
 ghost use Rattle.ptpm_table.specs.Outbox.{sent};
 ghost use Rattle.ptpm_network.specs.Events as machine;
-ghost use Rattle.ptpm_network.specs.Events.{is_forged};
+ghost use Rattle.ptpm_network.specs.Events.{is_forged, refusal};
 ghost use Rattle.ptpm_network.specs.Happening.{happened, held_at, ran, refused};
+ghost use Rattle.ptpm_network.specs.Headline.{Headline, StandsAfter};
+ghost use Rattle.ptpm_network.specs.Machine.{AreInTime, is_late_delivery, run, taken};
 ghost use Rattle.ptpm_network.specs.Network.{Network};
 ghost use Rattle.ptpm_network.specs.Network as net;
 ghost use Rattle.ptpm_network.specs.Replying.{origin_by, posted_by};
+ghost use Rattle.ptpm_network.specs.State.{at_first};
 ghost use Rattle.ptpm_script.specs.declared.event.Event.{Event};
 ghost use Rattle.ptpm_world.specs.declared.took.StepError.{StepError};
 ghost use Rattle.ptpm_world.specs.Frames.{HasRoom, held_in, link_ends, origin_of};
 ghost use Rattle.ptpm_world.specs.Placed.{names_in, place_in, placed};
 ghost use Rattle.ptpm_world.specs.Running.{AreLinks, IsOf, IsOfSession, IsStoredFrame, agent_clock, agent_state, running};
-ghost use Rattle.ptpm_world.specs.Stepping.{AllHappen, IsStep};
+ghost use Rattle.ptpm_world.specs.Stepping.{AllHappen, IsStep, carried_out};
 ghost use Rattle.ptpm_manager.specs.Receiving.{left_by, received_of};
 ghost use Rattle.ptpm_world.specs.Took.{error_of, heard, reports_in, took};
 
 use crate::frames::{FRAMES_LIMIT, Frames, Origin};
+use crate::network_laws::placed_event;
 use crate::took::{StepError, Took};
 use crate::world::{RunningClock, RunningSession, World};
 use ptpm_agent::Verdict;
@@ -35,6 +39,9 @@ use ptpm_table::{Outbox, ReplyTable};
 impl World {
     /// Lets an event happen. The first reason that holds is why it is refused, and then the network stays as it was; only
     /// want of memory may come in place of another answer.
+    ///
+    /// Where no frame was delivered late before, and none is now, it stands where the event leads the network machine, and
+    /// refuses what that refuses, for the same reason.
     pub fn step(&mut self, event: &Event) -> Result<Took, StepError>
         ensures happened { (N : Network) → IsOf N self.old
             → OnOk result (running self.new ≡ happened N (running self.old) (placed (names_in self.old) event.now)) }
@@ -45,24 +52,30 @@ impl World {
         ensures refused { (N : Network) → IsOf N self.old
             → IfErr result (λ e. e ≢ StepError.OutOfMemory
             → option_map error_of (refused N (running self.old) (placed (names_in self.old) event.now)) ≡ Some e) }
+        ensures stands { (N : Network) (past : List machine.Event) → IsOf N self.old → StandsAfter N past (running self.old)
+            → is_late_delivery (run N (at_first N) past) (placed (names_in self.old) event.now) ≡ false
+            → OnOk result (StandsAfter N (past ++ placed (names_in self.old) event.now ∷ []) (running self.new)) }
+        ensures taken { (N : Network) (past : List machine.Event) → IsOf N self.old → StandsAfter N past (running self.old)
+            → OnOk result (refusal N (run N (at_first N) past) (placed (names_in self.old) event.now) ≡ None) }
+        ensures reason { (N : Network) (past : List machine.Event) → IsOf N self.old → StandsAfter N past (running self.old)
+            → IfErr result (λ e. e ≢ StepError.OutOfMemory
+            → option_map error_of (refusal N (run N (at_first N) past) (placed (names_in self.old) event.now)) ≡ Some e) }
         ensures unchanged { OnErr result (running self.new ≡ running self.old) }
         ensures names { names_in self.new ≡ names_in self.old }
         ensures network { (N : Network) → IsOf N self.old → IsOf N self.new }
     {
-        match event {
-            Event::Begin(name, ask) => self.begin(name.as_str(), ask),
-            Event::Send(name) => self.send(name.as_str()),
-            Event::Resume(name, attempts) => self.resume(name.as_str(), *attempts),
-            Event::Retune(name, domain) => self.retune(name.as_str(), *domain),
-            Event::Deliver(number) => self.deliver(*number),
-            Event::Stranger(name, port, octets) => {
-                self.intrude(name.as_str(), *port, octets.as_slice())
-            }
-        }
+        // it is in the range that the laws of networks ask for
+        placed_event(event);
+        self.dispatch(event)
     }
 
     /// Lets events happen in their order. Stops at the first that is refused, and names its place, counted from 0; those
     /// before it stand.
+    ///
+    /// However these events lose, repeat, reorder or duplicate messages, if none that happened delivered a frame late, and
+    /// none before did, each clock's data sets are those after its managers' delivered requests, each applied once in order of
+    /// first acceptance; repeats of the latest get the one reply kept, older ones none; each manager reports those replies;
+    /// strangers and refused SETs change no data set (`Headline`).
     pub fn run(&mut self, events: &[Event]) -> Result<(), (usize, StepError)>
         ensures ran { (N : Network) → IsOf N self.old
             → OnOk result (running self.new ≡ ran N (running self.old) (map (placed (names_in self.old)) events.now)) }
@@ -76,6 +89,21 @@ impl World {
         ensures refused { (N : Network) → IsOf N self.old
             → IfErr result (λ e. e.1 ≢ StepError.OutOfMemory → (event : Event) → slice_get events.now e.0 ≡ Some event
             → option_map error_of (refused N (running self.new) (placed (names_in self.old) event)) ≡ Some e.1) }
+        ensures stands { (N : Network) (past : List machine.Event) → IsOf N self.old → StandsAfter N past (running self.old)
+            → let es = map (placed (names_in self.old)) (carried_out result events.now) in
+            AreInTime N (run N (at_first N) past) es → StandsAfter N (past ++ es) (running self.new) }
+        ensures headline { (N : Network) (past : List machine.Event) → IsOf N self.old → StandsAfter N past (running self.old)
+            → let es = map (placed (names_in self.old)) (carried_out result events.now) in
+            AreInTime N (run N (at_first N) past) es → Headline N (run N (at_first N) (past ++ es)) (running self.new) }
+        ensures taken { (N : Network) (past : List machine.Event) → IsOf N self.old → StandsAfter N past (running self.old)
+            → let es = map (placed (names_in self.old)) (carried_out result events.now) in
+            AreInTime N (run N (at_first N) past) es → IfErr result (λ e. e.1 ≢ StepError.OutOfMemory)
+            → taken N (run N (at_first N) past) (map (placed (names_in self.old)) events.now) ≡ es }
+        ensures reason { (N : Network) (past : List machine.Event) → IsOf N self.old → StandsAfter N past (running self.old)
+            → let es = map (placed (names_in self.old)) (carried_out result events.now) in
+            AreInTime N (run N (at_first N) past) es
+            → IfErr result (λ e. e.1 ≢ StepError.OutOfMemory → (event : Event) → slice_get events.now e.0 ≡ Some event
+            → option_map error_of (refusal N (run N (at_first N) (past ++ es)) (placed (names_in self.old) event)) ≡ Some e.1) }
         ensures names { names_in self.new ≡ names_in self.old }
         ensures network { (N : Network) → IsOf N self.old → IsOf N self.new }
     {
@@ -85,6 +113,25 @@ impl World {
             }
         }
         Ok(())
+    }
+
+    /// Hands an event to the session or clock that it names, or to the end of its frame.
+    fn dispatch(&mut self, event: &Event) -> Result<Took, StepError>
+        ensures step { (N : Network) → IsOf N self.old
+            → IsStep N self.old self.new (placed (names_in self.old) event.now) result }
+        ensures unchanged { OnErr result (running self.new ≡ running self.old) }
+        ensures names { names_in self.new ≡ names_in self.old }
+    {
+        match event {
+            Event::Begin(name, ask) => self.begin(name.as_str(), ask),
+            Event::Send(name) => self.send(name.as_str()),
+            Event::Resume(name, attempts) => self.resume(name.as_str(), *attempts),
+            Event::Retune(name, domain) => self.retune(name.as_str(), *domain),
+            Event::Deliver(number) => self.deliver(*number),
+            Event::Stranger(name, port, octets) => {
+                self.intrude(name.as_str(), *port, octets.as_slice())
+            }
+        }
     }
 
     fn begin(&mut self, name: &str, ask: &Ask) -> Result<Took, StepError>

@@ -1,6 +1,6 @@
 //! A network that runs: its clocks and sessions, the links between them, and every frame that was sent.
 
-ghost use Rattle.std.specs.Prelude.{◌≡◌, ◌≤◌, ◌<◌, All, IfNone, IfSome, bytes_eq, length, option_map, position};
+ghost use Rattle.std.specs.Prelude.{◌≡◌, ◌↔◌, ◌≤◌, ◌<◌, All, Contains, IfNone, IfSome, IsSome, IsTrue, List, bytes_eq, length, option_map, position};
 ghost use Rattle.ptpm_world.specs.Ends.{AreLinks, AreLinks-prop, AreStored-prop, IsStoredFrame, port_counts};
 
 use crate::frames::{Frame, Frames, Origin};
@@ -46,15 +46,20 @@ pub struct World {
 
 impl World {
     ghost use Rattle.ptpm_manager.specs.Session.{count_limit};
+    ghost use Rattle.ptpm_network.specs.Events as machine;
     ghost use Rattle.ptpm_network.specs.Happening.{held_at};
-    ghost use Rattle.ptpm_network.specs.State.{is_late_at};
+    ghost use Rattle.ptpm_network.specs.Headline.{StandsAfter};
+    ghost use Rattle.ptpm_network.specs.Machine.{is_late_delivery, run};
+    ghost use Rattle.ptpm_network.specs.Network.{Network};
+    ghost use Rattle.ptpm_network.specs.State.{at_first, is_late_at};
     ghost use Rattle.ptpm_world.specs.Frames.{frame_value};
     ghost use Rattle.ptpm_world.specs.Placed.{names_in, place_in};
     ghost use Rattle.ptpm_world.specs.Running.{is_late_held, reports_named, running, sets_named};
 
     /// A clock's data sets as they stand, if there is a clock of this name.
     pub fn sets(&self, clock: &str) -> Option<&DataSets>
-        ensures { option_map (λ d. d.now) result ≡ sets_named self.now clock.now }
+        ensures sets { option_map (λ d. d.now) result ≡ sets_named self.now clock.now }
+        ensures known { IsSome result ↔ Contains (names_in self.now).clocks clock.now }
     {
         match self.clock_place(clock) {
             Some(place) => Some(self.clocks[place].agent.sets()),
@@ -64,7 +69,8 @@ impl World {
 
     /// The reports of a session's answers, in order, if there is a session of this name.
     pub fn reports(&self, session: &str) -> Option<&[Report]>
-        ensures { option_map (λ r. r.now) result ≡ reports_named self.now session.now }
+        ensures reports { option_map (λ r. r.now) result ≡ reports_named self.now session.now }
+        ensures known { IsSome result ↔ Contains (names_in self.now).sessions session.now }
     {
         match self.session_place(session) {
             Some(place) => Some(self.sessions[place].reports.as_slice()),
@@ -74,14 +80,16 @@ impl World {
 
     /// How many frames are held: 400,000 at most.
     pub fn frames(&self) -> u32
-        ensures { result ≡ length (running self.now).frames }
+        ensures count { result ≡ length (running self.now).frames }
+        ensures few { result ≤ 400000 }
     {
         self.frames.count() as u32
     }
 
     /// The frame of a number, counted from 1.
     pub fn frame(&self, number: u32) -> Option<Frame<'_>>
-        ensures { option_map frame_value result ≡ held_at (running self.now).frames number }
+        ensures frame { option_map frame_value result ≡ held_at (running self.now).frames number }
+        ensures known { IsSome result ↔ ((1 ≤ number) × (number ≤ length (running self.now).frames)) }
     {
         self.frames.get(number)
     }
@@ -89,6 +97,16 @@ impl World {
     /// Whether delivering a frame is late: it is a copy of a request, or of a reply to one, and its session has begun over
     /// 32,768 requests since. No frame that is not there is late.
     pub fn is_late(&self, number: u32) -> bool
+        ensures late { result ≡ is_late_held (running self.now) (held_at (running self.now).frames number) }
+        ensures late_after { (N : Network) (past : List machine.Event) → StandsAfter N past (running self.now)
+            → result ≡ is_late_delivery (run N (at_first N) past) (machine.Deliver number) }
+        ensures there { IsTrue result → ((1 ≤ number) × (number ≤ length (running self.now).frames)) }
+    {
+        self.is_overtaken(number)
+    }
+
+    /// Whether it belongs to a request that its session has left behind.
+    fn is_overtaken(&self, number: u32) -> bool
         ensures { result ≡ is_late_held (running self.now) (held_at (running self.now).frames number) }
     {
         let Some(frame) = self.frames.get(number) else {

@@ -9,7 +9,7 @@ use Rattle.ptpm_world.specs.declared.frames.Stored.{Stored}
 use Rattle.ptpm_world.specs.Described.{described_end}
 use Rattle.ptpm_world.specs.Frames.{held_in, link_ends, origin_of}
 use Rattle.ptpm_world.specs.Stored.{at_end, others}
-use Rattle.ptpm_world.proofs.FrameLemmas.{Posting, few_others, found_peers, link_of, peers_found, posting-count, posting-frames, posting-there, posting-within}
+use Rattle.ptpm_world.proofs.FrameLemmas.{Posting, few_others, found_peers, link_of, peers_found, posting-count, posting-frames, posting-short, posting-there, posting-within}
 use Rattle.ptpm_world.proofs.frames.Frames.post.Goals as goal
 
 pub returns-in_default-clause-frames : goal.returns-in_default-clause-frames
@@ -46,7 +46,7 @@ invariant_of-self c =
       longer = c.push_others.ensures.items ∙ ap (λ es. stored ++ map (at_end sent) (others c.args.from es)) c.as_slice.ensures.value;
     } in
     let few = few_others c.requires.few.0 c.requires.few.1 c.args.from c.args.links.now link c.requires.few.2 found in
-    record { within = posting-within p; few = omega (arith, few, posting-count p, c.requires.room.limit) }
+    record { within = posting-within p; short = posting-short p c.args.self.now.short c.requires.small; few = omega (arith, few, posting-count p, c.requires.room.limit) }
 
 pub returns-clause-frames : goal.returns-clause-frames
 returns-clause-frames c =

@@ -2,6 +2,7 @@ use Rattle.std.proofs.Common.{ap, ◌∙◌, map, arith}
 use Rattle.ptpm_script.specs.NetworkValue.{link_value}
 use Rattle.ptpm_script.specs.NetworkView.{network_value}
 use Rattle.ptpm_script.proofs.NetworkFacts.{of_text-accepted}
+use Rattle.ptpm_world.proofs.NetworkFacts.{of_text-network}
 use Rattle.ptpm_world.proofs.StartingLemmas.{are_links, are_names, is_of, none_stored, stands}
 use Rattle.ptpm_world.proofs.world.World.new.Goals as goal
 
@@ -27,6 +28,13 @@ returns-clause-network c =
 pub returns-clause-stands : goal.returns-clause-stands
 returns-clause-stands c = λ first.
     stands (network_value c.args.network.now) c.in_ok-start_clocks.field-0.items c.in_ok-start_sessions.field-0.items c.new.result first c.in_ok-start_clocks.ensures c.in_ok-start_sessions.ensures c.new.ensures
+
+pub returns-clause-after : goal.returns-clause-after
+returns-clause-after c = record {
+  promised = record { network = of_text-network _ c.args.network.now.of_text; in_range = tt; in_time = tt };
+  stands = λ first firsts.
+      stands (network_value c.args.network.now) c.in_ok-start_clocks.field-0.items c.in_ok-start_sessions.field-0.items c.new.result first c.in_ok-start_clocks.ensures c.in_ok-start_sessions.ensures c.new.ensures;
+}
 
 pub returns-clause-names : goal.returns-clause-names
 returns-clause-names c =

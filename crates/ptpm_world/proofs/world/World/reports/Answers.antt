@@ -2,16 +2,24 @@ use Rattle.std.proofs.Common.{ap, sym, ◌∙◌, refl, Some, length}
 use Rattle.std.specs.Prelude.{option_map}
 use Rattle.std.proofs.lemmas.Option.{slice_get_read}
 use Rattle.ptpm_world.specs.declared.world.RunningSession.{RunningSession}
+use Rattle.ptpm_world.proofs.Naming.{known-found, unknown-name}
 use Rattle.ptpm_world.proofs.WorldLemmas.{at_name, of_no_name}
 use Rattle.ptpm_world.proofs.world.World.reports.Goals as goal
 
-pub returns-in-Some : goal.returns-in-Some
-returns-in-Some c =
+pub returns-in-Some-clause-reports : goal.returns-in-Some-clause-reports
+returns-in-Some-clause-reports c =
     let xs = c.args.self.now.sessions.items in
     let at = slice_get_read xs (length xs) c.in-Some.place c.index.result.now refl c.in-Some.ensures.found.1 c.index.ensures in
     ap Some c.as_slice.ensures.value
     ∙ sym (ap (option_map (λ (x : RunningSession). x.reports.items)) (at_name (λ (x : RunningSession). x.name) xs c.args.session.now c.in-Some.place c.index.result.now c.in-Some.ensures.found.0 at))
 
-pub returns-in-None : goal.returns-in-None
-returns-in-None c =
+pub returns-in-None-clause-reports : goal.returns-in-None-clause-reports
+returns-in-None-clause-reports c =
     sym (ap (option_map (λ (x : RunningSession). x.reports.items)) (of_no_name (λ (x : RunningSession). x.name) c.args.self.now.sessions.items c.args.session.now c.in-None.ensures.none))
+
+pub returns-in-Some-clause-known : goal.returns-in-Some-clause-known
+returns-in-Some-clause-known c =
+    known-found (λ (x : RunningSession). x.name) c.args.self.now.sessions.items c.args.session.now c.in-Some.place c.in-Some.ensures.found.0 c.in-Some.ensures.found.1
+
+pub returns-in-None-clause-known : goal.returns-in-None-clause-known
+returns-in-None-clause-known c = unknown-name (λ (x : RunningSession). x.name) c.args.self.now.sessions.items c.args.session.now c.in-None.ensures.none

@@ -1,16 +1,23 @@
-use Rattle.std.proofs.Common.{◌≡◌, ◌<◌, ◌≤◌, ◌∙◌, ap, arith, length, map, option_map, refl, subst, sym, take}
+use Rattle.std.proofs.Common.{◌≡◌, ◌++◌, ◌<◌, ◌≤◌, ◌∙◌, ap, arith, length, map, option_map, refl, subst, sym, take}
 use Rattle.std.proofs.lemmas.List.{take_all}
 use Rattle.std.proofs.lemmas.Option.{same_Some, slice_get_read}
 use Rattle.std.specs.Prelude.{List}
+use Rattle.ptpm_network.specs.Events as machine
+use Rattle.ptpm_network.specs.Events.{refusal}
 use Rattle.ptpm_network.specs.Happening.{ran, refused}
+use Rattle.ptpm_network.specs.Headline.{Headline, StandsAfter}
+use Rattle.ptpm_network.specs.Machine.{AreInTime, run, taken}
 use Rattle.ptpm_network.specs.Network.{Network}
 use Rattle.ptpm_network.specs.Stands.{Running}
+use Rattle.ptpm_network.specs.State.{at_first}
+use Rattle.ptpm_network.proofs.Promise.{stands-headline}
 use Rattle.ptpm_script.specs.declared.event.Event.{Event}
 use Rattle.ptpm_world.specs.Placed.{Names, names_in, placed}
 use Rattle.ptpm_world.specs.Running.{IsOf, running}
 use Rattle.ptpm_world.specs.Stepping.{AllHappen}
 use Rattle.ptpm_world.specs.Took.{error_of}
-use Rattle.ptpm_world.proofs.Places.{map_more}
+use Rattle.ptpm_world.proofs.Following.{HasGoneOn, gone_on-more, gone_on-none, taken-stops}
+use Rattle.ptpm_world.proofs.Places.{map_more, map_split}
 use Rattle.ptpm_world.proofs.Scheduling.{schedule-more}
 use Rattle.ptpm_world.proofs.world.World.run.Goals as goal
 
@@ -28,8 +35,52 @@ returns-in-Err-clause-refused c = λ N is other event at.
     ∙ ap (λ (n : Names). option_map error_of (refused N (running now) (placed n item))) (sym c.loop-place.invariant.names)
     ∙ c.in-Err.ensures.refused N (c.loop-place.invariant.network N is) other
 
+pub returns-in-Err-clause-stands : goal.returns-in-Err-clause-stands
+returns-in-Err-clause-stands c = λ N past is at time.
+    let events = map (placed (names_in c.args.self.now)) (take c.loop-place.place c.args.events.now) in
+    subst (λ (r : Running). StandsAfter N (past ++ events) r) (sym c.in-Err.ensures.unchanged) (c.loop-place.invariant.stands N past is at time).stands
+
+pub returns-in-Err-clause-headline : goal.returns-in-Err-clause-headline
+returns-in-Err-clause-headline c = λ N past is at time.
+    let events = map (placed (names_in c.args.self.now)) (take c.loop-place.place c.args.events.now) in
+    stands-headline N (past ++ events) _
+    (subst (λ (r : Running). StandsAfter N (past ++ events) r) (sym c.in-Err.ensures.unchanged) (c.loop-place.invariant.stands N past is at time).stands)
+
+pub returns-in-Err-clause-taken : goal.returns-in-Err-clause-taken
+returns-in-Err-clause-taken c = λ N past is at time other.
+    let first = names_in c.args.self.now in
+    let item = c.index-events-place.result in
+    let events = map (placed first) (take c.loop-place.place c.args.events.now) in
+    let within : c.loop-place.place < length c.args.events.now = omega arith in
+    let gone = c.loop-place.invariant.stands N past is at time in
+    ap (taken N (run N (at_first N) past)) (map_split (placed first) c.args.events.now c.loop-place.place item within c.index-events-place.is)
+    ∙ taken-stops error_of _ N past events _ (placed first item) (running c.loop-place.self) gone
+    (ap (λ (n : Names). option_map error_of (refusal N (run N (at_first N) (past ++ events)) (placed n item))) (sym c.loop-place.invariant.names)
+    ∙ c.in-Err.ensures.reason N (past ++ events) (c.loop-place.invariant.network N is) gone.stands other)
+
+pub returns-in-Err-clause-reason : goal.returns-in-Err-clause-reason
+returns-in-Err-clause-reason c = λ N past is at time other event here.
+    let first = names_in c.args.self.now in
+    let item = c.index-events-place.result in
+    let events = map (placed first) (take c.loop-place.place c.args.events.now) in
+    let within : c.loop-place.place < length c.args.events.now = omega arith in
+    let gone = c.loop-place.invariant.stands N past is at time in
+    let same : item ≡ event = same_Some item event (sym (slice_get_read c.args.events.now _ c.loop-place.place item refl within c.index-events-place.is) ∙ here) in
+    ap (λ (e : Event). option_map error_of (refusal N (run N (at_first N) (past ++ events)) (placed first e))) (sym same)
+    ∙ ap (λ (n : Names). option_map error_of (refusal N (run N (at_first N) (past ++ events)) (placed n item))) (sym c.loop-place.invariant.names)
+    ∙ c.in-Err.ensures.reason N (past ++ events) (c.loop-place.invariant.network N is) gone.stands other
+
 pub returns-in-Err-clause-network : goal.returns-in-Err-clause-network
 returns-in-Err-clause-network c = λ N is. c.in-Err.ensures.network N (c.loop-place.invariant.network N is)
+
+pub loop-place-init : goal.loop-place-init
+loop-place-init c = record {
+  names = refl;
+  network = λ N is. is;
+  ran = λ N is. refl;
+  stands = λ N past is at time. gone_on-none N past (running c.args.self.now) at;
+  happened = λ N is. tt;
+}
 
 pub loop-place-preserved : goal.loop-place-preserved
 loop-place-preserved c =
@@ -45,6 +96,13 @@ loop-place-preserved c =
     record {
       names = c.in_default.ensures.names ∙ c.loop-place.invariant.names;
       network = λ N is. c.in_default.ensures.network N (c.loop-place.invariant.network N is);
+      stands = λ N past is at.
+          subst (λ (es : List machine.Event). AreInTime N (run N (at_first N) past) es → HasGoneOn N past es (running c.step.new.self)) (sym more)
+          (gone_on-more N past events (running now) (running c.step.new.self) (placed first item) (placed (names_in now) item)
+          (ap (λ (n : Names). placed n item) c.loop-place.invariant.names)
+          (c.loop-place.invariant.stands N past is at)
+          (λ gone so_far. c.in_default.ensures.taken N gone (c.loop-place.invariant.network N is) so_far)
+          (λ gone so_far prompt. c.in_default.ensures.stands N gone (c.loop-place.invariant.network N is) so_far prompt));
       ran = λ N is. (both N is).0 ∙ ap (ran N (running c.args.self.now)) (sym more);
       happened = λ N is. subst (AllHappen N (running c.args.self.now)) (sym more) (both N is).1;
     }
@@ -58,3 +116,25 @@ pub returns-clause-happened : goal.returns-clause-happened
 returns-clause-happened c = λ N is.
     let past : length c.args.events.now ≤ c.loop-place.place = omega arith in
     subst (λ (es : List Event). AllHappen N (running c.args.self.now) (map (placed (names_in c.args.self.now)) es)) (take_all c.loop-place.place c.args.events.now past) (c.loop-place.invariant.happened N is)
+
+pub returns-clause-stands : goal.returns-clause-stands
+returns-clause-stands c = λ N past is at time.
+    let whole = take_all c.loop-place.place c.args.events.now (omega arith) in
+    (subst (λ (es : List Event). AreInTime N (run N (at_first N) past) (map (placed (names_in c.args.self.now)) es) → HasGoneOn N past (map (placed (names_in c.args.self.now)) es) (running c.loop-place.self)) whole
+    (c.loop-place.invariant.stands N past is at) time).stands
+
+pub returns-clause-headline : goal.returns-clause-headline
+returns-clause-headline c = λ N past is at time.
+    let whole = take_all c.loop-place.place c.args.events.now (omega arith) in
+    stands-headline N _ _
+    (subst (λ (es : List Event). AreInTime N (run N (at_first N) past) (map (placed (names_in c.args.self.now)) es) → HasGoneOn N past (map (placed (names_in c.args.self.now)) es) (running c.loop-place.self)) whole
+    (c.loop-place.invariant.stands N past is at) time).stands
+
+pub returns-clause-taken : goal.returns-clause-taken
+returns-clause-taken c = λ N past is at time other.
+    let whole = take_all c.loop-place.place c.args.events.now (omega arith) in
+    (subst (λ (es : List Event). AreInTime N (run N (at_first N) past) (map (placed (names_in c.args.self.now)) es) → HasGoneOn N past (map (placed (names_in c.args.self.now)) es) (running c.loop-place.self)) whole
+    (c.loop-place.invariant.stands N past is at) time).whole
+
+pub returns-clause-reason : goal.returns-clause-reason
+returns-clause-reason c = λ N past is at time. tt

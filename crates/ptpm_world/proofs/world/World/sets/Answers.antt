@@ -2,16 +2,24 @@ use Rattle.std.proofs.Common.{ap, sym, ◌∙◌, refl, Some, length}
 use Rattle.std.proofs.lemmas.Option.{slice_get_read}
 use Rattle.ptpm_world.specs.declared.world.RunningClock.{RunningClock}
 use Rattle.ptpm_world.specs.Running.{sets_of}
+use Rattle.ptpm_world.proofs.Naming.{known-found, unknown-name}
 use Rattle.ptpm_world.proofs.WorldLemmas.{at_name, of_no_name}
 use Rattle.ptpm_world.proofs.world.World.sets.Goals as goal
 
-pub returns-in-Some : goal.returns-in-Some
-returns-in-Some c =
+pub returns-in-Some-clause-sets : goal.returns-in-Some-clause-sets
+returns-in-Some-clause-sets c =
     let xs = c.args.self.now.clocks.items in
     let at = slice_get_read xs (length xs) c.in-Some.place c.index.result.now refl c.in-Some.ensures.found.1 c.index.ensures in
     ap Some c.sets.ensures
     ∙ sym (ap (sets_of) (at_name (λ (x : RunningClock). x.name) xs c.args.clock.now c.in-Some.place c.index.result.now c.in-Some.ensures.found.0 at))
 
-pub returns-in-None : goal.returns-in-None
-returns-in-None c =
+pub returns-in-None-clause-sets : goal.returns-in-None-clause-sets
+returns-in-None-clause-sets c =
     sym (ap (sets_of) (of_no_name (λ (x : RunningClock). x.name) c.args.self.now.clocks.items c.args.clock.now c.in-None.ensures.none))
+
+pub returns-in-Some-clause-known : goal.returns-in-Some-clause-known
+returns-in-Some-clause-known c =
+    known-found (λ (x : RunningClock). x.name) c.args.self.now.clocks.items c.args.clock.now c.in-Some.place c.in-Some.ensures.found.0 c.in-Some.ensures.found.1
+
+pub returns-in-None-clause-known : goal.returns-in-None-clause-known
+returns-in-None-clause-known c = unknown-name (λ (x : RunningClock). x.name) c.args.self.now.clocks.items c.args.clock.now c.in-None.ensures.none

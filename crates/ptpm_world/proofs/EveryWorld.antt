@@ -1,0 +1,78 @@
+-- What holds of every world, by what it keeps of itself.
+use Rattle.std.proofs.Common.{arith, ◌≡◌, ℕ, ◌<◌, ◌≤◌, All, List, Option, Some, None, false, refl, sym, ◌∙◌, ap, drop, length, take}
+use Rattle.std.proofs.lemmas.List.{length-map, length-take}
+use Rattle.std.proofs.lemmas.List.Elements.{All-map}
+use Rattle.std.specs.FinMap.{get}
+use Rattle.std.specs.Prelude.{is_some, slice_index_or}
+use Rattle.ptpm_codec.specs.declared.identity.PortIdentity.{PortIdentity}
+use Rattle.ptpm_table.specs.declared.bound_table.BoundTable.{BoundTable}
+use Rattle.ptpm_table.specs.declared.slot.Slot.{Slot}
+use Rattle.ptpm_table.specs.Entries.{is_known}
+use Rattle.ptpm_table.specs.Managers.{identities}
+use Rattle.ptpm_table.specs.Slots.{configured, entry_in, slot_of}
+use Rattle.ptpm_table.proofs.Slots.{get_used, known_slot}
+use Rattle.ptpm_agent.specs.Laws.{AreOfManagers}
+use Rattle.ptpm_agent.specs.Turn.{Clock, State}
+use Rattle.ptpm_network.specs.Network.{HasEnd, Network, ports}
+use Rattle.ptpm_network.specs.Stands.{Held}
+use Rattle.ptpm_network.proofs.Lists.{get_within}
+use Rattle.ptpm_script.specs.declared.network.End.{End}
+use Rattle.ptpm_script.specs.declared.network.End.TheVariants as ends
+use Rattle.ptpm_world.specs.declared.frames.Stored.{Stored}
+use Rattle.ptpm_world.specs.declared.world.RunningClock.{RunningClock}
+use Rattle.ptpm_world.specs.declared.world.World.{World}
+use Rattle.ptpm_world.specs.Described.{described_end}
+use Rattle.ptpm_world.specs.Ends.{IsThere, port_counts}
+use Rattle.ptpm_world.specs.Frames.{frame_in}
+use Rattle.ptpm_world.specs.Running.{IsOf, running, state_of, table_entries}
+use Rattle.ptpm_world.proofs.StartingLemmas.{some_at}
+use Rattle.ptpm_world.proofs.WorldLemmas.{made_at}
+
+-- ---- clocks
+
+nothing_kept : (o : Option Slot) → is_some o ≡ false → entry_in o ≡ None
+nothing_kept None e = refl
+nothing_kept (Some s) e = absurd (cc)
+
+-- a table has entries of the managers of its slots alone
+table-of_managers : (t : BoundTable) (m : PortIdentity) → is_known m (identities (configured t.slots.items)) ≡ false → get (table_entries t) m ≡ None
+table-of_managers t m e =
+    get_used m t.slots.items t.distinct ∙ nothing_kept (slot_of m t.slots.items) (sym (known_slot m t.slots.items) ∙ e)
+
+pub of_managers : (N : Network) (w : World) → IsOf N w → (c : ℕ) → c < N.clocks → AreOfManagers (N.clock c) ((running w).clock c).entries
+of_managers N w is c below m e =
+    let x = some_at w.clocks.items c (omega (arith, below, is.clock_count)) in
+    ap (λ o. get (state_of o).entries m) x.1
+    ∙ table-of_managers x.0.agent.table m (ap (λ (k : Clock). is_known m k.managers) (is.clocks c x.0 x.1).clock ∙ e)
+
+pub has_ports : (N : Network) (w : World) → IsOf N w → (c : ℕ) → c < N.clocks → length ((running w).clock c).sets.ports ≡ ports N c
+has_ports N w is c below =
+    let x = some_at w.clocks.items c (omega (arith, below, is.clock_count)) in
+    ap (λ o. length (state_of o).sets.ports) x.1 ∙ (is.clocks c x.0 x.1).ports
+
+-- ---- frames
+
+has_end : (N : Network) (w : World) → IsOf N w → (e : End) → IsThere (port_counts w.clocks.items) (length w.sessions.items) e → HasEnd N (described_end e)
+has_end N w is (ends.Clock place port) there =
+    let x = made_at (λ (k : RunningClock). length k.agent.sets.ports) w.clocks.items place there.0 there.1.0 in (
+      omega (arith, get_within w.clocks.items place x.0 x.1, is.clock_count),
+      there.1.1.0,
+      omega (arith, there.1.1.1, x.2, (is.clocks place x.0 x.1).ports),
+    )
+has_end N w is (ends.Session place) there = omega (arith, there, is.session_count)
+
+pub has_ends : (N : Network) (w : World) → IsOf N w → All (λ (f : Held). HasEnd N f.end) (running w).frames
+has_ends N w is = All-map (λ (f : Held). HasEnd N f.end) (frame_in w.frames.octets.items) w.frames.stored.items
+    (λ k d below. has_end N w is (slice_index_or w.frames.stored.items k d).end (w.frames_there k d below).end)
+
+short_part : (start size : ℕ) (store : List ℕ) → size ≤ 1472 → length (take size (drop start store)) ≤ 1472
+short_part start size store short = omega (arith, length-take size (drop start store), short)
+
+pub short_frames : (w : World) → All (λ (f : Held). length f.octets ≤ 1472) (running w).frames
+short_frames w = All-map (λ (f : Held). length f.octets ≤ 1472) (frame_in w.frames.octets.items) w.frames.stored.items
+    (λ k d below.
+    let s = slice_index_or w.frames.stored.items k d in
+    short_part s.start s.size w.frames.octets.items (w.frames.short k d below))
+
+pub few_frames : (w : World) → length (running w).frames ≤ 400000
+few_frames w = omega (arith, length-map w.frames.stored.items (frame_in w.frames.octets.items), w.frames.few)

@@ -1,0 +1,95 @@
+-- Where a name has a place, and a number a frame.
+use Rattle.std.proofs.Common.{suc, zero, arith, ◌≡◌, ◌≢◌, ℕ, ◌+◌, ◌-◌, ◌<◌, ◌≤◌, ◌==◌, Bool, true, false, not, if◌then◌else◌, List, [], ◌∷◌, Option, Some, None, refl, sym, ◌∙◌, ap, subst, length, map, ⊎_elim}
+use Rattle.std.specs.Prelude.{Contains, IsSome, bytes_eq, is_some, option_map, slice_get, slice_index_or, ◌↔◌}
+use Rattle.std.proofs.lemmas.Bool.{cases_Bool, cond-true, cond-false, eqb-false, eqb-true, false≢true}
+use Rattle.std.proofs.lemmas.List.{length-map}
+use Rattle.std.proofs.lemmas.Slice.Eq.{bytes_eq-Decides}
+use Rattle.ptpm_network.specs.Happening.{held_at}
+use Rattle.ptpm_network.specs.Stands.{Held, Running}
+use Rattle.ptpm_world.specs.Placed.{place_in}
+use Rattle.ptpm_world.specs.Running.{is_late_held}
+
+-- ---- names
+
+place-here : (n : List ℕ) (ns : List (List ℕ)) (name : List ℕ) → bytes_eq n name ≡ true → place_in (n ∷ ns) name ≡ 0
+place-here n ns name e = ap (λ b. if not b then 1 + place_in ns name else 0) e
+
+place-later : (n : List ℕ) (ns : List (List ℕ)) (name : List ℕ) → bytes_eq n name ≡ false → place_in (n ∷ ns) name ≡ 1 + place_in ns name
+place-later n ns name e = ap (λ b. if not b then 1 + place_in ns name else 0) e
+
+pub contains-place : (names : List (List ℕ)) (name : List ℕ) → place_in names name < length names → Contains names name
+contains-place [] name h = absurd (omega (arith, h))
+contains-place (n ∷ ns) name h = ⊎_elim
+    (λ (y : bytes_eq n name ≡ true). (0, omega arith, (bytes_eq-Decides n name).0 y))
+    (λ (o : bytes_eq n name ≡ false).
+    let rest = contains-place ns name (omega (arith, h, place-later n ns name o)) in
+    (suc rest.0, omega (arith, rest.1), rest.2))
+    (cases_Bool (bytes_eq n name))
+
+pub place-contained : (names : List (List ℕ)) (name : List ℕ) (k : ℕ) → k < length names → slice_index_or names k name ≡ name
+    → place_in names name < length names
+place-contained [] name k h e = absurd (omega (arith, h))
+place-contained (n ∷ ns) name zero h e = omega (arith, place-here n ns name ((bytes_eq-Decides n name).1 e))
+place-contained (n ∷ ns) name (suc k) h e = ⊎_elim
+    (λ (y : bytes_eq n name ≡ true). omega (arith, place-here n ns name y))
+    (λ (o : bytes_eq n name ≡ false). omega (arith, place-later n ns name o, place-contained ns name k (omega (arith, h)) e))
+    (cases_Bool (bytes_eq n name))
+
+pub known-found : {X : Type 0} (name_of : X → List ℕ) (xs : List X) (name : List ℕ) (i : ℕ) → i ≡ place_in (map name_of xs) name → i < length xs
+    → (true ≡ true) ↔ Contains (map name_of xs) name
+known-found name_of xs name i e within = (
+  λ some. contains-place (map name_of xs) name (omega (arith, e, within, length-map xs name_of)),
+  λ found. refl,
+)
+
+pub unknown-name : {X : Type 0} (name_of : X → List ℕ) (xs : List X) (name : List ℕ) → place_in (map name_of xs) name ≡ length xs
+    → (false ≡ true) ↔ Contains (map name_of xs) name
+unknown-name name_of xs name e = (
+  λ none. absurd (false≢true none),
+  λ found. absurd (omega (arith, e, place-contained (map name_of xs) name found.0 found.1 found.2, length-map xs name_of)),
+)
+
+-- ---- numbers of frames
+
+some-within : {X : Type 0} (xs : List X) (i : ℕ) → is_some (slice_get xs i) ≡ true → i < length xs
+some-within [] i e = absurd (false≢true e)
+some-within (x ∷ xs) zero e = omega arith
+some-within (x ∷ xs) (suc i) e = omega (arith, some-within xs i e)
+
+within-some : {X : Type 0} (xs : List X) (i : ℕ) → i < length xs → is_some (slice_get xs i) ≡ true
+within-some [] i h = absurd (omega (arith, h))
+within-some (x ∷ xs) zero h = refl
+within-some (x ∷ xs) (suc i) h = within-some xs i (omega (arith, h))
+
+some-held : (frames : List Held) (n : ℕ) → is_some (held_at frames n) ≡ true → (1 ≤ n) × (n ≤ length frames)
+some-held frames n e = ⊎_elim
+    (λ (y : n == 0 ≡ true). absurd (false≢true (ap is_some (sym (cond-true _ _ _ y)) ∙ e)))
+    (λ (o : n == 0 ≡ false).
+    let positive : n ≢ 0 = eqb-false n 0 o in
+    let within = some-within frames (n - 1) (ap is_some (sym (cond-false _ _ _ o)) ∙ e) in
+    (omega (arith, positive), omega (arith, positive, within)))
+    (cases_Bool (n == 0))
+
+held-some : (frames : List Held) (n : ℕ) → 1 ≤ n → n ≤ length frames → is_some (held_at frames n) ≡ true
+held-some frames n positive within = ⊎_elim
+    (λ (y : n == 0 ≡ true). absurd (omega (arith, positive, eqb-true n 0 y)))
+    (λ (o : n == 0 ≡ false). ap is_some (cond-false _ _ _ o) ∙ within-some frames (n - 1) (omega (arith, positive, within)))
+    (cases_Bool (n == 0))
+
+some-mapped : {T : Type 0} (view : T → Held) (o : Option T) → is_some (option_map view o) ≡ is_some o
+some-mapped view None = refl
+some-mapped view (Some t) = refl
+
+pub known-frame : {T : Type 0} (view : T → Held) (o : Option T) (frames : List Held) (n : ℕ) → option_map view o ≡ held_at frames n
+    → IsSome o ↔ ((1 ≤ n) × (n ≤ length frames))
+known-frame view o frames n e =
+    let same = sym (some-mapped view o) ∙ ap is_some e in
+    (λ some. some-held frames n (sym same ∙ some), λ there. same ∙ held-some frames n there.0 there.1)
+
+-- what is late is there
+late-some : (r : Running) (o : Option Held) → is_late_held r o ≡ true → is_some o ≡ true
+late-some r None e = absurd (false≢true e)
+late-some r (Some h) e = refl
+
+pub late-there : (r : Running) (n : ℕ) → is_late_held r (held_at r.frames n) ≡ true → (1 ≤ n) × (n ≤ length r.frames)
+late-there r n e = some-held r.frames n (late-some r (held_at r.frames n) e)

@@ -1,0 +1,7 @@
+use Rattle.ptpm_world.specs.Frames.{frame_value}
+use Rattle.ptpm_world.specs.Running.{running}
+use Rattle.ptpm_world.proofs.Naming.{known-frame}
+use Rattle.ptpm_world.proofs.world.World.frame.Goals as goal
+
+pub returns-clause-known : goal.returns-clause-known
+returns-clause-known c = known-frame frame_value c.get.result (running c.args.self.now).frames c.args.number c.get.ensures
