@@ -1,5 +1,5 @@
 -- What becomes of a world of which one session or one clock has changed, and frames were added.
-use Rattle.std.proofs.Common.{◌≡◌, ℕ, ◌<◌, List, Option, Some, None, refl, sym, ◌∙◌, ap, subst, arith, length, length-set}
+use Rattle.std.proofs.Common.{◌≡◌, ℕ, List, Some, sym, ◌∙◌, ap, length, length-set}
 use Rattle.std.specs.Prelude.{map, slice_get, slice_set}
 use Rattle.ptpm_agent.specs.Turn.{State}
 use Rattle.ptpm_manager.specs.declared.report.Report.{Report}

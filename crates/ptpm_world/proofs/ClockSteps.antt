@@ -1,5 +1,5 @@
 -- Events at a clock: what the world becomes, and what is answered.
-use Rattle.std.proofs.Common.{◌≡◌, ℕ, ◌<◌, ◌≤◌, ◌&&◌, not, List, [], ◌∷◌, ◌++◌, Option, Some, None, Result, Ok, Err, Bool, true, false, refl, sym, ◌∙◌, ap, subst, length, nat_lt, nat_le}
+use Rattle.std.proofs.Common.{◌≡◌, ℕ, ◌<◌, ◌≤◌, ◌&&◌, not, List, ◌++◌, Some, None, Ok, Err, true, false, refl, sym, ◌∙◌, ap, subst, length, nat_lt, nat_le}
 use Rattle.std.proofs.lemmas.Bool.{and_from, and_left, and_right, cond-true, cond-false, le-ltb, lt-ltb}
 use Rattle.std.proofs.lemmas.Option.{slice_get_within}
 use Rattle.std.proofs.Math.Nat.{le_refl}
@@ -7,8 +7,8 @@ use Rattle.std.specs.Prelude.{flat_map, map, slice_get}
 use Rattle.ptpm_data.specs.Members.{DataSetsValue, has_port}
 use Rattle.ptpm_agent.specs.Agent.{IsTurned}
 use Rattle.ptpm_agent.specs.declared.verdict.Verdict.{Verdict}
-use Rattle.ptpm_agent.specs.Turn.{Clock, State, Turned, outbox_of, turn}
-use Rattle.ptpm_network.specs.Events.{Event, Deliver, Stranger, Refusal, NoSuchName, NoSuchFrame, Forged, FramesAtMaximum, frames_limit, is_forged, no_port}
+use Rattle.ptpm_agent.specs.Turn.{Clock, State, Turned, turn}
+use Rattle.ptpm_network.specs.Events.{Deliver, Stranger, NoSuchName, NoSuchFrame, Forged, FramesAtMaximum, frames_limit, is_forged, no_port}
 use Rattle.ptpm_network.specs.Happening.{happened, held_at, reaches, reaches_end, seen}
 use Rattle.ptpm_network.specs.Machine.{strange_frame}
 use Rattle.ptpm_network.specs.Network.{AtPort, End, Network}
@@ -18,7 +18,6 @@ use Rattle.ptpm_network.specs.State.{Frame, Origin, Neither}
 use Rattle.ptpm_network.proofs.Posting.{held-turn_frames}
 use Rattle.ptpm_network.proofs.TurnKeeps.{turn-ports}
 use Rattle.ptpm_world.specs.declared.took.StepError.TheVariants as errors
-use Rattle.ptpm_world.specs.declared.took.Took.{Took}
 use Rattle.ptpm_world.specs.declared.took.Took.TheVariants.{AtClock}
 use Rattle.ptpm_world.specs.declared.world.World.{World}
 use Rattle.ptpm_world.specs.declared.world.RunningClock.{RunningClock}

@@ -12,13 +12,12 @@ use Rattle.ptpm_table.specs.Managers.{identities}
 use Rattle.ptpm_table.specs.Slots.{configured, entry_in, slot_of}
 use Rattle.ptpm_table.proofs.Slots.{get_used, known_slot}
 use Rattle.ptpm_agent.specs.Laws.{AreOfManagers}
-use Rattle.ptpm_agent.specs.Turn.{Clock, State}
+use Rattle.ptpm_agent.specs.Turn.{Clock}
 use Rattle.ptpm_network.specs.Network.{HasEnd, Network, ports}
 use Rattle.ptpm_network.specs.Stands.{Held}
 use Rattle.ptpm_network.proofs.Lists.{get_within}
 use Rattle.ptpm_script.specs.declared.network.End.{End}
 use Rattle.ptpm_script.specs.declared.network.End.TheVariants as ends
-use Rattle.ptpm_world.specs.declared.frames.Stored.{Stored}
 use Rattle.ptpm_world.specs.declared.world.RunningClock.{RunningClock}
 use Rattle.ptpm_world.specs.declared.world.World.{World}
 use Rattle.ptpm_world.specs.Described.{described_end}

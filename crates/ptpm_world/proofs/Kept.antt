@@ -1,5 +1,5 @@
 -- What holds of every world holds where one session or one clock is another, and frames were added.
-use Rattle.std.proofs.Common.{◌≡◌, ℕ, ◌≤◌, List, Some, sym, ap, subst, length, length-set, All}
+use Rattle.std.proofs.Common.{◌≡◌, ℕ, ◌≤◌, List, Some, sym, subst, length, length-set, All}
 use Rattle.std.specs.Prelude.{slice_get, slice_set}
 use Rattle.ptpm_script.specs.declared.network.NetworkLink.{NetworkLink}
 use Rattle.ptpm_world.specs.declared.frames.Stored.{Stored}

@@ -1,5 +1,5 @@
 -- A delivery is late by what a running network sees where it is late in the machine, if the one stands where the other is.
-use Rattle.std.proofs.Common.{◌≡◌, ℕ, List, Option, Some, None, Bool, false, refl, sym, ◌∙◌, ap, option_map}
+use Rattle.std.proofs.Common.{◌≡◌, ℕ, List, Option, Some, None, refl, ◌∙◌, ap, option_map}
 use Rattle.ptpm_manager.specs.Session.{SessionValue}
 use Rattle.ptpm_codec.specs.declared.identity.PortIdentity.{PortIdentity}
 use Rattle.ptpm_network.specs.Events.{Event, frame_at}

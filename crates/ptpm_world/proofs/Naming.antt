@@ -1,5 +1,5 @@
 -- Where a name has a place, and a number a frame.
-use Rattle.std.proofs.Common.{suc, zero, arith, ◌≡◌, ◌≢◌, ℕ, ◌+◌, ◌-◌, ◌<◌, ◌≤◌, ◌==◌, Bool, true, false, not, if◌then◌else◌, List, [], ◌∷◌, Option, Some, None, refl, sym, ◌∙◌, ap, subst, length, map, ⊎_elim}
+use Rattle.std.proofs.Common.{suc, zero, arith, ◌≡◌, ◌≢◌, ℕ, ◌+◌, ◌-◌, ◌<◌, ◌≤◌, ◌==◌, true, false, not, if◌then◌else◌, List, [], ◌∷◌, Option, Some, None, refl, sym, ◌∙◌, ap, length, map, ⊎_elim}
 use Rattle.std.specs.Prelude.{Contains, IsSome, bytes_eq, is_some, option_map, slice_get, slice_index_or, ◌↔◌}
 use Rattle.std.proofs.lemmas.Bool.{cases_Bool, cond-true, cond-false, eqb-false, eqb-true, false≢true}
 use Rattle.std.proofs.lemmas.List.{length-map}

@@ -1,5 +1,5 @@
 -- A clock's outbox is sent message by message.
-use Rattle.std.proofs.Common.{◌≡◌, ℕ, ◌+◌, ◌<◌, ◌==◌, List, [], ◌∷◌, ◌++◌, sym, ◌∙◌, ap, length, get_or, take, if◌then◌else◌}
+use Rattle.std.proofs.Common.{◌≡◌, ℕ, ◌+◌, ◌<◌, ◌==◌, List, ◌++◌, sym, ◌∙◌, ap, length, get_or, take, if◌then◌else◌}
 use Rattle.std.proofs.lemmas.List.{flat_map_more}
 use Rattle.std.specs.Prelude.{flat_map, map}
 use Rattle.ptpm_network.specs.Happening.{posted}

@@ -1,5 +1,5 @@
 -- Why events are refused, reason by reason.
-use Rattle.std.proofs.Common.{◌≡◌, ℕ, ◌<◌, ◌≤◌, ◌&&◌, not, List, Option, Some, None, Bool, true, false, refl, sym, ◌∙◌, ap, subst, nat_lt, option_map, length}
+use Rattle.std.proofs.Common.{◌≡◌, ℕ, ◌<◌, ◌≤◌, not, List, Option, Some, None, true, false, ◌∙◌, ap, nat_lt, option_map, length}
 use Rattle.std.proofs.lemmas.Bool.{cond-true, cond-false, lt-ltb, le-ltb}
 use Rattle.std.specs.Option.{option_or}
 use Rattle.ptpm_manager.specs.declared.ask.Ask.{Ask}
@@ -7,8 +7,8 @@ use Rattle.ptpm_manager.specs.declared.error.BeginError.{BeginError}
 use Rattle.ptpm_manager.specs.declared.error.SendError.{SendError}
 use Rattle.ptpm_manager.specs.declared.error.SendError.TheVariants as sends
 use Rattle.ptpm_manager.specs.Session.{begin_refusal, is_waiting, send_refusal}
-use Rattle.ptpm_network.specs.Events.{Event, Begin, Send, Resume, Retune, Deliver, Stranger, Refusal, NoSuchName, NoSuchFrame, Forged, FramesAtMaximum, BeginRefused, SendRefused, forged, frames_limit, is_forged, no_port, no_session}
-use Rattle.ptpm_network.specs.Happening.{held_at, no_held, no_room_in, nothing_to_resume, refused}
+use Rattle.ptpm_network.specs.Events.{Begin, Send, Resume, Retune, Deliver, Stranger, NoSuchName, NoSuchFrame, Forged, FramesAtMaximum, BeginRefused, SendRefused, frames_limit, is_forged, no_port, no_session}
+use Rattle.ptpm_network.specs.Happening.{held_at, no_held, no_room_in, refused}
 use Rattle.ptpm_network.specs.Network.{Network}
 use Rattle.ptpm_network.specs.Stands.{Held, Running}
 

@@ -1,7 +1,7 @@
 -- A list of events, and one more.
-use Rattle.std.proofs.Common.{◌≡◌, List, [], ◌∷◌, ◌++◌, None, Some, Option, is_none, refl, sym, ◌∙◌, ap}
+use Rattle.std.proofs.Common.{◌≡◌, List, [], ◌∷◌, ◌++◌, None, is_none, sym, ◌∙◌, ap}
 use Rattle.std.proofs.lemmas.Bool.{cond-true}
-use Rattle.ptpm_network.specs.Events.{Event, Refusal}
+use Rattle.ptpm_network.specs.Events.{Event}
 use Rattle.ptpm_network.specs.Happening.{happened, ran, refused}
 use Rattle.ptpm_network.specs.Network.{Network}
 use Rattle.ptpm_network.specs.Stands.{Running}

@@ -1,5 +1,5 @@
 -- Events at a session: what the world becomes, and what is answered.
-use Rattle.std.proofs.Common.{◌≡◌, ℕ, ◌<◌, ◌≤◌, List, [], ◌∷◌, ◌++◌, Option, Some, None, Result, Ok, Err, OnOk, OnErr, IfOk, IfErr, IsErrAnd, is_some, not, if◌then◌else◌, Bool, true, false, refl, sym, ◌∙◌, ap, subst, option_map, length, nat_lt}
+use Rattle.std.proofs.Common.{◌≡◌, ℕ, ◌<◌, ◌≤◌, List, [], ◌∷◌, ◌++◌, Option, Some, None, Result, Ok, Err, OnOk, OnErr, IfOk, IfErr, IsErrAnd, is_some, not, if◌then◌else◌, true, false, refl, sym, ◌∙◌, ap, subst, option_map, length, nat_lt}
 use Rattle.std.proofs.lemmas.Option.{slice_get_within}
 use Rattle.std.proofs.lemmas.List.{append-nil}
 use Rattle.std.proofs.Math.Nat.{le_refl}
@@ -19,8 +19,8 @@ use Rattle.ptpm_manager.specs.Ask.{request_of}
 use Rattle.ptpm_manager.specs.Receiving.{left_by, received_of}
 use Rattle.ptpm_manager.specs.Session.{SessionValue, begin_refusal, begun, due_message, is_waiting, resumed, retuned, send_refusal, sent}
 use Rattle.ptpm_manager.specs.Setup.{request_message}
-use Rattle.ptpm_network.specs.Events.{Event, Begin, Send, Resume, Retune, Deliver, Refusal, NoSuchName, FramesAtMaximum, BeginRefused, SendRefused, frames_limit}
-use Rattle.ptpm_network.specs.Happening.{happened, hears, held_at, posted, reaches, reaches_end, refused, sent_posted}
+use Rattle.ptpm_network.specs.Events.{Begin, Send, Resume, Retune, Deliver, NoSuchName, FramesAtMaximum, BeginRefused, SendRefused, frames_limit}
+use Rattle.ptpm_network.specs.Happening.{happened, hears, held_at, posted, reaches, reaches_end, sent_posted}
 use Rattle.ptpm_network.specs.Network.{AtSession, End, Network, peers}
 use Rattle.ptpm_network.specs.Stands.{Held, Running}
 use Rattle.ptpm_network.specs.State.{Origin, RequestOf}
@@ -33,7 +33,7 @@ use Rattle.ptpm_world.specs.declared.world.RunningSession.{RunningSession}
 use Rattle.ptpm_world.specs.Frames.{held_in, link_ends}
 use Rattle.ptpm_world.specs.Running.{IsOf, reports_of, running, session_of}
 use Rattle.ptpm_world.specs.Stepping.{IsStep}
-use Rattle.ptpm_world.specs.Took.{begin_error, error_of, heard, reports_in, took, took_at, took_of}
+use Rattle.ptpm_world.specs.Took.{begin_error, heard, reports_in, took, took_at, took_of}
 use Rattle.ptpm_world.proofs.Changing.{SessionChange, running_by, session_change-network, session_change-none, session_change-quiet, session_change-running}
 use Rattle.ptpm_world.proofs.Refusing.{begin-absent, begin-judged, deliver-fine, resume-absent, resume-idle, resume-waiting, retune-absent, retune-present, send-absent, send-full, send-judged}
 use Rattle.ptpm_world.proofs.Places.{read-kept}

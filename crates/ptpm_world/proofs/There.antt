@@ -1,12 +1,11 @@
 -- A frame of a world has an end that is there, and belongs to a session that is there.
-use Rattle.std.proofs.Common.{◌≡◌, ℕ, ◌<◌, ◌≤◌, List, Option, Some, None, refl, sym, ◌∙◌, ap, subst, arith, length, option_map, ◌==◌, ◌-◌, Bool, true, false, if◌then◌else◌, All, IsSomeAnd}
+use Rattle.std.proofs.Common.{◌≡◌, ℕ, ◌<◌, ◌≤◌, List, Option, Some, None, refl, sym, ◌∙◌, ap, subst, length, option_map, ◌==◌, ◌-◌, Bool, true, false, if◌then◌else◌, All, IsSomeAnd}
 use Rattle.std.proofs.lemmas.Option.{same_Some, slice_get-map, slice_get_within, get_or_from_slice_get}
 use Rattle.std.specs.Prelude.{map, slice_get}
 use Rattle.ptpm_data.specs.Members.{HasPort}
 use Rattle.ptpm_network.specs.Happening.{held_at}
 use Rattle.ptpm_network.specs.Network as machine
 use Rattle.ptpm_network.specs.Stands.{Held}
-use Rattle.ptpm_network.specs.State as state
 use Rattle.ptpm_script.specs.declared.network.End.{End}
 use Rattle.ptpm_script.specs.declared.network.End.TheVariants as ends
 use Rattle.ptpm_world.specs.declared.frames.Frames.{Frames}

@@ -14,7 +14,6 @@ use Rattle.ptpm_network.specs.State as state
 use Rattle.ptpm_world.specs.declared.frames.Frames.{Frames}
 use Rattle.ptpm_world.specs.declared.frames.Origin.{Origin}
 use Rattle.ptpm_world.specs.declared.frames.Origin.TheVariants as origins
-use Rattle.ptpm_world.specs.declared.frames.Stored.{Stored}
 use Rattle.ptpm_world.specs.Ends.{IsOfSession, IsStoredFrame}
 use Rattle.ptpm_world.specs.Frames.{frame_in, held_in, origin_of}
 use Rattle.ptpm_world.specs.Placed.{place_in}

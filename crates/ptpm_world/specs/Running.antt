@@ -1,5 +1,5 @@
 -- A world as the network's definitions see it: clocks and sessions by their places, and all frames.
-use Rattle.std.specs.Prelude.{◌≡◌, ℕ, ◌<◌, ◌≤◌, List, [], Bool, false, All, bytes_eq, find, map, length, slice_get, Option, Some, None, option_map}
+use Rattle.std.specs.Prelude.{◌≡◌, ℕ, List, [], Bool, false, bytes_eq, find, length, slice_get, Option, Some, None, option_map}
 use Rattle.std.specs.FinMap.{from_entries}
 use Rattle.ptpm_codec.specs.Identity.{identity_cmp}
 use Rattle.ptpm_data.specs.Members.{DataSetsValue}

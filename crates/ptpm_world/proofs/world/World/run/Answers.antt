@@ -5,7 +5,7 @@ use Rattle.std.specs.Prelude.{List}
 use Rattle.ptpm_network.specs.Events as machine
 use Rattle.ptpm_network.specs.Events.{refusal}
 use Rattle.ptpm_network.specs.Happening.{ran, refused}
-use Rattle.ptpm_network.specs.Headline.{Headline, StandsAfter}
+use Rattle.ptpm_network.specs.Headline.{StandsAfter}
 use Rattle.ptpm_network.specs.Machine.{AreInTime, run, taken}
 use Rattle.ptpm_network.specs.Network.{Network}
 use Rattle.ptpm_network.specs.Stands.{Running}
