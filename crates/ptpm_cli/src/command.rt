@@ -13,7 +13,7 @@ use std::io::{Read, Write};
 
 /// Does what the words say, the first of which is the program's name, and answers the exit status: 0 where it was done;
 /// 1 at a fault, with the line `ptpm: FAULT` on `err`; 2 where the words were refused, with the reason on `err`. What
-/// `err` does changes nothing. `run` alone reads.
+/// `err` does changes nothing. `run` alone reads. Whatever was written on `out` is flushed, at a fault too.
 pub fn command<R: Read, O: Write, E: Write>(
     alloc: Global,
     words: &[&str],
@@ -24,6 +24,11 @@ pub fn command<R: Read, O: Write, E: Write>(
     match run(alloc, words, reader, out) {
         Ok(()) => 0,
         Err(Failure::Fault(fault)) => {
+            // What was written before the fault may still stand in a buffer. Where that is refused, a write failed first.
+            let fault = match out.flush() {
+                Ok(()) => fault,
+                Err(_) => Fault::WriteFault,
+            };
             let _ = writeln!(err, "ptpm: {fault}");
             1
         }

@@ -1,5 +1,7 @@
 //! What the program prints and how it ends.
 
+mod examples;
+mod failing;
 mod making;
 mod running;
 
