@@ -2,6 +2,8 @@
 
 use crate::{Event, EventError, read_event};
 use ptpm_codec::Action;
+use std::alloc::Global;
+use std::process::Abort;
 use std::test::Fail;
 
 /// GET PRIORITY1, number 7, of manager 0011223344556677/1 to clock aabbccfffeddee01.
@@ -72,6 +74,17 @@ struct Asked {
     octets: &'static [u8],
 }
 
+impl Asked {
+    fn new(action: Action, id: u16, port: Option<u16>, octets: &'static [u8]) -> Asked {
+        Asked {
+            action,
+            id,
+            port,
+            octets,
+        }
+    }
+}
+
 /// The six lines whose events a fresh network refuses: each is read.
 #[test]
 fn refused_events(rt: HostRuntime) -> Result<(), Fail> {
@@ -82,12 +95,7 @@ fn refused_events(rt: HostRuntime) -> Result<(), Fail> {
     let request = hex::decode(alloc, OCTETS)?;
     assert!(rt; is_stranger(&read_event(alloc, REQUEST)?, "K", 1, request.as_slice()));
     assert!(rt; is_stranger(&read_event(alloc, "stranger K 2 00")?, "K", 2, &[0]));
-    let asked = Asked {
-        action: Action::Get,
-        id: 0x200b,
-        port: None,
-        octets: &[],
-    };
+    let asked = Asked::new(Action::Get, 0x200b, None, &[]);
     let begin = read_event(alloc, "begin m get LOG_SYNC_INTERVAL - -")?;
     assert!(rt; is_begin(&begin, "m", &asked));
     Ok(())
@@ -108,128 +116,91 @@ fn lines_within_limits(rt: HostRuntime) -> Result<(), Fail> {
 }
 
 /// Ports, ids and octets of `begin`, at their limits.
-static ASKS: [(&str, Asked); 4] = [
-    (
-        "begin m set PRIORITY1 - 6400",
-        Asked {
-            action: Action::Set,
-            id: 0x2005,
-            port: None,
-            octets: &[0x64, 0x00],
-        },
-    ),
-    (
-        "begin m command 200D 65535 -",
-        Asked {
-            action: Action::Command,
-            id: 0x200d,
-            port: Some(0xffff),
-            octets: &[],
-        },
-    ),
-    (
-        "begin m get ffff 0 aBcDeF",
-        Asked {
-            action: Action::Get,
-            id: 0xffff,
-            port: Some(0),
-            octets: &[0xab, 0xcd, 0xef],
-        },
-    ),
-    (
-        "begin m get 0000 0000000001 -",
-        Asked {
-            action: Action::Get,
-            id: 0x0000,
-            port: Some(1),
-            octets: &[],
-        },
-    ),
-];
-
 #[test]
 fn asks_within_limits(rt: HostRuntime) -> Result<(), Fail> {
-    for (line, asked) in &ASKS {
-        let event = read_event(rt.alloc(), line)?;
-        assert!(rt; is_begin(&event, "m", asked), "{line}");
+    let alloc = rt.alloc();
+    let begin = read_event(alloc, "begin m set PRIORITY1 - 6400")?;
+    let asked = Asked::new(Action::Set, 0x2005, None, &[0x64, 0x00]);
+    assert!(rt; is_begin(&begin, "m", &asked));
+    let begin = read_event(alloc, "begin m command 200D 65535 -")?;
+    let asked = Asked::new(Action::Command, 0x200d, Some(0xffff), &[]);
+    assert!(rt; is_begin(&begin, "m", &asked));
+    let begin = read_event(alloc, "begin m get ffff 0 aBcDeF")?;
+    let asked = Asked::new(Action::Get, 0xffff, Some(0), &[0xab, 0xcd, 0xef]);
+    assert!(rt; is_begin(&begin, "m", &asked));
+    let begin = read_event(alloc, "begin m get 0000 0000000001 -")?;
+    let asked = Asked::new(Action::Get, 0x0000, Some(1), &[]);
+    assert!(rt; is_begin(&begin, "m", &asked));
+    Ok(())
+}
+
+/// Each fault, and each just past its limit: rows `LINE => FAULT`.
+const REFUSED: &str = " => UnknownWord
+    => UnknownWord
+# deliver 1 => UnknownWord
+%% => UnknownWord
+Send m => UnknownWord
+\tsend m => UnknownWord
+begin m put PRIORITY1 - - => UnknownWord
+begin m => WordCount
+begin m get PRIORITY1 - => WordCount
+begin m get PRIORITY1 - - - => WordCount
+send => WordCount
+send m m => WordCount
+resume m => WordCount
+retune m 1 1 => WordCount
+deliver => WordCount
+stranger K 1 => WordCount
+resume m 256 => BadNumber
+retune m 256 => BadNumber
+retune m -1 => BadNumber
+retune m +1 => BadNumber
+deliver 400001 => BadNumber
+deliver 00000000001 => BadNumber
+deliver 1\r => BadNumber
+stranger K 65536 00 => BadNumber
+begin m get priority1 - - => BadId
+begin m get 20050 - - => BadId
+begin m get PRIORITY1 - 0 => BadHex
+stranger K 1 0g => BadHex";
+
+/// Two faults in one line, of which the first in order is answered, wherever it stands.
+const TWO_FAULTS: &str = "put => UnknownWord
+put 256 zz => UnknownWord
+begin m put => UnknownWord
+begin m put NONE 65536 0 => UnknownWord
+resume 256 256 256 => WordCount
+stranger K 65536 => WordCount
+begin m get NONE 65536 => WordCount
+begin m get NONE 65536 - => BadNumber
+begin m get PRIORITY1 65536 0 => BadNumber
+begin m get NONE 65536 0 => BadNumber
+stranger K 65536 zz => BadNumber
+begin m get NONE - 0 => BadId";
+
+fn rows_are_judged(rt: &impl Abort, alloc: Global, rows: &str) -> Result<(), Fail> {
+    for row in rows.split('\n') {
+        let (line, wanted) = row.split_once(" => ").unwrap_or((row, ""));
+        let found = match read_event(alloc, line) {
+            Ok(_) => String::from_str(alloc, "read")?,
+            Err(fault) => format!(in alloc; "{fault}")?,
+        };
+        assert!(rt; found.as_str() == wanted, "{line}: {found}");
     }
     Ok(())
 }
 
-/// Each fault, and each just past its limit.
-const REFUSED: [(&str, EventError); 28] = [
-    ("", EventError::UnknownWord),
-    ("   ", EventError::UnknownWord),
-    ("# deliver 1", EventError::UnknownWord),
-    ("%%", EventError::UnknownWord),
-    ("Send m", EventError::UnknownWord),
-    ("\tsend m", EventError::UnknownWord),
-    ("begin m put PRIORITY1 - -", EventError::UnknownWord),
-    ("begin m", EventError::WordCount),
-    ("begin m get PRIORITY1 -", EventError::WordCount),
-    ("begin m get PRIORITY1 - - -", EventError::WordCount),
-    ("send", EventError::WordCount),
-    ("send m m", EventError::WordCount),
-    ("resume m", EventError::WordCount),
-    ("retune m 1 1", EventError::WordCount),
-    ("deliver", EventError::WordCount),
-    ("stranger K 1", EventError::WordCount),
-    ("resume m 256", EventError::BadNumber),
-    ("retune m 256", EventError::BadNumber),
-    ("retune m -1", EventError::BadNumber),
-    ("retune m +1", EventError::BadNumber),
-    ("deliver 400001", EventError::BadNumber),
-    ("deliver 00000000001", EventError::BadNumber),
-    ("deliver 1\r", EventError::BadNumber),
-    ("stranger K 65536 00", EventError::BadNumber),
-    ("begin m get priority1 - -", EventError::BadId),
-    ("begin m get 20050 - -", EventError::BadId),
-    ("begin m get PRIORITY1 - 0", EventError::BadHex),
-    ("stranger K 1 0g", EventError::BadHex),
-];
-
-/// Two faults in one line, of which the first in order is answered, wherever it stands.
-const TWO_FAULTS: [(&str, EventError); 12] = [
-    ("put", EventError::UnknownWord),
-    ("put 256 zz", EventError::UnknownWord),
-    ("begin m put", EventError::UnknownWord),
-    ("begin m put NONE 65536 0", EventError::UnknownWord),
-    ("resume 256 256 256", EventError::WordCount),
-    ("stranger K 65536", EventError::WordCount),
-    ("begin m get NONE 65536", EventError::WordCount),
-    ("begin m get NONE 65536 -", EventError::BadNumber),
-    ("begin m get PRIORITY1 65536 0", EventError::BadNumber),
-    ("begin m get NONE 65536 0", EventError::BadNumber),
-    ("stranger K 65536 zz", EventError::BadNumber),
-    ("begin m get NONE - 0", EventError::BadId),
-];
-
 #[test]
-fn lines_refused(rt: HostRuntime) {
-    for (line, fault) in &REFUSED {
-        assert!(rt;
-            read_event(rt.alloc(), line).err() == Some(*fault),
-            "{line}"
-        );
-    }
-    for (line, fault) in &TWO_FAULTS {
-        assert!(rt;
-            read_event(rt.alloc(), line).err() == Some(*fault),
-            "{line}"
-        );
-    }
+fn lines_refused(rt: HostRuntime) -> Result<(), Fail> {
+    rows_are_judged(&rt, rt.alloc(), REFUSED)?;
+    rows_are_judged(&rt, rt.alloc(), TWO_FAULTS)
 }
 
 /// A line of each verb, and the whole of what it says.
 #[test]
 fn read_event_succeeds_with_ample_memory(rt: HostRuntime) -> Result<(), Fail> {
     let alloc = rt.alloc();
-    let asked = Asked {
-        action: Action::Set,
-        id: 0x2005,
-        port: Some(0xffff),
-        octets: &[0x64, 0x00],
-    };
+    let asked = Asked::new(Action::Set, 0x2005, Some(0xffff), &[0x64, 0x00]);
     let begin = read_event(alloc, "begin m set PRIORITY1 65535 6400")?;
     assert!(rt; is_begin(&begin, "m", &asked));
     let stranger = read_event(alloc, "stranger K 1 0aff")?;

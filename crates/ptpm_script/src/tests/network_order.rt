@@ -1,44 +1,28 @@
 //! Of several faults in one file the first in order is answered.
 
-use super::file_texts::{FIRST, edited, fault};
+use super::file_texts::{FIRST, edited, fault, is_fault, with_row};
 use crate::NetError;
 use ptpm_data::StartError;
-use std::alloc::Global;
 use std::test::Fail;
 
-/// An edit of the first network for each fault but the first, in the order in which they are judged. None touches a piece
-/// of another.
-const FAULTS: [(&str, &str, NetError); 6] = [
-    ("version = 1\n", "version = 1\n=\n", NetError::NotToml),
-    ("hops = 1", "hops = 256", NetError::BadShape),
-    ("\"K.1\", ", "", NetError::TooMany),
-    ("0011223344556677/1", "aabbccfffeddee01/9", NetError::Twice),
-    ("target = \"K\"", "target = \"X\"", NetError::NoSuchName),
-    (
-        "ports = 2",
-        "ports = 0",
-        NetError::BadClock(StartError::NoPorts),
-    ),
-];
-
-/// The first network with the edits of these two places.
-fn with_both(alloc: Global, first: usize, second: usize) -> Result<String, Fail> {
-    let (old, new, _) = FAULTS[first.min(5)];
-    let text = edited(alloc, FIRST, old, new)?;
-    let (old, new, _) = FAULTS[second.min(5)];
-    edited(alloc, text.as_str(), old, new)
-}
+/// A row for each fault but the first, in the order in which they are judged. None touches a piece of another.
+const FAULTS: &str = r#"version = 1; => version = 1;=; => NotToml
+hops = 1 => hops = 256 => BadShape
+"K.1",  =>  => TooMany
+0011223344556677/1 => aabbccfffeddee01/9 => Twice
+target = "K" => target = "X" => NoSuchName
+ports = 2 => ports = 0 => BadClock NoPorts"#;
 
 /// Each fault with each later one.
 #[test]
 fn two_faults(rt: HostRuntime) -> Result<(), Fail> {
-    for first in 0..6 {
-        let (old, new, wanted) = FAULTS[first];
-        let text = edited(rt.alloc(), FIRST, old, new)?;
-        assert!(rt; fault(rt.alloc(), text.as_str()) == Some(wanted), "{new}");
-        for second in first + 1..6 {
-            let text = with_both(rt.alloc(), first, second)?;
-            assert!(rt; fault(rt.alloc(), text.as_str()) == Some(wanted), "{text}");
+    let alloc = rt.alloc();
+    for (place, row) in FAULTS.lines().enumerate() {
+        let (text, wanted) = with_row(alloc, FIRST, row)?;
+        is_fault(&rt, alloc, fault(alloc, text.as_str()), wanted)?;
+        for later in FAULTS.lines().skip(place + 1) {
+            let (both, _) = with_row(alloc, text.as_str(), later)?;
+            is_fault(&rt, alloc, fault(alloc, both.as_str()), wanted)?;
         }
     }
     Ok(())
@@ -47,17 +31,15 @@ fn two_faults(rt: HostRuntime) -> Result<(), Fail> {
 /// Each fault in a text that is too long.
 #[test]
 fn too_long_before_all(rt: HostRuntime) -> Result<(), Fail> {
-    let mut spaces = String::new(rt.alloc());
+    let alloc = rt.alloc();
+    let mut spaces = String::new(alloc);
     for _ in 0..8_192 {
         spaces.push_str("                                ")?;
     }
-    for (old, new, _) in FAULTS {
-        let mut text = edited(rt.alloc(), FIRST, old, new)?;
+    for row in FAULTS.lines() {
+        let (mut text, _) = with_row(alloc, FIRST, row)?;
         text.push_str(spaces.as_str())?;
-        assert!(rt;
-            fault(rt.alloc(), text.as_str()) == Some(NetError::TooLong),
-            "{new}"
-        );
+        is_fault(&rt, alloc, fault(alloc, text.as_str()), "TooLong")?;
     }
     Ok(())
 }

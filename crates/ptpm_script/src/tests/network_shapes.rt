@@ -1,176 +1,117 @@
 //! What the keys of a network file hold, at the ends of their ranges and just past them.
 
-use super::file_texts::{Edit, fault_with};
+use super::file_texts::{fault_with, is_fault, rows_are_judged, with_line_ends};
 use crate::NetError;
-use ptpm_data::{Member, StartError};
 use std::alloc::Global;
 use std::process::Abort;
 use std::test::Fail;
 
-const SHAPE: Option<NetError> = Some(NetError::BadShape);
-
-const ABSENT: Option<NetError> = Some(NetError::NoSuchName);
-
-const BAD_CLOCK_ACCURACY: Option<NetError> = Some(NetError::BadClock(StartError::BadValue(
-    Member::ClockAccuracy,
-)));
-
-const BAD_LEAP59: Option<NetError> = Some(NetError::BadClock(StartError::BadValue(Member::Leap59)));
-
-const BAD_LOG_SYNC: Option<NetError> = Some(NetError::BadClock(StartError::BadValue(
-    Member::LogSync,
-)));
-
-const BAD_STATE: Option<NetError> = Some(NetError::BadClock(StartError::BadValue(Member::State)));
-
-const BAD_USER_DESCRIPTION: Option<NetError> = Some(NetError::BadClock(StartError::BadValue(
-    Member::UserDescription,
-)));
-
-fn edits_are_judged(rt: &impl Abort, alloc: Global, edits: &[Edit]) -> Result<(), Fail> {
-    for (old, new, wanted) in edits {
-        assert!(rt; fault_with(alloc, old, new)? == *wanted, "{new}");
-    }
-    Ok(())
-}
-
 /// Keys, names and identities.
-const SPELLINGS: [Edit; 20] = [
-    ("version = 1", "version = 0x1", None),
-    ("version = 1", "version = 0", SHAPE),
-    ("version = 1", "version = 3", SHAPE),
-    ("version = 1", "version = true", SHAPE),
-    ("version = 1", "version = 1\nclocks = []", SHAPE),
-    ("domain = 0\n", "", SHAPE),
-    ("\"K\"", "\"a2345678901234567890123456789_Z2\"", ABSENT),
-    ("\"K\"", "\"a2345678901234567890123456789_Z23\"", SHAPE),
-    ("\"K\"", "\"\"", SHAPE),
-    ("\"K\"", "\"K-\"", SHAPE),
-    ("target = \"K\"", "target = \"K.1\"", SHAPE),
-    ("aabbccfffeddee01", "AABBCCFFFEDDEE01", None),
-    ("aabbccfffeddee01", "ffffffffffffffff", SHAPE),
-    ("aabbccfffeddee01", "aabbccfffeddee0", SHAPE),
-    ("aabbccfffeddee01", "aabbccfffeddee0g", SHAPE),
-    ("0011223344556677/1", "0011223344556677/65534", None),
-    ("0011223344556677/1", "0011223344556677/65535", SHAPE),
-    ("0011223344556677/1", "0011223344556677", SHAPE),
-    ("0011223344556677/1", "ffffffffffffffff/1", SHAPE),
-    ("0011223344556677/1", "0011223344556677/0000000001", None),
-];
+const SPELLINGS: &str = r#"version = 1 => version = 0x1 => read
+version = 1 => version = 0 => BadShape
+version = 1 => version = 3 => BadShape
+version = 1 => version = true => BadShape
+version = 1 => version = 1;clocks = [] => BadShape
+domain = 0; =>  => BadShape
+"K" => "a2345678901234567890123456789_Z2" => NoSuchName
+"K" => "a2345678901234567890123456789_Z23" => BadShape
+"K" => "" => BadShape
+"K" => "K-" => BadShape
+target = "K" => target = "K.1" => BadShape
+aabbccfffeddee01 => AABBCCFFFEDDEE01 => read
+aabbccfffeddee01 => ffffffffffffffff => BadShape
+aabbccfffeddee01 => aabbccfffeddee0 => BadShape
+aabbccfffeddee01 => aabbccfffeddee0g => BadShape
+0011223344556677/1 => 0011223344556677/65534 => read
+0011223344556677/1 => 0011223344556677/65535 => BadShape
+0011223344556677/1 => 0011223344556677 => BadShape
+0011223344556677/1 => ffffffffffffffff/1 => BadShape
+0011223344556677/1 => 0011223344556677/0000000001 => read"#;
 
 #[test]
 fn spellings(rt: HostRuntime) -> Result<(), Fail> {
-    edits_are_judged(&rt, rt.alloc(), &SPELLINGS)
+    rows_are_judged(&rt, rt.alloc(), SPELLINGS)
 }
 
 /// Numbers of clocks and sessions.
-const NUMBERS: [Edit; 18] = [
-    ("domain = 0", "domain = 255", None),
-    ("domain = 0", "domain = 256", SHAPE),
-    ("domain = 0", "domain = -1", SHAPE),
-    ("domain = 0", "domain = 0.0", SHAPE),
-    ("ports = 2", "ports = 1", None),
-    ("ports = 2", "ports = 8", None),
-    ("ports = 2", "ports = 65536", SHAPE),
-    ("first = 7", "first = 0", None),
-    ("first = 7", "first = 65535", None),
-    ("first = 7", "first = 65536", SHAPE),
-    ("hops = 1", "hops = 0", None),
-    ("hops = 1", "hops = 255\ndomain = 255", None),
-    ("hops = 1", "hops = 1\ndomain = 256", SHAPE),
-    ("hops = 1", "hops = 256", SHAPE),
-    ("attempts = 2", "attempts = 0", None),
-    ("attempts = 2", "attempts = 255", None),
-    ("attempts = 2", "attempts = 256", SHAPE),
-    ("attempts = 2", "attempts = \"2\"", SHAPE),
-];
+const NUMBERS: &str = r#"domain = 0 => domain = 255 => read
+domain = 0 => domain = 256 => BadShape
+domain = 0 => domain = -1 => BadShape
+domain = 0 => domain = 0.0 => BadShape
+ports = 2 => ports = 1 => read
+ports = 2 => ports = 8 => read
+ports = 2 => ports = 65536 => BadShape
+first = 7 => first = 0 => read
+first = 7 => first = 65535 => read
+first = 7 => first = 65536 => BadShape
+hops = 1 => hops = 0 => read
+hops = 1 => hops = 255;domain = 255 => read
+hops = 1 => hops = 1;domain = 256 => BadShape
+hops = 1 => hops = 256 => BadShape
+attempts = 2 => attempts = 0 => read
+attempts = 2 => attempts = 255 => read
+attempts = 2 => attempts = 256 => BadShape
+attempts = 2 => attempts = "2" => BadShape"#;
 
 #[test]
 fn numbers(rt: HostRuntime) -> Result<(), Fail> {
-    edits_are_judged(&rt, rt.alloc(), &NUMBERS)
+    rows_are_judged(&rt, rt.alloc(), NUMBERS)
 }
 
 /// Ends of links, and names that are not there.
-const ENDS: [Edit; 13] = [
-    ("target = \"K\"", "target = \"m\"", ABSENT),
-    ("\"K.1\"", "\"K.01\"", None),
-    ("\"K.1\"", "\"K.2\"", None),
-    ("\"K.1\"", "\"K.1\", \"K.2\"", None),
-    ("\"K.1\"", "\"K.0\"", ABSENT),
-    ("\"K.1\"", "\"K.3\"", ABSENT),
-    ("\"K.1\"", "\"K\"", ABSENT),
-    ("\"K.1\"", "\"m.1\"", ABSENT),
-    ("\"K.1\"", "\"K.65535\"", ABSENT),
-    ("\"K.1\"", "\"K.65536\"", SHAPE),
-    ("\"K.1\"", "\"K.1.1\"", SHAPE),
-    ("\"K.1\"", "1", SHAPE),
-    ("ends = ", "end = ", SHAPE),
-];
+const ENDS: &str = r#"target = "K" => target = "m" => NoSuchName
+"K.1" => "K.01" => read
+"K.1" => "K.2" => read
+"K.1" => "K.1", "K.2" => read
+"K.1" => "K.0" => NoSuchName
+"K.1" => "K.3" => NoSuchName
+"K.1" => "K" => NoSuchName
+"K.1" => "m.1" => NoSuchName
+"K.1" => "K.65535" => NoSuchName
+"K.1" => "K.65536" => BadShape
+"K.1" => "K.1.1" => BadShape
+"K.1" => 1 => BadShape
+ends =  => end =  => BadShape"#;
 
 #[test]
 fn ends(rt: HostRuntime) -> Result<(), Fail> {
-    edits_are_judged(&rt, rt.alloc(), &ENDS)
+    rows_are_judged(&rt, rt.alloc(), ENDS)
 }
 
 /// What stands twice.
-const TWICE: [Edit; 6] = [
-    ("\"K\"", "\"m\"", Some(NetError::Twice)),
-    (
-        "0011223344556677/1",
-        "aabbccfffeddee01/1",
-        Some(NetError::Twice),
-    ),
-    ("\"K.1\"", "\"K.1\", \"K.01\"", Some(NetError::Twice)),
-    ("\"m\"]", "\"m\", \"m\"]", Some(NetError::Twice)),
-    (
-        "\"m\"]",
-        "\"m\"]\n[[link]]\nends = [\"K.2\", \"m\"]",
-        Some(NetError::Twice),
-    ),
-    (
-        "\"m\"]",
-        "\"K.2\"]\n[[link]]\nends = [\"K.2\", \"K.1\"]",
-        Some(NetError::Twice),
-    ),
-];
+const TWICE: &str = r#""K" => "m" => Twice
+0011223344556677/1 => aabbccfffeddee01/1 => Twice
+"K.1" => "K.1", "K.01" => Twice
+"m"] => "m", "m"] => Twice
+"m"] => "m"];[[link]];ends = ["K.2", "m"] => Twice
+"m"] => "K.2"];[[link]];ends = ["K.2", "K.1"] => Twice"#;
 
 #[test]
 fn twice(rt: HostRuntime) -> Result<(), Fail> {
-    edits_are_judged(&rt, rt.alloc(), &TWICE)
+    rows_are_judged(&rt, rt.alloc(), TWICE)
 }
 
-/// Further lines of a clock.
-const MEMBERS: [(&str, Option<NetError>); 20] = [
-    ("two_step = false", None),
-    ("two_step = 1", SHAPE),
-    ("clock_accuracy = 0x16", BAD_CLOCK_ACCURACY),
-    ("clock_accuracy = 0x17", None),
-    (
-        "grandmaster_accuracy = 0x16",
-        Some(NetError::BadClock(StartError::GrandmasterDiffers)),
-    ),
-    ("parent_port = \"0202020202020202/65535\"", None),
-    ("parent_port = \"ffffffffffffffff/1\"", SHAPE),
-    ("grandmaster = \"0202020202020202\"", None),
-    ("grandmaster = \"ffffffffffffffff\"", SHAPE),
-    ("leap61 = true\nleap59 = true", BAD_LEAP59),
-    ("[[clock.port]]\nnumber = 2\nlog_sync = 1", None),
-    ("[[clock.port]]\nnumber = 2\nlog_sync = 2", BAD_LOG_SYNC),
-    ("[[clock.port]]\nnumber = 2\nstate = 9", None),
-    ("[[clock.port]]\nnumber = 2\nstate = 10", BAD_STATE),
-    ("[[clock.port]]\nlog_sync = 1", SHAPE),
-    ("[[clock.port]]\nnumber = 65536", SHAPE),
-    ("[[clock.port]]\nnumber = 3", ABSENT),
-    ("[[clock.port]]\nnumber = 0", ABSENT),
-    (
-        "[[clock.port]]\nnumber = 2\n[[clock.port]]\nnumber = 2",
-        Some(NetError::Twice),
-    ),
-    (
-        "[[clock.port]]\nnumber = 3\n[[clock.port]]\nnumber = 3",
-        Some(NetError::Twice),
-    ),
-];
+/// Further lines of a clock, `LINE => FAULT`, in the same spelling.
+const MEMBERS: &str = r#"two_step = false => read
+two_step = 1 => BadShape
+clock_accuracy = 0x16 => BadClock BadValue clock_accuracy
+clock_accuracy = 0x17 => read
+grandmaster_accuracy = 0x16 => BadClock GrandmasterDiffers
+parent_port = "0202020202020202/65535" => read
+parent_port = "ffffffffffffffff/1" => BadShape
+grandmaster = "0202020202020202" => read
+grandmaster = "ffffffffffffffff" => BadShape
+leap61 = true;leap59 = true => BadClock BadValue leap59
+[[clock.port]];number = 2;log_sync = 1 => read
+[[clock.port]];number = 2;log_sync = 2 => BadClock BadValue log_sync
+[[clock.port]];number = 2;state = 9 => read
+[[clock.port]];number = 2;state = 10 => BadClock BadValue state
+[[clock.port]];log_sync = 1 => BadShape
+[[clock.port]];number = 65536 => BadShape
+[[clock.port]];number = 3 => NoSuchName
+[[clock.port]];number = 0 => NoSuchName
+[[clock.port]];number = 2;[[clock.port]];number = 2 => Twice
+[[clock.port]];number = 3;[[clock.port]];number = 3 => Twice"#;
 
 /// How the first network is refused with a line added to its clock.
 fn fault_with_line(alloc: Global, line: &str) -> Result<Option<NetError>, Fail> {
@@ -180,8 +121,12 @@ fn fault_with_line(alloc: Global, line: &str) -> Result<Option<NetError>, Fail> 
 
 #[test]
 fn members(rt: HostRuntime) -> Result<(), Fail> {
-    for (line, wanted) in &MEMBERS {
-        assert!(rt; fault_with_line(rt.alloc(), line)? == *wanted, "{line}");
+    let alloc = rt.alloc();
+    for row in MEMBERS.lines() {
+        let (line, wanted) = row.split_once(" => ").unwrap_or((row, ""));
+        let line = with_line_ends(alloc, line)?;
+        let found = fault_with_line(alloc, line.as_str())?;
+        is_fault(&rt, alloc, found, wanted)?;
     }
     Ok(())
 }
@@ -189,78 +134,82 @@ fn members(rt: HostRuntime) -> Result<(), Fail> {
 /// A text of 128 octets, and one of 129.
 #[test]
 fn descriptions(rt: HostRuntime) -> Result<(), Fail> {
-    let mut line = String::from_str(rt.alloc(), "user_description = \"")?;
+    let alloc = rt.alloc();
+    let mut line = String::from_str(alloc, "user_description = \"")?;
     for _ in 0..128 {
         line.push_str("a")?;
     }
-    let most = format!(in rt.alloc(); "{}\"", line)?;
-    assert!(rt; fault_with_line(rt.alloc(), most.as_str())? == None);
-    let more = format!(in rt.alloc(); "{}a\"", line)?;
-    assert!(rt; fault_with_line(rt.alloc(), more.as_str())? == BAD_USER_DESCRIPTION);
-    Ok(())
+    let most = format!(in alloc; "{}\"", line)?;
+    let found = fault_with_line(alloc, most.as_str())?;
+    is_fault(&rt, alloc, found, "read")?;
+    let more = format!(in alloc; "{}a\"", line)?;
+    let found = fault_with_line(alloc, more.as_str())?;
+    is_fault(&rt, alloc, found, "BadClock BadValue user_description")
 }
 
-/// A range: the number before it, its first and its last, and the number after it.
-type Range = [&'static str; 4];
+/// The number before a range, its first and its last, and the number after it.
+const U8: &str = "-1 0 255 256";
 
-const U8: Range = ["-1", "0", "255", "256"];
+const U16: &str = "-1 0 65535 65536";
 
-const U16: Range = ["-1", "0", "65535", "65536"];
+const I8: &str = "-129 -128 127 128";
 
-const I8: Range = ["-129", "-128", "127", "128"];
+const I16: &str = "-32769 -32768 32767 32768";
 
-const I16: Range = ["-32769", "-32768", "32767", "32768"];
+const I32: &str = "-2147483649 -2147483648 2147483647 2147483648";
 
-const I32: Range = ["-2147483649", "-2147483648", "2147483647", "2147483648"];
-
-const I64: Range = [
-    "-9223372036854775809",
-    "-9223372036854775808",
-    "9223372036854775807",
-    "9223372036854775808",
-];
-
-/// The whole numbers of a clock and of a port.
-const WHOLE_NUMBERS: [(&str, &str, Range); 25] = [
-    ("", "priority1", U8),
-    ("", "clock_class", U8),
-    ("", "clock_accuracy", U8),
-    ("", "variance", U16),
-    ("", "priority2", U8),
-    ("", "steps_removed", U16),
-    ("", "offset_from_master", I64),
-    ("", "mean_path_delay", I64),
-    ("", "observed_variance", U16),
-    ("", "observed_rate", I32),
-    ("", "grandmaster_priority1", U8),
-    ("", "grandmaster_class", U8),
-    ("", "grandmaster_accuracy", U8),
-    ("", "grandmaster_variance", U16),
-    ("", "grandmaster_priority2", U8),
-    ("", "utc_offset", I16),
-    ("", "time_source", U8),
-    ("[[clock.port]]\nnumber = 1\n", "state", U8),
-    ("[[clock.port]]\nnumber = 1\n", "log_min_delay_req", I8),
-    ("[[clock.port]]\nnumber = 1\n", "peer_delay", I64),
-    ("[[clock.port]]\nnumber = 1\n", "log_announce", I8),
-    ("[[clock.port]]\nnumber = 1\n", "receipt_timeout", U8),
-    ("[[clock.port]]\nnumber = 1\n", "log_sync", I8),
-    ("[[clock.port]]\nnumber = 1\n", "delay_mechanism", U8),
-    ("[[clock.port]]\nnumber = 1\n", "log_min_pdelay", I8),
-];
+const I64: &str =
+    "-9223372036854775809 -9223372036854775808 9223372036854775807 9223372036854775808";
 
 /// A number of a member's type is well shaped, whether or not a clock can start with it; one past it is not. No document
 /// holds a number past those of 64 bits.
-#[test]
-fn whole_numbers(rt: HostRuntime) -> Result<(), Fail> {
-    let alloc = rt.alloc();
-    for (head, key, range) in &WHOLE_NUMBERS {
-        for (place, number) in range.iter().enumerate() {
+fn ranges_are_judged(
+    rt: &impl Abort,
+    alloc: Global,
+    head: &str,
+    range: &str,
+    keys: &str,
+) -> Result<(), Fail> {
+    for key in keys.split_whitespace() {
+        for (place, number) in range.split_whitespace().enumerate() {
             let line = format!(in alloc; "{head}{key} = {number}")?;
             let refused = fault_with_line(alloc, line.as_str())?;
-            let is_shaped = refused != SHAPE && refused != Some(NetError::NotToml);
+            let is_shaped = refused != Some(NetError::BadShape)
+                && refused != Some(NetError::NotToml);
             assert!(rt; is_shaped == (place == 1 || place == 2), "{line}");
         }
     }
     Ok(())
+}
+
+/// The whole numbers of a clock.
+#[test]
+fn whole_numbers_of_a_clock(rt: HostRuntime) -> Result<(), Fail> {
+    let alloc = rt.alloc();
+    let keys =
+        "priority1 clock_class clock_accuracy priority2 grandmaster_priority1 grandmaster_class \
+        grandmaster_accuracy grandmaster_priority2 time_source";
+    ranges_are_judged(&rt, alloc, "", U8, keys)?;
+    let keys = "variance steps_removed observed_variance grandmaster_variance";
+    ranges_are_judged(&rt, alloc, "", U16, keys)?;
+    ranges_are_judged(&rt, alloc, "", I16, "utc_offset")?;
+    ranges_are_judged(&rt, alloc, "", I32, "observed_rate")?;
+    ranges_are_judged(&rt, alloc, "", I64, "offset_from_master mean_path_delay")
+}
+
+/// The whole numbers of a port.
+#[test]
+fn whole_numbers_of_a_port(rt: HostRuntime) -> Result<(), Fail> {
+    let alloc = rt.alloc();
+    let port = "[[clock.port]]\nnumber = 1\n";
+    ranges_are_judged(
+        &rt,
+        alloc,
+        port,
+        U8,
+        "state receipt_timeout delay_mechanism",
+    )?;
+    let keys = "log_min_delay_req log_announce log_sync log_min_pdelay";
+    ranges_are_judged(&rt, alloc, port, I8, keys)?;
+    ranges_are_judged(&rt, alloc, port, I64, "peer_delay")
 }
