@@ -1,13 +1,13 @@
 //! The command line.
 
-use crate::answer::answer;
-use crate::faults::Fault;
-use crate::ids::ids;
-use crate::make::{RequestWords, make};
-use crate::show::show;
 use clap::error::ErrorKind;
 use clap::{Arg, ArgAction, ArgMatches, Command, value_parser};
-use ptpm_world::run_script;
+use ptpm_commands::Fault;
+use ptpm_commands::answer::answer;
+use ptpm_commands::ids::ids;
+use ptpm_commands::make::{RequestWords, make};
+use ptpm_commands::show::show;
+use ptpm_world::{ScriptError, run_script};
 use std::alloc::{AllocError, Global};
 use std::io::{Read, Write};
 
@@ -32,6 +32,10 @@ pub fn command<R: Read, O: Write, E: Write>(
             let _ = writeln!(err, "ptpm: {fault}");
             1
         }
+        Err(Failure::Script(fault)) => {
+            let _ = writeln!(err, "ptpm: {fault}");
+            1
+        }
         Err(Failure::Refused(reason)) => {
             let _ = write!(err, "{reason}");
             2
@@ -42,6 +46,8 @@ pub fn command<R: Read, O: Write, E: Write>(
 /// Why a command line was not done.
 enum Failure {
     Fault(Fault),
+    /// A script ended before its last event.
+    Script(ScriptError),
     Refused(clap::Error),
 }
 
@@ -62,7 +68,7 @@ fn run<R: Read, O: Write>(
         Ok(Task::Show(text)) => show(alloc, text, out)?,
         Ok(Task::Ids) => ids(out)?,
         Ok(Task::Make(words)) => make(alloc, &words, out)?,
-        Ok(Task::Run) => run_script(alloc, reader, out).map_err(Fault::from)?,
+        Ok(Task::Run) => run_script(alloc, reader, out).map_err(Failure::Script)?,
         Err(error) if error.kind() == ErrorKind::OutOfMemory => {
             return Err(Failure::Fault(Fault::OutOfMemory));
         }

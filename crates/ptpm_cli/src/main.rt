@@ -1,14 +1,7 @@
 //! The program `ptpm`: management messages of the Precision Time Protocol at the command line.
 #![tactic(auto)]
 
-mod answer;
-mod clock;
 mod command;
-mod faults;
-mod identity_text;
-mod ids;
-mod make;
-mod show;
 #[cfg(test)]
 mod tests;
 

@@ -1,7 +1,7 @@
 //! The clock that `ptpm answer` shows: fresh, with two ports and one configured manager, who has every right.
 
 ghost use Rattle.std.specs.Prelude.{◌≡◌};
-ghost use Rattle.ptpm_cli.specs.FreshClock.{fresh_sets, managers, shown};
+ghost use Rattle.ptpm_commands.specs.FreshClock.{fresh_sets, managers, shown};
 ghost use Rattle.ptpm_data.specs.Members.{HasPort};
 ghost use Rattle.ptpm_table.specs.Managers.{IsFresh};
 

@@ -1,7 +1,7 @@
 //! Port identities as texts: `aabbccfffeddee01/1`.
 
 ghost use Rattle.std.specs.Prelude.{◌≡◌, option_map};
-ghost use Rattle.ptpm_cli.specs.IdentityText.{clock_octets_of, identity_of, port_number_of};
+ghost use Rattle.ptpm_commands.specs.IdentityText.{clock_octets_of, identity_of, port_number_of};
 
 use hex::FromHex;
 use ptpm_codec::{ClockIdentity, PortIdentity};

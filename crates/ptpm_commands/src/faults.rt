@@ -2,7 +2,6 @@
 
 use hex::FromHexError;
 use ptpm_codec::DecodeError;
-use ptpm_world::ScriptError;
 use std::io;
 use thiserror::Error;
 
@@ -27,9 +26,6 @@ pub enum Fault {
     /// A datagram holds no management message.
     #[error("{0}")]
     Refused(DecodeError),
-    /// A script ends before its last event.
-    #[error("{0}")]
-    Script(ScriptError),
     /// Memory was asked for and refused.
     #[error("OutOfMemory")]
     OutOfMemory,
@@ -50,12 +46,6 @@ impl From<FromHexError> for Fault {
 impl From<DecodeError> for Fault {
     fn from(error: DecodeError) -> Fault {
         Fault::Refused(error)
-    }
-}
-
-impl From<ScriptError> for Fault {
-    fn from(error: ScriptError) -> Fault {
-        Fault::Script(error)
     }
 }
 

@@ -7,7 +7,7 @@ use Rattle.ptpm_data.specs.declared.start.StartError.{StartError}
 use Rattle.ptpm_data.specs.Members.{DataSetsValue}
 use Rattle.ptpm_data.specs.Ranges.{is_description}
 use Rattle.ptpm_data.specs.Start.{default_clock, default_port, start_of, count_fault, clock_fault, port_fault, ports_fault, grandmaster_fault}
-use Rattle.ptpm_cli.specs.FreshClock.{shown, two_ports, fresh_sets}
+use Rattle.ptpm_commands.specs.FreshClock.{shown, two_ports, fresh_sets}
 
 abbrev pub made : Result DataSetsValue StartError
 made = Ok fresh_sets

@@ -1,7 +1,7 @@
 use Rattle.std.proofs.Common.{arith, ◌∙◌}
 use Rattle.std.proofs.lemmas.Str.Pattern.{starts_char}
-use Rattle.ptpm_cli.proofs.IdentityTextLemmas.{no_plus, port_number_read}
-use Rattle.ptpm_cli.proofs.identity_text.port_number_of.Goals as goal
+use Rattle.ptpm_commands.proofs.IdentityTextLemmas.{no_plus, port_number_read}
+use Rattle.ptpm_commands.proofs.identity_text.port_number_of.Goals as goal
 
 pub returns : goal.returns
 returns c =

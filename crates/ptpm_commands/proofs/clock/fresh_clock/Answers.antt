@@ -1,7 +1,7 @@
 use Rattle.std.proofs.Common.{◌≡◌, sym, ◌∙◌, ap}
 use Rattle.ptpm_data.specs.Members.{DataSetsValue}
-use Rattle.ptpm_cli.proofs.FreshClock.{starts, not_err, is_made}
-use Rattle.ptpm_cli.proofs.clock.fresh_clock.Goals as goal
+use Rattle.ptpm_commands.proofs.FreshClock.{starts, not_err, is_made}
+use Rattle.ptpm_commands.proofs.clock.fresh_clock.Goals as goal
 
 pub unreachable-requires : goal.unreachable-requires
 unreachable-requires c =

@@ -1,7 +1,7 @@
 //! `ptpm make`: a request that the words of a command line ask for, in octets.
 
 ghost use Rattle.std.specs.Prelude.{◌≡◌, false, IfSome, IfOk};
-ghost use Rattle.ptpm_cli.specs.RequestWords.{action_of_word, id_of_digits, id_of_word, request_of};
+ghost use Rattle.ptpm_commands.specs.RequestWords.{action_of_word, id_of_digits, id_of_word, request_of};
 ghost use Rattle.ptpm_codec.specs.Message.{IsRequestAction, IsValid};
 
 use crate::faults::Fault;

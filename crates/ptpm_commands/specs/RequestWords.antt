@@ -9,10 +9,10 @@ use Rattle.ptpm_codec.specs.declared.message.Action.TheVariants as actions
 use Rattle.ptpm_codec.specs.declared.message.Body.TheVariants as bodies
 use Rattle.ptpm_codec.specs.declared.message.Message.{Message}
 use Rattle.ptpm_data.specs.IdTable.{row_named}
-use Rattle.ptpm_cli.specs.declared.faults.Fault.{Fault}
-use Rattle.ptpm_cli.specs.declared.faults.Fault.TheVariants as faults
-use Rattle.ptpm_cli.specs.declared.make.RequestWords.{RequestWords}
-use Rattle.ptpm_cli.specs.IdentityText.{identity_of}
+use Rattle.ptpm_commands.specs.declared.faults.Fault.{Fault}
+use Rattle.ptpm_commands.specs.declared.faults.Fault.TheVariants as faults
+use Rattle.ptpm_commands.specs.declared.make.RequestWords.{RequestWords}
+use Rattle.ptpm_commands.specs.IdentityText.{identity_of}
 
 -- the action of a word, in lower case
 abbrev pub action_of_word : List ℕ → Option Action

@@ -1,0 +1,12 @@
+//! What the subcommands of `ptpm` do, over words and a writer: `answer`, `show`, `ids` and `make`.
+#![tactic(auto)]
+
+pub mod answer;
+mod clock;
+mod faults;
+mod identity_text;
+pub mod ids;
+pub mod make;
+pub mod show;
+
+pub use faults::Fault;
