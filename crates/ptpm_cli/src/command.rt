@@ -9,6 +9,7 @@ use ptpm_commands::make::{RequestWords, make};
 use ptpm_commands::show::show;
 use ptpm_world::{ScriptError, run_script};
 use std::alloc::{AllocError, Global};
+use std::fmt;
 use std::io::{Read, Write};
 
 /// Does what the words say, the first of which is the program's name, and answers the exit status: 0 where it was done;
@@ -23,24 +24,23 @@ pub fn command<R: Read, O: Write, E: Write>(
 ) -> u8 {
     match run(alloc, words, reader, out) {
         Ok(()) => 0,
-        Err(Failure::Fault(fault)) => {
-            // What was written before the fault may still stand in a buffer. Where that is refused, a write failed first.
-            let fault = match out.flush() {
-                Ok(()) => fault,
-                Err(_) => Fault::WriteFault,
-            };
-            let _ = writeln!(err, "ptpm: {fault}");
-            1
-        }
-        Err(Failure::Script(fault)) => {
-            let _ = writeln!(err, "ptpm: {fault}");
-            1
-        }
+        Err(Failure::Fault(fault)) => end_at_fault(fault, out, err),
+        Err(Failure::Script(fault)) => end_at_fault(fault, out, err),
         Err(Failure::Refused(reason)) => {
             let _ = write!(err, "{reason}");
             2
         }
     }
+}
+
+/// Ends at a fault, which is named on `err`. What was written before it may still stand in a buffer and is flushed; where `out`
+/// refuses that, a write failed first.
+fn end_at_fault<F: fmt::Display, O: Write, E: Write>(fault: F, out: &mut O, err: &mut E) -> u8 {
+    let _ = match out.flush() {
+        Ok(()) => writeln!(err, "ptpm: {fault}"),
+        Err(_) => writeln!(err, "ptpm: {}", Fault::WriteFault),
+    };
+    1
 }
 
 /// Why a command line was not done.
