@@ -24,8 +24,8 @@ pub fn command<R: Read, O: Write, E: Write>(
 ) -> u8 {
     match run(alloc, words, reader, out) {
         Ok(()) => 0,
-        Err(Failure::Fault(fault)) => end_at_fault(fault, out, err),
-        Err(Failure::Script(fault)) => end_at_fault(fault, out, err),
+        Err(Failure::Fault(fault)) => end_at_fault(&fault, out, err),
+        Err(Failure::Script(fault)) => end_at_fault(&fault, out, err),
         Err(Failure::Refused(reason)) => {
             let _ = write!(err, "{reason}");
             2
@@ -35,7 +35,7 @@ pub fn command<R: Read, O: Write, E: Write>(
 
 /// Ends at a fault, which is named on `err`. What was written before it may still stand in a buffer and is flushed; where `out`
 /// refuses that, a write failed first.
-fn end_at_fault<F: fmt::Display, O: Write, E: Write>(fault: F, out: &mut O, err: &mut E) -> u8 {
+fn end_at_fault<F: fmt::Display, O: Write, E: Write>(fault: &F, out: &mut O, err: &mut E) -> u8 {
     let _ = match out.flush() {
         Ok(()) => writeln!(err, "ptpm: {fault}"),
         Err(_) => writeln!(err, "ptpm: {}", Fault::WriteFault),
