@@ -6,8 +6,7 @@ ghost use Rattle.ptpm_codec.specs.Message.{IsValid};
 ghost use Rattle.ptpm_codec.specs.Reading.{reading};
 ghost use Rattle.ptpm_codec.specs.Spelling.{Spells};
 ghost use Rattle.ptpm_data.specs.Members.{HasPort};
-ghost use Rattle.std.specs.FinMap.{get};
-ghost use Rattle.ptpm_table.specs.Entries.{Entry, HasEntry};
+ghost use Rattle.ptpm_table.specs.Entries.{HasEntry};
 ghost use Rattle.ptpm_table.specs.Rendering.{IsSendable, rendered};
 ghost use Rattle.ptpm_agent.specs.Agent.{IsTurned, clock_of, state_of};
 ghost use Rattle.ptpm_agent.specs.Forwarding.{forwarded};
@@ -305,17 +304,14 @@ impl<T: SureTable + Drop> Agent<T> {
         };
         let verdict = self.judge(&message);
         match verdict {
-            Verdict::AnsweredNew => {
-                self.accept(&message);
-                self.send_kept(ingress, &message, out);
-            }
+            Verdict::AnsweredNew => self.accept(ingress, &message, out),
             _ => self.answer(verdict, ingress, datagram, &message, out),
         }
         verdict
     }
 
-    /// Carries out a new request and keeps it with its reply.
-    fn accept(&mut self, message: &View<'_>)
+    /// Carries out a new request, keeps it with its reply, and leaves the messages of the reply in the outbox, and nothing else.
+    fn accept(&mut self, ingress: u16, message: &View<'_>, out: &mut Outbox)
         requires new { judged
             (clock_of T.identity T.managers T.rights_of self.old.table)
             (state_of T.entries self.old.sets self.old.table) message.now ≡ Verdict.AnsweredNew }
@@ -323,26 +319,20 @@ impl<T: SureTable + Drop> Agent<T> {
         ensures accepted { state_of T.entries self.new.sets self.new.table ≡ carried_out
             (clock_of T.identity T.managers T.rights_of self.old.table)
             (state_of T.entries self.old.sets self.old.table) message.now }
+        ensures sent { out.new ≡ rendered (T.identity self.old.table) (heard_of message.now) (new_reply
+            (clock_of T.identity T.managers T.rights_of self.old.table)
+            (state_of T.entries self.old.sets self.old.table) message.now) ingress }
         ensures clock { clock_of T.identity T.managers T.rights_of self.new.table
             ≡ clock_of T.identity T.managers T.rights_of self.old.table }
     {
-        let source = message.source();
+        let heard = heard_of(message);
         let request = request_of(message);
         data_sets_law(&self.sets);
-        let rights = self.table.rights(&source);
+        let rights = self.table.rights(&heard.source);
         self.sets.decide_into(&request, rights, &mut self.scratch);
-        self.table
-            .replace(&source, message.number(), &request, &self.scratch);
-    }
-
-    /// Leaves the messages of the reply that is kept for a message in the outbox, and nothing else.
-    fn send_kept(&self, ingress: u16, message: &View<'_>, out: &mut Outbox)
-        requires kept { HasEntry (T.entries self.now.table) message.now.source message.now.number }
-        ensures { (e : Entry) → get (T.entries self.now.table) message.now.source ≡ Some e →
-            out.new ≡ rendered (T.identity self.now.table) (heard_of message.now) e.reply ingress }
-    {
         out.clear();
-        self.table.resend(&heard_of(message), ingress, out);
+        self.table
+            .answer(&heard, &request, &self.scratch, ingress, out);
     }
 }
 

@@ -171,6 +171,12 @@ has_place who ss known none =
     false≢true (sym (known_slot who ss ∙ ap is_some (find_at (λ (s : Slot). same_identity who s.kept.manager) ss ∙ past)) ∙ known))
     (cases_Bool (nat_lt at (length ss)))
 
+-- every slot is of the clock that all are of
+pub clock_at : (clock : ClockIdentity) (ss : List Slot) (i : ℕ) (d : Slot) → i < length ss → All (λ c. c ≡ clock) (clocks ss) → (get_or ss i d).kept.clock ≡ clock
+clock_at clock [] i d inside own = absurd (omega arith)
+clock_at clock (s ∷ ss) zero d inside own = own 0 clock (omega arith)
+clock_at clock (s ∷ ss) (suc i) d inside own = clock_at clock ss i d (omega arith) (λ k e within. own (suc k) e (omega arith))
+
 -- ---- making
 
 -- one more slot without an entry

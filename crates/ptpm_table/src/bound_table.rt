@@ -1,12 +1,13 @@
 //! A reply table in fixed slots.
 
-ghost use Rattle.std.specs.Prelude.{◌≡◌, ◌≤◌, [], false, IfOk, IfSome, IsOk, IsTrue, OnErr, OnOk, All, MatchResult, None, Some, is_some, length, position};
+ghost use Rattle.std.specs.Prelude.{◌≡◌, ◌≤◌, ◌++◌, [], false, IfOk, IfSome, IsOk, IsTrue, OnErr, OnOk, All, MatchResult, None, Some, is_some, length, position};
 ghost use Rattle.std.specs.FinMap as fin;
 ghost use Rattle.std.specs.Option.{option_copied};
 ghost use Rattle.ptpm_codec.specs.declared.identity.ClockIdentity.{ClockIdentity};
 ghost use Rattle.ptpm_codec.specs.Identity.{identity_cmp, same_identity};
 ghost use Rattle.ptpm_codec.specs.Message.{IsDataField, IsRequestAction};
 ghost use Rattle.ptpm_table.specs.Entries.{FitsRequest, is_known};
+ghost use Rattle.ptpm_table.specs.Rendering.{rendered};
 ghost use Rattle.ptpm_table.specs.Managers.{IsFresh, has_twice, identities, rights_in, table_refusal};
 ghost use Rattle.ptpm_table.specs.Slots.{clocks, configured, entry_in, rights_at, slot_of, used};
 
@@ -119,6 +120,37 @@ fn put(slots: &mut [Slot], who: &PortIdentity, number: u16, request: &Request<'_
     }
 }
 
+/// Keeps a request in its manager's slot, and appends the messages of its reply for the copy that was heard.
+#[inline(always)]
+fn put_and_send(
+    slots: &mut [Slot],
+    heard: &Heard,
+    request: &Request<'_>,
+    reply: &Reply,
+    ingress: u16,
+    out: &mut Outbox,
+)
+    requires action { IsRequestAction request.now.action }
+    requires known { IsTrue (is_known heard.now.source (identities (configured slots.old))) }
+    requires distinct { has_twice (identities (configured slots.old)) ≡ false }
+    requires octets { IsDataField request.now.octets }
+    requires fits { FitsRequest request.now reply.now }
+    requires room { length out.old ≤ 7 }
+    ensures entries { fin.from_entries {R = identity_cmp} (used slots.new) ≡ fin.insert (fin.from_entries (used slots.old)) heard.now.source
+        (record { number = heard.now.number; request = request.now; reply = reply.now }) }
+    ensures configured { configured slots.new ≡ configured slots.old }
+    ensures clocks { clocks slots.new ≡ clocks slots.old }
+    ensures sent { (clock : ClockIdentity) → All (λ c. c ≡ clock) (clocks slots.old) →
+        out.new ≡ out.old ++ rendered clock heard.now reply.now ingress }
+{
+    if let Some(place) = place_of(slots, &heard.source) {
+        let slot = &mut slots[place];
+        slot.taken = true;
+        slot.kept.replace(heard.number, request, reply);
+        slot.kept.resend(heard, ingress, out);
+    }
+}
+
 impl ReplyTable for BoundTable {
     ghost use Rattle.std.specs.FinMap as fin;
     ghost use Rattle.ptpm_table.specs.Managers.{identities, rights_in};
@@ -197,5 +229,18 @@ impl SureTable for BoundTable {
     fn replace(&mut self, who: &PortIdentity, number: u16, request: &Request<'_>, reply: &Reply) {
         let slots = self.slots.as_mut_slice();
         put(slots, who, number, request, reply);
+    }
+
+    #[inline(always)]
+    fn answer(
+        &mut self,
+        heard: &Heard,
+        request: &Request<'_>,
+        reply: &Reply,
+        ingress: u16,
+        out: &mut Outbox,
+    ) {
+        let slots = self.slots.as_mut_slice();
+        put_and_send(slots, heard, request, reply, ingress, out);
     }
 }

@@ -108,4 +108,25 @@ pub trait SureTable: ReplyTable {
         ensures managers { Self.managers self.new ≡ Self.managers self.old }
         ensures rights { Self.rights_of self.new ≡ Self.rights_of self.old }
         ensures identity { Self.identity self.new ≡ Self.identity self.old };
+
+    /// Does what `replace` does, and appends the messages of the reply for the copy that was heard, as `resend` does then.
+    fn answer(
+        &mut self,
+        heard: &Heard,
+        request: &Request<'_>,
+        reply: &Reply,
+        ingress: u16,
+        out: &mut Outbox,
+    )
+        requires known { IsTrue (is_known heard.now.source (Self.managers self.old)) }
+        requires action { IsRequestAction request.now.action }
+        requires octets { IsDataField request.now.octets }
+        requires fits { FitsRequest request.now reply.now }
+        requires room { length out.old ≤ 7 }
+        ensures kept { Self.entries self.new ≡ fin.insert (Self.entries self.old) heard.now.source
+            (record { number = heard.now.number; request = request.now; reply = reply.now }) }
+        ensures sent { out.new ≡ out.old ++ rendered (Self.identity self.old) heard.now reply.now ingress }
+        ensures managers { Self.managers self.new ≡ Self.managers self.old }
+        ensures rights { Self.rights_of self.new ≡ Self.rights_of self.old }
+        ensures identity { Self.identity self.new ≡ Self.identity self.old };
 }

@@ -1,8 +1,5 @@
 use Rattle.std.proofs.Common.{refl, sym, ◌∙◌}
-use Rattle.ptpm_table.specs.Rendering.{rendered}
 use Rattle.ptpm_agent.specs.Agent.{clock_of, state_of}
-use Rattle.ptpm_agent.specs.Turn.{heard_of, new_reply}
-use Rattle.ptpm_agent.proofs.Entries.{accepted_entry, accepted_kept}
 use Rattle.ptpm_agent.proofs.Turns.{turned_new, turned_other, turned_refused}
 use Rattle.ptpm_agent.proofs.agent.Agent.handle.Goals as goal
 
@@ -13,28 +10,13 @@ returns-in-Err-clause-turned g c =
     c.clear.new.self (state_of g.T.ReplyTable.entries c.args.self.now.sets c.args.self.now.table)
     (sym c.view.ensures.exact ∙ c.in-Err.is) c.clear.ensures refl
 
-pub send_kept-requires : goal.send_kept-requires
-send_kept-requires g c =
-    let clock = clock_of g.T.ReplyTable.identity g.T.ReplyTable.managers g.T.ReplyTable.rights_of c.args.self.now.table in
-    let state = state_of g.T.ReplyTable.entries c.args.self.now.sets c.args.self.now.table in
-    record {
-      kept = record {
-        entry = accepted_entry clock state c.in-Ok.message;
-        is = accepted_kept clock state _ c.in-Ok.message c.accept.ensures.accepted;
-        number_is = refl;
-      };
-    }
-
 pub returns-in-AnsweredNew-clause-turned : goal.returns-in-AnsweredNew-clause-turned
 returns-in-AnsweredNew-clause-turned g c =
     let clock = clock_of g.T.ReplyTable.identity g.T.ReplyTable.managers g.T.ReplyTable.rights_of c.args.self.now.table in
     let state = state_of g.T.ReplyTable.entries c.args.self.now.sets c.args.self.now.table in
-    turned_new clock state c.args.ingress c.args.datagram.now c.in-Ok.message c.judge-verdict.result c.send_kept.new.out
+    turned_new clock state c.args.ingress c.args.datagram.now c.in-Ok.message c.judge-verdict.result c.accept.new.out
     (state_of g.T.ReplyTable.entries c.accept.new.self.sets c.accept.new.self.table)
-    (sym c.view.ensures.exact ∙ c.in-Ok.is) c.judge-verdict.ensures.verdict c.in-AnsweredNew.is
-    (c.send_kept.ensures _ (accepted_kept clock state _ c.in-Ok.message c.accept.ensures.accepted)
-    ∙ (λ i. rendered (c.accept.ensures.clock i).identity (heard_of c.in-Ok.message) (new_reply clock state c.in-Ok.message) c.args.ingress))
-    c.accept.ensures.accepted
+    (sym c.view.ensures.exact ∙ c.in-Ok.is) c.judge-verdict.ensures.verdict c.in-AnsweredNew.is c.accept.ensures.sent c.accept.ensures.accepted
 
 pub returns-in_default : goal.returns-in_default
 returns-in_default g c = record {
