@@ -18,3 +18,5 @@ pub mod Naming
 pub mod NetworkFacts
 pub mod StartingLemmas
 pub mod WorldLemmas
+pub mod TraceLemmas
+pub mod Answering

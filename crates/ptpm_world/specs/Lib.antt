@@ -7,3 +7,5 @@ pub mod Placed
 pub mod Starting
 pub mod Took
 pub mod Stepping
+pub mod TookText
+pub mod Trace

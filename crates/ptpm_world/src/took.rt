@@ -2,6 +2,7 @@
 
 use ptpm_agent::Verdict;
 use ptpm_manager::{BeginError, Reason, SendError};
+use std::fmt;
 use thiserror::Error;
 
 /// What an event did.
@@ -17,30 +18,60 @@ pub enum Took {
     Ignored(Reason),
 }
 
+/// `ok`, a verdict's name, `Answered`, or `Ignored` and the reason.
+impl fmt::Display for Took {
+    ghost use Rattle.std.specs.Prelude.{Some};
+    ghost use Rattle.ptpm_world.specs.TookText.{took_text};
+
+    ghost output = { λ took. Some (took_text took) };
+
+    fn fmt<W: fmt::Write>(&self, f: &mut fmt::Formatter<W>) -> fmt::Result {
+        match self {
+            Took::Fine => f.write_str("ok"),
+            Took::AtClock(verdict) => write!(f, "{verdict}"),
+            Took::Answered => f.write_str("Answered"),
+            Took::Ignored(reason) => write!(f, "Ignored {reason}"),
+        }
+    }
+}
+
 /// Why nothing happened, in the order in which the reasons are judged. The network stays as it was.
 #[derive(Clone, Copy, Debug, PartialEq, Eq, Error)]
 pub enum StepError {
     /// No session or clock has the name, or the clock lacks the port.
-    #[error("NoSuchName")]
     NoSuchName,
     /// No frame has the number.
-    #[error("NoSuchFrame")]
     NoSuchFrame,
     /// A stranger's datagram has the identity of a clock or of a session where a message has its source.
-    #[error("Forged")]
     Forged,
     /// More than 399,775 frames are held.
-    #[error("FramesAtMaximum")]
     FramesAtMaximum,
     /// The session does not begin the request.
-    #[error("{0}")]
     Begin(BeginError),
     /// The session does not send, or has nothing to resume.
-    #[error("{0}")]
     Send(SendError),
     /// Memory was refused.
-    #[error("OutOfMemory")]
     OutOfMemory,
+}
+
+/// The name; a session's own refusal by its name alone.
+impl fmt::Display for StepError {
+    ghost use Rattle.std.specs.Prelude.{Some};
+    ghost use Rattle.ptpm_world.specs.TookText.{step_error_text};
+
+    ghost output = { λ e. Some (step_error_text e) };
+
+    fn fmt<W: fmt::Write>(&self, f: &mut fmt::Formatter<W>) -> fmt::Result {
+        match self {
+            StepError::NoSuchName => f.write_str("NoSuchName"),
+            StepError::NoSuchFrame => f.write_str("NoSuchFrame"),
+            StepError::Forged => f.write_str("Forged"),
+            StepError::FramesAtMaximum => f.write_str("FramesAtMaximum"),
+            StepError::Begin(error) => write!(f, "{error}"),
+            StepError::Send(error) => write!(f, "{error}"),
+            StepError::OutOfMemory => f.write_str("OutOfMemory"),
+        }
+    }
 }
 
 impl From<ptpm_codec::OutOfMemory> for StepError {

@@ -1,6 +1,13 @@
 //! The trace of a script: what each event did, and how the network stands at the end.
 
+ghost use Rattle.std.specs.Prelude.{◌≡◌, OnOk, flat_map};
+ghost use Rattle.std.specs.Io.KnownBytes.{Appends};
 ghost use Rattle.ptpm_data.specs.Members.{HasPort};
+ghost use Rattle.ptpm_network.specs.Network.{Network};
+ghost use Rattle.ptpm_script.specs.EventLine.{verb_of};
+ghost use Rattle.ptpm_world.specs.Placed.{names_in, placed};
+ghost use Rattle.ptpm_world.specs.Running.{IsOf, running};
+ghost use Rattle.ptpm_world.specs.Trace.{after, answer_text, clock_lines, data_line, data_lines, data_set_lines, event_line, event_text, frames_text, is_late_event, is_out_of_memory, outcome_text, port_line, report_line, report_lines};
 
 use crate::script_error::ScriptError;
 use crate::took::{StepError, Took};
@@ -19,82 +26,201 @@ pub(crate) fn write_event<W: Write>(
     number: u32,
     event: &Event,
     out: &mut W,
-) -> Result<(), ScriptError> {
-    let is_late = matches!(event, Event::Deliver(frame) if world.is_late(*frame));
+) -> Result<(), ScriptError>
+    ensures line { (N : Network) → IsOf N world.old
+        → OnOk result (Appends (W.contents out.old) (W.contents out.new)
+        (event_line N (names_in world.old) (running world.old) number event.now)) }
+    ensures after { (N : Network) → IsOf N world.old
+        → OnOk result (running world.new ≡ after N (running world.old) (placed (names_in world.old) event.now)) }
+    ensures names { names_in world.new ≡ names_in world.old }
+    ensures network { (N : Network) → IsOf N world.old → IsOf N world.new }
+{
+    let is_late = is_late_delivery(world, event);
     let before = world.frames();
     let took = world.step(event);
-    if let Err(StepError::OutOfMemory) = took {
+    if is_out_of_memory(&took) {
         return Err(ScriptError::OutOfMemory);
     }
-    write!(out, "{number} {} ", event.verb())?;
-    match took {
-        Ok(took) => {
-            write!(out, "{took}")?;
-            if is_late {
-                write!(out, " late")?;
-            }
-        }
-        Err(error) => write!(out, "refused {error}")?,
-    }
-    write_frames(before, world.frames(), out)?;
+    let after = world.frames();
+    let answer = Answer { took, is_late };
+    write_line(number, event, answer, MadeFrames { before, after }, out)?;
     Ok(())
 }
 
-/// Ends an event's line, with the frames that were made before it.
-fn write_frames<W: Write>(before: u32, after: u32, out: &mut W) -> io::Result<()> {
-    if before < after {
-        write!(out, " frames {}-{after}", before + 1)?;
+#[tactic(auto, unfolding(crate::specs::Trace::event_text))]
+fn write_line<W: Write>(
+    number: u32,
+    event: &Event,
+    answer: Answer,
+    made: MadeFrames,
+    out: &mut W,
+) -> io::Result<()>
+    ensures { OnOk result (Appends (W.contents out.old) (W.contents out.new)
+        (event_text number (verb_of event.now) answer.took answer.is_late made.before made.after)) }
+{
+    writeln!(out, "{number} {} {answer}{made}", event.verb())
+}
+
+/// Whether an event is refused for want of memory.
+fn is_out_of_memory(took: &Result<Took, StepError>) -> bool
+    ensures { result ≡ is_out_of_memory took.now }
+{
+    matches!(took, Err(StepError::OutOfMemory))
+}
+
+/// Whether an event delivers a late frame.
+fn is_late_delivery(world: &World, event: &Event) -> bool
+    ensures { result ≡ is_late_event (running world.now) (placed (names_in world.now) event.now) }
+{
+    match event {
+        Event::Deliver(frame) => world.is_late(*frame),
+        Event::Begin(..)
+        | Event::Send(_)
+        | Event::Resume(..)
+        | Event::Retune(..)
+        | Event::Stranger(..) => false,
     }
-    writeln!(out)
+}
+
+/// What an event did or why it was refused, and whether it is the delivery of a late frame.
+#[derive(Clone, Copy)]
+struct Answer {
+    took: Result<Took, StepError>,
+    is_late: bool,
+}
+
+impl fmt::Display for Answer {
+    ghost use Rattle.std.specs.Prelude.{Some};
+
+    ghost output = { λ a. Some (answer_text a.took a.is_late) };
+
+    fn fmt<W: fmt::Write>(&self, f: &mut fmt::Formatter<W>) -> fmt::Result {
+        match &self.took {
+            Ok(took) => {
+                if self.is_late {
+                    write!(f, "{took} late")
+                } else {
+                    write!(f, "{took}")
+                }
+            }
+            Err(error) => write!(f, "refused {error}"),
+        }
+    }
+}
+
+/// The frames that were made between two counts: nothing where none were.
+#[derive(Clone, Copy)]
+struct MadeFrames {
+    before: u32,
+    after: u32,
+}
+
+impl fmt::Display for MadeFrames {
+    ghost use Rattle.std.specs.Prelude.{Some};
+
+    ghost output = { λ made. Some (frames_text made.before made.after) };
+
+    fn fmt<W: fmt::Write>(&self, f: &mut fmt::Formatter<W>) -> fmt::Result {
+        if self.before < self.after {
+            write!(f, " frames {}-{}", self.before + 1, self.after)
+        } else {
+            Ok(())
+        }
+    }
 }
 
 /// A line for each report, session by session.
-pub(crate) fn write_reports<W: Write>(world: &World, out: &mut W) -> io::Result<()> {
+pub(crate) fn write_reports<W: Write>(world: &World, out: &mut W) -> io::Result<()>
+    ensures { OnOk result (Appends (W.contents out.old) (W.contents out.new)
+        (report_lines (names_in world.now) (running world.now))) }
+{
     for session in &world.sessions {
-        for report in &session.reports {
-            writeln!(
-                out,
-                "report {} {}",
-                session.name.as_str(),
-                ReportText(report)
-            )?;
-        }
+        write_session(session.name.as_str(), session.reports.as_slice(), out)?;
     }
     Ok(())
 }
 
+/// A line for each report of a session.
+fn write_session<W: Write>(name: &str, reports: &[Report], out: &mut W) -> io::Result<()>
+    ensures { OnOk result (Appends (W.contents out.old) (W.contents out.new)
+        (flat_map (report_line name.now) reports.now)) }
+{
+    for report in reports {
+        write_report(name, report, out)?;
+    }
+    Ok(())
+}
+
+#[tactic(auto, unfolding(crate::specs::Trace::report_line))]
+fn write_report<W: Write>(name: &str, report: &Report, out: &mut W) -> io::Result<()>
+    ensures { OnOk result (Appends (W.contents out.old) (W.contents out.new)
+        (report_line name.now report.now)) }
+{
+    writeln!(
+        out,
+        "report {name} {} {}",
+        report.index,
+        OutcomeText(&report.outcome)
+    )
+}
+
 /// A line for each data set of the clocks and of their ports.
-pub(crate) fn write_data_sets<W: Write>(world: &World, out: &mut W) -> io::Result<()> {
+pub(crate) fn write_data_sets<W: Write>(world: &World, out: &mut W) -> io::Result<()>
+    ensures { OnOk result (Appends (W.contents out.old) (W.contents out.new)
+        (data_lines (names_in world.now) (running world.now))) }
+{
     for clock in &world.clocks {
-        let (name, sets) = (clock.name.as_str(), clock.agent.sets());
-        write_clock(name, sets, out)?;
-        for port in 1..=sets.port_count() {
-            write_port(name, sets, port, out)?;
-        }
+        write_sets(clock.name.as_str(), clock.agent.sets(), out)?;
+    }
+    Ok(())
+}
+
+/// A line for each data set of a clock and of its ports.
+fn write_sets<W: Write>(name: &str, sets: &DataSets, out: &mut W) -> io::Result<()>
+    ensures { OnOk result (Appends (W.contents out.old) (W.contents out.new)
+        (clock_lines name.now sets.now)) }
+{
+    write_clock(name, sets, out)?;
+    for port in 1..sets.port_count() + 1 {
+        write_port(name, sets, port, out)?;
     }
     Ok(())
 }
 
 /// USER_DESCRIPTION and the four data sets of a clock, a line each.
-#[tactic(auto, unfolding(ptpm_data::specs::IdTable::row_of))]
-fn write_clock<W: Write>(name: &str, sets: &DataSets, out: &mut W) -> io::Result<()> {
+#[tactic(auto, unfolding(ptpm_data::specs::IdTable::row_of, crate::specs::Trace::data_set_lines))]
+fn write_clock<W: Write>(name: &str, sets: &DataSets, out: &mut W) -> io::Result<()>
+    ensures { OnOk result (Appends (W.contents out.old) (W.contents out.new)
+        (data_set_lines name.now sets.now)) }
+{
     let mut value = Value::new();
     sets.lay(0x0002, 0, &mut value);
-    writeln!(out, "data {name} 0002 {}", Hexadecimal(value.as_slice()))?;
+    write_data(name, "0002", &value, out)?;
     sets.lay(0x2000, 0, &mut value);
-    writeln!(out, "data {name} 2000 {}", Hexadecimal(value.as_slice()))?;
+    write_data(name, "2000", &value, out)?;
     sets.lay(0x2001, 0, &mut value);
-    writeln!(out, "data {name} 2001 {}", Hexadecimal(value.as_slice()))?;
+    write_data(name, "2001", &value, out)?;
     sets.lay(0x2002, 0, &mut value);
-    writeln!(out, "data {name} 2002 {}", Hexadecimal(value.as_slice()))?;
+    write_data(name, "2002", &value, out)?;
     sets.lay(0x2003, 0, &mut value);
-    writeln!(out, "data {name} 2003 {}", Hexadecimal(value.as_slice()))
+    write_data(name, "2003", &value, out)
+}
+
+/// A data set of a clock, by its managementId in four digits.
+#[tactic(auto, unfolding(crate::specs::Trace::data_line))]
+fn write_data<W: Write>(name: &str, id: &str, value: &Value, out: &mut W) -> io::Result<()>
+    ensures { OnOk result (Appends (W.contents out.old) (W.contents out.new)
+        (data_line name.now id.now value.now.items)) }
+{
+    writeln!(out, "data {name} {id} {}", Hexadecimal(value.as_slice()))
 }
 
 /// PORT_DATA_SET of one of a clock's ports.
-#[tactic(auto, unfolding(ptpm_data::specs::IdTable::row_of))]
+#[tactic(auto, unfolding(ptpm_data::specs::IdTable::row_of, crate::specs::Trace::port_line, crate::specs::Trace::data_line))]
 fn write_port<W: Write>(name: &str, sets: &DataSets, port: u16, out: &mut W) -> io::Result<()>
     requires { HasPort port sets.now }
+    ensures { OnOk result (Appends (W.contents out.old) (W.contents out.new)
+        (port_line name.now sets.now port)) }
 {
     let mut value = Value::new();
     sets.lay(0x2004, port, &mut value);
@@ -102,32 +228,38 @@ fn write_port<W: Write>(name: &str, sets: &DataSets, port: u16, out: &mut W) -> 
     writeln!(out, "data {name}.{port} 2004 {value}")
 }
 
-/// A report as its index and what it tells.
+/// What a report tells.
 #[derive(Clone, Copy)]
-struct ReportText<'a>(&'a Report);
+struct OutcomeText<'a>(&'a Outcome);
 
-impl fmt::Display for ReportText<'_> {
+impl fmt::Display for OutcomeText<'_> {
+    ghost use Rattle.std.specs.Prelude.{Some};
+
+    ghost output = { λ o. Some (outcome_text o.0.now) };
+
     fn fmt<W: fmt::Write>(&self, f: &mut fmt::Formatter<W>) -> fmt::Result {
-        write!(f, "{} ", self.0.index)?;
-        match &self.0.outcome {
+        match self.0 {
             Outcome::Value(octets) => write!(f, "value {}", Hexadecimal(octets.as_slice())),
             Outcome::Done => f.write_str("done"),
-            Outcome::Refused(number) => match ErrorId::from_number(*number) {
-                Some(error) => write!(f, "refused {error}"),
-                None => write!(f, "refused {number:04x}"),
-            },
+            Outcome::Refused(number) => write!(f, "refused {}", ErrorText(*number)),
         }
     }
 }
 
-/// `ok`, a verdict's name, `Answered`, or `Ignored` and the reason.
-impl fmt::Display for Took {
+/// A managementErrorId by the standard's name, or by four hexadecimal digits where it has none (15.5.4.3).
+#[derive(Clone, Copy)]
+struct ErrorText(u16);
+
+impl fmt::Display for ErrorText {
+    ghost use Rattle.std.specs.Prelude.{Some};
+    ghost use Rattle.ptpm_world.specs.Trace.{error_text};
+
+    ghost output = { λ e. Some (error_text e.0) };
+
     fn fmt<W: fmt::Write>(&self, f: &mut fmt::Formatter<W>) -> fmt::Result {
-        match self {
-            Took::Fine => f.write_str("ok"),
-            Took::AtClock(verdict) => write!(f, "{verdict}"),
-            Took::Answered => f.write_str("Answered"),
-            Took::Ignored(reason) => write!(f, "Ignored {reason}"),
+        match ErrorId::from_number(self.0) {
+            Some(error) => write!(f, "{error}"),
+            None => write!(f, "{}", Hexadecimal(&self.0.to_be_bytes())),
         }
     }
 }

@@ -1,0 +1,68 @@
+-- What an event did, or why it was refused, and where it led, as its line tells it.
+use Rattle.std.proofs.lemmas.Bool.{ne_eqb, true≢false}
+use Rattle.std.proofs.Common.{◌≡◌, ◌≢◌, ℕ, false, None, Some, Ok, Err, Result, refl, sym, ap, ◌∙◌}
+use Rattle.std.specs.Prelude.{IfErr, IfOk, OnErr, OnOk, Option, option_map}
+use Rattle.ptpm_network.specs.Events.{Event, Refusal}
+use Rattle.ptpm_network.specs.Happening.{happened, refused}
+use Rattle.ptpm_network.specs.Network.{Network}
+use Rattle.ptpm_network.specs.Stands.{Running}
+use Rattle.ptpm_world.specs.declared.took.StepError.{StepError}
+use Rattle.ptpm_world.specs.declared.took.StepError.TheVariants.{OutOfMemory}
+use Rattle.ptpm_world.specs.declared.took.Took.{Took}
+use Rattle.std.specs.Prelude.{◌==◌}
+use Rattle.std.specs.Int.{to_be_bytes, w16}
+use Rattle.ptpm_codec.specs.declared.error.ErrorId.{ErrorId}
+use Rattle.ptpm_codec.specs.declared.error.ErrorId.TheVariants as errors
+use Rattle.ptpm_codec.specs.Message.{error_name, error_number}
+use Rattle.ptpm_script.specs.OctetText.{text_of_octets}
+use Rattle.ptpm_world.specs.Took.{error_of, took}
+use Rattle.ptpm_world.specs.Trace.{after, after_by, answer, answer_by, error_text, is_out_of_memory}
+
+some_is : (a b : StepError) → Some a ≡ Some b → b ≡ a
+some_is a b h = cc
+
+-- a refusal that is there, and its name
+named : (N : Network) (r : Running) (e : Event) (why : Option Refusal) (x : StepError) → option_map error_of why ≡ Some x
+    → (Err x ≡ answer_by why N r e) × (r ≡ after_by why N r e)
+named N r e None x h = absurd (cc)
+named N r e (Some y) x h = (ap Err (some_is (error_of y) x h), refl)
+
+pub answered : (N : Network) (r next : Running) (e : Event) (result : Result Took StepError) → is_out_of_memory result ≡ false
+    → OnOk result (next ≡ happened N r e) → IfOk result (λ t. t ≡ took N r e) → OnOk result (refused N r e ≡ None)
+    → IfErr result (λ x. x ≢ OutOfMemory → option_map error_of (refused N r e) ≡ Some x) → OnErr result (next ≡ r)
+    → (result ≡ answer N r e) × (next ≡ after N r e)
+answered N r next e (Ok t) memory goes is permitted why same =
+    (ap Ok is ∙ ap (λ w. answer_by w N r e) (sym permitted), goes ∙ ap (λ w. after_by w N r e) (sym permitted))
+answered N r next e (Err x) memory goes is permitted why same =
+    let both = named N r e (refused N r e) x (why (λ o. true≢false (sym (ap (λ y. is_out_of_memory (Err y)) o) ∙ memory))) in
+    (both.0, same ∙ both.1)
+
+-- ---- managementErrorIds
+
+name_of_number : (e : ErrorId) → error_name e ≡ error_text (error_number e)
+unfolding error_text
+name_of_number errors.ResponseTooBig = refl
+name_of_number errors.NoSuchId = refl
+name_of_number errors.WrongLength = refl
+name_of_number errors.WrongValue = refl
+name_of_number errors.NotSetable = refl
+name_of_number errors.NotSupported = refl
+name_of_number errors.GeneralError = refl
+
+pub named_text : (e : ErrorId) (n : ℕ) → error_number e ≡ n → error_name e ≡ error_text n
+named_text e n h = name_of_number e ∙ ap error_text h
+
+pub unnamed_text : (n : ℕ) → ((e : ErrorId) → error_number e ≡ n → ⊥) → text_of_octets (to_be_bytes w16 n) ≡ error_text n
+unfolding error_text
+unnamed_text n unnamed =
+    let a : (n == 0x0001) ≡ false = ne_eqb n 0x0001 (λ h. unnamed errors.ResponseTooBig (sym h)) in
+    let b : (n == 0x0002) ≡ false = ne_eqb n 0x0002 (λ h. unnamed errors.NoSuchId (sym h)) in
+    let c : (n == 0x0003) ≡ false = ne_eqb n 0x0003 (λ h. unnamed errors.WrongLength (sym h)) in
+    let d : (n == 0x0004) ≡ false = ne_eqb n 0x0004 (λ h. unnamed errors.WrongValue (sym h)) in
+    let e : (n == 0x0005) ≡ false = ne_eqb n 0x0005 (λ h. unnamed errors.NotSetable (sym h)) in
+    let f : (n == 0x0006) ≡ false = ne_eqb n 0x0006 (λ h. unnamed errors.NotSupported (sym h)) in
+    let g : (n == 0xfffe) ≡ false = ne_eqb n 0xfffe (λ h. unnamed errors.GeneralError (sym h)) in
+    rw (a, b, c, d, e, f, g) refl
+
+pub none_some : {X : Type 0} (x : X) → ◌≡◌ {A = Option X} None (Some x) → ⊥
+none_some x h = cc

@@ -1,0 +1,24 @@
+use Rattle.std.proofs.Common.{arith, subst, length, get_or, ap, ◌∙◌}
+use Rattle.std.specs.Prelude.{flat_map}
+use Rattle.std.specs.Io.KnownBytes.{Appends}
+use Rattle.std.proofs.KnownBytes.{Appends-nil}
+use Rattle.std.proofs.lemmas.List.{take_all}
+use Rattle.ptpm_world.specs.declared.world.RunningClock.{RunningClock}
+use Rattle.ptpm_world.specs.Trace.{clock_lines}
+use Rattle.ptpm_world.proofs.TraceLemmas.{data-written, written-more}
+use Rattle.ptpm_world.proofs.trace.write_data_sets.Goals as goal
+
+pub loop-clock-init : goal.loop-clock-init
+loop-clock-init g c = Appends-nil (g.W.Write.contents c.args.out.now)
+
+pub loop-clock-preserved : goal.loop-clock-preserved
+loop-clock-preserved g c =
+    let written = subst (Appends (g.W.Write.contents c.loop-clock.out) (g.W.Write.contents c.write_sets.new.out))
+    (λ i. clock_lines (c.as_str.ensures i) (c.sets.ensures i)) c.in_ok-write_sets.ensures in
+    written-more _ _ _ (λ (s : RunningClock). clock_lines s.name s.agent.sets) c.args.world.now.clocks.items c.loop-clock.clock-index c.clock-item.result (omega (arith, ap length c.deref-clock-items.ensures.value)) (c.clock-item.is ∙ ap (λ l. get_or l c.loop-clock.clock-index c.clock-item.result) c.deref-clock-items.ensures.value)
+    c.loop-clock.invariant written
+
+pub returns : goal.returns
+returns g c =
+    subst (Appends (g.W.Write.contents c.args.out.now) (g.W.Write.contents c.loop-clock.out))
+    (ap (flat_map (λ (s : RunningClock). clock_lines s.name s.agent.sets)) (take_all c.loop-clock.clock-index c.args.world.now.clocks.items (omega (arith, ap length c.deref-clock-items.ensures.value))) ∙ data-written c.args.world.now) c.loop-clock.invariant

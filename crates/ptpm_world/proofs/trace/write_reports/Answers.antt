@@ -1,0 +1,24 @@
+use Rattle.std.proofs.Common.{arith, subst, length, get_or, ap, ◌∙◌}
+use Rattle.std.specs.Prelude.{flat_map}
+use Rattle.std.specs.Io.KnownBytes.{Appends}
+use Rattle.std.proofs.KnownBytes.{Appends-nil}
+use Rattle.std.proofs.lemmas.List.{take_all}
+use Rattle.ptpm_world.specs.declared.world.RunningSession.{RunningSession}
+use Rattle.ptpm_world.specs.Trace.{session_lines}
+use Rattle.ptpm_world.proofs.TraceLemmas.{reports-written, written-more}
+use Rattle.ptpm_world.proofs.trace.write_reports.Goals as goal
+
+pub loop-session-init : goal.loop-session-init
+loop-session-init g c = Appends-nil (g.W.Write.contents c.args.out.now)
+
+pub loop-session-preserved : goal.loop-session-preserved
+loop-session-preserved g c =
+    let written = subst (Appends (g.W.Write.contents c.loop-session.out) (g.W.Write.contents c.write_session.new.out))
+    (λ i. session_lines (c.as_str.ensures i) (c.as_slice.ensures.value i)) c.in_ok-write_session.ensures in
+    written-more _ _ _ (λ (s : RunningSession). session_lines s.name s.reports.items) c.args.world.now.sessions.items c.loop-session.session-index c.session-item.result (omega (arith, ap length c.deref-session-items.ensures.value)) (c.session-item.is ∙ ap (λ l. get_or l c.loop-session.session-index c.session-item.result) c.deref-session-items.ensures.value)
+    c.loop-session.invariant written
+
+pub returns : goal.returns
+returns g c =
+    subst (Appends (g.W.Write.contents c.args.out.now) (g.W.Write.contents c.loop-session.out))
+    (ap (flat_map (λ (s : RunningSession). session_lines s.name s.reports.items)) (take_all c.loop-session.session-index c.args.world.now.sessions.items (omega (arith, ap length c.deref-session-items.ensures.value))) ∙ reports-written c.args.world.now) c.loop-session.invariant
