@@ -81,8 +81,8 @@ abbrev pub IsExchange : Network → ℕ → NetworkState → List Event → Type
 IsExchange N s w [] = Unit {0}
 IsExchange N s w (e ∷ es) = IsSendOrDelivery s e × (refusal N w e ≡ None) × (is_late_delivery w e ≡ false) × IsExchange N s (step N w e) es
 
--- The unanswered request of a session is answered by one copy each way over these clocks: it is sent once, and each copy comes
--- in at each of them and at the end.
+-- The unanswered request of a session is answered by sending and deliveries alone: by as many events as one sending and one copy
+-- each way over these clocks take.
 pub record IsAnswerable (N : Network) (w : NetworkState) (s : ℕ) (hops : List Hop) : Type 0 where
   pub more : List Event
   pub exchange : IsExchange N s w more

@@ -71,9 +71,8 @@ pub fn one_copy_each_way()
 
 /// Nothing deadlocks. After every list of events, late deliveries among them: where a session waits for a report and may send
 /// once more, a way leads to its target over clocks that pass messages on, and there is room for the frames, the request can
-/// be answered: the session sends it, one copy comes in at each clock of the way and at the target, and one of the reply at
-/// each clock on the way back and at the session. No event of these is refused, and no delivery is late, so a running network
-/// goes through them as the machine does.
+/// be answered by sending and deliveries alone: by as many events as one sending and one copy each way take. No event of these
+/// is refused, and no delivery is late, so a running network goes through them as the machine does.
 pub fn answerable_along_a_way()
     ensures answered { (N : Network) (es : List Event) (s : ℕ) (hops : List Hop) (port ends : ℕ) →
         IsNetwork N → AllByRecursion IsInRange es → s < N.sessions →
