@@ -1,5 +1,5 @@
 -- One copy each way along a way answers the request: the session sends it, the way gives the deliveries, and it is reported.
-use Rattle.std.proofs.Common.{suc, arith, ◌≡◌, ℕ, ◌<◌, ◌≤◌, ◌+◌, ◌-◌, ◌*◌, ◌==◌, List, [], ◌∷◌, ◌++◌, Some, None, true, false, refl, sym, ◌∙◌, ap, subst, length, length-append}
+use Rattle.std.proofs.Common.{arith, ◌≡◌, ℕ, ◌<◌, ◌≤◌, ◌+◌, ◌-◌, ◌==◌, List, [], ◌∷◌, ◌++◌, Some, None, true, false, refl, sym, ◌∙◌, ap, subst, length, length-append}
 use Rattle.std.proofs.lemmas.Bool.{cond-true, eq-eqb, eqb-false, ne_eqb}
 use Rattle.std.specs.Prelude.{is_none, is_some, not, option_map}
 use Rattle.std.specs.List.{AllByRecursion, list_any}
@@ -12,14 +12,14 @@ use Rattle.ptpm_data.specs.Request.{RequestValue}
 use Rattle.ptpm_manager.specs.declared.error.SendError.TheVariants as sends
 use Rattle.ptpm_manager.specs.Session.{SessionValue, is_waiting, send_refusal}
 use Rattle.ptpm_manager.specs.Setup.{request_message}
-use Rattle.ptpm_network.specs.Events.{Begin, Deliver, Event, IsInRange, Resume, Retune, Send, Stranger, SendRefused, frames_limit, no_room, refusal, send_refused}
+use Rattle.ptpm_network.specs.Events.{Deliver, Event, IsInRange, Send, SendRefused, frames_limit, no_room, refusal, send_refused}
 use Rattle.ptpm_network.specs.Exchange.{HasReported, HasRoom}
 use Rattle.ptpm_network.specs.Invariant.{IsReached}
 use Rattle.ptpm_network.specs.Machine as machine
-use Rattle.ptpm_network.specs.Machine.{AreInTime, happens, run, sent_frames, step, taken}
+use Rattle.ptpm_network.specs.Machine.{AreInTime, happens, is_late_frame, run, sent_frames, step, taken}
 use Rattle.ptpm_network.specs.Network.{AtPort, AtSession, End, IsNetwork, Network, peers, ports, same_end}
 use Rattle.ptpm_network.specs.State.{Frame, NetworkState, RequestOf, ReplyTo, SessionState, at_first, greatest_accepted, is_idle, is_late, issued, new_frames, session_value, unanswered}
-use Rattle.ptpm_network.specs.Way.{Hop, IsAnswerable, IsExchange, IsSendOrDelivery, IsWay, LinksHaveAtMost, PassesOn, made_along, made_each_way, passed_at_most}
+use Rattle.ptpm_network.specs.Way.{ComeIn, ComesIn, Hop, IsAnswerable, IsWay, LinksHaveAtMost, PassesOn, ends_of, handed_in, made_along, made_each_way, passed_at_most, visited}
 use Rattle.ptpm_network.proofs.Carrying.{IsIn, MakesAtMost, add_most, few-made, in_any, in_map, in_right, length-map_same}
 use Rattle.ptpm_network.proofs.Exchanging.{delivery-step, is_room, reports-answer, said-domain, said-hops, step-taken}
 use Rattle.ptpm_network.proofs.Lists.{all_weaker, with_place-same}
@@ -28,7 +28,7 @@ use Rattle.ptpm_network.proofs.Reaching.{frame_at-is}
 use Rattle.ptpm_network.proofs.Schedule.{reached}
 use Rattle.ptpm_network.proofs.Steps.{sends-reached, unanswered-last}
 use Rattle.ptpm_network.proofs.Worth.{session-named, unanswered-some}
-use Rattle.ptpm_network.proofs.RoundTrip.{Comes, Trip, exchange-append, first_end, in_time, leads-first, numbered, one-delivery, passes-stays, room-now, round_trip, run-append, within}
+use Rattle.ptpm_network.proofs.RoundTrip.{Comes, Trip, come_in-append, ends-append, first_end, in_time, leads-first, numbered, one-delivery, passes-stays, room-now, round_trip, run-append, within}
 
 -- ---- the session sends, and is answered
 
@@ -134,7 +134,7 @@ sent-few N w s most sent few =
 -- the last delivery, at the session
 record Told (N : Network) (s : ℕ) (z : NetworkState) : Type 0 where
   pub number : ℕ
-  pub exchange : IsExchange N s z (Deliver number ∷ [])
+  pub comes_in : ComesIn N z number (AtSession s)
   pub reported : HasReported z (step N z (Deliver number)) s
 
 tell : (N : Network) (s : ℕ) (z : NetworkState) (k domain hops : ℕ) → IsNetwork N → s < N.sessions → IsReached N z → HasRoom z → issued z s ≡ k → is_idle (z.session s) ≡ false → (z.session s).domain ≡ domain → Comes z (AtSession s) (ReplyTo s k) domain hops → Told N s z
@@ -144,13 +144,10 @@ tell N s z k domain hops n place r room is busy here comes =
     let i = frame_at-is N z number.0 f r number.1 in
     record {
       number = number.0;
-      exchange = one-delivery N s z number.0 f number.1 room (ap (is_late z) comes.origin_is ∙ in_time z s k is);
+      comes_in = one-delivery N z number.0 f (AtSession s) number.1 comes.at_end room (ap (is_late z) comes.origin_is ∙ in_time z s k is);
       reported = subst (λ (x : NetworkState). HasReported z x s) (sym (delivery-step N z number.0 f (AtSession s) number.1 comes.at_end room))
           (reports-answer N z s f n r place i (comes.origin_is ∙ ap (ReplyTo s) (sym is)) busy (comes.domain_is ∙ sym here));
     }
-
-three_more : (n size : ℕ) → size ≡ 2 * n + 1 → suc (size + 1) ≡ 2 * n + 3
-three_more n size e = omega arith
 
 room-sent : (a b most m limit : ℕ) → b ≤ a + most → a + (most + m) ≤ limit → b + m ≤ limit
 room-sent a b most m limit p le = omega arith
@@ -159,30 +156,30 @@ room-after : (a b m limit : ℕ) → b ≤ a + m → a + m ≤ limit → b ≤ l
 room-after a b m limit p le = omega arith
 
 -- from the state in which it is sent
-record AfterSend (N : Network) (w u : NetworkState) (s : ℕ) (hops : List Hop) : Type 0 where
-  pub events : List Event
-  pub size : suc (length events) ≡ 2 * length hops + 3
-  pub exchange : IsExchange N s u events
-  pub reported : HasReported w (run N u events) s
+record AfterSend (N : Network) (w u : NetworkState) (s : ℕ) (hops : List Hop) (to : End) : Type 0 where
+  pub deliveries : List (ℕ × End)
+  pub along : ends_of deliveries ≡ visited hops to ++ AtSession s ∷ []
+  pub come_in : ComeIn N u deliveries
+  pub reported : HasReported w (run N u (handed_in deliveries)) s
 
-after_trip : (N : Network) (w u : NetworkState) (s : ℕ) (hops : List Hop) (most : ℕ) → IsNetwork N → s < N.sessions → is_idle (w.session s) ≡ false → IsSameSession w u s
-    → length u.frames + made_along most hops ≤ frames_limit → Trip N s u most (issued w s) (w.session s).domain 0 hops (AtSession s) → AfterSend N w u s hops
-after_trip N w u s hops most n place busy same room trip =
-    let z : NetworkState = run N u trip.events in
+after_trip : (N : Network) (w u : NetworkState) (s : ℕ) (hops : List Hop) (to : End) (most : ℕ) → IsNetwork N → s < N.sessions → is_idle (w.session s) ≡ false → IsSameSession w u s
+    → length u.frames + made_along most hops ≤ frames_limit → Trip N s u most (issued w s) (w.session s).domain 0 hops to (AtSession s) → AfterSend N w u s hops to
+after_trip N w u s hops to most n place busy same room trip =
+    let z : NetworkState = run N u (handed_in trip.deliveries) in
     let same_z : IsSameSession w z s = same-moved w u z s trip.moved.sessions same in
     let room_z : HasRoom z = room-after (length u.frames) (length z.frames) (made_along most hops) frames_limit trip.moved.frames room in
     let told = tell N s z (issued w s) (w.session s).domain 0 n place trip.moved.reached room_z same_z.counted (same_z.idle ∙ busy) same_z.domain trip.comes in
-    let last : List Event = Deliver told.number ∷ [] in
-    let end : run N u (trip.events ++ last) ≡ step N z (Deliver told.number) = run-append N u trip.events last in
+    let last : List (ℕ × End) = (told.number, AtSession s) ∷ [] in
+    let end : run N u (handed_in (trip.deliveries ++ last)) ≡ step N z (Deliver told.number) = run-append N u trip.deliveries last in
     record {
-      events = trip.events ++ last;
-      size = ap suc (length-append trip.events last) ∙ three_more (length hops) (length trip.events) trip.size;
-      exchange = exchange-append N s u trip.events last trip.exchange told.exchange;
+      deliveries = trip.deliveries ++ last;
+      along = ends-append trip.deliveries last ∙ ap (λ es. es ++ AtSession s ∷ []) trip.along;
+      come_in = come_in-append N u trip.deliveries last trip.come_in (told.comes_in, tt);
       reported = subst (λ (x : NetworkState). HasReported w x s) (sym end) (reported-since w z (step N z (Deliver told.number)) s same_z told.reported);
     }
 
 after-send : (N : Network) (w : NetworkState) (s : ℕ) (hops : List Hop) (port most : ℕ) (q : RequestValue) → IsNetwork N → IsReached N w → s < N.sessions → MakesAtMost N most → unanswered (w.session s) ≡ Some q → is_idle (w.session s) ≡ false → IsWay N w s hops port
-    → length w.frames + (most + made_along most hops) ≤ frames_limit → AfterSend N w (machine.sends N w s) s hops
+    → length w.frames + (most + made_along most hops) ≤ frames_limit → AfterSend N w (machine.sends N w s) s hops (AtPort (N.session s).target port)
 after-send N w s hops port most q n r place few e busy way room =
     let u : NetworkState = machine.sends N w s in
     let t = (N.session s).target in
@@ -194,7 +191,7 @@ after-send N w s hops port most q n r place few e busy way room =
     let room_u : length u.frames + made_along most hops ≤ frames_limit = room-sent (length w.frames) (length u.frames) most (made_along most hops) frames_limit (sent-few N w s most sent few) room in
     let sum : 0 + (N.session s).setup.hops ≡ (N.session s).setup.hops = omega arith in
     let passes = all_weaker (PassesOn N w t domain) (PassesOn N u t domain) (λ g p. passes-stays N w u t domain g refl p) hops way.passes in
-    after_trip N w u s hops most n place busy same room_u
+    after_trip N w u s hops to most n place busy same room_u
     (round_trip N s hops u most (issued w s) domain (N.session s).setup.hops 0 port (AtSession s) n place few (sends-reached N w s n place r) same.counted room_u sum way.hops_suffice way.leads passes way.heard comes)
 
 fewer : (reports begun : ℕ) → reports ≤ begun → (reports ≡ begun → ⊥) → reports < begun
@@ -207,48 +204,43 @@ le_both : (a b c : ℕ) → a ≤ b → b ≤ c → a ≤ c
 le_both a b c x y = omega arith
 
 answerable-at : (N : Network) (w : NetworkState) (s : ℕ) (hops : List Hop) (port most : ℕ) → IsNetwork N → IsReached N w → s < N.sessions → MakesAtMost N most → is_idle (w.session s) ≡ false → 0 < (w.session s).attempts_left → IsWay N w s hops port
-    → length w.frames + (most + made_along most hops) ≤ frames_limit → IsAnswerable N w s hops
+    → length w.frames + (most + made_along most hops) ≤ frames_limit → IsAnswerable N w s hops port
 answerable-at N w s hops port most n r place few busy attempts way room =
     let at = r.sessions s place in
     let waits = unanswered-some (w.session s) (fewer (length (w.session s).reports) (length (w.session s).begun) (le_both (length (w.session s).reports) (greatest_accepted N w s) (length (w.session s).begun) at.accepted_before at.begun_before) (eqb-false _ _ busy)) in
     let goes = send-taken N w s waits.0 place (room-now (length w.frames) (most + made_along most hops) frames_limit room) waits.1 (not_zero (w.session s).attempts_left attempts) in
-    let after = subst (λ (u : NetworkState). AfterSend N w u s hops) (sym (send-step N w s goes)) (after-send N w s hops port most waits.0 n r place few waits.1 busy way room) in
-    record {
-      more = Send s ∷ after.events;
-      exchange = (refl, goes, refl, after.exchange);
-      one_each_way = after.size;
-      reported = after.reported;
-    }
+    let after = subst (λ (u : NetworkState). AfterSend N w u s hops (AtPort (N.session s).target port)) (sym (send-step N w s goes)) (after-send N w s hops port most waits.0 n r place few waits.1 busy way room) in
+    record { sent = goes; deliveries = after.deliveries; along = after.along; come_in = after.come_in; reported = after.reported }
 
 pub answerable : (N : Network) (es : List Event) (s : ℕ) (hops : List Hop) (port ends : ℕ) → IsNetwork N → AllByRecursion IsInRange es → s < N.sessions
     → is_idle ((run N (at_first N) es).session s) ≡ false → 0 < ((run N (at_first N) es).session s).attempts_left
     → IsWay N (run N (at_first N) es) s hops port → LinksHaveAtMost N ends
     → length (run N (at_first N) es).frames + made_each_way ends hops ≤ frames_limit
-    → IsAnswerable N (run N (at_first N) es) s hops
+    → IsAnswerable N (run N (at_first N) es) s hops port
 answerable N es s hops port ends n range place busy attempts way all room =
     answerable-at N (run N (at_first N) es) s hops port (passed_at_most ends) n (reached N es n range) place (few-made N ends all) busy attempts way room
 
--- ---- a network that runs goes through an exchange too
+-- ---- a network that runs goes through these events too
 
-exchange-taken : (N : Network) (s : ℕ) (w : NetworkState) (es : List Event) → IsExchange N s w es → taken N w es ≡ es
-exchange-taken N s w [] x = refl
-exchange-taken N s w (e ∷ es) x = cond-true _ _ _ (ap is_none x.1) ∙ ap (λ rest. e ∷ rest) (exchange-taken N s (step N w e) es x.3)
+come_in-taken : (N : Network) (w : NetworkState) (ds : List (ℕ × End)) → ComeIn N w ds → taken N w (handed_in ds) ≡ handed_in ds
+come_in-taken N w [] x = refl
+come_in-taken N w (d ∷ ds) x = cond-true _ _ _ (ap is_none (x.0).not_refused) ∙ ap (λ rest. Deliver d.0 ∷ rest) (come_in-taken N (step N w (Deliver d.0)) ds x.1)
 
-exchange-in_time : (N : Network) (s : ℕ) (w : NetworkState) (es : List Event) → IsExchange N s w es → AreInTime N w es
-exchange-in_time N s w [] x = tt
-exchange-in_time N s w (e ∷ es) x = (λ none. x.2, exchange-in_time N s (step N w e) es x.3)
+come_in-in_time : (N : Network) (w : NetworkState) (ds : List (ℕ × End)) → ComeIn N w ds → AreInTime N w (handed_in ds)
+come_in-in_time N w [] x = tt
+come_in-in_time N w (d ∷ ds) x = (λ none. ap (is_late_frame w) (x.0).is ∙ (x.0).in_time, come_in-in_time N (step N w (Deliver d.0)) ds x.1)
 
-in_range-one : (s : ℕ) (e : Event) → IsSendOrDelivery s e → IsInRange e
-in_range-one s (Begin t ask) x = absurd x
-in_range-one s (Send t) x = tt
-in_range-one s (Resume t attempts) x = tt
-in_range-one s (Retune t domain) x = tt
-in_range-one s (Deliver n) x = tt
-in_range-one s (Stranger c port datagram) x = absurd x
+handed_in-in_range : (ds : List (ℕ × End)) → AllByRecursion IsInRange (handed_in ds)
+handed_in-in_range [] = tt
+handed_in-in_range (d ∷ ds) = (tt, handed_in-in_range ds)
 
-exchange-in_range : (N : Network) (s : ℕ) (w : NetworkState) (es : List Event) → IsExchange N s w es → AllByRecursion IsInRange es
-exchange-in_range N s w [] x = tt
-exchange-in_range N s w (e ∷ es) x = (in_range-one s e x.0, exchange-in_range N s (step N w e) es x.3)
+-- the events that answer
+abbrev pub answering : ℕ → List (ℕ × End) → List Event
+answering s ds = Send s ∷ handed_in ds
 
-pub exchange-runs : (N : Network) (s : ℕ) (w : NetworkState) (es : List Event) → IsExchange N s w es → AllByRecursion IsInRange es × (taken N w es ≡ es) × AreInTime N w es
-exchange-runs N s w es x = (exchange-in_range N s w es x, exchange-taken N s w es x, exchange-in_time N s w es x)
+pub answer-runs : (N : Network) (w : NetworkState) (s : ℕ) (hops : List Hop) (port : ℕ) (a : IsAnswerable N w s hops port) → AllByRecursion IsInRange (answering s a.deliveries) × (taken N w (answering s a.deliveries) ≡ answering s a.deliveries) × AreInTime N w (answering s a.deliveries)
+answer-runs N w s hops port a = (
+  (tt, handed_in-in_range a.deliveries),
+  cond-true _ _ _ (ap is_none a.sent) ∙ ap (λ rest. Send s ∷ rest) (come_in-taken N (step N w (Send s)) a.deliveries a.come_in),
+  (λ none. refl, come_in-in_time N (step N w (Send s)) a.deliveries a.come_in),
+)

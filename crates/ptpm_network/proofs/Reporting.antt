@@ -14,7 +14,7 @@ use Rattle.ptpm_network.specs.Stands.{AreFirsts, Running, Stands, starting}
 use Rattle.ptpm_network.specs.State.{NetworkState, SessionState, at_first, is_idle, session_value}
 use Rattle.ptpm_network.specs.Way.{Hop, IsAnswerable, IsWay, LinksHaveAtMost, RunsToReport, made_each_way}
 use Rattle.ptpm_network.specs.Worth.{IsWorth}
-use Rattle.ptpm_network.proofs.Answerable.{answerable, exchange-runs}
+use Rattle.ptpm_network.proofs.Answerable.{answer-runs, answerable, answering}
 use Rattle.ptpm_network.proofs.Running.{ran-running, ran-stands}
 use Rattle.ptpm_network.proofs.Schedule.{reached}
 use Rattle.ptpm_network.proofs.Standing.{stands-at_first}
@@ -33,22 +33,24 @@ running-worth N es first s i r n range firsts time place e =
 idle-not_waiting : (N : Network) (s : ℕ) (x : SessionState) → is_idle x ≡ true → is_waiting (session_value (N.session s) x) ≡ false
 idle-not_waiting N s x idle = ap is_some (cond-true _ _ _ idle)
 
-runs-to_report : (N : Network) (first : PortIdentity → ℕ) (r : Running) (w : NetworkState) (s : ℕ) (hops : List Hop) → s < N.sessions → Stands N first r w → (a : IsAnswerable N w s hops) → Stands N first (ran N r a.more) (run N w a.more) → RunsToReport N r s hops
-runs-to_report N first r w s hops place at a next = record {
-  more = a.more;
-  one_each_way = a.one_each_way;
+runs-to_report : (N : Network) (first : PortIdentity → ℕ) (r : Running) (w : NetworkState) (s : ℕ) (hops : List Hop) (port : ℕ) → s < N.sessions → Stands N first r w → (a : IsAnswerable N w s hops port)
+    → Stands N first (ran N r (answering s a.deliveries)) (run N w (answering s a.deliveries)) → RunsToReport N r s hops port
+runs-to_report N first r w s hops port place at a next = record {
+  deliveries = a.deliveries;
+  along = a.along;
   report = a.reported.report;
   reports = next.reports s place ∙ a.reported.reports ∙ ap (λ rs. rs ++ a.reported.report ∷ []) (sym (at.reports s place));
-  idle = ap is_waiting (next.sessions s place) ∙ idle-not_waiting N s ((run N w a.more).session s) a.reported.idle;
+  idle = ap is_waiting (next.sessions s place) ∙ idle-not_waiting N s ((run N w (answering s a.deliveries)).session s) a.reported.idle;
 }
 
 pub running-answered : (N : Network) (es : List Event) (first : PortIdentity → ℕ) (r : Running) (s : ℕ) (hops : List Hop) (port ends : ℕ) → IsNetwork N → AllByRecursion IsInRange es → AreFirsts N first → Stands N first r (run N (at_first N) es) → s < N.sessions
     → is_idle ((run N (at_first N) es).session s) ≡ false → 0 < ((run N (at_first N) es).session s).attempts_left
     → IsWay N (run N (at_first N) es) s hops port → LinksHaveAtMost N ends → length (run N (at_first N) es).frames + made_each_way ends hops ≤ frames_limit
-    → RunsToReport N r s hops
+    → RunsToReport N r s hops port
 running-answered N es first r s hops port ends n range firsts at place busy attempts way all room =
     let w : NetworkState = run N (at_first N) es in
-    let a : IsAnswerable N w s hops = answerable N es s hops port ends n range place busy attempts way all room in
-    let runs = exchange-runs N s w a.more a.exchange in
-    let next = ran-stands N first r w a.more firsts n (reached N es n range) at runs.0 (taken-in_time N (run N (at_first N) es) a.more runs.2) in
-    runs-to_report N first r w s hops place at a (subst (λ ts. Stands N first (ran N r a.more) (run N w ts)) runs.1 next)
+    let a : IsAnswerable N w s hops port = answerable N es s hops port ends n range place busy attempts way all room in
+    let more : List Event = answering s a.deliveries in
+    let runs = answer-runs N w s hops port a in
+    let next = ran-stands N first r w more firsts n (reached N es n range) at runs.0 (taken-in_time N w more runs.2) in
+    runs-to_report N first r w s hops port place at a (subst (λ ts. Stands N first (ran N r more) (run N w ts)) runs.1 next)

@@ -6,14 +6,14 @@ use Rattle.std.specs.List.{AllByRecursion, list_any}
 use Rattle.ptpm_codec.specs.Layout.{boundary_hops, domain_number}
 use Rattle.ptpm_data.specs.Members.{may_forward}
 use Rattle.ptpm_agent.specs.Once.{History, greatest}
-use Rattle.ptpm_network.specs.Events.{Deliver, Event, frame_at, frames_limit}
+use Rattle.ptpm_network.specs.Events.{Deliver, frame_at, frames_limit}
 use Rattle.ptpm_network.specs.Exchange.{HasReplied, HasRoom, IsHeardBy}
 use Rattle.ptpm_network.specs.Invariant.{IsOfOrigin, IsReached}
 use Rattle.ptpm_network.specs.Machine as machine
-use Rattle.ptpm_network.specs.Machine.{delivered_at_clock, is_late_frame, run, step}
+use Rattle.ptpm_network.specs.Machine.{delivered_at_clock, run, step}
 use Rattle.ptpm_network.specs.Network.{AtPort, End, HasEnd, IsNetwork, Network, manager, peers, same_end}
 use Rattle.ptpm_network.specs.State.{Frame, NetworkState, Origin, RequestOf, ReplyTo, SessionState, greatest_accepted, history, is_late, issued, new_frames}
-use Rattle.ptpm_network.specs.Way.{AreLinked, Hop, IsExchange, Leads, PassesOn, made_along}
+use Rattle.ptpm_network.specs.Way.{AreLinked, ComeIn, ComesIn, Hop, Leads, PassesOn, ends_of, handed_in, made_along, visited}
 use Rattle.ptpm_network.proofs.Arriving.{history-elsewhere}
 use Rattle.ptpm_network.proofs.Carrying.{IsIn, IsPassing, MakesAtMost, MayPass, add_most, in_any, in_map, in_right, length-map_same, passed-domain, passed-hops, passed_copy, passing-few, passing-history, passing-made, reply-passing, request-passing}
 use Rattle.ptpm_network.proofs.Exchanging.{delivery-step, delivery-taken, replied}
@@ -22,13 +22,17 @@ use Rattle.ptpm_network.proofs.Reaching.{frame_at-is, step-reached}
 
 -- ---- one event after another
 
-pub run-append : (N : Network) (w : NetworkState) (xs ys : List Event) → run N w (xs ++ ys) ≡ run N (run N w xs) ys
+pub run-append : (N : Network) (w : NetworkState) (xs ys : List (ℕ × End)) → run N w (handed_in (xs ++ ys)) ≡ run N (run N w (handed_in xs)) (handed_in ys)
 run-append N w [] ys = refl
-run-append N w (x ∷ xs) ys = run-append N (step N w x) xs ys
+run-append N w (d ∷ ds) ys = run-append N (step N w (Deliver d.0)) ds ys
 
-pub exchange-append : (N : Network) (s : ℕ) (w : NetworkState) (xs ys : List Event) → IsExchange N s w xs → IsExchange N s (run N w xs) ys → IsExchange N s w (xs ++ ys)
-exchange-append N s w [] ys a b = b
-exchange-append N s w (x ∷ xs) ys a b = (a.0, a.1, a.2, exchange-append N s (step N w x) xs ys a.3 b)
+pub come_in-append : (N : Network) (w : NetworkState) (xs ys : List (ℕ × End)) → ComeIn N w xs → ComeIn N (run N w (handed_in xs)) ys → ComeIn N w (xs ++ ys)
+come_in-append N w [] ys a b = b
+come_in-append N w (d ∷ ds) ys a b = (a.0, come_in-append N (step N w (Deliver d.0)) ds ys a.1 b)
+
+pub ends-append : (xs ys : List (ℕ × End)) → ends_of (xs ++ ys) ≡ ends_of xs ++ ends_of ys
+ends-append [] ys = refl
+ends-append (d ∷ ds) ys = ap (λ es. d.1 ∷ es) (ends-append ds ys)
 
 -- what deliveries on the way leave as it was: sessions, and all clocks but the target
 pub record Moved (N : Network) (s : ℕ) (w u : NetworkState) (made : ℕ) : Type 0 where
@@ -69,15 +73,14 @@ numbered frames f p =
 pub in_time : (w : NetworkState) (s k : ℕ) → issued w s ≡ k → is_late w (RequestOf s k) ≡ false
 in_time w s k e = le-ltb (k + 32768) (issued w s) (omega (arith, e))
 
--- one delivery is an exchange
-pub one-delivery : (N : Network) (s : ℕ) (w : NetworkState) (n : ℕ) (f : Frame) → frame_at w.frames n ≡ Some f → HasRoom w → is_late w f.origin ≡ false → IsExchange N s w (Deliver n ∷ [])
-one-delivery N s w n f e room late = (tt, delivery-taken N w n f e room, ap (is_late_frame w) e ∙ late, tt)
+pub one-delivery : (N : Network) (w : NetworkState) (n : ℕ) (f : Frame) (end : End) → frame_at w.frames n ≡ Some f → f.end ≡ end → HasRoom w → is_late w f.origin ≡ false → ComesIn N w n end
+one-delivery N w n f end e q room late = record { frame = f; is = e; at_end = q; not_refused = delivery-taken N w n f e room; in_time = late }
 
 -- ---- a clock passes it on
 
-record Passed (N : Network) (s : ℕ) (w : NetworkState) (most : ℕ) (e : End) (o : Origin) (domain hops : ℕ) : Type 0 where
+record Passed (N : Network) (s : ℕ) (w : NetworkState) (most : ℕ) (at e : End) (o : Origin) (domain hops : ℕ) : Type 0 where
   pub number : ℕ
-  pub exchange : IsExchange N s w (Deliver number ∷ [])
+  pub comes_in : ComesIn N w number at
   pub moved : Moved N s w (step N w (Deliver number)) most
   pub all : (d : ℕ) → history N (step N w (Deliver number)) d ≡ history N w d
   pub comes : Comes (step N w (Deliver number)) e o domain hops
@@ -92,7 +95,7 @@ record CanPass (N : Network) (w : NetworkState) (c p q : ℕ) (e : End) (domain 
 
 pass : (N : Network) (s : ℕ) (w : NetworkState) (most c p q : ℕ) (e : End) (o : Origin) (domain hops : ℕ) → IsNetwork N → MakesAtMost N most → IsReached N w → HasRoom w → is_late w o ≡ false
     → ((octets : List ℕ) → c < N.clocks → IsOfOrigin N w octets o → IsPassing (N.clock c).identity octets) → CanPass N w c p q e domain → 0 < hops → Comes w (AtPort c p) o domain hops
-    → Passed N s w most e o domain (hops - 1)
+    → Passed N s w most (AtPort c p) e o domain (hops - 1)
 pass N s w most c p q e o domain hops n few r room late passing can hop comes =
     let f = comes.frame in
     let number = numbered w.frames f comes.held in
@@ -125,7 +128,7 @@ pass N s w most c p q e o domain hops n few r room late passing can hop comes =
     } in
     record {
       number = number.0;
-      exchange = one-delivery N s w number.0 f number.1 room (ap (is_late w) comes.origin_is ∙ late);
+      comes_in = one-delivery N w number.0 f (AtPort c p) number.1 comes.at_end room (ap (is_late w) comes.origin_is ∙ late);
       moved = subst (λ (x : NetworkState). Moved N s w x most) (sym is) moved;
       all = subst (λ (x : NetworkState). (d : ℕ) → history N x d ≡ history N w d) (sym is) (λ d. passing-history N w c p f d v);
       comes = subst (λ (x : NetworkState). Comes x e o domain (hops - 1)) (sym is) comes_u;
@@ -134,12 +137,12 @@ pass N s w most c p q e o domain hops n few r room late passing can hop comes =
 -- ---- there and back
 
 -- the reply has come back to where the request came from
-pub record Trip (N : Network) (s : ℕ) (w : NetworkState) (most k domain lost : ℕ) (hops : List Hop) (from : End) : Type 0 where
-  pub events : List Event
-  pub size : length events ≡ 2 * length hops + 1
-  pub exchange : IsExchange N s w events
-  pub moved : Moved N s w (run N w events) (made_along most hops)
-  pub comes : Comes (run N w events) from (ReplyTo s k) domain lost
+pub record Trip (N : Network) (s : ℕ) (w : NetworkState) (most k domain lost : ℕ) (hops : List Hop) (to from : End) : Type 0 where
+  pub deliveries : List (ℕ × End)
+  pub along : ends_of deliveries ≡ visited hops to
+  pub come_in : ComeIn N w deliveries
+  pub moved : Moved N s w (run N w (handed_in deliveries)) (made_along most hops)
+  pub comes : Comes (run N w (handed_in deliveries)) from (ReplyTo s k) domain lost
 
 -- the target hears request k
 abbrev pub Hears : Network → NetworkState → ℕ → ℕ → ℕ → Type 0
@@ -159,7 +162,7 @@ within x most le = omega arith
 
 -- at the target
 turn_back : (N : Network) (s : ℕ) (w : NetworkState) (most k domain hops lost port : ℕ) (from : End) → IsNetwork N → s < N.sessions → MakesAtMost N most → IsReached N w → HasRoom w → issued w s ≡ k → lost + hops ≡ (N.session s).setup.hops
-    → AreLinked N from (AtPort (N.session s).target port) → Hears N w s k domain → Comes w (AtPort (N.session s).target port) (RequestOf s k) domain hops → Trip N s w most k domain lost [] from
+    → AreLinked N from (AtPort (N.session s).target port) → Hears N w s k domain → Comes w (AtPort (N.session s).target port) (RequestOf s k) domain hops → Trip N s w most k domain lost [] (AtPort (N.session s).target port) from
 turn_back N s w most k domain hops lost port from n place few r room e sum link hears comes =
     let f = comes.frame in
     let t = (N.session s).target in
@@ -190,9 +193,9 @@ turn_back N s w most k domain hops lost port from n place few r room e sum link 
       hops_are = hops_lost (boundary_hops back.reply) hops lost (N.session s).setup.hops (back.hops ∙ ap (λ h. (N.session s).setup.hops - h) comes.hops_are) sum;
     } in
     record {
-      events = Deliver number.0 ∷ [];
-      size = refl;
-      exchange = one-delivery N s w number.0 f number.1 room (ap (is_late w) comes.origin_is ∙ in_time w s k e);
+      deliveries = (number.0, AtPort t port) ∷ [];
+      along = refl;
+      come_in = (one-delivery N w number.0 f (AtPort t port) number.1 comes.at_end room (ap (is_late w) comes.origin_is ∙ in_time w s k e), tt);
       moved = subst (λ (x : NetworkState). Moved N s w x most) (sym is) moved;
       comes = subst (λ (x : NetworkState). Comes x from (ReplyTo s k) domain lost) (sym is) comes_u;
     }
@@ -223,14 +226,14 @@ hears-stays N w u s k domain same h = ⊎_elim
 
 -- a clock passes a request on to the far side, and the reply back to the near one
 pass_there : (N : Network) (s : ℕ) (w : NetworkState) (most k domain hops : ℕ) (h : Hop) (e : End) → IsNetwork N → MakesAtMost N most → IsReached N w → HasRoom w → issued w s ≡ k → PassesOn N w (N.session s).target domain h → list_any (same_end e) (peers N.links (AtPort h.clock h.far)) ≡ true → 0 < hops
-    → Comes w (AtPort h.clock h.near) (RequestOf s k) domain hops → Passed N s w most e (RequestOf s k) domain (hops - 1)
+    → Comes w (AtPort h.clock h.near) (RequestOf s k) domain hops → Passed N s w most (AtPort h.clock h.near) e (RequestOf s k) domain (hops - 1)
 pass_there N s w most k domain hops h e n few r room is p link hop comes =
     pass N s w most h.clock h.near h.far e (RequestOf s k) domain hops n few r room (in_time w s k is)
     (λ octets exists i. request-passing N w s k h.clock octets n r exists p.other i)
     (record { two_ports = λ q. p.two_ports (sym q); domain_is = p.in_domain; ingress = p.near; egress = p.far; link = link }) hop comes
 
 pass_back : (N : Network) (s : ℕ) (w : NetworkState) (most k domain hops : ℕ) (h : Hop) (e : End) → IsNetwork N → MakesAtMost N most → IsReached N w → HasRoom w → issued w s ≡ k → PassesOn N w (N.session s).target domain h → list_any (same_end e) (peers N.links (AtPort h.clock h.near)) ≡ true → 0 < hops
-    → Comes w (AtPort h.clock h.far) (ReplyTo s k) domain hops → Passed N s w most e (ReplyTo s k) domain (hops - 1)
+    → Comes w (AtPort h.clock h.far) (ReplyTo s k) domain hops → Passed N s w most (AtPort h.clock h.far) e (ReplyTo s k) domain (hops - 1)
 pass_back N s w most k domain hops h e n few r room is p link hop comes =
     pass N s w most h.clock h.far h.near e (ReplyTo s k) domain hops n few r room (in_time w s k is)
     (λ octets exists i. reply-passing N w s k h.clock octets n r exists p.other i)
@@ -251,9 +254,6 @@ room-next a b most m limit p le = omega arith
 room-last : (a b most m limit : ℕ) → b ≤ a + (most + m) → a + (most + (m + most)) ≤ limit → b ≤ limit
 room-last a b most m limit p le = omega arith
 
-two_more : (n size : ℕ) → size ≡ 2 * n + 1 → suc (size + 1) ≡ 2 * suc n + 1
-two_more n size e = omega arith
-
 plus_one : (lost : ℕ) → (lost + 1) - 1 ≡ lost
 plus_one lost = omega arith
 
@@ -264,32 +264,32 @@ sum-same : (a b c : ℕ) → (a + b) + c ≡ a + (b + c)
 sum-same a b c = omega arith
 
 -- what goes on behind a clock of the way, seen from before it
-record Behind (N : Network) (s : ℕ) (w : NetworkState) (most k domain lost : ℕ) (h : Hop) (hops : List Hop) : Type 0 where
+record Behind (N : Network) (s : ℕ) (w : NetworkState) (most k domain lost : ℕ) (h : Hop) (hops : List Hop) (to : End) : Type 0 where
   pub number : ℕ
-  pub exchange : IsExchange N s w (Deliver number ∷ [])
+  pub comes_in : ComesIn N w number (AtPort h.clock h.near)
   pub first : Moved N s w (step N w (Deliver number)) most
-  pub trip : Trip N s (step N w (Deliver number)) most k domain (lost + 1) hops (AtPort h.clock h.far)
+  pub trip : Trip N s (step N w (Deliver number)) most k domain (lost + 1) hops to (AtPort h.clock h.far)
 
-come_back : (N : Network) (s : ℕ) (w : NetworkState) (most k domain lost : ℕ) (h : Hop) (hops : List Hop) (from : End) → IsNetwork N → MakesAtMost N most → issued w s ≡ k → PassesOn N w (N.session s).target domain h
-    → AreLinked N from (AtPort h.clock h.near) → length w.frames + made_along most (h ∷ hops) ≤ frames_limit → Behind N s w most k domain lost h hops → Trip N s w most k domain lost (h ∷ hops) from
-come_back N s w most k domain lost h hops from n few is p link room b =
+come_back : (N : Network) (s : ℕ) (w : NetworkState) (most k domain lost : ℕ) (h : Hop) (hops : List Hop) (to from : End) → IsNetwork N → MakesAtMost N most → issued w s ≡ k → PassesOn N w (N.session s).target domain h
+    → AreLinked N from (AtPort h.clock h.near) → length w.frames + made_along most (h ∷ hops) ≤ frames_limit → Behind N s w most k domain lost h hops to → Trip N s w most k domain lost (h ∷ hops) to from
+come_back N s w most k domain lost h hops to from n few is p link room b =
     let u : NetworkState = step N w (Deliver b.number) in
     let trip = b.trip in
-    let z : NetworkState = run N u trip.events in
+    let z : NetworkState = run N u (handed_in trip.deliveries) in
     let m = made_along most hops in
     let moved : Moved N s w z (most + m) = moved-then N s w u z most m b.first trip.moved in
     let room_z : HasRoom z = room-last (length w.frames) (length z.frames) most m frames_limit moved.frames room in
     let passes : PassesOn N z (N.session s).target domain h = passes-stays N w z (N.session s).target domain h (moved.histories h.clock p.other) p in
     let passed = pass_back N s z most k domain (lost + 1) h from n few moved.reached room_z (issued-moved N s w z (most + m) k moved is) passes link.back (some_lost lost) trip.comes in
-    let events = trip.events ++ Deliver passed.number ∷ [] in
-    let end : run N u events ≡ step N z (Deliver passed.number) = run-append N u trip.events (Deliver passed.number ∷ []) in
-    let last : Moved N s w (step N z (Deliver passed.number)) (most + (m + most)) =
+    let last : List (ℕ × End) = (passed.number, AtPort h.clock h.far) ∷ [] in
+    let end : run N u (handed_in (trip.deliveries ++ last)) ≡ step N z (Deliver passed.number) = run-append N u trip.deliveries last in
+    let all : Moved N s w (step N z (Deliver passed.number)) (most + (m + most)) =
     subst (Moved N s w (step N z (Deliver passed.number))) (sum-same most m most) (moved-then N s w z (step N z (Deliver passed.number)) (most + m) most moved passed.moved) in
     record {
-      events = Deliver b.number ∷ events;
-      size = ap suc (length-append trip.events (Deliver passed.number ∷ [])) ∙ two_more (length hops) (length trip.events) trip.size;
-      exchange = (b.exchange.0, b.exchange.1, b.exchange.2, exchange-append N s u trip.events (Deliver passed.number ∷ []) trip.exchange passed.exchange);
-      moved = subst (λ (x : NetworkState). Moved N s w x (most + (m + most))) (sym end) last;
+      deliveries = (b.number, AtPort h.clock h.near) ∷ (trip.deliveries ++ last);
+      along = ap (λ es. AtPort h.clock h.near ∷ es) (ends-append trip.deliveries last ∙ ap (λ es. es ++ AtPort h.clock h.far ∷ []) trip.along);
+      come_in = (b.comes_in, come_in-append N u trip.deliveries last trip.come_in (passed.comes_in, tt));
+      moved = subst (λ (x : NetworkState). Moved N s w x (most + (m + most))) (sym end) all;
       comes = subst (λ (x : NetworkState). Comes x from (ReplyTo s k) domain lost) (sym end)
           (subst (Comes (step N z (Deliver passed.number)) from (ReplyTo s k) domain) (plus_one lost) passed.comes);
     }
@@ -297,7 +297,7 @@ come_back N s w most k domain lost h hops from n few is p link room b =
 pub round_trip : (N : Network) (s : ℕ) (hops : List Hop) (w : NetworkState) (most k domain left lost port : ℕ) (from : End) → IsNetwork N → s < N.sessions → MakesAtMost N most → IsReached N w → issued w s ≡ k
     → length w.frames + made_along most hops ≤ frames_limit → lost + left ≡ (N.session s).setup.hops → length hops ≤ left
     → Leads N from hops (AtPort (N.session s).target port) → AllByRecursion (PassesOn N w (N.session s).target domain) hops → Hears N w s k domain
-    → Comes w (first_end hops (AtPort (N.session s).target port)) (RequestOf s k) domain left → Trip N s w most k domain lost hops from
+    → Comes w (first_end hops (AtPort (N.session s).target port)) (RequestOf s k) domain left → Trip N s w most k domain lost hops (AtPort (N.session s).target port) from
 round_trip N s [] w most k domain left lost port from n place few r is room sum le leads passes hears comes =
     turn_back N s w most k domain left lost port from n place few r (room-now (length w.frames) most frames_limit room) is sum leads hears comes
 round_trip N s (h ∷ hops) w most k domain left lost port from n place few r is room sum le leads passes hears comes =
@@ -311,4 +311,4 @@ round_trip N s (h ∷ hops) w most k domain left lost port from n place few r is
     (room-next (length w.frames) (length u.frames) most m frames_limit passed.moved.frames room) (one_less lost left (N.session s).setup.hops enough.0 sum) enough.1 leads.1
     (all_weaker (PassesOn N w t domain) (PassesOn N u t domain) (λ g q. passes-stays N w u t domain g (passed.all g.clock) q) hops passes.1)
     (hears-stays N w u s k domain (passed.all t) hears) passed.comes in
-    come_back N s w most k domain lost h hops from n few is passes.0 leads.0 room (record { number = passed.number; exchange = passed.exchange; first = passed.moved; trip = trip })
+    come_back N s w most k domain lost h hops (AtPort t port) from n few is passes.0 leads.0 room (record { number = passed.number; comes_in = passed.comes_in; first = passed.moved; trip = trip })

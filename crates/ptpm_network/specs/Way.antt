@@ -1,16 +1,16 @@
 -- A way from a session to its target over other clocks, and what it takes for one copy each way to come through.
-use Rattle.std.specs.Prelude.{◌≡◌, ◌≢◌, ℕ, ◌+◌, ◌*◌, ◌≤◌, true, false, List, [], ◌∷◌, ◌++◌, length, None, ◌⊎◌}
+use Rattle.std.specs.Prelude.{◌≡◌, ◌≢◌, ℕ, ◌+◌, ◌*◌, ◌≤◌, true, false, List, [], ◌∷◌, ◌++◌, length, Some, None, ◌⊎◌}
 use Rattle.std.specs.List.{AllByRecursion, list_any}
 use Rattle.ptpm_data.specs.Members.{may_forward}
 use Rattle.ptpm_manager.specs.declared.report.Report.{Report}
 use Rattle.ptpm_manager.specs.Session.{is_waiting}
-use Rattle.ptpm_network.specs.Events.{Event, Begin, Send, Resume, Retune, Deliver, Stranger, refusal}
+use Rattle.ptpm_network.specs.Events.{Event, Deliver, Send, frame_at, refusal}
 use Rattle.ptpm_network.specs.Exchange.{HasReported}
 use Rattle.ptpm_network.specs.Happening.{ran}
-use Rattle.ptpm_network.specs.Machine.{is_late_delivery, run, step}
+use Rattle.ptpm_network.specs.Machine.{run, step}
 use Rattle.ptpm_network.specs.Network.{AtPort, AtSession, End, Network, peers, same_end}
 use Rattle.ptpm_network.specs.Stands.{Running}
-use Rattle.ptpm_network.specs.State.{NetworkState, greatest_accepted, history, issued}
+use Rattle.ptpm_network.specs.State.{Frame, NetworkState, greatest_accepted, history, is_late, issued}
 
 -- ---- a way
 
@@ -65,34 +65,48 @@ made_along most (h ∷ hops) = most + (made_along most hops + most)
 abbrev pub made_each_way : ℕ → List Hop → ℕ
 made_each_way ends hops = passed_at_most ends + made_along (passed_at_most ends) hops
 
--- ---- an exchange
+-- ---- one copy each way
 
--- the session sends its request, or a frame comes in
-abbrev pub IsSendOrDelivery : ℕ → Event → Type 0
-IsSendOrDelivery s (Begin t ask) = ⊥
-IsSendOrDelivery s (Send t) = t ≡ s
-IsSendOrDelivery s (Resume t attempts) = ⊥
-IsSendOrDelivery s (Retune t domain) = ⊥
-IsSendOrDelivery s (Deliver n) = Unit {0}
-IsSendOrDelivery s (Stranger c port datagram) = ⊥
+-- the frame of this number comes in at this end: it is on its way there, and its delivery is neither refused nor late
+pub record ComesIn (N : Network) (w : NetworkState) (number : ℕ) (end : End) : Type 0 where
+  pub frame : Frame
+  pub is : frame_at w.frames number ≡ Some frame
+  pub at_end : frame.end ≡ end
+  pub not_refused : refusal N w (Deliver number) ≡ None
+  pub in_time : is_late w frame.origin ≡ false
 
--- events that send the session's request or hand in a frame, none of them refused or a late delivery
-abbrev pub IsExchange : Network → ℕ → NetworkState → List Event → Type 0
-IsExchange N s w [] = Unit {0}
-IsExchange N s w (e ∷ es) = IsSendOrDelivery s e × (refusal N w e ≡ None) × (is_late_delivery w e ≡ false) × IsExchange N s (step N w e) es
+-- frames come in one after another, each by its number and at its end
+abbrev pub ComeIn : Network → NetworkState → List (ℕ × End) → Type 0
+ComeIn N w [] = Unit {0}
+ComeIn N w (d ∷ ds) = ComesIn N w d.0 d.1 × ComeIn N (step N w (Deliver d.0)) ds
 
--- The unanswered request of a session is answered by sending and deliveries alone: by as many events as one sending and one copy
--- each way over these clocks take.
-pub record IsAnswerable (N : Network) (w : NetworkState) (s : ℕ) (hops : List Hop) : Type 0 where
-  pub more : List Event
-  pub exchange : IsExchange N s w more
-  pub one_each_way : length more ≡ 2 * length hops + 3
-  pub reported : HasReported w (run N w more) s
+-- the events of it, and the ends
+abbrev pub handed_in : List (ℕ × End) → List Event
+handed_in [] = []
+handed_in (d ∷ ds) = Deliver d.0 ∷ handed_in ds
 
--- The same of a network that runs: as many events lead it to one report more, and the session waits for nothing then.
-pub record RunsToReport (N : Network) (r : Running) (s : ℕ) (hops : List Hop) : Type 0 where
-  pub more : List Event
-  pub one_each_way : length more ≡ 2 * length hops + 3
+abbrev pub ends_of : List (ℕ × End) → List End
+ends_of [] = []
+ends_of (d ∷ ds) = d.1 ∷ ends_of ds
+
+-- the ends at which one copy each way comes in: each clock's near port and the target's port, then each clock's far port
+abbrev pub visited : List Hop → End → List End
+visited [] to = to ∷ []
+visited (h ∷ hops) to = AtPort h.clock h.near ∷ (visited hops to ++ AtPort h.clock h.far ∷ [])
+
+-- The unanswered request of a session can be answered over these clocks: the session sends it, one copy each way comes in at
+-- the ends of the way and at last at the session, with no other event between, and the request is reported.
+pub record IsAnswerable (N : Network) (w : NetworkState) (s : ℕ) (hops : List Hop) (port : ℕ) : Type 0 where
+  pub sent : refusal N w (Send s) ≡ None
+  pub deliveries : List (ℕ × End)
+  pub along : ends_of deliveries ≡ visited hops (AtPort (N.session s).target port) ++ AtSession s ∷ []
+  pub come_in : ComeIn N (step N w (Send s)) deliveries
+  pub reported : HasReported w (run N w (Send s ∷ handed_in deliveries)) s
+
+-- The same of a network that runs: such events lead it to one report more, and the session waits for nothing then.
+pub record RunsToReport (N : Network) (r : Running) (s : ℕ) (hops : List Hop) (port : ℕ) : Type 0 where
+  pub deliveries : List (ℕ × End)
+  pub along : ends_of deliveries ≡ visited hops (AtPort (N.session s).target port) ++ AtSession s ∷ []
   pub report : Report
-  pub reports : (ran N r more).reports s ≡ r.reports s ++ report ∷ []
-  pub idle : is_waiting ((ran N r more).session s) ≡ false
+  pub reports : (ran N r (Send s ∷ handed_in deliveries)).reports s ≡ r.reports s ++ report ∷ []
+  pub idle : is_waiting ((ran N r (Send s ∷ handed_in deliveries)).session s) ≡ false

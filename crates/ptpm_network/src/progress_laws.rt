@@ -1,21 +1,21 @@
 //! What a report is worth, and what the network has to do for a request to be answered. Each law is the contract of a function
 //! that does nothing, and speaks of the definitions alone.
 
-ghost use Rattle.std.specs.Prelude.{◌≡◌, ◌+◌, ◌<◌, ◌≤◌, ℕ, false, length, List, None, slice_get, Some};
+ghost use Rattle.std.specs.Prelude.{◌≡◌, ◌∷◌, ◌+◌, ◌<◌, ◌≤◌, ℕ, false, length, List, None, slice_get, Some};
 ghost use Rattle.std.specs.List.{AllByRecursion};
 ghost use Rattle.ptpm_codec.specs.declared.identity.PortIdentity.{PortIdentity};
 ghost use Rattle.ptpm_codec.specs.Layout.{domain_number};
 ghost use Rattle.ptpm_manager.specs.declared.ask.Ask.{Ask};
 ghost use Rattle.ptpm_manager.specs.declared.error.BeginError.TheVariants as begins;
 ghost use Rattle.ptpm_manager.specs.declared.report.Report.{Report};
-ghost use Rattle.ptpm_network.specs.Events.{Begin, BeginRefused, Deliver, Event, IsInRange, frame_at, frames_limit, refusal};
+ghost use Rattle.ptpm_network.specs.Events.{Begin, BeginRefused, Deliver, Event, IsInRange, Send, frame_at, frames_limit, refusal};
 ghost use Rattle.ptpm_network.specs.Exchange.{HasReplied, HasReported, HasRoom, IsHeardBy};
 ghost use Rattle.ptpm_network.specs.Happening.{ran};
 ghost use Rattle.ptpm_network.specs.Machine.{AreInTime, run, step, taken};
 ghost use Rattle.ptpm_network.specs.Network.{AtPort, AtSession, IsNetwork, Network};
 ghost use Rattle.ptpm_network.specs.Stands.{AreFirsts, Running, Stands, starting};
 ghost use Rattle.ptpm_network.specs.State.{Frame, NetworkState, ReplyTo, RequestOf, at_first, history, is_idle, is_late, issued};
-ghost use Rattle.ptpm_network.specs.Way.{Hop, IsAnswerable, IsExchange, IsWay, LinksHaveAtMost, RunsToReport, made_each_way};
+ghost use Rattle.ptpm_network.specs.Way.{Hop, IsAnswerable, IsWay, LinksHaveAtMost, RunsToReport, handed_in, made_each_way};
 ghost use Rattle.ptpm_network.specs.Worth.{IsWorth, entries_of};
 
 /// What is reported was carried out exactly once. After every list of events, late deliveries among them:
@@ -71,18 +71,20 @@ pub fn one_copy_each_way()
 
 /// Nothing deadlocks. After every list of events, late deliveries among them: where a session waits for a report and may send
 /// once more, a way leads to its target over clocks that pass messages on, and there is room for the frames, the request can
-/// be answered by sending and deliveries alone: by as many events as one sending and one copy each way take. No event of these
-/// is refused, and no delivery is late, so a running network goes through them as the machine does.
+/// be answered: the session sends it, one copy comes in at each clock of the way and at the target, then one at each clock on
+/// the way back and at the session, with no other event between, and the request is reported. No event of these is refused,
+/// and no delivery is late, so a running network goes through them as the machine does.
 pub fn answerable_along_a_way()
     ensures answered { (N : Network) (es : List Event) (s : ℕ) (hops : List Hop) (port ends : ℕ) →
         IsNetwork N → AllByRecursion IsInRange es → s < N.sessions →
         is_idle ((run N (at_first N) es).session s) ≡ false → 0 < ((run N (at_first N) es).session s).attempts_left →
         IsWay N (run N (at_first N) es) s hops port → LinksHaveAtMost N ends →
         length (run N (at_first N) es).frames + made_each_way ends hops ≤ frames_limit →
-        IsAnswerable N (run N (at_first N) es) s hops }
-    ensures runs { (N : Network) (s : ℕ) (w : NetworkState) (more : List Event) →
-        IsExchange N s w more →
-        AllByRecursion IsInRange more × (taken N w more ≡ more) × AreInTime N w more }
+        IsAnswerable N (run N (at_first N) es) s hops port }
+    ensures runs { (N : Network) (w : NetworkState) (s : ℕ) (hops : List Hop) (port : ℕ) (a : IsAnswerable N w s hops port) →
+        AllByRecursion IsInRange (Send s ∷ handed_in a.deliveries)
+        × (taken N w (Send s ∷ handed_in a.deliveries) ≡ Send s ∷ handed_in a.deliveries)
+        × AreInTime N w (Send s ∷ handed_in a.deliveries) }
 {}
 
 /// A network that runs, whose clocks and sessions tell requests apart by sequenceIds and octets, reports no less:
@@ -101,5 +103,5 @@ pub fn running_networks_report()
         is_idle ((run N (at_first N) es).session s) ≡ false → 0 < ((run N (at_first N) es).session s).attempts_left →
         IsWay N (run N (at_first N) es) s hops port → LinksHaveAtMost N ends →
         length (run N (at_first N) es).frames + made_each_way ends hops ≤ frames_limit →
-        RunsToReport N r s hops }
+        RunsToReport N r s hops port }
 {}

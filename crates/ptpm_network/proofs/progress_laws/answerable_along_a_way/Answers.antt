@@ -1,8 +1,8 @@
-use Rattle.ptpm_network.proofs.Answerable.{answerable, exchange-runs}
+use Rattle.ptpm_network.proofs.Answerable.{answer-runs, answerable}
 use Rattle.ptpm_network.proofs.progress_laws.answerable_along_a_way.Goals as goal
 
 pub returns-clause-answered : goal.returns-clause-answered
 returns-clause-answered c = answerable
 
 pub returns-clause-runs : goal.returns-clause-runs
-returns-clause-runs c = exchange-runs
+returns-clause-runs c = answer-runs
