@@ -1,6 +1,7 @@
-//! Scripts and what they print, steps and runs, and worlds as they start.
+//! Networks that run: what no clause says of them.
 
 mod networks;
-mod scripts;
+mod refusals;
+mod ring;
 mod steps;
 mod worlds;

@@ -1,4 +1,10 @@
-//! The networks of the scripts.
+//! The networks of the tests, and what happens in them.
+
+use crate::took::{StepError, Took};
+use crate::world::World;
+use ptpm_script::{Network, read_event};
+use std::alloc::Global;
+use std::test::Fail;
 
 /// A clock of two ports with one manager at port 1.
 pub const ONE_CLOCK: &str = r#"version = 1
@@ -51,3 +57,15 @@ ends = ["A.3", "C.1"]
 [[link]]
 ends = ["B.2", "C.2"]
 "#;
+
+/// The network of a text before anything has happened.
+pub fn world_of(alloc: Global, text: &str) -> Result<World, Fail> {
+    let network = Network::from_toml(alloc, text)?;
+    Ok(World::new(alloc, &network)?)
+}
+
+/// Lets the event of a line happen.
+pub fn step(alloc: Global, world: &mut World, line: &str) -> Result<Result<Took, StepError>, Fail> {
+    let event = read_event(alloc, line)?;
+    Ok(world.step(&event))
+}

@@ -1,40 +1,45 @@
-//! Steps and runs of a world.
+//! One event after another.
 
-use super::networks::ONE_CLOCK;
+use super::networks::{ONE_CLOCK, step, world_of};
 use crate::took::{StepError, Took};
 use crate::world::World;
 use ptpm_agent::Verdict;
-use ptpm_manager::Reason;
-use ptpm_script::{Event, Network, read_event};
+use ptpm_manager::{Outcome, Reason};
+use ptpm_script::{Event, read_event};
 use std::alloc::Global;
 use std::process::Abort;
 use std::test::Fail;
 
-/// Lets the event of a line happen.
-fn step(alloc: Global, world: &mut World, line: &str) -> Result<Result<Took, StepError>, Fail> {
-    let event = read_event(alloc, line)?;
-    Ok(world.step(&event))
-}
-
+/// A step that is always fine, or always out of memory, is none.
 #[test]
 fn step_succeeds_with_ample_memory(rt: HostRuntime) -> Result<(), Fail> {
     let alloc = rt.alloc();
-    let network = Network::from_toml(alloc, ONE_CLOCK)?;
-    let mut world = World::new(alloc, &network)?;
+    let mut world = world_of(alloc, ONE_CLOCK)?;
     let begun = step(alloc, &mut world, "begin m get PRIORITY1 - -")?;
     assert!(rt; begun == Ok(Took::Fine));
     assert!(rt; step(alloc, &mut world, "send m")? == Ok(Took::Fine));
     let delivered = step(alloc, &mut world, "deliver 1")?;
     assert!(rt; delivered == Ok(Took::AtClock(Verdict::AnsweredNew)));
     assert!(rt; step(alloc, &mut world, "deliver 2")? == Ok(Took::Answered));
+    assert!(rt; is_only_report(&world, &[0x80, 0]));
     let repeated = step(alloc, &mut world, "deliver 1")?;
     assert!(rt; repeated == Ok(Took::AtClock(Verdict::AnsweredRepeat)));
     let ignored = step(alloc, &mut world, "deliver 3")?;
     assert!(rt; ignored == Ok(Took::Ignored(Reason::NothingAsked)));
-    assert!(rt; step(alloc, &mut world, "deliver 4")? == Err(StepError::NoSuchFrame));
-    assert!(rt; step(alloc, &mut world, "retune n 1")? == Err(StepError::NoSuchName));
+    assert!(rt; is_only_report(&world, &[0x80, 0]));
     assert!(rt; step(alloc, &mut world, "retune m 1")? == Ok(Took::Fine));
     Ok(())
+}
+
+/// Whether the session has one report: the first request was answered by this dataField.
+fn is_only_report(world: &World, value: &[u8]) -> bool {
+    match world.reports("m") {
+        Some([report]) => match &report.outcome {
+            Outcome::Value(octets) => report.index == 1 && octets.as_slice() == value,
+            _ => false,
+        },
+        _ => false,
+    }
 }
 
 /// The events of these lines.
@@ -49,8 +54,7 @@ fn events(alloc: Global, lines: &[&str]) -> Result<Vec<Event>, Fail> {
 #[test]
 fn run_succeeds_with_ample_memory(rt: HostRuntime) -> Result<(), Fail> {
     let alloc = rt.alloc();
-    let network = Network::from_toml(alloc, ONE_CLOCK)?;
-    let mut world = World::new(alloc, &network)?;
+    let mut world = world_of(alloc, ONE_CLOCK)?;
     let lines = [
         "begin m get PRIORITY1 - -",
         "send m",
@@ -60,8 +64,42 @@ fn run_succeeds_with_ample_memory(rt: HostRuntime) -> Result<(), Fail> {
     let schedule = events(alloc, &lines)?;
     assert!(rt; world.run(schedule.as_slice()) == Ok(()));
     assert_eq!(rt; world.frames(), 2);
+    assert!(rt; is_only_report(&world, &[0x80, 0]));
     let refused = events(alloc, &["deliver 1", "deliver 4", "deliver 1"])?;
     assert!(rt; world.run(refused.as_slice()) == Err((1, StepError::NoSuchFrame)));
     assert_eq!(rt; world.frames(), 3);
+    Ok(())
+}
+
+/// What a step answers; asked again where memory is refused once, before which nothing may have changed.
+fn step_again(
+    rt: &impl Abort,
+    alloc: Global,
+    world: &mut World,
+    line: &str,
+) -> Result<Result<Took, StepError>, Fail> {
+    let frames = world.frames();
+    match step(alloc, world, line)? {
+        Err(StepError::OutOfMemory) => {
+            assert!(rt; world.frames() == frames);
+            step(alloc, world, line)
+        }
+        took => Ok(took),
+    }
+}
+
+/// `rt try --test --fail-alloc N` refuses the Nth request for memory.
+#[test]
+fn step_after_refused_memory(rt: HostRuntime) -> Result<(), Fail> {
+    let alloc = rt.alloc();
+    let mut world = world_of(alloc, ONE_CLOCK)?;
+    let begun = step_again(&rt, alloc, &mut world, "begin m set PRIORITY1 - 6400")?;
+    assert!(rt; begun == Ok(Took::Fine));
+    assert!(rt; step_again(&rt, alloc, &mut world, "send m")? == Ok(Took::Fine));
+    let delivered = step_again(&rt, alloc, &mut world, "deliver 1")?;
+    assert!(rt; delivered == Ok(Took::AtClock(Verdict::AnsweredNew)));
+    assert!(rt; world.frames() == 2);
+    assert!(rt; step_again(&rt, alloc, &mut world, "deliver 2")? == Ok(Took::Answered));
+    assert!(rt; is_only_report(&world, &[0x64, 0]));
     Ok(())
 }
