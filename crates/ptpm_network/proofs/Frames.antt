@@ -1,6 +1,6 @@
 -- What a frame of each origin says, and that what a clock passes on keeps its origin.
 use Rattle.std.proofs.Common.{arith, ◌≡◌, ℕ, ◌<◌, ◌≤◌, ◌+◌, ◌-◌, ◌^◌, List, [], ◌∷◌, Some, sym, ◌∙◌, ap, subst, length}
-use Rattle.std.proofs.lemmas.Option.{same_Some}
+use Rattle.std.proofs.lemmas.Option.{same_Some, slice_get_within}
 use Rattle.std.specs.Prelude.{slice_get}
 use Rattle.std.specs.List.{AllByRecursion}
 use Rattle.ptpm_codec.specs.declared.identity.ClockIdentity.{ClockIdentity}
@@ -22,7 +22,7 @@ use Rattle.ptpm_network.specs.Machine.{forwarded_frames}
 use Rattle.ptpm_network.specs.Network.{AtPort, HasEnd, IsNetwork, Network, manager, peers, ports}
 use Rattle.ptpm_network.specs.State.{Frame, NetworkState, Origin, RequestOf, ReplyTo, Neither, accepted_at_target, frames_to, issued}
 use Rattle.ptpm_network.proofs.Accepting.{kept-le}
-use Rattle.ptpm_network.proofs.Lists.{all_flat, all_made, get_within}
+use Rattle.ptpm_network.proofs.Lists.{all_flat, all_made}
 use Rattle.ptpm_network.proofs.Messages.{IsPassedOn, canonical-message, less_hop-canonical, less_hop-hops, less_hop-message, message-hops, reply_at, reply-fits, reply-valid, request_at, request-fits, request-valid}
 use Rattle.ptpm_network.proofs.Steps.{has_peers}
 
@@ -50,7 +50,7 @@ says_request N w s k octets n r (place, i) =
     record {
       place = place;
       positive = i.positive;
-      within = up_to k (issued w s) i.positive (get_within (w.session s).begun (k - 1) i.request i.begun_as);
+      within = up_to k (issued w s) i.positive (slice_get_within (w.session s).begun (k - 1) i.request i.begun_as);
       request = i.request;
       begun_as = i.begun_as;
       asked = asked;

@@ -39,7 +39,7 @@ pub held-sent_frames : (ends : List End) (s k : ℕ) (o : Option Message) → ma
 held-sent_frames ends s k None = refl
 held-sent_frames ends s k (Some v) = held-frames_to ends (canonical v) (RequestOf s k) (boundary_hops (canonical v)) 0
 
-held-forwarded : (N : Network) (c : ℕ) (f : Frame) (sent : List (ℕ × List ℕ)) → map held (forwarded_frames N c f sent) ≡ flat_map (λ m. posted (peers N.links (AtPort c m.0)) m.1 f.origin) sent
+pub held-forwarded : (N : Network) (c : ℕ) (f : Frame) (sent : List (ℕ × List ℕ)) → map held (forwarded_frames N c f sent) ≡ flat_map (λ m. posted (peers N.links (AtPort c m.0)) m.1 f.origin) sent
 held-forwarded N c f [] = refl
 held-forwarded N c f (m ∷ ms) =
     let fs : List Frame = frames_to (peers N.links (AtPort c m.0)) m.1 f.origin f.first_hops (f.forwardings + 1) in

@@ -43,11 +43,6 @@ pub get_last : {X : Type 0} (xs : List X) (x : X) → slice_get (xs ++ x ∷ [])
 get_last [] x = refl
 get_last (y ∷ xs) x = get_last xs x
 
-pub get_within : {X : Type 0} (xs : List X) (i : ℕ) (x : X) → slice_get xs i ≡ Some x → i < length xs
-get_within [] i x e = absurd (cc)
-get_within (y ∷ xs) zero x e = omega arith
-get_within (y ∷ xs) (suc i) x e = omega (arith, get_within xs i x e)
-
 pub with_place-same : {A : Type 0} (f : ℕ → A) (i : ℕ) (v : A) (j : ℕ) → j == i ≡ true → with_place f i v j ≡ v
 with_place-same f i v j y = cond-true _ _ _ y
 

@@ -1,5 +1,5 @@
 -- The frames of a turn, message by message of the outbox.
-use Rattle.std.proofs.Common.{◌≡◌, ℕ, ◌+◌, ◌==◌, ◌⊎◌, inl, inr, List, [], ◌∷◌, ◌++◌, refl, sym, ◌∙◌, ap, ⊎_elim}
+use Rattle.std.proofs.Common.{◌≡◌, ℕ, ◌==◌, ◌⊎◌, inl, inr, List, [], ◌∷◌, ◌++◌, refl, sym, ◌∙◌, ap, ⊎_elim}
 use Rattle.std.proofs.lemmas.Bool.{cond-true, cond-false}
 use Rattle.std.proofs.lemmas.Grind.{flat_map-append}
 use Rattle.std.proofs.lemmas.List.{map-append}
@@ -12,22 +12,12 @@ use Rattle.ptpm_network.specs.Happening.{posted}
 use Rattle.ptpm_network.specs.Machine.{answer_origin, delivery, forwarded_frames, reply_frames}
 use Rattle.ptpm_network.specs.Network.{AtPort, End, Network, peers}
 use Rattle.ptpm_network.specs.Replying.{origin_by, posted_by}
-use Rattle.ptpm_network.specs.Stands.{Held, held, turn_frames}
+use Rattle.ptpm_network.specs.Stands.{held, turn_frames}
 use Rattle.ptpm_network.specs.State.{Frame, Origin, frames_to}
+use Rattle.ptpm_network.proofs.Held.{held-forwarded, held-frames_to}
 use Rattle.ptpm_network.proofs.TurnSends.{IsAt, IsAway, forwards-away, replies-at, reply-origin}
 
--- frames, as they are held
-held-frames_to : (ends : List End) (octets : List ℕ) (origin : Origin) (first_hops forwardings : ℕ) → map held (frames_to ends octets origin first_hops forwardings) ≡ posted ends octets origin
-held-frames_to [] octets origin first_hops forwardings = refl
-held-frames_to (e ∷ es) octets origin first_hops forwardings = ap (λ (hs : List Held). record { end = e; octets = octets; origin = origin } ∷ hs) (held-frames_to es octets origin first_hops forwardings)
-
-held-forwarded : (N : Network) (c : ℕ) (f : Frame) (sent : List (ℕ × List ℕ)) → map held (forwarded_frames N c f sent) ≡ flat_map (λ m. posted (peers N.links (AtPort c m.0)) m.1 f.origin) sent
-held-forwarded N c f [] = refl
-held-forwarded N c f (m ∷ ms) =
-    map-append held (frames_to (peers N.links (AtPort c m.0)) m.1 f.origin f.first_hops (f.forwardings + 1)) (forwarded_frames N c f ms)
-    ∙ ap (λ hs. hs ++ map held (forwarded_frames N c f ms)) (held-frames_to (peers N.links (AtPort c m.0)) m.1 f.origin f.first_hops (f.forwardings + 1))
-    ∙ ap (λ hs. posted (peers N.links (AtPort c m.0)) m.1 f.origin ++ hs) (held-forwarded N c f ms)
-
+-- replies, as they are held
 held-replied : (N : Network) (c : ℕ) (origin : Origin) (sent : List (ℕ × List ℕ)) → map held (reply_frames N c origin sent) ≡ flat_map (λ m. posted (peers N.links (AtPort c m.0)) m.1 origin) sent
 held-replied N c origin [] = refl
 held-replied N c origin (m ∷ ms) =

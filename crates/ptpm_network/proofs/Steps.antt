@@ -1,6 +1,7 @@
 -- What sessions do keeps the invariant.
 use Rattle.std.proofs.Common.{arith, ◌≡◌, ℕ, ◌<◌, ◌-◌, ◌==◌, List, [], ◌∷◌, ◌++◌, Option, Some, None, Bool, true, false, refl, sym, ◌∙◌, subst, ⊎_elim, length}
 use Rattle.std.proofs.lemmas.Bool.{cases_Bool, eqb-true, cond-true, cond-false}
+use Rattle.std.proofs.lemmas.Option.{slice_get_within}
 use Rattle.std.specs.Prelude.{option_map, slice_get}
 use Rattle.std.specs.List.{AllByRecursion, filter, list_any}
 use Rattle.ptpm_data.specs.Request.{RequestValue}
@@ -11,7 +12,7 @@ use Rattle.ptpm_network.specs.Machine.{sends, sent_frames, with_frames, with_ses
 use Rattle.ptpm_network.specs.Network.{End, AtSession, HasEnd, IsLink, IsNetwork, Network, manager, peers, ports, same_end}
 use Rattle.ptpm_network.specs.State.{Frame, NetworkState, Origin, RequestOf, ReplyTo, Neither, SessionState, accepted_at_target, is_idle, new_frames, unanswered}
 use Rattle.ptpm_network.proofs.Accepting.{in_step-set}
-use Rattle.ptpm_network.proofs.Lists.{all_append, all_made, all_weaker, get_within, with_place-other, with_place-same}
+use Rattle.ptpm_network.proofs.Lists.{all_append, all_made, all_weaker, with_place-other, with_place-same}
 
 -- ---- ends
 
@@ -140,7 +141,7 @@ sent_frames-are N w s (Some q) place ends e =
     new_frames-are N w (peers N.links (AtSession s)) _ (RequestOf s (length (w.session s).begun)) ends (
       place,
       record {
-        positive = positive (length (w.session s).begun) (get_within (w.session s).begun (length (w.session s).begun - 1) q last);
+        positive = positive (length (w.session s).begun) (slice_get_within (w.session s).begun (length (w.session s).begun - 1) q last);
         request = q;
         begun_as = last;
         domain = (w.session s).domain;

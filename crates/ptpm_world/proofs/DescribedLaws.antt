@@ -2,6 +2,7 @@
 use Rattle.std.proofs.Common.{suc, zero, arith, ◌≡◌, ◌≢◌, ℕ, ◌<◌, ◌≤◌, ◌==◌, Bool, true, false, ◌&&◌, ◌||◌, List, [], ◌∷◌, Some, refl, sym, ◌∙◌, subst, length, map, if◌then◌else◌, ⊎_elim}
 use Rattle.std.proofs.lemmas.Bool.{and_parts, eqb-true, eq-eqb, or_cases, or_left, or_right}
 use Rattle.std.proofs.lemmas.List.{length-map}
+use Rattle.std.proofs.lemmas.Option.{slice_get_within}
 use Rattle.std.specs.Prelude.{slice_get, slice_index_or}
 use Rattle.std.specs.List.{AllByRecursion, filter}
 use Rattle.ptpm_codec.specs.declared.identity.PortIdentity.{PortIdentity}
@@ -14,7 +15,7 @@ use Rattle.ptpm_table.specs.Managers.{identities}
 use Rattle.ptpm_table.proofs.Identities.{same_identity-true, same_identity-refl}
 use Rattle.ptpm_network.specs.Network as machine
 use Rattle.ptpm_network.specs.Network.{HasEnd, IsClock, IsLink, IsSession}
-use Rattle.ptpm_network.proofs.Lists.{all_get, all_made, get_within}
+use Rattle.ptpm_network.proofs.Lists.{all_get, all_made}
 use Rattle.ptpm_script.specs.declared.network.End.{End}
 use Rattle.ptpm_script.specs.declared.network.End.TheVariants as ends
 use Rattle.ptpm_script.specs.declared.network.NetworkSession.{NetworkSession}
@@ -114,13 +115,13 @@ described-session n facts sized s h = record {
 -- ---- links
 
 pub at_place : {X : Type 0} (xs : List X) (i : ℕ) (x d : X) → slice_get xs i ≡ Some x → slice_index_or xs i d ≡ x
-at_place xs i x d e = let here : Some (slice_index_or xs i d) ≡ Some x = sym (there xs i d (get_within xs i x e)) ∙ e in cc
+at_place xs i x d e = let here : Some (slice_index_or xs i d) ≡ Some x = sym (there xs i d (slice_get_within xs i x e)) ∙ e in cc
 
 described-has_end : (n : NetworkValue) (e : End) → IsEndOf n e → HasEnd (described n) (described_end e)
 described-has_end n (ends.Clock place port) is =
     let c = sym (at_place n.clocks place is.0 no_clock is.1) in
     let most = subst (λ k. port ≤ length k.ports) c is.3 in
-    (get_within n.clocks place is.0 is.1, is.2, subst (λ count. port ≤ count) (sym (length-map (clock_at n place).ports port_data_set)) most)
+    (slice_get_within n.clocks place is.0 is.1, is.2, subst (λ count. port ≤ count) (sym (length-map (clock_at n place).ports port_data_set)) most)
 described-has_end n (ends.Session place) is = is
 
 described-links : (n : NetworkValue) → IsAccepted n → AllByRecursion (IsLink (described n)) (map (map described_end) n.links)
