@@ -2,6 +2,7 @@
 use Rattle.std.proofs.Common.{suc, zero, arith, ◌≡◌, ℕ, ◌<◌, ◌≤◌, ◌+◌, ◌-◌, ◌*◌, ◌/◌, ◌==◌, ◌&&◌, ◌||◌, Bool, List, [], ◌∷◌, ◌++◌, Option, Some, None, true, false, refl, sym, ◌∙◌, ap, subst, ⊎_elim, length, length-append}
 use Rattle.std.proofs.lemmas.Bool.{and_from, and_left, and_parts, and_right, cases_Bool, cond-false, cond-true, eq-eqb, eqb-false, eqb-true, false≢true, lt-ltb, ne_eqb, or_cases, or_from}
 use Rattle.std.proofs.lemmas.List.{append-nil}
+use Rattle.std.proofs.lemmas.Option.{slice_get_within}
 use Rattle.std.specs.Prelude.{flat_map, map, nat_lt, not, slice_get}
 use Rattle.std.specs.List.{AllByRecursion, filter, list_any, range_with_len}
 use Rattle.ptpm_codec.specs.declared.identity.ClockIdentity.{ClockIdentity}
@@ -26,7 +27,7 @@ use Rattle.ptpm_network.specs.Way.{LinksHaveAtMost, passed_at_most}
 use Rattle.ptpm_network.proofs.Arriving.{history-elsewhere, history-here}
 use Rattle.ptpm_network.proofs.Exchanging.{clocks_apart, message-domain}
 use Rattle.ptpm_network.proofs.Frames.{says_reply, says_request}
-use Rattle.ptpm_network.proofs.Lists.{get_append, get_within}
+use Rattle.ptpm_network.proofs.Lists.{get_append}
 use Rattle.ptpm_network.proofs.Messages.{less_hop-hops, less_hop-message, message-hops, reply_at, request_at}
 
 -- ---- elements of lists
@@ -114,7 +115,7 @@ forwarding-exists q d y = ⊎_elim
     (λ (z : q == 0 ≡ true). absurd (false≢true (sym (ap is_forwarding_port (cond-true _ _ _ z)) ∙ y)))
     (λ (n : q == 0 ≡ false).
     let some = forwarding-at (slice_get d.ports (q - 1)) (sym (ap is_forwarding_port (cond-false _ _ _ n)) ∙ y) in
-    between q (length d.ports) (eqb-false q 0 n) (get_within d.ports (q - 1) some.0 some.1))
+    between q (length d.ports) (eqb-false q 0 n) (slice_get_within d.ports (q - 1) some.0 some.1))
     (cases_Bool (q == 0))
 
 egress-in : (p q : ℕ) (d : DataSetsValue) → (q ≡ p → ⊥) → may_forward q d ≡ true → IsIn (egress_ports p d) q
