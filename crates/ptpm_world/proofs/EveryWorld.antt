@@ -2,6 +2,7 @@
 use Rattle.std.proofs.Common.{arith, ◌≡◌, ℕ, ◌<◌, ◌≤◌, All, List, Option, Some, None, false, refl, sym, ◌∙◌, ap, drop, length, take}
 use Rattle.std.proofs.lemmas.List.{length-map, length-take}
 use Rattle.std.proofs.lemmas.List.Elements.{All-map}
+use Rattle.std.proofs.lemmas.Option.{slice_get_within}
 use Rattle.std.specs.FinMap.{get}
 use Rattle.std.specs.Prelude.{is_some, slice_index_or}
 use Rattle.ptpm_codec.specs.declared.identity.PortIdentity.{PortIdentity}
@@ -15,7 +16,6 @@ use Rattle.ptpm_agent.specs.Laws.{AreOfManagers}
 use Rattle.ptpm_agent.specs.Turn.{Clock}
 use Rattle.ptpm_network.specs.Network.{HasEnd, Network, ports}
 use Rattle.ptpm_network.specs.Stands.{Held}
-use Rattle.ptpm_network.proofs.Lists.{get_within}
 use Rattle.ptpm_script.specs.declared.network.End.{End}
 use Rattle.ptpm_script.specs.declared.network.End.TheVariants as ends
 use Rattle.ptpm_world.specs.declared.world.RunningClock.{RunningClock}
@@ -54,7 +54,7 @@ has_ports N w is c below =
 has_end : (N : Network) (w : World) → IsOf N w → (e : End) → IsThere (port_counts w.clocks.items) (length w.sessions.items) e → HasEnd N (described_end e)
 has_end N w is (ends.Clock place port) there =
     let x = made_at (λ (k : RunningClock). length k.agent.sets.ports) w.clocks.items place there.0 there.1.0 in (
-      omega (arith, get_within w.clocks.items place x.0 x.1, is.clock_count),
+      omega (arith, slice_get_within w.clocks.items place x.0 x.1, is.clock_count),
       there.1.1.0,
       omega (arith, there.1.1.1, x.2, (is.clocks place x.0 x.1).ports),
     )
