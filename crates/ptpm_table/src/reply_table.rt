@@ -109,7 +109,8 @@ pub trait SureTable: ReplyTable {
         ensures rights { Self.rights_of self.new ≡ Self.rights_of self.old }
         ensures identity { Self.identity self.new ≡ Self.identity self.old };
 
-    /// Does what `replace` does, and appends the messages of the reply for the copy that was heard, as `resend` does then.
+    /// Does what `replace` does, and appends the messages of the reply for the copy that was heard, as `resend` does then. A
+    /// table that finds its manager's place once for both has a body of its own.
     fn answer(
         &mut self,
         heard: &Heard,
@@ -128,5 +129,9 @@ pub trait SureTable: ReplyTable {
         ensures sent { out.new ≡ out.old ++ rendered (Self.identity self.old) heard.now reply.now ingress }
         ensures managers { Self.managers self.new ≡ Self.managers self.old }
         ensures rights { Self.rights_of self.new ≡ Self.rights_of self.old }
-        ensures identity { Self.identity self.new ≡ Self.identity self.old };
+        ensures identity { Self.identity self.new ≡ Self.identity self.old }
+    {
+        self.replace(&heard.source, heard.number, request, reply);
+        self.resend(heard, ingress, out);
+    }
 }
