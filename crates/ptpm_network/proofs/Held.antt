@@ -10,15 +10,15 @@ use Rattle.ptpm_codec.specs.Layout.{boundary_hops}
 use Rattle.ptpm_agent.specs.Once.{copy_of}
 use Rattle.ptpm_agent.specs.Turn.{turn}
 use Rattle.ptpm_network.specs.Events.{frame_at}
-use Rattle.ptpm_network.specs.Happening.{held_at, posted, seen, sent_posted}
+use Rattle.ptpm_network.specs.Happening.{posted, seen, sent_posted}
 use Rattle.ptpm_network.specs.Machine.{answer_origin, delivery, forwarded_frames, reply_frames, sent_frames, with_place}
 use Rattle.ptpm_network.specs.Network.{AtPort, End, Network, peers}
 use Rattle.ptpm_network.specs.Stands.{Held, Running, after_turn, held, turn_frames}
 use Rattle.ptpm_network.specs.State.{Frame, Origin, RequestOf, frames_to}
 
 -- a frame by its number
-pub held_at-map : (fs : List Frame) (n : ℕ) → held_at (map held fs) n ≡ option_map held (frame_at fs n)
-held_at-map fs n = ⊎_elim
+pub frame_at-map : (fs : List Frame) (n : ℕ) → frame_at (map held fs) n ≡ option_map held (frame_at fs n)
+frame_at-map fs n = ⊎_elim
     (λ (y : n == 0 ≡ true).
     let none : frame_at fs n ≡ None = cond-true _ _ _ y in
     cond-true _ _ _ y ∙ sym (ap (option_map held) none))

@@ -9,13 +9,13 @@ use Rattle.ptpm_codec.specs.Ordered.{first_of}
 use Rattle.ptpm_manager.specs.declared.error.SendError.TheVariants as sends
 use Rattle.ptpm_manager.specs.Session.{SessionValue, begin_refusal, is_waiting, send_refusal}
 use Rattle.ptpm_network.specs.Events.{Begin, BeginRefused, Deliver, Event, FramesAtMaximum, Refusal, Resume, Retune, Send, SendRefused, Stranger, begin_refused, forged, frame_at, frames_limit, no_frame, no_port, no_room, no_session, refusal, resume_refused, send_refused}
-use Rattle.ptpm_network.specs.Happening.{held_at, no_held, no_room_in, nothing_to_resume, refused}
+use Rattle.ptpm_network.specs.Happening.{nothing_to_resume, refused}
 use Rattle.ptpm_network.specs.Invariant.{IsReached}
 use Rattle.ptpm_network.specs.Network.{Network, SessionStart}
 use Rattle.ptpm_network.specs.Stands.{Running, Stands, held}
 use Rattle.ptpm_network.specs.State.{Frame, NetworkState, SessionState, is_idle, session_value}
 use Rattle.ptpm_network.proofs.Frames.{le_le}
-use Rattle.ptpm_network.proofs.Held.{held_at-map}
+use Rattle.ptpm_network.proofs.Held.{frame_at-map}
 use Rattle.ptpm_network.proofs.Reaching.{session-exists}
 use Rattle.ptpm_network.proofs.Receiving.{not_idle}
 use Rattle.ptpm_network.proofs.Refusals.{idle-not_waiting}
@@ -28,15 +28,15 @@ option_or-behind (Some a) p q e = refl
 of_session : (N : Network) (s : ℕ) (p q : Option Refusal) → (s < N.sessions → p ≡ q) → option_or (no_session N s) p ≡ option_or (no_session N s) q
 of_session N s p q e = option_or-behind (no_session N s) p q (λ none. e (session-exists N s none))
 
-no_room-held : (N : Network) (first : PortIdentity → ℕ) (r : Running) (w : NetworkState) → Stands N first r w → no_room_in r ≡ no_room w.frames
+no_room-held : (N : Network) (first : PortIdentity → ℕ) (r : Running) (w : NetworkState) → Stands N first r w → no_room r.frames ≡ no_room w.frames
 no_room-held N first r w at = ap (λ n. first_of ((nat_lt frames_limit n, FramesAtMaximum) ∷ [])) (ap length at.frames ∙ length-map w.frames held)
 
-no_held-frame : (o : Option Frame) → no_held (option_map held o) ≡ no_frame o
-no_held-frame None = refl
-no_held-frame (Some f) = refl
+no_frame-map : (o : Option Frame) → no_frame (option_map held o) ≡ no_frame o
+no_frame-map None = refl
+no_frame-map (Some f) = refl
 
-no_frame-held : (N : Network) (first : PortIdentity → ℕ) (r : Running) (w : NetworkState) (n : ℕ) → Stands N first r w → no_held (held_at r.frames n) ≡ no_frame (frame_at w.frames n)
-no_frame-held N first r w n at = ap (λ fs. no_held (held_at fs n)) at.frames ∙ ap no_held (held_at-map w.frames n) ∙ no_held-frame (frame_at w.frames n)
+no_frame-held : (N : Network) (first : PortIdentity → ℕ) (r : Running) (w : NetworkState) (n : ℕ) → Stands N first r w → no_frame (frame_at r.frames n) ≡ no_frame (frame_at w.frames n)
+no_frame-held N first r w n at = ap (λ fs. no_frame (frame_at fs n)) at.frames ∙ ap no_frame (frame_at-map w.frames n) ∙ no_frame-map (frame_at w.frames n)
 
 idle-waiting : (start : SessionStart) (s : SessionState) → length s.reports ≤ length s.begun → not (is_waiting (session_value start s)) ≡ is_idle s
 idle-waiting start s le = ⊎_elim
@@ -62,7 +62,7 @@ refused-as N first r w (Send s) reached at =
 refused-as N first r w (Resume s attempts) reached at = of_session N s _ (resume_refused w s) (λ place. resume-refused N first r w s reached at place)
 refused-as N first r w (Retune s domain) reached at = refl
 refused-as N first r w (Deliver n) reached at =
-    ap (λ o. option_or o (no_room_in r)) (no_frame-held N first r w n at)
+    ap (λ o. option_or o (no_room r.frames)) (no_frame-held N first r w n at)
     ∙ ap (option_or (no_frame (frame_at w.frames n))) (no_room-held N first r w at)
 refused-as N first r w (Stranger c port datagram) reached at =
     ap (λ o. option_or (no_port N c port) (option_or (forged N datagram) o)) (no_room-held N first r w at)

@@ -10,7 +10,7 @@ use Rattle.ptpm_manager.specs.Ask as ask
 use Rattle.ptpm_manager.specs.Receiving.{received_of}
 use Rattle.ptpm_manager.specs.Session.{SessionValue, begun, resumed, retuned}
 use Rattle.ptpm_network.specs.Events.{Begin, Deliver, Event, Forged, IsInRange, Refusal, Resume, Retune, Send, Stranger, begin_refused, forged, frame_at, is_forged, no_port, no_room, no_session, refusal}
-use Rattle.ptpm_network.specs.Happening.{happened, held_at, ran, reaches, reaches_end, refused}
+use Rattle.ptpm_network.specs.Happening.{happened, ran, reaches, reaches_end, refused}
 use Rattle.ptpm_network.specs.Invariant.{IsFrame, IsReached}
 use Rattle.ptpm_network.specs.Machine.{AreInTime, begun_in, delivered, delivered_at, delivered_at_clock, happens, is_late_delivery, is_late_frame, report_from, run, step, step_by, strange_frame, taken}
 use Rattle.ptpm_network.specs.Network.{AtPort, AtSession, End, HasEnd, IsNetwork, Network}
@@ -18,7 +18,7 @@ use Rattle.ptpm_network.specs.Stands.{AreFirsts, Held, Running, Stands, held}
 use Rattle.ptpm_network.specs.State.{Frame, NetworkState, at_first, is_late}
 use Rattle.ptpm_network.proofs.Frames.{heard-frame, le_le}
 use Rattle.ptpm_network.proofs.Hearing.{begun-value, hears-stands, sends-stand, session-stands}
-use Rattle.ptpm_network.proofs.Held.{held_at-map, turned-seen}
+use Rattle.ptpm_network.proofs.Held.{frame_at-map, turned-seen}
 use Rattle.ptpm_network.proofs.InTime.{in_window}
 use Rattle.ptpm_network.proofs.Reaching.{frame_at-is, port-exists, session-exists, step-reached}
 use Rattle.ptpm_network.proofs.Refusing.{refused-as}
@@ -80,7 +80,7 @@ happened-stands N first r w (Retune s domain) firsts n reached at i e late =
     session-stands N first r w s (retuned (r.session s) domain) (record (w.session s) { domain = domain }) at place
     (ap (λ (v : SessionValue). retuned v domain) (at.sessions s place)) refl
 happened-stands N first r w (Deliver k) firsts n reached at i e late =
-    let same : held_at r.frames k ≡ option_map held (frame_at w.frames k) = ap (λ (hs : List Held). held_at hs k) at.frames ∙ held_at-map w.frames k in
+    let same : frame_at r.frames k ≡ option_map held (frame_at w.frames k) = ap (λ (hs : List Held). frame_at hs k) at.frames ∙ frame_at-map w.frames k in
     subst (λ (o : Option Held). Stands N first (reaches_end N r o) (delivered N w (frame_at w.frames k))) (sym same)
     (reaches_end-stands N first r w k (frame_at w.frames k) firsts n reached at refl late)
 happened-stands N first r w (Stranger c port datagram) firsts n reached at i e late =

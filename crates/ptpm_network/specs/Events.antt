@@ -13,7 +13,7 @@ use Rattle.ptpm_manager.specs.declared.error.SendError.TheVariants as sends
 use Rattle.ptpm_codec.specs.Ordered.{first_of}
 use Rattle.ptpm_manager.specs.Session.{begin_refusal, send_refusal}
 use Rattle.ptpm_network.specs.Network.{Network, manager}
-use Rattle.ptpm_network.specs.State.{Frame, NetworkState, is_idle, session_value}
+use Rattle.ptpm_network.specs.State.{NetworkState, is_idle, session_value}
 
 pub data Event : Type 0 where
   -- a session begins a request
@@ -46,10 +46,10 @@ abbrev pub no_port : Network → ℕ → ℕ → Option Refusal
 no_port N c port = first_of ((not (nat_lt c N.clocks && has_port port (N.start c)), NoSuchName) ∷ [])
 
 -- frame n, counted from 1
-abbrev pub frame_at : List Frame → ℕ → Option Frame
+abbrev pub frame_at : {A : Type 0} → List A → ℕ → Option A
 frame_at frames n = if n == 0 then None else slice_get frames (n - 1)
 
-abbrev pub no_frame : Option Frame → Option Refusal
+abbrev pub no_frame : {A : Type 0} → Option A → Option Refusal
 no_frame None = Some NoSuchFrame
 no_frame (Some f) = None
 
@@ -67,11 +67,11 @@ is_forged N datagram = nat_le 30 (length datagram) && is_taken N (source_port_id
 abbrev pub forged : Network → List ℕ → Option Refusal
 forged N datagram = first_of ((is_forged N datagram, Forged) ∷ [])
 
--- over this many frames held, nothing is sent or delivered: an event makes 225 at most, and 400,000 is never passed
+-- over this many frames held, nothing is sent or delivered
 abbrev pub frames_limit : ℕ
 frames_limit = 399775
 
-abbrev pub no_room : List Frame → Option Refusal
+abbrev pub no_room : {A : Type 0} → List A → Option Refusal
 no_room frames = first_of ((nat_lt frames_limit (length frames), FramesAtMaximum) ∷ [])
 
 -- why a session does not begin, send or resume

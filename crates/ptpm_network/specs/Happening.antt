@@ -1,6 +1,6 @@
 -- What an event does to a running network, by what its clocks and sessions can see: sequenceIds and octets. And which events
 -- it refuses.
-use Rattle.std.specs.Prelude.{ℕ, ◌-◌, ◌==◌, not, nat_lt, List, [], ◌∷◌, ◌++◌, length, map, slice_get, Option, Some, None, is_none, option_map, if◌then◌else◌}
+use Rattle.std.specs.Prelude.{ℕ, not, List, [], ◌∷◌, ◌++◌, map, Option, Some, None, is_none, option_map, if◌then◌else◌}
 use Rattle.std.specs.Option.{option_or}
 use Rattle.ptpm_codec.specs.declared.message.Message.{Message}
 use Rattle.ptpm_codec.specs.Canonical.{canonical}
@@ -11,17 +11,13 @@ use Rattle.ptpm_manager.specs.declared.receiving.Received.TheVariants as receive
 use Rattle.ptpm_manager.specs.Ask.{request_of}
 use Rattle.ptpm_manager.specs.Receiving.{received_of}
 use Rattle.ptpm_manager.specs.Session.{SessionValue, answered, begin_refusal, begun, due_message, is_waiting, resumed, retuned, send_refusal, sent}
-use Rattle.ptpm_network.specs.Events.{Event, Begin, Send, Resume, Retune, Deliver, Stranger, Refusal, NoSuchFrame, FramesAtMaximum, BeginRefused, SendRefused, forged, frames_limit, no_port, no_session}
+use Rattle.ptpm_network.specs.Events.{Event, Begin, Send, Resume, Retune, Deliver, Stranger, Refusal, BeginRefused, SendRefused, forged, frame_at, no_frame, no_port, no_room, no_session}
 use Rattle.ptpm_network.specs.Machine.{strange_frame, with_place}
 use Rattle.ptpm_network.specs.Network.{End, AtPort, AtSession, Network, peers}
 use Rattle.ptpm_network.specs.Stands.{Held, Running, after_turn}
 use Rattle.ptpm_network.specs.State.{Frame, Origin, RequestOf}
 
 -- ---- frames
-
--- frame n, counted from 1
-abbrev pub held_at : List Held → ℕ → Option Held
-held_at frames n = if n == 0 then None else slice_get frames (n - 1)
 
 -- a frame as whoever it reaches sees it: its first hops and its forwardings are the machine's alone
 abbrev pub seen : Held → Frame
@@ -70,17 +66,10 @@ happened N r (Begin s a) = with_session_value r s (begun (r.session s) (request_
 happened N r (Send s) = sends_in N r s
 happened N r (Resume s attempts) = with_session_value r s (resumed (r.session s) attempts)
 happened N r (Retune s domain) = with_session_value r s (retuned (r.session s) domain)
-happened N r (Deliver n) = reaches_end N r (held_at r.frames n)
+happened N r (Deliver n) = reaches_end N r (frame_at r.frames n)
 happened N r (Stranger c port datagram) = after_turn N r c port (strange_frame c port datagram)
 
 -- ---- refusals
-
-abbrev pub no_held : Option Held → Option Refusal
-no_held None = Some NoSuchFrame
-no_held (Some h) = None
-
-abbrev pub no_room_in : Running → Option Refusal
-no_room_in r = first_of ((nat_lt frames_limit (length r.frames), FramesAtMaximum) ∷ [])
 
 abbrev pub nothing_to_resume : SessionValue → Option Refusal
 nothing_to_resume s = first_of ((not (is_waiting s), SendRefused sends.Idle) ∷ [])
@@ -88,11 +77,11 @@ nothing_to_resume s = first_of ((not (is_waiting s), SendRefused sends.Idle) ∷
 -- the first reason to refuse an event; want of memory is none
 unfoldable pub refused : Network → Running → Event → Option Refusal
 refused N r (Begin s a) = option_or (no_session N s) (option_map BeginRefused (begin_refusal (r.session s) a))
-refused N r (Send s) = option_or (no_session N s) (option_or (no_room_in r) (option_map SendRefused (send_refusal (r.session s))))
+refused N r (Send s) = option_or (no_session N s) (option_or (no_room r.frames) (option_map SendRefused (send_refusal (r.session s))))
 refused N r (Resume s attempts) = option_or (no_session N s) (nothing_to_resume (r.session s))
 refused N r (Retune s domain) = no_session N s
-refused N r (Deliver n) = option_or (no_held (held_at r.frames n)) (no_room_in r)
-refused N r (Stranger c port datagram) = option_or (no_port N c port) (option_or (forged N datagram) (no_room_in r))
+refused N r (Deliver n) = option_or (no_frame (frame_at r.frames n)) (no_room r.frames)
+refused N r (Stranger c port datagram) = option_or (no_port N c port) (option_or (forged N datagram) (no_room r.frames))
 
 -- ---- a list of events
 

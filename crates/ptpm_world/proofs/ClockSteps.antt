@@ -8,8 +8,8 @@ use Rattle.ptpm_data.specs.Members.{DataSetsValue, has_port}
 use Rattle.ptpm_agent.specs.Agent.{IsTurned}
 use Rattle.ptpm_agent.specs.declared.verdict.Verdict.{Verdict}
 use Rattle.ptpm_agent.specs.Turn.{Clock, State, Turned, turn}
-use Rattle.ptpm_network.specs.Events.{Deliver, Stranger, NoSuchName, NoSuchFrame, Forged, FramesAtMaximum, frames_limit, is_forged, no_port}
-use Rattle.ptpm_network.specs.Happening.{happened, held_at, reaches, reaches_end, seen}
+use Rattle.ptpm_network.specs.Events.{Deliver, Stranger, NoSuchName, NoSuchFrame, Forged, FramesAtMaximum, frames_limit, frame_at, is_forged, no_port}
+use Rattle.ptpm_network.specs.Happening.{happened, reaches, reaches_end, seen}
 use Rattle.ptpm_network.specs.Machine.{strange_frame}
 use Rattle.ptpm_network.specs.Network.{AtPort, End, Network}
 use Rattle.ptpm_network.specs.Replying.{origin_by, posted_by}
@@ -78,16 +78,16 @@ turned_same new mid old some links c port passed reply sent out e m l o =
 
 -- ---- a frame comes in
 
-deliver-goes : (N : Network) (r : Running) (n c port : ℕ) (h : Held) → held_at r.frames n ≡ Some h → h.end ≡ AtPort c port → after_turn N r c port (seen h) ≡ happened N r (Deliver n)
+deliver-goes : (N : Network) (r : Running) (n c port : ℕ) (h : Held) → frame_at r.frames n ≡ Some h → h.end ≡ AtPort c port → after_turn N r c port (seen h) ≡ happened N r (Deliver n)
 unfolding happened
 deliver-goes N r n c port h e at = sym (ap (reaches_end N r) e ∙ ap (reaches N r h) at)
 
-deliver-tells : (N : Network) (r : Running) (n c port : ℕ) (h : Held) → held_at r.frames n ≡ Some h → h.end ≡ AtPort c port → took_at N r h.octets (AtPort c port) ≡ took N r (Deliver n)
+deliver-tells : (N : Network) (r : Running) (n c port : ℕ) (h : Held) → frame_at r.frames n ≡ Some h → h.end ≡ AtPort c port → took_at N r h.octets (AtPort c port) ≡ took N r (Deliver n)
 unfolding took
 deliver-tells N r n c port h e at = sym (ap (took_of N r) e ∙ ap (took_at N r h.octets) at)
 
 pub deliver_clock-fine : (N : Network) (old new : World) (n c port : ℕ) (x y : RunningClock) (h : Held) (verdict : Verdict) (out : List (ℕ × List ℕ)) → IsOf N old → ClockChange old new c x y
-    → held_at (held_in old.frames) n ≡ Some h → h.end ≡ AtPort c port → nat_lt frames_limit (length (held_in old.frames)) ≡ false
+    → frame_at (held_in old.frames) n ≡ Some h → h.end ≡ AtPort c port → nat_lt frames_limit (length (held_in old.frames)) ≡ false
     → IsTurned (turn (agent_clock x.agent) (agent_state x.agent) port h.octets) verdict out (agent_state y.agent)
     → held_in new.frames ≡ held_in old.frames ++ flat_map (posted_by (link_ends old.links.items) c port h.origin (origin_by verdict h.origin)) out
     → IsStep N old new (Deliver n) (Ok (AtClock verdict))
@@ -98,10 +98,10 @@ deliver_clock-fine N old new n c port x y h verdict out is change e at room turn
     (deliver-fine N (running old) n h e room)
     (clock_change-network N old new c x y change is)
 
-pub deliver-no_frame : (N : Network) (w : World) (n : ℕ) → IsOf N w → held_at (held_in w.frames) n ≡ None → IsStep N w w (Deliver n) (Err errors.NoSuchFrame)
+pub deliver-no_frame : (N : Network) (w : World) (n : ℕ) → IsOf N w → frame_at (held_in w.frames) n ≡ None → IsStep N w w (Deliver n) (Err errors.NoSuchFrame)
 deliver-no_frame N w n is e = step_refused N w w (Deliver n) NoSuchFrame (deliver-absent N (running w) n e) is
 
-pub deliver-too_many : (N : Network) (old new : World) (n : ℕ) (h : Held) → IsOf N new → held_at (held_in old.frames) n ≡ Some h → nat_lt frames_limit (length (held_in old.frames)) ≡ true → IsStep N old new (Deliver n) (Err errors.FramesAtMaximum)
+pub deliver-too_many : (N : Network) (old new : World) (n : ℕ) (h : Held) → IsOf N new → frame_at (held_in old.frames) n ≡ Some h → nat_lt frames_limit (length (held_in old.frames)) ≡ true → IsStep N old new (Deliver n) (Err errors.FramesAtMaximum)
 deliver-too_many N old new n h is e full = step_refused N old new (Deliver n) FramesAtMaximum (deliver-full N (running old) n h e full) is
 
 -- ---- a stranger

@@ -3,14 +3,13 @@ use Rattle.std.proofs.Common.{◌≡◌, ℕ, List, Option, Some, None, refl, �
 use Rattle.ptpm_manager.specs.Session.{SessionValue}
 use Rattle.ptpm_codec.specs.declared.identity.PortIdentity.{PortIdentity}
 use Rattle.ptpm_network.specs.Events.{Event, frame_at}
-use Rattle.ptpm_network.specs.Happening.{held_at}
 use Rattle.ptpm_network.specs.Headline.{StandsAfter}
 use Rattle.ptpm_network.specs.Invariant.{IsOfOrigin, IsReached}
 use Rattle.ptpm_network.specs.Machine.{is_late_frame, run}
 use Rattle.ptpm_network.specs.Network.{Network}
 use Rattle.ptpm_network.specs.Stands.{Held, Running, Stands, held}
 use Rattle.ptpm_network.specs.State.{Frame, NetworkState, Neither, Origin, ReplyTo, RequestOf, at_first, is_late, is_late_at}
-use Rattle.ptpm_network.proofs.Held.{held_at-map}
+use Rattle.ptpm_network.proofs.Held.{frame_at-map}
 use Rattle.ptpm_network.proofs.Promise.{first_of_sessions, firsts}
 use Rattle.ptpm_network.proofs.Reaching.{frame_at-is}
 use Rattle.ptpm_network.proofs.Schedule.{reached}
@@ -28,12 +27,12 @@ late-frame N first r w n None reached at e = refl
 late-frame N first r w n (Some f) reached at e = late-origin N first r w f.octets f.origin at (frame_at-is N w n f reached e).origin
 
 pub late-after : (N : Network) (past : List Event) (r : Running) (n : ℕ) → StandsAfter N past r
-    → is_late_held r (held_at r.frames n) ≡ is_late_frame (run N (at_first N) past) (frame_at (run N (at_first N) past).frames n)
+    → is_late_held r (frame_at r.frames n) ≡ is_late_frame (run N (at_first N) past) (frame_at (run N (at_first N) past).frames n)
 late-after N past r n at =
     let p = at.promised in
     let w : NetworkState = run N (at_first N) past in
     let first : PortIdentity → ℕ = first_of_sessions N N.sessions in
     let there = at.stands first (firsts N p.network) in
-    ap (λ (hs : List Held). is_late_held r (held_at hs n)) there.frames
-    ∙ ap (is_late_held r) (held_at-map w.frames n)
+    ap (λ (hs : List Held). is_late_held r (frame_at hs n)) there.frames
+    ∙ ap (is_late_held r) (frame_at-map w.frames n)
     ∙ late-frame N first r w n (frame_at w.frames n) (reached N past p.network p.in_range) there refl

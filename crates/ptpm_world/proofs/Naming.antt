@@ -4,7 +4,7 @@ use Rattle.std.specs.Prelude.{Contains, IsSome, bytes_eq, is_some, option_map, s
 use Rattle.std.proofs.lemmas.Bool.{cases_Bool, cond-true, cond-false, eqb-false, eqb-true, false≢true}
 use Rattle.std.proofs.lemmas.List.{length-map}
 use Rattle.std.proofs.lemmas.Slice.Eq.{bytes_eq-Decides}
-use Rattle.ptpm_network.specs.Happening.{held_at}
+use Rattle.ptpm_network.specs.Events.{frame_at}
 use Rattle.ptpm_network.specs.Stands.{Held, Running}
 use Rattle.ptpm_world.specs.Placed.{place_in}
 use Rattle.ptpm_world.specs.Running.{is_late_held}
@@ -61,7 +61,7 @@ within-some [] i h = absurd (omega (arith, h))
 within-some (x ∷ xs) zero h = refl
 within-some (x ∷ xs) (suc i) h = within-some xs i (omega (arith, h))
 
-some-held : (frames : List Held) (n : ℕ) → is_some (held_at frames n) ≡ true → (1 ≤ n) × (n ≤ length frames)
+some-held : (frames : List Held) (n : ℕ) → is_some (frame_at frames n) ≡ true → (1 ≤ n) × (n ≤ length frames)
 some-held frames n e = ⊎_elim
     (λ (y : n == 0 ≡ true). absurd (false≢true (ap is_some (sym (cond-true _ _ _ y)) ∙ e)))
     (λ (o : n == 0 ≡ false).
@@ -70,7 +70,7 @@ some-held frames n e = ⊎_elim
     (omega (arith, positive), omega (arith, positive, within)))
     (cases_Bool (n == 0))
 
-held-some : (frames : List Held) (n : ℕ) → 1 ≤ n → n ≤ length frames → is_some (held_at frames n) ≡ true
+held-some : (frames : List Held) (n : ℕ) → 1 ≤ n → n ≤ length frames → is_some (frame_at frames n) ≡ true
 held-some frames n positive within = ⊎_elim
     (λ (y : n == 0 ≡ true). absurd (omega (arith, positive, eqb-true n 0 y)))
     (λ (o : n == 0 ≡ false). ap is_some (cond-false _ _ _ o) ∙ within-some frames (n - 1) (omega (arith, positive, within)))
@@ -80,7 +80,7 @@ some-mapped : {T : Type 0} (view : T → Held) (o : Option T) → is_some (optio
 some-mapped view None = refl
 some-mapped view (Some t) = refl
 
-pub known-frame : {T : Type 0} (view : T → Held) (o : Option T) (frames : List Held) (n : ℕ) → option_map view o ≡ held_at frames n
+pub known-frame : {T : Type 0} (view : T → Held) (o : Option T) (frames : List Held) (n : ℕ) → option_map view o ≡ frame_at frames n
     → IsSome o ↔ ((1 ≤ n) × (n ≤ length frames))
 known-frame view o frames n e =
     let same = sym (some-mapped view o) ∙ ap is_some e in
@@ -91,5 +91,5 @@ late-some : (r : Running) (o : Option Held) → is_late_held r o ≡ true → is
 late-some r None e = absurd (false≢true e)
 late-some r (Some h) e = refl
 
-pub late-there : (r : Running) (n : ℕ) → is_late_held r (held_at r.frames n) ≡ true → (1 ≤ n) × (n ≤ length r.frames)
-late-there r n e = some-held r.frames n (late-some r (held_at r.frames n) e)
+pub late-there : (r : Running) (n : ℕ) → is_late_held r (frame_at r.frames n) ≡ true → (1 ≤ n) × (n ≤ length r.frames)
+late-there r n e = some-held r.frames n (late-some r (frame_at r.frames n) e)

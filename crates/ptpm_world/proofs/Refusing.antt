@@ -7,8 +7,8 @@ use Rattle.ptpm_manager.specs.declared.error.BeginError.{BeginError}
 use Rattle.ptpm_manager.specs.declared.error.SendError.{SendError}
 use Rattle.ptpm_manager.specs.declared.error.SendError.TheVariants as sends
 use Rattle.ptpm_manager.specs.Session.{begin_refusal, is_waiting, send_refusal}
-use Rattle.ptpm_network.specs.Events.{Begin, Send, Resume, Retune, Deliver, Stranger, NoSuchName, NoSuchFrame, Forged, FramesAtMaximum, BeginRefused, SendRefused, frames_limit, is_forged, no_port, no_session}
-use Rattle.ptpm_network.specs.Happening.{held_at, no_held, no_room_in, refused}
+use Rattle.ptpm_network.specs.Events.{Begin, Send, Resume, Retune, Deliver, Stranger, NoSuchName, NoSuchFrame, Forged, FramesAtMaximum, BeginRefused, SendRefused, frame_at, frames_limit, is_forged, no_frame, no_port, no_room, no_session}
+use Rattle.ptpm_network.specs.Happening.{refused}
 use Rattle.ptpm_network.specs.Network.{Network}
 use Rattle.ptpm_network.specs.Stands.{Held, Running}
 
@@ -20,10 +20,10 @@ absent N s h = cond-true _ _ _ (ap not (le-ltb s N.sessions h))
 present : (N : Network) (s : ℕ) → s < N.sessions → no_session N s ≡ None
 present N s h = cond-false _ _ _ (ap not (lt-ltb s N.sessions h))
 
-full : (r : Running) → nat_lt frames_limit (length r.frames) ≡ true → no_room_in r ≡ Some FramesAtMaximum
+full : (r : Running) → nat_lt frames_limit (length r.frames) ≡ true → no_room r.frames ≡ Some FramesAtMaximum
 full r h = cond-true _ _ _ h
 
-roomy : (r : Running) → nat_lt frames_limit (length r.frames) ≡ false → no_room_in r ≡ None
+roomy : (r : Running) → nat_lt frames_limit (length r.frames) ≡ false → no_room r.frames ≡ None
 roomy r h = cond-false _ _ _ h
 
 after_none : {A : Type 0} (a b : Option A) → a ≡ None → option_or a b ≡ b
@@ -80,17 +80,17 @@ retune-present N r s domain h = present N s h
 
 -- ---- deliver
 
-pub deliver-absent : (N : Network) (r : Running) (n : ℕ) → held_at r.frames n ≡ None → refused N r (Deliver n) ≡ Some NoSuchFrame
+pub deliver-absent : (N : Network) (r : Running) (n : ℕ) → frame_at r.frames n ≡ None → refused N r (Deliver n) ≡ Some NoSuchFrame
 unfolding refused
-deliver-absent N r n e = first_some _ _ _ (ap no_held e)
+deliver-absent N r n e = first_some _ _ _ (ap no_frame e)
 
-pub deliver-full : (N : Network) (r : Running) (n : ℕ) (h : Held) → held_at r.frames n ≡ Some h → nat_lt frames_limit (length r.frames) ≡ true → refused N r (Deliver n) ≡ Some FramesAtMaximum
+pub deliver-full : (N : Network) (r : Running) (n : ℕ) (h : Held) → frame_at r.frames n ≡ Some h → nat_lt frames_limit (length r.frames) ≡ true → refused N r (Deliver n) ≡ Some FramesAtMaximum
 unfolding refused
-deliver-full N r n h e f = after_none _ _ (ap no_held e) ∙ full r f
+deliver-full N r n h e f = after_none _ _ (ap no_frame e) ∙ full r f
 
-pub deliver-fine : (N : Network) (r : Running) (n : ℕ) (h : Held) → held_at r.frames n ≡ Some h → nat_lt frames_limit (length r.frames) ≡ false → refused N r (Deliver n) ≡ None
+pub deliver-fine : (N : Network) (r : Running) (n : ℕ) (h : Held) → frame_at r.frames n ≡ Some h → nat_lt frames_limit (length r.frames) ≡ false → refused N r (Deliver n) ≡ None
 unfolding refused
-deliver-fine N r n h e f = after_none _ _ (ap no_held e) ∙ roomy r f
+deliver-fine N r n h e f = after_none _ _ (ap no_frame e) ∙ roomy r f
 
 -- ---- strangers
 

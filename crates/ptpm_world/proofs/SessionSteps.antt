@@ -19,8 +19,8 @@ use Rattle.ptpm_manager.specs.Ask.{request_of}
 use Rattle.ptpm_manager.specs.Receiving.{left_by, received_of}
 use Rattle.ptpm_manager.specs.Session.{SessionValue, begin_refusal, begun, due_message, is_waiting, resumed, retuned, send_refusal, sent}
 use Rattle.ptpm_manager.specs.Setup.{request_message}
-use Rattle.ptpm_network.specs.Events.{Begin, Send, Resume, Retune, Deliver, NoSuchName, FramesAtMaximum, BeginRefused, SendRefused, frames_limit}
-use Rattle.ptpm_network.specs.Happening.{happened, hears, held_at, posted, reaches, reaches_end, sent_posted}
+use Rattle.ptpm_network.specs.Events.{Begin, Send, Resume, Retune, Deliver, NoSuchName, FramesAtMaximum, BeginRefused, SendRefused, frame_at, frames_limit}
+use Rattle.ptpm_network.specs.Happening.{happened, hears, posted, reaches, reaches_end, sent_posted}
 use Rattle.ptpm_network.specs.Network.{AtSession, End, Network, peers}
 use Rattle.ptpm_network.specs.Stands.{Held, Running}
 use Rattle.ptpm_network.specs.State.{Origin, RequestOf}
@@ -259,16 +259,16 @@ hear-goes old new place x y (received.Answered report) c v r f =
 hear-goes old new place x y (received.Ignored reason) c v r f =
     session_change-none old new place x y c v (r ∙ append-nil x.reports.items) f
 
-deliver-hears : (N : Network) (r : Running) (n s : ℕ) (h : Held) → held_at r.frames n ≡ Some h → h.end ≡ AtSession s → hears r s (received_of (r.session s) h.octets) ≡ happened N r (Deliver n)
+deliver-hears : (N : Network) (r : Running) (n s : ℕ) (h : Held) → frame_at r.frames n ≡ Some h → h.end ≡ AtSession s → hears r s (received_of (r.session s) h.octets) ≡ happened N r (Deliver n)
 unfolding happened
 deliver-hears N r n s h e at = sym (ap (reaches_end N r) e ∙ ap (reaches N r h) at)
 
-deliver-took : (N : Network) (r : Running) (n s : ℕ) (h : Held) → held_at r.frames n ≡ Some h → h.end ≡ AtSession s → heard (received_of (r.session s) h.octets) ≡ took N r (Deliver n)
+deliver-took : (N : Network) (r : Running) (n s : ℕ) (h : Held) → frame_at r.frames n ≡ Some h → h.end ≡ AtSession s → heard (received_of (r.session s) h.octets) ≡ took N r (Deliver n)
 unfolding took
 deliver-took N r n s h e at = sym (ap (took_of N r) e ∙ ap (took_at N r h.octets) at)
 
 hear-fine : (N : Network) (old new : World) (n place : ℕ) (x y : RunningSession) (h : Held) (t : Took) → IsOf N old → SessionChange old new place x y
-    → held_at (held_in old.frames) n ≡ Some h → h.end ≡ AtSession place → nat_lt frames_limit (length (held_in old.frames)) ≡ false
+    → frame_at (held_in old.frames) n ≡ Some h → h.end ≡ AtSession place → nat_lt frames_limit (length (held_in old.frames)) ≡ false
     → y.session ≡ left_by x.session (received_of x.session h.octets) → y.reports.items ≡ x.reports.items ++ reports_in (received_of x.session h.octets) → held_in new.frames ≡ held_in old.frames
     → t ≡ heard (received_of x.session h.octets) → IsStep N old new (Deliver n) (Ok t)
 hear-fine N old new n place x y h t is c e at room v r f told =
@@ -282,7 +282,7 @@ hear-fine N old new n place x y h t is c e at room v r f told =
 
 -- by what the session answers
 pub hear-step : (N : Network) (old new : World) (n place : ℕ) (x y : RunningSession) (h : Held) (result : Result Took StepError) → IsOf N old → SessionChange old new place x y
-    → held_at (held_in old.frames) n ≡ Some h → h.end ≡ AtSession place → nat_lt frames_limit (length (held_in old.frames)) ≡ false
+    → frame_at (held_in old.frames) n ≡ Some h → h.end ≡ AtSession place → nat_lt frames_limit (length (held_in old.frames)) ≡ false
     → OnOk result (y.session ≡ left_by x.session (received_of x.session h.octets)) → OnOk result (y.reports.items ≡ x.reports.items ++ reports_in (received_of x.session h.octets)) → held_in new.frames ≡ held_in old.frames
     → IfOk result (λ t. t ≡ heard (received_of x.session h.octets)) → IfErr result (λ e. e ≡ errors.OutOfMemory) → IsStep N old new (Deliver n) result
 hear-step N old new n place x y h (Ok t) is c e at room v r f told memory = hear-fine N old new n place x y h t is c e at room v r f told

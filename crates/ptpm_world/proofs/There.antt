@@ -3,7 +3,7 @@ use Rattle.std.proofs.Common.{◌≡◌, ℕ, ◌<◌, ◌≤◌, List, Option, 
 use Rattle.std.proofs.lemmas.Option.{same_Some, slice_get-map, slice_get_within, get_or_from_slice_get}
 use Rattle.std.specs.Prelude.{map, slice_get}
 use Rattle.ptpm_data.specs.Members.{HasPort}
-use Rattle.ptpm_network.specs.Happening.{held_at}
+use Rattle.ptpm_network.specs.Events.{frame_at}
 use Rattle.ptpm_network.specs.Network as machine
 use Rattle.ptpm_network.specs.Stands.{Held}
 use Rattle.ptpm_script.specs.declared.network.End.{End}
@@ -41,7 +41,7 @@ from_number octets counts sessions h stored n true all e = absurd (cc)
 from_number octets counts sessions h stored n false all e =
     from_map octets counts sessions h stored (n - 1) (slice_get stored (n - 1)) all refl (sym (slice_get-map (frame_in octets) stored (n - 1)) ∙ e)
 
-pub stored_as : (f : Frames) (counts : List ℕ) (sessions : ℕ) (n : ℕ) (h : Held) → All (IsStoredFrame counts sessions) f.stored.items → held_at (held_in f) n ≡ Some h → IsStoredAs counts sessions h
+pub stored_as : (f : Frames) (counts : List ℕ) (sessions : ℕ) (n : ℕ) (h : Held) → All (IsStoredFrame counts sessions) f.stored.items → frame_at (held_in f) n ≡ Some h → IsStoredAs counts sessions h
 stored_as f counts sessions n h all e = from_number f.octets.items counts sessions h f.stored.items n (n == 0) all e
 
 -- ---- at a clock
@@ -116,9 +116,9 @@ pub record IsAtClock (w : World) (place port : ℕ) (origin : Origin) (h : Held)
 some_and : {X : Type 0} (P : X → Type 0) (o : Option X) (x : X) → IsSomeAnd o P → o ≡ Some x → P x
 some_and P o x h e = subst (λ (u : Option _). IsSomeAnd u P) e h
 
-pub at_clock : (w : World) (n place port : ℕ) (origin : Origin) (h : Held) → IsSomeAnd (held_at (held_in w.frames) n) (λ x. (x.end ≡ machine.AtPort place port) × (x.origin ≡ origin_of origin)) → held_at (held_in w.frames) n ≡ Some h → IsAtClock w place port origin h
+pub at_clock : (w : World) (n place port : ℕ) (origin : Origin) (h : Held) → IsSomeAnd (frame_at (held_in w.frames) n) (λ x. (x.end ≡ machine.AtPort place port) × (x.origin ≡ origin_of origin)) → frame_at (held_in w.frames) n ≡ Some h → IsAtClock w place port origin h
 at_clock w n place port origin h some e =
-    let both = some_and (λ x. (x.end ≡ machine.AtPort place port) × (x.origin ≡ origin_of origin)) (held_at (held_in w.frames) n) h some e in
+    let both = some_and (λ x. (x.end ≡ machine.AtPort place port) × (x.origin ≡ origin_of origin)) (frame_at (held_in w.frames) n) h some e in
     let as' = stored_as w.frames (port_counts w.clocks.items) (length w.sessions.items) n h w.frames_there e in
     record {
       end = both.0;
@@ -127,9 +127,9 @@ at_clock w n place port origin h some e =
       session = origin_there (port_counts w.clocks.items) (length w.sessions.items) h origin as' both.1;
     }
 
-pub at_session : (w : World) (n place : ℕ) (h : Held) → IsSomeAnd (held_at (held_in w.frames) n) (λ x. x.end ≡ machine.AtSession place) → held_at (held_in w.frames) n ≡ Some h → (h.end ≡ machine.AtSession place) × (place < length w.sessions.items)
+pub at_session : (w : World) (n place : ℕ) (h : Held) → IsSomeAnd (frame_at (held_in w.frames) n) (λ x. x.end ≡ machine.AtSession place) → frame_at (held_in w.frames) n ≡ Some h → (h.end ≡ machine.AtSession place) × (place < length w.sessions.items)
 at_session w n place h some e =
-    let end = some_and (λ x. x.end ≡ machine.AtSession place) (held_at (held_in w.frames) n) h some e in
+    let end = some_and (λ x. x.end ≡ machine.AtSession place) (frame_at (held_in w.frames) n) h some e in
     (end, session_there (port_counts w.clocks.items) (length w.sessions.items) place h (stored_as w.frames (port_counts w.clocks.items) (length w.sessions.items) n h w.frames_there e) end)
 
 -- ---- octets as they were lent

@@ -8,7 +8,7 @@ use Rattle.std.proofs.lemmas.List.Folds.{find_at}
 use Rattle.std.proofs.lemmas.List.Sums.{prefix_len-le-length}
 use Rattle.std.proofs.lemmas.Option.{get_or_from_slice_get, same_Some, slice_get_past, slice_get_within}
 use Rattle.ptpm_manager.specs.Session.{count_limit}
-use Rattle.ptpm_network.specs.Happening.{held_at}
+use Rattle.ptpm_network.specs.Events.{frame_at}
 use Rattle.ptpm_network.specs.Stands.{Held}
 use Rattle.ptpm_network.specs.State as state
 use Rattle.ptpm_world.specs.declared.frames.Frames.{Frames}
@@ -102,7 +102,7 @@ made_at make [] i y e = absurd (cc)
 made_at make (x ∷ xs) zero y e = (x, refl, same_Some (make x) y e)
 made_at make (x ∷ xs) (suc i) y e = made_at make xs i y e
 
-held_there : (frames : List Held) (n : ℕ) (h : Held) → held_at frames n ≡ Some h → slice_get frames (n - 1) ≡ Some h
+held_there : (frames : List Held) (n : ℕ) (h : Held) → frame_at frames n ≡ Some h → slice_get frames (n - 1) ≡ Some h
 held_there frames n h e = ⊎_elim
     (λ (b : n == 0 ≡ true). let none : None ≡ Some h = sym (cond-true _ _ _ b) ∙ e in absurd (cc))
     (λ (b : n == 0 ≡ false). sym (cond-false _ _ _ b) ∙ e)
@@ -110,7 +110,7 @@ held_there frames n h e = ⊎_elim
 
 -- what a frame of the store belongs to
 pub origin_there : (counts : List ℕ) (sessions : ℕ) (frames : Frames) (n : ℕ) (h : Held) (o : Origin)
-    → All (IsStoredFrame counts sessions) frames.stored.items → held_at (held_in frames) n ≡ Some h → h.origin ≡ origin_of o
+    → All (IsStoredFrame counts sessions) frames.stored.items → frame_at (held_in frames) n ≡ Some h → h.origin ≡ origin_of o
     → IsOfSession sessions o
 origin_there counts sessions frames n h o all e same =
     let found = made_at (frame_in frames.octets.items) frames.stored.items (n - 1) h (held_there (held_in frames) n h e) in

@@ -81,7 +81,8 @@ impl Frame<'_> {
 }
 
 impl Frames {
-    ghost use Rattle.ptpm_network.specs.Happening.{held_at, posted};
+    ghost use Rattle.ptpm_network.specs.Events.{frame_at};
+    ghost use Rattle.ptpm_network.specs.Happening.{posted};
     ghost use Rattle.ptpm_network.specs.Network.{peers};
     ghost use Rattle.ptpm_world.specs.Described.{described_end};
     ghost use Rattle.ptpm_world.specs.Frames.{HasRoom, frame_value, held_in, link_ends, origin_of};
@@ -114,7 +115,7 @@ impl Frames {
 
     /// The frame of a number, counted from 1.
     pub(crate) fn get(&self, number: u32) -> Option<Frame<'_>>
-        ensures { option_map frame_value result ≡ held_at (held_in self.now) number }
+        ensures { option_map frame_value result ≡ frame_at (held_in self.now) number }
     {
         let stored = self.stored.get((number as usize).checked_sub(1)?)?;
         Some(Frame {

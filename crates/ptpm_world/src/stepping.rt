@@ -9,8 +9,8 @@ ghost use Rattle.ptpm_agent.specs.Agent.{IsTurned};
 ghost use Rattle.ptpm_agent.specs.Turn.{turn};
 ghost use Rattle.ptpm_table.specs.Outbox.{sent};
 ghost use Rattle.ptpm_network.specs.Events as machine;
-ghost use Rattle.ptpm_network.specs.Events.{is_forged, refusal};
-ghost use Rattle.ptpm_network.specs.Happening.{happened, held_at, ran, refused};
+ghost use Rattle.ptpm_network.specs.Events.{frame_at, is_forged, refusal};
+ghost use Rattle.ptpm_network.specs.Happening.{happened, ran, refused};
 ghost use Rattle.ptpm_network.specs.Headline.{Headline, StandsAfter};
 ghost use Rattle.ptpm_network.specs.Machine.{AreInTime, is_late_delivery, run, taken};
 ghost use Rattle.ptpm_network.specs.Network.{Network};
@@ -228,7 +228,7 @@ impl World {
         port: u16,
         origin: Origin,
     ) -> Result<Took, StepError>
-        requires frame { IsSomeAnd (held_at (held_in self.old.frames) number) (λ h. (h.end ≡ net.AtPort place port) × (h.origin ≡ origin_of origin)) }
+        requires frame { IsSomeAnd (frame_at (held_in self.old.frames) number) (λ h. (h.end ≡ net.AtPort place port) × (h.origin ≡ origin_of origin)) }
         requires room { nat_lt FRAMES_LIMIT (length (held_in self.old.frames)) ≡ false }
         ensures step { (N : Network) → IsOf N self.old → IsStep N self.old self.new (machine.Deliver number) result }
         ensures unchanged { OnErr result (running self.new ≡ running self.old) }
@@ -253,7 +253,7 @@ impl World {
     }
 
     fn deliver_at_session(&mut self, number: u32, place: u16) -> Result<Took, StepError>
-        requires frame { IsSomeAnd (held_at (held_in self.old.frames) number) (λ h. h.end ≡ net.AtSession place) }
+        requires frame { IsSomeAnd (frame_at (held_in self.old.frames) number) (λ h. h.end ≡ net.AtSession place) }
         requires room { nat_lt FRAMES_LIMIT (length (held_in self.old.frames)) ≡ false }
         ensures step { (N : Network) → IsOf N self.old → IsStep N self.old self.new (machine.Deliver number) result }
         ensures unchanged { OnErr result (running self.new ≡ running self.old) }

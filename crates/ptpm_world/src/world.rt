@@ -47,7 +47,7 @@ pub struct World {
 impl World {
     ghost use Rattle.ptpm_manager.specs.Session.{count_limit};
     ghost use Rattle.ptpm_network.specs.Events as machine;
-    ghost use Rattle.ptpm_network.specs.Happening.{held_at};
+    ghost use Rattle.ptpm_network.specs.Events.{frame_at};
     ghost use Rattle.ptpm_network.specs.Headline.{StandsAfter};
     ghost use Rattle.ptpm_network.specs.Machine.{is_late_delivery, run};
     ghost use Rattle.ptpm_network.specs.Network.{Network};
@@ -88,7 +88,7 @@ impl World {
 
     /// The frame of a number, counted from 1.
     pub fn frame(&self, number: u32) -> Option<Frame<'_>>
-        ensures frame { option_map frame_value result ≡ held_at (running self.now).frames number }
+        ensures frame { option_map frame_value result ≡ frame_at (running self.now).frames number }
         ensures known { IsSome result ↔ ((1 ≤ number) × (number ≤ length (running self.now).frames)) }
     {
         self.frames.get(number)
@@ -97,7 +97,7 @@ impl World {
     /// Whether delivering a frame is late: it is a copy of a request, or of a reply to one, and its session has begun over
     /// 32,768 requests since. No frame that is not there is late.
     pub fn is_late(&self, number: u32) -> bool
-        ensures late { result ≡ is_late_held (running self.now) (held_at (running self.now).frames number) }
+        ensures late { result ≡ is_late_held (running self.now) (frame_at (running self.now).frames number) }
         ensures late_after { (N : Network) (past : List machine.Event) → StandsAfter N past (running self.now)
             → result ≡ is_late_delivery (run N (at_first N) past) (machine.Deliver number) }
         ensures there { IsTrue result → ((1 ≤ number) × (number ≤ length (running self.now).frames)) }
@@ -107,7 +107,7 @@ impl World {
 
     /// Whether it belongs to a request that its session has left behind.
     fn is_overtaken(&self, number: u32) -> bool
-        ensures { result ≡ is_late_held (running self.now) (held_at (running self.now).frames number) }
+        ensures { result ≡ is_late_held (running self.now) (frame_at (running self.now).frames number) }
     {
         let Some(frame) = self.frames.get(number) else {
             return false;

@@ -1,7 +1,7 @@
 use Rattle.std.proofs.Common.{◌≡◌, ◌++◌, ◌∙◌, All, Some, ap, arith, length, refl, subst, sym}
 use Rattle.std.proofs.lemmas.Option.{slice_get_read}
 use Rattle.std.specs.Prelude.{flat_map, slice_get}
-use Rattle.ptpm_network.specs.Happening.{held_at}
+use Rattle.ptpm_network.specs.Events.{frame_at}
 use Rattle.ptpm_network.specs.Replying.{origin_by, posted_by}
 use Rattle.ptpm_network.specs.State.{Origin}
 use Rattle.ptpm_table.specs.Outbox.{sent}
@@ -16,7 +16,7 @@ use Rattle.ptpm_world.proofs.world.World.deliver_at_clock.Goals as goal
 pub index_mut-clock-requires : goal.index_mut-clock-requires
 index_mut-clock-requires c =
     let w = c.args.self.now in
-    let e = ap (λ fs. held_at fs c.args.number) (sym c.in_ok-make_room.ensures.frames) ∙ sym c.in-Some.ensures in
+    let e = ap (λ fs. frame_at fs c.args.number) (sym c.in_ok-make_room.ensures.frames) ∙ sym c.in-Some.ensures in
     let there = at_clock w c.args.number c.args.place c.args.port c.args.origin (frame_value c.in-Some.frame) c.requires.frame e in
     omega (arith, there.there.within, w.clocks.ok.0)
 
@@ -24,7 +24,7 @@ pub take_turn-verdict-requires : goal.take_turn-verdict-requires
 take_turn-verdict-requires c =
     let w = c.args.self.now in
     let x = c.index_mut-clock.result.now in
-    let e = ap (λ fs. held_at fs c.args.number) (sym c.in_ok-make_room.ensures.frames) ∙ sym c.in-Some.ensures in
+    let e = ap (λ fs. frame_at fs c.args.number) (sym c.in_ok-make_room.ensures.frames) ∙ sym c.in-Some.ensures in
     let there = at_clock w c.args.number c.args.place c.args.port c.args.origin (frame_value c.in-Some.frame) c.requires.frame e in
     let at : slice_get w.clocks.items c.args.place ≡ Some x = slice_get_read w.clocks.items _ c.args.place x refl there.there.within c.index_mut-clock.ensures.value in
     record { port = there.there.has x at }
@@ -41,7 +41,7 @@ invariant_of-self-2 c =
     let y = c.take_turn-verdict.new.self in
     let counts = port_counts w.clocks.items in
     let sessions = length w.sessions.items in
-    let e = ap (λ fs. held_at fs c.args.number) (sym c.in_ok-make_room.ensures.frames) ∙ sym c.in-Some.ensures in
+    let e = ap (λ fs. frame_at fs c.args.number) (sym c.in_ok-make_room.ensures.frames) ∙ sym c.in-Some.ensures in
     let there = at_clock w c.args.number c.args.place c.args.port c.args.origin (frame_value c.in-Some.frame) c.requires.frame e in
     let at : slice_get w.clocks.items c.args.place ≡ Some x = slice_get_read w.clocks.items _ c.args.place x refl there.there.within c.index_mut-clock.ensures.value in
     let before = subst (All (IsStoredFrame counts sessions)) (sym c.in_ok-make_room.ensures.stored) w.frames_there in
@@ -56,7 +56,7 @@ returns-clause-step c = λ N is.
     let x = c.index_mut-clock.result.now in
     let y = c.take_turn-verdict.new.self in
     let h = with_octets (frame_value c.in-Some.frame) c.octets.result.now in
-    let e : held_at (held_in w.frames) c.args.number ≡ Some h = ap (λ fs. held_at fs c.args.number) (sym c.in_ok-make_room.ensures.frames) ∙ lent_octets _ (frame_value c.in-Some.frame) c.octets.result.now c.in-Some.ensures c.octets.ensures in
+    let e : frame_at (held_in w.frames) c.args.number ≡ Some h = ap (λ fs. frame_at fs c.args.number) (sym c.in_ok-make_room.ensures.frames) ∙ lent_octets _ (frame_value c.in-Some.frame) c.octets.result.now c.in-Some.ensures c.octets.ensures in
     let there = at_clock w c.args.number c.args.place c.args.port c.args.origin h c.requires.frame e in
     let at : slice_get w.clocks.items c.args.place ≡ Some x = slice_get_read w.clocks.items _ c.args.place x refl there.there.within c.index_mut-clock.ensures.value in
     let turned = c.take_turn-verdict.ensures.turned in
@@ -73,7 +73,7 @@ pub returns-clause-names : goal.returns-clause-names
 returns-clause-names c =
     let w = c.args.self.now in
     let x = c.index_mut-clock.result.now in
-    let e = ap (λ fs. held_at fs c.args.number) (sym c.in_ok-make_room.ensures.frames) ∙ sym c.in-Some.ensures in
+    let e = ap (λ fs. frame_at fs c.args.number) (sym c.in_ok-make_room.ensures.frames) ∙ sym c.in-Some.ensures in
     let there = at_clock w c.args.number c.args.place c.args.port c.args.origin (frame_value c.in-Some.frame) c.requires.frame e in
     let at : slice_get w.clocks.items c.args.place ≡ Some x = slice_get_read w.clocks.items _ c.args.place x refl there.there.within c.index_mut-clock.ensures.value in
     names-clock w c.args.place x c.take_turn-verdict.new.self at c.take_turn-verdict.ensures.name

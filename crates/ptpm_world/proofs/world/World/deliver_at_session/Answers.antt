@@ -1,7 +1,7 @@
 use Rattle.std.proofs.Common.{◌≡◌, Some, refl, sym, arith}
 use Rattle.std.proofs.lemmas.Option.{slice_get_read}
 use Rattle.std.specs.Prelude.{slice_get}
-use Rattle.ptpm_network.specs.Happening.{held_at}
+use Rattle.ptpm_network.specs.Events.{frame_at}
 use Rattle.ptpm_world.specs.Frames.{frame_value, held_in}
 use Rattle.ptpm_world.proofs.Changing.{names-session}
 use Rattle.ptpm_world.proofs.SessionSteps.{hear-step, hear-unchanged}
@@ -19,7 +19,7 @@ returns-clause-step c = λ N is.
     let w = c.args.self.now in
     let x = c.index_mut.result.now in
     let h = with_octets (frame_value c.in-Some.frame) c.octets.result.now in
-    let e : held_at (held_in w.frames) c.args.number ≡ Some h = lent_octets _ (frame_value c.in-Some.frame) c.octets.result.now c.in-Some.ensures c.octets.ensures in
+    let e : frame_at (held_in w.frames) c.args.number ≡ Some h = lent_octets _ (frame_value c.in-Some.frame) c.octets.result.now c.in-Some.ensures c.octets.ensures in
     let there = at_session w c.args.number c.args.place h c.requires.frame e in
     let at : slice_get w.sessions.items c.args.place ≡ Some x = slice_get_read w.sessions.items _ c.args.place x refl there.1 c.index_mut.ensures.value in
     hear-step N w _ c.args.number c.args.place x c.hear.new.self h c.hear.result is (record { at = at; sessions = refl; clocks = refl; links = refl; name = c.hear.ensures.name; identity = c.hear.ensures.identity })
