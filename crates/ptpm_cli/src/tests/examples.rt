@@ -203,3 +203,75 @@ data K.2 2004 aabbccfffeddee01000206000000000000000000010300010002
 fn retune(rt: HostRuntime) {
     runs(&rt, rt.alloc(), RETUNE, 0, RETUNE_TRACE, "");
 }
+
+/// `lost_and_late.script`.
+const LOST_AND_LATE: &str = r#"version = 1
+[[clock]]
+name = "K"
+identity = "aabbccfffeddee01"
+domain = 0
+ports = 2
+[[session]]
+name = "m"
+identity = "0011223344556677/1"
+target = "K"
+first = 7
+hops = 1
+attempts = 2
+[[link]]
+ends = ["K.1", "m"]
+%%
+# Of two copies of the SET the first is delayed. The second is carried out, but the reply to it is lost.
+begin m set PRIORITY1 - 6400
+send m
+send m
+deliver 2
+# Both attempts are used. The operator allows one more, and the reply to its copy gets through.
+send m
+resume m 1
+send m
+deliver 4
+deliver 5
+# The first copy arrives at last, and is answered as a repeat; nobody waits for it any more.
+deliver 1
+deliver 6
+# The next request is answered at once; after it, copies of the SET are too old to be answered at all.
+begin m get PRIORITY1 - -
+send m
+deliver 7
+deliver 1
+deliver 8
+"#;
+
+/// `lost_and_late.trace`.
+const LOST_AND_LATE_TRACE: &str = r#"2 begin ok
+3 send ok frames 1-1
+4 send ok frames 2-2
+5 deliver AnsweredNew frames 3-3
+7 send refused GaveUp
+8 resume ok
+9 send ok frames 4-4
+10 deliver AnsweredRepeat frames 5-5
+11 deliver Answered
+13 deliver AnsweredRepeat frames 6-6
+14 deliver Ignored NothingAsked
+16 begin ok
+17 send ok frames 7-7
+18 deliver AnsweredNew frames 8-8
+19 deliver DroppedOld
+20 deliver Answered
+report m 1 value 6400
+report m 2 value 6400
+data K 0002 0000
+data K 2000 0100000264f8feffff80aabbccfffeddee010000
+data K 2001 000000000000000000000000000000000000
+data K 2002 aabbccfffeddee0100000000ffff7fffffff64f8feffff80aabbccfffeddee01
+data K 2003 002500a0
+data K.1 2004 aabbccfffeddee01000106000000000000000000010300010002
+data K.2 2004 aabbccfffeddee01000206000000000000000000010300010002
+"#;
+
+#[test]
+fn lost_and_late(rt: HostRuntime) {
+    runs(&rt, rt.alloc(), LOST_AND_LATE, 0, LOST_AND_LATE_TRACE, "");
+}
