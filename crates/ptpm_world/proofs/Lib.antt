@@ -20,3 +20,6 @@ pub mod StartingLemmas
 pub mod WorldLemmas
 pub mod TraceLemmas
 pub mod Answering
+pub mod Playing
+pub mod LineLemmas
+pub mod ScriptLemmas

@@ -9,3 +9,5 @@ pub mod Took
 pub mod Stepping
 pub mod TookText
 pub mod Trace
+pub mod Script
+pub mod Lines

@@ -7,9 +7,8 @@ use Rattle.ptpm_manager.specs.declared.receiving.Received.{Received}
 use Rattle.ptpm_manager.specs.declared.receiving.Received.TheVariants as received
 use Rattle.ptpm_manager.specs.declared.report.Report.{Report}
 use Rattle.ptpm_manager.specs.Receiving.{received_of}
-use Rattle.ptpm_network.specs.Events.{Event, Begin, Send, Resume, Retune, Deliver, Stranger, Refusal}
+use Rattle.ptpm_network.specs.Events.{Event, Begin, Send, Resume, Retune, Deliver, Stranger, Refusal, frame_at}
 use Rattle.ptpm_network.specs.Events as refusals
-use Rattle.ptpm_network.specs.Happening.{held_at}
 use Rattle.ptpm_network.specs.Network.{End, AtPort, AtSession, Network}
 use Rattle.ptpm_network.specs.Stands.{Held, Running}
 use Rattle.ptpm_world.specs.declared.took.StepError.{StepError}
@@ -55,5 +54,5 @@ took N r (Begin s ask) = Fine
 took N r (Send s) = Fine
 took N r (Resume s attempts) = Fine
 took N r (Retune s domain) = Fine
-took N r (Deliver n) = took_of N r (held_at r.frames n)
+took N r (Deliver n) = took_of N r (frame_at r.frames n)
 took N r (Stranger c port datagram) = took_at N r datagram (AtPort c port)

@@ -11,8 +11,8 @@ use Rattle.ptpm_manager.specs.declared.report.Outcome.{Outcome}
 use Rattle.ptpm_manager.specs.declared.report.Outcome.TheVariants as outcomes
 use Rattle.ptpm_manager.specs.declared.report.Report.{Report}
 use Rattle.ptpm_network.specs.Events as machine
-use Rattle.ptpm_network.specs.Events.{Refusal}
-use Rattle.ptpm_network.specs.Happening.{happened, held_at, refused}
+use Rattle.ptpm_network.specs.Events.{Refusal, frame_at}
+use Rattle.ptpm_network.specs.Happening.{happened, refused}
 use Rattle.ptpm_network.specs.Network.{Network}
 use Rattle.ptpm_network.specs.Stands.{Running}
 use Rattle.ptpm_script.specs.declared.event.Event.{Event}
@@ -70,7 +70,7 @@ abbrev pub after : Network → Running → machine.Event → Running
 after N r e = after_by (refused N r e) N r e
 
 abbrev pub is_late_event : Running → machine.Event → Bool
-is_late_event r (machine.Deliver n) = is_late_held r (held_at r.frames n)
+is_late_event r (machine.Deliver n) = is_late_held r (frame_at r.frames n)
 is_late_event r _ = false
 
 abbrev pub event_line : Network → Names → Running → ℕ → Event → List ℕ

@@ -1,11 +1,13 @@
 //! The lines of standard input.
 
-ghost use Rattle.std.specs.Prelude.{◌≤◌};
+ghost use Rattle.std.specs.Prelude.{[], ◌≡◌, ◌≤◌, ◌+◌, ◌++◌, ◌∷◌, IfOk, IfSome, IfNone, OnOk, Ok, Some, length, option_map, true};
+ghost use Rattle.std.specs.Io.KnownBytes.{Consumes, IsAtEnd};
+ghost use Rattle.std.specs.Str.Lines.{strip_carriage_return};
 
 use crate::script_error::ScriptError;
 use ptpm_codec::OutOfMemory;
 use std::alloc::Global;
-use std::io::{BufRead, BufReader, Read};
+use std::io::{BufReader, Read};
 
 /// A script has at most so many lines (this project's profile).
 const LINES: u32 = 2_000_000;
@@ -15,59 +17,115 @@ const LINE_OCTETS: usize = 4_096;
 
 /// A reader, line by line. At most one line's octets are kept, and they are written over by the next.
 #[derive(Drop)]
-pub(crate) struct Lines<R: Read + Drop> {
+pub(crate) struct Lines<R> {
     reader: BufReader<R>,
-    octets: Vec<u8>,
+    /// The line that was read last, without its end.
+    line: Vec<u8>,
     /// How many lines were read.
     count: u32,
     ghost few: { count ≤ 2000000 },
 }
 
 impl<R: Read + Drop> Lines<R> {
+    ghost use Rattle.ptpm_world.specs.Lines.{ReadsLine, given, left_in};
+
     /// The lines of a reader. Takes the memory for one line and for the reader's buffer.
-    pub(crate) fn new(alloc: Global, reader: R) -> Result<Lines<R>, ScriptError> {
-        let octets = Vec::with_capacity(alloc, LINE_OCTETS + 1).map_err(|_| OutOfMemory)?;
+    pub(crate) fn new(alloc: Global, reader: R) -> Result<Lines<R>, ScriptError>
+        ensures { IfOk result (λ l. IfSome (R.remaining reader) (λ octets. left_in R.remaining l ≡ Some octets)) }
+    {
+        let line = Vec::with_capacity(alloc, LINE_OCTETS).map_err(|_| OutOfMemory)?;
         let reader = BufReader::new(alloc, reader).map_err(|_| OutOfMemory)?;
         Ok(Lines {
             reader,
-            octets,
+            line,
             count: 0,
         })
     }
 
     /// Reads the next line; false where there are no more. The line that was read before is gone.
-    pub(crate) fn read(&mut self) -> Result<bool, ScriptError> {
-        self.octets.clear();
-        let most = if self.count < LINES {
-            LINE_OCTETS + 1
-        } else {
-            1
-        };
-        let mut line = self.reader.by_ref().take(most as u64);
-        match line.read_until(b'\n', &mut self.octets) {
-            Ok(0) => return Ok(false),
-            Ok(_) => {}
-            Err(_) => return Err(ScriptError::ReadFault),
+    ///
+    /// A line ends with a line feed, or with a carriage return and a line feed. The last may lack its end, and then a carriage
+    /// return stays.
+    pub(crate) fn read(&mut self) -> Result<bool, ScriptError>
+        ensures line { IfOk result (λ more. ReadsLine (left_in R.remaining self.old) more self.new.line.items (left_in R.remaining self.new)) }
+        ensures count { result ≡ Ok true → self.new.count ≡ self.old.count + 1 }
+    {
+        self.line.clear();
+        match self.read_octet()? {
+            None => Ok(false),
+            Some(first) => {
+                if self.count == LINES {
+                    return Err(ScriptError::TooManyLines);
+                }
+                self.count += 1;
+                self.read_rest(first)?;
+                Ok(true)
+            }
         }
-        if self.count == LINES {
-            return Err(ScriptError::TooManyLines);
-        }
-        self.count += 1;
-        if self.octets.len() > LINE_OCTETS && self.octets.last() != Some(&b'\n') {
-            return Err(ScriptError::LineTooLong(self.count));
-        }
-        Ok(true)
     }
 
-    /// The line that was read, without its line feed and the carriage return before that. The last line may lack its line
-    /// feed, and then a carriage return stays.
-    pub(crate) fn text(&self) -> Result<&str, ScriptError> {
-        let line = self.octets.as_slice();
-        let line = match line.strip_suffix(b"\n") {
-            Some(line) => line.strip_suffix(b"\r").unwrap_or(line),
-            None => line,
-        };
-        match std::str::from_utf8(line) {
+    /// Reads the rest of a line, after its first octet.
+    fn read_rest(&mut self, first: u8) -> Result<(), ScriptError>
+        requires { length self.old.line.items ≡ 0 }
+        ensures line { OnOk result (ReadsLine (option_map (λ octets. first ∷ octets) (left_in R.remaining self.old)) true
+            self.new.line.items (left_in R.remaining self.new)) }
+        ensures count { self.new.count ≡ self.old.count }
+    {
+        let mut next = Some(first);
+        while let Some(octet) = next {
+            if octet == b'\n' {
+                self.drop_return();
+                return Ok(());
+            }
+            if self.line.len() == LINE_OCTETS {
+                return Err(ScriptError::LineTooLong(self.count));
+            }
+            self.keep(octet)?;
+            next = self.read_octet()?;
+        }
+        Ok(())
+    }
+
+    /// Puts an octet at the end of the line.
+    fn keep(&mut self, octet: u8) -> Result<(), OutOfMemory>
+        ensures line { OnOk result (self.new.line.items ≡ self.old.line.items ++ octet ∷ []) }
+        ensures reader { self.new.reader ≡ self.old.reader }
+        ensures count { self.new.count ≡ self.old.count }
+    {
+        self.line.push(octet).map_err(|_| OutOfMemory)
+    }
+
+    /// Takes the carriage return off the line that ends with one.
+    fn drop_return(&mut self)
+        ensures line { self.new.line.items ≡ strip_carriage_return self.old.line.items }
+        ensures reader { self.new.reader ≡ self.old.reader }
+        ensures count { self.new.count ≡ self.old.count }
+    {
+        if self.line.last() == Some(&b'\r') {
+            self.line.pop();
+        }
+    }
+
+    /// The next octet of the reader; none at its end.
+    fn read_octet(&mut self) -> Result<Option<u8>, ScriptError>
+        ensures octet { IfOk result (λ o. Consumes (left_in R.remaining self.old) (left_in R.remaining self.new) (given o)) }
+        ensures end { IfOk result (λ o. IfNone o (IsAtEnd (left_in R.remaining self.new))) }
+        ensures line { self.new.line.items ≡ self.old.line.items }
+        ensures count { self.new.count ≡ self.old.count }
+    {
+        let mut octet = [0];
+        match self.reader.read(&mut octet) {
+            Ok(0) => Ok(None),
+            Ok(_) => Ok(Some(octet[0])),
+            Err(_) => Err(ScriptError::ReadFault),
+        }
+    }
+
+    /// The line that was read last, without its end.
+    pub(crate) fn text(&self) -> Result<&str, ScriptError>
+        ensures { IfOk result (λ text. text.now ≡ self.now.line.items) }
+    {
+        match std::str::from_utf8(self.line.as_slice()) {
             Ok(line) => Ok(line),
             Err(_) => Err(ScriptError::NotText(self.count)),
         }

@@ -1,12 +1,26 @@
 //! A script: a network file, a line `%%`, and events, one a line.
 
+ghost use Rattle.std.specs.Prelude.{◌≡◌, ◌==◌, ◌++◌, ◌<◌, ◌≤◌, ℕ, IfOk, IfSome, List, None, Ok, OnOk, find, length, not, string_bytes};
+ghost use Rattle.std.specs.Io.KnownBytes.{Appends};
+ghost use Rattle.std.specs.Option.{option_copied};
+ghost use Rattle.std.specs.Str.Lines.{lines};
+ghost use Rattle.ptpm_network.specs.Network as machine;
+ghost use Rattle.ptpm_script.specs.EventLine.{reading};
+ghost use Rattle.ptpm_script.specs.NetworkText.{network_of};
+ghost use Rattle.ptpm_script.specs.NetworkView.{network_value};
+ghost use Rattle.ptpm_script.specs.Words.{space};
+ghost use Rattle.ptpm_world.specs.Lines.{BothKnown, left_in};
+ghost use Rattle.ptpm_world.specs.Placed.{names_in, placed};
+ghost use Rattle.ptpm_world.specs.Running.{IsOf, running};
+ghost use Rattle.ptpm_world.specs.Script.{Prints, StandsFor, bad_line_from, event_part, events_from, is_divider, is_skipped, network_text};
+ghost use Rattle.ptpm_world.specs.Trace.{after, after_all, event_line, event_lines, line_feed};
+
 use crate::lines::Lines;
 use crate::script_error::ScriptError;
-use crate::took::StepError;
 use crate::trace::{write_data_sets, write_event, write_reports};
 use crate::world::World;
 use ptpm_codec::OutOfMemory;
-use ptpm_script::{EventError, NetError, Network, TEXT_OCTETS, read_event};
+use ptpm_script::{Event, EventError, NetError, Network, TEXT_OCTETS, read_event};
 use std::alloc::Global;
 use std::io::{Read, Write};
 
@@ -23,11 +37,14 @@ pub fn run_script<R: Read + Drop, W: Write>(
     alloc: Global,
     reader: R,
     out: &mut W,
-) -> Result<(), ScriptError> {
-    let mut lines = Lines::new(alloc, reader)?;
-    let network = read_network(alloc, &mut lines)?;
+) -> Result<(), ScriptError>
+    ensures { OnOk result (IfSome (R.remaining reader) (λ input.
+        (text : List ℕ) × Prints (lines input) text × Appends (W.contents out.old) (W.contents out.new) text)) }
+{
+    let mut script = Lines::new(alloc, reader)?;
+    let network = read_network(alloc, &mut script)?;
     let mut world = World::new(alloc, &network)?;
-    play(alloc, &mut lines, &mut world, out)?;
+    play(alloc, &mut script, &mut world, out)?;
     write_reports(&world, out)?;
     write_data_sets(&world, out)?;
     out.flush()?;
@@ -37,9 +54,12 @@ pub fn run_script<R: Read + Drop, W: Write>(
 /// The network of the lines up to the divider.
 fn read_network<R: Read + Drop>(
     alloc: Global,
-    lines: &mut Lines<R>,
-) -> Result<Network, ScriptError> {
-    let text = read_text(alloc, lines)?;
+    script: &mut Lines<R>,
+) -> Result<Network, ScriptError>
+    ensures { IfOk result (λ network. BothKnown (left_in R.remaining script.old) (left_in R.remaining script.new) (λ before after.
+        (network_of (network_text (lines before)) ≡ Ok (network_value network)) × (lines after ≡ event_part (lines before)))) }
+{
+    let text = read_text(alloc, script)?;
     match Network::from_toml(alloc, text.as_str()) {
         Ok(network) => Ok(network),
         Err(NetError::OutOfMemory) => Err(ScriptError::OutOfMemory),
@@ -49,51 +69,111 @@ fn read_network<R: Read + Drop>(
 
 /// The lines up to the divider, each followed by a line feed. Of a text over the limit only so much is kept that it is
 /// still over it.
-fn read_text<R: Read + Drop>(alloc: Global, lines: &mut Lines<R>) -> Result<String, ScriptError> {
+fn read_text<R: Read + Drop>(alloc: Global, script: &mut Lines<R>) -> Result<String, ScriptError>
+    ensures { IfOk result (λ text. BothKnown (left_in R.remaining script.old) (left_in R.remaining script.new) (λ before after.
+        StandsFor (string_bytes text) (network_text (lines before)) × (lines after ≡ event_part (lines before)))) }
+{
     let mut text = String::new(alloc);
-    for _ in 0..u64::MAX {
-        if !lines.read()? {
-            break;
+    while script.read()? {
+        let line = script.text()?;
+        if is_divider(line) {
+            return Ok(text);
         }
-        let line = lines.text()?;
-        if line == DIVIDER {
-            break;
-        }
-        if text.len() <= TEXT_OCTETS {
-            text.push_str(line).map_err(|_| OutOfMemory)?;
-            text.push('\n').map_err(|_| OutOfMemory)?;
-        }
+        keep_line(&mut text, line)?;
     }
     Ok(text)
+}
+
+fn is_divider(line: &str) -> bool
+    ensures { result ≡ is_divider line.now }
+{
+    line == DIVIDER
+}
+
+/// Puts a line and a line feed at the end of a text that is not over the limit.
+fn keep_line(text: &mut String, line: &str) -> Result<(), OutOfMemory>
+    ensures long { OnOk result (262144 < length (string_bytes text.old) → string_bytes text.new ≡ string_bytes text.old) }
+    ensures short { OnOk result (length (string_bytes text.old) ≤ 262144
+        → string_bytes text.new ≡ (string_bytes text.old ++ line.now) ++ line_feed) }
+{
+    if text.len() > TEXT_OCTETS {
+        return Ok(());
+    }
+    text.push_str(line).map_err(|_| OutOfMemory)?;
+    text.push('\n').map_err(|_| OutOfMemory)?;
+    Ok(())
 }
 
 /// Lets the events of all further lines happen, and writes a line for each. Lines are counted from 1 here.
 fn play<R: Read + Drop, W: Write>(
     alloc: Global,
-    lines: &mut Lines<R>,
+    script: &mut Lines<R>,
     world: &mut World,
     out: &mut W,
-) -> Result<(), ScriptError> {
-    for number in 1..u32::MAX {
-        if !lines.read()? {
-            break;
-        }
-        let line = lines.text()?;
+) -> Result<(), ScriptError>
+    ensures events { OnOk result (IfSome (left_in R.remaining script.old) (λ octets. bad_line_from 1 (lines octets) ≡ None)) }
+    ensures text { (N : machine.Network) → IsOf N world.old → OnOk result (IfSome (left_in R.remaining script.old) (λ octets.
+        Appends (W.contents out.old) (W.contents out.new)
+        (event_lines N (names_in world.old) (running world.old) (events_from 1 (lines octets))))) }
+    ensures last { (N : machine.Network) → IsOf N world.old → OnOk result (IfSome (left_in R.remaining script.old) (λ octets.
+        running world.new ≡ after_all N (names_in world.old) (running world.old) (events_from 1 (lines octets)))) }
+    ensures names { OnOk result (names_in world.new ≡ names_in world.old) }
+{
+    let mut number = 0;
+    while script.read()? {
+        number += 1;
+        let line = script.text()?;
         if is_skipped(line) {
             continue;
         }
-        let event = match read_event(alloc, line) {
-            Ok(event) => event,
-            Err(EventError::OutOfMemory) => return Err(ScriptError::OutOfMemory),
-            Err(error) => return Err(ScriptError::BadLine(number, error)),
-        };
-        write_event(world, number, &event, out)?;
+        let event = event_of(alloc, number, line)?;
+        play_event(world, number, event, out)?;
     }
     Ok(())
 }
 
+/// Lets an event happen and writes its line.
+fn play_event<W: Write>(
+    world: &mut World,
+    number: u32,
+    event: Event,
+    out: &mut W,
+) -> Result<(), ScriptError>
+    ensures line { (N : machine.Network) → IsOf N world.old
+        → OnOk result (Appends (W.contents out.old) (W.contents out.new)
+        (event_line N (names_in world.old) (running world.old) number event)) }
+    ensures after { (N : machine.Network) → IsOf N world.old
+        → OnOk result (running world.new ≡ after N (running world.old) (placed (names_in world.old) event)) }
+    ensures names { names_in world.new ≡ names_in world.old }
+    ensures network { (N : machine.Network) → IsOf N world.old → IsOf N world.new }
+{
+    write_event(world, number, &event, out)
+}
+
+/// The event of a line.
+fn event_of(alloc: Global, number: u32, line: &str) -> Result<Event, ScriptError>
+    ensures { IfOk result (λ event. reading line.now ≡ Ok event) }
+{
+    match read_event(alloc, line) {
+        Ok(event) => Ok(event),
+        Err(EventError::OutOfMemory) => Err(ScriptError::OutOfMemory),
+        Err(error) => Err(ScriptError::BadLine(number, error)),
+    }
+}
+
 /// Whether a line has no words, or is a comment.
-fn is_skipped(line: &str) -> bool {
-    let text = line.trim_start_matches(' ');
-    text.is_empty() || text.starts_with('#')
+fn is_skipped(line: &str) -> bool
+    ensures { result ≡ is_skipped line.now }
+{
+    match first_but_spaces(line) {
+        Some(octet) => *octet == b'#',
+        None => true,
+    }
+}
+
+/// The first octet of a line that is no space.
+fn first_but_spaces(line: &str) -> Option<&u8>
+    ensures { option_copied result ≡ find (λ octet. not (octet == space)) line.now }
+{
+    line.as_bytes().iter().find(|octet| **octet != b' ')
 }

@@ -1,0 +1,107 @@
+-- Lines of octets that come one by one.
+use Rattle.std.proofs.Common.{◌≡◌, ℕ, ◌<◌, ◌++◌, List, [], ◌∷◌, length, Bool, true, false, None, Some, refl, sym, ap, ◌∙◌, append_assoc, append-nil, rules, arith}
+use Rattle.std.specs.Prelude.{Option, option_map, cond, ◌==◌}
+use Rattle.std.specs.List.{onto_first, slice_split}
+use Rattle.std.specs.Io.KnownBytes.{Consumes, IsAtEnd}
+use Rattle.std.specs.Str.Lines.{lines, lines_of_parts, strip_carriage_return}
+use Rattle.ptpm_world.specs.Lines.{BothKnown, ReadsLine, given}
+
+-- no octet is a line feed
+abbrev pub NoFeed : List ℕ → Type 0
+NoFeed [] = Unit {0}
+NoFeed (x ∷ xs) = ((x == 10) ≡ false) × NoFeed xs
+
+pub no_feed-more : (xs : List ℕ) (x : ℕ) → NoFeed xs → (x == 10) ≡ false → NoFeed (xs ++ x ∷ [])
+no_feed-more [] x h e = (e, tt)
+no_feed-more (y ∷ ys) x h e = (h.0, no_feed-more ys x h.1 e)
+
+-- ---- parts between line feeds
+
+abbrev parts : List ℕ → List (List ℕ)
+parts bs = slice_split (λ b. b == 10) bs
+
+cut_some : (b : Bool) (x : ℕ) (ps : List (List ℕ)) → ((y : List ℕ) × ((ys : List (List ℕ)) × (ps ≡ y ∷ ys)))
+    → (y : List ℕ) × ((ys : List (List ℕ)) × (cond b ([] ∷ ps) (onto_first x ps) ≡ y ∷ ys))
+cut_some true x ps h = ([], (ps, refl))
+cut_some false x ps h = (x ∷ h.0, (h.1.0, ap (onto_first x) h.1.1))
+
+some_part : (bs : List ℕ) → (y : List ℕ) × ((ys : List (List ℕ)) × (parts bs ≡ y ∷ ys))
+some_part [] = ([], ([], refl))
+some_part (x ∷ xs) = cut_some (x == 10) x (parts xs) (some_part xs)
+
+part_ends : (l bs : List ℕ) → NoFeed l → parts (l ++ 10 ∷ bs) ≡ l ∷ parts bs
+part_ends [] bs h = refl
+part_ends (x ∷ xs) bs h = rw h.0 (ap (onto_first x) (part_ends xs bs h.1))
+
+one_part : (l : List ℕ) → NoFeed l → parts l ≡ l ∷ []
+one_part [] h = refl
+one_part (x ∷ xs) h = rw h.0 (ap (onto_first x) (one_part xs h.1))
+
+-- ---- lines
+
+line_ends : (l bs : List ℕ) → NoFeed l → lines (l ++ 10 ∷ bs) ≡ strip_carriage_return l ∷ lines bs
+line_ends l bs h =
+    let some = some_part bs in
+    let e : parts bs ≡ some.0 ∷ some.1.0 = some.1.1 in
+    ap lines_of_parts (part_ends l bs h ∙ ap (λ ps. l ∷ ps) e)
+    ∙ sym (ap (λ ps. strip_carriage_return l ∷ lines_of_parts ps) e)
+
+not_empty : (l : List ℕ) → 0 < length l → lines_of_parts (l ∷ []) ≡ l ∷ []
+not_empty [] h = absurd (omega (arith, h))
+not_empty (x ∷ xs) h = search rules
+
+last_line : (l : List ℕ) → NoFeed l → 0 < length l → lines l ≡ l ∷ []
+last_line l h some = ap lines_of_parts (one_part l h) ∙ not_empty l some
+
+-- ---- a line that is read octet by octet
+
+-- the first octet, and what was left behind it, is the line so far, the next octet, and what is left now
+abbrev pub IsRead : Option (List ℕ) → Option (List ℕ) → ℕ → List ℕ → Option ℕ → Type 0
+IsRead before now first line next = BothKnown before now (λ xs ys. first ∷ xs ≡ line ++ (given next ++ ys))
+
+pub read-first : (a : Option (List ℕ)) (first : ℕ) (line : List ℕ) → line ≡ [] → IsRead a a first line (Some first)
+read-first None first line e = tt
+read-first (Some xs) first line e = ap (λ l. l ++ (first ∷ xs)) (sym e)
+
+pub read-more : (a b c : Option (List ℕ)) (first octet : ℕ) (line : List ℕ) (next : Option ℕ) → IsRead a b first line (Some octet)
+    → Consumes b c (given next) → IsRead a c first (line ++ octet ∷ []) next
+read-more None b c first octet line next h k = tt
+read-more (Some xs) None c first octet line next h k = absurd h
+read-more (Some xs) (Some ys) None first octet line next h k = absurd k
+read-more (Some xs) (Some ys) (Some zs) first octet line next h k =
+    h ∙ ap (λ l. line ++ (octet ∷ l)) k ∙ sym (append_assoc line (octet ∷ []) (given next ++ zs))
+
+pub read-feed : (a b : Option (List ℕ)) (first octet : ℕ) (line stripped : List ℕ) → IsRead a b first line (Some octet) → octet ≡ 10 → NoFeed line
+    → stripped ≡ strip_carriage_return line → ReadsLine (option_map (λ octets. first ∷ octets) a) true stripped b
+read-feed None b first octet line stripped h e n s = tt
+read-feed (Some xs) None first octet line stripped h e n s = absurd h
+read-feed (Some xs) (Some ys) first octet line stripped h e n s =
+    ap lines (h ∙ ap (λ o. line ++ (o ∷ ys)) e) ∙ line_ends line ys n ∙ ap (λ l. l ∷ lines ys) (sym s)
+
+pub read-end : (a b : Option (List ℕ)) (first : ℕ) (line : List ℕ) → IsRead a b first line None → IsAtEnd b → NoFeed line → 0 < length line
+    → ReadsLine (option_map (λ octets. first ∷ octets) a) true line b
+read-end None b first line h e n some = tt
+read-end (Some xs) None first line h e n some = absurd h
+read-end (Some xs) (Some ys) first line h e n some =
+    ap lines (h ∙ ap (λ l. line ++ l) e ∙ append-nil line) ∙ last_line line n some ∙ ap (λ l. line ∷ lines l) (sym e)
+
+-- ---- a line with its first octet
+
+pub read-line : (a b c : Option (List ℕ)) (first : ℕ) (line : List ℕ) → Consumes a b (first ∷ [])
+    → ReadsLine (option_map (λ octets. first ∷ octets) b) true line c → ReadsLine a true line c
+read-line None b c first line h k = tt
+read-line (Some xs) None c first line h k = absurd h
+read-line (Some xs) (Some ys) None first line h k = absurd k
+read-line (Some xs) (Some ys) (Some zs) first line h k = ap lines h ∙ k
+
+pub read-none : (a b : Option (List ℕ)) (line : List ℕ) → Consumes a b [] → IsAtEnd b → ReadsLine a false line b
+read-none None b line h e = tt
+read-none (Some xs) None line h e = absurd h
+read-none (Some xs) (Some ys) line h e = (ap lines (h ∙ e), ap lines e)
+
+pub empty_is : (l : List ℕ) → length l ≡ 0 → l ≡ []
+empty_is [] h = refl
+empty_is (x ∷ xs) h = absurd (omega (arith, h))
+
+pub some_there : {X : Type 0} (x : X) → ◌≡◌ {A = Option X} (Some x) None → ⊥
+some_there x h = cc

@@ -1,0 +1,29 @@
+use Rattle.std.proofs.Common.{◌≡◌, ◌≤◌, ◌+◌, ◌-◌}
+use Rattle.std.specs.Str.Lines.{lines}
+use Rattle.ptpm_network.specs.Network.{Network}
+use Rattle.ptpm_world.specs.Lines.{BothKnown, left_in}
+use Rattle.ptpm_world.specs.Placed.{names_in}
+use Rattle.ptpm_world.specs.Running.{IsOf, running}
+use Rattle.ptpm_world.proofs.Playing.{GoesOn, LeadsOn, SameBad}
+use Rattle.ptpm_world.proofs.script.play.Given as goal
+
+-- the lines that are left go on as all lines did from the start
+abbrev pub invariant-loop-number : goal.invariant-loop-number
+invariant-loop-number g l =
+    let first = left_in g.R.Read.remaining l.initial.script in
+    let now = left_in g.R.Read.remaining l.script in
+    let written = g.W.Write.contents l.out in
+    let called = names_in l.initial.world in
+    record {
+      few : l.number ≤ l.script.count;
+      names : names_in l.world ≡ called;
+      network : (N : Network) → IsOf N l.initial.world → IsOf N l.world;
+      events : BothKnown first now (λ xs ys. SameBad (lines xs) (l.number + 1) (lines ys));
+      text : (N : Network) → IsOf N l.initial.world → BothKnown first now (λ xs ys.
+          GoesOn N called (running l.initial.world) (running l.world) (g.W.Write.contents l.initial.out) written (lines xs) (l.number + 1) (lines ys));
+      last : (N : Network) → IsOf N l.initial.world → BothKnown first now (λ xs ys.
+          LeadsOn N called (running l.initial.world) (running l.world) (lines xs) (l.number + 1) (lines ys));
+    }
+
+abbrev pub decreases-loop-number : goal.decreases-loop-number
+decreases-loop-number g l = 2000000 - l.script.count

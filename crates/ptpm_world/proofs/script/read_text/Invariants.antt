@@ -1,0 +1,13 @@
+use Rattle.std.proofs.Common.{◌-◌}
+use Rattle.std.specs.Prelude.{string_bytes}
+use Rattle.ptpm_world.specs.Lines.{left_in}
+use Rattle.ptpm_world.proofs.ScriptLemmas.{Kept}
+use Rattle.ptpm_world.proofs.script.read_text.Given as goal
+
+-- what is kept of the lines so far
+abbrev pub invariant-loop-text : goal.invariant-loop-text
+invariant-loop-text g l =
+    Kept (left_in g.R.Read.remaining l.initial.script) (left_in g.R.Read.remaining l.script) (string_bytes l.text)
+
+abbrev pub decreases-loop-text : goal.decreases-loop-text
+decreases-loop-text g l = 2000000 - l.script.count

@@ -1,0 +1,28 @@
+-- Lines as a reader's octets give them, where these are known.
+use Rattle.std.specs.Prelude.{◌≡◌, ℕ, Bool, true, false, List, [], ◌∷◌, ⊤, Option, Some, None}
+use Rattle.std.specs.Str.Lines.{lines}
+use Rattle.std.specs.Io.Buffered.{reader_remaining}
+use Rattle.ptpm_world.specs.declared.lines.Lines.{Lines}
+
+-- what a reader has left, where it tells its octets
+abbrev pub left_in : {R : Type 0} → (R → Option (List ℕ)) → Lines R → Option (List ℕ)
+left_in remaining l = reader_remaining remaining l.reader
+
+-- a fact of the octets that were left before and are left after; nothing is said of a reader that tells none
+abbrev pub BothKnown : Option (List ℕ) → Option (List ℕ) → (List ℕ → List ℕ → Type 0) → Type 0
+BothKnown None after P = ⊤
+BothKnown (Some xs) None P = ⊥
+BothKnown (Some xs) (Some ys) P = P xs ys
+
+-- the next line came, and is gone from what is left; or none came, as none was left and none is
+abbrev pub IsNextLine : Bool → List ℕ → List (List ℕ) → List (List ℕ) → Type 0
+IsNextLine true line before after = before ≡ line ∷ after
+IsNextLine false line before after = (before ≡ []) × (after ≡ [])
+
+abbrev pub ReadsLine : Option (List ℕ) → Bool → List ℕ → Option (List ℕ) → Type 0
+ReadsLine before more line after = BothKnown before after (λ xs ys. IsNextLine more line (lines xs) (lines ys))
+
+-- octets that a reader gave: one, or none at its end
+abbrev pub given : Option ℕ → List ℕ
+given None = []
+given (Some octet) = octet ∷ []

@@ -1,0 +1,76 @@
+-- What the lines of a script ask for (this project's profile): a network file, a line `%%`, and events, one a line.
+use Rattle.std.specs.Prelude.{◌≡◌, ◌<◌, ◌⊎◌, ℕ, ◌+◌, ◌==◌, length, not, Bool, true, bytes_eq, codes, find, List, [], ◌∷◌, ◌++◌, Option, Some, None, Result, Ok, Err, if◌then◌else◌}
+use Rattle.ptpm_codec.specs.declared.identity.PortIdentity.{PortIdentity}
+use Rattle.ptpm_network.specs.Stands.{Running, Stands}
+use Rattle.ptpm_network.specs.State.{at_first}
+use Rattle.ptpm_script.specs.declared.event.Event.{Event}
+use Rattle.ptpm_script.specs.declared.event.EventError.{EventError}
+use Rattle.ptpm_script.specs.EventLine.{reading}
+use Rattle.ptpm_script.specs.NetworkText.{network_of}
+use Rattle.ptpm_script.specs.NetworkValue.{NetworkValue}
+use Rattle.ptpm_script.specs.Words.{space}
+use Rattle.ptpm_world.specs.Described.{described}
+use Rattle.ptpm_world.specs.Placed.{names_of}
+use Rattle.ptpm_world.specs.Trace.{line_feed, trace}
+
+-- ---- around the divider
+
+abbrev pub is_divider : List ℕ → Bool
+is_divider line = bytes_eq line (codes "%%")
+
+-- the lines before the divider, each followed by a line feed; all lines where there is none
+abbrev pub network_text : List (List ℕ) → List ℕ
+network_text [] = []
+network_text (line ∷ lines) = if is_divider line then [] else line ++ line_feed ++ network_text lines
+
+-- the lines after it
+abbrev pub event_part : List (List ℕ) → List (List ℕ)
+event_part [] = []
+event_part (line ∷ lines) = if is_divider line then lines else event_part lines
+
+-- ---- events
+
+-- the first octet that is no space, if there is one, is `#`
+abbrev pub begins_comment : Option ℕ → Bool
+begins_comment None = true
+begins_comment (Some octet) = octet == 35
+
+-- a comment, or a line without words
+abbrev pub is_skipped : List ℕ → Bool
+is_skipped line = begins_comment (find (λ octet. not (octet == space)) line)
+
+abbrev pub numbered : ℕ → Result Event EventError → List (ℕ × Event) → List (ℕ × Event)
+numbered number (Ok event) events = (number, event) ∷ events
+numbered number (Err error) events = []
+
+-- the events of lines with their numbers, of which this is the first: up to the first line that is no event
+abbrev pub events_from : ℕ → List (List ℕ) → List (ℕ × Event)
+events_from number [] = []
+events_from number (line ∷ lines) =
+    if is_skipped line then events_from (number + 1) lines else numbered number (reading line) (events_from (number + 1) lines)
+
+abbrev pub bad_or : ℕ → Result Event EventError → Option (ℕ × EventError) → Option (ℕ × EventError)
+bad_or number (Ok event) more = more
+bad_or number (Err error) more = Some (number, error)
+
+-- the first line that is no event, and why
+abbrev pub bad_line_from : ℕ → List (List ℕ) → Option (ℕ × EventError)
+bad_line_from number [] = None
+bad_line_from number (line ∷ lines) =
+    if is_skipped line then bad_line_from (number + 1) lines else bad_or number (reading line) (bad_line_from (number + 1) lines)
+
+-- ---- the whole
+
+-- What is kept of a text: all of it, or of one that is too long for a network file so much that it is still too long.
+abbrev pub StandsFor : List ℕ → List ℕ → Type 0
+StandsFor kept whole = (kept ≡ whole) ⊎ ((262144 < length kept) × (262144 < length whole))
+
+-- Lines are a script, which prints this text: the lines before the divider are a network file, each line after it is an event or
+-- is skipped, and the text is the trace of these events in that network, from its start on.
+pub record Prints (script : List (List ℕ)) (text : List ℕ) : Type 0 where
+  pub network : NetworkValue
+  pub start : Running
+  pub is_network : network_of (network_text script) ≡ Ok network
+  pub is_start : (first : PortIdentity → ℕ) → Stands (described network) first start (at_first (described network))
+  pub are_events : bad_line_from 1 (event_part script) ≡ None
+  pub is_trace : text ≡ trace (described network) (names_of network) start (events_from 1 (event_part script))
