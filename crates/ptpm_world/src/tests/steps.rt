@@ -7,7 +7,6 @@ use ptpm_agent::Verdict;
 use ptpm_manager::{Outcome, Reason};
 use ptpm_script::{Event, read_event};
 use std::alloc::Global;
-use std::process::Abort;
 use std::test::Fail;
 
 /// A step that is always fine, or always out of memory, is none.
@@ -32,7 +31,7 @@ fn step_succeeds_with_ample_memory(rt: HostRuntime) -> Result<(), Fail> {
 }
 
 /// Whether the session has one report: the first request was answered by this dataField.
-fn is_only_report(world: &World, value: &[u8]) -> bool {
+pub fn is_only_report(world: &World, value: &[u8]) -> bool {
     match world.reports("m") {
         Some([report]) => match &report.outcome {
             Outcome::Value(octets) => report.index == 1 && octets.as_slice() == value,
@@ -68,38 +67,5 @@ fn run_succeeds_with_ample_memory(rt: HostRuntime) -> Result<(), Fail> {
     let refused = events(alloc, &["deliver 1", "deliver 4", "deliver 1"])?;
     assert!(rt; world.run(refused.as_slice()) == Err((1, StepError::NoSuchFrame)));
     assert_eq!(rt; world.frames(), 3);
-    Ok(())
-}
-
-/// What a step answers; asked again where memory is refused once, before which nothing may have changed.
-fn step_again(
-    rt: &impl Abort,
-    alloc: Global,
-    world: &mut World,
-    line: &str,
-) -> Result<Result<Took, StepError>, Fail> {
-    let frames = world.frames();
-    match step(alloc, world, line)? {
-        Err(StepError::OutOfMemory) => {
-            assert!(rt; world.frames() == frames);
-            step(alloc, world, line)
-        }
-        took => Ok(took),
-    }
-}
-
-/// `rt try --test --fail-alloc N` refuses the Nth request for memory.
-#[test]
-fn step_after_refused_memory(rt: HostRuntime) -> Result<(), Fail> {
-    let alloc = rt.alloc();
-    let mut world = world_of(alloc, ONE_CLOCK)?;
-    let begun = step_again(&rt, alloc, &mut world, "begin m set PRIORITY1 - 6400")?;
-    assert!(rt; begun == Ok(Took::Fine));
-    assert!(rt; step_again(&rt, alloc, &mut world, "send m")? == Ok(Took::Fine));
-    let delivered = step_again(&rt, alloc, &mut world, "deliver 1")?;
-    assert!(rt; delivered == Ok(Took::AtClock(Verdict::AnsweredNew)));
-    assert!(rt; world.frames() == 2);
-    assert!(rt; step_again(&rt, alloc, &mut world, "deliver 2")? == Ok(Took::Answered));
-    assert!(rt; is_only_report(&world, &[0x64, 0]));
     Ok(())
 }

@@ -1,0 +1,47 @@
+//! Over 32,768 requests of one session: which deliveries are late, and what then comes of them. No promise covers it.
+
+use super::networks::{ONE_CLOCK, world_of};
+use crate::took::{StepError, Took};
+use crate::world::World;
+use ptpm_agent::Verdict;
+use ptpm_script::{Event, read_event};
+use std::process::Abort;
+use std::test::Fail;
+
+/// The session begins a request and sends it; it is delivered, and then its reply.
+fn exchange(world: &mut World, begin: &Event, send: &Event) -> Result<(), StepError> {
+    world.step(begin)?;
+    world.step(send)?;
+    let request = world.frames();
+    world.step(&Event::Deliver(request))?;
+    let reply = world.frames();
+    world.step(&Event::Deliver(reply))?;
+    Ok(())
+}
+
+/// So many exchanges, one after another.
+fn exchanges(world: &mut World, begin: &Event, send: &Event, count: u32) -> Result<(), StepError> {
+    for _ in 0..count {
+        exchange(world, begin, send)?;
+    }
+    Ok(())
+}
+
+/// After 32,768 later requests a copy of the first is not late, and is dropped. After one more it is late: sequenceIds no
+/// longer tell it from a new request.
+#[test]
+fn half_the_number_space(rt: HostRuntime) -> Result<(), Fail> {
+    let alloc = rt.alloc();
+    let mut world = world_of(alloc, ONE_CLOCK)?;
+    let get = read_event(alloc, "begin m get PRIORITY1 - -")?;
+    let send = read_event(alloc, "send m")?;
+    exchanges(&mut world, &get, &send, 32_769)?;
+    assert!(rt; !world.is_late(1));
+    let dropped = world.step(&Event::Deliver(1));
+    assert!(rt; dropped == Ok(Took::AtClock(Verdict::DroppedOld)));
+    exchange(&mut world, &get, &send)?;
+    assert!(rt; world.is_late(1) && !world.is_late(3));
+    let accepted = world.step(&Event::Deliver(1));
+    assert!(rt; accepted == Ok(Took::AtClock(Verdict::AnsweredNew)));
+    Ok(())
+}
