@@ -1,9 +1,11 @@
 //! Calls that take memory.
 
-use super::clocks::{GET_PRIORITY1, K, MANAGERS, agent, start_of};
+use super::clocks::{GET_PRIORITY1, K, MANAGERS, Tried, agent, start_of};
+use super::exchange::exchange;
+use super::numbering::SET_PRIORITY1;
 use crate::Verdict;
 use ptpm_data::PortStart;
-use ptpm_table::{Outbox, PlainTable};
+use ptpm_table::{Outbox, PlainTable, TableError};
 use std::test::Fail;
 
 /// The reply to the GET of PRIORITY1.
@@ -29,5 +31,18 @@ fn try_handle_succeeds_with_ample_memory(rt: HostRuntime) -> Result<(), Fail> {
         }
         _ => assert!(rt; false, "one message"),
     }
+    Ok(())
+}
+
+/// `tools/refuse_memory` refuses each request for memory in turn: after a refused call data sets and outbox are as before,
+/// and the same call then answers as it would have.
+#[test]
+fn try_handle_after_refused_memory(rt: HostRuntime) -> Result<(), Fail> {
+    let table = match PlainTable::new(rt.alloc(), K, &MANAGERS) {
+        Err(TableError::OutOfMemory) => PlainTable::new(rt.alloc(), K, &MANAGERS),
+        table => table,
+    };
+    let clock = agent(&rt, &start_of(&[PortStart::new(); 2]), table?)?;
+    exchange(&rt, &mut Tried(clock), SET_PRIORITY1);
     Ok(())
 }

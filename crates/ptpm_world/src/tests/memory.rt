@@ -1,0 +1,112 @@
+//! The calls that ask for memory: where it is refused nothing changes, and the same call then answers as it would have.
+//! `tools/refuse_memory` runs these tests with each request refused in turn; whatever they need besides is asked for again.
+
+use super::networks::{ONE_CLOCK, RING};
+use super::steps::is_only_report;
+use super::worlds::is_fresh_ring;
+use crate::took::{StepError, Took};
+use crate::world::World;
+use ptpm_agent::Verdict;
+use ptpm_codec::OutOfMemory;
+use ptpm_script::{Event, EventError, NetError, Network, read_event};
+use std::alloc::Global;
+use std::process::Abort;
+use std::test::Fail;
+
+fn world_of(alloc: Global, text: &str) -> Result<World, Fail> {
+    let network = match Network::from_toml(alloc, text) {
+        Err(NetError::OutOfMemory) => Network::from_toml(alloc, text),
+        network => network,
+    };
+    let network = network?;
+    match World::new(alloc, &network) {
+        Err(OutOfMemory) => Ok(World::new(alloc, &network)?),
+        Ok(world) => Ok(world),
+    }
+}
+
+fn event_of(alloc: Global, line: &str) -> Result<Event, Fail> {
+    match read_event(alloc, line) {
+        Err(EventError::OutOfMemory) => Ok(read_event(alloc, line)?),
+        event => Ok(event?),
+    }
+}
+
+#[test]
+fn world_new_after_refused_memory(rt: HostRuntime) -> Result<(), Fail> {
+    is_fresh_ring(&rt, &world_of(rt.alloc(), RING)?);
+    Ok(())
+}
+
+/// How many reports the session has.
+fn report_count(world: &World) -> Option<usize> {
+    match world.reports("m") {
+        Some(reports) => Some(reports.len()),
+        None => None,
+    }
+}
+
+/// What a step answers; asked again where memory is refused once, before which nothing may have changed.
+fn step(
+    rt: &impl Abort,
+    alloc: Global,
+    world: &mut World,
+    line: &str,
+) -> Result<Result<Took, StepError>, Fail> {
+    let event = event_of(alloc, line)?;
+    let frames = world.frames();
+    let reports = report_count(world);
+    let took = world.step(&event);
+    if took != Err(StepError::OutOfMemory) {
+        return Ok(took);
+    }
+    assert!(rt;
+        world.frames() == frames && report_count(world) == reports,
+        "{line}"
+    );
+    Ok(world.step(&event))
+}
+
+/// Had a refused delivery reached the clock or the session, the same one would be a repeat, or be ignored.
+#[test]
+fn step_after_refused_memory(rt: HostRuntime) -> Result<(), Fail> {
+    let alloc = rt.alloc();
+    let mut world = world_of(alloc, ONE_CLOCK)?;
+    let begun = step(&rt, alloc, &mut world, "begin m set PRIORITY1 - 6400")?;
+    assert!(rt; begun == Ok(Took::Fine));
+    assert!(rt; step(&rt, alloc, &mut world, "send m")? == Ok(Took::Fine));
+    let delivered = step(&rt, alloc, &mut world, "deliver 1")?;
+    assert!(rt; delivered == Ok(Took::AtClock(Verdict::AnsweredNew)));
+    assert!(rt; world.frames() == 2);
+    assert!(rt; step(&rt, alloc, &mut world, "deliver 2")? == Ok(Took::Answered));
+    assert!(rt; is_only_report(&world, &[0x64, 0]));
+    let repeated = step(&rt, alloc, &mut world, "deliver 1")?;
+    assert!(rt; repeated == Ok(Took::AtClock(Verdict::AnsweredRepeat)));
+    Ok(())
+}
+
+/// The frames before each of four events.
+const FRAMES: [u32; 4] = [0, 0, 1, 2];
+
+/// The events before the one that is refused stand, and the others can follow.
+#[test]
+fn run_after_refused_memory(rt: HostRuntime) -> Result<(), Fail> {
+    let alloc = rt.alloc();
+    let mut world = world_of(alloc, ONE_CLOCK)?;
+    let schedule = [
+        event_of(alloc, "begin m set PRIORITY1 - 6400")?,
+        event_of(alloc, "send m")?,
+        event_of(alloc, "deliver 1")?,
+        event_of(alloc, "deliver 2")?,
+    ];
+    if let Err((place, refused)) = world.run(&schedule) {
+        assert!(rt; refused == StepError::OutOfMemory);
+        assert!(rt; FRAMES.get(place) == Some(&world.frames()));
+        assert!(rt; report_count(&world) == Some(0));
+        let rest = schedule.get(place..).unwrap_or(&[]);
+        assert!(rt; world.run(rest) == Ok(()));
+    }
+    assert!(rt; world.frames() == 2);
+    assert!(rt; is_only_report(&world, &[0x64, 0]));
+    Ok(())
+}
