@@ -8,27 +8,35 @@ use Rattle.ptpm_manager.specs.declared.report.Report.{Report}
 use Rattle.ptpm_manager.specs.Session.{is_waiting}
 use Rattle.ptpm_network.specs.Events.{Event, IsInRange, frames_limit}
 use Rattle.ptpm_network.specs.Happening.{ran}
-use Rattle.ptpm_network.specs.Machine.{AreInTime, run, taken}
+use Rattle.ptpm_network.specs.Headline.{StandsAfter}
+use Rattle.ptpm_network.specs.Machine.{run}
 use Rattle.ptpm_network.specs.Network.{IsNetwork, Network}
-use Rattle.ptpm_network.specs.Stands.{AreFirsts, Running, Stands, starting}
+use Rattle.ptpm_network.specs.Stands.{AreFirsts, Running, Stands}
 use Rattle.ptpm_network.specs.State.{NetworkState, SessionState, at_first, is_idle, session_value}
 use Rattle.ptpm_network.specs.Way.{Hop, IsAnswerable, IsWay, LinksHaveAtMost, RunsToReport, made_each_way}
 use Rattle.ptpm_network.specs.Worth.{IsWorth}
 use Rattle.ptpm_network.proofs.Answerable.{answer-runs, answerable, answering}
-use Rattle.ptpm_network.proofs.Running.{ran-running, ran-stands}
+use Rattle.ptpm_network.proofs.Promise.{first_of_sessions, firsts}
+use Rattle.ptpm_network.proofs.Running.{ran-stands}
 use Rattle.ptpm_network.proofs.Schedule.{reached}
-use Rattle.ptpm_network.proofs.Standing.{stands-at_first}
-use Rattle.ptpm_network.proofs.Taking.{taken-in_range, taken-in_time}
+use Rattle.ptpm_network.proofs.Taking.{taken-in_time}
 use Rattle.ptpm_network.proofs.Worth.{report-index, report-worth}
 
-pub running-worth : (N : Network) (es : List Event) (first : PortIdentity → ℕ) (s i : ℕ) (r : Report) → IsNetwork N → AllByRecursion IsInRange es → AreFirsts N first → AreInTime N (at_first N) es → s < N.sessions
-    → slice_get ((ran N (starting N) es).reports s) i ≡ Some r → (r.index ≡ i + 1) × IsWorth N (run N (at_first N) (taken N (at_first N) es)) s r
-running-worth N es first s i r n range firsts time place e =
-    let front = taken N (at_first N) es in
-    let range_front = taken-in_range N (at_first N) es range in
-    let at = ran-running N [] es first (starting N) n tt firsts (stands-at_first N first) range (taken-in_time N (at_first N) es time) in
-    let told : slice_get ((run N (at_first N) front).session s).reports i ≡ Some r = subst (λ rs. slice_get rs i ≡ Some r) (at.reports s place) e in
-    (report-index N front s i r n range_front place told, report-worth N front s i r n range_front place told)
+-- ---- what reports are worth
+
+-- the reports of a session are those of the machine
+reports-after : (N : Network) (past : List Event) (r : Running) (s : ℕ) → StandsAfter N past r → s < N.sessions → r.reports s ≡ ((run N (at_first N) past).session s).reports
+reports-after N past r s at place = (at.stands (first_of_sessions N N.sessions) (firsts N at.promised.network)).reports s place
+
+pub index-after : (N : Network) (past : List Event) (r : Running) (s i : ℕ) (report : Report) → StandsAfter N past r → s < N.sessions → slice_get (r.reports s) i ≡ Some report → report.index ≡ i + 1
+index-after N past r s i report at place e =
+    report-index N past s i report at.promised.network at.promised.in_range place (subst (λ rs. slice_get rs i ≡ Some report) (reports-after N past r s at place) e)
+
+pub worth-after : (N : Network) (past : List Event) (r : Running) (s i : ℕ) (report : Report) → StandsAfter N past r → s < N.sessions → slice_get (r.reports s) i ≡ Some report → IsWorth N (run N (at_first N) past) s report
+worth-after N past r s i report at place e =
+    report-worth N past s i report at.promised.network at.promised.in_range place (subst (λ rs. slice_get rs i ≡ Some report) (reports-after N past r s at place) e)
+
+-- ---- running to the report
 
 idle-not_waiting : (N : Network) (s : ℕ) (x : SessionState) → is_idle x ≡ true → is_waiting (session_value (N.session s) x) ≡ false
 idle-not_waiting N s x idle = ap is_some (cond-true _ _ _ idle)
@@ -54,3 +62,12 @@ running-answered N es first r s hops port ends n range firsts at place busy atte
     let runs = answer-runs N w s hops port a in
     let next = ran-stands N first r w more firsts n (reached N es n range) at runs.0 (taken-in_time N w more runs.2) in
     runs-to_report N first r w s hops port place at a (subst (λ ts. Stands N first (ran N r more) (run N w ts)) runs.1 next)
+
+pub answered-after : (N : Network) (past : List Event) (r : Running) (s : ℕ) (hops : List Hop) (port ends : ℕ) → StandsAfter N past r → s < N.sessions
+    → is_idle ((run N (at_first N) past).session s) ≡ false → 0 < ((run N (at_first N) past).session s).attempts_left
+    → IsWay N (run N (at_first N) past) s hops port → LinksHaveAtMost N ends → length (run N (at_first N) past).frames + made_each_way ends hops ≤ frames_limit
+    → RunsToReport N r s hops port
+answered-after N past r s hops port ends at place busy attempts way all room =
+    let first : PortIdentity → ℕ = first_of_sessions N N.sessions in
+    let given : AreFirsts N first = firsts N at.promised.network in
+    running-answered N past first r s hops port ends at.promised.network at.promised.in_range given (at.stands first given) place busy attempts way all room

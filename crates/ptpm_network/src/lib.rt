@@ -5,7 +5,8 @@
 
 mod headline_laws;
 mod laws;
-mod progress_laws;
+mod way_laws;
+mod worth_laws;
 
 pub use headline_laws::{
     headline, one_reply_kept, refused_requests_change_no_data, stands_after,
@@ -16,6 +17,5 @@ pub use laws::{
     every_schedule, hops_lost, in_the_window, one_request_at_a_time, outbox_of_turns,
     running_networks_stand,
 };
-pub use progress_laws::{
-    answerable_along_a_way, one_copy_each_way, reported_exactly_once, running_networks_report,
-};
+pub use way_laws::{answerable_along_a_way, one_copy_each_way, running_networks_answer};
+pub use worth_laws::{reported_exactly_once, running_networks_report};

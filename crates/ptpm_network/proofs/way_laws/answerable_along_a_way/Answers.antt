@@ -1,5 +1,5 @@
 use Rattle.ptpm_network.proofs.Answerable.{answer-runs, answerable}
-use Rattle.ptpm_network.proofs.progress_laws.answerable_along_a_way.Goals as goal
+use Rattle.ptpm_network.proofs.way_laws.answerable_along_a_way.Goals as goal
 
 pub returns-clause-answered : goal.returns-clause-answered
 returns-clause-answered c = answerable

@@ -1,5 +1,5 @@
 use Rattle.ptpm_network.proofs.Exchanging.{copy-replied, copy-taken, never-late, reply-reported}
-use Rattle.ptpm_network.proofs.progress_laws.one_copy_each_way.Goals as goal
+use Rattle.ptpm_network.proofs.way_laws.one_copy_each_way.Goals as goal
 
 pub returns-clause-in_time : goal.returns-clause-in_time
 returns-clause-in_time c = never-late

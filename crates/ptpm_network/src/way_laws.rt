@@ -1,47 +1,18 @@
-//! What a report is worth, and what the network has to do for a request to be answered. Each law is the contract of a function
-//! that does nothing, and speaks of the definitions alone.
+//! What the network has to do for a request to be answered. Each law is the contract of a function that does nothing, and speaks
+//! of the definitions alone.
 
-ghost use Rattle.std.specs.Prelude.{◌≡◌, ◌∷◌, ◌+◌, ◌<◌, ◌≤◌, ℕ, false, length, List, None, slice_get, Some};
+ghost use Rattle.std.specs.Prelude.{◌≡◌, ◌∷◌, ◌+◌, ◌<◌, ◌≤◌, ℕ, false, length, List, None, Some};
 ghost use Rattle.std.specs.List.{AllByRecursion};
 ghost use Rattle.ptpm_codec.specs.declared.identity.PortIdentity.{PortIdentity};
 ghost use Rattle.ptpm_codec.specs.Layout.{domain_number};
-ghost use Rattle.ptpm_manager.specs.declared.ask.Ask.{Ask};
-ghost use Rattle.ptpm_manager.specs.declared.error.BeginError.TheVariants as begins;
-ghost use Rattle.ptpm_manager.specs.declared.report.Report.{Report};
-ghost use Rattle.ptpm_network.specs.Events.{Begin, BeginRefused, Deliver, Event, IsInRange, Send, frame_at, frames_limit, refusal};
+ghost use Rattle.ptpm_network.specs.Events.{Deliver, Event, IsInRange, Send, frame_at, frames_limit, refusal};
 ghost use Rattle.ptpm_network.specs.Exchange.{HasReplied, HasReported, HasRoom, IsHeardBy};
-ghost use Rattle.ptpm_network.specs.Happening.{ran};
+ghost use Rattle.ptpm_network.specs.Headline.{StandsAfter};
 ghost use Rattle.ptpm_network.specs.Machine.{AreInTime, run, step, taken};
 ghost use Rattle.ptpm_network.specs.Network.{AtPort, AtSession, IsNetwork, Network};
-ghost use Rattle.ptpm_network.specs.Stands.{AreFirsts, Running, Stands, starting};
-ghost use Rattle.ptpm_network.specs.State.{Frame, NetworkState, ReplyTo, RequestOf, at_first, history, is_idle, is_late, issued};
+ghost use Rattle.ptpm_network.specs.Stands.{AreFirsts, Running, Stands};
+ghost use Rattle.ptpm_network.specs.State.{Frame, NetworkState, ReplyTo, RequestOf, at_first, is_idle, is_late, issued};
 ghost use Rattle.ptpm_network.specs.Way.{Hop, IsAnswerable, IsWay, LinksHaveAtMost, RunsToReport, handed_in, made_each_way};
-ghost use Rattle.ptpm_network.specs.Worth.{IsWorth, entries_of};
-
-/// What is reported was carried out exactly once. After every list of events, late deliveries among them:
-/// - the reports of a session are of its requests 1, 2, 3, .. in their order;
-/// - each is worth this: its request, as the session began it, was carried out exactly once at the session's target, and the
-///   report tells the one answer that the clock made at that moment, of its data sets as they stood then;
-/// - no request of any manager was carried out more than once at any clock, reported or not;
-/// - a request that is not reported is the last that its session began, and until it is reported the session begins no other.
-pub fn reported_exactly_once()
-    ensures in_order { (N : Network) (es : List Event) (s i : ℕ) (r : Report) →
-        IsNetwork N → AllByRecursion IsInRange es → s < N.sessions →
-        slice_get ((run N (at_first N) es).session s).reports i ≡ Some r → r.index ≡ i + 1 }
-    ensures worth { (N : Network) (es : List Event) (s i : ℕ) (r : Report) →
-        IsNetwork N → AllByRecursion IsInRange es → s < N.sessions →
-        slice_get ((run N (at_first N) es).session s).reports i ≡ Some r → IsWorth N (run N (at_first N) es) s r }
-    ensures at_most_once { (N : Network) (es : List Event) (c : ℕ) (m : PortIdentity) (k : ℕ) →
-        length (entries_of m k (history N (run N (at_first N) es) c).accepted) ≤ 1 }
-    ensures last { (N : Network) (es : List Event) (s k : ℕ) →
-        IsNetwork N → AllByRecursion IsInRange es → s < N.sessions →
-        length ((run N (at_first N) es).session s).reports < k → k ≤ issued (run N (at_first N) es) s →
-        k ≡ issued (run N (at_first N) es) s }
-    ensures busy { (N : Network) (es : List Event) (s : ℕ) (a : Ask) →
-        s < N.sessions →
-        length ((run N (at_first N) es).session s).reports < issued (run N (at_first N) es) s →
-        refusal N (run N (at_first N) es) (Begin s a) ≡ Some (BeginRefused begins.Busy) }
-{}
 
 /// One copy each way suffices. After every list of events, for the last request that a session has begun:
 /// - its copies and those of the reply are never late, and a delivery is not refused where there is room for frames;
@@ -87,21 +58,21 @@ pub fn answerable_along_a_way()
         × AreInTime N w (Send s ∷ handed_in a.deliveries) }
 {}
 
-/// A network that runs, whose clocks and sessions tell requests apart by sequenceIds and octets, reports no less:
-/// - after every list of events of which no delivery is late, its reports are of its requests 1, 2, 3, .. in their order, and
-///   each is worth what it is in the machine;
-/// - where it stands at a state that the machine reaches, and a request can be answered along a way, it is.
-pub fn running_networks_report()
-    ensures worth { (N : Network) (es : List Event) (first : PortIdentity → ℕ) (s i : ℕ) (r : Report) →
-        IsNetwork N → AllByRecursion IsInRange es →
-        AreFirsts N first → AreInTime N (at_first N) es → s < N.sessions →
-        slice_get ((ran N (starting N) es).reports s) i ≡ Some r →
-        (r.index ≡ i + 1) × IsWorth N (run N (at_first N) (taken N (at_first N) es)) s r }
+/// A network that runs, whose clocks and sessions tell requests apart by sequenceIds and octets, answers no less: where it stands
+/// at a state that the machine reaches, so after any events of which none delivered a frame late, and a request can be answered
+/// along a way, it is.
+pub fn running_networks_answer()
     ensures answered { (N : Network) (es : List Event) (first : PortIdentity → ℕ) (r : Running) (s : ℕ) (hops : List Hop) (port ends : ℕ) →
         IsNetwork N → AllByRecursion IsInRange es →
         AreFirsts N first → Stands N first r (run N (at_first N) es) → s < N.sessions →
         is_idle ((run N (at_first N) es).session s) ≡ false → 0 < ((run N (at_first N) es).session s).attempts_left →
         IsWay N (run N (at_first N) es) s hops port → LinksHaveAtMost N ends →
         length (run N (at_first N) es).frames + made_each_way ends hops ≤ frames_limit →
+        RunsToReport N r s hops port }
+    ensures after { (N : Network) (past : List Event) (r : Running) (s : ℕ) (hops : List Hop) (port ends : ℕ) →
+        StandsAfter N past r → s < N.sessions →
+        is_idle ((run N (at_first N) past).session s) ≡ false → 0 < ((run N (at_first N) past).session s).attempts_left →
+        IsWay N (run N (at_first N) past) s hops port → LinksHaveAtMost N ends →
+        length (run N (at_first N) past).frames + made_each_way ends hops ≤ frames_limit →
         RunsToReport N r s hops port }
 {}

@@ -1,5 +1,5 @@
 use Rattle.ptpm_network.proofs.Worth.{once, report-index, report-worth, unreported-last, waits-for_report}
-use Rattle.ptpm_network.proofs.progress_laws.reported_exactly_once.Goals as goal
+use Rattle.ptpm_network.proofs.worth_laws.reported_exactly_once.Goals as goal
 
 pub returns-clause-in_order : goal.returns-clause-in_order
 returns-clause-in_order c = report-index

@@ -1,0 +1,53 @@
+//! What a report is worth. Each law is the contract of a function that does nothing, and speaks of the definitions alone.
+
+ghost use Rattle.std.specs.Prelude.{◌≡◌, ◌+◌, ◌<◌, ◌≤◌, ℕ, length, List, slice_get, Some};
+ghost use Rattle.std.specs.List.{AllByRecursion};
+ghost use Rattle.ptpm_codec.specs.declared.identity.PortIdentity.{PortIdentity};
+ghost use Rattle.ptpm_manager.specs.declared.ask.Ask.{Ask};
+ghost use Rattle.ptpm_manager.specs.declared.error.BeginError.TheVariants as begins;
+ghost use Rattle.ptpm_manager.specs.declared.report.Report.{Report};
+ghost use Rattle.ptpm_network.specs.Events.{Begin, BeginRefused, Event, IsInRange, refusal};
+ghost use Rattle.ptpm_network.specs.Headline.{StandsAfter};
+ghost use Rattle.ptpm_network.specs.Machine.{run};
+ghost use Rattle.ptpm_network.specs.Network.{IsNetwork, Network};
+ghost use Rattle.ptpm_network.specs.Stands.{Running};
+ghost use Rattle.ptpm_network.specs.State.{at_first, history, issued};
+ghost use Rattle.ptpm_network.specs.Worth.{IsWorth, entries_of};
+
+/// What is reported was carried out exactly once. After every list of events, late deliveries among them:
+/// - the reports of a session are of its requests 1, 2, 3, .. in their order;
+/// - each is worth this: its request, as the session began it, was carried out exactly once at the session's target, and the
+///   report tells the one answer that the clock made at that moment, of its data sets as they stood then;
+/// - no request of any manager was carried out more than once at any clock, reported or not;
+/// - a request that is not reported is the last that its session began, and until it is reported the session begins no other.
+pub fn reported_exactly_once()
+    ensures in_order { (N : Network) (es : List Event) (s i : ℕ) (r : Report) →
+        IsNetwork N → AllByRecursion IsInRange es → s < N.sessions →
+        slice_get ((run N (at_first N) es).session s).reports i ≡ Some r → r.index ≡ i + 1 }
+    ensures worth { (N : Network) (es : List Event) (s i : ℕ) (r : Report) →
+        IsNetwork N → AllByRecursion IsInRange es → s < N.sessions →
+        slice_get ((run N (at_first N) es).session s).reports i ≡ Some r → IsWorth N (run N (at_first N) es) s r }
+    ensures at_most_once { (N : Network) (es : List Event) (c : ℕ) (m : PortIdentity) (k : ℕ) →
+        length (entries_of m k (history N (run N (at_first N) es) c).accepted) ≤ 1 }
+    ensures last { (N : Network) (es : List Event) (s k : ℕ) →
+        IsNetwork N → AllByRecursion IsInRange es → s < N.sessions →
+        length ((run N (at_first N) es).session s).reports < k → k ≤ issued (run N (at_first N) es) s →
+        k ≡ issued (run N (at_first N) es) s }
+    ensures busy { (N : Network) (es : List Event) (s : ℕ) (a : Ask) →
+        s < N.sessions →
+        length ((run N (at_first N) es).session s).reports < issued (run N (at_first N) es) s →
+        refusal N (run N (at_first N) es) (Begin s a) ≡ Some (BeginRefused begins.Busy) }
+{}
+
+/// A network that runs, whose clocks and sessions tell requests apart by sequenceIds and octets, reports no less. Wherever it
+/// stands after events of which none delivered a frame late:
+/// - the reports of a session are of its requests 1, 2, 3, .. in their order;
+/// - each is worth what it is in the machine: its request was carried out exactly once, and the report tells the one answer that
+///   the clock made then.
+pub fn running_networks_report()
+    ensures in_order { (N : Network) (past : List Event) (r : Running) (s i : ℕ) (report : Report) →
+        StandsAfter N past r → s < N.sessions → slice_get (r.reports s) i ≡ Some report → report.index ≡ i + 1 }
+    ensures worth { (N : Network) (past : List Event) (r : Running) (s i : ℕ) (report : Report) →
+        StandsAfter N past r → s < N.sessions → slice_get (r.reports s) i ≡ Some report →
+        IsWorth N (run N (at_first N) past) s report }
+{}
