@@ -13,6 +13,7 @@ pub mod PostingTurn
 pub mod Scheduling
 pub mod Following
 pub mod EveryWorld
+pub mod Reporting
 pub mod Lateness
 pub mod Naming
 pub mod NetworkFacts

@@ -1,6 +1,6 @@
 //! A network that runs: its clocks and sessions, the links between them, and every frame that was sent.
 
-ghost use Rattle.std.specs.Prelude.{◌≡◌, ◌↔◌, ◌≤◌, ◌<◌, All, Contains, IfNone, IfSome, IsSome, IsTrue, List, bytes_eq, length, option_map, position};
+ghost use Rattle.std.specs.Prelude.{◌≡◌, ◌↔◌, ◌+◌, ◌≤◌, ◌<◌, ℕ, All, Contains, IfNone, IfSome, IsSome, IsTrue, List, Some, bytes_eq, length, option_map, position, slice_get};
 ghost use Rattle.ptpm_world.specs.Ends.{AreLinks, AreLinks-prop, AreStored-prop, IsStoredFrame, port_counts};
 
 use crate::frames::{Frame, Frames, Origin};
@@ -45,6 +45,7 @@ pub struct World {
 }
 
 impl World {
+    ghost use Rattle.ptpm_manager.specs.declared.report.Report.{Report};
     ghost use Rattle.ptpm_manager.specs.Session.{count_limit};
     ghost use Rattle.ptpm_network.specs.Events as machine;
     ghost use Rattle.ptpm_network.specs.Events.{frame_at};
@@ -52,9 +53,10 @@ impl World {
     ghost use Rattle.ptpm_network.specs.Machine.{is_late_delivery, run};
     ghost use Rattle.ptpm_network.specs.Network.{Network};
     ghost use Rattle.ptpm_network.specs.State.{at_first, is_late_at};
+    ghost use Rattle.ptpm_network.specs.Worth.{IsWorth};
     ghost use Rattle.ptpm_world.specs.Frames.{frame_value};
     ghost use Rattle.ptpm_world.specs.Placed.{names_in, place_in};
-    ghost use Rattle.ptpm_world.specs.Running.{is_late_held, reports_named, running, sets_named};
+    ghost use Rattle.ptpm_world.specs.Running.{IsOf, is_late_held, reports_named, running, sets_named};
 
     /// A clock's data sets as they stand, if there is a clock of this name.
     pub fn sets(&self, clock: &str) -> Option<&DataSets>
@@ -67,10 +69,16 @@ impl World {
         }
     }
 
-    /// The reports of a session's answers, in order, if there is a session of this name.
+    /// The reports of a session's answers, in order, if there is a session of this name. Where no frame was delivered late,
+    /// they are of its requests 1, 2, 3, .., and each is worth this: its request was carried out exactly once at the session's
+    /// target, and the report tells the one answer that the clock made then (`IsWorth`).
     pub fn reports(&self, session: &str) -> Option<&[Report]>
         ensures reports { option_map (λ r. r.now) result ≡ reports_named self.now session.now }
         ensures known { IsSome result ↔ Contains (names_in self.now).sessions session.now }
+        ensures worth { (N : Network) (past : List machine.Event) → IsOf N self.now → StandsAfter N past (running self.now)
+            → IfSome result (λ reports. (i : ℕ) (report : Report) → slice_get reports.now i ≡ Some report
+            → (report.index ≡ i + 1)
+            × IsWorth N (run N (at_first N) past) (place_in (names_in self.now).sessions session.now) report) }
     {
         match self.session_place(session) {
             Some(place) => Some(self.sessions[place].reports.as_slice()),

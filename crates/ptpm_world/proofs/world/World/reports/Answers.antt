@@ -1,8 +1,12 @@
-use Rattle.std.proofs.Common.{ap, sym, ◌∙◌, refl, Some, length}
-use Rattle.std.specs.Prelude.{option_map}
+use Rattle.std.proofs.Common.{◌≡◌, ◌+◌, ap, sym, subst, ◌∙◌, refl, Some, length}
+use Rattle.std.specs.Prelude.{option_map, slice_get}
 use Rattle.std.proofs.lemmas.Option.{slice_get_read}
+use Rattle.ptpm_network.specs.Machine.{run}
+use Rattle.ptpm_network.specs.State.{at_first}
+use Rattle.ptpm_network.specs.Worth.{IsWorth}
 use Rattle.ptpm_world.specs.declared.world.RunningSession.{RunningSession}
 use Rattle.ptpm_world.proofs.Naming.{known-found, unknown-name}
+use Rattle.ptpm_world.proofs.Reporting.{worth-shown}
 use Rattle.ptpm_world.proofs.WorldLemmas.{at_name, of_no_name}
 use Rattle.ptpm_world.proofs.world.World.reports.Goals as goal
 
@@ -23,3 +27,10 @@ returns-in-Some-clause-known c =
 
 pub returns-in-None-clause-known : goal.returns-in-None-clause-known
 returns-in-None-clause-known c = unknown-name (λ (x : RunningSession). x.name) c.args.self.now.sessions.items c.args.session.now c.in-None.ensures.none
+
+pub returns-in-Some-clause-worth : goal.returns-in-Some-clause-worth
+returns-in-Some-clause-worth c = λ N past is at i report here.
+    let xs = c.args.self.now.sessions.items in
+    let there = slice_get_read xs (length xs) c.in-Some.place c.index.result.now refl c.in-Some.ensures.found.1 c.index.ensures in
+    subst (λ s. (report.index ≡ i + 1) × IsWorth N (run N (at_first N) past) s report) c.in-Some.ensures.found.0
+    (worth-shown N past c.args.self.now c.in-Some.place c.index.result.now is at there i report (ap (λ rs. slice_get rs i) (sym c.as_slice.ensures.value) ∙ here))
