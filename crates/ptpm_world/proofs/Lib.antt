@@ -23,4 +23,5 @@ pub mod TraceLemmas
 pub mod Answering
 pub mod Playing
 pub mod LineLemmas
+pub mod StartedWorld
 pub mod ScriptLemmas

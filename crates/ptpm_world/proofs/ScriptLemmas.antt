@@ -5,16 +5,14 @@ use Rattle.std.proofs.lemmas.Bool.{cases_lt, cond-false, cond-true, lt-ltb}
 use Rattle.std.proofs.KnownBytes.{Appends-trans}
 use Rattle.std.specs.Io.KnownBytes.{Appends, Keeps}
 use Rattle.std.specs.Str.Lines.{lines}
-use Rattle.ptpm_codec.specs.declared.identity.PortIdentity.{PortIdentity}
-use Rattle.ptpm_network.specs.Stands.{Running, Stands}
-use Rattle.ptpm_network.specs.State.{at_first}
+use Rattle.ptpm_network.specs.Stands.{Running}
 use Rattle.ptpm_script.specs.declared.net_error.NetError.TheVariants as refusals
 use Rattle.ptpm_script.specs.NetworkText.{network_of}
 use Rattle.ptpm_script.specs.NetworkValue.{NetworkValue}
 use Rattle.ptpm_world.specs.Described.{described}
 use Rattle.ptpm_world.specs.Lines.{BothKnown, ReadsLine}
 use Rattle.ptpm_world.specs.Placed.{Names, names_of}
-use Rattle.ptpm_world.specs.Script.{Prints, StandsFor, bad_line_from, event_part, events_from, is_divider, network_text}
+use Rattle.ptpm_world.specs.Script.{Prints, StandsFor, bad_line_from, event_part, events_from, is_divider, network_text, started}
 use Rattle.ptpm_world.specs.Trace.{after_all, data_lines, event_lines, line_feed, report_lines, trace}
 
 -- ---- the network file
@@ -133,7 +131,7 @@ written-whole o0 o1 o2 o3 o4 events reports sets p q r k =
 pub script-prints : (all first second : Option (List ℕ)) (o0 o1 o2 o3 o4 : Option (List ℕ)) (n : NetworkValue) (names : Names) (start last : Running)
     → IfSome all (λ octets. first ≡ Some octets)
     → BothKnown first second (λ before after. (network_of (network_text (lines before)) ≡ Ok n) × (lines after ≡ event_part (lines before)))
-    → names ≡ names_of n → ((f : PortIdentity → ℕ) → Stands (described n) f start (at_first (described n)))
+    → names ≡ names_of n → start ≡ started n
     → IfSome second (λ octets. bad_line_from 1 (lines octets) ≡ None)
     → IfSome second (λ octets. Appends o0 o1 (event_lines (described n) names start (events_from 1 (lines octets))))
     → IfSome second (λ octets. last ≡ after_all (described n) names start (events_from 1 (lines octets)))
@@ -151,14 +149,13 @@ script-prints (Some input) (Some xs) (Some ys) o0 o1 o2 o3 o4 n names start last
       event_lines (described n) names start (events_from 1 (lines ys)) ++ report_lines names last ++ data_lines names last,
       record {
         network = n;
-        start = start;
         is_network = ap (λ l. network_of (network_text (lines l))) (sym same) ∙ b.0;
-        is_start = s;
         are_events = ap (bad_line_from 1) (sym part) ∙ bad;
         is_trace =
             ap (λ x. event_lines (described n) names start (events_from 1 (lines ys)) ++ report_lines names x ++ data_lines names x) went
             ∙ ap (λ m. trace (described n) m start (events_from 1 (lines ys))) nm
-            ∙ ap (λ ls. trace (described n) (names_of n) start (events_from 1 ls)) part;
+            ∙ ap (λ ls. trace (described n) (names_of n) start (events_from 1 ls)) part
+            ∙ ap (λ r. trace (described n) (names_of n) r (events_from 1 (event_part script))) s;
       },
       whole,
     )

@@ -1,16 +1,18 @@
 -- What the lines of a script ask for (this project's profile): a network file, a line `%%`, and events, one a line.
-use Rattle.std.specs.Prelude.{◌≡◌, ◌<◌, ◌⊎◌, ℕ, ◌+◌, ◌==◌, length, not, Bool, true, bytes_eq, codes, find, List, [], ◌∷◌, ◌++◌, Option, Some, None, Result, Ok, Err, if◌then◌else◌}
-use Rattle.ptpm_codec.specs.declared.identity.PortIdentity.{PortIdentity}
-use Rattle.ptpm_network.specs.Stands.{Running, Stands}
-use Rattle.ptpm_network.specs.State.{at_first}
+use Rattle.std.specs.Prelude.{◌≡◌, ◌<◌, ◌⊎◌, ℕ, ◌+◌, ◌==◌, length, not, slice_get, Bool, true, bytes_eq, codes, find, List, [], ◌∷◌, ◌++◌, Option, Some, None, Result, Ok, Err, if◌then◌else◌}
+use Rattle.ptpm_agent.specs.Laws.{fresh}
+use Rattle.ptpm_manager.specs.Session.{SessionValue, fresh as fresh_session}
+use Rattle.ptpm_network.specs.Stands.{Running}
 use Rattle.ptpm_script.specs.declared.event.Event.{Event}
 use Rattle.ptpm_script.specs.declared.event.EventError.{EventError}
 use Rattle.ptpm_script.specs.EventLine.{reading}
 use Rattle.ptpm_script.specs.NetworkText.{network_of}
-use Rattle.ptpm_script.specs.NetworkValue.{NetworkValue}
+use Rattle.ptpm_script.specs.declared.network.NetworkSession.{NetworkSession}
+use Rattle.ptpm_script.specs.NetworkValue.{NetworkValue, first_sets}
 use Rattle.ptpm_script.specs.Words.{space}
-use Rattle.ptpm_world.specs.Described.{described}
+use Rattle.ptpm_world.specs.Described.{clock_at, described, described_session}
 use Rattle.ptpm_world.specs.Placed.{names_of}
+use Rattle.ptpm_world.specs.Running.{no_session}
 use Rattle.ptpm_world.specs.Trace.{line_feed, trace}
 
 -- ---- around the divider
@@ -59,6 +61,22 @@ bad_line_from number [] = None
 bad_line_from number (line ∷ lines) =
     if is_skipped line then bad_line_from (number + 1) lines else bad_or number (reading line) (bad_line_from (number + 1) lines)
 
+-- ---- the network as it starts
+
+-- past the last session, something that no definition looks at
+abbrev pub started_session : NetworkValue → Option NetworkSession → SessionValue
+started_session n None = no_session
+started_session n (Some s) = fresh_session (described_session n s).setup s.domain
+
+-- each clock with the data sets that it starts with, each session with nothing begun, and no frames
+abbrev pub started : NetworkValue → Running
+started n = record {
+  clock = λ c. fresh (first_sets (clock_at n c));
+  session = λ s. started_session n (slice_get n.sessions s);
+  reports = λ s. [];
+  frames = [];
+}
+
 -- ---- the whole
 
 -- What is kept of a text: all of it, or of one that is too long for a network file so much that it is still too long.
@@ -69,8 +87,6 @@ StandsFor kept whole = (kept ≡ whole) ⊎ ((262144 < length kept) × (262144 <
 -- is skipped, and the text is the trace of these events in that network, from its start on.
 pub record Prints (script : List (List ℕ)) (text : List ℕ) : Type 0 where
   pub network : NetworkValue
-  pub start : Running
   pub is_network : network_of (network_text script) ≡ Ok network
-  pub is_start : (first : PortIdentity → ℕ) → Stands (described network) first start (at_first (described network))
   pub are_events : bad_line_from 1 (event_part script) ≡ None
-  pub is_trace : text ≡ trace (described network) (names_of network) start (events_from 1 (event_part script))
+  pub is_trace : text ≡ trace (described network) (names_of network) (started network) (events_from 1 (event_part script))

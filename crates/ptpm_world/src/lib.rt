@@ -16,7 +16,7 @@ mod world;
 pub use frames::Frame;
 pub use network_laws::{described_network, described_networks, every_world, placed_event};
 pub use ptpm_script::{End, Event, EventError, Name, NetError, Network, read_event};
-pub use script::run_script;
+pub use script::{one_trace, run_script};
 pub use script_error::ScriptError;
 pub use took::{StepError, Took};
 pub use world::World;

@@ -27,6 +27,11 @@ use std::io::{Read, Write};
 /// Stands between the network file and the events.
 const DIVIDER: &str = "%%";
 
+/// The lines of a script print one text at most.
+pub fn one_trace()
+    ensures { (script : List (List ℕ)) (first second : List ℕ) → Prints script first → Prints script second → first ≡ second }
+{}
+
 /// Reads a network file, the line `%%` and events from a reader, lets the events happen one after another, and writes the
 /// trace: a line for each event, and at the end each session's reports and each clock's data sets. An event that is refused
 /// is a line of the trace too. Without the divider there are no events.

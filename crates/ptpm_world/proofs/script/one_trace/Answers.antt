@@ -1,0 +1,16 @@
+use Rattle.std.proofs.Common.{◌≡◌, Ok, Result, ap, sym, ◌∙◌}
+use Rattle.ptpm_script.specs.declared.net_error.NetError.{NetError}
+use Rattle.ptpm_script.specs.NetworkValue.{NetworkValue}
+use Rattle.ptpm_world.specs.Described.{described}
+use Rattle.ptpm_world.specs.Placed.{names_of}
+use Rattle.ptpm_world.specs.Script.{event_part, events_from, started}
+use Rattle.ptpm_world.specs.Trace.{trace}
+use Rattle.ptpm_world.proofs.script.one_trace.Goals as goal
+
+one_network : (m n : NetworkValue) → ◌≡◌ {A = Result NetworkValue NetError} (Ok m) (Ok n) → m ≡ n
+one_network m n h = cc
+
+pub returns : goal.returns
+returns c = λ script first second p q.
+    let same : p.network ≡ q.network = one_network p.network q.network (sym p.is_network ∙ q.is_network) in
+    p.is_trace ∙ ap (λ n. trace (described n) (names_of n) (started n) (events_from 1 (event_part script))) same ∙ sym q.is_trace
