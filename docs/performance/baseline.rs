@@ -1,4 +1,5 @@
-//! The same work as plain Rust: a boundary clock's answers to GET and SET, with nothing proved.
+//! The same work as plain Rust: a boundary clock's answers to GET and SET, a manager's requests, and deliveries in a network,
+//! with nothing proved.
 //!
 //!     rustc --edition 2024 -O baseline.rs && ./baseline DATAGRAM STEP COUNT [PORTS [MANAGERS [FIRST]]]
 //!
@@ -7,9 +8,16 @@
 //! PRIORITY1. With STEP `view` it only reads it, with `nothing` not even that. A datagram that is shorter than its
 //! messageLength gets octets 0.
 //!
+//! With STEP `send` a manager sends one GET of PRIORITY1 COUNT times, with `receive` it begins COUNT of them and hears the
+//! DATAGRAM as the answer to each, under the number of the request, with `ignore` it hears it COUNT times under the number
+//! before that of its one request, and with `deliver` the DATAGRAM is the first frame of a network, and is delivered COUNT
+//! times at the clock.
+//!
 //! It judges a datagram in the same order, keeps one request and reply for each of sixteen managers, writes every message
-//! once, in place, and forwards. Of the management ids it knows PRIORITY1, PRIORITY2, PORT_DATA_SET and
+//! once, in place, and forwards. Of the management ids it knows USER_DESCRIPTION, PRIORITY1, PRIORITY2, PORT_DATA_SET and
 //! LOG_ANNOUNCE_INTERVAL alone, and no error is answered.
+
+#![allow(dead_code)]
 
 type Identity = ([u8; 8], u16);
 
@@ -39,6 +47,8 @@ struct Clock {
     me: [u8; 8],
     domain: u8,
     priority: [u8; 2],
+    /// The userDescription as a PTPText, with its length and its pad.
+    description: Vec<u8>,
     ports: Vec<Port>,
     managers: Vec<(Identity, Option<Kept>)>,
 }
@@ -80,13 +90,15 @@ fn view(datagram: &[u8]) -> Option<View<'_>> {
     if action > 4 || !known || size % 2 != 0 || size < least || 52 + size != length {
         return None;
     }
-    if kind == 2 && length > 60 {
-        let text = 1 + message[60] as usize;
-        if length - 60 != text + text % 2 {
-            return None;
-        }
+    if kind == 2 && length > 60 && !is_text(&message[60..]) {
+        return None;
     }
     Some(View(message))
+}
+
+/// Whether the octets are one PTPText with its pad.
+fn is_text(octets: &[u8]) -> bool {
+    octets.first().is_some_and(|&length| octets.len() == (2 + length as usize) / 2 * 2)
 }
 
 #[inline(never)]
@@ -146,6 +158,13 @@ impl Clock {
 
     fn set(&mut self, id: u16, named: std::ops::RangeInclusive<u16>, octets: &[u8]) {
         match id {
+            0x0002 => {
+                if is_text(octets) && octets[0] <= 128 && std::str::from_utf8(&octets[1..=octets[0] as usize]).is_ok() {
+                    self.description.clear();
+                    self.description.extend_from_slice(octets);
+                }
+            }
+            _ if octets.len() != 2 => {}
             0x2005 | 0x2006 => self.priority[(id - 0x2005) as usize] = octets[0],
             0x2009 => named.for_each(|port| self.ports[port as usize - 1].log_announce = octets[0] as i8),
             _ => {}
@@ -177,10 +196,16 @@ impl Clock {
     fn reply(&self, ingress: u16, m: &View, named: std::ops::RangeInclusive<u16>, out: &mut [(u16, Vec<u8>)]) -> usize {
         let (id, mut data, mut count) = (u16_at(m.0, 52), [0; 26], 0);
         for number in named {
-            let size = self.put_data_field(id, number, &mut data);
+            let octets = match id {
+                0x0002 => &self.description[..],
+                _ => {
+                    let size = self.put_data_field(id, number, &mut data);
+                    &data[..size]
+                }
+            };
             let source = if is_of_port(id) { number } else { ingress };
             out[count].0 = ingress;
-            encode(&self.me, source, m, 2, id, &data[..size], &mut out[count].1);
+            encode(&self.me, source, m, 2, id, octets, &mut out[count].1);
             count += 1;
         }
         count
@@ -210,7 +235,7 @@ impl Clock {
         };
         match (verdict, manager) {
             (Verdict::AnsweredNew, Some(manager)) => {
-                if action == 1 && octets.len() == 2 {
+                if action == 1 {
                     self.set(id, named.clone(), octets);
                 }
                 let replies = self.reply(ingress, &m, named, out);
@@ -251,6 +276,206 @@ fn is_of_port(id: u16) -> bool {
     id == 0x2004 || id == 0x2009
 }
 
+struct Ask {
+    action: u8,
+    id: u16,
+    port: u16,
+    octets: Vec<u8>,
+}
+
+/// One manager's requests to one clock, one at a time.
+struct Session {
+    me: Identity,
+    target: [u8; 8],
+    domain: u8,
+    first: u16,
+    hops: u8,
+    attempts: u8,
+    attempts_left: u8,
+    issued: u64,
+    asked: Option<Ask>,
+}
+
+#[derive(Debug)]
+enum Outcome {
+    Value(Vec<u8>),
+    Done,
+    Refused(u16),
+}
+
+impl Session {
+    fn number(&self) -> u16 {
+        (self.first as u64 + self.issued - 1) as u16
+    }
+
+    #[inline(never)]
+    fn begin(&mut self, ask: &Ask) -> bool {
+        let is_reply = ask.action == 2 || ask.action == 4;
+        if self.asked.is_some() || is_reply || ask.octets.len() % 2 != 0 || ask.octets.len() > 1418 || self.issued >= 1_000_000 {
+            return false;
+        }
+        self.issued += 1;
+        self.asked = Some(Ask { octets: ask.octets.clone(), ..*ask });
+        self.attempts_left = self.attempts;
+        true
+    }
+
+    #[inline(never)]
+    fn send(&mut self, out: &mut Vec<u8>) -> bool {
+        let Some(ask) = &self.asked else { return false };
+        if self.attempts_left == 0 {
+            return false;
+        }
+        let mut head = [0; 54];
+        head[..2].copy_from_slice(&[0x0d, 0x12]);
+        head[2..4].copy_from_slice(&(54 + ask.octets.len() as u16).to_be_bytes());
+        head[4] = self.domain;
+        head[20..28].copy_from_slice(&self.me.0);
+        head[28..30].copy_from_slice(&self.me.1.to_be_bytes());
+        head[30..32].copy_from_slice(&self.number().to_be_bytes());
+        head[32..34].copy_from_slice(&[0x04, 0x7f]);
+        head[34..42].copy_from_slice(&self.target);
+        head[42..44].copy_from_slice(&ask.port.to_be_bytes());
+        head[44..48].copy_from_slice(&[self.hops, self.hops, ask.action, 0]);
+        head[48..50].copy_from_slice(&[0, 1]);
+        head[50..52].copy_from_slice(&(2 + ask.octets.len() as u16).to_be_bytes());
+        head[52..54].copy_from_slice(&ask.id.to_be_bytes());
+        out.clear();
+        out.extend_from_slice(&head);
+        out.extend_from_slice(&ask.octets);
+        self.attempts_left -= 1;
+        true
+    }
+
+    /// The answer to the request, with its index; `None` where the datagram is ignored.
+    #[inline(never)]
+    fn receive(&mut self, datagram: &[u8]) -> Option<(u64, Outcome)> {
+        let m = view(datagram)?;
+        let (b, action, source) = (m.0, m.0[46] % 16, m.identity(20));
+        let is_asked = |port: u16| self.asked.as_ref().is_none_or(|ask| ask.port == 0xffff || ask.port == port);
+        if b[0] / 16 != 0 || b[5] != 0 || b[4] != self.domain || action != 2 && action != 4 || m.identity(34) != self.me {
+            return None;
+        }
+        if source.0 != self.target || !is_asked(source.1) {
+            return None;
+        }
+        let ask = self.asked.as_ref()?;
+        let refused = (u16_at(b, 48) == 2).then(|| u16_at(b, 52));
+        let id = u16_at(b, if refused.is_some() { 54 } else { 52 });
+        if u16_at(b, 30) != self.number() || action != (if ask.action == 3 { 4 } else { 2 }) || id != ask.id {
+            return None;
+        }
+        let outcome = match refused {
+            Some(error) => Outcome::Refused(error),
+            None if action == 4 => Outcome::Done,
+            None => Outcome::Value(b[54..].to_vec()),
+        };
+        self.asked = None;
+        Some((self.issued, outcome))
+    }
+}
+
+#[derive(Clone, Copy, PartialEq)]
+enum End {
+    Clock(u8, u16),
+    Session(u16),
+}
+
+#[derive(Clone, Copy)]
+enum Origin {
+    Request { session: u16, index: u64 },
+    Reply { session: u16, index: u64 },
+    Other,
+}
+
+struct Frame {
+    end: End,
+    origin: Origin,
+    start: usize,
+    size: usize,
+}
+
+struct World {
+    clocks: Vec<Clock>,
+    links: Vec<Vec<End>>,
+    frames: Vec<Frame>,
+    octets: Vec<u8>,
+    out: Vec<(u16, Vec<u8>)>,
+}
+
+impl World {
+    /// Delivers a frame, counted from 1, at its clock, and sends what the clock answers or passes on.
+    #[inline(never)]
+    fn deliver(&mut self, number: u32) -> Option<Verdict> {
+        let frame = self.frames.get((number as usize).checked_sub(1)?)?;
+        let End::Clock(place, ingress) = frame.end else { return None };
+        let (origin, place_of_octets) = (frame.origin, frame.start..frame.start + frame.size);
+        if self.frames.len() > 399_775 {
+            return None;
+        }
+        let (verdict, count) =
+            self.clocks[place as usize].handle(ingress, &self.octets[place_of_octets], &mut self.out);
+        let reply = match (verdict, origin) {
+            (Verdict::AnsweredNew | Verdict::AnsweredRepeat, Origin::Request { session, index }) => {
+                Origin::Reply { session, index }
+            }
+            _ => Origin::Other,
+        };
+        for (port, message) in &self.out[..count] {
+            let (from, start) = (End::Clock(place, *port), self.octets.len());
+            let origin = if *port == ingress { reply } else { origin };
+            let Some(ends) = self.links.iter().find(|ends| ends.contains(&from)) else { continue };
+            self.octets.extend_from_slice(message);
+            for &end in ends.iter().filter(|&&end| end != from) {
+                self.frames.push(Frame { end, origin, start, size: message.len() });
+            }
+        }
+        Some(verdict)
+    }
+}
+
+/// What a manager spends on a datagram, by the word.
+fn manage(word: &str, mut datagram: Vec<u8>, count: u32) {
+    let me = ([0x00, 0x11, 0x22, 0x33, 0x44, 0x55, 0x66, 0x77], 1);
+    let target = [0xaa, 0xbb, 0xcc, 0xff, 0xfe, 0xdd, 0xee, 0x01];
+    let ask = Ask { action: 0, id: 0x2005, port: 0xffff, octets: Vec::new() };
+    let mut session =
+        Session { me, target, domain: 0, first: 1, hops: 1, attempts: 1, attempts_left: 0, issued: 0, asked: None };
+    let (mut out, mut last) = (Vec::with_capacity(1472), None);
+    if word != "receive" {
+        session.begin(&ask);
+    }
+    for _ in 0..count {
+        match word {
+            "send" => {
+                std::hint::black_box(&mut session).attempts_left = 1;
+                session.send(&mut out);
+            }
+            "receive" => {
+                session.begin(&ask);
+                datagram[30..32].copy_from_slice(&(session.issued as u16).to_be_bytes());
+                last = session.receive(&datagram);
+            }
+            _ => last = session.receive(std::hint::black_box(&datagram)),
+        }
+    }
+    println!("{} {:x?} {last:x?}", session.issued, out);
+}
+
+/// Delivers the datagram as the first frame of a network of one clock.
+fn deliver(clock: Clock, out: Vec<(u16, Vec<u8>)>, datagram: Vec<u8>, count: u32) {
+    let end = End::Clock(0, 1);
+    let origin = Origin::Request { session: 0, index: 1 };
+    let frames = vec![Frame { end, origin, start: 0, size: datagram.len() }];
+    let links = vec![vec![end, End::Session(0)]];
+    let mut world = World { clocks: vec![clock], links, frames, octets: datagram, out };
+    let mut last = world.deliver(1);
+    for _ in 0..count {
+        last = world.deliver(std::hint::black_box(1));
+    }
+    println!("{last:?} {}", world.frames.len());
+}
+
 fn main() {
     let words: Vec<String> = std::env::args().collect();
     let octets = |text: &str| -> Vec<u8> {
@@ -265,8 +490,14 @@ fn main() {
         mechanism: 1, log_min_pdelay: 0,
     };
     let managers = (1..=number(5, 1) as u16).rev().map(|port| ((asks, port), None)).collect();
-    let mut clock = Clock { me, domain: 0, priority: [128; 2], ports: vec![port; number(4, 2)], managers };
+    let ports = vec![port; number(4, 2)];
+    let mut clock = Clock { me, domain: 0, priority: [128; 2], description: vec![0, 0], ports, managers };
     let mut out: Vec<(u16, Vec<u8>)> = (0..15).map(|_| (0, Vec::with_capacity(1472))).collect();
+    match words[2].as_str() {
+        "send" | "receive" | "ignore" => return manage(&words[2], octets(&words[1]), number(3, 0) as u32),
+        "deliver" => return deliver(clock, out, octets(&words[1]), number(3, 0) as u32),
+        _ => {}
+    }
     let mut last = clock.handle(1, &octets(words.get(6).map_or(first, |word| word)), &mut out);
     let (mut datagram, step) = (octets(&words[1]), words[2].parse().unwrap_or(0));
     datagram.resize(datagram.len().max(u16_at(&datagram, 2) as usize), 0);

@@ -5,9 +5,11 @@ use ptpm_codec::{ClockIdentity, PortIdentity};
 use ptpm_data::{ClockStart, DataSets, PortStart, Rights};
 use ptpm_table::{BoundTable, ReplyTable};
 
-const CLOCK: ClockIdentity = ClockIdentity([0xaa, 0xbb, 0xcc, 0xff, 0xfe, 0xdd, 0xee, 0x01]);
+/// The clock.
+pub const CLOCK: ClockIdentity = ClockIdentity([0xaa, 0xbb, 0xcc, 0xff, 0xfe, 0xdd, 0xee, 0x01]);
 
-const MANAGER: PortIdentity = PortIdentity {
+/// Its manager.
+pub const MANAGER: PortIdentity = PortIdentity {
     clock: ClockIdentity([0x00, 0x11, 0x22, 0x33, 0x44, 0x55, 0x66, 0x77]),
     port: 1,
 };

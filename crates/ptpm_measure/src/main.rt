@@ -1,13 +1,16 @@
-//! The program `ptpm_measure`: one datagram, handled by one clock as often as told, so that a counter of instructions
-//! (callgrind) tells by the difference of two runs what one datagram costs.
+//! The program `ptpm_measure`: one datagram, handled by one clock as often as told, or another call that is repeated, so that
+//! a counter of instructions (callgrind) tells by the difference of two runs what one of them costs.
 #![tactic(auto)]
 
 mod clock;
 mod list;
 mod running;
+mod session;
 
 use list::List;
-use running::{Outcome, handle_each, view_each};
+use running::{Outcome, handle_each, start_each, view_each};
+use session::{ignore_each, receive_each, send_each};
+use std::alloc::Global;
 use std::io;
 use std::process::ExitCode;
 
@@ -39,7 +42,32 @@ fn measure(rt: &HostRuntime) -> io::Result<bool> {
             show(rt, list, count)?;
         }
     }
+    for call in ["start", "send", "receive", "ignore"] {
+        if name.as_str() == "all" || name.as_str() == call {
+            known = true;
+            show_call(rt, call, count)?;
+        }
+    }
     Ok(known)
+}
+
+/// Prints the call's name, and how many ports, octets, answers or refusals it tells of in the end.
+fn show_call(rt: &HostRuntime, call: &str, count: u32) -> io::Result<()> {
+    match call_each(rt.alloc(), call, count) {
+        None => println!(rt; "{call} not run"),
+        Some(told) => println!(rt; "{call} {told}"),
+    }
+}
+
+/// Starts a clock, or makes a call of a session, as often as told.
+fn call_each(alloc: Global, call: &str, count: u32) -> Option<u64> {
+    match call {
+        "start" => start_each(count),
+        "send" => Some(send_each(alloc, count)? as u64),
+        "receive" => receive_each(alloc, count),
+        "ignore" => Some(ignore_each(alloc, count)? as u64),
+        _ => None,
+    }
 }
 
 /// Prints the list's name, the verdict on its last datagram, and how many messages of how many octets were sent for it;

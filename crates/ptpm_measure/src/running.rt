@@ -1,6 +1,6 @@
 //! A datagram handled as often as told.
 
-use crate::clock::fresh_clock;
+use crate::clock::{Size, fresh_clock};
 use crate::list::List;
 use ptpm_agent::{Agent, Verdict};
 use ptpm_codec::view;
@@ -54,6 +54,25 @@ fn number_of(datagram: &[u8]) -> u16 {
         Ok(message) => message.number(),
         Err(_) => 0,
     }
+}
+
+/// Makes a clock of two ports and an outbox as often as told: how many ports all have together.
+pub fn start_each(count: u32) -> Option<u64> {
+    let mut ports = 0_u64;
+    for _ in 0..count {
+        let clock = fresh_clock(Size::TwoPorts)?;
+        let out = fresh_outbox();
+        ports = ports
+            .wrapping_add(clock.sets().port_count() as u64)
+            .wrapping_add(out.entries().len() as u64);
+    }
+    Some(ports)
+}
+
+/// An outbox. It is not inlined, so that it is made although nothing is sent.
+#[inline(never)]
+fn fresh_outbox() -> Outbox {
+    Outbox::new()
 }
 
 /// What becomes of a datagram that comes in at port 1.
