@@ -1,7 +1,9 @@
 //! Worked messages, limits and damaged datagrams.
 
 use crate::*;
+use arrayvec::ArrayVec;
 use std::alloc::Global;
+use std::process::Abort;
 use std::test::Fail;
 
 /// GET PRIORITY1, number 7, of manager 0011223344556677/1 to clock aabbccfffeddee01, at every port.
@@ -95,6 +97,55 @@ fn decode_succeeds_with_ample_memory(rt: HostRuntime) -> Result<(), Fail> {
     Ok(())
 }
 
+/// Each size of a dataField and of a text, in a message that is read and copied: a body that runs out of memory at some of
+/// them fails here.
+#[test]
+fn decode_succeeds_at_every_size(rt: HostRuntime) -> Result<(), Fail> {
+    let octets = [0x5a; 1418];
+    for half in 0..=709_usize {
+        let body = DraftBody::Answer {
+            action: Action::Response,
+            id: 0x2005,
+            octets: &octets[..half * 2],
+        };
+        let message = copied(&rt, rt.alloc(), body)?;
+        match &message.body {
+            Body::Answer { octets: copy, .. } => assert_eq!(rt;
+                copy.as_slice(),
+                &octets[..half * 2]
+            ),
+            _ => assert!(rt; false, "{half}"),
+        }
+    }
+    for size in 0..=255_usize {
+        let body = DraftBody::Fault {
+            action: Action::Response,
+            error: 0x0004,
+            id: 0x2005,
+            text: &octets[..size],
+        };
+        let message = copied(&rt, rt.alloc(), body)?;
+        match &message.body {
+            Body::Fault { text, .. } => assert_eq!(rt; text.as_slice(), &octets[..size]),
+            _ => assert!(rt; false, "{size}"),
+        }
+    }
+    Ok(())
+}
+
+/// A message with this body, written and read again.
+fn copied(rt: &impl Abort, alloc: Global, body: DraftBody<'_>) -> Result<Message, DecodeError> {
+    let reply = decode(alloc, REPLY)?;
+    let draft = Draft {
+        body,
+        ..reply.draft()
+    };
+    assert!(rt; draft.valid());
+    let mut buffer = Buffer::new();
+    encode(&draft, &mut buffer);
+    decode(alloc, buffer.as_slice())
+}
+
 /// With memory refused once, at any request for it, a call that is made again answers as it would have:
 /// `rt try --test --fail-alloc N` refuses the Nth.
 #[test]
@@ -116,6 +167,49 @@ fn refused_memory_leaves_nothing_behind(rt: HostRuntime) -> Result<(), Fail> {
         assert_eq!(rt; buffer.as_slice(), octets);
     }
     Ok(())
+}
+
+/// Whatever a buffer held, `overwrite` and `replace` leave their octets alone there, and `append` puts its own behind.
+#[test]
+#[tactic(auto, unfolding(crate::specs::Canonical::tlv_octets))]
+fn buffers_are_written_over(rt: HostRuntime) {
+    let mut buffer = ArrayVec::<u8, 64>::new();
+    overwrite(&mut buffer, REFUSAL);
+    assert_eq!(rt; buffer.as_slice(), REFUSAL.as_slice());
+    overwrite(&mut buffer, REQUEST);
+    assert_eq!(rt; buffer.as_slice(), REQUEST.as_slice());
+    overwrite(&mut buffer, REPLY);
+    assert_eq!(rt; buffer.as_slice(), REPLY.as_slice());
+
+    let draft = Draft {
+        sdo: 0,
+        domain: 0,
+        source: PortIdentity {
+            clock: ClockIdentity([0x00, 0x11, 0x22, 0x33, 0x44, 0x55, 0x66, 0x77]),
+            port: 1,
+        },
+        number: 7,
+        target: PortIdentity {
+            clock: ClockIdentity([0xaa, 0xbb, 0xcc, 0xff, 0xfe, 0xdd, 0xee, 0x01]),
+            port: PortIdentity::EVERY_PORT,
+        },
+        starting_hops: 1,
+        hops: 1,
+        body: DraftBody::Request {
+            action: Action::Get,
+            id: 0x2005,
+            octets: &[],
+        },
+    };
+    replace(&draft, &mut buffer);
+    assert_eq!(rt; buffer.as_slice(), REQUEST.as_slice());
+    let mut both = ArrayVec::<u8, 110>::new();
+    overwrite(&mut both, REPLY);
+    append(&draft, &mut both);
+    assert_eq!(rt;
+        both.as_slice().split_at(56),
+        (REPLY.as_slice(), REQUEST.as_slice())
+    );
 }
 
 #[test]
@@ -326,6 +420,7 @@ fn prefixes_are_refused(rt: HostRuntime) {
 #[test]
 fn decode_and_view_agree_on_every_octet_replaced(rt: HostRuntime) {
     let messages: [&[u8]; 3] = [REQUEST, REPLY, REFUSAL];
+    let mut tried = 0_u32;
     for octets in messages {
         for place in 0..octets.len() {
             for octet in 0..=255 {
@@ -334,7 +429,9 @@ fn decode_and_view_agree_on_every_octet_replaced(rt: HostRuntime) {
                     agree(rt.alloc(), datagram.as_slice()),
                     "octet {place} is {octet}"
                 );
+                tried = tried.wrapping_add(1);
             }
         }
     }
+    assert_eq!(rt; tried, 256 * (54 + 56 + 64));
 }
