@@ -285,19 +285,28 @@ turns-append c s (y ∷ ys) x = turns-append c (turn c s y.ingress y.datagram).n
 pub sets_once : (c : Clock) (first : PortIdentity → ℕ) (d : DataSetsValue) (xs : List Delivery) → KeepsWindow c first (beginning d) xs → (turns c (fresh d) xs).sets ≡ (applied_once c (beginning d) xs).sets
 sets_once c first d xs window = (stands_turns first c (fresh d) (beginning d) xs (stands_fresh first d) window).sets
 
-turns_as_next : (c : Clock) (first : PortIdentity → ℕ) (d : DataSetsValue) (xs : List Delivery) (x : Delivery) (k : RequestCopy) → KeepsWindow c first (beginning d) (xs ++ x ∷ []) → copy_of c (applied_once c (beginning d) xs).sets x ≡ Some k → TurnsAs first c (turns c (fresh d) xs) (applied_once c (beginning d) xs) x k
-turns_as_next c first d xs x k window e =
-    let parts = window_parts c first (beginning d) xs x window in
-    turns_as first c (turns c (fresh d) xs) (applied_once c (beginning d) xs) x k
-    (stands_turns first c (fresh d) (beginning d) xs (stands_fresh first d) parts.0) e (parts.1 k e)
+turns_as_next : (c : Clock) (first : PortIdentity → ℕ) (s : State) (h : History) (xs : List Delivery)
+    (x : Delivery) (k : RequestCopy) → StandsAt first s h → KeepsWindow c first h (xs ++ x ∷ [])
+    → copy_of c (applied_once c h xs).sets x ≡ Some k
+    → TurnsAs first c (turns c s xs) (applied_once c h xs) x k
+turns_as_next c first s h xs x k at window e =
+    let parts = window_parts c first h xs x window in
+    turns_as first c (turns c s xs) (applied_once c h xs) x k (stands_turns first c s h xs at parts.0) e (parts.1 k e)
+
+pub outbox_due-at : (c : Clock) (first : PortIdentity → ℕ) (s : State) (h : History) (xs : List Delivery)
+    (x : Delivery) (k : RequestCopy) → StandsAt first s h → KeepsWindow c first h (xs ++ x ∷ [])
+    → copy_of c (applied_once c h xs).sets x ≡ Some k
+    → outbox_of (turn c (turns c s xs) x.ingress x.datagram) ≡ due_messages c k (due_reply c (applied_once c h xs) k)
+outbox_due-at c first s h xs x k at window e =
+    let as' = turns_as_next c first s h xs x k at window e in
+    ap (λ (f : List (ℕ × List ℕ)). f ++ (turn c (turns c s xs) x.ingress x.datagram).replies) as'.forwards ∙ as'.replies
 
 pub outbox_due : (c : Clock) (first : PortIdentity → ℕ) (d : DataSetsValue) (xs : List Delivery) (x : Delivery) (k : RequestCopy) → KeepsWindow c first (beginning d) (xs ++ x ∷ []) → copy_of c (applied_once c (beginning d) xs).sets x ≡ Some k → outbox_of (turn c (turns c (fresh d) xs) x.ingress x.datagram) ≡ due_messages c k (due_reply c (applied_once c (beginning d) xs) k)
 outbox_due c first d xs x k window e =
-    let as' = turns_as_next c first d xs x k window e in
-    ap (λ (f : List (ℕ × List ℕ)). f ++ (turn c (turns c (fresh d) xs) x.ingress x.datagram).replies) as'.forwards ∙ as'.replies
+    outbox_due-at c first (fresh d) (beginning d) xs x k (stands_fresh first d) window e
 
 pub turns-repeat : (c : Clock) (first : PortIdentity → ℕ) (d : DataSetsValue) (xs : List Delivery) (x : Delivery) (k : RequestCopy) → KeepsWindow c first (beginning d) (xs ++ x ∷ []) → copy_of c (applied_once c (beginning d) xs).sets x ≡ Some k → joins (applied_once c (beginning d) xs) k ≡ false → turns c (fresh d) (xs ++ x ∷ []) ≡ turns c (fresh d) xs
-turns-repeat c first d xs x k window e j = turns-append c (fresh d) xs x ∙ (turns_as_next c first d xs x k window e).stays j
+turns-repeat c first d xs x k window e j = turns-append c (fresh d) xs x ∙ (turns_as_next c first (fresh d) (beginning d) xs x k (stands_fresh first d) window e).stays j
 
 -- a copy is never passed on, in the window or not
 pub forwards-copy : (c : Clock) (s : State) (x : Delivery) (k : RequestCopy) → copy_of c s.sets x ≡ Some k → (turn c s x.ingress x.datagram).forwards ≡ []

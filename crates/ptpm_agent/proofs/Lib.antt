@@ -5,3 +5,5 @@ pub mod Turns
 pub mod AtMostOnce
 pub mod Fitting
 pub mod Refused
+pub mod Lists
+pub mod TurnKeeps

@@ -1,11 +1,11 @@
 -- What joins the turns of a clock to at-most-once execution.
-use Rattle.std.specs.Prelude.{◌≡◌, ℕ, ◌<◌, List, [], ◌∷◌, false, Option, Some, None}
+use Rattle.std.specs.Prelude.{◌≡◌, ℕ, ◌<◌, List, [], ◌∷◌, map, false, Option, Some, None}
 use Rattle.std.specs.FinMap.{get, empty}
 use Rattle.ptpm_codec.specs.declared.identity.PortIdentity.{PortIdentity}
 use Rattle.ptpm_data.specs.Members.{DataSetsValue}
 use Rattle.ptpm_data.specs.Reply.{ReplyValue}
 use Rattle.ptpm_table.specs.Entries.{Entries, Entry, is_known}
-use Rattle.ptpm_agent.specs.Turn.{Clock, State, turn, reply_messages}
+use Rattle.ptpm_agent.specs.Turn.{Clock, State, outbox_of, turn, reply_messages}
 use Rattle.ptpm_agent.specs.Once.{Delivery, RequestCopy, History, greatest, kept_reply}
 use Rattle.ptpm_codec.specs.SequenceNumber.{number_of}
 
@@ -17,6 +17,21 @@ fresh d = record { sets = d; entries = empty }
 abbrev pub turns : Clock → State → List Delivery → State
 turns c s [] = s
 turns c s (x ∷ xs) = turns c (turn c s x.ingress x.datagram).next xs
+
+-- a clock after these datagrams, each with the port that it comes in at
+abbrev pub after_each : Clock → State → List (ℕ × List ℕ) → State
+after_each c s [] = s
+after_each c s (x ∷ xs) = after_each c (turn c s x.0 x.1).next xs
+
+-- what an outbox holds then: what is sent for the last of them, or what it held before where there is none
+abbrev pub last_sent : Clock → State → List (ℕ × List ℕ) → List (ℕ × List ℕ) → List (ℕ × List ℕ)
+last_sent c s before [] = before
+last_sent c s before (x ∷ xs) =
+    last_sent c (turn c s x.0 x.1).next (outbox_of (turn c s x.0 x.1)) xs
+
+-- the datagrams of these deliveries, each with its port
+abbrev pub datagrams_of : List Delivery → List (ℕ × List ℕ)
+datagrams_of xs = map (λ x. (x.ingress, x.datagram)) xs
 
 -- the messages of the reply that is due to a copy
 abbrev pub due_messages : Clock → RequestCopy → Option ReplyValue → List (ℕ × List ℕ)

@@ -1,6 +1,7 @@
 //! One clock's management agent, over any reply table.
 
-ghost use Rattle.std.specs.Prelude.{◌≡◌, ◌≢◌, ◌≤◌, ◌++◌, IsTrue, Ok, Some, IfOk, OnOk, OnErr, length};
+ghost use Rattle.std.specs.Prelude.{◌≡◌, ◌≢◌, ◌≤◌, ◌++◌, ◌∷◌, [], ℕ, List, All, IsTrue, Ok, Some, IfOk, OnOk, OnErr, length};
+ghost use Rattle.ptpm_codec.specs.declared.identity.PortIdentity.{PortIdentity};
 ghost use Rattle.ptpm_codec.specs.Layout.{message_octets};
 ghost use Rattle.ptpm_codec.specs.Message.{IsValid};
 ghost use Rattle.ptpm_codec.specs.Reading.{reading};
@@ -10,11 +11,14 @@ ghost use Rattle.ptpm_table.specs.Entries.{HasEntry};
 ghost use Rattle.ptpm_table.specs.Rendering.{IsSendable, rendered};
 ghost use Rattle.ptpm_agent.specs.Agent.{IsTurned, clock_of, state_of};
 ghost use Rattle.ptpm_agent.specs.Forwarding.{forwarded};
+ghost use Rattle.ptpm_agent.specs.Laws.{StandsAt, after_each, datagrams_of, due_messages, last_sent};
+ghost use Rattle.ptpm_agent.specs.Once.{Delivery, History, RequestCopy, applied_once, copy_of, due_reply};
+ghost use Rattle.ptpm_agent.specs.Window.{KeepsWindow};
 ghost use Rattle.ptpm_agent.specs.Turn.{carried_out, heard_of, is_accepted_repeat, is_addressed, judged, look, new_reply, reply_by, reply_messages, request_of, turn, verdict_of};
 
 use crate::forwarding::forward;
 use crate::verdict::Verdict;
-use ptpm_codec::{ClockIdentity, OutOfMemory, PortIdentity, View, view};
+use ptpm_codec::{ClockIdentity, Octets, OutOfMemory, PortIdentity, View, view};
 use ptpm_data::{DataSets, Reply, Request, data_sets_law};
 use ptpm_table::{Heard, Look, Outbox, ReplyTable, SureTable, render};
 
@@ -308,6 +312,43 @@ impl<T: SureTable + Drop> Agent<T> {
             _ => self.answer(verdict, ingress, datagram, &message, out),
         }
         verdict
+    }
+
+    /// Handles the datagrams of a list in their order, each as it comes in at its port. The outbox then holds what is sent for
+    /// the last of them, and nothing else. So a running agent keeps over every list what it keeps in one call: where it stands
+    /// at a history, as it does at first, and the copies among the datagrams keep to the window, it stands at the history in
+    /// which each accepted request is applied once more, in order of first acceptance; and the last datagram, where it is a
+    /// copy, is sent the reply that is due to it.
+    pub fn handle_each(&mut self, datagrams: &[(u16, Octets)], out: &mut Outbox)
+        requires ports { All (λ x. HasPort x.0 self.old.sets) datagrams.now }
+        ensures turned { state_of T.entries self.new.sets self.new.table ≡ after_each
+            (clock_of T.identity T.managers T.rights_of self.old.table)
+            (state_of T.entries self.old.sets self.old.table) datagrams.now }
+        ensures sent { out.new ≡ last_sent
+            (clock_of T.identity T.managers T.rights_of self.old.table)
+            (state_of T.entries self.old.sets self.old.table) out.old datagrams.now }
+        ensures once { (first : PortIdentity → ℕ) (h : History) (xs : List Delivery)
+            → datagrams.now ≡ datagrams_of xs
+            → let c = clock_of T.identity T.managers T.rights_of self.old.table in
+            StandsAt first (state_of T.entries self.old.sets self.old.table) h
+            → KeepsWindow c first h xs
+            → StandsAt first (state_of T.entries self.new.sets self.new.table)
+            (applied_once c h xs) }
+        ensures due { (first : PortIdentity → ℕ) (h : History) (xs : List Delivery) (x : Delivery)
+            (k : RequestCopy)
+            → datagrams.now ≡ datagrams_of (xs ++ x ∷ [])
+            → let c = clock_of T.identity T.managers T.rights_of self.old.table in
+            StandsAt first (state_of T.entries self.old.sets self.old.table) h
+            → KeepsWindow c first h (xs ++ x ∷ [])
+            → copy_of c (applied_once c h xs).sets x ≡ Some k
+            → out.new ≡ due_messages c k (due_reply c (applied_once c h xs) k) }
+        ensures clock { clock_of T.identity T.managers T.rights_of self.new.table
+            ≡ clock_of T.identity T.managers T.rights_of self.old.table }
+    {
+        for place in 0..datagrams.len() {
+            let arrival = &datagrams[place];
+            self.handle(arrival.0, arrival.1.as_slice(), out);
+        }
     }
 
     /// Carries out a new request, keeps it with its reply, and leaves the messages of the reply in the outbox, and nothing else.

@@ -1,0 +1,95 @@
+use Rattle.std.proofs.Common.{◌≡◌, ℕ, List, [], ◌∷◌, ◌++◌, ◌<◌, ◌≤◌, ◌+◌, arith, length, take, refl, sym, ◌∙◌, ap, subst}
+use Rattle.std.proofs.lemmas.List.{take_all, take_more}
+use Rattle.ptpm_data.specs.Members.{DataSetsValue, HasPort}
+use Rattle.ptpm_agent.specs.Agent.{clock_of}
+use Rattle.ptpm_agent.specs.Laws.{StandsAt, after_each, datagrams_of, last_sent}
+use Rattle.ptpm_agent.specs.Once.{applied_once}
+use Rattle.ptpm_agent.specs.Turn.{State, Turned, outbox_of, turn}
+use Rattle.ptpm_agent.proofs.AtMostOnce.{outbox_due-at, stands_turns}
+use Rattle.ptpm_agent.proofs.Lists.{after_each-append, after_each-datagrams, datagrams_of-append, last_sent-append, state_after}
+use Rattle.ptpm_agent.proofs.TurnKeeps.{turn-ports}
+use Rattle.ptpm_agent.proofs.agent.Agent.handle_each.Goals as goal
+
+pub loop-place-init : goal.loop-place-init
+loop-place-init g c = record { clock = refl; ports = refl; turned = refl; sent = refl }
+
+pub handle-requires : goal.handle-requires
+handle-requires g c =
+    let item = c.index-datagrams-place.result in
+    let within : c.loop-place.place < length c.args.datagrams.now = omega arith in
+    let port : HasPort item.0 c.args.self.now.sets =
+    subst (λ (x : ℕ × List ℕ). HasPort x.0 c.args.self.now.sets) (sym c.index-datagrams-place.is)
+    (c.requires.ports c.loop-place.place item within) in
+    record { port = (port.0, subst (λ n. item.0 ≤ n) (sym c.loop-place.invariant.ports) port.1) }
+
+pub loop-place-preserved : goal.loop-place-preserved
+loop-place-preserved g c =
+    let item = c.index-datagrams-place.result in
+    let clock = clock_of g.T.ReplyTable.identity g.T.ReplyTable.managers g.T.ReplyTable.rights_of c.args.self.now.table in
+    let here = clock_of g.T.ReplyTable.identity g.T.ReplyTable.managers g.T.ReplyTable.rights_of c.loop-place.self.table in
+    let old : State = record { sets = c.args.self.now.sets; entries = g.T.ReplyTable.entries c.args.self.now.table } in
+    let now : State = record { sets = c.loop-place.self.sets; entries = g.T.ReplyTable.entries c.loop-place.self.table } in
+    let within : c.loop-place.place < length c.args.datagrams.now = omega arith in
+    let front = take c.loop-place.place c.args.datagrams.now in
+    let more : take (c.loop-place.place + 1) c.args.datagrams.now ≡ front ++ item ∷ [] =
+    take_more c.args.datagrams.now c.loop-place.place item within
+    ∙ ap (λ (x : ℕ × List ℕ). front ++ x ∷ []) (sym c.index-datagrams-place.is) in
+    let octets : turn here now item.0 c.as_slice.result.now ≡ turn here now item.0 item.1 =
+    ap (λ (b : List ℕ). turn here now item.0 b) c.as_slice.ensures in
+    let same : turn here now item.0 item.1 ≡ turn clock (after_each clock old front) item.0 item.1 =
+    (λ i. turn (c.loop-place.invariant.clock i) (c.loop-place.invariant.turned i) item.0 item.1) in
+    record {
+      clock = c.handle.ensures.clock ∙ c.loop-place.invariant.clock;
+      ports =
+          ap (λ (d : DataSetsValue). length d.ports) c.handle.ensures.turned.sets_are
+          ∙ turn-ports here now item.0 c.as_slice.result.now
+          ∙ c.loop-place.invariant.ports;
+      turned =
+          state_after _ _ _ _ c.handle.ensures.turned
+          ∙ ap (λ (t : Turned). t.next) (octets ∙ same)
+          ∙ sym (ap (λ xs. after_each clock old xs) more ∙ after_each-append clock old front item);
+      sent =
+          c.handle.ensures.turned.outbox_is
+          ∙ ap (λ (t : Turned). outbox_of t) (octets ∙ same)
+          ∙ sym (ap (λ xs. last_sent clock old c.args.out.now xs) more ∙ last_sent-append clock old c.args.out.now front item);
+    }
+
+pub returns-clause-turned : goal.returns-clause-turned
+returns-clause-turned g c =
+    let clock = clock_of g.T.ReplyTable.identity g.T.ReplyTable.managers g.T.ReplyTable.rights_of c.args.self.now.table in
+    let old : State = record { sets = c.args.self.now.sets; entries = g.T.ReplyTable.entries c.args.self.now.table } in
+    let past : length c.args.datagrams.now ≤ c.loop-place.place = omega arith in
+    c.loop-place.invariant.turned ∙ ap (λ xs. after_each clock old xs) (take_all c.loop-place.place c.args.datagrams.now past)
+
+pub returns-clause-sent : goal.returns-clause-sent
+returns-clause-sent g c =
+    let clock = clock_of g.T.ReplyTable.identity g.T.ReplyTable.managers g.T.ReplyTable.rights_of c.args.self.now.table in
+    let old : State = record { sets = c.args.self.now.sets; entries = g.T.ReplyTable.entries c.args.self.now.table } in
+    let past : length c.args.datagrams.now ≤ c.loop-place.place = omega arith in
+    c.loop-place.invariant.sent
+    ∙ ap (λ xs. last_sent clock old c.args.out.now xs) (take_all c.loop-place.place c.args.datagrams.now past)
+
+pub returns-clause-once : goal.returns-clause-once
+returns-clause-once g c = λ first h xs is at window.
+    let clock = clock_of g.T.ReplyTable.identity g.T.ReplyTable.managers g.T.ReplyTable.rights_of c.args.self.now.table in
+    let old : State = record { sets = c.args.self.now.sets; entries = g.T.ReplyTable.entries c.args.self.now.table } in
+    let past : length c.args.datagrams.now ≤ c.loop-place.place = omega arith in
+    let whole = take_all c.loop-place.place c.args.datagrams.now past in
+    subst (λ (s : State). StandsAt first s (applied_once clock h xs))
+    (sym (c.loop-place.invariant.turned ∙ ap (λ ds. after_each clock old ds) (whole ∙ is) ∙ after_each-datagrams clock old xs))
+    (stands_turns first clock old h xs at window)
+
+pub returns-clause-due : goal.returns-clause-due
+returns-clause-due g c = λ first h xs x k is at window copy.
+    let clock = clock_of g.T.ReplyTable.identity g.T.ReplyTable.managers g.T.ReplyTable.rights_of c.args.self.now.table in
+    let old : State = record { sets = c.args.self.now.sets; entries = g.T.ReplyTable.entries c.args.self.now.table } in
+    let past : length c.args.datagrams.now ≤ c.loop-place.place = omega arith in
+    let whole = take_all c.loop-place.place c.args.datagrams.now past in
+    c.loop-place.invariant.sent
+    ∙ ap (λ ds. last_sent clock old c.args.out.now ds) (whole ∙ is ∙ datagrams_of-append xs x)
+    ∙ last_sent-append clock old c.args.out.now (datagrams_of xs) (x.ingress, x.datagram)
+    ∙ ap (λ (s : State). outbox_of (turn clock s x.ingress x.datagram)) (after_each-datagrams clock old xs)
+    ∙ outbox_due-at clock first old h xs x k at window copy
+
+pub returns-clause-clock : goal.returns-clause-clock
+returns-clause-clock g c = c.loop-place.invariant.clock
