@@ -1,2 +1,3 @@
 pub mod FreshClock
 pub mod IdentityTextLemmas
+pub mod TurnLemmas

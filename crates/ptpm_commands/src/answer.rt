@@ -1,18 +1,72 @@
-//! `ptpm answer`: what a fresh clock sends for a datagram that comes in at its port 1.
+//! `ptpm answer`: what a fresh clock sends for datagrams that come in at its port 1.
+
+ghost use Rattle.std.specs.Prelude.{◌≡◌};
+ghost use Rattle.ptpm_agent.specs.Turn.{turn};
+ghost use Rattle.ptpm_commands.specs.Answer.{clock_shown, state_shown};
+ghost use Rattle.ptpm_data.specs.Members.{HasPort};
 
 use crate::clock::fresh_clock;
 use crate::faults::Fault;
+use crate::lines::Lines;
+use ptpm_agent::Agent;
+use ptpm_data::change_law;
 use ptpm_script::Hexadecimal;
-use ptpm_table::Outbox;
+use ptpm_table::{BoundTable, Outbox};
 use std::alloc::Global;
-use std::io::Write;
+use std::io;
+use std::io::{Read, Write};
 
 /// Prints a line for each message that the clock sends for the datagram that the text spells in hexadecimal, its port and
 /// its octets; or `nothing`.
+#[inline(never)]
 pub fn answer<O: Write>(alloc: Global, text: &str, out: &mut O) -> Result<(), Fault> {
     let datagram = hex::decode(alloc, text)?;
+    let mut clock = fresh_clock();
+    answer_datagram(&mut clock, datagram.as_slice(), out)
+}
+
+/// The same for each line of a reader in turn, all of them at one clock. A line that is `nothing` is passed over.
+#[inline(never)]
+pub fn answer_lines<R: Read + Drop, O: Write>(
+    alloc: Global,
+    reader: R,
+    out: &mut O,
+) -> Result<(), Fault> {
+    let mut lines = Lines::new(alloc, reader)?;
+    let mut clock = fresh_clock();
+    for number in 1..u64::MAX {
+        if !lines.read(number)? {
+            break;
+        }
+        let Some(datagram) = lines.datagram(alloc, number)? else {
+            continue;
+        };
+        answer_datagram(&mut clock, datagram.as_slice(), out)?;
+    }
+    Ok(())
+}
+
+/// Lets the clock take its turn at a datagram at its port 1, and prints what it sends.
+#[inline(never)]
+fn answer_datagram<O: Write>(
+    clock: &mut Agent<BoundTable>,
+    datagram: &[u8],
+    out: &mut O,
+) -> Result<(), Fault>
+    requires port { HasPort 1 clock.old.sets }
+    ensures clock { clock_shown clock.new ≡ clock_shown clock.old }
+    ensures state { state_shown clock.new ≡ (turn (clock_shown clock.old) (state_shown clock.old) 1 datagram.now).next }
+    ensures port { HasPort 1 clock.new.sets }
+{
+    change_law();
     let mut outbox = Outbox::new();
-    fresh_clock().handle(1, datagram.as_slice(), &mut outbox);
+    clock.handle(1, datagram, &mut outbox);
+    write_messages(&outbox, out)?;
+    Ok(())
+}
+
+/// A line for each message of an outbox; `nothing` where it has none.
+fn write_messages<O: Write>(outbox: &Outbox, out: &mut O) -> io::Result<()> {
     if outbox.entries().is_empty() {
         writeln!(out, "nothing")?;
     }

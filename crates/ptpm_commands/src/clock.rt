@@ -17,8 +17,10 @@ const MANAGER: PortIdentity = PortIdentity {
     port: 1,
 };
 
-/// The clock, which has heard nothing yet.
-pub fn fresh_clock() -> Agent<BoundTable>
+/// The clock, which has heard nothing yet. It has some 36,000 octets, and so has its table, which is made in a frame of its
+/// own.
+#[inline(never)]
+pub(crate) fn fresh_clock() -> Agent<BoundTable>
     ensures sets { result.sets ≡ fresh_sets }
     ensures table { IsFresh shown managers
         (⟦<BoundTable as ReplyTable>⟧.identity result.table) (⟦<BoundTable as ReplyTable>⟧.managers result.table)
@@ -30,9 +32,18 @@ pub fn fresh_clock() -> Agent<BoundTable>
         Ok(sets) => sets,
         Err(_) => unreachable!(),
     };
-    let table = match BoundTable::new(CLOCK, &[(MANAGER, Rights(7))]) {
+    Agent::new(sets, fresh_table())
+}
+
+/// The table of the clock's one manager, without an entry.
+#[inline(never)]
+fn fresh_table() -> BoundTable
+    ensures { IsFresh shown managers
+        (⟦<BoundTable as ReplyTable>⟧.identity result) (⟦<BoundTable as ReplyTable>⟧.managers result)
+        (⟦<BoundTable as ReplyTable>⟧.rights_of result) (⟦<BoundTable as ReplyTable>⟧.entries result) }
+{
+    match BoundTable::new(CLOCK, &[(MANAGER, Rights(7))]) {
         Ok(table) => table,
         Err(_) => unreachable!(),
-    };
-    Agent::new(sets, table)
+    }
 }

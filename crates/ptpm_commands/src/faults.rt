@@ -1,5 +1,8 @@
 //! What ends a command with status 1.
 
+ghost use Rattle.std.specs.Prelude.{◌≡◌};
+ghost use Rattle.ptpm_commands.specs.Faults.{at_line};
+
 use hex::FromHexError;
 use ptpm_codec::DecodeError;
 use std::io;
@@ -26,12 +29,45 @@ pub enum Fault {
     /// A datagram holds no management message.
     #[error("{0}")]
     Refused(DecodeError),
+    /// Standard input could not be read.
+    #[error("ReadFault")]
+    ReadFault,
+    /// A line has over 4,096 octets. Lines are counted from 1.
+    #[error("LineTooLong {0}")]
+    LineTooLong(u64),
+    /// A line is no datagram in hexadecimal, or one that the command refuses.
+    #[error("BadLine {0} {1}")]
+    BadLine(u64, LineFault),
     /// Memory was asked for and refused.
     #[error("OutOfMemory")]
     OutOfMemory,
     /// Standard output failed.
     #[error("WriteFault")]
     WriteFault,
+}
+
+/// What is wrong with a line.
+#[derive(Clone, Copy, Debug, PartialEq, Eq, Error)]
+pub enum LineFault {
+    /// An odd number of characters, or one that is no hexadecimal digit.
+    #[error("BadHex")]
+    BadHex,
+    /// A datagram that holds no management message.
+    #[error("{0}")]
+    Refused(DecodeError),
+}
+
+impl Fault {
+    /// The fault at a line of this number: where the line is to blame, its number is told.
+    pub(crate) fn at_line(self, number: u64) -> Fault
+        ensures { result ≡ at_line number self }
+    {
+        match self {
+            Fault::BadHex => Fault::BadLine(number, LineFault::BadHex),
+            Fault::Refused(error) => Fault::BadLine(number, LineFault::Refused(error)),
+            fault => fault,
+        }
+    }
 }
 
 impl From<FromHexError> for Fault {
@@ -49,7 +85,7 @@ impl From<DecodeError> for Fault {
     }
 }
 
-/// Standard output is the only stream whose errors are passed on.
+/// Standard output is the only stream whose errors are passed on as they are.
 impl From<io::Error> for Fault {
     fn from(_error: io::Error) -> Fault {
         Fault::WriteFault

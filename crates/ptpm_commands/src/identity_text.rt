@@ -28,7 +28,7 @@ fn clock_identity_of(text: &str) -> Option<ClockIdentity>
 
 /// The number that one to ten decimal digits spell, where it is below 65,536.
 #[tactic(auto, unfolding(crate::specs::IdentityText::port_number_of))]
-fn port_number_of(text: &str) -> Option<u16>
+pub(crate) fn port_number_of(text: &str) -> Option<u16>
     ensures { result ≡ port_number_of text.now }
 {
     if text.len() > 10 || text.starts_with('+') {

@@ -3,10 +3,12 @@
 
 pub mod answer;
 mod clock;
+mod datagram_line;
 mod faults;
 mod identity_text;
 pub mod ids;
+mod lines;
 pub mod make;
 pub mod show;
 
-pub use faults::Fault;
+pub use faults::{Fault, LineFault};

@@ -1,17 +1,40 @@
 //! `ptpm show`: the fields of a message, a line each.
 
 use crate::faults::Fault;
+use crate::lines::Lines;
 use ptpm_codec::{ErrorId, View, view};
 use ptpm_data::row;
 use ptpm_script::Hexadecimal;
 use std::alloc::Global;
 use std::io;
-use std::io::Write;
+use std::io::{Read, Write};
 
 /// Prints the message that the text spells in hexadecimal.
 pub fn show<O: Write>(alloc: Global, text: &str, out: &mut O) -> Result<(), Fault> {
     let datagram = hex::decode(alloc, text)?;
-    let message = view(datagram.as_slice())?;
+    show_datagram(datagram.as_slice(), out)
+}
+
+/// Prints the message of each line of a reader, one after another. A line that is `nothing` is passed over.
+pub fn show_lines<R: Read + Drop, O: Write>(
+    alloc: Global,
+    reader: R,
+    out: &mut O,
+) -> Result<(), Fault> {
+    let mut lines = Lines::new(alloc, reader)?;
+    for number in 1..u64::MAX {
+        if !lines.read(number)? {
+            break;
+        }
+        if let Some(datagram) = lines.datagram(alloc, number)? {
+            show_datagram(datagram.as_slice(), out).map_err(|fault| fault.at_line(number))?;
+        }
+    }
+    Ok(())
+}
+
+fn show_datagram<O: Write>(datagram: &[u8], out: &mut O) -> Result<(), Fault> {
+    let message = view(datagram)?;
     show_header(&message, out)?;
     show_body(&message, out)?;
     Ok(())

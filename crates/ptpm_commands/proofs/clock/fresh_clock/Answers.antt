@@ -1,4 +1,4 @@
-use Rattle.std.proofs.Common.{◌≡◌, sym, ◌∙◌, ap}
+use Rattle.std.proofs.Common.{sym, ◌∙◌, ap}
 use Rattle.ptpm_data.specs.Members.{DataSetsValue}
 use Rattle.ptpm_commands.proofs.FreshClock.{starts, not_err, is_made}
 use Rattle.ptpm_commands.proofs.clock.fresh_clock.Goals as goal
@@ -7,11 +7,11 @@ pub unreachable-requires : goal.unreachable-requires
 unreachable-requires c =
     not_err _ _ (c.new-4.ensures ∙ starts _ _ _ c.new-3.ensures c.new.ensures c.new-2.ensures) c.in-Err.is
 
-pub new-requires-6 : goal.new-requires-6
-new-requires-6 c =
+pub new-requires-5 : goal.new-requires-5
+new-requires-5 c =
     let is = is_made _ _ (c.new-4.ensures ∙ starts _ _ _ c.new-3.ensures c.new.ensures c.new-2.ensures) c.in-Ok.is in
-    ap (λ (d : DataSetsValue). d.default.identity) is ∙ sym c.in-Ok-new.ensures.fresh.identity_is
+    ap (λ (d : DataSetsValue). d.default.identity) is ∙ sym c.fresh_table.ensures.identity_is
 
 pub returns-clause-sets : goal.returns-clause-sets
 returns-clause-sets c =
-    c.new-6.ensures.sets ∙ is_made _ _ (c.new-4.ensures ∙ starts _ _ _ c.new-3.ensures c.new.ensures c.new-2.ensures) c.in-Ok.is
+    c.new-5.ensures.sets ∙ is_made _ _ (c.new-4.ensures ∙ starts _ _ _ c.new-3.ensures c.new.ensures c.new-2.ensures) c.in-Ok.is
