@@ -2,15 +2,16 @@
 //! a counter of instructions (callgrind) tells by the difference of two runs what one of them costs.
 #![tactic(auto)]
 
+mod call;
 mod clock;
 mod list;
+mod network;
 mod running;
 mod session;
 
+use call::Call;
 use list::List;
-use running::{Outcome, handle_each, start_each, view_each};
-use session::{ignore_each, receive_each, send_each};
-use std::alloc::Global;
+use running::{Outcome, handle_each, view_each};
 use std::io;
 use std::process::ExitCode;
 
@@ -42,8 +43,8 @@ fn measure(rt: &HostRuntime) -> io::Result<bool> {
             show(rt, list, count)?;
         }
     }
-    for call in ["start", "send", "receive", "ignore"] {
-        if name.as_str() == "all" || name.as_str() == call {
+    for call in Call::ALL {
+        if name.as_str() == "all" || name.as_str() == call.name() {
             known = true;
             show_call(rt, call, count)?;
         }
@@ -51,22 +52,12 @@ fn measure(rt: &HostRuntime) -> io::Result<bool> {
     Ok(known)
 }
 
-/// Prints the call's name, and how many ports, octets, answers or refusals it tells of in the end.
-fn show_call(rt: &HostRuntime, call: &str, count: u32) -> io::Result<()> {
-    match call_each(rt.alloc(), call, count) {
-        None => println!(rt; "{call} not run"),
-        Some(told) => println!(rt; "{call} {told}"),
-    }
-}
-
-/// Starts a clock, or makes a call of a session, as often as told.
-fn call_each(alloc: Global, call: &str, count: u32) -> Option<u64> {
-    match call {
-        "start" => start_each(count),
-        "send" => Some(send_each(alloc, count)? as u64),
-        "receive" => receive_each(alloc, count),
-        "ignore" => Some(ignore_each(alloc, count)? as u64),
-        _ => None,
+/// Prints the call's name, and what it tells in the end.
+fn show_call(rt: &HostRuntime, call: Call, count: u32) -> io::Result<()> {
+    let name = call.name();
+    match call.repeat(rt.alloc(), count) {
+        None => println!(rt; "{name} not run"),
+        Some(told) => println!(rt; "{name} {told}"),
     }
 }
 
