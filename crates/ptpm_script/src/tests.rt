@@ -2,6 +2,7 @@
 
 mod event_lines;
 mod file_texts;
+mod network_forms;
 mod network_limits;
 mod network_order;
 mod network_shapes;

@@ -212,21 +212,33 @@ fn read_event_succeeds_with_ample_memory(rt: HostRuntime) -> Result<(), Fail> {
     Ok(())
 }
 
-/// Where memory is refused, nothing else is answered: `rt try --test --fail-alloc N` refuses the Nth request.
-#[test]
-fn lines_without_memory(rt: HostRuntime) {
-    for line in [
-        "send m",
-        "begin m set PRIORITY1 - 6400",
-        "stranger K 1 0000",
-        "stranger K 1 -",
-        "resume m 1",
-        "retune m 1",
-        "deliver 1",
-    ] {
-        match read_event(rt.alloc(), line) {
-            Ok(_) => {}
-            Err(fault) => assert!(rt; fault == EventError::OutOfMemory, "{line}"),
-        }
+/// What a line is read as; read again where memory is refused once.
+fn read_again(alloc: Global, line: &str) -> Result<Event, EventError> {
+    match read_event(alloc, line) {
+        Err(EventError::OutOfMemory) => read_event(alloc, line),
+        answer => answer,
     }
+}
+
+/// `tools/refuse_memory` refuses each request for memory in turn.
+#[test]
+fn read_event_after_refused_memory(rt: HostRuntime) -> Result<(), Fail> {
+    let alloc = rt.alloc();
+    let asked = Asked::new(Action::Set, 0x2005, None, &[0x64, 0x00]);
+    let begin = read_again(alloc, "begin m set PRIORITY1 - 6400")?;
+    assert!(rt; is_begin(&begin, "m", &asked));
+    let stranger = read_again(alloc, "stranger K 1 0aff")?;
+    assert!(rt; is_stranger(&stranger, "K", 1, &[0x0a, 0xff]));
+    assert!(rt; is_stranger(&read_again(alloc, "stranger K 2 -")?, "K", 2, &[]));
+    assert!(rt; is_send(&read_again(alloc, "send m")?, "m"));
+    assert!(rt; is_resume(&read_again(alloc, "resume m 3")?, "m", 3));
+    assert!(rt; is_retune(&read_again(alloc, "retune m 5")?, "m", 5));
+    assert!(rt; is_deliver(&read_again(alloc, "deliver 7")?, 7));
+    assert!(rt;
+        matches!(
+            read_again(alloc, "stranger K 1 0g"),
+            Err(EventError::BadHex)
+        )
+    );
+    Ok(())
 }

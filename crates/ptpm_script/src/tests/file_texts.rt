@@ -23,12 +23,10 @@ attempts = 2
 ends = [\"K.1\", \"m\"]
 ";
 
-/// A text with the first piece of this kind replaced.
+/// A text with the first piece of this kind replaced, which has to be there.
 pub(super) fn edited(alloc: Global, text: &str, old: &str, new: &str) -> Result<String, Fail> {
-    match text.split_once(old) {
-        Some((before, after)) => Ok(format!(in alloc; "{before}{new}{after}")?),
-        None => Ok(String::from_str(alloc, "the piece is not there")?),
-    }
+    let (before, after) = text.split_once(old).ok_or("the piece is not there")?;
+    Ok(format!(in alloc; "{before}{new}{after}")?)
 }
 
 /// How a text is refused.
