@@ -1,10 +1,17 @@
 -- Lines of octets that come one by one.
-use Rattle.std.proofs.Common.{◌≡◌, ℕ, ◌<◌, ◌++◌, List, [], ◌∷◌, length, Bool, true, false, None, Some, refl, sym, ap, ◌∙◌, append_assoc, append-nil, rules, arith}
-use Rattle.std.specs.Prelude.{Option, option_map, cond, ◌==◌}
+use Rattle.std.proofs.Common.{◌≡◌, ℕ, ◌<◌, ◌≤◌, ◌++◌, List, [], ◌∷◌, length, Bool, true, false, None, Some, refl, sym, ap, ◌∙◌, subst, take, append_assoc, append-nil, rules, arith}
+use Rattle.std.specs.Prelude.{IfNone, IfSome, OnSome, Option, option_map, cond, slice_get, ◌==◌}
 use Rattle.std.specs.List.{onto_first, slice_split}
-use Rattle.std.specs.Io.KnownBytes.{Consumes, IsAtEnd}
+use Rattle.std.specs.Io.{StartsWith}
+use Rattle.std.specs.Io.BufRead.{DropsConsumable}
+use Rattle.std.specs.Io.KnownBytes.{Consumes, IsAtEnd, Keeps}
+use Rattle.std.proofs.BufReadLemmas.{Consumes_shown}
+use Rattle.std.proofs.lemmas.Option.{same_Some}
 use Rattle.std.specs.Str.Lines.{lines, lines_of_parts, strip_carriage_return}
 use Rattle.ptpm_world.specs.Lines.{BothKnown, ReadsLine, given}
+
+pub some_there : {X : Type 0} (x : X) → ◌≡◌ {A = Option X} (Some x) None → ⊥
+some_there x h = cc
 
 -- no octet is a line feed
 abbrev pub NoFeed : List ℕ → Type 0
@@ -17,7 +24,7 @@ no_feed-more (y ∷ ys) x h e = (h.0, no_feed-more ys x h.1 e)
 
 -- ---- parts between line feeds
 
-abbrev parts : List ℕ → List (List ℕ)
+abbrev pub parts : List ℕ → List (List ℕ)
 parts bs = slice_split (λ b. b == 10) bs
 
 cut_some : (b : Bool) (x : ℕ) (ps : List (List ℕ)) → ((y : List ℕ) × ((ys : List (List ℕ)) × (ps ≡ y ∷ ys)))
@@ -25,32 +32,32 @@ cut_some : (b : Bool) (x : ℕ) (ps : List (List ℕ)) → ((y : List ℕ) × ((
 cut_some true x ps h = ([], (ps, refl))
 cut_some false x ps h = (x ∷ h.0, (h.1.0, ap (onto_first x) h.1.1))
 
-some_part : (bs : List ℕ) → (y : List ℕ) × ((ys : List (List ℕ)) × (parts bs ≡ y ∷ ys))
+pub some_part : (bs : List ℕ) → (y : List ℕ) × ((ys : List (List ℕ)) × (parts bs ≡ y ∷ ys))
 some_part [] = ([], ([], refl))
 some_part (x ∷ xs) = cut_some (x == 10) x (parts xs) (some_part xs)
 
-part_ends : (l bs : List ℕ) → NoFeed l → parts (l ++ 10 ∷ bs) ≡ l ∷ parts bs
+pub part_ends : (l bs : List ℕ) → NoFeed l → parts (l ++ 10 ∷ bs) ≡ l ∷ parts bs
 part_ends [] bs h = refl
 part_ends (x ∷ xs) bs h = rw h.0 (ap (onto_first x) (part_ends xs bs h.1))
 
-one_part : (l : List ℕ) → NoFeed l → parts l ≡ l ∷ []
+pub one_part : (l : List ℕ) → NoFeed l → parts l ≡ l ∷ []
 one_part [] h = refl
 one_part (x ∷ xs) h = rw h.0 (ap (onto_first x) (one_part xs h.1))
 
 -- ---- lines
 
-line_ends : (l bs : List ℕ) → NoFeed l → lines (l ++ 10 ∷ bs) ≡ strip_carriage_return l ∷ lines bs
+pub line_ends : (l bs : List ℕ) → NoFeed l → lines (l ++ 10 ∷ bs) ≡ strip_carriage_return l ∷ lines bs
 line_ends l bs h =
     let some = some_part bs in
     let e : parts bs ≡ some.0 ∷ some.1.0 = some.1.1 in
     ap lines_of_parts (part_ends l bs h ∙ ap (λ ps. l ∷ ps) e)
     ∙ sym (ap (λ ps. strip_carriage_return l ∷ lines_of_parts ps) e)
 
-not_empty : (l : List ℕ) → 0 < length l → lines_of_parts (l ∷ []) ≡ l ∷ []
+pub not_empty : (l : List ℕ) → 0 < length l → lines_of_parts (l ∷ []) ≡ l ∷ []
 not_empty [] h = absurd (omega (arith, h))
 not_empty (x ∷ xs) h = search rules
 
-last_line : (l : List ℕ) → NoFeed l → 0 < length l → lines l ≡ l ∷ []
+pub last_line : (l : List ℕ) → NoFeed l → 0 < length l → lines l ≡ l ∷ []
 last_line l h some = ap lines_of_parts (one_part l h) ∙ not_empty l some
 
 -- ---- a line that is read octet by octet
@@ -78,12 +85,42 @@ read-feed (Some xs) None first octet line stripped h e n s = absurd h
 read-feed (Some xs) (Some ys) first octet line stripped h e n s =
     ap lines (h ∙ ap (λ o. line ++ (o ∷ ys)) e) ∙ line_ends line ys n ∙ ap (λ l. l ∷ lines ys) (sym s)
 
-pub read-end : (a b : Option (List ℕ)) (first : ℕ) (line : List ℕ) → IsRead a b first line None → IsAtEnd b → NoFeed line → 0 < length line
+pub read-end : (a b : Option (List ℕ)) (first : ℕ) (line : List ℕ) → IsRead a b first line None → OnSome a (IsAtEnd b) → NoFeed line → 0 < length line
     → ReadsLine (option_map (λ octets. first ∷ octets) a) true line b
 read-end None b first line h e n some = tt
 read-end (Some xs) None first line h e n some = absurd h
 read-end (Some xs) (Some ys) first line h e n some =
     ap lines (h ∙ ap (λ l. line ++ l) e ∙ append-nil line) ∙ last_line line n some ∙ ap (λ l. line ∷ lines l) (sym e)
+
+-- the reader's end, as the first octet's reader knew it
+pub end-on : (a b c : Option (List ℕ)) (first octet : ℕ) (line : List ℕ) (next : Option ℕ) → IsRead a b first line (Some octet)
+    → IfNone next (OnSome b (IsAtEnd c)) → IfNone next (OnSome a (IsAtEnd c))
+end-on a b c first octet line (Some x) h e = tt
+end-on None b c first octet line None h e = tt
+end-on (Some xs) None c first octet line None h e = absurd h
+end-on (Some xs) (Some ys) c first octet line None h e = e
+
+-- ---- an octet of what a reader shows
+
+shown_some : (shown : List ℕ) (octet : ℕ) → slice_get shown 0 ≡ Some octet → (1 ≤ length shown) × (take 1 shown ≡ octet ∷ [])
+shown_some [] octet h = absurd (some_there octet (sym h))
+shown_some (x ∷ xs) octet h = (omega arith, ap (λ o. o ∷ []) (same_Some x octet h))
+
+shown_none : (shown : List ℕ) → slice_get shown 0 ≡ None → length shown ≡ 0
+shown_none [] h = refl
+shown_none (x ∷ xs) h = absurd (some_there x h)
+
+pub octet-some : (a b c : Option (List ℕ)) (limit : Option ℕ) (shown : List ℕ) (octet : ℕ) → slice_get shown 0 ≡ Some octet
+    → IfSome a (λ xs. StartsWith xs shown) → IfSome a (λ xs. length shown ≡ 0 → xs ≡ []) → Keeps a b
+    → IfSome a (λ _. IfSome limit (λ n. length shown ≤ n)) → DropsConsumable b c limit 1 → Consumes a c (octet ∷ [])
+octet-some a b c limit shown octet h front end kept fits drops =
+    let s = shown_some shown octet h in
+    subst (Consumes a c) s.1 (Consumes_shown a b c limit shown 1 s.0 front end kept fits drops).0
+
+pub octet-none : (a b : Option (List ℕ)) (shown : List ℕ) → slice_get shown 0 ≡ None → IfSome a (λ xs. length shown ≡ 0 → xs ≡ []) → Keeps a b → OnSome a (IsAtEnd b)
+octet-none None b shown h end kept = tt
+octet-none (Some xs) None shown h end kept = absurd kept
+octet-none (Some xs) (Some ys) shown h end kept = kept ∙ end (shown_none shown h)
 
 -- ---- a line with its first octet
 
@@ -94,7 +131,7 @@ read-line (Some xs) None c first line h k = absurd h
 read-line (Some xs) (Some ys) None first line h k = absurd k
 read-line (Some xs) (Some ys) (Some zs) first line h k = ap lines h ∙ k
 
-pub read-none : (a b : Option (List ℕ)) (line : List ℕ) → Consumes a b [] → IsAtEnd b → ReadsLine a false line b
+pub read-none : (a b : Option (List ℕ)) (line : List ℕ) → Consumes a b [] → OnSome a (IsAtEnd b) → ReadsLine a false line b
 read-none None b line h e = tt
 read-none (Some xs) None line h e = absurd h
 read-none (Some xs) (Some ys) line h e = (ap lines (h ∙ e), ap lines e)
@@ -102,6 +139,3 @@ read-none (Some xs) (Some ys) line h e = (ap lines (h ∙ e), ap lines e)
 pub empty_is : (l : List ℕ) → length l ≡ 0 → l ≡ []
 empty_is [] h = refl
 empty_is (x ∷ xs) h = absurd (omega (arith, h))
-
-pub some_there : {X : Type 0} (x : X) → ◌≡◌ {A = Option X} (Some x) None → ⊥
-some_there x h = cc

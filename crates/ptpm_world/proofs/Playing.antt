@@ -31,10 +31,10 @@ LeadsOn N names start now all n left = after_all N names now (events_from n left
 
 -- ---- one line more
 
-skipped : (n : ℕ) (line : List ℕ) (left : List (List ℕ)) → is_skipped line ≡ true → events_from n (line ∷ left) ≡ events_from (n + 1) left
+pub skipped : (n : ℕ) (line : List ℕ) (left : List (List ℕ)) → is_skipped line ≡ true → events_from n (line ∷ left) ≡ events_from (n + 1) left
 skipped n line left e = cond-true _ _ _ e
 
-taken : (n : ℕ) (line : List ℕ) (left : List (List ℕ)) (event : Event) → is_skipped line ≡ false → reading line ≡ Ok event
+pub taken : (n : ℕ) (line : List ℕ) (left : List (List ℕ)) (event : Event) → is_skipped line ≡ false → reading line ≡ Ok event
     → events_from n (line ∷ left) ≡ (n, event) ∷ events_from (n + 1) left
 taken n line left event e r = cond-false _ _ _ e ∙ ap (λ x. numbered n x (events_from (n + 1) left)) r
 

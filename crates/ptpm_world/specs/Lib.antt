@@ -11,3 +11,4 @@ pub mod TookText
 pub mod Trace
 pub mod Script
 pub mod Lines
+pub mod ScriptError

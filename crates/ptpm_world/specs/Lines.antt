@@ -1,5 +1,6 @@
 -- Lines as a reader's octets give them, where these are known.
-use Rattle.std.specs.Prelude.{◌≡◌, ℕ, Bool, true, false, List, [], ◌∷◌, ⊤, Option, Some, None}
+use Rattle.std.specs.Prelude.{◌≡◌, ◌==◌, ℕ, Bool, true, false, List, [], ◌∷◌, ⊤, Option, Some, None, zip}
+use Rattle.std.specs.List.{slice_split}
 use Rattle.std.specs.Str.Lines.{lines}
 use Rattle.std.specs.Io.Buffered.{reader_remaining}
 use Rattle.ptpm_world.specs.declared.lines.Lines.{Lines}
@@ -21,6 +22,15 @@ IsNextLine false line before after = (before ≡ []) × (after ≡ [])
 
 abbrev pub ReadsLine : Option (List ℕ) → Bool → List ℕ → Option (List ℕ) → Type 0
 ReadsLine before more line after = BothKnown before after (λ xs ys. IsNextLine more line (lines xs) (lines ys))
+
+-- each line beside all that stands before its line feed, a carriage return too
+abbrev pub whole_lines : List ℕ → List (List ℕ × List ℕ)
+whole_lines octets = zip (lines octets) (slice_split (λ octet. octet == 10) octets)
+
+-- the next line came, with what stands before its line feed; or none came
+abbrev pub IsNextWhole : Bool → List ℕ → List (List ℕ × List ℕ) → List (List ℕ × List ℕ) → Type 0
+IsNextWhole true line before after = (octets : List ℕ) × (before ≡ (line, octets) ∷ after)
+IsNextWhole false line before after = (before ≡ []) × (after ≡ [])
 
 -- octets that a reader gave: one, or none at its end
 abbrev pub given : Option ℕ → List ℕ

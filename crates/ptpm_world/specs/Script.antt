@@ -1,7 +1,9 @@
 -- What the lines of a script ask for (this project's profile): a network file, a line `%%`, and events, one a line.
 use Rattle.std.specs.Prelude.{◌≡◌, ◌<◌, ◌⊎◌, ℕ, ◌+◌, ◌==◌, length, not, slice_get, Bool, true, bytes_eq, codes, find, List, [], ◌∷◌, ◌++◌, Option, Some, None, Result, Ok, Err, if◌then◌else◌}
+use Rattle.std.specs.Io.KnownBytes.{Appends}
 use Rattle.ptpm_agent.specs.Laws.{fresh}
 use Rattle.ptpm_manager.specs.Session.{SessionValue, fresh as fresh_session}
+use Rattle.ptpm_network.specs.Network.{Network}
 use Rattle.ptpm_network.specs.Stands.{Running}
 use Rattle.ptpm_script.specs.declared.event.Event.{Event}
 use Rattle.ptpm_script.specs.declared.event.EventError.{EventError}
@@ -11,9 +13,9 @@ use Rattle.ptpm_script.specs.declared.network.NetworkSession.{NetworkSession}
 use Rattle.ptpm_script.specs.NetworkValue.{NetworkValue, first_sets}
 use Rattle.ptpm_script.specs.Words.{space}
 use Rattle.ptpm_world.specs.Described.{clock_at, described, described_session}
-use Rattle.ptpm_world.specs.Placed.{names_of}
+use Rattle.ptpm_world.specs.Placed.{Names, names_of}
 use Rattle.ptpm_world.specs.Running.{no_session}
-use Rattle.ptpm_world.specs.Trace.{line_feed, trace}
+use Rattle.ptpm_world.specs.Trace.{event_lines, line_feed, trace}
 
 -- ---- around the divider
 
@@ -90,3 +92,15 @@ pub record Prints (script : List (List ℕ)) (text : List ℕ) : Type 0 where
   pub is_network : network_of (network_text script) ≡ Ok network
   pub are_events : bad_line_from 1 (event_part script) ≡ None
   pub is_trace : text ≡ trace (described network) (names_of network) (started network) (events_from 1 (event_part script))
+
+-- Lines have a network file, and this text is the beginning of the lines of their events.
+pub record Begins (script : List (List ℕ)) (text : List ℕ) : Type 0 where
+  pub network : NetworkValue
+  pub rest : List ℕ
+  pub is_network : network_of (network_text script) ≡ Ok network
+  pub is_begun : text ++ rest ≡ event_lines (described network) (names_of network) (started network) (events_from 1 (event_part script))
+
+-- a writer took the beginning of the lines of these events
+abbrev pub TakesFirst : Network → Names → Running → List (ℕ × Event) → Option (List ℕ) → Option (List ℕ) → Type 0
+TakesFirst N names r events before after =
+    (text : List ℕ) × ((rest : List ℕ) × ((text ++ rest ≡ event_lines N names r events) × Appends before after text))

@@ -5,6 +5,7 @@
 mod frames;
 mod lines;
 mod network_laws;
+mod octets;
 mod script;
 mod script_error;
 mod starting;

@@ -1,9 +1,10 @@
 //! The lines of standard input.
 
-ghost use Rattle.std.specs.Prelude.{[], ◌≡◌, ◌≤◌, ◌+◌, ◌++◌, ◌∷◌, IfOk, IfSome, IfNone, OnOk, Ok, Some, length, option_map, true};
+ghost use Rattle.std.specs.Prelude.{[], ◌≡◌, ◌≤◌, ◌+◌, ◌++◌, ◌∷◌, IfErr, IfOk, IfSome, IfNone, None, OnOk, OnSome, Ok, Some, false, length, option_map, true};
 ghost use Rattle.std.specs.Io.KnownBytes.{Consumes, IsAtEnd};
 ghost use Rattle.std.specs.Str.Lines.{strip_carriage_return};
 
+use crate::octets::next_octet;
 use crate::script_error::ScriptError;
 use ptpm_codec::OutOfMemory;
 use std::alloc::Global;
@@ -28,10 +29,13 @@ pub(crate) struct Lines<R> {
 
 impl<R: Read + Drop> Lines<R> {
     ghost use Rattle.ptpm_world.specs.Lines.{ReadsLine, given, left_in};
+    ghost use Rattle.ptpm_world.specs.ScriptError.{HasNextFault, ReadsWhole, is_outside, text_fault};
 
     /// The lines of a reader. Takes the memory for one line and for the reader's buffer.
     pub(crate) fn new(alloc: Global, reader: R) -> Result<Lines<R>, ScriptError>
-        ensures { IfOk result (λ l. IfSome (R.remaining reader) (λ octets. left_in R.remaining l ≡ Some octets)) }
+        ensures octets { IfOk result (λ l. IfSome (R.remaining reader) (λ octets. left_in R.remaining l ≡ Some octets)) }
+        ensures count { IfOk result (λ l. l.count ≡ 0) }
+        ensures fault { IfErr result (λ e. is_outside e ≡ true) }
     {
         let line = Vec::with_capacity(alloc, LINE_OCTETS).map_err(|_| OutOfMemory)?;
         let reader = BufReader::new(alloc, reader).map_err(|_| OutOfMemory)?;
@@ -49,6 +53,9 @@ impl<R: Read + Drop> Lines<R> {
     pub(crate) fn read(&mut self) -> Result<bool, ScriptError>
         ensures line { IfOk result (λ more. ReadsLine (left_in R.remaining self.old) more self.new.line.items (left_in R.remaining self.new)) }
         ensures count { result ≡ Ok true → self.new.count ≡ self.old.count + 1 }
+        ensures whole { IfOk result (λ more.
+            ReadsWhole (self.old.count + 1) (left_in R.remaining self.old) more self.new.line.items (left_in R.remaining self.new)) }
+        ensures fault { IfErr result (λ e. is_outside e ≡ false → HasNextFault (self.old.count + 1) (left_in R.remaining self.old) e) }
     {
         self.line.clear();
         match self.read_octet()? {
@@ -70,6 +77,10 @@ impl<R: Read + Drop> Lines<R> {
         ensures line { OnOk result (ReadsLine (option_map (λ octets. first ∷ octets) (left_in R.remaining self.old)) true
             self.new.line.items (left_in R.remaining self.new)) }
         ensures count { self.new.count ≡ self.old.count }
+        ensures whole { OnOk result (ReadsWhole self.old.count (option_map (λ octets. first ∷ octets) (left_in R.remaining self.old)) true
+            self.new.line.items (left_in R.remaining self.new)) }
+        ensures fault { IfErr result (λ e. is_outside e ≡ false
+            → HasNextFault self.old.count (option_map (λ octets. first ∷ octets) (left_in R.remaining self.old)) e) }
     {
         let mut next = Some(first);
         while let Some(octet) = next {
@@ -109,21 +120,19 @@ impl<R: Read + Drop> Lines<R> {
     /// The next octet of the reader; none at its end.
     fn read_octet(&mut self) -> Result<Option<u8>, ScriptError>
         ensures octet { IfOk result (λ o. Consumes (left_in R.remaining self.old) (left_in R.remaining self.new) (given o)) }
-        ensures end { IfOk result (λ o. IfNone o (IsAtEnd (left_in R.remaining self.new))) }
+        ensures end { IfOk result (λ o. IfNone o (OnSome (left_in R.remaining self.old) (IsAtEnd (left_in R.remaining self.new)))) }
         ensures line { self.new.line.items ≡ self.old.line.items }
         ensures count { self.new.count ≡ self.old.count }
+        ensures fault { IfErr result (λ e. is_outside e ≡ true) }
     {
-        let mut octet = [0];
-        match self.reader.read(&mut octet) {
-            Ok(0) => Ok(None),
-            Ok(_) => Ok(Some(octet[0])),
-            Err(_) => Err(ScriptError::ReadFault),
-        }
+        next_octet(&mut self.reader)
     }
 
     /// The line that was read last, without its end.
     pub(crate) fn text(&self) -> Result<&str, ScriptError>
-        ensures { IfOk result (λ text. text.now ≡ self.now.line.items) }
+        ensures text { IfOk result (λ text. text.now ≡ self.now.line.items) }
+        ensures none { OnOk result (text_fault self.now.count self.now.line.items ≡ None) }
+        ensures fault { IfErr result (λ e. text_fault self.now.count self.now.line.items ≡ Some e) }
     {
         match std::str::from_utf8(self.line.as_slice()) {
             Ok(line) => Ok(line),

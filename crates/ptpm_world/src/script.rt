@@ -1,18 +1,21 @@
 //! A script: a network file, a line `%%`, and events, one a line.
 
-ghost use Rattle.std.specs.Prelude.{◌≡◌, ◌==◌, ◌++◌, ◌<◌, ◌≤◌, ℕ, IfOk, IfSome, List, None, Ok, OnOk, find, length, not, string_bytes};
+ghost use Rattle.std.specs.Prelude.{[], ◌≡◌, ◌≢◌, ◌⊎◌, ◌==◌, ◌+◌, ◌++◌, ◌<◌, ◌≤◌, ℕ, IfErr, IfOk, IfSome, List, None, Ok, OnOk, Option, Some, false, find, length, not, string_bytes, true};
 ghost use Rattle.std.specs.Io.KnownBytes.{Appends};
-ghost use Rattle.std.specs.Option.{option_copied};
+ghost use Rattle.std.specs.Option.{option_copied, option_or};
 ghost use Rattle.std.specs.Str.Lines.{lines};
 ghost use Rattle.ptpm_network.specs.Network as machine;
 ghost use Rattle.ptpm_script.specs.EventLine.{reading};
 ghost use Rattle.ptpm_script.specs.NetworkText.{network_of};
 ghost use Rattle.ptpm_script.specs.NetworkView.{network_value};
 ghost use Rattle.ptpm_script.specs.Words.{space};
-ghost use Rattle.ptpm_world.specs.Lines.{BothKnown, left_in};
+ghost use Rattle.ptpm_world.specs.declared.script_error.ScriptError.{ScriptError};
+ghost use Rattle.ptpm_world.specs.declared.script_error.ScriptError.TheVariants as faults;
+ghost use Rattle.ptpm_world.specs.Lines.{BothKnown, left_in, whole_lines};
 ghost use Rattle.ptpm_world.specs.Placed.{names_in, placed};
 ghost use Rattle.ptpm_world.specs.Running.{IsOf, running};
-ghost use Rattle.ptpm_world.specs.Script.{Prints, StandsFor, bad_line_from, event_part, events_from, is_divider, is_skipped, network_text};
+ghost use Rattle.ptpm_world.specs.Script.{Begins, Prints, StandsFor, TakesFirst, bad_line_from, event_part, events_from, is_divider, is_skipped, network_text};
+ghost use Rattle.ptpm_world.specs.ScriptError.{events_fault, file_fault, is_outside, network_fault, reading_fault, script_fault};
 ghost use Rattle.ptpm_world.specs.Trace.{after, after_all, event_line, event_lines, line_feed};
 
 use crate::lines::Lines;
@@ -43,8 +46,12 @@ pub fn run_script<R: Read + Drop, W: Write>(
     reader: R,
     out: &mut W,
 ) -> Result<(), ScriptError>
-    ensures { OnOk result (IfSome (R.remaining reader) (λ input.
+    ensures trace { OnOk result (IfSome (R.remaining reader) (λ input.
         (text : List ℕ) × Prints (lines input) text × Appends (W.contents out.old) (W.contents out.new) text)) }
+    ensures none { OnOk result (IfSome (R.remaining reader) (λ input. script_fault input ≡ None)) }
+    ensures fault { IfErr result (λ e. is_outside e ≡ false → IfSome (R.remaining reader) (λ input. script_fault input ≡ Some e)) }
+    ensures begun { IfErr result (λ e. e ≢ faults.WriteFault → IfSome (R.remaining reader) (λ input.
+        (text : List ℕ) × (((text ≡ []) ⊎ Begins (lines input) text) × Appends (W.contents out.old) (W.contents out.new) text))) }
 {
     let mut script = Lines::new(alloc, reader)?;
     let network = read_network(alloc, &mut script)?;
@@ -61,11 +68,23 @@ fn read_network<R: Read + Drop>(
     alloc: Global,
     script: &mut Lines<R>,
 ) -> Result<Network, ScriptError>
-    ensures { IfOk result (λ network. BothKnown (left_in R.remaining script.old) (left_in R.remaining script.new) (λ before after.
+    ensures network { IfOk result (λ network. BothKnown (left_in R.remaining script.old) (left_in R.remaining script.new) (λ before after.
         (network_of (network_text (lines before)) ≡ Ok (network_value network)) × (lines after ≡ event_part (lines before)))) }
+    ensures none { OnOk result (BothKnown (left_in R.remaining script.old) (left_in R.remaining script.new) (λ before after.
+        file_fault None (script.old.count + 1) (whole_lines before) ≡ events_fault (script.new.count + 1) 1 (whole_lines after))) }
+    ensures fault { IfErr result (λ e. is_outside e ≡ false → IfSome (left_in R.remaining script.old) (λ octets.
+        file_fault (network_fault (network_of (network_text (lines octets)))) (script.old.count + 1) (whole_lines octets) ≡ Some e)) }
 {
     let text = read_text(alloc, script)?;
-    match Network::from_toml(alloc, text.as_str()) {
+    network_of_text(alloc, text.as_str())
+}
+
+/// The network of a text.
+fn network_of_text(alloc: Global, text: &str) -> Result<Network, ScriptError>
+    ensures network { IfOk result (λ network. network_of text.now ≡ Ok (network_value network)) }
+    ensures fault { IfErr result (λ e. is_outside e ≡ false → network_fault (network_of text.now) ≡ Some e) }
+{
+    match Network::from_toml(alloc, text) {
         Ok(network) => Ok(network),
         Err(NetError::OutOfMemory) => Err(ScriptError::OutOfMemory),
         Err(error) => Err(ScriptError::BadNetwork(error)),
@@ -75,8 +94,13 @@ fn read_network<R: Read + Drop>(
 /// The lines up to the divider, each followed by a line feed. Of a text over the limit only so much is kept that it is
 /// still over it.
 fn read_text<R: Read + Drop>(alloc: Global, script: &mut Lines<R>) -> Result<String, ScriptError>
-    ensures { IfOk result (λ text. BothKnown (left_in R.remaining script.old) (left_in R.remaining script.new) (λ before after.
+    ensures text { IfOk result (λ text. BothKnown (left_in R.remaining script.old) (left_in R.remaining script.new) (λ before after.
         StandsFor (string_bytes text) (network_text (lines before)) × (lines after ≡ event_part (lines before)))) }
+    ensures none { OnOk result (BothKnown (left_in R.remaining script.old) (left_in R.remaining script.new) (λ before after.
+        (network : Option ScriptError) → file_fault network (script.old.count + 1) (whole_lines before)
+        ≡ option_or network (events_fault (script.new.count + 1) 1 (whole_lines after)))) }
+    ensures fault { IfErr result (λ e. is_outside e ≡ false → IfSome (left_in R.remaining script.old) (λ octets.
+        (network : Option ScriptError) → file_fault network (script.old.count + 1) (whole_lines octets) ≡ Some e)) }
 {
     let mut text = String::new(alloc);
     while script.read()? {
@@ -123,6 +147,13 @@ fn play<R: Read + Drop, W: Write>(
     ensures last { (N : machine.Network) → IsOf N world.old → OnOk result (IfSome (left_in R.remaining script.old) (λ octets.
         running world.new ≡ after_all N (names_in world.old) (running world.old) (events_from 1 (lines octets)))) }
     ensures names { OnOk result (names_in world.new ≡ names_in world.old) }
+    ensures none { OnOk result (IfSome (left_in R.remaining script.old) (λ octets.
+        events_fault (script.old.count + 1) 1 (whole_lines octets) ≡ None)) }
+    ensures fault { IfErr result (λ e. is_outside e ≡ false → IfSome (left_in R.remaining script.old) (λ octets.
+        events_fault (script.old.count + 1) 1 (whole_lines octets) ≡ Some e)) }
+    ensures begun { (N : machine.Network) → IsOf N world.old → IfErr result (λ e. e ≢ faults.WriteFault
+        → IfSome (left_in R.remaining script.old) (λ octets. TakesFirst N (names_in world.old) (running world.old)
+        (events_from 1 (lines octets)) (W.contents out.old) (W.contents out.new))) }
 {
     let mut number = 0;
     while script.read()? {
@@ -151,13 +182,16 @@ fn play_event<W: Write>(
         → OnOk result (running world.new ≡ after N (running world.old) (placed (names_in world.old) event)) }
     ensures names { names_in world.new ≡ names_in world.old }
     ensures network { (N : machine.Network) → IsOf N world.old → IsOf N world.new }
+    ensures fault { IfErr result (λ e. is_outside e ≡ true) }
+    ensures kept { IfErr result (λ e. e ≢ faults.WriteFault → W.contents out.new ≡ W.contents out.old) }
 {
     write_event(world, number, &event, out)
 }
 
 /// The event of a line.
 fn event_of(alloc: Global, number: u32, line: &str) -> Result<Event, ScriptError>
-    ensures { IfOk result (λ event. reading line.now ≡ Ok event) }
+    ensures event { IfOk result (λ event. reading line.now ≡ Ok event) }
+    ensures fault { IfErr result (λ e. is_outside e ≡ false → reading_fault number (reading line.now) ≡ Some e) }
 {
     match read_event(alloc, line) {
         Ok(event) => Ok(event),

@@ -35,6 +35,11 @@ pub enum ScriptError {
 }
 
 impl From<OutOfMemory> for ScriptError {
+    ghost use Rattle.std.specs.Prelude.{◌≡◌};
+    ghost use Rattle.ptpm_world.specs.declared.script_error.ScriptError.TheVariants as faults;
+
+    ghost from_gives = { λ _ e. e ≡ faults.OutOfMemory };
+
     fn from(_refused: OutOfMemory) -> ScriptError {
         ScriptError::OutOfMemory
     }
@@ -42,6 +47,11 @@ impl From<OutOfMemory> for ScriptError {
 
 /// Only the writer's errors are passed on by `?`.
 impl From<io::Error> for ScriptError {
+    ghost use Rattle.std.specs.Prelude.{◌≡◌};
+    ghost use Rattle.ptpm_world.specs.declared.script_error.ScriptError.TheVariants as faults;
+
+    ghost from_gives = { λ _ e. e ≡ faults.WriteFault };
+
     fn from(_error: io::Error) -> ScriptError {
         ScriptError::WriteFault
     }

@@ -1,12 +1,14 @@
 //! The trace of a script: what each event did, and how the network stands at the end.
 
-ghost use Rattle.std.specs.Prelude.{◌≡◌, OnOk, flat_map};
+ghost use Rattle.std.specs.Prelude.{◌≡◌, ◌≢◌, IfErr, OnOk, flat_map, true};
 ghost use Rattle.std.specs.Io.KnownBytes.{Appends};
 ghost use Rattle.ptpm_data.specs.Members.{HasPort};
 ghost use Rattle.ptpm_network.specs.Network.{Network};
 ghost use Rattle.ptpm_script.specs.EventLine.{verb_of};
 ghost use Rattle.ptpm_world.specs.Placed.{names_in, placed};
 ghost use Rattle.ptpm_world.specs.Running.{IsOf, running};
+ghost use Rattle.ptpm_world.specs.declared.script_error.ScriptError.TheVariants as faults;
+ghost use Rattle.ptpm_world.specs.ScriptError.{is_outside};
 ghost use Rattle.ptpm_world.specs.Trace.{after, answer_text, clock_lines, data_line, data_lines, data_set_lines, event_line, event_text, frames_text, is_late_event, is_out_of_memory, outcome_text, port_line, report_line, report_lines};
 
 use crate::script_error::ScriptError;
@@ -34,6 +36,8 @@ pub(crate) fn write_event<W: Write>(
         → OnOk result (running world.new ≡ after N (running world.old) (placed (names_in world.old) event.now)) }
     ensures names { names_in world.new ≡ names_in world.old }
     ensures network { (N : Network) → IsOf N world.old → IsOf N world.new }
+    ensures fault { IfErr result (λ e. is_outside e ≡ true) }
+    ensures kept { IfErr result (λ e. e ≢ faults.WriteFault → W.contents out.new ≡ W.contents out.old) }
 {
     let is_late = is_late_delivery(world, event);
     let before = world.frames();

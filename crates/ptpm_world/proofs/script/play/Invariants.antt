@@ -4,6 +4,8 @@ use Rattle.ptpm_network.specs.Network.{Network}
 use Rattle.ptpm_world.specs.Lines.{BothKnown, left_in}
 use Rattle.ptpm_world.specs.Placed.{names_in}
 use Rattle.ptpm_world.specs.Running.{IsOf, running}
+use Rattle.ptpm_world.proofs.Begun.{Begun}
+use Rattle.ptpm_world.proofs.FaultLemmas.{EventsGo}
 use Rattle.ptpm_world.proofs.Playing.{GoesOn, LeadsOn, SameBad}
 use Rattle.ptpm_world.proofs.script.play.Given as goal
 
@@ -18,6 +20,9 @@ invariant-loop-number g l =
       few : l.number ≤ l.script.count;
       names : names_in l.world ≡ called;
       network : (N : Network) → IsOf N l.initial.world → IsOf N l.world;
+      begun : (N : Network) → IsOf N l.initial.world → BothKnown first now (λ xs ys.
+          Begun N called (running l.initial.world) (running l.world) (g.W.Write.contents l.initial.out) written (lines xs) (l.number + 1) (lines ys));
+      faults : EventsGo first (l.initial.script.count + 1) now (l.script.count + 1) (l.number + 1);
       events : BothKnown first now (λ xs ys. SameBad (lines xs) (l.number + 1) (lines ys));
       text : (N : Network) → IsOf N l.initial.world → BothKnown first now (λ xs ys.
           GoesOn N called (running l.initial.world) (running l.world) (g.W.Write.contents l.initial.out) written (lines xs) (l.number + 1) (lines ys));

@@ -1,11 +1,14 @@
-use Rattle.std.proofs.Common.{◌≡◌, ap, length, subst, sym, ◌∙◌}
+use Rattle.std.proofs.Common.{◌≡◌, ◌≢◌, true, refl, ap, length, subst, sym, ◌∙◌}
 use Rattle.std.specs.Io.KnownBytes.{Appends}
 use Rattle.ptpm_network.specs.Stands.{Running}
 use Rattle.ptpm_script.specs.EventLine.{verb_of}
 use Rattle.ptpm_world.specs.Placed.{names_in, placed}
 use Rattle.ptpm_world.specs.Running.{running}
 use Rattle.ptpm_world.specs.Trace.{event_line, event_text}
+use Rattle.ptpm_world.specs.declared.script_error.ScriptError.TheVariants as faults
+use Rattle.ptpm_world.specs.ScriptError.{is_outside}
 use Rattle.ptpm_world.proofs.Answering.{answered}
+use Rattle.ptpm_world.proofs.FaultLemmas.{err-on}
 use Rattle.ptpm_world.proofs.trace.write_event.Goals as goal
 
 pub returns-clause-line : goal.returns-clause-line
@@ -27,3 +30,14 @@ returns-clause-after g c = λ N is.
     let both = answered N (running c.args.world.now) (running c.step-took.new.self) (placed (names_in c.args.world.now) c.args.event.now) c.step-took.result
     (sym c.is_out_of_memory.ensures ∙ c.if-is_out_of_memory.false) (s.happened N is) (s.took N is) (s.permitted N is) (s.refused N is) s.unchanged in
     both.1
+
+pub returns-in_err-write_line-clause-fault : goal.returns-in_err-write_line-clause-fault
+returns-in_err-write_line-clause-fault g c = err-on c.from_residual.result faults.WriteFault (λ e. is_outside e ≡ true) c.from_residual.ensures.1 refl
+
+pub returns-in_err-write_line-clause-kept : goal.returns-in_err-write_line-clause-kept
+returns-in_err-write_line-clause-kept g c =
+    err-on c.from_residual.result faults.WriteFault (λ e. e ≢ faults.WriteFault → g.W.Write.contents c.write_line.new.out ≡ g.W.Write.contents c.args.out.now)
+    c.from_residual.ensures.1 (λ other. absurd (other refl))
+
+pub returns-then-is_out_of_memory-clause-kept : goal.returns-then-is_out_of_memory-clause-kept
+returns-then-is_out_of_memory-clause-kept g c = λ other. refl

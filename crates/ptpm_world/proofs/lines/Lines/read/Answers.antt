@@ -1,7 +1,9 @@
-use Rattle.std.proofs.Common.{subst}
-use Rattle.std.specs.Prelude.{IfNone}
+use Rattle.std.proofs.Common.{◌≡◌, ◌<◌, ◌+◌, ◌∷◌, true, false, ap, arith, subst}
+use Rattle.std.specs.Prelude.{IfNone, OnSome, option_map}
 use Rattle.std.specs.Io.KnownBytes.{Consumes, IsAtEnd}
 use Rattle.ptpm_world.specs.Lines.{given, left_in}
+use Rattle.ptpm_world.specs.ScriptError.{HasNextFault, ReadsWhole, is_outside}
+use Rattle.ptpm_world.proofs.FaultLemmas.{err-on, fault-line, fault-many, whole-line, whole-none}
 use Rattle.ptpm_world.proofs.LineLemmas.{read-line, read-none}
 use Rattle.ptpm_world.proofs.lines.Lines.read.Goals as goal
 
@@ -11,7 +13,7 @@ returns-in-None-clause-line g c =
     let before = left_in R c.args.self.now in
     let after = left_in R c.read_octet.new.self in
     let none = subst (λ o. Consumes before after (given o)) c.in-None.is c.in_ok-read_octet.ensures.octet in
-    let end = subst (λ o. IfNone o (IsAtEnd after)) c.in-None.is c.in_ok-read_octet.ensures.end in
+    let end = subst (λ o. IfNone o (OnSome before (IsAtEnd after))) c.in-None.is c.in_ok-read_octet.ensures.end in
     read-none before after c.read_octet.new.self.line.items none end
 
 pub returns-in_ok-read_rest-in-Some-clause-line : goal.returns-in_ok-read_rest-in-Some-clause-line
@@ -21,3 +23,31 @@ returns-in_ok-read_rest-in-Some-clause-line g c =
     let after = left_in R c.read_octet.new.self in
     let one = subst (λ o. Consumes before after (given o)) c.in-Some.is c.in_ok-read_octet.ensures.octet in
     read-line before after (left_in R c.read_rest.new.self) c.in-Some.first c.read_rest.new.self.line.items one c.in_ok-read_rest-in-Some.ensures.line
+
+pub returns-in-None-clause-whole : goal.returns-in-None-clause-whole
+returns-in-None-clause-whole g c =
+    let R = g.R.Read.remaining in
+    let before = left_in R c.args.self.now in
+    let after = left_in R c.read_octet.new.self in
+    let none = subst (λ o. Consumes before after (given o)) c.in-None.is c.in_ok-read_octet.ensures.octet in
+    let end = subst (λ o. IfNone o (OnSome before (IsAtEnd after))) c.in-None.is c.in_ok-read_octet.ensures.end in
+    whole-none (c.args.self.now.count + 1) before after c.read_octet.new.self.line.items none end
+
+pub returns-in_ok-read_rest-in-Some-clause-whole : goal.returns-in_ok-read_rest-in-Some-clause-whole
+returns-in_ok-read_rest-in-Some-clause-whole g c =
+    let R = g.R.Read.remaining in
+    let before = left_in R c.args.self.now in
+    let after = left_in R c.read_octet.new.self in
+    let one = subst (λ o. Consumes before after (given o)) c.in-Some.is c.in_ok-read_octet.ensures.octet in
+    whole-line (c.args.self.now.count + 1) before after (left_in R c.read_rest.new.self) c.in-Some.first c.read_rest.new.self.line.items one
+    (subst (λ k. ReadsWhole k (option_map (λ octets. c.in-Some.first ∷ octets) after) true c.read_rest.new.self.line.items (left_in R c.read_rest.new.self))
+    (ap (λ k. k + 1) c.in_ok-read_octet.ensures.count) c.in_ok-read_rest-in-Some.ensures.whole)
+
+pub returns-then-self-eq-LINES-clause-fault : goal.returns-then-self-eq-LINES-clause-fault
+returns-then-self-eq-LINES-clause-fault g c = λ inside.
+    let R = g.R.Read.remaining in
+    let before = left_in R c.args.self.now in
+    let after = left_in R c.read_octet.new.self in
+    let one = subst (λ o. Consumes before after (given o)) c.in-Some.is c.in_ok-read_octet.ensures.octet in
+    let many : 2000000 < c.args.self.now.count + 1 = omega (arith, c.if-self-eq-LINES.true, c.in_ok-read_octet.ensures.count) in
+    fault-many (c.args.self.now.count + 1) before after c.in-Some.first one many

@@ -1,5 +1,5 @@
 use Rattle.std.proofs.Common.{◌≡◌, ◌<◌, ◌≤◌, ◌-◌, length, None}
-use Rattle.std.specs.Prelude.{IfNone}
+use Rattle.std.specs.Prelude.{IfNone, OnSome}
 use Rattle.std.specs.Io.KnownBytes.{IsAtEnd}
 use Rattle.ptpm_world.specs.Lines.{left_in}
 use Rattle.ptpm_world.proofs.LineLemmas.{IsRead, NoFeed}
@@ -12,7 +12,7 @@ invariant-loop-next g l = record {
   free : NoFeed l.self.line.items;
   short : length l.self.line.items ≤ 4096;
   some : l.next ≡ None → 0 < length l.self.line.items;
-  at_end : IfNone l.next (IsAtEnd (left_in g.R.Read.remaining l.self));
+  at_end : IfNone l.next (OnSome (left_in g.R.Read.remaining l.initial.self) (IsAtEnd (left_in g.R.Read.remaining l.self)));
   count : l.self.count ≡ l.initial.self.count;
 }
 
