@@ -7,6 +7,7 @@ mod forwarding;
 mod hostile;
 mod memory;
 mod numbering;
+mod places;
 mod refusals;
 mod refusing;
 mod strangers;

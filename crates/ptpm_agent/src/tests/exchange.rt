@@ -4,8 +4,6 @@
 //! its managers, `S` a stranger's, `A`, `B` and `C` three clocks of a ring, `E` every clock; `127*41` is 127 times 41. Then
 //! `in:PORT:VERDICT` hands the octets so far to the clock, and `out:PORT` says that they are the next message that it sends.
 
-ghost use Rattle.std.specs.Prelude.{◌<◌};
-
 use super::clocks::{Hears, K, M, M2, Start, Sure, Tried, agent, start_of};
 use super::refusing::Refusing;
 use arrayvec::{ArrayString, ArrayVec};
@@ -72,10 +70,13 @@ pub fn exchange<H: Hears>(rt: &impl Abort, clock: &mut H, text: &str) {
             octets.clear();
             told = told.saturating_add(1);
         } else {
-            put_word(&mut octets, word);
+            put_word(rt, &mut octets, word);
         }
     }
-    assert!(rt; told == out.entries().len(), "at the end");
+    assert!(rt;
+        told == out.entries().len() && octets.is_empty(),
+        "at the end"
+    );
 }
 
 /// Hands the octets in. The call is a port, a colon and a verdict's name, or the name of why it is malformed.
@@ -99,44 +100,55 @@ fn goes_out(out: &Outbox, place: usize, port: &str, octets: &[u8]) -> bool {
     }
 }
 
-/// Appends the octets of a word.
-pub fn put_word(octets: &mut Octets, word: &str) {
+/// Appends the octets of a word. A word that is misspelt ends the test.
+pub fn put_word(rt: &impl Abort, octets: &mut Octets, word: &str) {
     match word {
-        "Z" => put(octets, &[0; 14]),
-        "K" => put(octets, &K.0),
-        "M" => put(octets, &M.clock.0),
-        "M2" => put(octets, &M2.clock.0),
-        "S" => put(octets, &STRANGER.0),
-        "A" => put(octets, &A.0),
-        "B" => put(octets, &B.0),
-        "C" => put(octets, &C.0),
-        "E" => put(octets, &ClockIdentity::EVERY.0),
-        _ => put_times(octets, word),
+        "Z" => put(rt, octets, &[0; 14]),
+        "K" => put(rt, octets, &K.0),
+        "M" => put(rt, octets, &M.clock.0),
+        "M2" => put(rt, octets, &M2.clock.0),
+        "S" => put(rt, octets, &STRANGER.0),
+        "A" => put(rt, octets, &A.0),
+        "B" => put(rt, octets, &B.0),
+        "C" => put(rt, octets, &C.0),
+        "E" => put(rt, octets, &ClockIdentity::EVERY.0),
+        _ => put_times(rt, octets, word),
     }
 }
 
-fn put(octets: &mut Octets, more: &[u8]) {
-    let _ = octets.try_extend_from_slice(more);
+fn put(rt: &impl Abort, octets: &mut Octets, more: &[u8]) {
+    let room = octets.try_extend_from_slice(more).is_ok();
+    assert!(rt; room, "too long");
 }
 
 /// Appends the octets of hexadecimal digits, as often as a number before a star says.
-fn put_times(octets: &mut Octets, word: &str) {
+fn put_times(rt: &impl Abort, octets: &mut Octets, word: &str) {
     let (times, digits) = word.split_once('*').unwrap_or(("1", word));
-    for _ in 0..times.parse::<u16>().unwrap_or(0) {
+    let times = times.parse::<u16>().unwrap_or(0);
+    assert!(rt; times != 0, "{word}");
+    for _ in 0..times {
         for pair in digits.as_bytes().chunks(2) {
-            if let [high, low] = pair {
-                let _ = octets.try_push(digit(*high) * 16 + digit(*low));
+            match octet_of(pair) {
+                Some(octet) => put(rt, octets, &[octet]),
+                None => assert!(rt; false, "no digits: {word}"),
             }
         }
     }
 }
 
-fn digit(letter: u8) -> u8
-    ensures { result < 16 }
-{
+/// The octet that two digits spell.
+fn octet_of(pair: &[u8]) -> Option<u8> {
+    match pair {
+        [high, low] => Some(digit(*high)? << 4 | digit(*low)?),
+        _ => None,
+    }
+}
+
+/// What a lower-case hexadecimal digit is worth.
+fn digit(letter: u8) -> Option<u8> {
     match letter {
-        b'0'..=b'9' => letter - b'0',
-        b'a'..=b'f' => letter - b'a' + 10,
-        _ => 0,
+        b'0'..=b'9' => Some(letter - b'0'),
+        b'a'..=b'f' => Some(letter - b'a' + 10),
+        _ => None,
     }
 }

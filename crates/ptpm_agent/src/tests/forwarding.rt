@@ -23,6 +23,21 @@ fn not_for_this_clock(rt: HostRuntime) -> Result<(), Fail> {
     at_k(&rt, rt.alloc(), NOT_FOR_THIS_CLOCK)
 }
 
+/// A message of this very clock in another domain is OtherDomain; a RESPONSE and an ACKNOWLEDGE of another clock to every
+/// clock are no request, and are passed on, while they have a hop left.
+pub const TO_EVERY_CLOCK: &str = "
+    0d1200360500 Z K 0001 0008 047f K ffff 0101 0000 000100022005 in:1:OtherDomain
+    0d1200380000 Z B 0001 0007 047f E ffff 0101 0200 0001000420058000 in:1:NotARequest
+    0d1200380000 Z B 0001 0007 047f E ffff 0100 0200 0001000420058000 out:2
+    0d1200360000 Z B 0001 0007 047f E ffff 0101 0400 00010002200d in:2:NotARequest
+    0d1200360000 Z B 0001 0007 047f E ffff 0100 0400 00010002200d out:1
+    0d1200380000 Z B 0001 0007 047f E ffff 0100 0200 0001000420058000 in:1:NotARequest";
+
+#[test]
+fn to_every_clock(rt: HostRuntime) -> Result<(), Fail> {
+    at_k(&rt, rt.alloc(), TO_EVERY_CLOCK)
+}
+
 /// flagField, correctionField and 255 hops; the three octets behind the message are not passed on.
 pub const FORWARDING_KEEPS_OCTETS: &str = "
     0d1200360000 0400 0000000000010000 00000000 M 0001 0007 047f 8*02 ffff 01ff 0000 000100022005

@@ -1,12 +1,12 @@
 //! Damaged datagrams, and requests of strangers without end.
 
-use super::clocks::{GET_PRIORITY1, Hears, shown, sure_clock};
+use super::clocks::{GET_PRIORITY1, Hears, M, M2, shown, sure_clock};
 use super::exchange::exchange;
-use super::numbering;
 use crate::Verdict;
-use ptpm_codec::DecodeError;
-use ptpm_data::MANAGEMENT_IDS;
-use ptpm_table::Outbox;
+use ptpm_codec::{Action, DecodeError, PortIdentity, source_port_identity, view};
+use ptpm_data::{MANAGEMENT_IDS, Request};
+use ptpm_table::{Look, Outbox, ReplyTable};
+use std::process::Abort;
 use std::test::Fail;
 
 /// What goes out for a datagram that comes in at port 1.
@@ -154,20 +154,84 @@ fn of_a_stranger(count: u32) -> [u8; 56] {
     datagram
 }
 
-/// Shows that strangers change neither the data sets nor what is kept, however many of them ask for it: each is answered,
-/// no member changes, and a manager's request that was kept before is answered once more as it was.
+/// A GET of each manager, answered.
+const GETS: &str = "
+    0d1200360000 Z M 0001 0007 047f K ffff 0101 0000 000100022005 in:1:AnsweredNew
+    0d1200380000 Z K 0001 0007 047f M 0001 0000 0200 0001000420058000 out:1
+    0d1200360000 Z M2 0001 0007 047f K ffff 0101 0000 000100022005 in:1:AnsweredNew
+    0d1200380000 Z K 0001 0007 047f M2 0001 0000 0200 0001000420058000 out:1";
+
+/// The same once more.
+const GETS_AGAIN: &str = "
+    0d1200360000 Z M 0001 0007 047f K ffff 0101 0000 000100022005 in:1:AnsweredRepeat
+    0d1200380000 Z K 0001 0007 047f M 0001 0000 0200 0001000420058000 out:1
+    0d1200360000 Z M2 0001 0007 047f K ffff 0101 0000 000100022005 in:1:AnsweredRepeat
+    0d1200380000 Z K 0001 0007 047f M2 0001 0000 0200 0001000420058000 out:1";
+
+/// What the table says of such a GET of someone, under the number before, under its own, and under the next.
+fn looks(table: &impl ReplyTable, who: &PortIdentity) -> [Look; 3] {
+    let get = Request {
+        action: Action::Get,
+        id: 0x2005,
+        port: PortIdentity::EVERY_PORT,
+        octets: &[],
+    };
+    [
+        table.look(who, 6, &get),
+        table.look(who, 7, &get),
+        table.look(who, 8, &get),
+    ]
+}
+
+/// Asserts that the table has the GET of each manager and nothing newer, and nothing of strangers, whether they are of a
+/// manager's clock or not.
+fn read_table(rt: &impl Abort, table: &impl ReplyTable) {
+    for manager in [M, M2] {
+        let kept = [Look::Old, Look::Repeat, Look::New];
+        assert_eq!(rt; looks(table, &manager), kept, "{manager}");
+    }
+    for count in 0..2_u32 {
+        match source_port_identity(&of_a_stranger(count)) {
+            Some(stranger) => {
+                assert_eq!(rt; looks(table, &stranger), [Look::Unknown; 3], "{stranger}");
+            }
+            None => assert!(rt; false, "no source"),
+        }
+    }
+}
+
+/// Whether all that goes out at this port is refused as NOT_SUPPORTED.
+fn is_refused(out: &Outbox, port: u16) -> bool {
+    for (at, message) in out.entries() {
+        let error = match view(message.as_slice()) {
+            Ok(reply) => reply.error(),
+            Err(_) => None,
+        };
+        if *at == port && error != Some(6) {
+            return false;
+        }
+    }
+    true
+}
+
+/// The laws `only_managers`, that nothing is kept of strangers, `one_delivery`, that what is no copy of a manager's request
+/// changes neither data sets nor entries, and `refused_changes_no_data`, seen at work: 100,000 SETs and COMMANDs of strangers
+/// are refused, and the members, what the table says of M, M2 and a stranger, and the replies to repeats are as before.
 #[test]
 fn strangers_change_nothing(rt: HostRuntime) -> Result<(), Fail> {
     let mut clock = sure_clock(&rt)?;
-    exchange(&rt, &mut clock, numbering::GET_PRIORITY1);
+    exchange(&rt, &mut clock, GETS);
     let members = shown(clock.sets());
+    read_table(&rt, clock.0.table());
     let mut out = Outbox::new();
     for count in 0..100_000_u32 {
         let port = 1 + (count % 2) as u16;
         let verdict = clock.hear(&rt, port, &of_a_stranger(count), &mut out);
         assert_eq!(rt; verdict, Verdict::AnsweredUnnumbered, "{count}");
+        assert!(rt; is_refused(&out, port), "{count}");
     }
     assert!(rt; shown(clock.sets()) == members);
-    exchange(&rt, &mut clock, numbering::GET_PRIORITY1_AGAIN);
+    read_table(&rt, clock.0.table());
+    exchange(&rt, &mut clock, GETS_AGAIN);
     Ok(())
 }

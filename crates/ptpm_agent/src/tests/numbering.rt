@@ -11,11 +11,6 @@ pub const GET_PRIORITY1: &str = "
     0d1200360000 Z M 0001 0007 047f K ffff 0101 0000 000100022005 in:1:AnsweredNew
     0d1200380000 Z K 0001 0007 047f M 0001 0000 0200 0001000420058000 out:1";
 
-/// The same request once more.
-pub const GET_PRIORITY1_AGAIN: &str = "
-    0d1200360000 Z M 0001 0007 047f K ffff 0101 0000 000100022005 in:1:AnsweredRepeat
-    0d1200380000 Z K 0001 0007 047f M 0001 0000 0200 0001000420058000 out:1";
-
 #[test]
 fn get_priority1(rt: HostRuntime) -> Result<(), Fail> {
     at_k(&rt, rt.alloc(), GET_PRIORITY1)
@@ -103,6 +98,22 @@ fn same_number_other_request(rt: HostRuntime) -> Result<(), Fail> {
     at_k(&rt, rt.alloc(), SAME_NUMBER_OTHER_REQUEST)
 }
 
+/// The dataField of a GET is ignored, and yet part of the request, as is the port that a GET of the clock's names: another
+/// under the latest number is dropped, and what is kept stays.
+pub const SAME_NUMBER_OTHER_DATA: &str = "
+    0d1200380000 Z M 0001 0007 047f K ffff 0101 0000 0001000420050001 in:1:AnsweredNew
+    0d1200380000 Z K 0001 0007 047f M 0001 0000 0200 0001000420058000 out:1
+    0d1200380000 Z M 0001 0007 047f K ffff 0101 0000 0001000420050002 in:1:DroppedConflict
+    0d1200360000 Z M 0001 0007 047f K ffff 0101 0000 000100022005 in:1:DroppedConflict
+    0d1200380000 Z M 0001 0007 047f K 0001 0101 0000 0001000420050001 in:1:DroppedConflict
+    0d1200380000 Z M 0001 0007 047f K ffff 0101 0000 0001000420050001 in:1:AnsweredRepeat
+    0d1200380000 Z K 0001 0007 047f M 0001 0000 0200 0001000420058000 out:1";
+
+#[test]
+fn same_number_other_data(rt: HostRuntime) -> Result<(), Fail> {
+    at_k(&rt, rt.alloc(), SAME_NUMBER_OTHER_DATA)
+}
+
 pub const NUMBERS_WRAP: &str = "
     0d1200360000 Z M 0001 ffff 047f K ffff 0101 0000 000100022005 in:1:AnsweredNew
     0d1200380000 Z K 0001 ffff 047f M 0001 0000 0200 0001000420058000 out:1
@@ -138,8 +149,8 @@ fn set_domain(rt: HostRuntime) -> Result<(), Fail> {
     at_k(&rt, rt.alloc(), SET_DOMAIN)
 }
 
-/// The same GET under another number.
-fn numbered(number: u16) -> [u8; 54] {
+/// M's GET of PRIORITY1 of K under another number.
+pub fn numbered(number: u16) -> [u8; 54] {
     let mut datagram = GET_OCTETS;
     let [high, low] = number.to_be_bytes();
     datagram[30] = high;
