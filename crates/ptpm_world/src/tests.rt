@@ -1,10 +1,12 @@
 //! Networks that run: what no clause says of them.
 
+mod answered;
 mod lateness;
 mod long_scripts;
 mod memory;
 mod networks;
 mod refusals;
 mod ring;
+mod schedules;
 mod steps;
 mod worlds;

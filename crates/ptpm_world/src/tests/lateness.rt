@@ -1,6 +1,6 @@
 //! Over 32,768 requests of one session: which deliveries are late, and what then comes of them. No promise covers it.
 
-use super::networks::{ONE_CLOCK, world_of};
+use super::networks::{numbered_from_one, world_of};
 use crate::took::{StepError, Took};
 use crate::world::World;
 use ptpm_agent::Verdict;
@@ -37,7 +37,8 @@ fn exchanges(world: &mut World, begin: &Event, send: &Event, count: u32) -> Resu
 #[test]
 fn half_the_number_space(rt: HostRuntime) -> Result<(), Fail> {
     let alloc = rt.alloc();
-    let mut world = world_of(alloc, ONE_CLOCK)?;
+    let network = numbered_from_one(alloc)?;
+    let mut world = world_of(alloc, network.as_str())?;
     let get = read_event(alloc, "begin m get PRIORITY1 - -")?;
     let send = read_event(alloc, "send m")?;
     exchanges(&mut world, &get, &send, 32_769)?;

@@ -1,7 +1,7 @@
 //! Long scripts: as many frames and lines as are allowed, and over 32,768 requests of one session, of which the trace tells
 //! that a delivery is late.
 
-use super::networks::ONE_CLOCK;
+use super::networks::numbered_from_one;
 use crate::script::run_script;
 use crate::script_error::ScriptError;
 use std::alloc::Global;
@@ -44,7 +44,8 @@ fn push_gets(alloc: Global, script: &mut String, first: u32, last: u32) -> Resul
 
 /// After 32,770 requests come copies of the third, the second and the first.
 fn script_of_late_copies(alloc: Global) -> Result<String, Fail> {
-    let mut script = format!(in alloc; "{ONE_CLOCK}%%\n")?;
+    let network = numbered_from_one(alloc)?;
+    let mut script = format!(in alloc; "{network}%%\n")?;
     push_gets(alloc, &mut script, 1, 32_770)?;
     script.push_str("deliver 5\ndeliver 3\ndeliver 1\ndeliver 65541\n")?;
     Ok(script)
@@ -71,7 +72,8 @@ fn late_copy(rt: HostRuntime) -> Result<(), Fail> {
 /// The second request sets priority1 to 100, and the others ask for it. After 65,536 of them one more is begun, and the reply
 /// to the first comes in once more.
 fn script_of_a_late_reply(alloc: Global) -> Result<String, Fail> {
-    let mut script = format!(in alloc; "{ONE_CLOCK}%%\n")?;
+    let network = numbered_from_one(alloc)?;
+    let mut script = format!(in alloc; "{network}%%\n")?;
     push_gets(alloc, &mut script, 1, 1)?;
     push_request(alloc, &mut script, "set PRIORITY1 - 6400", 2)?;
     push_gets(alloc, &mut script, 3, 65_536)?;

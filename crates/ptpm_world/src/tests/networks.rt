@@ -24,6 +24,11 @@ attempts = 2
 ends = ["K.1", "m"]
 "#;
 
+/// The same, with 1 for the manager's first sequenceId.
+pub fn numbered_from_one(alloc: Global) -> Result<String, Fail> {
+    Ok(ONE_CLOCK.replace(alloc, "first = 7", "first = 1")?)
+}
+
 /// Three clocks in a ring, with B's manager at a further port of A.
 pub const RING: &str = r#"version = 1
 [[clock]]

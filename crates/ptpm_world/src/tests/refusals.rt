@@ -120,18 +120,3 @@ fn reply_is_not_permitted(rt: HostRuntime) -> Result<(), Fail> {
     }
     Ok(())
 }
-
-/// The first event of a list is refused, and so the list stops there.
-#[test]
-fn refused_events(rt: HostRuntime) -> Result<(), Fail> {
-    let alloc = rt.alloc();
-    let mut world = world_of(alloc, ONE_CLOCK)?;
-    let events = [
-        read_event(alloc, "send m")?,
-        read_event(alloc, "begin m get PRIORITY1 - -")?,
-    ];
-    let reason = StepError::Send(SendError::Idle);
-    assert!(rt; world.run(&events) == Err((0, reason)));
-    is_refused(&rt, alloc, &mut world, "send m", reason)?;
-    Ok(())
-}

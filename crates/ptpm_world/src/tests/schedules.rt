@@ -1,0 +1,146 @@
+//! Events on a world, one after another, and what each of them does.
+
+use super::networks::{ONE_CLOCK, step, world_of};
+use crate::took::{StepError, Took};
+use crate::world::World;
+use ptpm_manager::{Outcome, Report, SendError};
+use ptpm_script::{Event, read_event};
+use std::alloc::Global;
+use std::process::Abort;
+use std::test::Fail;
+
+/// The events of rows `LINE => WHAT IT DOES`.
+fn schedule(alloc: Global, rows: &str) -> Result<Vec<Event>, Fail> {
+    let mut events = Vec::new(alloc);
+    for row in rows.split('\n') {
+        let (line, _) = row.split_once(" => ").unwrap_or((row, ""));
+        events.push(read_event(alloc, line)?)?;
+    }
+    Ok(events)
+}
+
+/// What a step answers, as a trace has it.
+fn answer(alloc: Global, took: Result<Took, StepError>) -> Result<String, Fail> {
+    Ok(match took {
+        Ok(took) => format!(in alloc; "{took}")?,
+        Err(reason) => format!(in alloc; "refused {reason}")?,
+    })
+}
+
+/// Each event in its turn does what its row says.
+fn plays(rt: &impl Abort, alloc: Global, world: &mut World, rows: &str) -> Result<(), Fail> {
+    for row in rows.split('\n') {
+        let (line, wanted) = row.split_once(" => ").unwrap_or((row, ""));
+        let found = answer(alloc, step(alloc, world, line)?)?;
+        assert!(rt; found.as_str() == wanted, "{row}: {found}");
+    }
+    Ok(())
+}
+
+/// Whether a report says that a request was answered by this dataField.
+fn has_value(report: &Report, index: u64, value: &[u8]) -> bool {
+    match &report.outcome {
+        Outcome::Value(octets) => report.index == index && octets.as_slice() == value,
+        _ => false,
+    }
+}
+
+/// Events that are refused, among them a GET of PRIORITY1 by a stranger in the session's name, and one that is not.
+const REFUSED_EVENTS: &str = "\
+send m => refused Idle
+send x => refused NoSuchName
+deliver 1 => refused NoSuchFrame
+stranger K 1 0d1200360000000000000000000000000000000000112233445566770001\
+0007047faabbccfffeddee01ffff01010000000100022005 => refused Forged
+stranger K 2 00 => Malformed TooShort
+begin m get LOG_SYNC_INTERVAL - - => refused NeedsPort";
+
+/// Each event is judged by itself, and a list of them stops at the first.
+#[test]
+fn refused_events(rt: HostRuntime) -> Result<(), Fail> {
+    let alloc = rt.alloc();
+    let mut world = world_of(alloc, ONE_CLOCK)?;
+    let all = schedule(alloc, REFUSED_EVENTS)?;
+    let idle = StepError::Send(SendError::Idle);
+    assert!(rt; world.run(all.as_slice()) == Err((0, idle)));
+    plays(&rt, alloc, &mut world, REFUSED_EVENTS)?;
+    assert_eq!(rt; world.frames(), 0);
+    Ok(())
+}
+
+/// A clock moves to another domain, and its manager follows.
+const RETUNE: &str = "\
+begin m set DOMAIN - 0500 => ok
+send m => ok
+deliver 1 => AnsweredNew
+send m => ok
+deliver 3 => AnsweredRepeat
+deliver 4 => Answered
+begin m get PRIORITY1 - - => ok
+send m => ok
+deliver 5 => OtherDomain
+retune m 5 => ok
+send m => ok
+deliver 6 => AnsweredNew
+deliver 2 => Ignored OtherDomain
+deliver 7 => Answered";
+
+/// Whether both requests were answered, and the clock is in the domain that the first set.
+fn is_moved(world: &World) -> bool {
+    let reported = match world.reports("m") {
+        Some([first, second]) => has_value(first, 1, &[5, 0]) && has_value(second, 2, &[0x80, 0]),
+        _ => false,
+    };
+    reported && matches!(world.sets("K"), Some(sets) if sets.domain() == 5)
+}
+
+/// The same by single steps, and as one list.
+#[test]
+fn retune(rt: HostRuntime) -> Result<(), Fail> {
+    let alloc = rt.alloc();
+    let mut stepped = world_of(alloc, ONE_CLOCK)?;
+    plays(&rt, alloc, &mut stepped, RETUNE)?;
+    assert!(rt; is_moved(&stepped) && stepped.frames() == 7);
+    let mut run = world_of(alloc, ONE_CLOCK)?;
+    let all = schedule(alloc, RETUNE)?;
+    assert!(rt; run.run(all.as_slice()) == Ok(()));
+    assert!(rt; is_moved(&run) && run.frames() == 7);
+    Ok(())
+}
+
+const SET_PRIORITY1: &str = "\
+begin m set PRIORITY1 - 6400 => ok
+send m => ok
+deliver 1 => AnsweredNew
+deliver 2 => Answered";
+
+/// A session with the right to change ports alone is answered NOT_SUPPORTED.
+#[test]
+fn version_two_network(rt: HostRuntime) -> Result<(), Fail> {
+    let alloc = rt.alloc();
+    let rights = "first = 7\nrights = [\"port-set\"]";
+    let text = ONE_CLOCK.replace(alloc, "first = 7", rights)?;
+    let text = text.as_str().replace(alloc, "version = 1", "version = 2")?;
+    let mut world = world_of(alloc, text.as_str())?;
+    plays(&rt, alloc, &mut world, SET_PRIORITY1)?;
+    match world.reports("m") {
+        Some([report]) => assert!(rt; matches!(report.outcome, Outcome::Refused(6))),
+        _ => assert!(rt; false, "one report"),
+    }
+    Ok(())
+}
+
+const NOBODY_THERE: &str = "\
+send m => refused NoSuchName
+deliver 1 => refused NoSuchFrame
+stranger K 1 - => refused NoSuchName";
+
+#[test]
+fn empty_network(rt: HostRuntime) -> Result<(), Fail> {
+    let alloc = rt.alloc();
+    let mut world = world_of(alloc, "version = 2")?;
+    assert!(rt; world.run(&[]) == Ok(()));
+    plays(&rt, alloc, &mut world, NOBODY_THERE)?;
+    assert!(rt; world.sets("K").is_none() && world.reports("m").is_none());
+    Ok(())
+}
