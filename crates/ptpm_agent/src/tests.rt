@@ -5,6 +5,7 @@ mod damaged;
 mod exchange;
 mod forwarding;
 mod hostile;
+mod lists;
 mod memory;
 mod numbering;
 mod places;
