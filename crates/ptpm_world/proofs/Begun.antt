@@ -81,6 +81,10 @@ pub begins-nothing : (all before : Option (List ℕ)) → BeginsAt all before be
 begins-nothing None before = tt
 begins-nothing (Some input) before = ([], (inl refl, Appends-nil before))
 
+pub begins-err : {A : Type 0} (r : Result A ScriptError) (e : ScriptError) (all before after : Option (List ℕ)) → IsErrAnd r (λ x. x ≡ e)
+    → (e ≢ faults.WriteFault → BeginsAt all before after) → IfErr r (λ x. x ≢ faults.WriteFault → BeginsAt all before after)
+begins-err r e all before after given begun = err-on r e (λ x. x ≢ faults.WriteFault → BeginsAt all before after) given begun
+
 pub begins-script : (all first second before after : Option (List ℕ)) (n : NetworkValue) (names : Names) (start : Running)
     → IfSome all (λ octets. first ≡ Some octets)
     → BothKnown first second (λ xs ys. (network_of (network_text (lines xs)) ≡ Ok n) × (lines ys ≡ event_part (lines xs)))

@@ -421,3 +421,8 @@ pub network-read : (a b : Option (List ℕ)) (n : NetworkValue)
 network-read None b n h = tt
 network-read (Some xs) None n h = absurd h
 network-read (Some xs) (Some ys) n h = h.0
+
+pub script-outside : {A : Type 0} (r : Result A ScriptError) (e : ScriptError) (all : Option (List ℕ)) → IsErrAnd r (λ x. x ≡ e) → is_outside e ≡ true
+    → IfErr r (λ x. is_outside x ≡ false → IfSome all (λ input. script_fault input ≡ Some x))
+script-outside r e all given out =
+    err-on r e (λ x. is_outside x ≡ false → IfSome all (λ input. script_fault input ≡ Some x)) given (λ inside. outside e out inside)

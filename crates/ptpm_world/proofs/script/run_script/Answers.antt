@@ -1,4 +1,4 @@
-use Rattle.std.proofs.Common.{◌≡◌, ◌≢◌, ◌+◌, false, Some, refl, subst}
+use Rattle.std.proofs.Common.{◌≡◌, ◌+◌, false, Some, refl, subst}
 use Rattle.std.specs.Prelude.{IfSome}
 use Rattle.ptpm_script.specs.NetworkView.{network_value}
 use Rattle.ptpm_world.specs.Described.{described}
@@ -9,8 +9,8 @@ use Rattle.ptpm_world.specs.Trace.{data_lines, report_lines}
 use Rattle.std.specs.Io.KnownBytes.{Appends}
 use Rattle.ptpm_world.specs.declared.script_error.ScriptError.TheVariants as faults
 use Rattle.ptpm_world.specs.ScriptError.{is_outside, script_fault}
-use Rattle.ptpm_world.proofs.Begun.{BeginsAt, begins-nothing, begins-script}
-use Rattle.ptpm_world.proofs.FaultLemmas.{err-on, network-read, outside, script-events, script-file, script-none}
+use Rattle.ptpm_world.proofs.Begun.{begins-err, begins-nothing, begins-script}
+use Rattle.ptpm_world.proofs.FaultLemmas.{err-on, network-read, script-events, script-file, script-none, script-outside}
 use Rattle.ptpm_world.proofs.ScriptLemmas.{script-prints}
 use Rattle.ptpm_world.proofs.StartedWorld.{started-is}
 use Rattle.ptpm_world.proofs.script.run_script.Goals as goal
@@ -42,15 +42,13 @@ returns-clause-none g c =
 
 pub returns-in_err-script-clause-fault : goal.returns-in_err-script-clause-fault
 returns-in_err-script-clause-fault g c =
-    let told = g.R.Read.remaining c.args.reader in
-    err-on c.from_residual.result c.in_err-script.field-0.0 (λ e. is_outside e ≡ false → IfSome told (λ input. script_fault input ≡ Some e)) c.from_residual.ensures.1
-    (λ inside. outside c.in_err-script.field-0.0 c.in_err-script.ensures.fault inside)
+    script-outside c.from_residual.result c.in_err-script.field-0.0 (g.R.Read.remaining c.args.reader) c.from_residual.ensures.1 c.in_err-script.ensures.fault
 
 pub returns-in_err-script-clause-begun : goal.returns-in_err-script-clause-begun
 returns-in_err-script-clause-begun g c =
     let told = g.R.Read.remaining c.args.reader in
-    err-on c.from_residual.result c.in_err-script.field-0.0 (λ e. e ≢ faults.WriteFault → BeginsAt told (g.W.Write.contents c.args.out.now) (g.W.Write.contents c.args.out.now)) c.from_residual.ensures.1
-    (λ other. begins-nothing told (g.W.Write.contents c.args.out.now))
+    let before = g.W.Write.contents c.args.out.now in
+    begins-err c.from_residual.result c.in_err-script.field-0.0 told before before c.from_residual.ensures.1 (λ other. begins-nothing told before)
 
 pub returns-in_err-network-clause-fault : goal.returns-in_err-network-clause-fault
 returns-in_err-network-clause-fault g c =
@@ -63,20 +61,18 @@ returns-in_err-network-clause-fault g c =
 pub returns-in_err-network-clause-begun : goal.returns-in_err-network-clause-begun
 returns-in_err-network-clause-begun g c =
     let told = g.R.Read.remaining c.args.reader in
-    err-on c.from_residual-in_err-network.result c.in_err-network.field-0.0 (λ e. e ≢ faults.WriteFault → BeginsAt told (g.W.Write.contents c.args.out.now) (g.W.Write.contents c.args.out.now)) c.from_residual-in_err-network.ensures.1
-    (λ other. begins-nothing told (g.W.Write.contents c.args.out.now))
+    let before = g.W.Write.contents c.args.out.now in
+    begins-err c.from_residual-in_err-network.result c.in_err-network.field-0.0 told before before c.from_residual-in_err-network.ensures.1 (λ other. begins-nothing told before)
 
 pub returns-in_err-world-clause-fault : goal.returns-in_err-world-clause-fault
 returns-in_err-world-clause-fault g c =
-    let told = g.R.Read.remaining c.args.reader in
-    err-on c.from_residual-in_err-world.result faults.OutOfMemory (λ e. is_outside e ≡ false → IfSome told (λ input. script_fault input ≡ Some e)) c.from_residual-in_err-world.ensures.1
-    (λ inside. outside faults.OutOfMemory refl inside)
+    script-outside c.from_residual-in_err-world.result faults.OutOfMemory (g.R.Read.remaining c.args.reader) c.from_residual-in_err-world.ensures.1 refl
 
 pub returns-in_err-world-clause-begun : goal.returns-in_err-world-clause-begun
 returns-in_err-world-clause-begun g c =
     let told = g.R.Read.remaining c.args.reader in
-    err-on c.from_residual-in_err-world.result faults.OutOfMemory (λ e. e ≢ faults.WriteFault → BeginsAt told (g.W.Write.contents c.args.out.now) (g.W.Write.contents c.args.out.now)) c.from_residual-in_err-world.ensures.1
-    (λ other. begins-nothing told (g.W.Write.contents c.args.out.now))
+    let before = g.W.Write.contents c.args.out.now in
+    begins-err c.from_residual-in_err-world.result faults.OutOfMemory told before before c.from_residual-in_err-world.ensures.1 (λ other. begins-nothing told before)
 
 pub returns-in_err-play-clause-fault : goal.returns-in_err-play-clause-fault
 returns-in_err-play-clause-fault g c =
@@ -94,7 +90,7 @@ returns-in_err-play-clause-begun g c =
     let first = left_in g.R.Read.remaining c.in_ok-script.script in
     let second = left_in g.R.Read.remaining c.read_network.new.script in
     let n = network_value c.in_ok-network.network in
-    err-on c.from_residual-in_err-play.result c.in_err-play.field-0.0 (λ e. e ≢ faults.WriteFault → BeginsAt told (g.W.Write.contents c.args.out.now) (g.W.Write.contents c.play.new.out)) c.from_residual-in_err-play.ensures.1
+    begins-err c.from_residual-in_err-play.result c.in_err-play.field-0.0 told (g.W.Write.contents c.args.out.now) (g.W.Write.contents c.play.new.out) c.from_residual-in_err-play.ensures.1
     (λ other. begins-script told first second (g.W.Write.contents c.args.out.now) (g.W.Write.contents c.play.new.out) n (names_in c.in_ok-world.world) (running c.in_ok-world.world)
     c.in_ok-script.ensures.octets c.in_ok-network.ensures.network c.in_ok-world.ensures.names
     (started-is n c.in_ok-world.world c.in_ok-world.ensures.network c.in_ok-world.ensures.stands)
@@ -102,36 +98,27 @@ returns-in_err-play-clause-begun g c =
 
 pub returns-in_err-write_reports-clause-fault : goal.returns-in_err-write_reports-clause-fault
 returns-in_err-write_reports-clause-fault g c =
-    let told = g.R.Read.remaining c.args.reader in
-    err-on c.from_residual-in_err-write_reports.result faults.WriteFault (λ e. is_outside e ≡ false → IfSome told (λ input. script_fault input ≡ Some e)) c.from_residual-in_err-write_reports.ensures.1
-    (λ inside. outside faults.WriteFault refl inside)
+    script-outside c.from_residual-in_err-write_reports.result faults.WriteFault (g.R.Read.remaining c.args.reader) c.from_residual-in_err-write_reports.ensures.1 refl
 
 pub returns-in_err-write_reports-clause-begun : goal.returns-in_err-write_reports-clause-begun
 returns-in_err-write_reports-clause-begun g c =
-    let told = g.R.Read.remaining c.args.reader in
-    err-on c.from_residual-in_err-write_reports.result faults.WriteFault (λ e. e ≢ faults.WriteFault → BeginsAt told (g.W.Write.contents c.args.out.now) (g.W.Write.contents c.write_reports.new.out)) c.from_residual-in_err-write_reports.ensures.1
+    begins-err c.from_residual-in_err-write_reports.result faults.WriteFault (g.R.Read.remaining c.args.reader) (g.W.Write.contents c.args.out.now) (g.W.Write.contents c.write_reports.new.out) c.from_residual-in_err-write_reports.ensures.1
     (λ other. absurd (other refl))
 
 pub returns-in_err-write_data_sets-clause-fault : goal.returns-in_err-write_data_sets-clause-fault
 returns-in_err-write_data_sets-clause-fault g c =
-    let told = g.R.Read.remaining c.args.reader in
-    err-on c.from_residual-in_err-write_data_sets.result faults.WriteFault (λ e. is_outside e ≡ false → IfSome told (λ input. script_fault input ≡ Some e)) c.from_residual-in_err-write_data_sets.ensures.1
-    (λ inside. outside faults.WriteFault refl inside)
+    script-outside c.from_residual-in_err-write_data_sets.result faults.WriteFault (g.R.Read.remaining c.args.reader) c.from_residual-in_err-write_data_sets.ensures.1 refl
 
 pub returns-in_err-write_data_sets-clause-begun : goal.returns-in_err-write_data_sets-clause-begun
 returns-in_err-write_data_sets-clause-begun g c =
-    let told = g.R.Read.remaining c.args.reader in
-    err-on c.from_residual-in_err-write_data_sets.result faults.WriteFault (λ e. e ≢ faults.WriteFault → BeginsAt told (g.W.Write.contents c.args.out.now) (g.W.Write.contents c.write_data_sets.new.out)) c.from_residual-in_err-write_data_sets.ensures.1
+    begins-err c.from_residual-in_err-write_data_sets.result faults.WriteFault (g.R.Read.remaining c.args.reader) (g.W.Write.contents c.args.out.now) (g.W.Write.contents c.write_data_sets.new.out) c.from_residual-in_err-write_data_sets.ensures.1
     (λ other. absurd (other refl))
 
 pub returns-in_err-flush-clause-fault : goal.returns-in_err-flush-clause-fault
 returns-in_err-flush-clause-fault g c =
-    let told = g.R.Read.remaining c.args.reader in
-    err-on c.from_residual-in_err-flush.result faults.WriteFault (λ e. is_outside e ≡ false → IfSome told (λ input. script_fault input ≡ Some e)) c.from_residual-in_err-flush.ensures.1
-    (λ inside. outside faults.WriteFault refl inside)
+    script-outside c.from_residual-in_err-flush.result faults.WriteFault (g.R.Read.remaining c.args.reader) c.from_residual-in_err-flush.ensures.1 refl
 
 pub returns-in_err-flush-clause-begun : goal.returns-in_err-flush-clause-begun
 returns-in_err-flush-clause-begun g c =
-    let told = g.R.Read.remaining c.args.reader in
-    err-on c.from_residual-in_err-flush.result faults.WriteFault (λ e. e ≢ faults.WriteFault → BeginsAt told (g.W.Write.contents c.args.out.now) (g.W.Write.contents c.flush.new.self)) c.from_residual-in_err-flush.ensures.1
+    begins-err c.from_residual-in_err-flush.result faults.WriteFault (g.R.Read.remaining c.args.reader) (g.W.Write.contents c.args.out.now) (g.W.Write.contents c.flush.new.self) c.from_residual-in_err-flush.ensures.1
     (λ other. absurd (other refl))
