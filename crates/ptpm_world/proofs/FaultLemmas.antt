@@ -10,14 +10,13 @@ use Rattle.std.proofs.lemmas.Bool.{cond-false, cond-true, lt-ltb}
 use Rattle.std.proofs.lemmas.Bool.Decides.{nat_tests}
 use Rattle.std.proofs.lemmas.Str.{IsUtf8-from_is_utf8, is_utf8-from_IsUtf8}
 use Rattle.ptpm_script.specs.declared.event.Event.{Event}
-use Rattle.ptpm_script.specs.declared.event.EventError.{EventError}
 use Rattle.ptpm_script.specs.EventLine.{reading}
 use Rattle.ptpm_script.specs.NetworkText.{network_of}
 use Rattle.ptpm_script.specs.NetworkValue.{NetworkValue}
 use Rattle.ptpm_world.specs.declared.script_error.ScriptError.{ScriptError}
 use Rattle.ptpm_world.specs.declared.script_error.ScriptError.TheVariants as faults
-use Rattle.ptpm_world.specs.Lines.{BothKnown, ReadsLine, given, whole_lines}
-use Rattle.ptpm_world.specs.Script.{StandsFor, event_part, is_divider, is_skipped, network_text}
+use Rattle.ptpm_world.specs.Lines.{BothKnown, given, whole_lines}
+use Rattle.ptpm_world.specs.Script.{event_part, is_divider, is_skipped, network_text}
 use Rattle.ptpm_world.specs.ScriptError.{HasNextFault, ReadsWhole, event_fault, events_fault, file_fault, is_outside, network_fault, next_fault, reading_fault, script_fault, size_fault, text_fault}
 use Rattle.ptpm_world.proofs.LineLemmas.{IsRead, NoFeed, last_line, line_ends, no_feed-more, not_empty, one_part, part_ends, parts, some_part}
 use Rattle.ptpm_world.proofs.ScriptLemmas.{FileRead, kept-network}

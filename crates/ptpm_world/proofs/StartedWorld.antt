@@ -1,6 +1,6 @@
 -- A world that stands where its network starts is the started network.
-use Rattle.std.proofs.Common.{◌≡◌, ℕ, ◌<◌, ◌≤◌, ◌⊎◌, inl, inr, List, [], Option, Some, None, length, refl, sym, ap, ◌∙◌, subst, arith}
-use Rattle.std.specs.Prelude.{slice_get, slice_index_or}
+use Rattle.std.proofs.Common.{◌≡◌, ℕ, ◌<◌, ◌≤◌, ◌⊎◌, inl, inr, [], Option, Some, None, length, refl, sym, ap, ◌∙◌, arith}
+use Rattle.std.specs.Prelude.{slice_get}
 use Rattle.std.specs.FinMap.{empty, get, get-empty, same_map}
 use Rattle.std.proofs.lemmas.Bool.{cases_lt}
 use Rattle.std.proofs.lemmas.List.{get_or_past}
@@ -13,13 +13,11 @@ use Rattle.ptpm_table.proofs.Identities.{exact_identities, identities_total}
 use Rattle.ptpm_agent.specs.Laws.{IsKept, StandsAt, fresh}
 use Rattle.ptpm_agent.specs.Once.{beginning}
 use Rattle.ptpm_agent.specs.Turn.{State}
-use Rattle.ptpm_manager.specs.Session.{SessionValue}
-use Rattle.ptpm_manager.specs.declared.report.Report.{Report}
-use Rattle.ptpm_network.specs.Stands.{Held, Running, Stands}
+use Rattle.ptpm_network.specs.Stands.{Stands}
 use Rattle.ptpm_network.specs.State.{at_first}
 use Rattle.ptpm_script.specs.NetworkValue.{NetworkValue, first_sets}
 use Rattle.ptpm_world.specs.declared.world.World.{World}
-use Rattle.ptpm_world.specs.Described.{clock_at, described, no_clock, no_session, session_at}
+use Rattle.ptpm_world.specs.Described.{clock_at, described, no_clock, no_session}
 use Rattle.ptpm_world.specs.Running.{IsOf, reports_of, running, session_of, state_of}
 use Rattle.ptpm_world.specs.Script.{started, started_session}
 use Rattle.ptpm_world.proofs.DescribedLaws.{there}

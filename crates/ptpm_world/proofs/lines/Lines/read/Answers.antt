@@ -1,9 +1,9 @@
-use Rattle.std.proofs.Common.{◌≡◌, ◌<◌, ◌+◌, ◌∷◌, true, false, ap, arith, subst}
+use Rattle.std.proofs.Common.{◌<◌, ◌+◌, ◌∷◌, true, ap, arith, subst}
 use Rattle.std.specs.Prelude.{IfNone, OnSome, option_map}
 use Rattle.std.specs.Io.KnownBytes.{Consumes, IsAtEnd}
 use Rattle.ptpm_world.specs.Lines.{given, left_in}
-use Rattle.ptpm_world.specs.ScriptError.{HasNextFault, ReadsWhole, is_outside}
-use Rattle.ptpm_world.proofs.FaultLemmas.{err-on, fault-line, fault-many, whole-line, whole-none}
+use Rattle.ptpm_world.specs.ScriptError.{ReadsWhole}
+use Rattle.ptpm_world.proofs.FaultLemmas.{fault-many, whole-line, whole-none}
 use Rattle.ptpm_world.proofs.LineLemmas.{read-line, read-none}
 use Rattle.ptpm_world.proofs.lines.Lines.read.Goals as goal
 
