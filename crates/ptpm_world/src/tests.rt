@@ -8,5 +8,6 @@ mod networks;
 mod refusals;
 mod ring;
 mod schedules;
+mod script_faults;
 mod steps;
 mod worlds;

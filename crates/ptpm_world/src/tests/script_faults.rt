@@ -1,0 +1,168 @@
+//! Why a script ends early, and at which line; readers and writers that fail, hesitate or never end.
+
+use crate::script::run_script;
+use crate::script_error::ScriptError;
+use ptpm_script::{EventError, NetError};
+use std::alloc::Global;
+use std::io;
+use std::io::{Read, Write};
+use std::process::Abort;
+use std::test::Fail;
+
+/// An empty network.
+const HEAD: &[u8] = b"version = 1\n%%\n";
+
+/// How a script ends.
+fn end_of(alloc: Global, script: &[u8]) -> Result<(), ScriptError> {
+    run_script(alloc, script, &mut io::sink())
+}
+
+/// Lines are counted in all that is read, events' lines after the divider, and all before it is read before the network is
+/// judged.
+#[test]
+fn first_fault_and_its_line(rt: HostRuntime) {
+    let alloc = rt.alloc();
+    let not_text = Err(ScriptError::NotText(2));
+    assert!(rt; end_of(alloc, b"version\n#\xff\n%%\n") == not_text);
+    let not_toml = Err(ScriptError::BadNetwork(NetError::NotToml));
+    assert!(rt; end_of(alloc, b"version\n%%\n#\xff") == not_toml);
+    let bad_shape = Err(ScriptError::BadNetwork(NetError::BadShape));
+    assert!(rt; end_of(alloc, b"%%\n") == bad_shape);
+    let not_text = Err(ScriptError::NotText(4));
+    assert!(rt; end_of(alloc, b"version = 1\n%%\n\n#\xff\nsend\n") == not_text);
+    let bad_line = Err(ScriptError::BadLine(2, EventError::WordCount));
+    assert!(rt; end_of(alloc, b"version = 1\n%%\n\nsend\n#\xff\n") == bad_line);
+    let divider = Err(ScriptError::BadLine(1, EventError::UnknownWord));
+    assert!(rt; end_of(alloc, b"version = 1\n%%\n%%\n") == divider);
+}
+
+/// An empty network, and a comment of so many octets with this end.
+fn run_comment(alloc: Global, octets: u64, end: &[u8]) -> Result<(), ScriptError> {
+    let comment = io::repeat(b'#').take(octets).chain(end);
+    run_script(alloc, HEAD.chain(comment), &mut io::sink())
+}
+
+/// A line has 4,096 octets at most, a carriage return among them.
+#[test]
+fn line_at_maximum(rt: HostRuntime) {
+    let alloc = rt.alloc();
+    let too_long = Err(ScriptError::LineTooLong(3));
+    assert!(rt; run_comment(alloc, 4_096, b"") == Ok(()));
+    assert!(rt; run_comment(alloc, 4_096, b"\n") == Ok(()));
+    assert!(rt; run_comment(alloc, 4_095, b"\r\n") == Ok(()));
+    assert!(rt; run_comment(alloc, 4_096, b"\r\n") == too_long);
+    assert!(rt; run_comment(alloc, 4_097, b"") == too_long);
+}
+
+/// Is interrupted, and would go on if it were asked again.
+#[derive(Drop)]
+struct InterruptedReader;
+
+impl Read for InterruptedReader {
+    fn read(&mut self, _buffer: &mut [u8]) -> io::Result<usize> {
+        Err(io::Error::from(io::ErrorKind::Interrupted))
+    }
+}
+
+/// A read is not tried again.
+#[test]
+fn interrupted_read(rt: HostRuntime) {
+    let reader = HEAD.chain(InterruptedReader);
+    let end = run_script(rt.alloc(), reader, &mut io::sink());
+    assert!(rt; end == Err(ScriptError::ReadFault));
+}
+
+/// Is interrupted before each write, of which it takes one octet.
+#[derive(Drop)]
+struct InterruptedWriter {
+    taken: Vec<u8>,
+    is_ready: bool,
+}
+
+impl Write for InterruptedWriter {
+    fn write(&mut self, octets: &[u8]) -> io::Result<usize> {
+        self.is_ready = !self.is_ready;
+        if self.is_ready {
+            return Err(io::Error::from(io::ErrorKind::Interrupted));
+        }
+        let Some(octet) = octets.first() else {
+            return Ok(0);
+        };
+        self.taken.push(*octet)?;
+        Ok(1)
+    }
+
+    fn flush(&mut self) -> io::Result<()> {
+        Ok(())
+    }
+}
+
+/// A write is.
+#[test]
+fn interrupted_write(rt: HostRuntime) -> Result<(), Fail> {
+    let alloc = rt.alloc();
+    let taken = Vec::new(alloc);
+    let is_ready = false;
+    let mut out = InterruptedWriter { taken, is_ready };
+    let events = b"send m\ndeliver 1\n".as_slice();
+    run_script(alloc, HEAD.chain(events), &mut out)?;
+    let trace = b"1 send refused NoSuchName\n2 deliver refused NoSuchFrame\n".as_slice();
+    assert!(rt; out.taken.as_slice() == trace);
+    Ok(())
+}
+
+/// Takes no octet.
+#[derive(Drop)]
+struct FullWriter;
+
+impl Write for FullWriter {
+    fn write(&mut self, _octets: &[u8]) -> io::Result<usize> {
+        Ok(0)
+    }
+
+    fn flush(&mut self) -> io::Result<()> {
+        Ok(())
+    }
+}
+
+#[test]
+fn write_of_no_octets(rt: HostRuntime) {
+    let events = b"send m\n".as_slice();
+    let end = run_script(rt.alloc(), HEAD.chain(events), &mut FullWriter);
+    assert!(rt; end == Err(ScriptError::WriteFault));
+}
+
+/// Gives one line for ever, an octet at a time.
+#[derive(Drop)]
+struct EndlessReader {
+    line: &'static [u8],
+    place: usize,
+}
+
+impl Read for EndlessReader {
+    fn read(&mut self, buffer: &mut [u8]) -> io::Result<usize> {
+        let octet = match self.line.get(self.place) {
+            Some(octet) => *octet,
+            None => b'\n',
+        };
+        let Some(first) = buffer.first_mut() else {
+            return Ok(0);
+        };
+        *first = octet;
+        self.place = if octet == b'\n' {
+            0
+        } else {
+            self.place.saturating_add(1)
+        };
+        Ok(1)
+    }
+}
+
+/// A script of events without end is stopped.
+#[test]
+fn events_without_end(rt: HostRuntime) {
+    let line = b"send m".as_slice();
+    let events = EndlessReader { line, place: 0 };
+    let end = run_script(rt.alloc(), HEAD.chain(events), &mut io::sink());
+    assert!(rt; end == Err(ScriptError::TooManyLines));
+}
