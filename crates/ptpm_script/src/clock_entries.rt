@@ -2,7 +2,6 @@
 
 ghost use Rattle.std.specs.Prelude.{◌≡◌, IfErr, IfOk, option_map};
 ghost use Rattle.toml.specs.View.{view, table_view};
-ghost use Rattle.ptpm_script.specs.Entries.{IsEntry};
 ghost use Rattle.ptpm_script.specs.Document.{table_of};
 ghost use Rattle.ptpm_script.specs.NetworkFile.{clock_entry, clock_rules, clock_start, port_entry, port_rules, port_start};
 ghost use Rattle.ptpm_script.specs.NetworkText.{all_ports, has_port, has_ports, start_of_port};
@@ -10,7 +9,7 @@ ghost use Rattle.ptpm_script.specs.NetworkText.{all_ports, has_port, has_ports, 
 use crate::entries::{Entry, entries_at};
 use crate::names::Name;
 use crate::net_error::NetError;
-use crate::shapes::{Kind, Rule, shaped_table};
+use crate::shapes::{Kind, Rule, optional, required, shaped_table};
 use crate::values::{
     clock_at, description_at, flag_or, i8_or, i16_or, i32_or, i64_or, name_at, port_at, u8_at,
     u8_or, u16_at, u16_or,
@@ -61,220 +60,52 @@ pub(crate) struct PortEntry {
 
 /// The keys of a clock.
 static CLOCK_RULES: [Rule; 33] = [
-    Rule {
-        key: "name",
-        kind: Kind::Name,
-        is_required: true,
-    },
-    Rule {
-        key: "identity",
-        kind: Kind::Clock,
-        is_required: true,
-    },
-    Rule {
-        key: "domain",
-        kind: U8,
-        is_required: true,
-    },
-    Rule {
-        key: "ports",
-        kind: U16,
-        is_required: true,
-    },
-    Rule {
-        key: "port",
-        kind: Kind::Array,
-        is_required: false,
-    },
-    Rule {
-        key: "user_description",
-        kind: Kind::Text,
-        is_required: false,
-    },
-    Rule {
-        key: "two_step",
-        kind: Kind::Flag,
-        is_required: false,
-    },
-    Rule {
-        key: "priority1",
-        kind: U8,
-        is_required: false,
-    },
-    Rule {
-        key: "clock_class",
-        kind: U8,
-        is_required: false,
-    },
-    Rule {
-        key: "clock_accuracy",
-        kind: U8,
-        is_required: false,
-    },
-    Rule {
-        key: "variance",
-        kind: U16,
-        is_required: false,
-    },
-    Rule {
-        key: "priority2",
-        kind: U8,
-        is_required: false,
-    },
-    Rule {
-        key: "steps_removed",
-        kind: U16,
-        is_required: false,
-    },
-    Rule {
-        key: "offset_from_master",
-        kind: I64,
-        is_required: false,
-    },
-    Rule {
-        key: "mean_path_delay",
-        kind: I64,
-        is_required: false,
-    },
-    Rule {
-        key: "parent_port",
-        kind: Kind::Port(0xffff),
-        is_required: false,
-    },
-    Rule {
-        key: "parent_stats",
-        kind: Kind::Flag,
-        is_required: false,
-    },
-    Rule {
-        key: "observed_variance",
-        kind: U16,
-        is_required: false,
-    },
-    Rule {
-        key: "observed_rate",
-        kind: I32,
-        is_required: false,
-    },
-    Rule {
-        key: "grandmaster_priority1",
-        kind: U8,
-        is_required: false,
-    },
-    Rule {
-        key: "grandmaster_class",
-        kind: U8,
-        is_required: false,
-    },
-    Rule {
-        key: "grandmaster_accuracy",
-        kind: U8,
-        is_required: false,
-    },
-    Rule {
-        key: "grandmaster_variance",
-        kind: U16,
-        is_required: false,
-    },
-    Rule {
-        key: "grandmaster_priority2",
-        kind: U8,
-        is_required: false,
-    },
-    Rule {
-        key: "grandmaster",
-        kind: Kind::Clock,
-        is_required: false,
-    },
-    Rule {
-        key: "utc_offset",
-        kind: I16,
-        is_required: false,
-    },
-    Rule {
-        key: "leap61",
-        kind: Kind::Flag,
-        is_required: false,
-    },
-    Rule {
-        key: "leap59",
-        kind: Kind::Flag,
-        is_required: false,
-    },
-    Rule {
-        key: "utc_valid",
-        kind: Kind::Flag,
-        is_required: false,
-    },
-    Rule {
-        key: "ptp_timescale",
-        kind: Kind::Flag,
-        is_required: false,
-    },
-    Rule {
-        key: "time_traceable",
-        kind: Kind::Flag,
-        is_required: false,
-    },
-    Rule {
-        key: "frequency_traceable",
-        kind: Kind::Flag,
-        is_required: false,
-    },
-    Rule {
-        key: "time_source",
-        kind: U8,
-        is_required: false,
-    },
+    required!("name", Kind::Name),
+    required!("identity", Kind::Clock),
+    required!("domain", U8),
+    required!("ports", U16),
+    optional!("port", Kind::Array),
+    optional!("user_description", Kind::Text),
+    optional!("two_step", Kind::Flag),
+    optional!("priority1", U8),
+    optional!("clock_class", U8),
+    optional!("clock_accuracy", U8),
+    optional!("variance", U16),
+    optional!("priority2", U8),
+    optional!("steps_removed", U16),
+    optional!("offset_from_master", I64),
+    optional!("mean_path_delay", I64),
+    optional!("parent_port", Kind::Port(0xffff)),
+    optional!("parent_stats", Kind::Flag),
+    optional!("observed_variance", U16),
+    optional!("observed_rate", I32),
+    optional!("grandmaster_priority1", U8),
+    optional!("grandmaster_class", U8),
+    optional!("grandmaster_accuracy", U8),
+    optional!("grandmaster_variance", U16),
+    optional!("grandmaster_priority2", U8),
+    optional!("grandmaster", Kind::Clock),
+    optional!("utc_offset", I16),
+    optional!("leap61", Kind::Flag),
+    optional!("leap59", Kind::Flag),
+    optional!("utc_valid", Kind::Flag),
+    optional!("ptp_timescale", Kind::Flag),
+    optional!("time_traceable", Kind::Flag),
+    optional!("frequency_traceable", Kind::Flag),
+    optional!("time_source", U8),
 ];
 
 /// The keys of a port.
 static PORT_RULES: [Rule; 9] = [
-    Rule {
-        key: "number",
-        kind: U16,
-        is_required: true,
-    },
-    Rule {
-        key: "state",
-        kind: U8,
-        is_required: false,
-    },
-    Rule {
-        key: "log_min_delay_req",
-        kind: I8,
-        is_required: false,
-    },
-    Rule {
-        key: "peer_delay",
-        kind: I64,
-        is_required: false,
-    },
-    Rule {
-        key: "log_announce",
-        kind: I8,
-        is_required: false,
-    },
-    Rule {
-        key: "receipt_timeout",
-        kind: U8,
-        is_required: false,
-    },
-    Rule {
-        key: "log_sync",
-        kind: I8,
-        is_required: false,
-    },
-    Rule {
-        key: "delay_mechanism",
-        kind: U8,
-        is_required: false,
-    },
-    Rule {
-        key: "log_min_pdelay",
-        kind: I8,
-        is_required: false,
-    },
+    required!("number", U16),
+    optional!("state", U8),
+    optional!("log_min_delay_req", I8),
+    optional!("peer_delay", I64),
+    optional!("log_announce", I8),
+    optional!("receipt_timeout", U8),
+    optional!("log_sync", I8),
+    optional!("delay_mechanism", U8),
+    optional!("log_min_pdelay", I8),
 ];
 
 /// A value as the table of a clock.

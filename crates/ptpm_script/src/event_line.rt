@@ -1,6 +1,6 @@
 //! Lines of a script as events (this project's profile).
 
-ghost use Rattle.std.specs.Prelude.{◌≡◌, ◌⊎◌, [], Some, None, IfOk, IfErr, option_map};
+ghost use Rattle.std.specs.Prelude.{◌≡◌, ◌⊎◌, [], Some, None, IfOk, IfErr};
 ghost use Rattle.ptpm_script.specs.EventLine.{IsAnswer, action_named, ask_of, begin_of, deliver_of, management_id, octets_of, port_named, reading, resume_of, retune_of, send_of, stranger_of};
 ghost use Rattle.ptpm_script.specs.Words.{words};
 

@@ -11,7 +11,7 @@ use crate::entries::entries_at;
 use crate::link_entries::LinkEntry;
 use crate::net_error::NetError;
 use crate::session_entries::SessionEntry;
-use crate::shapes::{Kind, Rule, is_shaped};
+use crate::shapes::{Kind, Rule, is_shaped, optional, required};
 use crate::values::u8_at;
 use std::alloc::Global;
 use std::marker::Model;
@@ -35,26 +35,10 @@ impl Model for NetworkFile {
 
 /// The keys of a file.
 static FILE_RULES: [Rule; 4] = [
-    Rule {
-        key: "version",
-        kind: Kind::Whole(1, 2),
-        is_required: true,
-    },
-    Rule {
-        key: "clock",
-        kind: Kind::Array,
-        is_required: false,
-    },
-    Rule {
-        key: "session",
-        kind: Kind::Array,
-        is_required: false,
-    },
-    Rule {
-        key: "link",
-        kind: Kind::Array,
-        is_required: false,
-    },
+    required!("version", Kind::Whole(1, 2)),
+    optional!("clock", Kind::Array),
+    optional!("session", Kind::Array),
+    optional!("link", Kind::Array),
 ];
 
 impl NetworkFile {

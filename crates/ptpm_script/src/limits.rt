@@ -16,6 +16,7 @@ const CLOCKS: usize = 64;
 const SESSIONS: usize = 256;
 
 const LINKS: usize = 256;
+
 /// The sessions whose target is one clock.
 const MANAGERS: usize = 16;
 
@@ -38,23 +39,13 @@ pub(crate) fn has_too_many(file: &NetworkFile) -> bool
 fn has_bad_link(links: &[LinkEntry]) -> bool
     ensures { result ≡ list_any has_bad_size links.now }
 {
-    for link in links {
-        if link.ends.len() < LEAST_ENDS || MOST_ENDS < link.ends.len() {
-            return true;
-        }
-    }
-    false
+    links.iter().any(|link| link.ends.len() < LEAST_ENDS || MOST_ENDS < link.ends.len())
 }
 
 fn has_crowded_target(sessions: &[SessionEntry]) -> bool
     ensures { result ≡ list_any (λ s. nat_lt 16 (managers_of s.target sessions.now)) sessions.now }
 {
-    for session in sessions {
-        if managers_of(session.target.as_str(), sessions) > MANAGERS {
-            return true;
-        }
-    }
-    false
+    sessions.iter().any(|session| managers_of(session.target.as_str(), sessions) > MANAGERS)
 }
 
 /// How many sessions have this target.
@@ -62,11 +53,8 @@ fn has_crowded_target(sessions: &[SessionEntry]) -> bool
 fn managers_of(target: &str, sessions: &[SessionEntry]) -> usize
     ensures { result ≡ managers_of target.now sessions.now }
 {
-    let mut count = 0;
-    for session in sessions {
-        if session.target.as_str() == target {
-            count += 1;
-        }
-    }
-    count
+    sessions
+        .iter()
+        .filter(|session| session.target.as_str() == target)
+        .count()
 }

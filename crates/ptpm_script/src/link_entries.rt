@@ -8,7 +8,7 @@ ghost use Rattle.ptpm_script.specs.NetworkFile.{link_rules};
 use crate::entries::{Entry, entries_at};
 use crate::names::Name;
 use crate::net_error::NetError;
-use crate::shapes::{Kind, Rule, shaped_table};
+use crate::shapes::{Kind, Rule, required, shaped_table};
 use crate::spellings::end_spelling;
 use std::alloc::Global;
 use std::marker::Model;
@@ -28,11 +28,7 @@ pub(crate) struct EndEntry {
 }
 
 /// The keys of a link.
-static LINK_RULES: [Rule; 1] = [Rule {
-    key: "ends",
-    kind: Kind::Array,
-    is_required: true,
-}];
+static LINK_RULES: [Rule; 1] = [required!("ends", Kind::Array)];
 
 impl Model for LinkEntry {
     ghost use Rattle.std.specs.Prelude.{List};

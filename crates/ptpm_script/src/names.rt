@@ -60,10 +60,7 @@ pub(crate) fn is_name(text: &str) -> bool
 fn has_name_octets(text: &str) -> bool
     ensures { result ≡ list_all is_name_octet text.now }
 {
-    for octet in text.as_bytes() {
-        if !matches!(octet, b'a'..=b'z' | b'A'..=b'Z' | b'0'..=b'9' | b'_') {
-            return false;
-        }
-    }
-    true
+    text.as_bytes().iter().all(
+        |octet| matches!(octet, b'a'..=b'z' | b'A'..=b'Z' | b'0'..=b'9' | b'_'),
+    )
 }

@@ -184,23 +184,13 @@ impl Parts {
 fn have_own_ports(clocks: &[ClockEntry]) -> bool
     ensures { result ≡ list_all has_own_ports clocks.now }
 {
-    for clock in clocks {
-        if !has_own_ports(clock) {
-            return false;
-        }
-    }
-    true
+    clocks.iter().all(|clock| has_own_ports(clock))
 }
 
 fn has_own_ports(clock: &ClockEntry) -> bool
     ensures { result ≡ has_own_ports clock.now }
 {
-    for port in &clock.ports {
-        if !clock.has_port(port.number) {
-            return false;
-        }
-    }
-    true
+    clock.ports.iter().all(|port| clock.has_port(port.number))
 }
 
 /// The place of the clock of a name.

@@ -1,6 +1,6 @@
 //! Numbers as scripts and network files write them.
 
-ghost use Rattle.std.specs.Prelude.{◌≡◌, ◌<◌, ◌^◌};
+ghost use Rattle.std.specs.Prelude.{◌≡◌, ◌<◌};
 ghost use Rattle.std.specs.Str.{all_ascii_digits};
 ghost use Rattle.ptpm_script.specs.Numbers.{decimal, decimal_up_to, four_digits};
 

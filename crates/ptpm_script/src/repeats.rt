@@ -25,12 +25,9 @@ pub(crate) fn has_twice(file: &NetworkFile) -> bool
 fn has_any_port_twice(clocks: &[ClockEntry]) -> bool
     ensures { result ≡ list_any (λ c. has_like same_number c.ports) clocks.now }
 {
-    for clock in clocks {
-        if has_port_twice(clock.ports.as_slice()) {
-            return true;
-        }
-    }
-    false
+    clocks
+        .iter()
+        .any(|clock| has_port_twice(clock.ports.as_slice()))
 }
 
 fn has_port_twice(mut ports: &[PortEntry]) -> bool
@@ -48,12 +45,7 @@ fn has_port_twice(mut ports: &[PortEntry]) -> bool
 fn has_number(port: &PortEntry, others: &[PortEntry]) -> bool
     ensures { result ≡ list_any (same_number port.now) others.now }
 {
-    for other in others {
-        if other.number == port.number {
-            return true;
-        }
-    }
-    false
+    others.iter().any(|other| other.number == port.number)
 }
 
 /// Two clocks with one name or one identity.
@@ -72,39 +64,25 @@ fn has_clock_twice(mut clocks: &[ClockEntry]) -> bool
 fn has_clock_like(clock: &ClockEntry, others: &[ClockEntry]) -> bool
     ensures { result ≡ list_any (same_name_or_clock clock.now) others.now }
 {
-    for other in others {
-        if other.name.as_str() == clock.name.as_str()
-            || other.start.identity == clock.start.identity
-        {
-            return true;
-        }
-    }
-    false
+    others.iter().any(|other| {
+        other.name.as_str() == clock.name.as_str() || other.start.identity == clock.start.identity
+    })
 }
 
 /// A session with a clock's name or clockIdentity.
 fn has_clock_as_session(clocks: &[ClockEntry], sessions: &[SessionEntry]) -> bool
     ensures { result ≡ list_any (λ s. list_any (is_clock s) clocks.now) sessions.now }
 {
-    for session in sessions {
-        if is_clock(session, clocks) {
-            return true;
-        }
-    }
-    false
+    sessions.iter().any(|session| is_clock(session, clocks))
 }
 
 fn is_clock(session: &SessionEntry, clocks: &[ClockEntry]) -> bool
     ensures { result ≡ list_any (is_clock session.now) clocks.now }
 {
-    for clock in clocks {
-        if clock.name.as_str() == session.name.as_str()
+    clocks.iter().any(|clock| {
+        clock.name.as_str() == session.name.as_str()
             || clock.start.identity == session.identity.clock
-        {
-            return true;
-        }
-    }
-    false
+    })
 }
 
 /// Two sessions with one name or one identity.
@@ -123,12 +101,9 @@ fn has_session_twice(mut sessions: &[SessionEntry]) -> bool
 fn has_session_like(session: &SessionEntry, others: &[SessionEntry]) -> bool
     ensures { result ≡ list_any (same_name_or_identity session.now) others.now }
 {
-    for other in others {
-        if other.name.as_str() == session.name.as_str() || other.identity == session.identity {
-            return true;
-        }
-    }
-    false
+    others.iter().any(|other| {
+        other.name.as_str() == session.name.as_str() || other.identity == session.identity
+    })
 }
 
 /// An end in two links, or twice in one.
@@ -171,10 +146,5 @@ fn is_in_links(end: &EndEntry, links: &[LinkEntry]) -> bool
 fn has_end(end: &EndEntry, ends: &[EndEntry]) -> bool
     ensures { result ≡ list_any (same_end end.now) ends.now }
 {
-    for other in ends {
-        if other.name.as_str() == end.name.as_str() && other.port == end.port {
-            return true;
-        }
-    }
-    false
+    ends.iter().any(|other| other.name.as_str() == end.name.as_str() && other.port == end.port)
 }

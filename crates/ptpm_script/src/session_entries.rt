@@ -7,10 +7,10 @@ ghost use Rattle.ptpm_script.specs.Document.{table_of};
 ghost use Rattle.ptpm_script.specs.Entries.{IsEntry};
 ghost use Rattle.ptpm_script.specs.NetworkFile.{right_of, rights_from, rights_of, session_rules};
 
-use crate::entries::{Entry, entries_at};
+use crate::entries::Entry;
 use crate::names::Name;
 use crate::net_error::NetError;
-use crate::shapes::{Kind, Rule, shaped_table};
+use crate::shapes::{Kind, Rule, optional, required, shaped_table};
 use crate::values::{name_at, port_at, u8_at, u8_or, u16_at, value_at};
 use bitflags::Flags;
 use ptpm_codec::PortIdentity;
@@ -35,46 +35,14 @@ pub(crate) struct SessionEntry {
 
 /// The keys of a session.
 static SESSION_RULES: [Rule; 8] = [
-    Rule {
-        key: "name",
-        kind: Kind::Name,
-        is_required: true,
-    },
-    Rule {
-        key: "identity",
-        kind: Kind::Port(0xfffe),
-        is_required: true,
-    },
-    Rule {
-        key: "target",
-        kind: Kind::Name,
-        is_required: true,
-    },
-    Rule {
-        key: "first",
-        kind: Kind::Whole(0, 0xffff),
-        is_required: true,
-    },
-    Rule {
-        key: "hops",
-        kind: Kind::Whole(0, 0xff),
-        is_required: true,
-    },
-    Rule {
-        key: "attempts",
-        kind: Kind::Whole(0, 0xff),
-        is_required: true,
-    },
-    Rule {
-        key: "domain",
-        kind: Kind::Whole(0, 0xff),
-        is_required: false,
-    },
-    Rule {
-        key: "rights",
-        kind: Kind::Array,
-        is_required: false,
-    },
+    required!("name", Kind::Name),
+    required!("identity", Kind::Port(0xfffe)),
+    required!("target", Kind::Name),
+    required!("first", Kind::Whole(0, 0xffff)),
+    required!("hops", Kind::Whole(0, 0xff)),
+    required!("attempts", Kind::Whole(0, 0xff)),
+    optional!("domain", Kind::Whole(0, 0xff)),
+    optional!("rights", Kind::Array),
 ];
 
 impl Entry for SessionEntry {

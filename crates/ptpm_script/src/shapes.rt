@@ -35,6 +35,23 @@ pub(crate) struct Rule {
     pub(crate) is_required: bool,
 }
 
+/// A key that a table must have.
+macro_rules! required {
+    ($key:literal, $kind:expr) => {
+        Rule { key: $key, kind: $kind, is_required: true }
+    };
+}
+
+/// A key that a table may have.
+macro_rules! optional {
+    ($key:literal, $kind:expr) => {
+        Rule { key: $key, kind: $kind, is_required: false }
+    };
+}
+
+pub(crate) use optional;
+pub(crate) use required;
+
 impl Kind {
     /// Whether a value is of this kind.
     #[tactic(auto, unfolding(crate::specs::Document::fits))]

@@ -1,6 +1,6 @@
 //! The values at the keys of a table that keeps to its rules: where one is of another kind, there is none.
 
-ghost use Rattle.std.specs.Prelude.{◌≡◌, IfOk, option_map, option_and_then, unwrap_or, [], take, length, ◌≤◌};
+ghost use Rattle.std.specs.Prelude.{◌≡◌, IfOk, option_map, unwrap_or, [], take, length, ◌≤◌};
 ghost use Rattle.toml.specs.Data.{as_str, as_bool, as_integer, get_member};
 ghost use Rattle.toml.specs.View.{view, table_view};
 ghost use Rattle.ptpm_script.specs.Values.{clock_at, description_at, integer_at, natural_at, port_at, signed_at, text_at, flag_at};
@@ -22,28 +22,19 @@ pub(crate) fn value_at<'a>(table: &'a Table, key: &str) -> Option<&'a Value>
 pub(crate) fn text_at<'a>(table: &'a Table, key: &str) -> Option<&'a str>
     ensures { option_map (λ s. s.now) result ≡ text_at key.now (table_view table.now) }
 {
-    match value_at(table, key) {
-        Some(value) => value.as_str(),
-        None => None,
-    }
+    value_at(table, key)?.as_str()
 }
 
 pub(crate) fn flag_at(table: &Table, key: &str) -> Option<bool>
     ensures { result ≡ flag_at key.now (table_view table.now) }
 {
-    match value_at(table, key) {
-        Some(value) => value.as_bool(),
-        None => None,
-    }
+    value_at(table, key)?.as_bool()
 }
 
 pub(crate) fn i64_at(table: &Table, key: &str) -> Option<i64>
     ensures { result ≡ integer_at key.now (table_view table.now) }
 {
-    match value_at(table, key) {
-        Some(value) => value.as_integer(),
-        None => None,
-    }
+    value_at(table, key)?.as_integer()
 }
 
 #[tactic(auto, unfolding(crate::specs::Values::natural_at))]
@@ -99,64 +90,43 @@ pub(crate) fn i32_at(table: &Table, key: &str) -> Option<i32>
 pub(crate) fn flag_or(table: &Table, key: &str, default: bool) -> bool
     ensures { result ≡ unwrap_or (flag_at key.now (table_view table.now)) default }
 {
-    match flag_at(table, key) {
-        Some(value) => value,
-        None => default,
-    }
+    flag_at(table, key).unwrap_or(default)
 }
 
 pub(crate) fn u8_or(table: &Table, key: &str, default: u8) -> u8
     ensures { result ≡ unwrap_or (natural_at 255 key.now (table_view table.now)) default }
 {
-    match u8_at(table, key) {
-        Some(value) => value,
-        None => default,
-    }
+    u8_at(table, key).unwrap_or(default)
 }
 
 pub(crate) fn u16_or(table: &Table, key: &str, default: u16) -> u16
     ensures { result ≡ unwrap_or (natural_at 65535 key.now (table_view table.now)) default }
 {
-    match u16_at(table, key) {
-        Some(value) => value,
-        None => default,
-    }
+    u16_at(table, key).unwrap_or(default)
 }
 
 pub(crate) fn i8_or(table: &Table, key: &str, default: i8) -> i8
     ensures { result ≡ unwrap_or (signed_at 128 key.now (table_view table.now)) default }
 {
-    match i8_at(table, key) {
-        Some(value) => value,
-        None => default,
-    }
+    i8_at(table, key).unwrap_or(default)
 }
 
 pub(crate) fn i16_or(table: &Table, key: &str, default: i16) -> i16
     ensures { result ≡ unwrap_or (signed_at 32768 key.now (table_view table.now)) default }
 {
-    match i16_at(table, key) {
-        Some(value) => value,
-        None => default,
-    }
+    i16_at(table, key).unwrap_or(default)
 }
 
 pub(crate) fn i32_or(table: &Table, key: &str, default: i32) -> i32
     ensures { result ≡ unwrap_or (signed_at 2147483648 key.now (table_view table.now)) default }
 {
-    match i32_at(table, key) {
-        Some(value) => value,
-        None => default,
-    }
+    i32_at(table, key).unwrap_or(default)
 }
 
 pub(crate) fn i64_or(table: &Table, key: &str, default: i64) -> i64
     ensures { result ≡ unwrap_or (integer_at key.now (table_view table.now)) default }
 {
-    match i64_at(table, key) {
-        Some(value) => value,
-        None => default,
-    }
+    i64_at(table, key).unwrap_or(default)
 }
 
 pub(crate) fn clock_at(table: &Table, key: &str) -> Option<ClockIdentity>
