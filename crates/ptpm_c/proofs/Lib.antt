@@ -1,0 +1,3 @@
+pub mod ClockBox
+pub mod Somes
+pub mod Turns

@@ -1,0 +1,147 @@
+//! A clock for hosts in C: a static library of a few calls, each one of `ptpm_host`. `hosts/ptpm.h` is its header.
+#![tactic(auto)]
+
+ghost use Rattle.std.specs.Prelude.{◌≡◌, ◌≤◌, IfNone, IfSome, None, Ok, Some, length, take};
+ghost use Rattle.ptpm_data.specs.DataField.{data_field_of_id};
+ghost use Rattle.ptpm_data.specs.Members.{has_port};
+ghost use Rattle.ptpm_data.specs.Start.{default_clock, default_port};
+ghost use Rattle.ptpm_host.specs.declared.clock.HostedClock.{HostedClock};
+ghost use Rattle.ptpm_host.specs.declared.refusal.HandleRefusal.{HandleRefusal};
+ghost use Rattle.ptpm_host.specs.declared.refusal.ReadRefusal.{ReadRefusal};
+ghost use Rattle.ptpm_host.specs.Clock.{handle_refusal, messages_in, start_by};
+ghost use Rattle.ptpm_host.specs.Numbers.{handle_number, no_clock, read_number};
+ghost use Rattle.ptpm_host.specs.Reading.{read_refusal};
+ghost use Rattle.ptpm_host.specs.Settings.{clock_start, default_identity, port_start};
+ghost use Rattle.ptpm_c.specs.Turned.{IsTurnedTo};
+
+mod handle;
+mod keeping;
+
+use crate::handle::ClockHandle;
+use ptpm_host::{
+    ClockSettings, HostedClock, ManagerSettings, NO_CLOCK, PortSettings, Sent, handle_number,
+    read_number, start_number, verdict_number,
+};
+use std::alloc::Global;
+
+/// Writes over settings: a clock of identity 0 in domain 0 with this profile's defaults.
+#[unsafe(no_mangle)]
+pub extern "C" fn ptpm_clock_defaults(settings: &mut ClockSettings)
+    ensures { clock_start settings.new ≡ default_clock default_identity 0 }
+{
+    *settings = ClockSettings::new();
+}
+
+/// Writes over the settings of a port: MASTER, with this profile's defaults.
+#[unsafe(no_mangle)]
+pub extern "C" fn ptpm_port_defaults(settings: &mut PortSettings)
+    ensures { port_start settings.new ≡ default_port }
+{
+    *settings = PortSettings::new();
+}
+
+/// Starts a clock in a handle, in place of the one that it holds: 0. Where it is refused, by the number of the refusal, the
+/// handle holds none.
+#[unsafe(no_mangle)]
+pub extern "C" fn ptpm_clock_start(
+    alloc: Global,
+    handle: &mut ClockHandle,
+    settings: &ClockSettings,
+    ports: &[PortSettings],
+    managers: &[ManagerSettings],
+) -> u32
+    ensures started { IfSome handle.new.keeping.clock (λ c. (result ≡ 0) × (start_by settings.now ports.now ≡ Ok c.agent.sets)) }
+    ensures refused { IfNone handle.new.keeping.clock (1 ≤ result) }
+{
+    let _ = handle.take(alloc);
+    let clock = match HostedClock::start(alloc, settings, ports, managers) {
+        Ok(clock) => clock,
+        Err(refusal) => return start_number(refusal),
+    };
+    match Box::new(alloc, clock) {
+        Ok(boxed) => {
+            *handle = ClockHandle::of_box(boxed);
+            0
+        }
+        Err(_) => 35,
+    }
+}
+
+/// What becomes of a datagram that comes in at a port: the number of the verdict, or of the refusal. The first `count`
+/// places of `sent` get what the clock sends. Takes no memory.
+#[tactic(auto, using(crate::proofs::Turns::turned_to))]
+#[unsafe(no_mangle)]
+pub extern "C" fn ptpm_clock_handle(
+    alloc: Global,
+    handle: &mut ClockHandle,
+    port: u16,
+    datagram: &[u8],
+    sent: &mut [Sent],
+    count: &mut usize,
+) -> u32
+    ensures turned { (c : HostedClock) → handle.old.keeping.clock ≡ Some c →
+        handle_refusal (has_port port c.agent.sets) (length sent.old) ≡ None → IfSome handle.new.keeping.clock (λ d.
+        IsTurnedTo c port datagram.now result (messages_in (take count.new sent.new)) d) }
+    ensures refused { (c : HostedClock) (e : HandleRefusal) → handle.old.keeping.clock ≡ Some c →
+        handle_refusal (has_port port c.agent.sets) (length sent.old) ≡ Some e →
+        (result ≡ handle_number e) × ((count.new ≡ 0) × (handle.new.keeping.clock ≡ Some c)) }
+    ensures within { count.new ≤ length sent.new }
+    ensures empty { handle.old.keeping.clock ≡ None →
+        (result ≡ no_clock) × ((count.new ≡ 0) × (handle.new.keeping.clock ≡ None)) }
+{
+    *count = 0;
+    let Some(mut clock) = handle.take(alloc) else {
+        return NO_CLOCK;
+    };
+    let number = match clock.handle(port, datagram, sent) {
+        Ok(handled) => {
+            *count = handled.count;
+            verdict_number(handled.verdict)
+        }
+        Err(refusal) => handle_number(refusal),
+    };
+    *handle = ClockHandle::of_box(clock);
+    number
+}
+
+/// Leaves what a GET of this id is answered at the head of `octets`, `size` octets: 0, or the number of the refusal. The port
+/// matters for an id of a port alone. Takes no memory.
+#[unsafe(no_mangle)]
+pub extern "C" fn ptpm_clock_read(
+    alloc: Global,
+    handle: &mut ClockHandle,
+    id: u16,
+    port: u16,
+    octets: &mut [u8],
+    size: &mut usize,
+) -> u32
+    ensures kept { handle.new.keeping.clock ≡ handle.old.keeping.clock }
+    ensures field { (c : HostedClock) → handle.old.keeping.clock ≡ Some c →
+        read_refusal id port (length octets.old) c.agent.sets ≡ None →
+        (result ≡ 0) × (take size.new octets.new ≡ data_field_of_id id port c.agent.sets) }
+    ensures refused { (c : HostedClock) (e : ReadRefusal) → handle.old.keeping.clock ≡ Some c →
+        read_refusal id port (length octets.old) c.agent.sets ≡ Some e → (result ≡ read_number e) × (size.new ≡ 0) }
+    ensures empty { handle.old.keeping.clock ≡ None → (result ≡ no_clock) × (size.new ≡ 0) }
+{
+    *size = 0;
+    let Some(clock) = handle.take(alloc) else {
+        return NO_CLOCK;
+    };
+    let number = match clock.read(id, port, octets) {
+        Ok(count) => {
+            *size = count;
+            0
+        }
+        Err(refusal) => read_number(refusal),
+    };
+    *handle = ClockHandle::of_box(clock);
+    number
+}
+
+/// Ends the clock that a handle holds, if it holds one.
+#[unsafe(no_mangle)]
+pub extern "C" fn ptpm_clock_stop(alloc: Global, handle: &mut ClockHandle)
+    ensures { handle.new.keeping.clock ≡ None }
+{
+    let _ = handle.take(alloc);
+}

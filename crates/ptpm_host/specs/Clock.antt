@@ -1,0 +1,64 @@
+-- A clock that a host keeps, as the definitions of a turn see it, and the messages that are handed out to the host.
+use Rattle.std.specs.Prelude.{ℕ, Bool, not, nat_lt, List, [], ◌∷◌, take, map, Option, Some, None, Result, Ok, Err}
+use Rattle.std.specs.FinMap.{from_entries}
+use Rattle.ptpm_codec.specs.Identity.{identity_cmp}
+use Rattle.ptpm_codec.specs.Ordered.{first_of}
+use Rattle.ptpm_data.specs.declared.start.StartError.{StartError}
+use Rattle.ptpm_data.specs.Members.{DataSetsValue}
+use Rattle.ptpm_data.specs.Start.{start_of}
+use Rattle.ptpm_table.specs.declared.error.TableError.{TableError}
+use Rattle.ptpm_table.specs.Managers.{identities, rights_in, table_refusal}
+use Rattle.ptpm_table.specs.Slots.{configured, used}
+use Rattle.ptpm_agent.specs.Turn.{Clock, State}
+use Rattle.ptpm_host.specs.declared.clock.HostedClock.{HostedClock}
+use Rattle.ptpm_host.specs.declared.refusal.HandleRefusal.{HandleRefusal}
+use Rattle.ptpm_host.specs.declared.refusal.HandleRefusal.TheVariants.{NoPort, NoRoom}
+use Rattle.ptpm_host.specs.declared.refusal.StartRefusal.{StartRefusal}
+use Rattle.ptpm_host.specs.declared.refusal.StartRefusal.TheVariants as refusals
+use Rattle.ptpm_host.specs.declared.sent.Sent.{Sent}
+use Rattle.ptpm_host.specs.declared.settings.ClockSettings.{ClockSettings}
+use Rattle.ptpm_host.specs.declared.settings.ManagerSettings.{ManagerSettings}
+use Rattle.ptpm_host.specs.declared.settings.PortSettings.{PortSettings}
+use Rattle.ptpm_host.specs.Settings as settings
+
+-- ---- a clock
+
+-- its identity, its managers, and what each of them may change
+abbrev pub clock_in : HostedClock → Clock
+clock_in c = record {
+  identity = c.agent.table.clock;
+  managers = identities (configured c.agent.table.slots.items);
+  rights = rights_in (configured c.agent.table.slots.items);
+}
+
+-- its data sets, and what is kept of each manager
+abbrev pub state_in : HostedClock → State
+state_in c = record { sets = c.agent.sets; entries = from_entries {R = identity_cmp} (used c.agent.table.slots.items) }
+
+-- ---- why a clock does not start: its values first, then its managers
+
+abbrev pub refusal_by : Result DataSetsValue StartError → Option TableError → Option StartRefusal
+refusal_by (Err e) t = Some (refusals.Values e)
+refusal_by (Ok d) (Some e) = Some (refusals.Managers e)
+refusal_by (Ok d) None = None
+
+abbrev pub start_by : ClockSettings → List PortSettings → Result DataSetsValue StartError
+start_by clock ports = start_of (settings.clock_start clock) (map settings.port_start ports)
+
+abbrev pub start_refusal : ClockSettings → List PortSettings → List ManagerSettings → Option StartRefusal
+start_refusal clock ports managers =
+    refusal_by (start_by clock ports) (table_refusal (identities (settings.configured managers)))
+
+-- ---- why a datagram is not handled: the clock has the port or not, and there is room for so many messages
+
+abbrev pub handle_refusal : Bool → ℕ → Option HandleRefusal
+handle_refusal has_port room = first_of ((not has_port, NoPort) ∷ (nat_lt room 15, NoRoom) ∷ [])
+
+-- ---- messages
+
+-- a message with the port that it is sent at
+abbrev pub message_in : Sent → ℕ × List ℕ
+message_in s = (s.port, take s.size s.octets)
+
+abbrev pub messages_in : List Sent → List (ℕ × List ℕ)
+messages_in places = map message_in places

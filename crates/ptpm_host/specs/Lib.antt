@@ -1,0 +1,4 @@
+pub mod Settings
+pub mod Numbers
+pub mod Clock
+pub mod Reading

@@ -1,0 +1,16 @@
+-- Why the data sets of a clock are not read by an id: no GET of it is permitted, its port is missing, or there is no room.
+use Rattle.std.specs.Prelude.{ℕ, Bool, ◌&&◌, not, nat_lt, [], ◌∷◌, Option}
+use Rattle.ptpm_codec.specs.declared.message.Action.TheVariants.{Get}
+use Rattle.ptpm_codec.specs.Ordered.{first_of}
+use Rattle.ptpm_data.specs.DataField.{permits}
+use Rattle.ptpm_data.specs.IdTable.{is_of_port}
+use Rattle.ptpm_data.specs.Members.{DataSetsValue, has_port}
+use Rattle.ptpm_host.specs.declared.refusal.ReadRefusal.{ReadRefusal}
+use Rattle.ptpm_host.specs.declared.refusal.ReadRefusal.TheVariants.{NotReadable, NoPort, NoRoom}
+
+abbrev pub read_refusal : ℕ → ℕ → ℕ → DataSetsValue → Option ReadRefusal
+read_refusal id port room d = first_of (
+    (not (permits Get id), NotReadable)
+    ∷ (is_of_port id && not (has_port port d), NoPort)
+    ∷ (nat_lt room 130, NoRoom)
+    ∷ [])

@@ -1,0 +1,115 @@
+//! A clock with the messages that it sends, as a host keeps it.
+
+ghost use Rattle.std.specs.Prelude.{◌≡◌, ◌≢◌, ◌≤◌, Ok, None, Some, IfErr, IfOk, MatchResult, OnErr, OnOk, length, take};
+ghost use Rattle.ptpm_data.specs.Members.{has_port};
+ghost use Rattle.ptpm_table.specs.Managers.{IsFresh};
+ghost use Rattle.ptpm_agent.specs.Agent.{IsTurned};
+ghost use Rattle.ptpm_agent.specs.Turn.{turn};
+ghost use Rattle.ptpm_host.specs.Clock.{clock_in, handle_refusal, messages_in, start_by, start_refusal, state_in};
+ghost use Rattle.ptpm_host.specs.Settings.{configured};
+
+use crate::refusal::{HandleRefusal, StartRefusal};
+use crate::sent::{Sent, hand_out};
+use crate::settings::{ClockSettings, ManagerSettings, PortSettings, configured, port_starts};
+use ptpm_agent::{Agent, Verdict};
+use ptpm_codec::ClockIdentity;
+use ptpm_data::DataSets;
+use ptpm_table::{BoundTable, Outbox, ReplyTable};
+use std::alloc::Global;
+
+/// How many messages a clock sends at most for a datagram: seven copies that it passes on, and eight replies.
+pub const MOST_SENT: usize = 15;
+
+/// A clock, and room for what it sends.
+#[derive(Drop)]
+pub struct HostedClock {
+    agent: Agent<BoundTable>,
+    /// What the latest datagram had sent.
+    outbox: Outbox,
+}
+
+/// What became of a datagram.
+#[derive(Clone, Copy, Debug)]
+pub struct Handled {
+    pub verdict: Verdict,
+    /// How many messages are sent for it.
+    pub count: usize,
+}
+
+impl HostedClock {
+    /// A clock that has heard nothing yet, with these values and these managers. Memory is taken for the call alone.
+    pub fn start(
+        alloc: Global,
+        settings: &ClockSettings,
+        ports: &[PortSettings],
+        managers: &[ManagerSettings],
+    ) -> Result<HostedClock, StartRefusal>
+        ensures sets { IfOk result (λ c. start_by settings.now ports.now ≡ Ok c.agent.sets) }
+        ensures table { IfOk result (λ c. IsFresh (record { 0 = settings.now.identity }) (configured managers.now)
+            (⟦<BoundTable as ReplyTable>⟧.identity c.agent.table) (⟦<BoundTable as ReplyTable>⟧.managers c.agent.table)
+            (⟦<BoundTable as ReplyTable>⟧.rights_of c.agent.table) (⟦<BoundTable as ReplyTable>⟧.entries c.agent.table)) }
+        ensures permitted { OnOk result (start_refusal settings.now ports.now managers.now ≡ None) }
+        ensures refused { IfErr result (λ e. e ≢ StartRefusal.OutOfMemory →
+            start_refusal settings.now ports.now managers.now ≡ Some e) }
+    {
+        let Ok(starts) = port_starts(alloc, ports) else {
+            return Err(StartRefusal::OutOfMemory);
+        };
+        let Ok(managers) = configured(alloc, managers) else {
+            return Err(StartRefusal::OutOfMemory);
+        };
+        let sets = match DataSets::new(&settings.start(), starts.as_slice()) {
+            Ok(sets) => sets,
+            Err(fault) => return Err(StartRefusal::Values(fault)),
+        };
+        let identity = ClockIdentity(settings.identity);
+        match BoundTable::new(identity, managers.as_slice()) {
+            Ok(table) => Ok(HostedClock {
+                agent: Agent::new(sets, table),
+                outbox: Outbox::new(),
+            }),
+            Err(fault) => Err(StartRefusal::Managers(fault)),
+        }
+    }
+
+    /// The data sets as they stand.
+    pub fn sets(&self) -> &DataSets
+        ensures { result.now ≡ self.now.agent.sets }
+    {
+        self.agent.sets()
+    }
+
+    /// What becomes of a datagram that comes in at a port: one turn of the clock. What it sends is copied into the first
+    /// places of `room`. Where it is refused, nothing changes. Takes no memory.
+    pub fn handle(
+        &mut self,
+        port: u16,
+        datagram: &[u8],
+        room: &mut [Sent],
+    ) -> Result<Handled, HandleRefusal>
+        ensures turned { IfOk result (λ h. IsTurned (turn (clock_in self.old) (state_in self.old) port datagram.now)
+            h.verdict self.new.outbox (state_in self.new)) }
+        ensures messages { IfOk result (λ h. messages_in (take h.count room.new) ≡ self.new.outbox) }
+        ensures count { IfOk result (λ h. h.count ≤ length room.new) }
+        ensures refusal { MatchResult result
+            (λ _. handle_refusal (has_port port self.old.agent.sets) (length room.old) ≡ None)
+            (λ e. handle_refusal (has_port port self.old.agent.sets) (length room.old) ≡ Some e) }
+        ensures unchanged { OnErr result (self.new ≡ self.old) }
+        ensures untouched { OnErr result (room.new ≡ room.old) }
+        ensures clock { clock_in self.new ≡ clock_in self.old }
+    {
+        if !self.agent.sets().has_port(port) {
+            return Err(HandleRefusal::NoPort);
+        }
+        if room.len() < MOST_SENT {
+            return Err(HandleRefusal::NoRoom);
+        }
+        let verdict = self.agent.handle(port, datagram, &mut self.outbox);
+        let messages = self.outbox.entries();
+        hand_out(messages, room);
+        Ok(Handled {
+            verdict,
+            count: messages.len(),
+        })
+    }
+}

@@ -1,0 +1,53 @@
+//! Messages as a host in C takes them over.
+
+ghost use Rattle.std.specs.Prelude.{◌≡◌, ◌≤◌, length, take};
+ghost use Rattle.ptpm_table.specs.Outbox.{sent};
+ghost use Rattle.ptpm_host.specs.Clock.{message_in, messages_in};
+
+use ptpm_codec::Buffer;
+
+/// A message, and the port that it is to be sent at.
+#[repr(C)]
+#[derive(Clone, Copy)]
+pub struct Sent {
+    pub port: u16,
+    /// How many octets the message has.
+    pub size: u16,
+    /// The message, and behind it what stood there before.
+    pub octets: [u8; 1472],
+}
+
+const _: () = prove!(size_of::<Sent>() == 1_476);
+
+impl Sent {
+    /// A message without octets.
+    pub fn empty() -> Sent {
+        Sent {
+            port: 0,
+            size: 0,
+            octets: [0; 1472],
+        }
+    }
+
+    /// Puts a message in place of the one that stands here.
+    fn put(&mut self, port: u16, message: &Buffer)
+        ensures { message_in self.new ≡ (port, message.now.items) }
+    {
+        let octets = message.as_slice();
+        self.port = port;
+        self.size = octets.len() as u16;
+        self.octets[..octets.len()].copy_from_slice(octets);
+    }
+}
+
+/// Copies messages into the first places.
+pub fn hand_out(messages: &[(u16, Buffer)], room: &mut [Sent])
+    requires room { length messages.now ≤ length room.old }
+    ensures messages { messages_in (take (length messages.now) room.new) ≡ sent messages.now }
+    ensures size { length room.new ≡ length room.old }
+{
+    for place in 0..messages.len() {
+        let (port, message) = &messages[place];
+        room[place].put(*port, message);
+    }
+}
