@@ -1,0 +1,157 @@
+/* A PTP management agent (IEEE 1588-2019, clause 15) for a host in C: the data sets of one clock, and what becomes of each
+   management message that comes in at its ports. The library opens no socket, reads no clock and starts no thread. Link
+   libptpm_c.a, and liblibc_c.a of the toolchain, whose heap.c calls malloc, realloc and free.
+
+   What is proved of a call is proved of callers that keep to this:
+
+   - A pointer is never null, also where its size is 0 (let it then point at anything), and is aligned as its type asks.
+   - What a pointer and its size name may be read, and where it is no const may be written; it stays the caller's, and the
+     library keeps no pointer to it after the call. What a call may write lies apart from everything else that the call is
+     given.
+   - One thread at a time is in a call with a handle. Calls with different handles may run side by side.
+   - There is one live copy of a handle. The host may move it, and reads and writes nothing inside it.
+   - malloc, realloc and free come from one allocator, and malloc aligns each block to the greatest power of two up to 16
+     that divides its size. No call is made from a signal handler, or in a forked child of a process with threads. */
+#ifndef PTPM_H
+#define PTPM_H
+
+#include <stdbool.h>
+#include <stddef.h>
+#include <stdint.h>
+
+/* A clock, about 58,000 octets behind one pointer. All zeros hold no clock: struct ptpm_clock clock = { 0 }; */
+struct ptpm_clock { void *at; bool live; };
+
+/* The start values of a clock's own members: ptpm_clock_defaults writes them all, then the host writes its own over them.
+   A flag is set where it is not 0. Without its has_ flag a value is the clock's own, and parent_port is its port 0. */
+struct ptpm_clock_settings {
+    int64_t offset_from_master;         /* in nanoseconds times 2^16 */
+    int64_t mean_path_delay;            /* in nanoseconds times 2^16 */
+    int32_t observed_rate;
+    uint16_t variance;
+    uint16_t steps_removed;
+    uint16_t observed_variance;
+    uint16_t grandmaster_variance;
+    uint16_t parent_port_number;
+    int16_t utc_offset;
+    uint8_t identity[8];                /* not all ones */
+    uint8_t parent_port_clock[8];
+    uint8_t grandmaster[8];
+    uint8_t domain;
+    uint8_t two_step;
+    uint8_t priority1;
+    uint8_t clock_class;
+    uint8_t clock_accuracy;             /* 0x17 to 0x31, or 0xFE */
+    uint8_t priority2;
+    uint8_t parent_stats;
+    uint8_t grandmaster_priority1;
+    uint8_t grandmaster_class;
+    uint8_t grandmaster_accuracy;
+    uint8_t grandmaster_priority2;
+    uint8_t leap61;                     /* not both of the two */
+    uint8_t leap59;
+    uint8_t utc_valid;
+    uint8_t ptp_timescale;
+    uint8_t time_traceable;
+    uint8_t frequency_traceable;
+    uint8_t time_source;
+    uint8_t has_parent_port;
+    uint8_t has_grandmaster;
+    uint8_t has_grandmaster_priority1;
+    uint8_t has_grandmaster_class;
+    uint8_t has_grandmaster_accuracy;
+    uint8_t has_grandmaster_variance;
+    uint8_t has_grandmaster_priority2;
+    uint8_t user_description_size;      /* at most 128 */
+    uint8_t user_description[129];      /* UTF-8 */
+};
+
+/* The start values of a port: ptpm_port_defaults writes them all. */
+struct ptpm_port_settings {
+    int64_t peer_delay;                 /* in nanoseconds times 2^16 */
+    uint8_t state;                      /* portState, 1 to 9 */
+    int8_t log_min_delay_req;
+    int8_t log_announce;                /* -4 to 4 */
+    uint8_t receipt_timeout;            /* 2 to 10 */
+    int8_t log_sync;                    /* -8 to 1 */
+    uint8_t delay_mechanism;            /* 1, 2 or 0xFE */
+    int8_t log_min_pdelay;              /* -8 to 5 */
+};
+
+enum { PTPM_CLOCK_SET = 1, PTPM_PORT_SET = 2, PTPM_PORT_COMMAND = 4 };
+
+/* Who may change the clock, and what. */
+struct ptpm_manager_settings {
+    uint8_t clock[8];
+    uint16_t port;
+    uint8_t rights;                     /* a sum of the three above */
+};
+
+/* A message, and the port that it is to be sent at. Behind size the octets are what stood there before. */
+struct ptpm_sent {
+    uint16_t port;
+    uint16_t size;
+    uint8_t octets[1472];
+};
+
+_Static_assert(sizeof(struct ptpm_clock) == 16 && sizeof(struct ptpm_clock_settings) == 216
+               && sizeof(struct ptpm_port_settings) == 16 && sizeof(struct ptpm_manager_settings) == 12
+               && sizeof(struct ptpm_sent) == 1476, "the library was made for other sizes");
+
+/* A clock sends at most so many messages for a datagram, and a dataField of its own has at most so many octets. */
+enum { PTPM_MOST_SENT = 15, PTPM_MOST_READ = 130 };
+
+/* What a call answers. */
+enum {
+    PTPM_STARTED = 0, PTPM_READ = 0,
+    /* what became of a datagram */
+    PTPM_OTHER_DOMAIN = 1, PTPM_OWN_MESSAGE, PTPM_NOT_ADDRESSED, PTPM_NOT_A_REQUEST, PTPM_ANSWERED_NEW,
+    PTPM_ANSWERED_REPEAT, PTPM_DROPPED_OLD, PTPM_DROPPED_CONFLICT, PTPM_ANSWERED_UNNUMBERED,
+    /* why it holds no management message */
+    PTPM_TOO_SHORT = 16, PTPM_NOT_MANAGEMENT, PTPM_BAD_VERSION, PTPM_BAD_LENGTH, PTPM_BAD_ACTION, PTPM_BAD_TLV_TYPE,
+    PTPM_BAD_TLV_LENGTH, PTPM_BAD_TEXT,
+    /* why nothing changed */
+    PTPM_NO_CLOCK = 32,                 /* the handle holds none */
+    PTPM_NO_PORT,                       /* the clock lacks the port */
+    PTPM_NO_ROOM,                       /* room for fewer than PTPM_MOST_SENT messages, or PTPM_MOST_READ octets */
+    PTPM_NO_MEMORY,
+    PTPM_NOT_READABLE,                  /* the id is not in the table, or permits no GET */
+    /* why a clock does not start, the first that holds */
+    PTPM_NO_PORTS = 48, PTPM_TOO_MANY_PORTS, PTPM_GRANDMASTER_DIFFERS, PTPM_TOO_MANY_MANAGERS, PTPM_MANAGER_TWICE,
+    /* a member is out of its range */
+    PTPM_BAD_IDENTITY = 64, PTPM_BAD_DOMAIN, PTPM_BAD_USER_DESCRIPTION, PTPM_BAD_TWO_STEP, PTPM_BAD_PRIORITY1,
+    PTPM_BAD_CLOCK_CLASS, PTPM_BAD_CLOCK_ACCURACY, PTPM_BAD_VARIANCE, PTPM_BAD_PRIORITY2, PTPM_BAD_STEPS_REMOVED,
+    PTPM_BAD_OFFSET_FROM_MASTER, PTPM_BAD_MEAN_PATH_DELAY, PTPM_BAD_PARENT_PORT, PTPM_BAD_PARENT_STATS,
+    PTPM_BAD_OBSERVED_VARIANCE, PTPM_BAD_OBSERVED_RATE, PTPM_BAD_GRANDMASTER_PRIORITY1, PTPM_BAD_GRANDMASTER_CLASS,
+    PTPM_BAD_GRANDMASTER_ACCURACY, PTPM_BAD_GRANDMASTER_VARIANCE, PTPM_BAD_GRANDMASTER_PRIORITY2,
+    PTPM_BAD_GRANDMASTER, PTPM_BAD_UTC_OFFSET, PTPM_BAD_LEAP61, PTPM_BAD_LEAP59, PTPM_BAD_UTC_VALID,
+    PTPM_BAD_PTP_TIMESCALE, PTPM_BAD_TIME_TRACEABLE, PTPM_BAD_FREQUENCY_TRACEABLE, PTPM_BAD_TIME_SOURCE,
+    PTPM_BAD_STATE, PTPM_BAD_LOG_MIN_DELAY_REQ, PTPM_BAD_PEER_DELAY, PTPM_BAD_LOG_ANNOUNCE, PTPM_BAD_RECEIPT_TIMEOUT,
+    PTPM_BAD_LOG_SYNC, PTPM_BAD_DELAY_MECHANISM, PTPM_BAD_LOG_MIN_PDELAY
+};
+
+/* Writes all settings over: a clock of identity 0 in domain 0 that is its own grandmaster, with this profile's defaults. */
+void ptpm_clock_defaults(struct ptpm_clock_settings *settings);
+
+/* Writes all settings over: a port that is MASTER, with this profile's defaults. */
+void ptpm_port_defaults(struct ptpm_port_settings *settings);
+
+/* Starts a clock in place of the one that the handle holds: PTPM_STARTED, or why not, and then the handle holds none. One
+   to eight ports, at most sixteen managers. */
+uint32_t ptpm_clock_start(struct ptpm_clock *clock, const struct ptpm_clock_settings *settings,
+                          const struct ptpm_port_settings *ports, size_t port_count,
+                          const struct ptpm_manager_settings *managers, size_t manager_count);
+
+/* What becomes of a datagram that came in at a port, counted from 1. The first *count places of sent then hold what is to
+   be sent, in this order; room is how many places there are. Takes no memory. */
+uint32_t ptpm_clock_handle(struct ptpm_clock *clock, uint16_t port, const uint8_t *datagram, size_t size,
+                           struct ptpm_sent *sent, size_t room, size_t *count);
+
+/* Leaves what a GET of this managementId is answered at the head of octets, *size octets: PTPM_READ, or why not; room is how
+   many octets there are. The port matters for an id of a port alone. Takes no memory. */
+uint32_t ptpm_clock_read(struct ptpm_clock *clock, uint16_t id, uint16_t port, uint8_t *octets, size_t room, size_t *size);
+
+/* Ends the clock that the handle holds, if it holds one; the handle then holds none. */
+void ptpm_clock_stop(struct ptpm_clock *clock);
+
+#endif
