@@ -13,3 +13,6 @@ pub use numbers::{NO_CLOCK, handle_number, read_number, start_number, verdict_nu
 pub use refusal::{HandleRefusal, ReadRefusal, StartRefusal};
 pub use sent::{Sent, hand_out};
 pub use settings::{ClockSettings, ManagerSettings, PortSettings};
+
+#[cfg(test)]
+mod tests;
