@@ -1,3 +1,2 @@
-pub mod ClockBox
-pub mod Somes
+pub mod Kept
 pub mod Turns

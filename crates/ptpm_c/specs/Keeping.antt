@@ -1,4 +1,5 @@
 -- What a kept clock owns: what a box of it owns, or nothing where no clock is kept.
+use mir.Syntax.{Ty}
 use base.Fml.{Fml, ftrue}
 use base.Stored.{Coded}
 use denote.RawPtr.{Ptr}
@@ -9,9 +10,17 @@ use Rattle.std.specs.Prelude.{Option, Some, None}
 use Rattle.std.specs.contracts.impls.GlobalAllocator.TheImpl.{ghosts}
 use Rattle.ptpm_host.specs.contracts.clock.HostedClock.{the_row}
 
-abbrev pub keeping_owns : Global → Ptr → Option the_row.Denot → Fml
-keeping_owns alloc at None = ftrue
-keeping_owns alloc at (Some clock) = box_owns (ghosts.dealloc_token alloc) the_row at clock
+-- the heap has one handle
+abbrev pub the_heap : Global
+the_heap = record { memory = record { seal = tt } }
+
+-- the right to give a block back to it
+abbrev pub may_free : Ty → Ptr → Fml
+may_free = ghosts.dealloc_token the_heap
+
+abbrev pub keeping_owns : Ptr → Option the_row.Denot → Fml
+keeping_owns at None = ftrue
+keeping_owns at (Some clock) = box_owns may_free the_row at clock
 
 abbrev pub clock_coded : Coded (Option the_row.Denot)
 clock_coded = coded_option the_row.coded

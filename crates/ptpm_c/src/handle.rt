@@ -18,11 +18,11 @@ pub struct ClockHandle {
 
 impl ClockHandle {
     /// No clock.
-    pub fn empty(alloc: Global) -> ClockHandle
+    pub fn empty() -> ClockHandle
         ensures { result.keeping.clock ≡ None }
     {
         ClockHandle {
-            keeping: Keeping::nothing(alloc),
+            keeping: Keeping::nothing(),
             live: false,
         }
     }
@@ -43,7 +43,11 @@ impl ClockHandle {
         ensures some { IfSome result (λ b. self.old.keeping.clock ≡ Some b.value) }
         ensures none { IfNone result (self.old.keeping.clock ≡ None) }
     {
-        let ClockHandle { keeping, live } = mem::replace(self, ClockHandle::empty(alloc));
-        if live { Some(keeping.into_box()) } else { None }
+        let ClockHandle { keeping, live } = mem::replace(self, ClockHandle::empty());
+        if live {
+            Some(keeping.into_box(alloc))
+        } else {
+            None
+        }
     }
 }

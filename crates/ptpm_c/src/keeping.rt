@@ -1,37 +1,32 @@
-//! A clock behind a pointer that a host keeps. All that is unsafe stands here and in `unboxed`.
+//! A clock behind a pointer that a host keeps. All that is unsafe stands here.
 
 ghost use Rattle.std.specs.Prelude.{◌≡◌, IsTrue, Option, None, Some, is_some};
 ghost use Rattle.ptpm_host.specs.declared.clock.HostedClock.{HostedClock};
 ghost use Rattle.ptpm_c.specs.Keeping.{clock_coded, keeping_owns};
 
-mod unboxed;
-
 use ptpm_host::HostedClock;
 use std::alloc::Global;
 use std::marker::Model;
-use unboxed::Unboxed;
 
-/// What a box of a clock owns, or nothing. Its type names no clock, since none may cross to C.
+/// Where the box of a clock lies, or null. Its type names no clock, since none may cross to C.
 #[repr(C)]
 #[derive(Drop)]
 pub struct Keeping {
-    ptr: *mut u8,
-    alloc: Global,
+    at: *mut u8,
     pub ghost clock: { Option HostedClock } by { clock_coded },
 }
 
 impl Model for Keeping {
-    ghost also_owns = { λ k. keeping_owns k.alloc k.ptr k.clock };
+    ghost also_owns = { λ k. keeping_owns k.at k.clock };
 }
 
 impl Keeping {
     /// No clock.
-    pub fn nothing(alloc: Global) -> Keeping
+    pub fn nothing() -> Keeping
         ensures { result.clock ≡ None }
     {
         Keeping {
-            ptr: std::ptr::null_mut(),
-            alloc,
+            at: std::ptr::null_mut(),
         }
     }
 
@@ -39,35 +34,15 @@ impl Keeping {
     pub fn of_box(clock: Box<HostedClock>) -> Keeping
         ensures { result.clock ≡ Some clock.value }
     {
-        Keeping::hide(Unboxed::of(clock))
+        let at = Box::into_raw(clock);
+        Keeping { at: at as *mut u8 }
     }
 
     /// The box again.
-    pub fn into_box(self) -> Box<HostedClock>
+    pub fn into_box(self, alloc: Global) -> Box<HostedClock>
         requires { IsTrue (is_some self.clock) }
         ensures { Some result.value ≡ self.clock }
     {
-        self.show().into_box()
-    }
-
-    fn hide(parts: Unboxed<HostedClock, Global>) -> Keeping
-        ensures { result.clock ≡ Some parts.value }
-    {
-        let Unboxed { ptr, alloc } = parts;
-        Keeping {
-            ptr: ptr as *mut u8,
-            alloc,
-        }
-    }
-
-    fn show(self) -> Unboxed<HostedClock, Global>
-        requires { IsTrue (is_some self.clock) }
-        ensures { Some result.value ≡ self.clock }
-    {
-        let Keeping { ptr, alloc } = self;
-        Unboxed {
-            ptr: ptr as *mut HostedClock,
-            alloc,
-        }
+        unsafe { Box::from_raw(alloc, self.at as *mut HostedClock) }
     }
 }
