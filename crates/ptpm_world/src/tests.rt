@@ -1,6 +1,7 @@
 //! Networks that run: what no clause says of them.
 
 mod answered;
+mod failing;
 mod lateness;
 mod long_scripts;
 mod memory;
@@ -10,4 +11,5 @@ mod ring;
 mod schedules;
 mod script_faults;
 mod steps;
+mod strangers;
 mod worlds;

@@ -1,10 +1,11 @@
 //! Over 32,768 requests of one session: which deliveries are late, and what then comes of them. No promise covers it.
 
-use super::networks::{numbered_from_one, world_of};
+use super::networks::{ONE_CLOCK, numbered_from_one, tell, world_of};
 use crate::took::{StepError, Took};
 use crate::world::World;
 use ptpm_agent::Verdict;
 use ptpm_script::{Event, read_event};
+use std::alloc::Global;
 use std::process::Abort;
 use std::test::Fail;
 
@@ -49,5 +50,50 @@ fn half_the_number_space(rt: HostRuntime) -> Result<(), Fail> {
     assert!(rt; world.is_late(1) && !world.is_late(3));
     let accepted = deliver(&mut world, 1);
     assert!(rt; accepted == Ok(Took::AtClock(Verdict::AnsweredNew)));
+    Ok(())
+}
+
+/// The session asks 65,600 times: to set priority1 to 100, to set it to 50, and for its value, by turns. Where copies come
+/// again, that of each request does so 100 requests later, and is dropped. Tells all reports and data sets.
+fn past_the_wrap(rt: &impl Abort, alloc: Global, come_again: bool) -> Result<Vec<u8>, Fail> {
+    let mut world = world_of(alloc, ONE_CLOCK)?;
+    let asks = [
+        read_event(alloc, "begin m set PRIORITY1 - 6400")?,
+        read_event(alloc, "begin m set PRIORITY1 - 3200")?,
+        read_event(alloc, "begin m get PRIORITY1 - -")?,
+    ];
+    let send = read_event(alloc, "send m")?;
+    for later in 0..65_600_u32 {
+        exchange(&mut world, &asks[(later % 3) as usize], &send)?;
+        if come_again && later >= 100 {
+            let copy = (later - 100) * 2 + 1;
+            assert!(rt; !world.is_late(copy), "{copy}");
+            let dropped = deliver(&mut world, copy);
+            assert!(rt; dropped == Ok(Took::AtClock(Verdict::DroppedOld)), "{copy}");
+        }
+    }
+    assert!(rt; world.frames() == 131_200);
+    let mut lines = Vec::new(alloc);
+    tell(&world, &mut lines)?;
+    Ok(lines)
+}
+
+/// The last reports, and data sets whose priority1 is 50.
+const AT_THE_END: &str = "
+report m 65598 value 3200
+report m 65599 value 6400
+report m 65600 value 3200
+data K 0002 0000
+data K 2000 0100000232f8feffff80aabbccfffeddee010000
+";
+
+/// All sequenceIds come round and some come a second time, and reports and data sets are as they are without the copies.
+#[test]
+fn copies_past_the_wrap(rt: HostRuntime) -> Result<(), Fail> {
+    let alone = past_the_wrap(&rt, rt.alloc(), false)?;
+    let with_copies = past_the_wrap(&rt, rt.alloc(), true)?;
+    assert!(rt; with_copies == alone);
+    let text = std::str::from_utf8(alone.as_slice())?;
+    assert!(rt; text.contains(AT_THE_END));
     Ok(())
 }

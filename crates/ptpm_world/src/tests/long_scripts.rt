@@ -11,7 +11,7 @@ use std::process::Abort;
 use std::test::Fail;
 
 /// The trace of a script.
-fn trace_of(alloc: Global, script: &str) -> Result<Vec<u8>, Fail> {
+pub fn trace_of(alloc: Global, script: &str) -> Result<Vec<u8>, Fail> {
     let mut trace = Vec::new(alloc);
     run_script(alloc, script.as_bytes(), &mut trace)?;
     Ok(trace)

@@ -1,15 +1,18 @@
 //! The calls that ask for memory: where it is refused nothing changes, and the same call then answers as it would have.
 //! `tools/refuse_memory` runs these tests with each request refused in turn; whatever they need besides is asked for again.
 
-use super::networks::{ONE_CLOCK, RING};
+use super::networks::{FIRST_EVENTS, ONE_CLOCK, RING, is_trace_so_far, tell};
 use super::steps::is_only_report;
 use super::worlds::is_fresh_ring;
+use crate::script::run_script;
+use crate::script_error::ScriptError;
 use crate::took::{StepError, Took};
 use crate::world::World;
 use ptpm_agent::Verdict;
 use ptpm_codec::OutOfMemory;
 use ptpm_script::{Event, EventError, NetError, Network, read_event};
 use std::alloc::Global;
+use std::io::Read;
 use std::process::Abort;
 use std::test::Fail;
 
@@ -38,12 +41,14 @@ fn world_new_after_refused_memory(rt: HostRuntime) -> Result<(), Fail> {
     Ok(())
 }
 
-/// How many reports the session has.
-fn report_count(world: &World) -> Option<usize> {
-    match world.reports("m") {
-        Some(reports) => Some(reports.len()),
-        None => None,
+/// All reports and data sets, as text.
+fn told(alloc: Global, world: &World) -> Result<Vec<u8>, Fail> {
+    let mut lines = Vec::new(alloc);
+    if tell(world, &mut lines).is_err() {
+        lines.clear();
+        tell(world, &mut lines)?;
     }
+    Ok(lines)
 }
 
 /// What a step answers; asked again where memory is refused once, before which nothing may have changed.
@@ -55,15 +60,13 @@ fn step(
 ) -> Result<Result<Took, StepError>, Fail> {
     let event = event_of(alloc, line)?;
     let frames = world.frames();
-    let reports = report_count(world);
+    let before = told(alloc, world)?;
     let took = world.step(&event);
     if took != Err(StepError::OutOfMemory) {
         return Ok(took);
     }
-    assert!(rt;
-        world.frames() == frames && report_count(world) == reports,
-        "{line}"
-    );
+    assert!(rt; world.frames() == frames, "{line}");
+    assert!(rt; told(alloc, world)? == before, "{line}");
     Ok(world.step(&event))
 }
 
@@ -102,11 +105,41 @@ fn run_after_refused_memory(rt: HostRuntime) -> Result<(), Fail> {
     if let Err((place, refused)) = world.run(&schedule) {
         assert!(rt; refused == StepError::OutOfMemory);
         assert!(rt; FRAMES.get(place) == Some(&world.frames()));
-        assert!(rt; report_count(&world) == Some(0));
+        assert!(rt; matches!(world.reports("m"), Some([])));
         let rest = schedule.get(place..).unwrap_or(&[]);
         assert!(rt; world.run(rest) == Ok(()));
     }
     assert!(rt; world.frames() == 2);
     assert!(rt; is_only_report(&world, &[0x64, 0]));
+    Ok(())
+}
+
+/// Runs a script and writes into this space.
+fn run_first(alloc: Global, space: &mut [u8]) -> Result<(), ScriptError> {
+    let script = ONE_CLOCK.as_bytes().chain(FIRST_EVENTS.as_bytes());
+    let mut room = space;
+    run_script(alloc, script, &mut room)
+}
+
+/// What stands in the space before its first 0.
+fn written(space: &[u8]) -> &[u8] {
+    space.split(|octet| *octet == 0).next().unwrap_or(&[])
+}
+
+/// The last line of its trace.
+const LAST_LINE: &[u8] = b"\ndata K.2 2004 aabbccfffeddee01000206000000000000000000010300010002\n";
+
+/// What was written before the refusal is the trace so far, and the same script then runs to its end.
+#[test]
+fn run_script_after_refused_memory(rt: HostRuntime) -> Result<(), Fail> {
+    let mut space = [0; 1_024];
+    if let Err(refused) = run_first(rt.alloc(), &mut space) {
+        assert!(rt; refused == ScriptError::OutOfMemory);
+        let so_far = space;
+        space = [0; 1_024];
+        run_first(rt.alloc(), &mut space)?;
+        assert!(rt; is_trace_so_far(written(&space), written(&so_far)));
+    }
+    assert!(rt; written(&space).ends_with(LAST_LINE));
     Ok(())
 }

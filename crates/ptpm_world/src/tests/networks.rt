@@ -1,9 +1,11 @@
 //! The networks of the tests, and what happens in them.
 
 use crate::took::{StepError, Took};
+use crate::trace::{write_data_sets, write_reports};
 use crate::world::World;
 use ptpm_script::{Network, read_event};
 use std::alloc::Global;
+use std::io;
 use std::test::Fail;
 
 /// A clock of two ports with one manager at port 1.
@@ -27,6 +29,15 @@ ends = ["K.1", "m"]
 /// The same, with 1 for the manager's first sequenceId.
 pub fn numbered_from_one(alloc: Global) -> Result<String, Fail> {
     Ok(ONE_CLOCK.replace(alloc, "first = 7", "first = 1")?)
+}
+
+/// Behind it a request and its reply, a repeat of the request, and the reply to that.
+pub const FIRST_EVENTS: &str =
+    "%%\nbegin m get PRIORITY1 - -\nsend m\ndeliver 1\ndeliver 2\ndeliver 1\ndeliver 3\n";
+
+/// Whether a trace begins so, and no line of it is cut short.
+pub fn is_trace_so_far(trace: &[u8], written: &[u8]) -> bool {
+    trace.starts_with(written) && (written.is_empty() || written.ends_with(b"\n"))
 }
 
 /// Three clocks in a ring, with B's manager at a further port of A.
@@ -73,4 +84,10 @@ pub fn world_of(alloc: Global, text: &str) -> Result<World, Fail> {
 pub fn step(alloc: Global, world: &mut World, line: &str) -> Result<Result<Took, StepError>, Fail> {
     let event = read_event(alloc, line)?;
     Ok(world.step(&event))
+}
+
+/// Writes what a script tells of a network at its end: the lines of all reports and data sets.
+pub fn tell(world: &World, lines: &mut Vec<u8>) -> io::Result<()> {
+    write_reports(world, lines)?;
+    write_data_sets(world, lines)
 }
