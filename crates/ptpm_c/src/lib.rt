@@ -145,3 +145,6 @@ pub extern "C" fn ptpm_clock_stop(alloc: Global, handle: &mut ClockHandle)
 {
     let _ = handle.take(alloc);
 }
+
+#[cfg(test)]
+mod tests;

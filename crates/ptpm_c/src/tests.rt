@@ -1,0 +1,41 @@
+//! The calls of a host in C, one after another.
+
+use crate::handle::ClockHandle;
+use crate::*;
+
+/// GET PRIORITY1, number 7, of manager 0011223344556677/1 to clock aabbccfffeddee01, at every port.
+const REQUEST: &[u8; 54] = b"\x0d\x12\x00\x36\x00\x00\
+    \x00\x00\x00\x00\x00\x00\x00\x00\x00\x00\x00\x00\x00\x00\
+    \x00\x11\x22\x33\x44\x55\x66\x77\x00\x01\x00\x07\x04\x7f\
+    \xaa\xbb\xcc\xff\xfe\xdd\xee\x01\xff\xff\x01\x01\x00\x00\
+    \x00\x01\x00\x02\x20\x05";
+
+#[test]
+fn a_clock_from_start_to_stop(rt: HostRuntime) {
+    let mut handle = ClockHandle::empty();
+    let mut settings = ClockSettings::new();
+    ptpm_clock_defaults(&mut settings);
+    settings.identity = [0xaa, 0xbb, 0xcc, 0xff, 0xfe, 0xdd, 0xee, 0x01];
+    let mut port = PortSettings::new();
+    ptpm_port_defaults(&mut port);
+    let manager = ManagerSettings {
+        clock: [0x00, 0x11, 0x22, 0x33, 0x44, 0x55, 0x66, 0x77],
+        port: 1,
+        rights: 7,
+    };
+    let mut sent = [Sent::empty(); 15];
+    let mut count = 1;
+    let answer = ptpm_clock_handle(rt.alloc(), &mut handle, 1, REQUEST, &mut sent, &mut count);
+    assert!(rt; answer == 32 && count == 0);
+    let answer = ptpm_clock_start(rt.alloc(), &mut handle, &settings, &[port], &[manager]);
+    assert!(rt; answer == 0);
+    let answer = ptpm_clock_handle(rt.alloc(), &mut handle, 1, REQUEST, &mut sent, &mut count);
+    assert!(rt; answer == 5 && count == 1);
+    assert!(rt; sent[0].port == 1 && sent[0].size == 56);
+    assert!(rt; sent[0].octets[54] == 0x80);
+    let answer = ptpm_clock_handle(rt.alloc(), &mut handle, 1, REQUEST, &mut sent, &mut count);
+    assert!(rt; answer == 6 && count == 1);
+    ptpm_clock_stop(rt.alloc(), &mut handle);
+    let answer = ptpm_clock_handle(rt.alloc(), &mut handle, 1, REQUEST, &mut sent, &mut count);
+    assert!(rt; answer == 32 && count == 0);
+}
