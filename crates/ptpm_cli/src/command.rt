@@ -1,20 +1,24 @@
 //! The command line.
 
 use clap::error::ErrorKind;
-use clap::{Arg, ArgAction, ArgMatches, Command, value_parser};
+use clap::{Arg, ArgAction, ArgGroup, ArgMatches, Command, value_parser};
 use ptpm_commands::Fault;
-use ptpm_commands::answer::answer;
+use ptpm_commands::answer::{answer, answer_lines};
 use ptpm_commands::ids::ids;
 use ptpm_commands::make::{RequestWords, make};
-use ptpm_commands::show::show;
+use ptpm_commands::show::{show, show_lines};
 use ptpm_world::{ScriptError, run_script};
 use std::alloc::{AllocError, Global};
 use std::fmt;
 use std::io::{Read, Write};
 
+/// What `--version` prints behind the program's name; CHANGELOG.md says what came with each.
+const VERSION: &str = "0.1.0";
+
 /// Does what the words say, the first of which is the program's name, and answers the exit status: 0 where it was done;
 /// 1 at a fault, with the line `ptpm: FAULT` on `err`; 2 where the words were refused, with the reason on `err`. What
-/// `err` does changes nothing. `run` alone reads. Whatever was written on `out` is flushed, at a fault too.
+/// `err` does changes nothing. `run` and the option `--lines` alone read. Whatever was written on `out` is flushed, at a fault
+/// too.
 pub fn command<R: Read, O: Write, E: Write>(
     alloc: Global,
     words: &[&str],
@@ -64,8 +68,10 @@ fn run<R: Read, O: Write>(
     out: &mut O,
 ) -> Result<(), Failure> {
     match parse(alloc, words) {
-        Ok(Task::Answer(text)) => answer(alloc, text, out)?,
-        Ok(Task::Show(text)) => show(alloc, text, out)?,
+        Ok(Task::Answer(Datagrams::One(text))) => answer(alloc, text, out)?,
+        Ok(Task::Answer(Datagrams::Lines)) => answer_lines(alloc, reader, out)?,
+        Ok(Task::Show(Datagrams::One(text))) => show(alloc, text, out)?,
+        Ok(Task::Show(Datagrams::Lines)) => show_lines(alloc, reader, out)?,
         Ok(Task::Ids) => ids(out)?,
         Ok(Task::Make(words)) => make(alloc, &words, out)?,
         Ok(Task::Run) => run_script(alloc, reader, out).map_err(Failure::Script)?,
@@ -81,17 +87,23 @@ fn run<R: Read, O: Write>(
 
 /// What the words ask for.
 enum Task<'a> {
-    /// `answer`, with a datagram in hexadecimal.
-    Answer(&'a str),
-    /// `show`, with a datagram in hexadecimal.
-    Show(&'a str),
+    Answer(Datagrams<'a>),
+    Show(Datagrams<'a>),
     Ids,
     Make(RequestWords<'a>),
     /// `run`, with a script on standard input.
     Run,
 }
 
-/// The task, or why there is none: the words were refused, or they ask for help.
+/// What `answer` or `show` takes.
+enum Datagrams<'a> {
+    /// A datagram in hexadecimal, on the command line.
+    One(&'a str),
+    /// A datagram on each line of standard input.
+    Lines,
+}
+
+/// The task, or why there is none: the words were refused, or they ask for help or the version.
 fn parse<'a>(alloc: Global, words: &'a [&'a str]) -> Result<Task<'a>, clap::Error> {
     let mut ptpm = command_line(alloc)?;
     let matches = ptpm.try_get_matches_from_mut(words)?;
@@ -106,12 +118,20 @@ fn parse<'a>(alloc: Global, words: &'a [&'a str]) -> Result<Task<'a>, clap::Erro
 /// The task of a subcommand whose values were taken; `None` where it is no subcommand, or one of its values is missing.
 fn task_of<'a>(name: &str, values: &ArgMatches<'a>) -> Option<Task<'a>> {
     match name {
-        "answer" => Some(Task::Answer(values.get_str("HEX")?)),
-        "show" => Some(Task::Show(values.get_str("HEX")?)),
+        "answer" => Some(Task::Answer(datagrams_of(values)?)),
+        "show" => Some(Task::Show(datagrams_of(values)?)),
         "ids" => Some(Task::Ids),
         "make" => Some(Task::Make(request_words(values)?)),
         "run" => Some(Task::Run),
         _ => None,
+    }
+}
+
+fn datagrams_of<'a>(values: &ArgMatches<'a>) -> Option<Datagrams<'a>> {
+    if values.get_flag("lines") {
+        Some(Datagrams::Lines)
+    } else {
+        Some(Datagrams::One(values.get_str("HEX")?))
     }
 }
 
@@ -129,30 +149,39 @@ fn request_words<'a>(values: &ArgMatches<'a>) -> Option<RequestWords<'a>> {
 }
 
 fn command_line<'a>(alloc: Global) -> Result<Command<'a>, AllocError> {
-    let answer = Command::new(alloc, "answer")
-        .about("Prints what a fresh clock sends for a datagram at its port 1")
-        .arg(datagram(alloc))?;
-    let show = Command::new(alloc, "show")
-        .about("Prints the fields of a management message")
-        .arg(datagram(alloc))?;
+    let answer = Command::new(alloc, "answer").about(
+        "Prints what a fresh clock sends for a datagram at its port 1",
+    );
+    let show = Command::new(alloc, "show").about("Prints the fields of a management message");
     let ids = Command::new(alloc, "ids").about("Prints the table of management ids");
     let run = Command::new(alloc, "run").about(
         "Runs a network as the script on standard input says, and prints the trace",
     );
     Command::new(alloc, "ptpm")
         .bin_name("ptpm")?
+        .version(VERSION)
         .about("Management messages of the Precision Time Protocol")
         .disable_help_subcommand(true)
         .subcommand_required(true)
-        .subcommand(answer)?
-        .subcommand(show)?
+        .subcommand(with_datagrams(alloc, answer)?)?
+        .subcommand(with_datagrams(alloc, show)?)?
         .subcommand(ids)?
         .subcommand(make_command(alloc)?)?
         .subcommand(run)
 }
 
-fn datagram<'a>(alloc: Global) -> Arg<'a> {
-    word(alloc, "HEX", "The datagram in hexadecimal digits").required(true)
+/// The command, with a datagram or `--lines`.
+fn with_datagrams<'a>(alloc: Global, command: Command<'a>) -> Result<Command<'a>, AllocError> {
+    let datagram = word(alloc, "HEX", "The datagram in hexadecimal digits");
+    let lines = Arg::new(alloc, "lines")
+        .long("lines")
+        .help("Reads a datagram from each line of standard input")
+        .action(ArgAction::SetTrue);
+    let either = ArgGroup::new(alloc, "datagrams")
+        .arg("HEX")?
+        .arg("lines")?
+        .required(true);
+    command.arg(datagram)?.arg(lines)?.group(either)
 }
 
 fn make_command<'a>(alloc: Global) -> Result<Command<'a>, AllocError> {

@@ -2,6 +2,7 @@
 
 mod examples;
 mod failing;
+mod lines;
 mod making;
 mod running;
 
@@ -345,7 +346,7 @@ fn refused_command_lines(rt: HostRuntime) {
         (
             &["ptpm", "show", "0g", "00"],
             b"error: unexpected argument '00' found\n\n\
-            Usage: ptpm show <HEX>\n\n\
+            Usage: ptpm show <HEX|--lines>\n\n\
             For more information, try '--help'.\n",
         ),
     ];
@@ -361,12 +362,14 @@ fn help(rt: HostRuntime) {
         rt.alloc(),
         &["ptpm", "show", "--help"],
         b"Prints the fields of a management message\n\n\
-        Usage: ptpm show <HEX>\n\n\
+        Usage: ptpm show <HEX|--lines>\n\n\
         Arguments:\n  \
-        <HEX>  The datagram in hexadecimal digits\n\n\
-        Options:\n  \
-        -h, --help  Print help\n",
+        [HEX]  The datagram in hexadecimal digits\n\n\
+        Options:\n      \
+        --lines  Reads a datagram from each line of standard input\n  \
+        -h, --help   Print help\n",
     );
+    prints(&rt, rt.alloc(), &["ptpm", "--version"], b"ptpm 0.1.0\n");
 }
 
 const IDS: &[u8] = b"0000 NULL_PTP_MANAGEMENT port GSC\n\

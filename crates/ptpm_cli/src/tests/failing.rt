@@ -10,9 +10,9 @@ use std::test::Fail;
 
 /// Gives octets one by one, and fails after so many of them.
 #[derive(Drop)]
-struct FailingReader<'a> {
-    octets: &'a [u8],
-    left: usize,
+pub struct FailingReader<'a> {
+    pub octets: &'a [u8],
+    pub left: usize,
 }
 
 impl Read for FailingReader<'_> {

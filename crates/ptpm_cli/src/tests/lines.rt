@@ -1,0 +1,140 @@
+//! `--lines`: datagrams on standard input, a line each.
+
+use super::failing::FailingReader;
+use super::{
+    PASSED_ON, REFUSAL, REPLY, REQUEST, SHOWN_REFUSAL, SHOWN_REPLY, TO_EVERY_CLOCK, edited,
+};
+use crate::command::command;
+use std::alloc::Global;
+use std::io::Read;
+use std::process::Abort;
+use std::test::Fail;
+
+/// The subcommand reads this, ends with this status, and writes this on its two outputs.
+fn reads<R: Read + Drop>(
+    rt: &impl Abort,
+    alloc: Global,
+    name: &str,
+    reader: R,
+    printed: &[u8],
+    told: &str,
+) {
+    let mut out = Vec::new(alloc);
+    let mut err = Vec::new(alloc);
+    let mut reader = reader;
+    let words = ["ptpm", name, "--lines"];
+    let status = command(alloc, &words, &mut reader, &mut out, &mut err);
+    assert!(rt; out.as_slice() == printed, "{name}");
+    assert_eq!(rt; err.as_slice(), told.as_bytes());
+    assert!(rt; status == if told.is_empty() { 0 } else { 1 });
+}
+
+/// `answer` reads these lines and prints those.
+fn answers(rt: &impl Abort, alloc: Global, input: &str, output: &str) {
+    reads(rt, alloc, "answer", input.as_bytes(), output.as_bytes(), "");
+}
+
+/// SET PRIORITY1 to 100, number 8, of the manager; and its GET, number 9.
+const SET: &str = "0d12003800000000000000000000000000000000\
+    001122334455667700010008047faabbccfffeddee01ffff010101000001000420056400";
+
+const GET: &str = "0d12003600000000000000000000000000000000\
+    001122334455667700010009047faabbccfffeddee01ffff01010000000100022005";
+
+/// The clock's replies to them.
+const CHANGED: &str = "1 0d12003800000000000000000000000000000000\
+    aabbccfffeddee0100010008047f0011223344556677000100000200000100042005\
+    6400\n";
+
+const READ: &str = "1 0d12003800000000000000000000000000000000\
+    aabbccfffeddee0100010009047f0011223344556677000100000200000100042005\
+    6400\n";
+
+/// All lines go to one clock: what a SET changed is read after it, and a repeat of the request has the reply that was kept.
+#[test]
+fn one_clock_for_all_lines(rt: HostRuntime) -> Result<(), Fail> {
+    let alloc = rt.alloc();
+    let input = format!(in alloc; "{SET}\r\n\n3 {GET}\nnothing\n{GET}")?;
+    let output = format!(in alloc; "{CHANGED}nothing\n{READ}{READ}")?;
+    answers(&rt, alloc, input.as_str(), output.as_str());
+    answers(&rt, alloc, "", "");
+    Ok(())
+}
+
+/// What `answer` prints is read by `show` and by `answer` as it is.
+#[test]
+fn printed_lines_are_read(rt: HostRuntime) -> Result<(), Fail> {
+    let alloc = rt.alloc();
+    let input = format!(in alloc; "1 {REPLY}\nnothing\n65535 {REFUSAL}\n")?;
+    let mut output = Vec::new(alloc);
+    output.extend_from_slice(SHOWN_REPLY)?;
+    output.extend_from_slice(SHOWN_REFUSAL)?;
+    reads(&rt, alloc, "show", input.as_bytes(), output.as_slice(), "");
+    let input = format!(in alloc; "{TO_EVERY_CLOCK}\n1 {REQUEST}\n")?;
+    let output = format!(in alloc; "2 {PASSED_ON}\n1 {REPLY}\n1 {REPLY}\n")?;
+    answers(&rt, alloc, input.as_str(), output.as_str());
+    Ok(())
+}
+
+/// A bad line ends the run with its number and what is wrong with it; what was printed before stands.
+#[test]
+fn bad_lines(rt: HostRuntime) -> Result<(), Fail> {
+    let alloc = rt.alloc();
+    let answered = format!(in alloc; "1 {REPLY}\n")?;
+    for bad in ["0g", "0d1", "1  00", "65536 00", "x 00", "nothing ", "-"] {
+        let input = format!(in alloc; "{REQUEST}\n{bad}\n{REQUEST}\n")?;
+        let fault = "ptpm: BadLine 2 BadHex\n";
+        reads(
+            &rt,
+            alloc,
+            "answer",
+            input.as_bytes(),
+            answered.as_bytes(),
+            fault,
+        );
+    }
+    let bad = b"nothing\n\xff\n".as_slice();
+    reads(&rt, alloc, "show", bad, b"", "ptpm: BadLine 2 BadHex\n");
+    let short = format!(in alloc; "{REPLY}\n\n{REPLY}\n")?;
+    let fault = "ptpm: BadLine 2 TooShort\n";
+    reads(&rt, alloc, "show", short.as_bytes(), SHOWN_REPLY, fault);
+    let unknown = edited(alloc, &[(46, 5)], &[])?;
+    let fault = "ptpm: BadLine 1 BadAction\n";
+    reads(&rt, alloc, "show", unknown.as_bytes(), b"", fault);
+    Ok(())
+}
+
+/// A line of 4,096 octets is read, its carriage return among them, and none that is longer, also where it never ends.
+#[test]
+fn long_lines(rt: HostRuntime) -> Result<(), Fail> {
+    let alloc = rt.alloc();
+    let long = "0".repeat(alloc, 4094)?;
+    let input = format!(in alloc; "{long}00\n{long}\r\n{long}00")?;
+    let nothing = "nothing\nnothing\nnothing\n";
+    answers(&rt, alloc, input.as_str(), nothing);
+    let input = format!(in alloc; "00\n{long}00\r\n")?;
+    let fault = "ptpm: LineTooLong 2\n";
+    reads(&rt, alloc, "answer", input.as_bytes(), b"nothing\n", fault);
+    let endless = std::io::repeat(b'0');
+    reads(&rt, alloc, "show", endless, b"", "ptpm: LineTooLong 1\n");
+    Ok(())
+}
+
+/// Wherever reading fails, the replies to the lines before stand.
+#[test]
+fn failing_lines(rt: HostRuntime) -> Result<(), Fail> {
+    let alloc = rt.alloc();
+    let input = format!(in alloc; "{REQUEST}\n{REQUEST}")?;
+    let answered = format!(in alloc; "1 {REPLY}\n")?;
+    for left in 0..=input.len() {
+        let octets = input.as_bytes();
+        let reader = FailingReader { octets, left };
+        let printed = if left > REQUEST.len() {
+            answered.as_bytes()
+        } else {
+            b""
+        };
+        reads(&rt, alloc, "answer", reader, printed, "ptpm: ReadFault\n");
+    }
+    Ok(())
+}
