@@ -1,28 +1,31 @@
 -- A kept clock where the machine has it: one word, which is its pointer. And the types of its functions, as their calls pass them.
-use mathlib.Core.Path.{◌≡◌, refl, sym, subst}
+use mathlib.Core.Path.{◌≡◌, refl, subst}
 use mathlib.Core.List.{List, [], ◌∷◌, ◌++◌}
-use lib.Dec.{T, lit<}
 use seplogic.Ra.Ura.{Ura}
 use mir.Syntax.{Ty, Dict, ty_ptr, impl, tnil, tcons, dnil}
 use mir.Raw.{raw as unnamed}
-use mir.Val.{Val, vstruct, vcons, vnil, of_list, has_ty, WT}
+use mir.Val.{Val, vstruct, vcons, vnil, of_list, has_ty}
 use base.Fml.{ftrue}
 use types.Logic.{Logic}
 use types.Kit.{Goal, Seq, Step, step, Item, ‵, ◌$◌, drop, fsplit, fjoin, fpick, fpack, feq_l, feq_i}
 use denote.RattleType.{RattleType, Valss}
 use denote.Builtin.{RawPtr}
-use denote.RawPtr.{Ptr, block_ptr, null_ptr, ptr_val}
+use denote.RawPtr.{Ptr, ptr_val}
 use denote.Exit.{no}
 use denote.Laws.{Typed}
 use denote.Param.{arg, layout}
 use denote.Param.Laws.{Laws, arg_laws}
+use denote.Param.Steps.{one_value}
 use denote.Steps.{nothing}
 use denote.Struct.Struct.{within}
 use denote.Struct.Owning.{shape, to}
-use Rattle.std.specs.Prelude.{Option, Some, None, IsTrue, is_some, Bool}
+use Rattle.std.specs.Prelude.{Option, Some, None, IsTrue, is_some}
 use Rattle.std.specs.contracts.alloc.Global as Global
 use Rattle.std.specs.contracts.boxed.Box as Box
 use Rattle.std.specs.contracts.impls.GlobalAllocator.TheImpl.{ghosts}
+use Rattle.std.proofs.Flags.{never_true}
+use Rattle.std.proofs.RcSteps.{Good, Ptr-Good}
+use Rattle.std.proofs.ResultValues.{and_tt}
 use Rattle.std.proofs.alloc.Global.TheLaws as global
 use Rattle.ptpm_host.specs.contracts.clock.HostedClock as Hosted
 use Rattle.ptpm_host.proofs.clock.HostedClock.TheLaws as hosted
@@ -57,38 +60,30 @@ abbrev pub let_go : RattleType → Dict
 let_go R = impl ("ptpm_c::Destruct++none::drop" ∷ []) (tcons (layout (passed R)) tnil) dnil
 
 -- ---- values of one word
-abbrev pub Good : Ty → Val → Type 0
-Good τ v = T (has_ty τ v) × WT v
-
-pub record OneWord (τ : Ty) (vs : List Val) : Type 0 where
+-- what was passed for a type of one machine type
+pub record OneWord (τ : Ty) (vs : List Val) : Type 1 where
   pub word : Val
   pub is_it : vs ≡ word ∷ []
   pub good : Good τ word
 
 pub one_word : (τ : Ty) (vs : List Val) → Typed (τ ∷ []) vs → OneWord τ vs
-one_word τ [] typed = absurd typed
-one_word τ (v ∷ []) typed = record { word = v; is_it = refl; good = typed.0 }
-one_word τ (v ∷ w ∷ vs) typed = absurd typed.1
+one_word τ vs typed = one_value τ (OneWord τ) vs typed (λ v good. record { word = v; is_it = refl; good = good })
 
-pub pointer_good : (p : Ptr) → Good ty_ptr (ptr_val p)
-pointer_good (block_ptr b o) = (tt, tt)
-pointer_good null_ptr = (tt, record { fits = lit< tt })
-
+-- the word of a kept clock has its pointer alone
 abbrev pub kept_word : Ptr → Val
 kept_word p = vstruct (vcons (ptr_val p) vnil)
 
 pub kept_good : (p : Ptr) → Good (layout Kept) (kept_word p)
-kept_good (block_ptr b o) = (tt, (tt, tt))
-kept_good null_ptr = (tt, (record { fits = lit< tt }, tt))
+kept_good p = let of_pointer : Good ty_ptr (ptr_val p) = Ptr-Good p in (and_tt (has_ty ty_ptr (ptr_val p)) of_pointer.0, (of_pointer.1, tt))
 
--- ---- the value of an option that is there
-pub record There {X : Type 0} (c : Option X) : Type 0 where
-  pub value : X
-  pub is_it : c ≡ Some value
+-- ---- the clock of a handle that is known to hold one
+pub record Holding (kept : Option Clock.Denot) : Type 0 where
+  pub clock : Clock.Denot
+  pub is_it : kept ≡ Some clock
 
-pub there : {X : Type 0} (c : Option X) → IsTrue (is_some c) → There c
-there None holds = absurd (subst (λ (b : Bool). T b) (sym holds) tt)
-there (Some x) holds = record { value = x; is_it = refl }
+pub holding : (kept : Option Clock.Denot) → IsTrue (is_some kept) → Holding kept
+holding (Some c) says_so = record { clock = c; is_it = refl }
+holding None says_so = never_true says_so
 
 -- ---- what a kept clock owns
 module _ {M : Type 1} {𝓤 : Ura M} {𝓛 : Logic 𝓤} {K : Type 0} {Γ : List (Item 𝓤)} {G : Goal 𝓤 𝓛.H} where

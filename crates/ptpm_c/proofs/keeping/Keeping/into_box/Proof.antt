@@ -31,6 +31,7 @@ use Rattle.std.proofs.VecSteps.Shapes.{after}
 use Rattle.std.proofs.alloc.Global.TheLaws as global
 use Rattle.std.proofs.boxed.Box.TheLaws as box
 use Rattle.std.proofs.impls.GlobalAllocator.TheImpl.Met.{passed as heap_meets}
+use Rattle.std.proofs.RcSteps.{Good, Ptr-Good}
 use Rattle.std.proofs.raw_atomic.Walks.{proved_at}
 use Rattle.std.specs.Box.Ownership.{box_owns}
 use Rattle.std.specs.Prelude.{Option, Some, IsTrue, is_some}
@@ -39,7 +40,7 @@ use Rattle.std.specs.contracts.impls.GlobalAllocator.TheImpl.{ghosts, dict}
 use Rattle.std.proofs.boxed.Box.from_raw.Met.{met}
 use Rattle.ptpm_host.proofs.clock.HostedClock.TheLaws as hosted
 use Rattle.ptpm_c.specs.Keeping.{keeping_owns}
-use Rattle.ptpm_c.proofs.Kept.{Clock, Heap, Boxed, Kept, passed, clock_laws, heap_laws, let_go, Good, OneWord, one_word, pointer_good, kept_word, kept_good, There, there, lifts_out}
+use Rattle.ptpm_c.proofs.Kept.{Clock, Heap, Boxed, Kept, passed, clock_laws, heap_laws, let_go, OneWord, one_word, kept_word, kept_good, Holding, holding, lifts_out}
 use Rattle.ptpm_c.specs.contracts.keeping.Keeping.into_box as f
 use Rattle.ptpm_c.proofs.keeping.Keeping.into_box.Statement.{statement}
 use Rattle.ptpm_c.proofs.keeping.Keeping.into_box.Code as code
@@ -63,17 +64,17 @@ into_box_spec {M} 𝓤 𝓛 𝓜 𝓡 wired =
     let k = y.0.3.0 in let a = y.0.3.1.0 in let us = y.0.4.1.0 in
     let heap : OneWord (layout Heap) us = one_word (layout Heap) us ((global.the_row_laws.lawful 𝓛).typed a us are.1.0) in
     qed 𝓛 ((‵ ftrue ⊛ ‵ (fsep (Kept.own_val k y.0.4.0) (fsep (Heap.own_val a us) ftrue))) ∷ raw (fact 𝓤 (IsTrue (is_some k.clock))) ∷ []) ∵
-    move ! (1 ∷ []) $ heard ! (IsTrue (is_some k.clock)) (λ has. let held : There k.clock = there k.clock has in
+    move ! (1 ∷ []) $ heard ! (IsTrue (is_some k.clock)) (λ has. let held : Holding k.clock = holding k.clock has in
     split ! $ drop ! $ fsplit ! $ lifts_out ! k y.0.4.0 (λ is_kept.
     rewrite ! 0 (λ (c : Option Clock.Denot). ‵ (keeping_owns k.at c)) held.is_it refl $ move ! (1 ∷ []) $ fsplit ! $ keep ! (0 ∷ 2 ∷ []) $
     rewrite ! 0 (λ (ws : List Val). ‵ (Heap.own_val a ws)) heap.is_it refl $
     regoal ! (λ (ws : List Val). prop (WpFn 𝓤 𝓛.H 𝓣.C 𝓣.Λ code.function (ws ++ (us ++ [])) (W.post y))) is_kept refl $
     regoal ! (λ (ws : List Val). prop (WpFn 𝓤 𝓛.H 𝓣.C 𝓣.Λ code.function (kept_word k.at ∷ (ws ++ [])) (W.post y))) heap.is_it refl $
     enter ! 𝓣.C 𝓣.Λ code.function (kept_word k.at ∷ heap.word ∷ []) _ $ alloc_all ! (λ ls. pass_all ! refl (kept_good k.at, (heap.good, tt)) $
-    first ! $ blocks ! $ sets ! (of_opd ! (get_in ! (fld ! refl (stop !)) (sub ! 0 refl (whole !)))) refl (pointer_good k.at) $
+    first ! $ blocks ! $ sets ! (of_opd ! (get_in ! (fld ! refl (stop !)) (sub ! 0 refl (whole !)))) refl (Ptr-Good k.at) $
     lft_new ! tt (λ α. lft_new ! tt (λ β.
     -- [the token of β; the token of α; the heap; what the pointer's clock owns; the locals]
-    let at : Boxes.Ghost = (((α ∷ [], (β ∷ [], tt)), (full_share, (full_share, tt)), tt, (a, (k.at, tt)), (heap.word ∷ [], (ptr_val k.at ∷ [], tt))), held.value) in
+    let at : Boxes.Ghost = (((α ∷ [], (β ∷ [], tt)), (full_share, (full_share, tt)), tt, (a, (k.at, tt)), (heap.word ∷ [], (ptr_val k.at ∷ [], tt))), held.clock) in
     let tokens : Item 𝓤 = ‵ (flft (α ∷ []) full_share) ⊛ ‵ (flft (β ∷ []) full_share) ⊛ ‵ ftrue in
     nothing ! $ move ! (1 ∷ 0 ∷ []) $ join ! $ move ! (1 ∷ 0 ∷ []) $ join ! $
     nothing ! $ feq_i ! (List Val) (ptr_val k.at ∷ []) (ptr_val k.at ∷ []) refl $ fjoin ! $ move ! (2 ∷ 0 ∷ []) $ fjoin ! $ move ! (1 ∷ 0 ∷ []) $ join ! $ move ! (1 ∷ []) $
@@ -81,8 +82,8 @@ into_box_spec {M} 𝓤 𝓛 𝓜 𝓡 wired =
     use0 𝓛 (raw (fact 𝓤 ((α ∷ []) ⊑ Clock.lives))) (fact_i 𝓤 ((α ∷ []) ⊑ Clock.lives) (emp 𝓤) (⊑_static (α ∷ []))) $ join ! $
     move ! (1 ∷ 0 ∷ []) $ join ! $ use1 𝓛 (raw (Boxes.pre at)) (id⊢ 𝓤 _) $
     calls_at_last ! (framed 𝓤 𝓛.H 𝓜 𝓣) Boxes holds at (and_then ! (get ! refl) (and_then ! (get ! refl) (no_more !))) (λ u.
-    use1 𝓛 (later (some (λ (r : Boxed.Denot). (tokens ⊛ ‵ (Boxed.own_val r (u ∷ []))) ⊛ some (λ (ws : Lasts callee_ends at.0.0 at.0.3). ‵ (lasts callee_ends at.0.0 at.0.3 ws) ⊛ raw (fact 𝓤 (r.value ≡ held.value)) ⊛ raw (fact 𝓤 (r.alloc ≡ a)))))) (id⊢ 𝓤 _) $
-    await ! tt $ pick ! (λ r. split ! $ split ! $ drop ! $ move ! (1 ∷ []) $ pick ! (λ ws. split ! $ drop ! $ split ! $ heard ! (r.value ≡ held.value) (λ same. drop ! $
+    use1 𝓛 (later (some (λ (r : Boxed.Denot). (tokens ⊛ ‵ (Boxed.own_val r (u ∷ []))) ⊛ some (λ (ws : Lasts callee_ends at.0.0 at.0.3). ‵ (lasts callee_ends at.0.0 at.0.3 ws) ⊛ raw (fact 𝓤 (r.value ≡ held.clock)) ⊛ raw (fact 𝓤 (r.alloc ≡ a)))))) (id⊢ 𝓤 _) $
+    await ! tt $ pick ! (λ r. split ! $ split ! $ drop ! $ move ! (1 ∷ []) $ pick ! (λ ws. split ! $ drop ! $ split ! $ heard ! (r.value ≡ held.clock) (λ same. drop ! $
     peeks ! Boxed (Is Boxed) (shows 𝓛 Boxed) r (u ∷ []) (λ is.
     let good : Good (layout Boxed) u = (((box.the_field_loose Clock Heap ghosts hosted.the_row_laws global.the_row_laws).lawful 𝓛).typed r (u ∷ []) is).0 in
     lands_last ! refl good $ exec ! 𝓣.C 𝓣.Λ (env code.function.locals ls) (after 1 code.function.body) (at_ret (env code.function.locals ls) (W.post y)) $

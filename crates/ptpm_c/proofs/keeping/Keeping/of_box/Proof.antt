@@ -29,6 +29,7 @@ use denote.Triple.Table.{framed}
 use denote.Triple.Walked.{says, Stays, stay_dropped, walk_of, ends_at, Goes-dropped}
 use Rattle.std.proofs.boxed.Box.TheLaws as box
 use Rattle.std.proofs.impls.GlobalAllocator.TheImpl.Met.{passed as heap_meets}
+use Rattle.std.proofs.RcSteps.{Ptr-Good}
 use Rattle.std.proofs.raw_atomic.Walks.{proved_at}
 use Rattle.std.specs.Box.Ownership.{box_owns}
 use Rattle.std.specs.Prelude.{Some}
@@ -38,7 +39,7 @@ use Rattle.std.proofs.boxed.Box.into_raw.Met.{met}
 use Rattle.ptpm_host.proofs.clock.HostedClock.TheLaws as hosted
 use Rattle.std.proofs.alloc.Global.TheLaws as global
 use Rattle.ptpm_c.specs.Keeping.{may_free}
-use Rattle.ptpm_c.proofs.Kept.{Clock, Heap, Boxed, passed, clock_laws, heap_laws, let_go, OneWord, one_word, pointer_good, kept_word, kept_good, puts_behind}
+use Rattle.ptpm_c.proofs.Kept.{Clock, Heap, Boxed, passed, clock_laws, heap_laws, let_go, OneWord, one_word, kept_word, kept_good, puts_behind}
 use Rattle.ptpm_c.specs.contracts.keeping.Keeping.of_box as f
 use Rattle.ptpm_c.proofs.keeping.Keeping.of_box.Statement.{statement}
 use Rattle.ptpm_c.proofs.keeping.Keeping.of_box.Code as code
@@ -79,7 +80,7 @@ of_box_spec {M} 𝓤 𝓛 𝓜 𝓡 wired =
     calls_at ! (framed 𝓤 𝓛.H 𝓜 𝓣) Unboxes holds at (and_then ! (get ! refl) (no_more !)) (λ u.
     use1 𝓛 (later (some (λ (p : Ptr). (tokens ⊛ ‵ (RawPtr.own_val p (u ∷ []))) ⊛ some (λ (ws : Lasts callee_ends at.0.0 at.0.3). ‵ (lasts callee_ends at.0.0 at.0.3 ws) ⊛ ‵ (box_owns may_free Clock p d.value))))) (id⊢ 𝓤 _) $
     await ! tt $ pick ! (λ p. split ! $ split ! $ drop ! $ feq_l ! (λ is_p. pick ! (λ ws. split ! $ drop ! $
-    lands_as ! (ap only is_p) refl (pointer_good p) $ sets ! (of_opd ! (get ! refl)) refl (pointer_good p) $
+    lands_as ! (ap only is_p) refl (Ptr-Good p) $ sets ! (of_opd ! (get ! refl)) refl (Ptr-Good p) $
     sets ! (agg ! (and_then ! (get ! refl) (no_more !))) refl (kept_good p) $
     returns ! (look_at ! 0 refl) $ free_all ! refl $ puts_behind ! p (Some d.value) $
     suffices ! _ (ends_at 𝓛 f.ended stays said y (kept_word p) (record { at = p; clock = Some d.value }) (tt, tt) (tt, tt)) $ says ! refl $
