@@ -18,10 +18,10 @@ use Rattle.ptpm_table.specs.Serial.{order_of, serial_of}
 use Rattle.ptpm_agent.specs.declared.verdict.Verdict.{Verdict}
 use Rattle.ptpm_agent.specs.declared.verdict.Verdict.TheVariants as verdicts
 use Rattle.ptpm_agent.specs.Turn.{Clock, State, Turned, heard_of, is_repeat, judged, kept_reply_of, look, next_by, outbox_of, reply_by, reply_messages, request_of, turn, turn_by, verdict_at}
-use Rattle.ptpm_agent.specs.Once.{Delivery, RequestCopy, History, after, after_arrival, after_copy, applied_once, beginning, copy_by, copy_from, copy_of, due_reply, greatest, is_copy, joins, kept_for, kept_reply}
+use Rattle.ptpm_agent.specs.Once.{Delivery, RequestCopy, History, after, after_arrival, after_copy, applied_once, initial_history, copy_by, copy_from, copy_of, due_reply, greatest, is_copy, joins, kept_for, kept_reply}
 use Rattle.ptpm_codec.specs.SequenceNumber.{number_of}
 use Rattle.ptpm_agent.specs.Window.{IsInTime, IsNumbered, KeepsWindow}
-use Rattle.ptpm_agent.specs.Laws.{IsKept, IsLatest, StandsAt, due_messages, fresh, turns}
+use Rattle.ptpm_agent.specs.Laws.{IsKept, IsLatest, StandsAt, due_messages, initial_clock_state, turns}
 use Rattle.ptpm_agent.proofs.Entries.{StandsAt-joined, accepted_at}
 use Rattle.ptpm_agent.proofs.Numbers.{serial_of-number_of}
 use Rattle.ptpm_agent.proofs.Turns.{CopyParts, copy_parts, forwarded-copy, judged-elsewhere, judged-numbered, look-copy, next_by-no_copy, turn-message, turn-next}
@@ -267,10 +267,10 @@ stands_turns first c s h [] at window = at
 stands_turns first c s h (x ∷ xs) at window =
     stands_turns first c (turn c s x.ingress x.datagram).next (after c h x) xs (stands_after first c s h x at window.0) window.1
 
-pub stands_fresh : (first : PortIdentity → ℕ) (d : DataSetsValue) → StandsAt first (fresh d) (beginning d)
-stands_fresh first d = record {
+pub stands-initial_history : (first : PortIdentity → ℕ) (d : DataSetsValue) → StandsAt first (initial_clock_state d) (initial_history d)
+stands-initial_history first d = record {
   sets = refl;
-  entries = λ m. subst (λ (o : Option Entry). IsKept first (beginning d) m o) (sym (get-empty identity_cmp m)) refl;
+  entries = λ m. subst (λ (o : Option Entry). IsKept first (initial_history d) m o) (sym (get-empty identity_cmp m)) refl;
 }
 
 -- the window of a list with one more delivery
@@ -282,8 +282,8 @@ turns-append : (c : Clock) (s : State) (xs : List Delivery) (x : Delivery) → t
 turns-append c s [] x = refl
 turns-append c s (y ∷ ys) x = turns-append c (turn c s y.ingress y.datagram).next ys x
 
-pub sets_once : (c : Clock) (first : PortIdentity → ℕ) (d : DataSetsValue) (xs : List Delivery) → KeepsWindow c first (beginning d) xs → (turns c (fresh d) xs).sets ≡ (applied_once c (beginning d) xs).sets
-sets_once c first d xs window = (stands_turns first c (fresh d) (beginning d) xs (stands_fresh first d) window).sets
+pub sets_once : (c : Clock) (first : PortIdentity → ℕ) (d : DataSetsValue) (xs : List Delivery) → KeepsWindow c first (initial_history d) xs → (turns c (initial_clock_state d) xs).sets ≡ (applied_once c (initial_history d) xs).sets
+sets_once c first d xs window = (stands_turns first c (initial_clock_state d) (initial_history d) xs (stands-initial_history first d) window).sets
 
 turns_as_next : (c : Clock) (first : PortIdentity → ℕ) (s : State) (h : History) (xs : List Delivery)
     (x : Delivery) (k : RequestCopy) → StandsAt first s h → KeepsWindow c first h (xs ++ x ∷ [])
@@ -301,12 +301,12 @@ outbox_due-at c first s h xs x k at window e =
     let as' = turns_as_next c first s h xs x k at window e in
     ap (λ (f : List (ℕ × List ℕ)). f ++ (turn c (turns c s xs) x.ingress x.datagram).replies) as'.forwards ∙ as'.replies
 
-pub outbox_due : (c : Clock) (first : PortIdentity → ℕ) (d : DataSetsValue) (xs : List Delivery) (x : Delivery) (k : RequestCopy) → KeepsWindow c first (beginning d) (xs ++ x ∷ []) → copy_of c (applied_once c (beginning d) xs).sets x ≡ Some k → outbox_of (turn c (turns c (fresh d) xs) x.ingress x.datagram) ≡ due_messages c k (due_reply c (applied_once c (beginning d) xs) k)
+pub outbox_due : (c : Clock) (first : PortIdentity → ℕ) (d : DataSetsValue) (xs : List Delivery) (x : Delivery) (k : RequestCopy) → KeepsWindow c first (initial_history d) (xs ++ x ∷ []) → copy_of c (applied_once c (initial_history d) xs).sets x ≡ Some k → outbox_of (turn c (turns c (initial_clock_state d) xs) x.ingress x.datagram) ≡ due_messages c k (due_reply c (applied_once c (initial_history d) xs) k)
 outbox_due c first d xs x k window e =
-    outbox_due-at c first (fresh d) (beginning d) xs x k (stands_fresh first d) window e
+    outbox_due-at c first (initial_clock_state d) (initial_history d) xs x k (stands-initial_history first d) window e
 
-pub turns-repeat : (c : Clock) (first : PortIdentity → ℕ) (d : DataSetsValue) (xs : List Delivery) (x : Delivery) (k : RequestCopy) → KeepsWindow c first (beginning d) (xs ++ x ∷ []) → copy_of c (applied_once c (beginning d) xs).sets x ≡ Some k → joins (applied_once c (beginning d) xs) k ≡ false → turns c (fresh d) (xs ++ x ∷ []) ≡ turns c (fresh d) xs
-turns-repeat c first d xs x k window e j = turns-append c (fresh d) xs x ∙ (turns_as_next c first (fresh d) (beginning d) xs x k (stands_fresh first d) window e).stays j
+pub turns-repeat : (c : Clock) (first : PortIdentity → ℕ) (d : DataSetsValue) (xs : List Delivery) (x : Delivery) (k : RequestCopy) → KeepsWindow c first (initial_history d) (xs ++ x ∷ []) → copy_of c (applied_once c (initial_history d) xs).sets x ≡ Some k → joins (applied_once c (initial_history d) xs) k ≡ false → turns c (initial_clock_state d) (xs ++ x ∷ []) ≡ turns c (initial_clock_state d) xs
+turns-repeat c first d xs x k window e j = turns-append c (initial_clock_state d) xs x ∙ (turns_as_next c first (initial_clock_state d) (initial_history d) xs x k (stands-initial_history first d) window e).stays j
 
 -- a copy is never passed on, in the window or not
 pub forwards-copy : (c : Clock) (s : State) (x : Delivery) (k : RequestCopy) → copy_of c s.sets x ≡ Some k → (turn c s x.ingress x.datagram).forwards ≡ []

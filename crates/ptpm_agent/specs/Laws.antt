@@ -10,8 +10,8 @@ use Rattle.ptpm_agent.specs.Once.{Delivery, RequestCopy, History, greatest, kept
 use Rattle.ptpm_codec.specs.SequenceNumber.{number_of}
 
 -- a clock that has heard nothing yet
-abbrev pub fresh : DataSetsValue → State
-fresh d = record { sets = d; entries = empty }
+abbrev pub initial_clock_state : DataSetsValue → State
+initial_clock_state d = record { sets = d; entries = empty }
 
 -- a clock after these deliveries
 abbrev pub turns : Clock → State → List Delivery → State
@@ -38,7 +38,8 @@ abbrev pub due_messages : Clock → RequestCopy → Option ReplyValue → List (
 due_messages c x r = reply_messages c x.ingress x.heard r
 
 -- the entry of a manager is its latest accepted request, with its sequenceId and its reply
-pub record IsLatest (first : PortIdentity → ℕ) (h : History) (m : PortIdentity) (e : Entry) : Type 0 where
+pub record IsLatest (first : PortIdentity → ℕ) (h : History) (m : PortIdentity)
+    (e : Entry) : Type 0 where
   pub some : 0 < greatest m h.accepted
   pub kept : kept_reply m (greatest m h.accepted) h.accepted
       ≡ Some (record { manager = m; index = greatest m h.accepted; request = e.request; reply = e.reply })

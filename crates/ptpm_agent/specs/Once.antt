@@ -40,7 +40,8 @@ is_copy c d v =
     && (names_port d v.target.port && is_request v))))
 
 abbrev pub copy_from : Delivery → Message → RequestCopy
-copy_from x v = record { ingress = x.ingress; index = x.index; heard = heard_of v; request = request_of v }
+copy_from x v =
+    record { ingress = x.ingress; index = x.index; heard = heard_of v; request = request_of v }
 
 abbrev pub copy_by : Clock → DataSetsValue → Delivery → Option Message → Option RequestCopy
 copy_by c d x None = None
@@ -64,13 +65,14 @@ pub record History : Type 0 where
   pub sets : DataSetsValue
   pub accepted : List Accepted
 
-abbrev pub beginning : DataSetsValue → History
-beginning d = record { sets = d; accepted = [] }
+abbrev pub initial_history : DataSetsValue → History
+initial_history d = record { sets = d; accepted = [] }
 
 -- the greatest accepted index of a manager, 0 where none is
 abbrev pub greatest : PortIdentity → List Accepted → ℕ
 greatest m [] = 0
-greatest m (a ∷ as') = if same_identity m a.manager then max a.index (greatest m as') else greatest m as'
+greatest m (a ∷ as') =
+    if same_identity m a.manager then max a.index (greatest m as') else greatest m as'
 
 -- what was accepted as request k of a manager, with the reply to it
 abbrev pub kept_reply : PortIdentity → ℕ → List Accepted → Option Accepted
@@ -78,7 +80,8 @@ kept_reply m k accepted = find (λ a. same_identity m a.manager && a.index == k)
 
 -- a copy joins where it is in the clock's domain, and its index is above every accepted one of its manager
 abbrev pub joins : History → RequestCopy → Bool
-joins h x = x.heard.domain == h.sets.default.domain && nat_lt (greatest x.heard.source h.accepted) x.index
+joins h x =
+    x.heard.domain == h.sets.default.domain && nat_lt (greatest x.heard.source h.accepted) x.index
 
 abbrev pub accepted_from : Clock → History → RequestCopy → Accepted
 accepted_from c h x = record {
@@ -122,5 +125,6 @@ kept_for x (Some a) = if same_request a.request x.request then Some a.reply else
 abbrev pub due_reply : Clock → History → RequestCopy → Option ReplyValue
 due_reply c h x =
     if joins h x then Some (reply_to x.request (c.rights x.heard.source) h.sets)
-    else if greatest x.heard.source h.accepted == x.index then kept_for x (kept_reply x.heard.source x.index h.accepted)
+    else if greatest x.heard.source h.accepted == x.index
+    then kept_for x (kept_reply x.heard.source x.index h.accepted)
     else None

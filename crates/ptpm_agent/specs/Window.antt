@@ -14,10 +14,12 @@ pub record IsNumbered (first : PortIdentity → ℕ) (x : RequestCopy) : Type 0 
 -- The copy comes at most 32,768 requests late, and no more than 32,767 ahead of the latest accepted one.
 pub record IsInTime (first : PortIdentity → ℕ) (h : History) (x : RequestCopy) : Type 0 where
   pub numbered : IsNumbered first x
-  pub window : 0 < greatest x.heard.source h.accepted → InWindow (greatest x.heard.source h.accepted) x.index
+  pub window : 0 < greatest x.heard.source h.accepted
+      → InWindow (greatest x.heard.source h.accepted) x.index
 
 -- each copy is in time as it comes
 abbrev pub KeepsWindow : Clock → (PortIdentity → ℕ) → History → List Delivery → Type 0
 KeepsWindow c first h [] = Unit {0}
 KeepsWindow c first h (x ∷ xs) =
-    ((k : RequestCopy) → copy_of c h.sets x ≡ Some k → IsInTime first h k) × KeepsWindow c first (after c h x) xs
+    ((k : RequestCopy) → copy_of c h.sets x ≡ Some k → IsInTime first h k)
+    × KeepsWindow c first (after c h x) xs

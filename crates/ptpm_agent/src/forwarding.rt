@@ -50,7 +50,8 @@ fn send_on(sets: &DataSets, ingress: u16, datagram: &[u8], out: &mut Outbox)
     requires port { HasPort ingress sets.now }
     requires well_formed { IsWellFormed datagram.now }
     requires hops { 0 < boundary_hops datagram.now }
-    ensures copies { out.new ≡ map (λ port. (port, with_less_hop datagram.now)) (egress_ports ingress sets.now) }
+    ensures copies { out.new ≡ map (λ port. (port, with_less_hop datagram.now))
+        (egress_ports ingress sets.now) }
     ensures few { length out.new ≤ 7 }
 {
     data_sets_law(sets);

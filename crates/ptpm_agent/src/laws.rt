@@ -10,9 +10,9 @@ ghost use Rattle.ptpm_codec.specs.Reading.{message_of};
 ghost use Rattle.ptpm_data.specs.Members.{DataSetsValue};
 ghost use Rattle.ptpm_data.specs.Reply.{Answer, Refused, ReplyValue};
 ghost use Rattle.ptpm_agent.specs.Turn.{Clock, State, judged, outbox_of, reply_by, turn};
-ghost use Rattle.ptpm_agent.specs.Once.{Delivery, History, RequestCopy, after_copy, applied_once, beginning, copy_of, due_reply, joins};
+ghost use Rattle.ptpm_agent.specs.Once.{Delivery, History, RequestCopy, after_copy, applied_once, initial_history, copy_of, due_reply, joins};
 ghost use Rattle.ptpm_agent.specs.Window.{IsInTime, KeepsWindow};
-ghost use Rattle.ptpm_agent.specs.Laws.{AreOfManagers, StandsAt, due_messages, fresh, turns};
+ghost use Rattle.ptpm_agent.specs.Laws.{AreOfManagers, StandsAt, due_messages, initial_clock_state, turns};
 
 /// At-most-once execution. Whatever list of datagrams comes in at a fresh clock, where each copy of a manager's request has
 /// the sequenceId that its index gives, and its index is at most 32,768 behind and at most 32,767 ahead of the greatest
@@ -22,32 +22,38 @@ ghost use Rattle.ptpm_agent.specs.Laws.{AreOfManagers, StandsAt, due_messages, f
 /// - a copy of a request that is not newly accepted changes neither data sets nor entries.
 pub fn at_most_once()
     ensures sets { (c : Clock) (first : PortIdentity → ℕ) (d : DataSetsValue) (xs : List Delivery) →
-        KeepsWindow c first (beginning d) xs →
-        (turns c (fresh d) xs).sets ≡ (applied_once c (beginning d) xs).sets }
-    ensures outbox { (c : Clock) (first : PortIdentity → ℕ) (d : DataSetsValue) (xs : List Delivery) (x : Delivery) (k : RequestCopy) →
-        KeepsWindow c first (beginning d) (xs ++ x ∷ []) →
-        copy_of c (applied_once c (beginning d) xs).sets x ≡ Some k →
-        outbox_of (turn c (turns c (fresh d) xs) x.ingress x.datagram)
-        ≡ due_messages c k (due_reply c (applied_once c (beginning d) xs) k) }
-    ensures repeats { (c : Clock) (first : PortIdentity → ℕ) (d : DataSetsValue) (xs : List Delivery) (x : Delivery) (k : RequestCopy) →
-        KeepsWindow c first (beginning d) (xs ++ x ∷ []) →
-        copy_of c (applied_once c (beginning d) xs).sets x ≡ Some k →
-        joins (applied_once c (beginning d) xs) k ≡ false →
-        turns c (fresh d) (xs ++ x ∷ []) ≡ turns c (fresh d) xs }
+        KeepsWindow c first (initial_history d) xs →
+        (turns c (initial_clock_state d) xs).sets ≡ (applied_once c (initial_history d) xs).sets }
+    ensures outbox { (c : Clock) (first : PortIdentity → ℕ) (d : DataSetsValue) (xs : List Delivery)
+        (x : Delivery) (k : RequestCopy) →
+        KeepsWindow c first (initial_history d) (xs ++ x ∷ []) →
+        copy_of c (applied_once c (initial_history d) xs).sets x ≡ Some k →
+        outbox_of (turn c (turns c (initial_clock_state d) xs) x.ingress x.datagram)
+        ≡ due_messages c k (due_reply c (applied_once c (initial_history d) xs) k) }
+    ensures repeats { (c : Clock) (first : PortIdentity → ℕ) (d : DataSetsValue)
+        (xs : List Delivery) (x : Delivery) (k : RequestCopy) →
+        KeepsWindow c first (initial_history d) (xs ++ x ∷ []) →
+        copy_of c (applied_once c (initial_history d) xs).sets x ≡ Some k →
+        joins (applied_once c (initial_history d) xs) k ≡ false →
+        turns c (initial_clock_state d) (xs ++ x ∷ []) ≡ turns c (initial_clock_state d) xs }
 {}
 
 /// One delivery at a clock that stands at a history: a copy in time takes it to where the history goes, and is sent what
 /// is due. A datagram that is no copy of a manager's request changes neither data sets nor entries, whatever came before.
 /// Nothing is said of a copy that is not in time.
 pub fn one_delivery()
-    ensures begins { (first : PortIdentity → ℕ) (d : DataSetsValue) → StandsAt first (fresh d) (beginning d) }
-    ensures stands { (c : Clock) (first : PortIdentity → ℕ) (s : State) (h : History) (x : Delivery) (k : RequestCopy) →
+    ensures begins { (first : PortIdentity → ℕ) (d : DataSetsValue)
+        → StandsAt first (initial_clock_state d) (initial_history d) }
+    ensures stands { (c : Clock) (first : PortIdentity → ℕ) (s : State) (h : History) (x : Delivery)
+        (k : RequestCopy) →
         StandsAt first s h → copy_of c h.sets x ≡ Some k → IsInTime first h k →
         StandsAt first (turn c s x.ingress x.datagram).next (after_copy c h k) }
-    ensures replies { (c : Clock) (first : PortIdentity → ℕ) (s : State) (h : History) (x : Delivery) (k : RequestCopy) →
+    ensures replies { (c : Clock) (first : PortIdentity → ℕ) (s : State) (h : History)
+        (x : Delivery) (k : RequestCopy) →
         StandsAt first s h → copy_of c h.sets x ≡ Some k → IsInTime first h k →
         (turn c s x.ingress x.datagram).replies ≡ due_messages c k (due_reply c h k) }
-    ensures stays { (c : Clock) (first : PortIdentity → ℕ) (s : State) (h : History) (x : Delivery) (k : RequestCopy) →
+    ensures stays { (c : Clock) (first : PortIdentity → ℕ) (s : State) (h : History) (x : Delivery)
+        (k : RequestCopy) →
         StandsAt first s h → copy_of c h.sets x ≡ Some k → IsInTime first h k → joins h k ≡ false →
         (turn c s x.ingress x.datagram).next ≡ s }
     ensures others { (c : Clock) (s : State) (x : Delivery) → copy_of c s.sets x ≡ None →
@@ -56,21 +62,25 @@ pub fn one_delivery()
 
 /// A copy of a numbered request is never passed on.
 pub fn no_copy_forwarded()
-    ensures { (c : Clock) (s : State) (x : Delivery) (k : RequestCopy) → copy_of c s.sets x ≡ Some k →
+    ensures { (c : Clock) (s : State) (x : Delivery) (k : RequestCopy)
+        → copy_of c s.sets x ≡ Some k →
         (turn c s x.ingress x.datagram).forwards ≡ [] }
 {}
 
 /// Nothing is ever kept of anyone but the configured managers.
 pub fn only_managers()
-    ensures first { (c : Clock) (d : DataSetsValue) → AreOfManagers c (fresh d).entries }
-    ensures next { (c : Clock) (s : State) (ingress : ℕ) (datagram : List ℕ) → AreOfManagers c s.entries →
+    ensures first { (c : Clock) (d : DataSetsValue)
+        → AreOfManagers c (initial_clock_state d).entries }
+    ensures next { (c : Clock) (s : State) (ingress : ℕ) (datagram : List ℕ)
+        → AreOfManagers c s.entries →
         AreOfManagers c (turn c s ingress datagram).next.entries }
 {}
 
 /// A request that is refused, for whatever reason and whoever sent it, leaves the data sets as they were: where the reply to
 /// a datagram has an error, they stay.
 pub fn refused_changes_no_data()
-    ensures { (c : Clock) (s : State) (ingress : ℕ) (datagram : List ℕ) (v : Message) (r : ReplyValue) (a : Answer) (error : ErrorId) →
+    ensures { (c : Clock) (s : State) (ingress : ℕ) (datagram : List ℕ) (v : Message)
+        (r : ReplyValue) (a : Answer) (error : ErrorId) →
         message_of datagram ≡ Some v → reply_by (judged c s v) c s v ≡ Some r →
         Contains r.answers a → a.outcome ≡ Refused error →
         (turn c s ingress datagram).next.sets ≡ s.sets }

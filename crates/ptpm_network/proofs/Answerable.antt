@@ -18,7 +18,7 @@ use Rattle.ptpm_network.specs.Invariant.{IsReached}
 use Rattle.ptpm_network.specs.Machine as machine
 use Rattle.ptpm_network.specs.Machine.{AreInTime, happens, is_late_frame, run, sent_frames, step, taken}
 use Rattle.ptpm_network.specs.Network.{AtPort, AtSession, End, IsNetwork, Network, peers, ports, same_end}
-use Rattle.ptpm_network.specs.State.{Frame, NetworkState, RequestOf, ReplyTo, SessionState, at_first, greatest_accepted, is_idle, is_late, issued, new_frames, session_value, unanswered}
+use Rattle.ptpm_network.specs.State.{Frame, NetworkState, RequestOf, ReplyTo, SessionState, initial_state, greatest_accepted, is_idle, is_late, issued, new_frames, session_value, unanswered}
 use Rattle.ptpm_network.specs.Way.{ComeIn, ComesIn, Hop, IsAnswerable, IsWay, LinksHaveAtMost, PassesOn, ends_of, handed_in, made_along, made_each_way, passed_at_most, visited}
 use Rattle.ptpm_network.proofs.Carrying.{IsIn, MakesAtMost, add_most, few-made, in_any, in_map, in_right, length-map_same}
 use Rattle.ptpm_network.proofs.Exchanging.{delivery-step, is_room, reports-answer, said-domain, said-hops, step-taken}
@@ -213,12 +213,12 @@ answerable-at N w s hops port most n r place few busy attempts way room =
     record { sent = goes; deliveries = after.deliveries; along = after.along; come_in = after.come_in; reported = after.reported }
 
 pub answerable : (N : Network) (es : List Event) (s : ℕ) (hops : List Hop) (port ends : ℕ) → IsNetwork N → AllByRecursion IsInRange es → s < N.sessions
-    → is_idle ((run N (at_first N) es).session s) ≡ false → 0 < ((run N (at_first N) es).session s).attempts_left
-    → IsWay N (run N (at_first N) es) s hops port → LinksHaveAtMost N ends
-    → length (run N (at_first N) es).frames + made_each_way ends hops ≤ frames_limit
-    → IsAnswerable N (run N (at_first N) es) s hops port
+    → is_idle ((run N (initial_state N) es).session s) ≡ false → 0 < ((run N (initial_state N) es).session s).attempts_left
+    → IsWay N (run N (initial_state N) es) s hops port → LinksHaveAtMost N ends
+    → length (run N (initial_state N) es).frames + made_each_way ends hops ≤ frames_limit
+    → IsAnswerable N (run N (initial_state N) es) s hops port
 answerable N es s hops port ends n range place busy attempts way all room =
-    answerable-at N (run N (at_first N) es) s hops port (passed_at_most ends) n (reached N es n range) place (few-made N ends all) busy attempts way room
+    answerable-at N (run N (initial_state N) es) s hops port (passed_at_most ends) n (reached N es n range) place (few-made N ends all) busy attempts way room
 
 -- ---- a network that runs goes through these events too
 

@@ -13,7 +13,7 @@ use Rattle.ptpm_data.specs.Reply as reply
 use Rattle.ptpm_data.specs.Reply.{Outcome, ReplyValue}
 use Rattle.ptpm_data.specs.Request.{RequestValue}
 use Rattle.ptpm_table.specs.Rendering.{answer_body}
-use Rattle.ptpm_agent.specs.Once.{Accepted, Delivery, History, RequestCopy, accepted_from, after, after_arrival, after_copy, applied_once, beginning, copy_from, copy_of, greatest, is_copy, joined, joins, kept_reply}
+use Rattle.ptpm_agent.specs.Once.{Accepted, Delivery, History, RequestCopy, accepted_from, after, after_arrival, after_copy, applied_once, initial_history, copy_from, copy_of, greatest, is_copy, joined, joins, kept_reply}
 use Rattle.ptpm_agent.specs.Turn.{Clock}
 use Rattle.ptpm_agent.proofs.AtMostOnce.{DeliversCopy, delivers_copy}
 use Rattle.ptpm_table.proofs.Identities.{same_identity-true}
@@ -102,11 +102,11 @@ applied_once-append c h (y ∷ ys) x = applied_once-append c (after c h y) ys x
 
 pub history-here : (N : Network) (w : NetworkState) (c : ℕ) (x : Delivery) → history N (arrives w c x) c ≡ after (N.clock c) (history N w c) x
 history-here N w c x =
-    ap (applied_once (N.clock c) (beginning (N.start c))) (with_place-same w.arrivals c (w.arrivals c ++ x ∷ []) c (eq-eqb c c refl))
-    ∙ applied_once-append (N.clock c) (beginning (N.start c)) (w.arrivals c) x
+    ap (applied_once (N.clock c) (initial_history (N.start c))) (with_place-same w.arrivals c (w.arrivals c ++ x ∷ []) c (eq-eqb c c refl))
+    ∙ applied_once-append (N.clock c) (initial_history (N.start c)) (w.arrivals c) x
 
 pub history-elsewhere : (N : Network) (w : NetworkState) (c : ℕ) (x : Delivery) (d : ℕ) → d == c ≡ false → history N (arrives w c x) d ≡ history N w d
-history-elsewhere N w c x d n = ap (applied_once (N.clock d) (beginning (N.start d))) (with_place-other w.arrivals c (w.arrivals c ++ x ∷ []) d n)
+history-elsewhere N w c x d n = ap (applied_once (N.clock d) (initial_history (N.start d))) (with_place-other w.arrivals c (w.arrivals c ++ x ∷ []) d n)
 
 -- a copy joins
 pub record JoinsAt (N : Network) (w : NetworkState) (c port : ℕ) (f : Frame) : Type 0 where

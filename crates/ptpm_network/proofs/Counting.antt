@@ -25,7 +25,7 @@ use Rattle.ptpm_network.specs.Events.{Begin, Deliver, Event, Forged, FramesAtMax
 use Rattle.ptpm_network.specs.Invariant.{IsFrame, IsReached}
 use Rattle.ptpm_network.specs.Machine.{answer_messages, answer_origin, answering_frames, arrives, delivered, delivered_at, delivery, forwarded_frames, happens, is_read, made_frames, read_messages, reply_frames, run, sent_frames, step, step_by, strange_frame}
 use Rattle.ptpm_network.specs.Network.{AtPort, AtSession, End, HasEnd, IsLink, IsNetwork, Network, peers, same_end}
-use Rattle.ptpm_network.specs.State.{Frame, NetworkState, Origin, at_first, frames_to, history, session_value}
+use Rattle.ptpm_network.specs.State.{Frame, NetworkState, Origin, initial_state, frames_to, history, session_value}
 use Rattle.ptpm_network.proofs.Answering.{keeps_due}
 use Rattle.ptpm_network.proofs.Arriving.{IsCopyOf, arrives-reached, is_copy_of}
 use Rattle.ptpm_network.proofs.Frames.{IsHeard, heard-frame}
@@ -197,9 +197,9 @@ run-within N w (e ∷ es) n r i within =
 
 -- ---- from where a list of events leads
 
-pub event-few : (N : Network) (es : List Event) (e : Event) → IsNetwork N → AllByRecursion IsInRange es → IsInRange e → refusal N (run N (at_first N) es) e ≡ None
-    → length (happens N (run N (at_first N) es) e).frames ≤ length (run N (at_first N) es).frames + 225
-event-few N es e n i range none = happens-few N (run N (at_first N) es) e n (reached N es n i) range none
+pub event-few : (N : Network) (es : List Event) (e : Event) → IsNetwork N → AllByRecursion IsInRange es → IsInRange e → refusal N (run N (initial_state N) es) e ≡ None
+    → length (happens N (run N (initial_state N) es) e).frames ≤ length (run N (initial_state N) es).frames + 225
+event-few N es e n i range none = happens-few N (run N (initial_state N) es) e n (reached N es n i) range none
 
-pub ever-within : (N : Network) (es : List Event) → IsNetwork N → AllByRecursion IsInRange es → length (run N (at_first N) es).frames ≤ 400000
-ever-within N es n i = run-within N (at_first N) es n (first-reached N n) i (omega arith)
+pub ever-within : (N : Network) (es : List Event) → IsNetwork N → AllByRecursion IsInRange es → length (run N (initial_state N) es).frames ≤ 400000
+ever-within N es n i = run-within N (initial_state N) es n (first-reached N n) i (omega arith)

@@ -19,7 +19,7 @@ use Rattle.ptpm_network.specs.Events.{Deliver, Event, IsInRange}
 use Rattle.ptpm_network.specs.Invariant.{IsReached}
 use Rattle.ptpm_network.specs.Machine.{answering_frames, delivered, delivered_at, delivery, forwarded_frames, happens, made_frames, reply_frames, reply_origin, run}
 use Rattle.ptpm_network.specs.Network.{End, HasEnd, IsNetwork, Network, manager}
-use Rattle.ptpm_network.specs.State.{Frame, NetworkState, accepted_at_target, at_first, history}
+use Rattle.ptpm_network.specs.State.{Frame, NetworkState, accepted_at_target, initial_state, history}
 use Rattle.ptpm_network.proofs.Arriving.{IsCopyOf, is_copy_of}
 use Rattle.ptpm_network.proofs.Frames.{heard-frame}
 use Rattle.ptpm_network.proofs.Reaching.{frame_at-is}
@@ -73,12 +73,12 @@ due-latest c h copy latest keeps =
     ∙ ap (kept_for copy) keeps.is
     ∙ cond-true _ _ _ same
 
-pub latest-kept : (N : Network) (es : List Event) (n c port : ℕ) (f : Frame) (copy : RequestCopy) → IsNetwork N → AllByRecursion IsInRange es → IsCopyAt N (run N (at_first N) es) n c port f copy
-    → greatest copy.heard.source (history N (run N (at_first N) es) c).accepted ≡ copy.index
-    → (kept : Accepted) × (kept_reply copy.heard.source copy.index (history N (run N (at_first N) es) c).accepted ≡ Some kept)
-    × (due_reply (N.clock c) (history N (run N (at_first N) es) c) copy ≡ Some kept.reply)
+pub latest-kept : (N : Network) (es : List Event) (n c port : ℕ) (f : Frame) (copy : RequestCopy) → IsNetwork N → AllByRecursion IsInRange es → IsCopyAt N (run N (initial_state N) es) n c port f copy
+    → greatest copy.heard.source (history N (run N (initial_state N) es) c).accepted ≡ copy.index
+    → (kept : Accepted) × (kept_reply copy.heard.source copy.index (history N (run N (initial_state N) es) c).accepted ≡ Some kept)
+    × (due_reply (N.clock c) (history N (run N (initial_state N) es) c) copy ≡ Some kept.reply)
 latest-kept N es n c port f copy is i at latest =
-    let w : NetworkState = run N (at_first N) es in
+    let w : NetworkState = run N (initial_state N) es in
     let r = reached N es is i in
     let keeps = keeps-latest N w c port f copy r (copy_at-of N w n c port f copy is r at) latest in
     (keeps.kept, keeps.is, due-latest (N.clock c) (history N w c) copy latest keeps)

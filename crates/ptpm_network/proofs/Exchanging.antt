@@ -40,7 +40,7 @@ use Rattle.ptpm_network.specs.Exchange.{HasReplied, HasReported, HasRoom, IsHear
 use Rattle.ptpm_network.specs.Invariant.{IsAsked, IsFrame, IsOfOrigin, IsReached}
 use Rattle.ptpm_network.specs.Machine.{answering_frames, arrives, delivered, delivered_at, delivered_at_clock, delivery, forwarded_frames, happens, index_of, is_answer, made_frames, reply_frames, reply_origin, report_from, reported, run, step, step_by, told_by}
 use Rattle.ptpm_network.specs.Network.{AtPort, AtSession, End, HasEnd, IsNetwork, Network, manager, peers, ports}
-use Rattle.ptpm_network.specs.State.{Frame, NetworkState, Origin, RequestOf, ReplyTo, SessionState, accepted_at_target, at_first, greatest_accepted, history, is_idle, is_late, issued, new_frames}
+use Rattle.ptpm_network.specs.State.{Frame, NetworkState, Origin, RequestOf, ReplyTo, SessionState, accepted_at_target, initial_state, greatest_accepted, history, is_idle, is_late, issued, new_frames}
 use Rattle.ptpm_network.proofs.Answering.{is_due, rendered-one, small}
 use Rattle.ptpm_network.proofs.Arriving.{arrives-reached, history-here}
 use Rattle.ptpm_network.proofs.Frames.{SaysRequest, heard-frame, says_kept, says_reply, says_request, sendable-one}
@@ -313,21 +313,21 @@ pub copy-taken : (N : Network) (w : NetworkState) (n : ℕ) (f : Frame) → fram
 copy-taken N w n f e room = delivery-taken N w n f e room
 
 pub copy-replied : (N : Network) (es : List Event) (n s port : ℕ) (f : Frame) → IsNetwork N → AllByRecursion IsInRange es → s < N.sessions
-    → frame_at (run N (at_first N) es).frames n ≡ Some f → f.end ≡ AtPort (N.session s).target port → f.origin ≡ RequestOf s (issued (run N (at_first N) es) s)
-    → IsHeardBy N (run N (at_first N) es) s f.octets → HasRoom (run N (at_first N) es)
-    → HasReplied N (run N (at_first N) es) (step N (run N (at_first N) es) (Deliver n)) s port f.octets
+    → frame_at (run N (initial_state N) es).frames n ≡ Some f → f.end ≡ AtPort (N.session s).target port → f.origin ≡ RequestOf s (issued (run N (initial_state N) es) s)
+    → IsHeardBy N (run N (initial_state N) es) s f.octets → HasRoom (run N (initial_state N) es)
+    → HasReplied N (run N (initial_state N) es) (step N (run N (initial_state N) es) (Deliver n)) s port f.octets
 copy-replied N es n s port f net range place e end origin heard room =
-    let w : NetworkState = run N (at_first N) es in
+    let w : NetworkState = run N (initial_state N) es in
     let r = reached N es net range in
     subst (λ (u : NetworkState). HasReplied N w u s port f.octets) (sym (delivery-step N w n f (AtPort (N.session s).target port) e end room))
     (replied N w s port f net r place (frame_at-is N w n f r e) end origin heard)
 
 pub reply-reported : (N : Network) (es : List Event) (n s : ℕ) (f : Frame) → IsNetwork N → AllByRecursion IsInRange es → s < N.sessions
-    → frame_at (run N (at_first N) es).frames n ≡ Some f → f.end ≡ AtSession s → f.origin ≡ ReplyTo s (issued (run N (at_first N) es) s)
-    → is_idle ((run N (at_first N) es).session s) ≡ false → domain_number f.octets ≡ ((run N (at_first N) es).session s).domain → HasRoom (run N (at_first N) es)
-    → HasReported (run N (at_first N) es) (step N (run N (at_first N) es) (Deliver n)) s
+    → frame_at (run N (initial_state N) es).frames n ≡ Some f → f.end ≡ AtSession s → f.origin ≡ ReplyTo s (issued (run N (initial_state N) es) s)
+    → is_idle ((run N (initial_state N) es).session s) ≡ false → domain_number f.octets ≡ ((run N (initial_state N) es).session s).domain → HasRoom (run N (initial_state N) es)
+    → HasReported (run N (initial_state N) es) (step N (run N (initial_state N) es) (Deliver n)) s
 reply-reported N es n s f net range place e end origin busy domain room =
-    let w : NetworkState = run N (at_first N) es in
+    let w : NetworkState = run N (initial_state N) es in
     let r = reached N es net range in
     subst (λ (u : NetworkState). HasReported w u s) (sym (delivery-step N w n f (AtSession s) e end room))
     (reports-answer N w s f net r place (frame_at-is N w n f r e) origin busy domain)

@@ -10,11 +10,11 @@ use Rattle.ptpm_manager.specs.declared.receiving.Received.TheVariants as receive
 use Rattle.ptpm_manager.specs.declared.report.Report.{Report}
 use Rattle.ptpm_manager.specs.Receiving.{received_of}
 use Rattle.ptpm_manager.specs.Session.{SessionValue, answered, begun, due_message, sent}
-use Rattle.ptpm_network.specs.Happening.{hears, sends_in, sent_posted, with_session_value}
+use Rattle.ptpm_network.specs.RunningNetwork.{Held, RunningNetwork, hears, held, sends_in, sent_posted, with_session_value}
 use Rattle.ptpm_network.specs.Invariant.{IsOfOrigin, IsReached}
 use Rattle.ptpm_network.specs.Machine.{begun_in, report_from, reported, sends, sent_frames, with_session}
 use Rattle.ptpm_network.specs.Network.{AtSession, IsNetwork, Network, SessionStart, peers}
-use Rattle.ptpm_network.specs.Stands.{Held, Running, Stands, held}
+use Rattle.ptpm_network.specs.Stands.{Stands}
 use Rattle.ptpm_network.specs.State.{Frame, NetworkState, SessionState, is_late, session_value, unanswered}
 use Rattle.ptpm_network.proofs.Frames.{le_le}
 use Rattle.ptpm_network.proofs.Held.{held-sent_frames}
@@ -68,7 +68,7 @@ answered-value start s report busy one le =
 -- ---- the network
 
 -- a session that reports nothing has another value
-pub session-stands : (N : Network) (first : PortIdentity → ℕ) (r : Running) (w : NetworkState) (s : ℕ) (v : SessionValue) (state : SessionState) → Stands N first r w → s < N.sessions
+pub session-stands : (N : Network) (first : PortIdentity → ℕ) (r : RunningNetwork) (w : NetworkState) (s : ℕ) (v : SessionValue) (state : SessionState) → Stands N first r w → s < N.sessions
     → v ≡ session_value (N.session s) state → state.reports ≡ (w.session s).reports → Stands N first (with_session_value r s v) (with_session w s state)
 session-stands N first r w s v state at place value reports = record {
   clocks = at.clocks;
@@ -77,7 +77,7 @@ session-stands N first r w s v state at place value reports = record {
   frames = at.frames;
 }
 
-pub sends-stand : (N : Network) (first : PortIdentity → ℕ) (r : Running) (w : NetworkState) (s : ℕ) → Stands N first r w → s < N.sessions → Stands N first (sends_in N r s) (sends N w s)
+pub sends-stand : (N : Network) (first : PortIdentity → ℕ) (r : RunningNetwork) (w : NetworkState) (s : ℕ) → Stands N first r w → s < N.sessions → Stands N first (sends_in N r s) (sends N w s)
 sends-stand N first r w s at place =
     let ends = peers N.links (AtSession s) in
     let value : SessionValue = session_value (N.session s) (w.session s) in
@@ -94,7 +94,7 @@ sends-stand N first r w s at place =
 
 -- ---- a frame comes in at a session
 
-ignored-stands : (N : Network) (first : PortIdentity → ℕ) (r : Running) (w : NetworkState) (s : ℕ) → Stands N first r w → s < N.sessions → Stands N first r (with_session w s (w.session s))
+ignored-stands : (N : Network) (first : PortIdentity → ℕ) (r : RunningNetwork) (w : NetworkState) (s : ℕ) → Stands N first r w → s < N.sessions → Stands N first r (with_session w s (w.session s))
 ignored-stands N first r w s at place = record {
   clocks = at.clocks;
   sessions = λ t there. at_place (λ j (y : SessionState). r.session j ≡ session_value (N.session j) y) w.session s (w.session s) t (at.sessions s place) (at.sessions t there);
@@ -102,7 +102,7 @@ ignored-stands N first r w s at place = record {
   frames = at.frames;
 }
 
-answered-stands : (N : Network) (first : PortIdentity → ℕ) (r : Running) (w : NetworkState) (s : ℕ) (report : Report) → Stands N first r w → s < N.sessions
+answered-stands : (N : Network) (first : PortIdentity → ℕ) (r : RunningNetwork) (w : NetworkState) (s : ℕ) (report : Report) → Stands N first r w → s < N.sessions
     → InStep N w s (w.session s) → (length (w.session s).reports ≡ length (w.session s).begun → ⊥) → Stands N first (hears r s (received.Answered report)) (with_session w s (reported (w.session s) (Some report)))
 answered-stands N first r w s report at place step busy =
     let le = le_le (length (w.session s).reports) _ (length (w.session s).begun) step.accepted_before step.begun_before in
@@ -116,7 +116,7 @@ answered-stands N first r w s report at place step busy =
     }
 
 -- what the session hears of the frame is what the machine reports of it
-pub hears-stands : (N : Network) (first : PortIdentity → ℕ) (r : Running) (w : NetworkState) (s : ℕ) (f : Frame) (x : Received) (o : Option Report) → IsNetwork N → IsReached N w → Stands N first r w → s < N.sessions
+pub hears-stands : (N : Network) (first : PortIdentity → ℕ) (r : RunningNetwork) (w : NetworkState) (s : ℕ) (f : Frame) (x : Received) (o : Option Report) → IsNetwork N → IsReached N w → Stands N first r w → s < N.sessions
     → IsOfOrigin N w f.octets f.origin → is_late w f.origin ≡ false → received_of (session_value (N.session s) (w.session s)) f.octets ≡ x → report_from s (w.session s) f ≡ o
     → Stands N first (hears r s x) (with_session w s (reported (w.session s) o))
 hears-stands N first r w s f x (Some report) n reached at place i late h e =

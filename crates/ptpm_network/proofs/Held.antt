@@ -10,10 +10,9 @@ use Rattle.ptpm_codec.specs.Layout.{boundary_hops}
 use Rattle.ptpm_agent.specs.Once.{copy_of}
 use Rattle.ptpm_agent.specs.Turn.{turn}
 use Rattle.ptpm_network.specs.Events.{frame_at}
-use Rattle.ptpm_network.specs.Happening.{posted, seen, sent_posted}
+use Rattle.ptpm_network.specs.RunningNetwork.{Held, RunningNetwork, after_turn, held, posted, seen, sent_posted, turn_frames}
 use Rattle.ptpm_network.specs.Machine.{answer_origin, delivery, forwarded_frames, reply_frames, sent_frames, with_place}
 use Rattle.ptpm_network.specs.Network.{AtPort, End, Network, peers}
-use Rattle.ptpm_network.specs.Stands.{Held, Running, after_turn, held, turn_frames}
 use Rattle.ptpm_network.specs.State.{Frame, Origin, RequestOf, frames_to}
 
 -- a frame by its number
@@ -48,7 +47,7 @@ held-forwarded N c f (m ∷ ms) =
     ∙ ap (λ (hs : List Held). posted (peers N.links (AtPort c m.0)) m.1 f.origin ++ hs) (held-forwarded N c f ms)
 
 -- a clock that hears a frame sends the same, whatever the frame's first hops and forwardings
-pub turned-seen : (N : Network) (r : Running) (c port : ℕ) (f : Frame) → after_turn N r c port (seen (held f)) ≡ after_turn N r c port f
+pub turned-seen : (N : Network) (r : RunningNetwork) (c port : ℕ) (f : Frame) → after_turn N r c port (seen (held f)) ≡ after_turn N r c port f
 turned-seen N r c port f =
     let sent = turn (N.clock c) (r.clock c) port f.octets in
     let replies : List Frame = reply_frames N c (answer_origin f.origin (copy_of (N.clock c) (r.clock c).sets (delivery port f))) sent.replies in

@@ -5,8 +5,8 @@ use Rattle.std.specs.List.{AllByRecursion}
 use Rattle.ptpm_codec.proofs.OrderedLaws.{first_of-none, option_or-none}
 use Rattle.ptpm_codec.specs.declared.identity.PortIdentity.{PortIdentity}
 use Rattle.ptpm_table.specs.Serial.{InWindow}
-use Rattle.ptpm_agent.specs.Laws.{fresh, turns}
-use Rattle.ptpm_agent.specs.Once.{Delivery, History, RequestCopy, after, applied_once, beginning, copy_of, greatest}
+use Rattle.ptpm_agent.specs.Laws.{initial_clock_state, turns}
+use Rattle.ptpm_agent.specs.Once.{Delivery, History, RequestCopy, after, applied_once, initial_history, copy_of, greatest}
 use Rattle.ptpm_agent.specs.Turn.{Clock}
 use Rattle.ptpm_codec.specs.SequenceNumber.{number_of}
 use Rattle.ptpm_agent.specs.Window.{IsInTime, KeepsWindow}
@@ -16,7 +16,7 @@ use Rattle.ptpm_network.specs.Invariant.{IsFrame, IsReached}
 use Rattle.ptpm_network.specs.Machine.{AreInTime, delivered, delivered_at, delivery, happens, is_late_delivery, is_late_frame, run, step, step_by, strange_frame, with_place}
 use Rattle.ptpm_network.specs.Network.{AtPort, AtSession, End, HasEnd, IsNetwork, Network, manager}
 use Rattle.ptpm_network.specs.Stands.{AreFirsts}
-use Rattle.ptpm_network.specs.State.{Frame, NetworkState, Origin, RequestOf, at_first, greatest_accepted, history, is_late}
+use Rattle.ptpm_network.specs.State.{Frame, NetworkState, Origin, RequestOf, initial_state, greatest_accepted, history, is_late}
 use Rattle.ptpm_network.proofs.Arriving.{IsCopyOf, is_copy_of}
 use Rattle.ptpm_network.proofs.Frames.{IsHeard, heard-frame}
 use Rattle.ptpm_network.proofs.Schedule.{reached}
@@ -60,10 +60,10 @@ in_window first N w c port f copy firsts n r place i late e =
 
 -- a frame that was sent
 pub frame-in_window : (N : Network) (es : List Event) (first : PortIdentity → ℕ) (k c port : ℕ) (f : Frame) (copy : RequestCopy) → IsNetwork N → AllByRecursion IsInRange es → AreFirsts N first
-    → frame_at (run N (at_first N) es).frames k ≡ Some f → f.end ≡ AtPort c port → is_late (run N (at_first N) es) f.origin ≡ false
-    → copy_of (N.clock c) (history N (run N (at_first N) es) c).sets (delivery port f) ≡ Some copy → IsInTime first (history N (run N (at_first N) es) c) copy
+    → frame_at (run N (initial_state N) es).frames k ≡ Some f → f.end ≡ AtPort c port → is_late (run N (initial_state N) es) f.origin ≡ false
+    → copy_of (N.clock c) (history N (run N (initial_state N) es) c).sets (delivery port f) ≡ Some copy → IsInTime first (history N (run N (initial_state N) es) c) copy
 frame-in_window N es first k c port f copy n i firsts e end late is =
-    let w : NetworkState = run N (at_first N) es in
+    let w : NetworkState = run N (initial_state N) es in
     let r = reached N es n i in
     let frame = frame_at-is N w k f r e in
     in_window first N w c port f copy firsts n r (subst (HasEnd N) end frame.end).0 (heard-frame N w f.octets f.origin frame.origin) late is
@@ -75,18 +75,18 @@ KeepsWindow-append c first h [] x keeps new = (new, tt)
 KeepsWindow-append c first h (y ∷ ys) x keeps new = (keeps.0, KeepsWindow-append c first (after c h y) ys x keeps.1 new)
 
 abbrev Keeps : Network → (PortIdentity → ℕ) → NetworkState → Type 0
-Keeps N first w = (c : ℕ) → c < N.clocks → KeepsWindow (N.clock c) first (beginning (N.start c)) (w.arrivals c)
+Keeps N first w = (c : ℕ) → c < N.clocks → KeepsWindow (N.clock c) first (initial_history (N.start c)) (w.arrivals c)
 
 keeps-arriving : (N : Network) (first : PortIdentity → ℕ) (w : NetworkState) (d port : ℕ) (f : Frame) → AreFirsts N first → IsNetwork N → IsReached N w → IsHeard N w f.octets f.origin → is_late w f.origin ≡ false → Keeps N first w
-    → (c : ℕ) → c < N.clocks → KeepsWindow (N.clock c) first (beginning (N.start c)) (with_place w.arrivals d (w.arrivals d ++ delivery port f ∷ []) c)
+    → (c : ℕ) → c < N.clocks → KeepsWindow (N.clock c) first (initial_history (N.start c)) (with_place w.arrivals d (w.arrivals d ++ delivery port f ∷ []) c)
 keeps-arriving N first w d port f firsts n r i late keeps c place = ⊎_elim
     (λ (y : c == d ≡ true).
     let cd : c ≡ d = eqb-true c d y in
-    subst (KeepsWindow (N.clock c) first (beginning (N.start c))) (sym (with_place-same w.arrivals d (w.arrivals d ++ delivery port f ∷ []) c y))
-    (subst (λ j. KeepsWindow (N.clock c) first (beginning (N.start c)) (w.arrivals j ++ delivery port f ∷ [])) cd
-    (KeepsWindow-append (N.clock c) first (beginning (N.start c)) (w.arrivals c) (delivery port f) (keeps c place)
+    subst (KeepsWindow (N.clock c) first (initial_history (N.start c))) (sym (with_place-same w.arrivals d (w.arrivals d ++ delivery port f ∷ []) c y))
+    (subst (λ j. KeepsWindow (N.clock c) first (initial_history (N.start c)) (w.arrivals j ++ delivery port f ∷ [])) cd
+    (KeepsWindow-append (N.clock c) first (initial_history (N.start c)) (w.arrivals c) (delivery port f) (keeps c place)
     (λ k e. in_window first N w c port f k firsts n r place i late e))))
-    (λ (o : c == d ≡ false). subst (KeepsWindow (N.clock c) first (beginning (N.start c))) (sym (with_place-other w.arrivals d (w.arrivals d ++ delivery port f ∷ []) c o)) (keeps c place))
+    (λ (o : c == d ≡ false). subst (KeepsWindow (N.clock c) first (initial_history (N.start c))) (sym (with_place-other w.arrivals d (w.arrivals d ++ delivery port f ∷ []) c o)) (keeps c place))
     (cases_Bool (c == d))
 
 keeps-delivered_at : (N : Network) (first : PortIdentity → ℕ) (w : NetworkState) (f : Frame) (e : End) → AreFirsts N first → IsNetwork N → IsReached N w → IsFrame N w f → is_late w f.origin ≡ false → Keeps N first w → Keeps N first (delivered_at N w f e)
@@ -120,11 +120,11 @@ keeps-run N first w (e ∷ es) firsts n r i late keeps =
     keeps-run N first (step N w e) es firsts n (step-reached N w e n i.0 r) i.1 late.1
     (keeps-step_by N first w e (refusal N w e) refl firsts n r i.0 late.0 keeps)
 
-pub arrivals-in_window : (N : Network) (es : List Event) (first : PortIdentity → ℕ) (c : ℕ) → IsNetwork N → AllByRecursion IsInRange es → AreFirsts N first → AreInTime N (at_first N) es → c < N.clocks
-    → KeepsWindow (N.clock c) first (beginning (N.start c)) ((run N (at_first N) es).arrivals c)
-arrivals-in_window N es first c n i firsts late place = keeps-run N first (at_first N) es firsts n (first-reached N n) i late (λ d there. tt) c place
+pub arrivals-in_window : (N : Network) (es : List Event) (first : PortIdentity → ℕ) (c : ℕ) → IsNetwork N → AllByRecursion IsInRange es → AreFirsts N first → AreInTime N (initial_state N) es → c < N.clocks
+    → KeepsWindow (N.clock c) first (initial_history (N.start c)) ((run N (initial_state N) es).arrivals c)
+arrivals-in_window N es first c n i firsts late place = keeps-run N first (initial_state N) es firsts n (first-reached N n) i late (λ d there. tt) c place
 
-pub turns-once : (N : Network) (es : List Event) (first : PortIdentity → ℕ) (c : ℕ) → IsNetwork N → AllByRecursion IsInRange es → AreFirsts N first → AreInTime N (at_first N) es → c < N.clocks
-    → (turns (N.clock c) (fresh (N.start c)) ((run N (at_first N) es).arrivals c)).sets ≡ (history N (run N (at_first N) es) c).sets
+pub turns-once : (N : Network) (es : List Event) (first : PortIdentity → ℕ) (c : ℕ) → IsNetwork N → AllByRecursion IsInRange es → AreFirsts N first → AreInTime N (initial_state N) es → c < N.clocks
+    → (turns (N.clock c) (initial_clock_state (N.start c)) ((run N (initial_state N) es).arrivals c)).sets ≡ (history N (run N (initial_state N) es) c).sets
 turns-once N es first c n i firsts late place =
-    sets_once (N.clock c) first (N.start c) ((run N (at_first N) es).arrivals c) (arrivals-in_window N es first c n i firsts late place)
+    sets_once (N.clock c) first (N.start c) ((run N (initial_state N) es).arrivals c) (arrivals-in_window N es first c n i firsts late place)

@@ -24,7 +24,6 @@ pub mod Running
 pub mod Promise
 pub mod TurnSends
 pub mod Posting
-pub mod TurnKeeps
 pub mod Worth
 pub mod Exchanging
 pub mod Carrying

@@ -8,11 +8,10 @@ use Rattle.std.specs.List.{AllByRecursion}
 use Rattle.ptpm_codec.specs.Layout.{boundary_hops}
 use Rattle.ptpm_agent.specs.Once.{copy_of}
 use Rattle.ptpm_agent.specs.Turn.{State, Turned, outbox_of, turn}
-use Rattle.ptpm_network.specs.Happening.{posted}
+use Rattle.ptpm_network.specs.RunningNetwork.{held, posted, turn_frames}
 use Rattle.ptpm_network.specs.Machine.{answer_origin, delivery, forwarded_frames, reply_frames}
 use Rattle.ptpm_network.specs.Network.{AtPort, End, Network, peers}
 use Rattle.ptpm_network.specs.Replying.{origin_by, posted_by}
-use Rattle.ptpm_network.specs.Stands.{held, turn_frames}
 use Rattle.ptpm_network.specs.State.{Frame, Origin, frames_to}
 use Rattle.ptpm_network.proofs.Held.{held-forwarded, held-frames_to}
 use Rattle.ptpm_network.proofs.TurnSends.{IsAt, IsAway, forwards-away, replies-at, reply-origin}

@@ -10,17 +10,17 @@ use Rattle.ptpm_table.proofs.Identities.{same_identity-refl, same_identity-true}
 use Rattle.ptpm_agent.specs.Once.{Accepted, kept_reply}
 use Rattle.ptpm_manager.specs.declared.report.Report.{Report}
 use Rattle.ptpm_network.specs.Events.{Event, IsInRange, Refusal, refusal}
-use Rattle.ptpm_network.specs.Happening.{happened, ran, refused}
+use Rattle.ptpm_network.specs.RunningNetwork.{RunningNetwork, initial_network, network_refusal, network_run, network_step}
 use Rattle.ptpm_network.specs.Headline.{Headline, IsPromised, StandsAfter}
 use Rattle.ptpm_network.specs.Invariant.{IsReached}
 use Rattle.ptpm_network.specs.Machine.{AreInTime, happens, is_late_delivery, run, step_by, taken}
 use Rattle.ptpm_network.specs.Network.{IsNetwork, Network, manager}
-use Rattle.ptpm_network.specs.Stands.{AreFirsts, Running, Stands, starting}
-use Rattle.ptpm_network.specs.State.{NetworkState, accepted_at_target, at_first, greatest_accepted, outcomes_kept, reports_of}
+use Rattle.ptpm_network.specs.Stands.{AreFirsts, Stands}
+use Rattle.ptpm_network.specs.State.{NetworkState, accepted_at_target, initial_state, greatest_accepted, outcomes_kept, reports_of}
 use Rattle.ptpm_network.proofs.Lists.{all_append}
-use Rattle.ptpm_network.proofs.Running.{happened-running, ran-running, refused-running}
+use Rattle.ptpm_network.proofs.Running.{network_step-running, network_run-running, network_refusal-running}
 use Rattle.ptpm_network.proofs.Schedule.{reached}
-use Rattle.ptpm_network.proofs.Standing.{stands-at_first}
+use Rattle.ptpm_network.proofs.Standing.{stands-initial_state}
 use Rattle.ptpm_network.proofs.Taking.{in_time-append, run-append, taken-in_range}
 
 -- ---- first sequenceIds
@@ -65,7 +65,7 @@ told-begins m accepted (suc g) n le = ⊎_elim
     (p.0 ++ last, ap (λ (rs : List Report). rs ++ last) p.1 ∙ append_assoc (outcomes_kept m accepted n) p.0 last))
     (cases_eq n (suc g))
 
-reached-headline : (N : Network) (first : PortIdentity → ℕ) (w : NetworkState) (r : Running) → IsReached N w → Stands N first r w → Headline N w r
+reached-headline : (N : Network) (first : PortIdentity → ℕ) (w : NetworkState) (r : RunningNetwork) → IsReached N w → Stands N first r w → Headline N w r
 reached-headline N first w r reached at = record {
   sets = λ c place. (at.clocks c place).sets;
   frames = at.frames;
@@ -84,68 +84,68 @@ reached-headline N first w r reached at = record {
       omega (arith, ap length (at.reports s place), session.accepted_before);
 }
 
-pub stands-headline : (N : Network) (events : List Event) (r : Running) → StandsAfter N events r → Headline N (run N (at_first N) events) r
+pub stands-headline : (N : Network) (events : List Event) (r : RunningNetwork) → StandsAfter N events r → Headline N (run N (initial_state N) events) r
 stands-headline N events r at =
     let p = at.promised in
-    reached-headline N (first_of_sessions N N.sessions) (run N (at_first N) events) r (reached N events p.network p.in_range)
+    reached-headline N (first_of_sessions N N.sessions) (run N (initial_state N) events) r (reached N events p.network p.in_range)
     (at.stands (first_of_sessions N N.sessions) (firsts N p.network))
 
 -- ---- where it holds
 
-pub stands-first : (N : Network) → IsNetwork N → StandsAfter N [] (starting N)
+pub stands-first : (N : Network) → IsNetwork N → StandsAfter N [] (initial_network N)
 stands-first N n = record {
   promised = record { network = n; in_range = tt; in_time = tt };
-  stands = λ first firsts. stands-at_first N first;
+  stands = λ first firsts. stands-initial_state N first;
 }
 
 -- the premises hold of more events
-promised-more : (N : Network) (past es : List Event) → IsPromised N past → AllByRecursion IsInRange es → AreInTime N (run N (at_first N) past) es → IsPromised N (past ++ es)
+promised-more : (N : Network) (past es : List Event) → IsPromised N past → AllByRecursion IsInRange es → AreInTime N (run N (initial_state N) past) es → IsPromised N (past ++ es)
 promised-more N past es p range time = record {
   network = p.network;
   in_range = all_append IsInRange past es p.in_range range;
-  in_time = in_time-append N (at_first N) past es p.in_time time;
+  in_time = in_time-append N (initial_state N) past es p.in_time time;
 }
 
-pub stands-happened : (N : Network) (past : List Event) (r : Running) (e : Event) → StandsAfter N past r → IsInRange e → refusal N (run N (at_first N) past) e ≡ None → is_late_delivery (run N (at_first N) past) e ≡ false
-    → StandsAfter N (past ++ e ∷ []) (happened N r e)
-stands-happened N past r e at range none late =
+pub stands-network_step : (N : Network) (past : List Event) (r : RunningNetwork) (e : Event) → StandsAfter N past r → IsInRange e → refusal N (run N (initial_state N) past) e ≡ None → is_late_delivery (run N (initial_state N) past) e ≡ false
+    → StandsAfter N (past ++ e ∷ []) (network_step N r e)
+stands-network_step N past r e at range none late =
     let p = at.promised in
-    let w : NetworkState = run N (at_first N) past in
-    let next : run N (at_first N) (past ++ e ∷ []) ≡ happens N w e =
-    run-append N (at_first N) past (e ∷ []) ∙ ap (λ (o : Option Refusal). step_by o N w e) none in
+    let w : NetworkState = run N (initial_state N) past in
+    let next : run N (initial_state N) (past ++ e ∷ []) ≡ happens N w e =
+    run-append N (initial_state N) past (e ∷ []) ∙ ap (λ (o : Option Refusal). step_by o N w e) none in
     record {
       promised = promised-more N past (e ∷ []) p (range, tt) ((λ accepted. late), tt);
-      stands = λ first firsts. subst (Stands N first (happened N r e)) (sym next)
-          (happened-running N past first r e p.network p.in_range firsts (at.stands first firsts) range none late);
+      stands = λ first firsts. subst (Stands N first (network_step N r e)) (sym next)
+          (network_step-running N past first r e p.network p.in_range firsts (at.stands first firsts) range none late);
     }
 
 some_none : {X : Type 0} (reason : Refusal) → Some reason ≡ None → X
 some_none reason h = absurd (cc)
 
-pub stands-refused : (N : Network) (past : List Event) (r : Running) (e : Event) (reason : Refusal) → StandsAfter N past r → IsInRange e → refusal N (run N (at_first N) past) e ≡ Some reason
+pub stands-refused : (N : Network) (past : List Event) (r : RunningNetwork) (e : Event) (reason : Refusal) → StandsAfter N past r → IsInRange e → refusal N (run N (initial_state N) past) e ≡ Some reason
     → StandsAfter N (past ++ e ∷ []) r
 stands-refused N past r e reason at range some =
     let p = at.promised in
-    let w : NetworkState = run N (at_first N) past in
-    let stays : run N (at_first N) (past ++ e ∷ []) ≡ w =
-    run-append N (at_first N) past (e ∷ []) ∙ ap (λ (o : Option Refusal). step_by o N w e) some in
+    let w : NetworkState = run N (initial_state N) past in
+    let stays : run N (initial_state N) (past ++ e ∷ []) ≡ w =
+    run-append N (initial_state N) past (e ∷ []) ∙ ap (λ (o : Option Refusal). step_by o N w e) some in
     record {
       promised = promised-more N past (e ∷ []) p (range, tt) ((λ none. some_none reason (sym some ∙ none)), tt);
       stands = λ first firsts. subst (Stands N first r) (sym stays) (at.stands first firsts);
     }
 
-pub stands-ran : (N : Network) (past : List Event) (r : Running) (es : List Event) → StandsAfter N past r → AllByRecursion IsInRange es → AreInTime N (run N (at_first N) past) (taken N (run N (at_first N) past) es)
-    → StandsAfter N (past ++ taken N (run N (at_first N) past) es) (ran N r es)
-stands-ran N past r es at range time =
+pub stands-network_run : (N : Network) (past : List Event) (r : RunningNetwork) (es : List Event) → StandsAfter N past r → AllByRecursion IsInRange es → AreInTime N (run N (initial_state N) past) (taken N (run N (initial_state N) past) es)
+    → StandsAfter N (past ++ taken N (run N (initial_state N) past) es) (network_run N r es)
+stands-network_run N past r es at range time =
     let p = at.promised in
-    let w : NetworkState = run N (at_first N) past in
+    let w : NetworkState = run N (initial_state N) past in
     record {
       promised = promised-more N past (taken N w es) p (taken-in_range N w es range) time;
-      stands = λ first firsts. ran-running N past es first r p.network p.in_range firsts (at.stands first firsts) range time;
+      stands = λ first firsts. network_run-running N past es first r p.network p.in_range firsts (at.stands first firsts) range time;
     }
 
-pub stands-judged : (N : Network) (past : List Event) (r : Running) (e : Event) → StandsAfter N past r → refused N r e ≡ refusal N (run N (at_first N) past) e
+pub stands-judged : (N : Network) (past : List Event) (r : RunningNetwork) (e : Event) → StandsAfter N past r → network_refusal N r e ≡ refusal N (run N (initial_state N) past) e
 stands-judged N past r e at =
     let p = at.promised in
     let first : PortIdentity → ℕ = first_of_sessions N N.sessions in
-    refused-running N past first r e p.network p.in_range (at.stands first (firsts N p.network))
+    network_refusal-running N past first r e p.network p.in_range (at.stands first (firsts N p.network))

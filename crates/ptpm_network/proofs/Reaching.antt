@@ -20,7 +20,7 @@ use Rattle.ptpm_network.specs.Events.{BeginRefused, Begin, Deliver, Event, Forge
 use Rattle.ptpm_network.specs.Invariant.{IsAsked, IsFrame, IsOfOrigin, IsReached}
 use Rattle.ptpm_network.specs.Machine.{delivered, delivered_at, happens, is_answer, report_from, reported, run, step, step_by, strange_frame, told_by, with_session}
 use Rattle.ptpm_network.specs.Network.{AtPort, AtSession, End, HasEnd, IsNetwork, Network, manager, ports}
-use Rattle.ptpm_network.specs.State.{Frame, NetworkState, Origin, RequestOf, ReplyTo, Neither, SessionState, accepted_at_target, at_first, is_idle, issued, session_value}
+use Rattle.ptpm_network.specs.State.{Frame, NetworkState, Origin, RequestOf, ReplyTo, Neither, SessionState, accepted_at_target, initial_state, is_idle, issued, session_value}
 use Rattle.ptpm_network.proofs.Accepting.{in_step-begun, in_step-reported, report_of}
 use Rattle.ptpm_network.proofs.Frames.{heard-frame, le_le, says_reply}
 use Rattle.ptpm_network.proofs.Lists.{all_get, get_append}
@@ -167,7 +167,7 @@ run-reached N w (e ∷ es) n i r = run-reached N (step N w e) es n i.1 (step-rea
 not_both : (k : ℕ) → 0 < k → k ≤ 0 → ⊥
 not_both k p le = omega arith
 
-pub first-reached : (N : Network) → IsNetwork N → IsReached N (at_first N)
+pub first-reached : (N : Network) → IsNetwork N → IsReached N (initial_state N)
 first-reached N n = record {
   sessions = λ s place. record {
     asked = λ i q e. absurd (cc);

@@ -34,7 +34,7 @@ use Rattle.ptpm_network.specs.Events.{Event, IsInRange, frame_at}
 use Rattle.ptpm_network.specs.Invariant.{IsOfOrigin, IsReached}
 use Rattle.ptpm_network.specs.Machine.{is_answer, report_from, run, told_by}
 use Rattle.ptpm_network.specs.Network.{AtSession, HasEnd, IsNetwork, Network, SessionStart, manager}
-use Rattle.ptpm_network.specs.State.{Frame, NetworkState, Origin, RequestOf, ReplyTo, Neither, SessionState, at_first, is_idle, is_late, issued, session_value, unanswered}
+use Rattle.ptpm_network.specs.State.{Frame, NetworkState, Origin, RequestOf, ReplyTo, Neither, SessionState, initial_state, is_idle, is_late, issued, session_value, unanswered}
 use Rattle.ptpm_network.proofs.Arriving.{action_of-answer_body}
 use Rattle.ptpm_network.proofs.Frames.{SaysReply, same_read, says_reply, says_request}
 use Rattle.ptpm_network.proofs.Messages.{reply_action-is_reply, reply_at, request_at}
@@ -251,11 +251,11 @@ received-as_reported N w s f r n reached place i late = (
 )
 
 pub frame-as_reported : (N : Network) (es : List Event) (k s : ℕ) (f : Frame) (r : Report) → IsNetwork N → AllByRecursion IsInRange es
-    → frame_at (run N (at_first N) es).frames k ≡ Some f → f.end ≡ AtSession s → is_late (run N (at_first N) es) f.origin ≡ false
-    → (report_from s ((run N (at_first N) es).session s) f ≡ Some r → received_of (session_value (N.session s) ((run N (at_first N) es).session s)) f.octets ≡ received.Answered r)
-    × (received_of (session_value (N.session s) ((run N (at_first N) es).session s)) f.octets ≡ received.Answered r → report_from s ((run N (at_first N) es).session s) f ≡ Some r)
+    → frame_at (run N (initial_state N) es).frames k ≡ Some f → f.end ≡ AtSession s → is_late (run N (initial_state N) es) f.origin ≡ false
+    → (report_from s ((run N (initial_state N) es).session s) f ≡ Some r → received_of (session_value (N.session s) ((run N (initial_state N) es).session s)) f.octets ≡ received.Answered r)
+    × (received_of (session_value (N.session s) ((run N (initial_state N) es).session s)) f.octets ≡ received.Answered r → report_from s ((run N (initial_state N) es).session s) f ≡ Some r)
 frame-as_reported N es k s f r n i e end late =
-    let w : NetworkState = run N (at_first N) es in
+    let w : NetworkState = run N (initial_state N) es in
     let reached' = reached N es n i in
     let frame = frame_at-is N w k f reached' e in
     received-as_reported N w s f r n reached' (subst (HasEnd N) end frame.end) frame.origin late

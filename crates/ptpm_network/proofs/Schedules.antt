@@ -29,7 +29,7 @@ use Rattle.ptpm_manager.specs.declared.report.Outcome.TheVariants as outcomes
 use Rattle.ptpm_manager.specs.Ask.{ask_refusal, target_port}
 use Rattle.ptpm_manager.specs.Session.{begin_refusal, send_refusal}
 use Rattle.ptpm_network.specs.Network.{IsNetwork, End, AtPort, AtSession, Network, SessionStart}
-use Rattle.ptpm_network.specs.State.{Frame, NetworkState, Origin, RequestOf, ReplyTo, at_first, history, is_late_at}
+use Rattle.ptpm_network.specs.State.{Frame, NetworkState, Origin, RequestOf, ReplyTo, initial_state, history, is_late_at}
 use Rattle.ptpm_network.specs.Events.{Event, Begin, Send, Resume, Retune, Deliver, Stranger, Refusal, NoSuchName, NoSuchFrame, Forged, BeginRefused, SendRefused, refusal}
 use Rattle.ptpm_network.specs.Machine.{happens, run}
 
@@ -76,7 +76,7 @@ get_octets =
     ++ 0x00 ∷ 0x01 ∷ 0x00 ∷ 0x02 ∷ 0x20 ∷ 0x05 ∷ []
 
 abbrev sent_once : NetworkState
-sent_once = run one_clock (at_first one_clock) (Begin 0 get_priority1 ∷ Send 0 ∷ [])
+sent_once = run one_clock (initial_state one_clock) (Begin 0 get_priority1 ∷ Send 0 ∷ [])
 
 -- the request goes to the other end of the session's link
 first_script-sent : sent_once.frames ≡ record { end = AtPort 0 1; octets = get_octets; origin = RequestOf 0 1; first_hops = 1; forwardings = 0 } ∷ []
@@ -165,7 +165,7 @@ one_clock-IsNetwork = record {
 -- ---- refused events
 
 abbrev refused : List Event → Event → Option Refusal
-refused before e = refusal one_clock (run one_clock (at_first one_clock) before) e
+refused before e = refusal one_clock (run one_clock (initial_state one_clock) before) e
 
 abbrev get_log_sync_interval : Ask
 get_log_sync_interval = record { action = actions.Get; id = 0x200b; port = None; octets = [] }
@@ -184,7 +184,7 @@ refused_after = refl
 -- ---- another domain
 
 -- between two sendings of a request its domain changes, and no other octet
-retune-sent : map (λ f. f.octets) (run one_clock (at_first one_clock) (Begin 0 get_priority1 ∷ Send 0 ∷ Retune 0 5 ∷ Send 0 ∷ [])).frames
+retune-sent : map (λ f. f.octets) (run one_clock (initial_state one_clock) (Begin 0 get_priority1 ∷ Send 0 ∷ Retune 0 5 ∷ Send 0 ∷ [])).frames
     ≡ get_octets ∷ slice_set get_octets 4 5 ∷ []
 unfolding refusal happens begin_refusal send_refusal ask_refusal target_port row_of port_identity_octets tlv_octets
 retune-sent = refl
@@ -192,7 +192,7 @@ retune-sent = refl
 -- A SET of DOMAIN is answered in the former domain, and its repeat too; then the clock is heard in the new one alone, and a
 -- reply in the former one comes too late.
 abbrev other_domain : NetworkState
-other_domain = run one_clock (at_first one_clock) (
+other_domain = run one_clock (initial_state one_clock) (
     Begin 0 set_domain ∷ Send 0 ∷ Deliver 1 ∷ Send 0 ∷ Deliver 3 ∷ Deliver 4
     ∷ Begin 0 get_priority1 ∷ Send 0 ∷ Deliver 5 ∷ Retune 0 5 ∷ Send 0 ∷ Deliver 6 ∷ Deliver 2 ∷ Deliver 7 ∷ [])
 
@@ -227,7 +227,7 @@ ring_of_three_clocks = record {
 }
 
 abbrev pub in_ring : List Event → NetworkState
-in_ring es = run ring_of_three_clocks (at_first ring_of_three_clocks) es
+in_ring es = run ring_of_three_clocks (initial_state ring_of_three_clocks) es
 
 -- end, boundaryHops, forwardings and origin
 abbrev seen : Frame → End × ℕ × ℕ × Origin

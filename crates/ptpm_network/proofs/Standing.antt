@@ -11,12 +11,13 @@ use Rattle.ptpm_agent.specs.Laws.{StandsAt}
 use Rattle.ptpm_agent.specs.Once.{History, RequestCopy, copy_of}
 use Rattle.ptpm_agent.specs.Turn.{State, turn}
 use Rattle.ptpm_agent.specs.Window.{IsInTime}
-use Rattle.ptpm_agent.proofs.AtMostOnce.{stands_after, stands_fresh}
+use Rattle.ptpm_agent.proofs.AtMostOnce.{stands_after, stands-initial_history}
 use Rattle.ptpm_network.specs.Events.{Event, IsInRange, frame_at}
 use Rattle.ptpm_network.specs.Machine.{answer_messages, answer_origin, arrives, delivered_at_clock, delivery, forwarded_frames, made_frames, reply_frames, run, with_place}
 use Rattle.ptpm_network.specs.Network.{AtPort, HasEnd, IsNetwork, Network}
-use Rattle.ptpm_network.specs.Stands.{AreFirsts, Running, Stands, after_turn, held, starting, turn_frames}
-use Rattle.ptpm_network.specs.State.{Frame, NetworkState, at_first, history, is_late}
+use Rattle.ptpm_network.specs.Stands.{AreFirsts, Stands}
+use Rattle.ptpm_network.specs.RunningNetwork.{RunningNetwork, after_turn, held, initial_network, turn_frames}
+use Rattle.ptpm_network.specs.State.{Frame, NetworkState, initial_state, history, is_late}
 use Rattle.ptpm_network.proofs.Arriving.{history-elsewhere, history-here}
 use Rattle.ptpm_network.proofs.Frames.{heard-frame}
 use Rattle.ptpm_network.proofs.InTime.{in_window}
@@ -33,7 +34,7 @@ turn_frames-made N first s h c port f at time =
     ∙ ap (λ (d : DataSetsValue). forwarded_frames N c f (forwarded (N.clock c).identity port h.sets f.octets)
     ++ reply_frames N c (answer_origin f.origin (copy_of (N.clock c) d (delivery port f))) (answer_messages (N.clock c) h port f.octets (copy_of (N.clock c) h.sets (delivery port f)))) at.sets
 
-clock-stands : (N : Network) (first : PortIdentity → ℕ) (r : Running) (w : NetworkState) (c port : ℕ) (f : Frame) → Stands N first r w → c < N.clocks → ((k : RequestCopy) → copy_of (N.clock c) (history N w c).sets (delivery port f) ≡ Some k → IsInTime first (history N w c) k)
+clock-stands : (N : Network) (first : PortIdentity → ℕ) (r : RunningNetwork) (w : NetworkState) (c port : ℕ) (f : Frame) → Stands N first r w → c < N.clocks → ((k : RequestCopy) → copy_of (N.clock c) (history N w c).sets (delivery port f) ≡ Some k → IsInTime first (history N w c) k)
     → (d : ℕ) → d < N.clocks → StandsAt first (with_place r.clock c (turn (N.clock c) (r.clock c) port f.octets).next d) (history N (arrives w c (delivery port f)) d)
 clock-stands N first r w c port f at place time d there = ⊎_elim
     (λ (y : d == c ≡ true).
@@ -46,7 +47,7 @@ clock-stands N first r w c port f at place time d there = ⊎_elim
     (subst (StandsAt first (r.clock d)) (sym (history-elsewhere N w c (delivery port f) d n)) (at.clocks d there)))
     (cases_Bool (d == c))
 
-pub stands-turned : (N : Network) (first : PortIdentity → ℕ) (r : Running) (w : NetworkState) (c port : ℕ) (f : Frame) → Stands N first r w → c < N.clocks → ((k : RequestCopy) → copy_of (N.clock c) (history N w c).sets (delivery port f) ≡ Some k → IsInTime first (history N w c) k)
+pub stands-turned : (N : Network) (first : PortIdentity → ℕ) (r : RunningNetwork) (w : NetworkState) (c port : ℕ) (f : Frame) → Stands N first r w → c < N.clocks → ((k : RequestCopy) → copy_of (N.clock c) (history N w c).sets (delivery port f) ≡ Some k → IsInTime first (history N w c) k)
     → Stands N first (after_turn N r c port f) (delivered_at_clock N w c port f)
 stands-turned N first r w c port f at place time = record {
   clocks = clock-stands N first r w c port f at place time;
@@ -58,11 +59,11 @@ stands-turned N first r w c port f at place time = record {
 }
 
 -- a running network that stands where a schedule leads stands there after a turn, too
-pub stands-delivered : (N : Network) (es : List Event) (first : PortIdentity → ℕ) (r : Running) (k c port : ℕ) (f : Frame) → IsNetwork N → AllByRecursion IsInRange es → AreFirsts N first → Stands N first r (run N (at_first N) es)
-    → frame_at (run N (at_first N) es).frames k ≡ Some f → f.end ≡ AtPort c port → is_late (run N (at_first N) es) f.origin ≡ false
-    → Stands N first (after_turn N r c port f) (delivered_at_clock N (run N (at_first N) es) c port f)
+pub stands-delivered : (N : Network) (es : List Event) (first : PortIdentity → ℕ) (r : RunningNetwork) (k c port : ℕ) (f : Frame) → IsNetwork N → AllByRecursion IsInRange es → AreFirsts N first → Stands N first r (run N (initial_state N) es)
+    → frame_at (run N (initial_state N) es).frames k ≡ Some f → f.end ≡ AtPort c port → is_late (run N (initial_state N) es) f.origin ≡ false
+    → Stands N first (after_turn N r c port f) (delivered_at_clock N (run N (initial_state N) es) c port f)
 stands-delivered N es first r k c port f n i firsts at e end late =
-    let w : NetworkState = run N (at_first N) es in
+    let w : NetworkState = run N (initial_state N) es in
     let reached' = reached N es n i in
     let frame = frame_at-is N w k f reached' e in
     let place = (subst (HasEnd N) end frame.end).0 in
@@ -70,9 +71,9 @@ stands-delivered N es first r k c port f n i firsts at e end late =
     (λ copy is. in_window first N w c port f copy firsts n reached' place (heard-frame N w f.octets f.origin frame.origin) late is)
 
 -- and it stands so as it starts
-pub stands-at_first : (N : Network) (first : PortIdentity → ℕ) → Stands N first (starting N) (at_first N)
-stands-at_first N first = record {
-  clocks = λ c place. stands_fresh first (N.start c);
+pub stands-initial_state : (N : Network) (first : PortIdentity → ℕ) → Stands N first (initial_network N) (initial_state N)
+stands-initial_state N first = record {
+  clocks = λ c place. stands-initial_history first (N.start c);
   sessions = λ s place. refl;
   reports = λ s place. refl;
   frames = refl;

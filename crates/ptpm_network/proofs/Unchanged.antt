@@ -13,7 +13,7 @@ use Rattle.ptpm_network.specs.Events.{Event, Forged, IsInRange, Refusal, Strange
 use Rattle.ptpm_network.specs.Invariant.{IsReached}
 use Rattle.ptpm_network.specs.Machine.{arrives, delivery, happens, run, step, step_by, strange_frame}
 use Rattle.ptpm_network.specs.Network.{IsNetwork, Network}
-use Rattle.ptpm_network.specs.State.{NetworkState, Neither, RequestOf, at_first, history}
+use Rattle.ptpm_network.specs.State.{NetworkState, Neither, RequestOf, initial_state, history}
 use Rattle.ptpm_network.proofs.Arriving.{history-elsewhere, history-here, is_copy_of}
 use Rattle.ptpm_network.proofs.Frames.{IsHeard}
 use Rattle.ptpm_network.proofs.Reaching.{port-exists}
@@ -59,9 +59,9 @@ strange-step_by N w c port datagram d None e n r octets = strange-happens N w c 
 strange-step_by N w c port datagram d (Some reason) e n r octets = refl
 
 pub strangers-leave : (N : Network) (es : List Event) (c port : ℕ) (datagram : List ℕ) (d : ℕ) → IsNetwork N → AllByRecursion IsInRange es → IsInRange (Stranger c port datagram)
-    → history N (step N (run N (at_first N) es) (Stranger c port datagram)) d ≡ history N (run N (at_first N) es) d
+    → history N (step N (run N (initial_state N) es) (Stranger c port datagram)) d ≡ history N (run N (initial_state N) es) d
 strangers-leave N es c port datagram d n i octets =
-    let w : NetworkState = run N (at_first N) es in
+    let w : NetworkState = run N (initial_state N) es in
     strange-step_by N w c port datagram d (refusal N w (Stranger c port datagram)) refl n (reached N es n i) octets
 
 -- ---- refused requests

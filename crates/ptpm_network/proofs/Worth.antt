@@ -12,7 +12,7 @@ use Rattle.ptpm_data.specs.Members.{DataSetsValue}
 use Rattle.ptpm_data.specs.Reply.{Answer}
 use Rattle.ptpm_data.specs.Request.{RequestValue}
 use Rattle.ptpm_table.proofs.Identities.{same_identity-true}
-use Rattle.ptpm_agent.specs.Once.{Accepted, Delivery, History, RequestCopy, accepted_from, after, after_arrival, applied_once, beginning, copy_of, greatest, joins, kept_reply}
+use Rattle.ptpm_agent.specs.Once.{Accepted, Delivery, History, RequestCopy, accepted_from, after, after_arrival, applied_once, initial_history, copy_of, greatest, joins, kept_reply}
 use Rattle.ptpm_agent.specs.Turn.{Clock}
 use Rattle.ptpm_manager.specs.declared.ask.Ask.{Ask}
 use Rattle.ptpm_manager.specs.declared.error.BeginError.TheVariants as begins
@@ -23,7 +23,7 @@ use Rattle.ptpm_network.specs.Events.{Begin, BeginRefused, Event, IsInRange, NoS
 use Rattle.ptpm_network.specs.Invariant.{IsReached, WasAccepted}
 use Rattle.ptpm_network.specs.Machine.{run}
 use Rattle.ptpm_network.specs.Network.{IsNetwork, Network, manager}
-use Rattle.ptpm_network.specs.State.{NetworkState, SessionState, accepted_at_target, at_first, history, issued, outcomes_kept, reports_by, reports_of, session_value, unanswered}
+use Rattle.ptpm_network.specs.State.{NetworkState, SessionState, accepted_at_target, initial_state, history, issued, outcomes_kept, reports_by, reports_of, session_value, unanswered}
 use Rattle.ptpm_network.specs.Worth.{IsWorth, WasCarriedOut, entries_of}
 use Rattle.ptpm_network.proofs.Accepting.{report_of}
 use Rattle.ptpm_network.proofs.Arriving.{applied_once-append}
@@ -76,7 +76,7 @@ once-applied c h [] once = once
 once-applied c h (x ∷ xs) once = once-applied c (after c h x) xs (once-by c h (copy_of c h.sets x) once)
 
 pub at_most_once : (N : Network) (w : NetworkState) (c : ℕ) → AreOnce (history N w c).accepted
-at_most_once N w c = once-applied (N.clock c) (beginning (N.start c)) (w.arrivals c) (λ m k. omega arith)
+at_most_once N w c = once-applied (N.clock c) (initial_history (N.start c)) (w.arrivals c) (λ m k. omega arith)
 
 -- what is kept is the only entry
 first-entry : (m : PortIdentity) (k : ℕ) (es : List Accepted) (e : Accepted) → kept_reply m k es ≡ Some e → (rest : List Accepted) × (entries_of m k es ≡ e ∷ rest)
@@ -115,11 +115,11 @@ carried_out-before c start xs x e was = record {
 abbrev AreCarriedOut : Clock → DataSetsValue → List Delivery → List Accepted → Type 0
 AreCarriedOut c start xs es = AllByRecursion (WasCarriedOut c start xs) es
 
-carried_out-by : (c : Clock) (start : DataSetsValue) (xs : List Delivery) (x : Delivery) (o : Option RequestCopy) → copy_of c (applied_once c (beginning start) xs).sets x ≡ o
-    → AreCarriedOut c start (xs ++ x ∷ []) (applied_once c (beginning start) xs).accepted → AreCarriedOut c start (xs ++ x ∷ []) (after_arrival c (applied_once c (beginning start) xs) o).accepted
+carried_out-by : (c : Clock) (start : DataSetsValue) (xs : List Delivery) (x : Delivery) (o : Option RequestCopy) → copy_of c (applied_once c (initial_history start) xs).sets x ≡ o
+    → AreCarriedOut c start (xs ++ x ∷ []) (applied_once c (initial_history start) xs).accepted → AreCarriedOut c start (xs ++ x ∷ []) (after_arrival c (applied_once c (initial_history start) xs) o).accepted
 carried_out-by c start xs x None e all = all
 carried_out-by c start xs x (Some copy) e all =
-    let h : History = applied_once c (beginning start) xs in
+    let h : History = applied_once c (initial_history start) xs in
     ⊎_elim
     (λ (y : joins h copy ≡ true). subst (λ (g : History). AreCarriedOut c start (xs ++ x ∷ []) g.accepted) (sym (cond-true _ _ _ y)) (
       record { before = xs; arrival = x; later = []; came_in = refl; copy = copy; is_copy = e; joined = y; is = refl },
@@ -129,12 +129,12 @@ carried_out-by c start xs x (Some copy) e all =
     (cases_Bool (joins h copy))
 
 abbrev AllCarriedOut : Clock → DataSetsValue → List Delivery → Type 0
-AllCarriedOut c start xs = AreCarriedOut c start xs (applied_once c (beginning start) xs).accepted
+AllCarriedOut c start xs = AreCarriedOut c start xs (applied_once c (initial_history start) xs).accepted
 
 carried_out-next : (c : Clock) (start : DataSetsValue) (xs : List Delivery) (x : Delivery) → AllCarriedOut c start xs → AllCarriedOut c start (xs ++ x ∷ [])
 carried_out-next c start xs x all =
-    let h : History = applied_once c (beginning start) xs in
-    subst (λ (g : History). AreCarriedOut c start (xs ++ x ∷ []) g.accepted) (sym (applied_once-append c (beginning start) xs x))
+    let h : History = applied_once c (initial_history start) xs in
+    subst (λ (g : History). AreCarriedOut c start (xs ++ x ∷ []) g.accepted) (sym (applied_once-append c (initial_history start) xs x))
     (carried_out-by c start xs x (copy_of c h.sets x) refl (all_weaker (WasCarriedOut c start xs) (WasCarriedOut c start (xs ++ x ∷ [])) (carried_out-before c start xs x) h.accepted all))
 
 carried_out-from : (c : Clock) (start : DataSetsValue) (xs ys : List Delivery) → AllCarriedOut c start xs → AllCarriedOut c start (xs ++ ys)
@@ -209,14 +209,14 @@ told N w s i r reached place e =
 
 -- ---- the law
 
-pub report-index : (N : Network) (es : List Event) (s i : ℕ) (r : Report) → IsNetwork N → AllByRecursion IsInRange es → s < N.sessions → slice_get ((run N (at_first N) es).session s).reports i ≡ Some r → r.index ≡ i + 1
+pub report-index : (N : Network) (es : List Event) (s i : ℕ) (r : Report) → IsNetwork N → AllByRecursion IsInRange es → s < N.sessions → slice_get ((run N (initial_state N) es).session s).reports i ≡ Some r → r.index ≡ i + 1
 report-index N es s i r n range place e =
-    let index : r.index ≡ suc i = ap (λ (p : Report). p.index) (told N (run N (at_first N) es) s i r (reached N es n range) place e).is in
+    let index : r.index ≡ suc i = ap (λ (p : Report). p.index) (told N (run N (initial_state N) es) s i r (reached N es n range) place e).is in
     omega arith
 
-pub report-worth : (N : Network) (es : List Event) (s i : ℕ) (r : Report) → IsNetwork N → AllByRecursion IsInRange es → s < N.sessions → slice_get ((run N (at_first N) es).session s).reports i ≡ Some r → IsWorth N (run N (at_first N) es) s r
+pub report-worth : (N : Network) (es : List Event) (s i : ℕ) (r : Report) → IsNetwork N → AllByRecursion IsInRange es → s < N.sessions → slice_get ((run N (initial_state N) es).session s).reports i ≡ Some r → IsWorth N (run N (initial_state N) es) s r
 report-worth N es s i r n range place e =
-    let w : NetworkState = run N (at_first N) es in
+    let w : NetworkState = run N (initial_state N) es in
     let is = told N w s i r (reached N es n range) place e in
     let index : suc i ≡ r.index = sym (ap (λ (p : Report). p.index) is.is) in
     let kept : kept_reply (manager N s) r.index (accepted_at_target N w s) ≡ Some is.entry = subst (λ k. kept_reply (manager N s) k (accepted_at_target N w s) ≡ Some is.entry) index is.kept in
@@ -230,8 +230,8 @@ report-worth N es s i r n range place e =
       outcome = ap (λ (p : Report). p.outcome) is.is;
     }
 
-pub once : (N : Network) (es : List Event) (c : ℕ) (m : PortIdentity) (k : ℕ) → length (entries_of m k (history N (run N (at_first N) es) c).accepted) ≤ 1
-once N es c m k = at_most_once N (run N (at_first N) es) c m k
+pub once : (N : Network) (es : List Event) (c : ℕ) (m : PortIdentity) (k : ℕ) → length (entries_of m k (history N (run N (initial_state N) es) c).accepted) ≤ 1
+once N es c m k = at_most_once N (run N (initial_state N) es) c m k
 
 -- ---- a session waits for its report
 
@@ -264,8 +264,8 @@ begins-busy N w s a place lt =
 last_one : (reports begun k : ℕ) → begun ≤ reports + 1 → reports < k → k ≤ begun → k ≡ begun
 last_one reports begun k a b c = omega arith
 
-pub unreported-last : (N : Network) (es : List Event) (s k : ℕ) → IsNetwork N → AllByRecursion IsInRange es → s < N.sessions → length ((run N (at_first N) es).session s).reports < k → k ≤ issued (run N (at_first N) es) s → k ≡ issued (run N (at_first N) es) s
-unreported-last N es s k n range place lt le = last_one (length ((run N (at_first N) es).session s).reports) (issued (run N (at_first N) es) s) k ((reached N es n range).sessions s place).one_at_a_time lt le
+pub unreported-last : (N : Network) (es : List Event) (s k : ℕ) → IsNetwork N → AllByRecursion IsInRange es → s < N.sessions → length ((run N (initial_state N) es).session s).reports < k → k ≤ issued (run N (initial_state N) es) s → k ≡ issued (run N (initial_state N) es) s
+unreported-last N es s k n range place lt le = last_one (length ((run N (initial_state N) es).session s).reports) (issued (run N (initial_state N) es) s) k ((reached N es n range).sessions s place).one_at_a_time lt le
 
-pub waits-for_report : (N : Network) (es : List Event) (s : ℕ) (a : Ask) → s < N.sessions → length ((run N (at_first N) es).session s).reports < issued (run N (at_first N) es) s → refusal N (run N (at_first N) es) (Begin s a) ≡ Some (BeginRefused begins.Busy)
-waits-for_report N es s a place lt = begins-busy N (run N (at_first N) es) s a place lt
+pub waits-for_report : (N : Network) (es : List Event) (s : ℕ) (a : Ask) → s < N.sessions → length ((run N (initial_state N) es).session s).reports < issued (run N (initial_state N) es) s → refusal N (run N (initial_state N) es) (Begin s a) ≡ Some (BeginRefused begins.Busy)
+waits-for_report N es s a place lt = begins-busy N (run N (initial_state N) es) s a place lt

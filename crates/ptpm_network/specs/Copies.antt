@@ -7,7 +7,8 @@ use Rattle.ptpm_network.specs.Network.{AtPort, Network}
 use Rattle.ptpm_network.specs.State.{Frame, NetworkState, history}
 
 -- frame n is on its way to a port of a clock, which will hear it as a copy of a request of one of its managers
-pub record IsCopyAt (N : Network) (w : NetworkState) (n c port : ℕ) (f : Frame) (copy : RequestCopy) : Type 0 where
+pub record IsCopyAt (N : Network) (w : NetworkState) (n c port : ℕ) (f : Frame)
+    (copy : RequestCopy) : Type 0 where
   pub frame : frame_at w.frames n ≡ Some f
   pub end : f.end ≡ AtPort c port
   pub heard : copy_of (N.clock c) (history N w c).sets (delivery port f) ≡ Some copy

@@ -15,14 +15,17 @@ HasRoom w = length w.frames ≤ frames_limit
 -- has accepted that request already.
 abbrev pub IsHeardBy : Network → NetworkState → ℕ → List ℕ → Type 0
 IsHeardBy N w s octets =
-    (domain_number octets ≡ (history N w (N.session s).target).sets.default.domain) ⊎ (greatest_accepted N w s ≡ issued w s)
+    (domain_number octets ≡ (history N w (N.session s).target).sets.default.domain)
+    ⊎ (greatest_accepted N w s ≡ issued w s)
 
 -- Between the states w and u the target of a session has replied to a copy of the session's last request, which came in at
 -- this port: one message, the reply, goes to each other end of the link there, and nothing else is sent. It is in the copy's
 -- domain, and has as many hops as the copy has lost.
 pub record HasReplied (N : Network) (w u : NetworkState) (s port : ℕ) (copy : List ℕ) : Type 0 where
   pub reply : List ℕ
-  pub frames : u.frames ≡ w.frames ++ new_frames (peers N.links (AtPort (N.session s).target port)) reply (ReplyTo s (issued w s))
+  pub frames : u.frames ≡ w.frames
+      ++ new_frames (peers N.links (AtPort (N.session s).target port)) reply
+      (ReplyTo s (issued w s))
   pub domain : domain_number reply ≡ domain_number copy
   pub hops : boundary_hops reply ≡ (N.session s).setup.hops - boundary_hops copy
 

@@ -34,7 +34,8 @@ pub record IsAsked (ports : ℕ) (q : RequestValue) : Type 0 where
   pub every : is_of_port q.id ≡ false → q.port ≡ every_port
 
 -- request k of a manager was accepted: what is kept is that request, with one answer
-pub record WasAccepted (m : PortIdentity) (begun : List RequestValue) (accepted : List Accepted) (k : ℕ) : Type 0 where
+pub record WasAccepted (m : PortIdentity) (begun : List RequestValue) (accepted : List Accepted)
+    (k : ℕ) : Type 0 where
   pub entry : Accepted
   pub is : kept_reply m k accepted ≡ Some entry
   pub begun_as : slice_get begun (k - 1) ≡ Some entry.request
@@ -42,7 +43,8 @@ pub record WasAccepted (m : PortIdentity) (begun : List RequestValue) (accepted 
   pub one : HasOneAnswer entry.request entry.reply
 
 -- the manager m, whose target has this many ports and accepted this of it, in this state
-pub record IsInStep (m : PortIdentity) (ports : ℕ) (accepted : List Accepted) (s : SessionState) : Type 0 where
+pub record IsInStep (m : PortIdentity) (ports : ℕ) (accepted : List Accepted)
+    (s : SessionState) : Type 0 where
   pub asked : (i : ℕ) (q : RequestValue) → slice_get s.begun i ≡ Some q → IsAsked ports q
   -- at most the last request is not reported
   pub one_at_a_time : length s.begun ≤ length s.reports + 1
@@ -64,7 +66,8 @@ pub record IsMessage (octets : List ℕ) (v : Message) : Type 0 where
   pub fits : Fits v
 
 -- the canonical spelling of request k, but for domainNumber and boundaryHops
-pub record IsRequestFrame (setup : Setup) (begun : List RequestValue) (k : ℕ) (octets : List ℕ) : Type 0 where
+pub record IsRequestFrame (setup : Setup) (begun : List RequestValue) (k : ℕ)
+    (octets : List ℕ) : Type 0 where
   pub positive : 0 < k
   pub request : RequestValue
   pub begun_as : slice_get begun (k - 1) ≡ Some request
@@ -74,7 +77,8 @@ pub record IsRequestFrame (setup : Setup) (begun : List RequestValue) (k : ℕ) 
 
 -- the canonical spelling of the one answer kept for request k, but for domainNumber, the hops, and, where the answer is of
 -- the clock, the source's portNumber
-pub record IsReplyFrame (setup : Setup) (accepted : List Accepted) (k : ℕ) (octets : List ℕ) : Type 0 where
+pub record IsReplyFrame (setup : Setup) (accepted : List Accepted) (k : ℕ)
+    (octets : List ℕ) : Type 0 where
   pub positive : 0 < k
   pub entry : Accepted
   pub kept : kept_reply setup.me k accepted ≡ Some entry
@@ -87,12 +91,16 @@ pub record IsReplyFrame (setup : Setup) (accepted : List Accepted) (k : ℕ) (oc
   pub ingress : ℕ
   pub port : ingress < 2 ^ 16
   pub hops : ℕ
-  pub is : octets ≡ canonical (record (reply_message setup.target heard entry.reply.action entry.reply.id ingress answer) { hops = hops })
+  pub is : octets
+      ≡ canonical (record
+      (reply_message setup.target heard entry.reply.action entry.reply.id ingress answer)
+      { hops = hops })
 
 -- a message of no session, and of no clock to a session
 pub record IsForeign (N : Network) (v : Message) : Type 0 where
   pub no_request : (s : ℕ) → s < N.sessions → v.source ≢ manager N s
-  pub no_reply : (c s : ℕ) → c < N.clocks → s < N.sessions → v.source.clock ≡ (N.clock c).identity → v.target ≢ manager N s
+  pub no_reply : (c s : ℕ) → c < N.clocks → s < N.sessions → v.source.clock ≡ (N.clock c).identity
+      → v.target ≢ manager N s
 
 pub record IsForeignFrame (N : Network) (octets : List ℕ) : Type 0 where
   pub message : Message
@@ -100,8 +108,10 @@ pub record IsForeignFrame (N : Network) (octets : List ℕ) : Type 0 where
   pub foreign : IsForeign N message
 
 abbrev pub IsOfOrigin : Network → NetworkState → List ℕ → Origin → Type 0
-IsOfOrigin N w octets (RequestOf s k) = (s < N.sessions) × IsRequestFrame (N.session s).setup (w.session s).begun k octets
-IsOfOrigin N w octets (ReplyTo s k) = (s < N.sessions) × IsReplyFrame (N.session s).setup (accepted_at_target N w s) k octets
+IsOfOrigin N w octets (RequestOf s k) = (s < N.sessions)
+    × IsRequestFrame (N.session s).setup (w.session s).begun k octets
+IsOfOrigin N w octets (ReplyTo s k) = (s < N.sessions)
+    × IsReplyFrame (N.session s).setup (accepted_at_target N w s) k octets
 IsOfOrigin N w octets Neither = IsForeignFrame N octets
 
 pub record IsFrame (N : Network) (w : NetworkState) (f : Frame) : Type 0 where
@@ -113,6 +123,8 @@ pub record IsFrame (N : Network) (w : NetworkState) (f : Frame) : Type 0 where
 -- ---- the whole
 
 pub record IsReached (N : Network) (w : NetworkState) : Type 0 where
-  pub sessions : (s : ℕ) → s < N.sessions → IsInStep (manager N s) (ports N (N.session s).target) (accepted_at_target N w s) (w.session s)
+  pub sessions : (s : ℕ) → s < N.sessions
+      → IsInStep (manager N s) (ports N (N.session s).target) (accepted_at_target N w s)
+      (w.session s)
   pub clocks : (c : ℕ) → c < N.clocks → AreDataSets (ports N c) (history N w c).sets
   pub frames : AllByRecursion (IsFrame N w) w.frames

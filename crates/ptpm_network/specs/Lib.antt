@@ -4,8 +4,8 @@ pub mod State
 pub mod Events
 pub mod Machine
 pub mod Invariant
+pub mod RunningNetwork
 pub mod Stands
-pub mod Happening
 pub mod Replying
 pub mod Headline
 pub mod Worth

@@ -18,7 +18,7 @@ use Rattle.ptpm_manager.specs.Ask as ask
 use Rattle.ptpm_manager.specs.Report.{outcome_of}
 use Rattle.ptpm_manager.specs.Session.{due_message}
 use Rattle.ptpm_network.specs.Network.{End, AtPort, AtSession, Network, SessionStart, peers}
-use Rattle.ptpm_network.specs.State.{Frame, NetworkState, Origin, RequestOf, ReplyTo, Neither, SessionState, frames_to, history, is_idle, is_late, new_frames, session_value}
+use Rattle.ptpm_network.specs.State.{Frame, Neither, NetworkState, Origin, ReplyTo, RequestOf, SessionState, frames_to, history, initial_state, is_idle, is_late, new_frames, session_value}
 use Rattle.ptpm_network.specs.Events.{Event, Begin, Send, Resume, Retune, Deliver, Stranger, Refusal, frame_at, refusal}
 
 -- one place has another value
@@ -43,8 +43,10 @@ sent_frames ends s k (Some v) = new_frames ends (canonical v) (RequestOf s k)
 
 abbrev pub sends : Network → NetworkState → ℕ → NetworkState
 sends N w s =
-    with_frames (with_session w s (record (w.session s) { attempts_left = (w.session s).attempts_left - 1 }))
-    (sent_frames (peers N.links (AtSession s)) s (length (w.session s).begun) (due_message (session_value (N.session s) (w.session s))))
+    with_frames (with_session w s
+    (record (w.session s) { attempts_left = (w.session s).attempts_left - 1 }))
+    (sent_frames (peers N.links (AtSession s)) s (length (w.session s).begun)
+    (due_message (session_value (N.session s) (w.session s))))
 
 -- ---- a frame comes in at a clock
 
@@ -60,7 +62,8 @@ delivery port f = record { ingress = port; datagram = f.octets; index = index_of
 -- what a clock passes on stays what it was, with one forwarding more
 abbrev pub forwarded_frames : Network → ℕ → Frame → List (ℕ × List ℕ) → List Frame
 forwarded_frames N c f sent =
-    flat_map (λ m. frames_to (peers N.links (AtPort c m.0)) m.1 f.origin f.first_hops (f.forwardings + 1)) sent
+    flat_map (λ m. frames_to (peers N.links (AtPort c m.0)) m.1 f.origin f.first_hops
+    (f.forwardings + 1)) sent
 
 -- the reply to a copy of a session's request belongs to that request
 abbrev pub reply_origin : Origin → Origin
@@ -69,18 +72,21 @@ reply_origin (ReplyTo s k) = Neither
 reply_origin Neither = Neither
 
 abbrev pub reply_frames : Network → ℕ → Origin → List (ℕ × List ℕ) → List Frame
-reply_frames N c origin sent = flat_map (λ m. new_frames (peers N.links (AtPort c m.0)) m.1 origin) sent
+reply_frames N c origin sent =
+    flat_map (λ m. new_frames (peers N.links (AtPort c m.0)) m.1 origin) sent
 
 -- a request of sdoId 0 in the clock's domain, not from it and addressed to it, that is not numbered
 abbrev pub is_read : Clock → DataSetsValue → Message → Bool
 is_read c d v =
-    v.sdo == 0 && (v.domain == d.default.domain && (not (is_own c v) && (is_addressed c d v && (is_request v && not (is_numbered c v)))))
+    v.sdo == 0 && (v.domain == d.default.domain
+    && (not (is_own c v) && (is_addressed c d v && (is_request v && not (is_numbered c v)))))
 
 -- the messages of the reply to a request that is not numbered
 abbrev pub read_messages : Clock → DataSetsValue → ℕ → Option Message → List (ℕ × List ℕ)
 read_messages c d ingress None = []
 read_messages c d ingress (Some v) =
-    if is_read c d v then rendered c.identity (heard_of v) (read_reply_to (request_of v) d) ingress else []
+    if is_read c d v then rendered c.identity (heard_of v) (read_reply_to (request_of v) d) ingress
+    else []
 
 -- a numbered copy is answered by the reply that is due to it, any other delivery by what it reads
 abbrev pub answer_messages : Clock → History → ℕ → List ℕ → Option RequestCopy → List (ℕ × List ℕ)
@@ -93,7 +99,9 @@ answer_origin o (Some copy) = reply_origin o
 answer_origin o None = Neither
 
 abbrev pub answering_frames : Network → ℕ → History → ℕ → Frame → Option RequestCopy → List Frame
-answering_frames N c h port f copy = reply_frames N c (answer_origin f.origin copy) (answer_messages (N.clock c) h port f.octets copy)
+answering_frames N c h port f copy =
+    reply_frames N c (answer_origin f.origin copy)
+    (answer_messages (N.clock c) h port f.octets copy)
 
 -- all frames that a clock makes of one that comes in: those that it passes on, then its replies
 abbrev pub made_frames : Network → ℕ → History → ℕ → Frame → List Frame
@@ -105,7 +113,8 @@ abbrev pub arrives : NetworkState → ℕ → Delivery → NetworkState
 arrives w c x = record w { arrivals = with_place w.arrivals c (w.arrivals c ++ x ∷ []) }
 
 abbrev pub delivered_at_clock : Network → NetworkState → ℕ → ℕ → Frame → NetworkState
-delivered_at_clock N w c port f = with_frames (arrives w c (delivery port f)) (made_frames N c (history N w c) port f)
+delivered_at_clock N w c port f =
+    with_frames (arrives w c (delivery port f)) (made_frames N c (history N w c) port f)
 
 -- ---- a frame comes in at a session
 
@@ -119,17 +128,20 @@ is_answer s state Neither = false
 abbrev pub told_by : SessionState → Option Message → Option Report
 told_by state None = None
 told_by state (Some v) =
-    if v.domain == state.domain then Some (record { index = length state.begun; outcome = outcome_of v.body }) else None
+    if v.domain == state.domain
+    then Some (record { index = length state.begun; outcome = outcome_of v.body }) else None
 
 abbrev pub report_from : ℕ → SessionState → Frame → Option Report
-report_from s state f = if is_answer s state f.origin then told_by state (message_of f.octets) else None
+report_from s state f =
+    if is_answer s state f.origin then told_by state (message_of f.octets) else None
 
 abbrev pub reported : SessionState → Option Report → SessionState
 reported state None = state
 reported state (Some report) = record state { reports = state.reports ++ report ∷ [] }
 
 abbrev pub delivered_at_session : NetworkState → ℕ → Frame → NetworkState
-delivered_at_session w s f = with_session w s (reported (w.session s) (report_from s (w.session s) f))
+delivered_at_session w s f =
+    with_session w s (reported (w.session s) (report_from s (w.session s) f))
 
 -- ---- one event
 
@@ -154,10 +166,12 @@ strange_frame c port datagram = record {
 unfoldable pub happens : Network → NetworkState → Event → NetworkState
 happens N w (Begin s a) = with_session w s (begun_in (N.session s) (w.session s) (ask.request_of a))
 happens N w (Send s) = sends N w s
-happens N w (Resume s attempts) = with_session w s (record (w.session s) { attempts_left = attempts })
+happens N w (Resume s attempts) =
+    with_session w s (record (w.session s) { attempts_left = attempts })
 happens N w (Retune s domain) = with_session w s (record (w.session s) { domain = domain })
 happens N w (Deliver n) = delivered N w (frame_at w.frames n)
-happens N w (Stranger c port datagram) = delivered_at_clock N w c port (strange_frame c port datagram)
+happens N w (Stranger c port datagram) =
+    delivered_at_clock N w c port (strange_frame c port datagram)
 
 -- a refused event changes nothing
 abbrev pub step_by : Option Refusal → Network → NetworkState → Event → NetworkState
@@ -171,6 +185,10 @@ step N w e = step_by (refusal N w e) N w e
 abbrev pub run : Network → NetworkState → List Event → NetworkState
 run N w [] = w
 run N w (e ∷ es) = run N (step N w e) es
+
+-- where these events lead from the initial state
+abbrev pub state_after : Network → List Event → NetworkState
+state_after N events = run N (initial_state N) events
 
 -- the events of a schedule up to the first that is refused
 abbrev pub taken : Network → NetworkState → List Event → List Event
@@ -191,4 +209,5 @@ is_late_delivery w _ = false
 -- no delivery of the schedule is late; one that is refused is no delivery
 abbrev pub AreInTime : Network → NetworkState → List Event → Type 0
 AreInTime N w [] = Unit {0}
-AreInTime N w (e ∷ es) = (refusal N w e ≡ None → is_late_delivery w e ≡ false) × AreInTime N (step N w e) es
+AreInTime N w (e ∷ es) = (refusal N w e ≡ None → is_late_delivery w e ≡ false)
+    × AreInTime N (step N w e) es

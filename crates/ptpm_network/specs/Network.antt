@@ -26,7 +26,9 @@ same_end (AtSession s) (AtPort c p) = false
 -- the other ends of the link that an end is on, in the link's order; none where it is on no link
 abbrev pub peers : List (List End) → End → List End
 peers [] e = []
-peers (link ∷ links) e = if list_any (same_end e) link then filter (λ other. not (same_end e other)) link else peers links e
+peers (link ∷ links) e =
+    if list_any (same_end e) link
+    then filter (λ other. not (same_end e other)) link else peers links e
 
 -- ---- the network
 
@@ -85,11 +87,15 @@ pub record IsNetwork (N : Network) : Type 0 where
   pub are_clocks : (c : ℕ) → c < N.clocks → IsClock N c
   pub are_sessions : (s : ℕ) → s < N.sessions → IsSession N s
   -- no two have one identity, and no session has a clock's
-  pub clocks_apart : (c d : ℕ) → c < N.clocks → d < N.clocks → (N.clock c).identity ≡ (N.clock d).identity → c ≡ d
-  pub sessions_apart : (s t : ℕ) → s < N.sessions → t < N.sessions → manager N s ≡ manager N t → s ≡ t
-  pub no_clock : (s c : ℕ) → s < N.sessions → c < N.clocks → (manager N s).clock ≢ (N.clock c).identity
+  pub clocks_apart : (c d : ℕ) → c < N.clocks → d < N.clocks
+      → (N.clock c).identity ≡ (N.clock d).identity → c ≡ d
+  pub sessions_apart : (s t : ℕ) → s < N.sessions → t < N.sessions → manager N s ≡ manager N t
+      → s ≡ t
+  pub no_clock : (s c : ℕ) → s < N.sessions → c < N.clocks
+      → (manager N s).clock ≢ (N.clock c).identity
   -- the configured managers of a clock are the sessions with it for their target, and nobody else
-  pub configured : (s : ℕ) → s < N.sessions → is_known (manager N s) (N.clock (N.session s).target).managers ≡ true
+  pub configured : (s : ℕ) → s < N.sessions
+      → is_known (manager N s) (N.clock (N.session s).target).managers ≡ true
   pub managers : (c : ℕ) (m : PortIdentity) → c < N.clocks → is_known m (N.clock c).managers ≡ true
       → (s : ℕ) × (s < N.sessions) × (manager N s ≡ m) × ((N.session s).target ≡ c)
   pub are_links : AllByRecursion (IsLink N) N.links

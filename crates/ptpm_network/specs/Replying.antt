@@ -2,10 +2,9 @@
 use Rattle.std.specs.Prelude.{ℕ, ◌==◌, Bool, true, false, List, if◌then◌else◌}
 use Rattle.ptpm_agent.specs.declared.verdict.Verdict.{Verdict}
 use Rattle.ptpm_agent.specs.declared.verdict.Verdict.TheVariants as verdicts
-use Rattle.ptpm_network.specs.Happening.{posted}
+use Rattle.ptpm_network.specs.RunningNetwork.{Held, posted}
 use Rattle.ptpm_network.specs.Machine.{reply_origin}
 use Rattle.ptpm_network.specs.Network.{AtPort, End, peers}
-use Rattle.ptpm_network.specs.Stands.{Held}
 use Rattle.ptpm_network.specs.State.{Origin, Neither}
 
 -- a numbered request is answered
@@ -21,4 +20,5 @@ origin_by verdict o = if answers_copy verdict then reply_origin o else Neither
 -- What a clock sends for a datagram that came in at a port: what leaves at that port is the reply, and anything else is passed
 -- on.
 abbrev pub posted_by : List (List End) → ℕ → ℕ → Origin → Origin → ℕ × List ℕ → List Held
-posted_by links c ingress passed reply m = posted (peers links (AtPort c m.0)) m.1 (if m.0 == ingress then reply else passed)
+posted_by links c ingress passed reply m =
+    posted (peers links (AtPort c m.0)) m.1 (if m.0 == ingress then reply else passed)

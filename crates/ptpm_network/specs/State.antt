@@ -6,7 +6,7 @@ use Rattle.ptpm_codec.specs.Layout.{boundary_hops}
 use Rattle.ptpm_data.specs.Reply.{Answer, ReplyValue}
 use Rattle.ptpm_data.specs.Request.{RequestValue}
 use Rattle.ptpm_table.specs.Rendering.{answer_body}
-use Rattle.ptpm_agent.specs.Once.{Accepted, Delivery, History, applied_once, beginning, greatest, kept_reply}
+use Rattle.ptpm_agent.specs.Once.{Accepted, Delivery, History, applied_once, initial_history, greatest, kept_reply}
 use Rattle.ptpm_manager.specs.declared.report.Report.{Report}
 use Rattle.ptpm_manager.specs.Report.{outcome_of}
 use Rattle.ptpm_manager.specs.Session.{SessionValue}
@@ -54,11 +54,13 @@ pub record NetworkState : Type 0 where
   -- every frame that was ever sent; frame n stands at place n - 1, and stays
   pub frames : List Frame
 
-abbrev pub session_at_first : SessionStart → SessionState
-session_at_first start = record { domain = start.domain; attempts_left = 0; begun = []; reports = [] }
+abbrev pub initial_session_state : SessionStart → SessionState
+initial_session_state start =
+    record { domain = start.domain; attempts_left = 0; begun = []; reports = [] }
 
-abbrev pub at_first : Network → NetworkState
-at_first N = record { session = λ s. session_at_first (N.session s); arrivals = λ c. []; frames = [] }
+abbrev pub initial_state : Network → NetworkState
+initial_state N =
+    record { session = λ s. initial_session_state (N.session s); arrivals = λ c. []; frames = [] }
 
 -- ---- sessions
 
@@ -87,7 +89,7 @@ issued w s = length (w.session s).begun
 
 -- the data sets of a clock and all that it accepted: each accepted request of its arrivals applied once
 abbrev pub history : Network → NetworkState → ℕ → History
-history N w c = applied_once (N.clock c) (beginning (N.start c)) (w.arrivals c)
+history N w c = applied_once (N.clock c) (initial_history (N.start c)) (w.arrivals c)
 
 -- what was accepted at a session's target
 abbrev pub accepted_at_target : Network → NetworkState → ℕ → List Accepted
@@ -100,7 +102,9 @@ greatest_accepted N w s = greatest (manager N s) (accepted_at_target N w s)
 -- ---- what a manager is to be told
 
 abbrev pub reports_by : ℕ → ReplyValue → List Answer → List Report
-reports_by k r answers = map (λ a. record { index = k; outcome = outcome_of (answer_body r.action r.id a.outcome) }) answers
+reports_by k r answers =
+    map (λ a. record { index = k; outcome = outcome_of (answer_body r.action r.id a.outcome) })
+    answers
 
 -- what the reply that is kept for request k says
 abbrev pub reports_of : ℕ → Option Accepted → List Report
@@ -110,7 +114,8 @@ reports_of k (Some a) = reports_by k a.reply a.reply.answers
 -- what the replies that are kept for a manager's first n requests say, in order
 abbrev pub outcomes_kept : PortIdentity → List Accepted → ℕ → List Report
 outcomes_kept m accepted zero = []
-outcomes_kept m accepted (suc n) = outcomes_kept m accepted n ++ reports_of (suc n) (kept_reply m (suc n) accepted)
+outcomes_kept m accepted (suc n) =
+    outcomes_kept m accepted n ++ reports_of (suc n) (kept_reply m (suc n) accepted)
 
 -- ---- lateness
 

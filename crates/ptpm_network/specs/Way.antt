@@ -6,10 +6,9 @@ use Rattle.ptpm_manager.specs.declared.report.Report.{Report}
 use Rattle.ptpm_manager.specs.Session.{is_waiting}
 use Rattle.ptpm_network.specs.Events.{Event, Deliver, Send, frame_at, refusal}
 use Rattle.ptpm_network.specs.Exchange.{HasReported}
-use Rattle.ptpm_network.specs.Happening.{ran}
+use Rattle.ptpm_network.specs.RunningNetwork.{RunningNetwork, network_run}
 use Rattle.ptpm_network.specs.Machine.{run, step}
 use Rattle.ptpm_network.specs.Network.{AtPort, AtSession, End, Network, peers, same_end}
-use Rattle.ptpm_network.specs.Stands.{Running}
 use Rattle.ptpm_network.specs.State.{Frame, NetworkState, greatest_accepted, history, is_late, issued}
 
 -- ---- a way
@@ -28,7 +27,8 @@ pub record AreLinked (N : Network) (a b : End) : Type 0 where
 -- links lead from one end to another, over these clocks
 abbrev pub Leads : Network → End → List Hop → End → Type 0
 Leads N from [] to = AreLinked N from to
-Leads N from (h ∷ hops) to = AreLinked N from (AtPort h.clock h.near) × Leads N (AtPort h.clock h.far) hops to
+Leads N from (h ∷ hops) to = AreLinked N from (AtPort h.clock h.near)
+    × Leads N (AtPort h.clock h.far) hops to
 
 -- the clock is not the target, is in this domain, and both ports are in states in which they forward
 pub record PassesOn (N : Network) (w : NetworkState) (target domain : ℕ) (h : Hop) : Type 0 where
@@ -40,11 +40,13 @@ pub record PassesOn (N : Network) (w : NetworkState) (target domain : ℕ) (h : 
 
 -- A way from a session to a port of its target: each clock on it passes messages on in the session's domain, the session's
 -- boundaryHops suffice, and the target hears the request, as it is in that domain too or has accepted the request already.
-pub record IsWay (N : Network) (w : NetworkState) (s : ℕ) (hops : List Hop) (port : ℕ) : Type 0 where
+pub record IsWay (N : Network) (w : NetworkState) (s : ℕ) (hops : List Hop)
+    (port : ℕ) : Type 0 where
   pub leads : Leads N (AtSession s) hops (AtPort (N.session s).target port)
   pub passes : AllByRecursion (PassesOn N w (N.session s).target (w.session s).domain) hops
   pub hops_suffice : length hops ≤ (N.session s).setup.hops
-  pub heard : ((history N w (N.session s).target).sets.default.domain ≡ (w.session s).domain) ⊎ (greatest_accepted N w s ≡ issued w s)
+  pub heard : ((history N w (N.session s).target).sets.default.domain ≡ (w.session s).domain)
+      ⊎ (greatest_accepted N w s ≡ issued w s)
 
 -- ---- room
 
@@ -96,17 +98,22 @@ visited (h ∷ hops) to = AtPort h.clock h.near ∷ (visited hops to ++ AtPort h
 
 -- The unanswered request of a session can be answered over these clocks: the session sends it, one copy each way comes in at
 -- the ends of the way and at last at the session, with no other event between, and the request is reported.
-pub record IsAnswerable (N : Network) (w : NetworkState) (s : ℕ) (hops : List Hop) (port : ℕ) : Type 0 where
+pub record IsAnswerable (N : Network) (w : NetworkState) (s : ℕ) (hops : List Hop)
+    (port : ℕ) : Type 0 where
   pub sent : refusal N w (Send s) ≡ None
   pub deliveries : List (ℕ × End)
-  pub along : ends_of deliveries ≡ visited hops (AtPort (N.session s).target port) ++ AtSession s ∷ []
+  pub along : ends_of deliveries
+      ≡ visited hops (AtPort (N.session s).target port) ++ AtSession s ∷ []
   pub come_in : ComeIn N (step N w (Send s)) deliveries
   pub reported : HasReported w (run N w (Send s ∷ handed_in deliveries)) s
 
 -- The same of a network that runs: such events lead it to one report more, and the session waits for nothing then.
-pub record RunsToReport (N : Network) (r : Running) (s : ℕ) (hops : List Hop) (port : ℕ) : Type 0 where
+pub record RunsToReport (N : Network) (r : RunningNetwork) (s : ℕ) (hops : List Hop)
+    (port : ℕ) : Type 0 where
   pub deliveries : List (ℕ × End)
-  pub along : ends_of deliveries ≡ visited hops (AtPort (N.session s).target port) ++ AtSession s ∷ []
+  pub along : ends_of deliveries
+      ≡ visited hops (AtPort (N.session s).target port) ++ AtSession s ∷ []
   pub report : Report
-  pub reports : (ran N r (Send s ∷ handed_in deliveries)).reports s ≡ r.reports s ++ report ∷ []
-  pub idle : is_waiting ((ran N r (Send s ∷ handed_in deliveries)).session s) ≡ false
+  pub reports : (network_run N r (Send s ∷ handed_in deliveries)).reports s
+      ≡ r.reports s ++ report ∷ []
+  pub idle : is_waiting ((network_run N r (Send s ∷ handed_in deliveries)).session s) ≡ false

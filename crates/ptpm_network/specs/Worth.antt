@@ -6,7 +6,7 @@ use Rattle.ptpm_codec.specs.Identity.{same_identity}
 use Rattle.ptpm_data.specs.Members.{DataSetsValue}
 use Rattle.ptpm_data.specs.Reply.{Answer}
 use Rattle.ptpm_table.specs.Rendering.{answer_body}
-use Rattle.ptpm_agent.specs.Once.{Accepted, Delivery, RequestCopy, accepted_from, applied_once, beginning, copy_of, joins}
+use Rattle.ptpm_agent.specs.Once.{Accepted, Delivery, RequestCopy, accepted_from, applied_once, initial_history, copy_of, joins}
 use Rattle.ptpm_agent.specs.Turn.{Clock}
 use Rattle.ptpm_manager.specs.declared.report.Report.{Report}
 use Rattle.ptpm_manager.specs.Report.{outcome_of}
@@ -19,15 +19,16 @@ entries_of m k accepted = filter (λ a. same_identity m a.manager && a.index == 
 
 -- The moment at which a clock carried a request out: what had come in before, the copy that joined then, and what came in
 -- after it. The request is the copy's, and the reply is made of the data sets as they stood then.
-pub record WasCarriedOut (c : Clock) (start : DataSetsValue) (arrivals : List Delivery) (entry : Accepted) : Type 0 where
+pub record WasCarriedOut (c : Clock) (start : DataSetsValue) (arrivals : List Delivery)
+    (entry : Accepted) : Type 0 where
   pub before : List Delivery
   pub arrival : Delivery
   pub later : List Delivery
   pub came_in : arrivals ≡ before ++ arrival ∷ later
   pub copy : RequestCopy
-  pub is_copy : copy_of c (applied_once c (beginning start) before).sets arrival ≡ Some copy
-  pub joined : joins (applied_once c (beginning start) before) copy ≡ true
-  pub is : entry ≡ accepted_from c (applied_once c (beginning start) before) copy
+  pub is_copy : copy_of c (applied_once c (initial_history start) before).sets arrival ≡ Some copy
+  pub joined : joins (applied_once c (initial_history start) before) copy ≡ true
+  pub is : entry ≡ accepted_from c (applied_once c (initial_history start) before) copy
 
 -- A report of a session is worth this: the request that the session began under the report's index was carried out exactly
 -- once at the session's target, and the outcome is the one answer that the clock gave to it then.
@@ -35,7 +36,9 @@ pub record IsWorth (N : Network) (w : NetworkState) (s : ℕ) (report : Report) 
   pub entry : Accepted
   pub once : entries_of (manager N s) report.index (accepted_at_target N w s) ≡ entry ∷ []
   pub begun_as : slice_get (w.session s).begun (report.index - 1) ≡ Some entry.request
-  pub carried_out : WasCarriedOut (N.clock (N.session s).target) (N.start (N.session s).target) (w.arrivals (N.session s).target) entry
+  pub carried_out : WasCarriedOut (N.clock (N.session s).target) (N.start (N.session s).target)
+      (w.arrivals (N.session s).target) entry
   pub answer : Answer
   pub one : entry.reply.answers ≡ answer ∷ []
-  pub outcome : report.outcome ≡ outcome_of (answer_body entry.reply.action entry.reply.id answer.outcome)
+  pub outcome : report.outcome
+      ≡ outcome_of (answer_body entry.reply.action entry.reply.id answer.outcome)

@@ -10,20 +10,19 @@ ghost use Rattle.ptpm_agent.specs.Once.{Accepted, Delivery, History, RequestCopy
 ghost use Rattle.ptpm_agent.specs.Turn.{Clock};
 ghost use Rattle.ptpm_network.specs.Copies.{IsCopyAt};
 ghost use Rattle.ptpm_network.specs.Events.{Deliver, Event, IsInRange, Refusal, Stranger, refusal};
-ghost use Rattle.ptpm_network.specs.Happening.{happened, ran, refused};
+ghost use Rattle.ptpm_network.specs.RunningNetwork.{RunningNetwork, initial_network, network_refusal, network_run, network_step};
 ghost use Rattle.ptpm_network.specs.Headline.{Headline, StandsAfter};
-ghost use Rattle.ptpm_network.specs.Machine.{AreInTime, happens, is_late_delivery, reply_frames, reply_origin, run, step, taken};
+ghost use Rattle.ptpm_network.specs.Machine.{AreInTime, happens, is_late_delivery, reply_frames, reply_origin, state_after, step, taken};
 ghost use Rattle.ptpm_network.specs.Network.{IsNetwork, Network};
-ghost use Rattle.ptpm_network.specs.Stands.{Running, starting};
-ghost use Rattle.ptpm_network.specs.State.{Frame, NetworkState, at_first, history};
+ghost use Rattle.ptpm_network.specs.State.{Frame, NetworkState, history};
 
 /// The headline. However a network loses, repeats, reorders or duplicates messages, if none arrives after more than 32,768 later
 /// requests of its manager, each clock's data sets are those after its managers' delivered requests, each applied once in order
 /// of first acceptance; repeats of the latest get the one reply kept, older ones none; each manager reports those replies;
 /// strangers and refused SETs change no data set.
 pub fn headline()
-    ensures { (N : Network) (events : List Event) (r : Running) →
-        StandsAfter N events r → Headline N (run N (at_first N) events) r }
+    ensures { (N : Network) (events : List Event) (r : RunningNetwork) →
+        StandsAfter N events r → Headline N (state_after N events) r }
 {}
 
 /// Where it holds: of a network that starts, and, where it held before,
@@ -31,20 +30,21 @@ pub fn headline()
 /// - with an event more that is refused, for the machine's reason, and leaves the running network as it was;
 /// - after a list of events, up to the first that is refused, if none of these delivers a frame late.
 pub fn stands_after()
-    ensures first { (N : Network) → IsNetwork N → StandsAfter N [] (starting N) }
-    ensures event { (N : Network) (past : List Event) (r : Running) (e : Event) →
+    ensures first { (N : Network) → IsNetwork N → StandsAfter N [] (initial_network N) }
+    ensures event { (N : Network) (past : List Event) (r : RunningNetwork) (e : Event) →
         StandsAfter N past r → IsInRange e →
-        refusal N (run N (at_first N) past) e ≡ None → is_late_delivery (run N (at_first N) past) e ≡ false →
-        StandsAfter N (past ++ e ∷ []) (happened N r e) }
-    ensures refused { (N : Network) (past : List Event) (r : Running) (e : Event) →
-        StandsAfter N past r → refused N r e ≡ refusal N (run N (at_first N) past) e }
-    ensures unchanged { (N : Network) (past : List Event) (r : Running) (e : Event) (reason : Refusal) →
-        StandsAfter N past r → IsInRange e → refusal N (run N (at_first N) past) e ≡ Some reason →
+        refusal N (state_after N past) e ≡ None → is_late_delivery (state_after N past) e ≡ false →
+        StandsAfter N (past ++ e ∷ []) (network_step N r e) }
+    ensures refused { (N : Network) (past : List Event) (r : RunningNetwork) (e : Event) →
+        StandsAfter N past r → network_refusal N r e ≡ refusal N (state_after N past) e }
+    ensures unchanged { (N : Network) (past : List Event) (r : RunningNetwork) (e : Event)
+        (reason : Refusal) →
+        StandsAfter N past r → IsInRange e → refusal N (state_after N past) e ≡ Some reason →
         StandsAfter N (past ++ e ∷ []) r }
-    ensures every { (N : Network) (past : List Event) (r : Running) (es : List Event) →
+    ensures every { (N : Network) (past : List Event) (r : RunningNetwork) (es : List Event) →
         StandsAfter N past r → AllByRecursion IsInRange es →
-        AreInTime N (run N (at_first N) past) (taken N (run N (at_first N) past) es) →
-        StandsAfter N (past ++ taken N (run N (at_first N) past) es) (ran N r es) }
+        AreInTime N (state_after N past) (taken N (state_after N past) es) →
+        StandsAfter N (past ++ taken N (state_after N past) es) (network_run N r es) }
 {}
 
 /// Repeats of the latest get the one reply kept, older ones none. In every state that the machine reaches, to a copy of a
@@ -53,33 +53,39 @@ pub fn stands_after()
 /// - that is older, none is;
 /// - its delivery makes frames of what is due, and of nothing else.
 pub fn one_reply_kept()
-    ensures latest { (N : Network) (es : List Event) (n c port : ℕ) (f : Frame) (copy : RequestCopy) →
+    ensures latest { (N : Network) (es : List Event) (n c port : ℕ) (f : Frame)
+        (copy : RequestCopy) →
         IsNetwork N → AllByRecursion IsInRange es →
-        IsCopyAt N (run N (at_first N) es) n c port f copy →
-        greatest copy.heard.source (history N (run N (at_first N) es) c).accepted ≡ copy.index →
-        (kept : Accepted) × (kept_reply copy.heard.source copy.index (history N (run N (at_first N) es) c).accepted ≡ Some kept)
-        × (due_reply (N.clock c) (history N (run N (at_first N) es) c) copy ≡ Some kept.reply) }
+        IsCopyAt N (state_after N es) n c port f copy →
+        greatest copy.heard.source (history N (state_after N es) c).accepted ≡ copy.index →
+        (kept : Accepted) × (kept_reply copy.heard.source copy.index
+        (history N (state_after N es) c).accepted ≡ Some kept)
+        × (due_reply (N.clock c) (history N (state_after N es) c) copy ≡ Some kept.reply) }
     ensures older { (c : Clock) (h : History) (copy : RequestCopy) →
         copy.index < greatest copy.heard.source h.accepted → due_reply c h copy ≡ None }
-    ensures delivered { (N : Network) (w : NetworkState) (n c port : ℕ) (f : Frame) (copy : RequestCopy) →
+    ensures delivered { (N : Network) (w : NetworkState) (n c port : ℕ) (f : Frame)
+        (copy : RequestCopy) →
         IsCopyAt N w n c port f copy →
-        (happens N w (Deliver n)).frames
-        ≡ w.frames ++ reply_frames N c (reply_origin f.origin) (due_messages (N.clock c) copy (due_reply (N.clock c) (history N w c) copy)) }
+        (happens N w (Deliver n)).frames ≡ w.frames ++ reply_frames N c (reply_origin f.origin)
+        (due_messages (N.clock c) copy (due_reply (N.clock c) (history N w c) copy)) }
 {}
 
 /// Strangers change no data set: a stranger's event leaves the history of every clock, its data sets and what it accepted.
 pub fn strangers_change_nothing()
     ensures { (N : Network) (es : List Event) (c port : ℕ) (datagram : List ℕ) (clock : ℕ) →
         IsNetwork N → AllByRecursion IsInRange es → IsInRange (Stranger c port datagram) →
-        history N (step N (run N (at_first N) es) (Stranger c port datagram)) clock ≡ history N (run N (at_first N) es) clock }
+        history N (step N (state_after N es) (Stranger c port datagram)) clock
+        ≡ history N (state_after N es) clock }
 {}
 
 /// Refused SETs change no data set, nor does any other request of which an answer is an error; and what is no numbered copy of
 /// a request leaves all that a clock has.
 pub fn refused_requests_change_no_data()
-    ensures refused { (c : Clock) (h : History) (x : Delivery) (copy : RequestCopy) (r : ReplyValue) (a : Answer) (error : ErrorId) →
+    ensures refused { (c : Clock) (h : History) (x : Delivery) (copy : RequestCopy) (r : ReplyValue)
+        (a : Answer) (error : ErrorId) →
         copy_of c h.sets x ≡ Some copy → due_reply c h copy ≡ Some r →
         Contains r.answers a → a.outcome ≡ Refused error →
         (after c h x).sets ≡ h.sets }
-    ensures no_copy { (c : Clock) (h : History) (x : Delivery) → copy_of c h.sets x ≡ None → after c h x ≡ h }
+    ensures no_copy { (c : Clock) (h : History) (x : Delivery) → copy_of c h.sets x ≡ None
+        → after c h x ≡ h }
 {}

@@ -6,26 +6,26 @@ ghost use Rattle.std.specs.List.{AllByRecursion};
 ghost use Rattle.ptpm_codec.specs.declared.identity.PortIdentity.{PortIdentity};
 ghost use Rattle.ptpm_codec.specs.Layout.{boundary_hops};
 ghost use Rattle.ptpm_agent.specs.Forwarding.{forwarded};
-ghost use Rattle.ptpm_agent.specs.Laws.{StandsAt, fresh, turns};
-ghost use Rattle.ptpm_agent.specs.Once.{Accepted, History, RequestCopy, beginning, copy_of, kept_reply};
+ghost use Rattle.ptpm_agent.specs.Laws.{StandsAt, initial_clock_state, turns};
+ghost use Rattle.ptpm_agent.specs.Once.{Accepted, History, RequestCopy, initial_history, copy_of, kept_reply};
 ghost use Rattle.ptpm_agent.specs.Turn.{Clock, State, turn};
 ghost use Rattle.ptpm_agent.specs.Window.{IsInTime, KeepsWindow};
 ghost use Rattle.ptpm_manager.specs.declared.receiving.Received.TheVariants as received;
 ghost use Rattle.ptpm_manager.specs.declared.report.Report.{Report};
 ghost use Rattle.ptpm_manager.specs.Receiving.{received_of};
 ghost use Rattle.ptpm_network.specs.Events.{Event, IsInRange, frame_at, refusal};
-ghost use Rattle.ptpm_network.specs.Happening.{happened, ran, refused};
+ghost use Rattle.ptpm_network.specs.RunningNetwork.{RunningNetwork, after_turn, initial_network, network_refusal, network_run, network_step};
 ghost use Rattle.ptpm_network.specs.Invariant.{IsReached};
-ghost use Rattle.ptpm_network.specs.Machine.{AreInTime, answer_messages, delivered_at_clock, delivery, happens, is_late_delivery, report_from, run, taken};
+ghost use Rattle.ptpm_network.specs.Machine.{AreInTime, answer_messages, delivered_at_clock, delivery, happens, is_late_delivery, report_from, run, state_after, taken};
 ghost use Rattle.ptpm_network.specs.Network.{AtPort, AtSession, IsNetwork, Network, manager};
-ghost use Rattle.ptpm_network.specs.Stands.{AreFirsts, Running, Stands, after_turn, starting};
-ghost use Rattle.ptpm_network.specs.State.{Frame, NetworkState, accepted_at_target, at_first, greatest_accepted, history, is_late, issued, outcomes_kept, session_value};
+ghost use Rattle.ptpm_network.specs.Stands.{AreFirsts, Stands};
+ghost use Rattle.ptpm_network.specs.State.{Frame, NetworkState, accepted_at_target, greatest_accepted, history, initial_state, is_late, issued, outcomes_kept, session_value};
 
 /// The invariant holds after every list of events, late deliveries among them.
 pub fn every_schedule()
     ensures { (N : Network) (es : List Event) →
         IsNetwork N → AllByRecursion IsInRange es →
-        IsReached N (run N (at_first N) es) }
+        IsReached N (state_after N es) }
 {}
 
 /// One request at a time. After every list of events, late deliveries among them, for each session:
@@ -36,34 +36,37 @@ pub fn every_schedule()
 pub fn one_request_at_a_time()
     ensures accepted_begun { (N : Network) (es : List Event) (s : ℕ) →
         IsNetwork N → AllByRecursion IsInRange es → s < N.sessions →
-        greatest_accepted N (run N (at_first N) es) s ≤ issued (run N (at_first N) es) s }
+        greatest_accepted N (state_after N es) s ≤ issued (state_after N es) s }
     ensures begun_accepted { (N : Network) (es : List Event) (s : ℕ) →
         IsNetwork N → AllByRecursion IsInRange es → s < N.sessions →
-        issued (run N (at_first N) es) s ≤ greatest_accepted N (run N (at_first N) es) s + 1 }
+        issued (state_after N es) s ≤ greatest_accepted N (state_after N es) s + 1 }
     ensures accepted { (N : Network) (es : List Event) (s k : ℕ) →
         IsNetwork N → AllByRecursion IsInRange es → s < N.sessions →
-        ((0 < k) × (k ≤ greatest_accepted N (run N (at_first N) es) s))
-        ↔ ((e : Accepted) × (kept_reply (manager N s) k (accepted_at_target N (run N (at_first N) es) s) ≡ Some e)) }
+        ((0 < k) × (k ≤ greatest_accepted N (state_after N es) s))
+        ↔ ((e : Accepted) × (kept_reply (manager N s) k (accepted_at_target N (state_after N es) s)
+        ≡ Some e)) }
     ensures reported_begun { (N : Network) (es : List Event) (s : ℕ) →
         IsNetwork N → AllByRecursion IsInRange es → s < N.sessions →
-        length ((run N (at_first N) es).session s).reports ≤ issued (run N (at_first N) es) s }
+        length ((state_after N es).session s).reports ≤ issued (state_after N es) s }
     ensures begun_reported { (N : Network) (es : List Event) (s : ℕ) →
         IsNetwork N → AllByRecursion IsInRange es → s < N.sessions →
-        issued (run N (at_first N) es) s ≤ length ((run N (at_first N) es).session s).reports + 1 }
+        issued (state_after N es) s ≤ length ((state_after N es).session s).reports + 1 }
     ensures reports { (N : Network) (es : List Event) (s : ℕ) →
         IsNetwork N → AllByRecursion IsInRange es → s < N.sessions →
-        ((run N (at_first N) es).session s).reports
-        ≡ outcomes_kept (manager N s) (accepted_at_target N (run N (at_first N) es) s) (length ((run N (at_first N) es).session s).reports) }
+        ((state_after N es).session s).reports
+        ≡ outcomes_kept (manager N s) (accepted_at_target N (state_after N es) s)
+        (length ((state_after N es).session s).reports) }
 {}
 
 /// A frame's boundaryHops are those that it was first sent with, less its forwardings, which are never more than those.
 pub fn hops_lost()
     ensures hops { (N : Network) (es : List Event) (n : ℕ) (f : Frame) →
         IsNetwork N → AllByRecursion IsInRange es →
-        frame_at (run N (at_first N) es).frames n ≡ Some f → boundary_hops f.octets ≡ f.first_hops - f.forwardings }
+        frame_at (state_after N es).frames n ≡ Some f
+        → boundary_hops f.octets ≡ f.first_hops - f.forwardings }
     ensures forwardings { (N : Network) (es : List Event) (n : ℕ) (f : Frame) →
         IsNetwork N → AllByRecursion IsInRange es →
-        frame_at (run N (at_first N) es).frames n ≡ Some f → f.forwardings ≤ f.first_hops }
+        frame_at (state_after N es).frames n ≡ Some f → f.forwardings ≤ f.first_hops }
 {}
 
 /// An event makes at most 225 frames: at most 15 messages leave a clock in a turn, seven copies that are passed on and eight
@@ -71,10 +74,10 @@ pub fn hops_lost()
 pub fn at_most_225_frames()
     ensures event { (N : Network) (es : List Event) (e : Event) →
         IsNetwork N → AllByRecursion IsInRange es →
-        IsInRange e → refusal N (run N (at_first N) es) e ≡ None →
-        length (happens N (run N (at_first N) es) e).frames ≤ length (run N (at_first N) es).frames + 225 }
+        IsInRange e → refusal N (state_after N es) e ≡ None →
+        length (happens N (state_after N es) e).frames ≤ length (state_after N es).frames + 225 }
     ensures ever { (N : Network) (es : List Event) →
-        IsNetwork N → AllByRecursion IsInRange es → length (run N (at_first N) es).frames ≤ 400000 }
+        IsNetwork N → AllByRecursion IsInRange es → length (state_after N es).frames ≤ 400000 }
 {}
 
 /// The window of 65,536 sequenceIds in which a clock tells new requests from old is never left:
@@ -83,43 +86,54 @@ pub fn at_most_225_frames()
 /// - then a clock that takes its turn at each of them has the data sets after its managers' accepted requests, each applied
 ///   once, in order of first acceptance.
 pub fn in_the_window()
-    ensures copy { (N : Network) (es : List Event) (first : PortIdentity → ℕ) (n c port : ℕ) (f : Frame) (copy : RequestCopy) →
+    ensures copy { (N : Network) (es : List Event) (first : PortIdentity → ℕ) (n c port : ℕ)
+        (f : Frame) (copy : RequestCopy) →
         IsNetwork N → AllByRecursion IsInRange es →
         AreFirsts N first →
-        frame_at (run N (at_first N) es).frames n ≡ Some f → f.end ≡ AtPort c port → is_late (run N (at_first N) es) f.origin ≡ false →
-        copy_of (N.clock c) (history N (run N (at_first N) es) c).sets (delivery port f) ≡ Some copy →
-        IsInTime first (history N (run N (at_first N) es) c) copy }
+        frame_at (state_after N es).frames n ≡ Some f → f.end ≡ AtPort c port
+        → is_late (state_after N es) f.origin ≡ false →
+        copy_of (N.clock c) (history N (state_after N es) c).sets (delivery port f) ≡ Some copy →
+        IsInTime first (history N (state_after N es) c) copy }
     ensures arrivals { (N : Network) (es : List Event) (first : PortIdentity → ℕ) (c : ℕ) →
         IsNetwork N → AllByRecursion IsInRange es →
         AreFirsts N first →
-        AreInTime N (at_first N) es → c < N.clocks →
-        KeepsWindow (N.clock c) first (beginning (N.start c)) ((run N (at_first N) es).arrivals c) }
+        AreInTime N (initial_state N) es → c < N.clocks →
+        KeepsWindow (N.clock c) first (initial_history (N.start c))
+        ((state_after N es).arrivals c) }
     ensures sets { (N : Network) (es : List Event) (first : PortIdentity → ℕ) (c : ℕ) →
         IsNetwork N → AllByRecursion IsInRange es →
         AreFirsts N first →
-        AreInTime N (at_first N) es → c < N.clocks →
-        (turns (N.clock c) (fresh (N.start c)) ((run N (at_first N) es).arrivals c)).sets ≡ (history N (run N (at_first N) es) c).sets }
+        AreInTime N (initial_state N) es → c < N.clocks →
+        (turns (N.clock c) (initial_clock_state (N.start c)) ((state_after N es).arrivals c)).sets
+        ≡ (history N (state_after N es) c).sets }
 {}
 
 /// What a clock sends in one turn, where it stands at its history and the copy is in its window, is what the machine makes
 /// frames of: the copies that are passed on, and the reply that is due to a numbered copy, or what any other request reads.
 pub fn outbox_of_turns()
-    ensures forwards { (c : Clock) (first : PortIdentity → ℕ) (s : State) (h : History) (ingress : ℕ) (f : Frame) → StandsAt first s h →
+    ensures forwards { (c : Clock) (first : PortIdentity → ℕ) (s : State) (h : History)
+        (ingress : ℕ) (f : Frame) → StandsAt first s h →
         (turn c s ingress f.octets).forwards ≡ forwarded c.identity ingress h.sets f.octets }
-    ensures replies { (c : Clock) (first : PortIdentity → ℕ) (s : State) (h : History) (ingress : ℕ) (f : Frame) → StandsAt first s h →
+    ensures replies { (c : Clock) (first : PortIdentity → ℕ) (s : State) (h : History) (ingress : ℕ)
+        (f : Frame) → StandsAt first s h →
         ((k : RequestCopy) → copy_of c h.sets (delivery ingress f) ≡ Some k → IsInTime first h k) →
-        (turn c s ingress f.octets).replies ≡ answer_messages c h ingress f.octets (copy_of c h.sets (delivery ingress f)) }
+        (turn c s ingress f.octets).replies
+        ≡ answer_messages c h ingress f.octets (copy_of c h.sets (delivery ingress f)) }
 {}
 
 /// A running network, whose clocks tell requests apart by sequenceIds, stands where the machine stands: as both start, and,
 /// where it stood there before, after a clock's turn at a frame that is not late.
 pub fn clocks_stand()
-    ensures first { (N : Network) (first : PortIdentity → ℕ) → Stands N first (starting N) (at_first N) }
-    ensures turned { (N : Network) (es : List Event) (first : PortIdentity → ℕ) (r : Running) (n c ingress : ℕ) (f : Frame) →
+    ensures first { (N : Network) (first : PortIdentity → ℕ)
+        → Stands N first (initial_network N) (initial_state N) }
+    ensures turned { (N : Network) (es : List Event) (first : PortIdentity → ℕ) (r : RunningNetwork)
+        (n c ingress : ℕ) (f : Frame) →
         IsNetwork N → AllByRecursion IsInRange es →
-        AreFirsts N first → Stands N first r (run N (at_first N) es) →
-        frame_at (run N (at_first N) es).frames n ≡ Some f → f.end ≡ AtPort c ingress → is_late (run N (at_first N) es) f.origin ≡ false →
-        Stands N first (after_turn N r c ingress f) (delivered_at_clock N (run N (at_first N) es) c ingress f) }
+        AreFirsts N first → Stands N first r (state_after N es) →
+        frame_at (state_after N es).frames n ≡ Some f → f.end ≡ AtPort c ingress
+        → is_late (state_after N es) f.origin ≡ false →
+        Stands N first (after_turn N r c ingress f)
+        (delivered_at_clock N (state_after N es) c ingress f) }
 {}
 
 /// A session takes a frame that is not late for the answer to its request, by the octets of the frame, exactly where the frame
@@ -127,9 +141,11 @@ pub fn clocks_stand()
 pub fn answers_by_octets()
     ensures { (N : Network) (es : List Event) (n s : ℕ) (f : Frame) (report : Report) →
         IsNetwork N → AllByRecursion IsInRange es →
-        frame_at (run N (at_first N) es).frames n ≡ Some f → f.end ≡ AtSession s → is_late (run N (at_first N) es) f.origin ≡ false →
-        (report_from s ((run N (at_first N) es).session s) f ≡ Some report)
-        ↔ (received_of (session_value (N.session s) ((run N (at_first N) es).session s)) f.octets ≡ received.Answered report) }
+        frame_at (state_after N es).frames n ≡ Some f → f.end ≡ AtSession s
+        → is_late (state_after N es) f.origin ≡ false →
+        (report_from s ((state_after N es).session s) f ≡ Some report)
+        ↔ (received_of (session_value (N.session s) ((state_after N es).session s)) f.octets
+        ≡ received.Answered report) }
 {}
 
 /// What is taken of a list of events is all before the first that is refused. It is the whole list where none of it is refused
@@ -137,14 +153,16 @@ pub fn answers_by_octets()
 /// first and what is taken of the second, where the first is taken whole.
 pub fn events_taken()
     ensures whole { (N : Network) (w : NetworkState) (es : List Event) →
-        ((front rest : List Event) (e : Event) → es ≡ front ++ e ∷ rest → refusal N (run N w front) e ≡ None) →
+        ((front rest : List Event) (e : Event) → es ≡ front ++ e ∷ rest
+        → refusal N (run N w front) e ≡ None) →
         taken N w es ≡ es }
     ensures in_range { (N : Network) (w : NetworkState) (es : List Event) →
         AllByRecursion IsInRange es → AllByRecursion IsInRange (taken N w es) }
     ensures in_time { (N : Network) (w : NetworkState) (es : List Event) →
         AreInTime N w es → AreInTime N w (taken N w es) }
     ensures appended { (N : Network) (w : NetworkState) (front rest : List Event) →
-        taken N w front ≡ front → taken N w (front ++ rest) ≡ front ++ taken N (run N w front) rest }
+        taken N w front ≡ front → taken N w (front ++ rest)
+        ≡ front ++ taken N (run N w front) rest }
 {}
 
 /// Two lists of events, one after another, lead where the second leads from where the first does; and no delivery of both is
@@ -163,18 +181,24 @@ pub fn events_appended()
 /// - so, from any such state, it goes through the events up to the first that is refused, and stands where they lead the
 ///   machine, if none of these delivers a frame late.
 pub fn running_networks_stand()
-    ensures refused { (N : Network) (es : List Event) (first : PortIdentity → ℕ) (r : Running) (e : Event) →
+    ensures refused { (N : Network) (es : List Event) (first : PortIdentity → ℕ)
+        (r : RunningNetwork) (e : Event) →
         IsNetwork N → AllByRecursion IsInRange es →
-        Stands N first r (run N (at_first N) es) →
-        refused N r e ≡ refusal N (run N (at_first N) es) e }
-    ensures happened { (N : Network) (es : List Event) (first : PortIdentity → ℕ) (r : Running) (e : Event) →
+        Stands N first r (state_after N es) →
+        network_refusal N r e ≡ refusal N (state_after N es) e }
+    ensures happened { (N : Network) (es : List Event) (first : PortIdentity → ℕ)
+        (r : RunningNetwork) (e : Event) →
         IsNetwork N → AllByRecursion IsInRange es →
-        AreFirsts N first → Stands N first r (run N (at_first N) es) →
-        IsInRange e → refusal N (run N (at_first N) es) e ≡ None → is_late_delivery (run N (at_first N) es) e ≡ false →
-        Stands N first (happened N r e) (happens N (run N (at_first N) es) e) }
-    ensures every { (N : Network) (past es : List Event) (first : PortIdentity → ℕ) (r : Running) →
+        AreFirsts N first → Stands N first r (state_after N es) →
+        IsInRange e → refusal N (state_after N es) e ≡ None
+        → is_late_delivery (state_after N es) e ≡ false →
+        Stands N first (network_step N r e) (happens N (state_after N es) e) }
+    ensures every { (N : Network) (past es : List Event) (first : PortIdentity → ℕ)
+        (r : RunningNetwork) →
         IsNetwork N → AllByRecursion IsInRange past →
-        AreFirsts N first → Stands N first r (run N (at_first N) past) →
-        AllByRecursion IsInRange es → AreInTime N (run N (at_first N) past) (taken N (run N (at_first N) past) es) →
-        Stands N first (ran N r es) (run N (at_first N) (past ++ taken N (run N (at_first N) past) es)) }
+        AreFirsts N first → Stands N first r (state_after N past) →
+        AllByRecursion IsInRange es
+        → AreInTime N (state_after N past) (taken N (state_after N past) es) →
+        Stands N first (network_run N r es)
+        (state_after N (past ++ taken N (state_after N past) es)) }
 {}

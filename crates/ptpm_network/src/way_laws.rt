@@ -8,10 +8,11 @@ ghost use Rattle.ptpm_codec.specs.Layout.{domain_number};
 ghost use Rattle.ptpm_network.specs.Events.{Deliver, Event, IsInRange, Send, frame_at, frames_limit, refusal};
 ghost use Rattle.ptpm_network.specs.Exchange.{HasReplied, HasReported, HasRoom, IsHeardBy};
 ghost use Rattle.ptpm_network.specs.Headline.{StandsAfter};
-ghost use Rattle.ptpm_network.specs.Machine.{AreInTime, run, step, taken};
+ghost use Rattle.ptpm_network.specs.Machine.{AreInTime, state_after, step, taken};
 ghost use Rattle.ptpm_network.specs.Network.{AtPort, AtSession, IsNetwork, Network};
-ghost use Rattle.ptpm_network.specs.Stands.{AreFirsts, Running, Stands};
-ghost use Rattle.ptpm_network.specs.State.{Frame, NetworkState, ReplyTo, RequestOf, at_first, is_idle, is_late, issued};
+ghost use Rattle.ptpm_network.specs.RunningNetwork.{RunningNetwork};
+ghost use Rattle.ptpm_network.specs.Stands.{AreFirsts, Stands};
+ghost use Rattle.ptpm_network.specs.State.{Frame, NetworkState, ReplyTo, RequestOf, is_idle, is_late, issued};
 ghost use Rattle.ptpm_network.specs.Way.{Hop, IsAnswerable, IsWay, LinksHaveAtMost, RunsToReport, handed_in, made_each_way};
 
 /// One copy each way suffices. After every list of events, for the last request that a session has begun:
@@ -22,22 +23,24 @@ ghost use Rattle.ptpm_network.specs.Way.{Hop, IsAnswerable, IsWay, LinksHaveAtMo
 ///   reported then, and the session waits for nothing after it.
 pub fn one_copy_each_way()
     ensures in_time { (w : NetworkState) (s : ℕ) →
-        (is_late w (RequestOf s (issued w s)) ≡ false) × (is_late w (ReplyTo s (issued w s)) ≡ false) }
+        (is_late w (RequestOf s (issued w s)) ≡ false)
+        × (is_late w (ReplyTo s (issued w s)) ≡ false) }
     ensures taken { (N : Network) (w : NetworkState) (n : ℕ) (f : Frame) →
         frame_at w.frames n ≡ Some f → HasRoom w → refusal N w (Deliver n) ≡ None }
     ensures request { (N : Network) (es : List Event) (n s port : ℕ) (f : Frame) →
         IsNetwork N → AllByRecursion IsInRange es → s < N.sessions →
-        frame_at (run N (at_first N) es).frames n ≡ Some f → f.end ≡ AtPort (N.session s).target port →
-        f.origin ≡ RequestOf s (issued (run N (at_first N) es) s) →
-        IsHeardBy N (run N (at_first N) es) s f.octets → HasRoom (run N (at_first N) es) →
-        HasReplied N (run N (at_first N) es) (step N (run N (at_first N) es) (Deliver n)) s port f.octets }
+        frame_at (state_after N es).frames n ≡ Some f → f.end ≡ AtPort (N.session s).target port →
+        f.origin ≡ RequestOf s (issued (state_after N es) s) →
+        IsHeardBy N (state_after N es) s f.octets → HasRoom (state_after N es) →
+        HasReplied N (state_after N es) (step N (state_after N es) (Deliver n)) s port f.octets }
     ensures reply { (N : Network) (es : List Event) (n s : ℕ) (f : Frame) →
         IsNetwork N → AllByRecursion IsInRange es → s < N.sessions →
-        frame_at (run N (at_first N) es).frames n ≡ Some f → f.end ≡ AtSession s →
-        f.origin ≡ ReplyTo s (issued (run N (at_first N) es) s) →
-        is_idle ((run N (at_first N) es).session s) ≡ false →
-        domain_number f.octets ≡ ((run N (at_first N) es).session s).domain → HasRoom (run N (at_first N) es) →
-        HasReported (run N (at_first N) es) (step N (run N (at_first N) es) (Deliver n)) s }
+        frame_at (state_after N es).frames n ≡ Some f → f.end ≡ AtSession s →
+        f.origin ≡ ReplyTo s (issued (state_after N es) s) →
+        is_idle ((state_after N es).session s) ≡ false →
+        domain_number f.octets ≡ ((state_after N es).session s).domain
+        → HasRoom (state_after N es) →
+        HasReported (state_after N es) (step N (state_after N es) (Deliver n)) s }
 {}
 
 /// Nothing deadlocks. After every list of events, late deliveries among them: where a session waits for a report and may send
@@ -48,11 +51,13 @@ pub fn one_copy_each_way()
 pub fn answerable_along_a_way()
     ensures answered { (N : Network) (es : List Event) (s : ℕ) (hops : List Hop) (port ends : ℕ) →
         IsNetwork N → AllByRecursion IsInRange es → s < N.sessions →
-        is_idle ((run N (at_first N) es).session s) ≡ false → 0 < ((run N (at_first N) es).session s).attempts_left →
-        IsWay N (run N (at_first N) es) s hops port → LinksHaveAtMost N ends →
-        length (run N (at_first N) es).frames + made_each_way ends hops ≤ frames_limit →
-        IsAnswerable N (run N (at_first N) es) s hops port }
-    ensures runs { (N : Network) (w : NetworkState) (s : ℕ) (hops : List Hop) (port : ℕ) (a : IsAnswerable N w s hops port) →
+        is_idle ((state_after N es).session s) ≡ false
+        → 0 < ((state_after N es).session s).attempts_left →
+        IsWay N (state_after N es) s hops port → LinksHaveAtMost N ends →
+        length (state_after N es).frames + made_each_way ends hops ≤ frames_limit →
+        IsAnswerable N (state_after N es) s hops port }
+    ensures runs { (N : Network) (w : NetworkState) (s : ℕ) (hops : List Hop) (port : ℕ)
+        (a : IsAnswerable N w s hops port) →
         AllByRecursion IsInRange (Send s ∷ handed_in a.deliveries)
         × (taken N w (Send s ∷ handed_in a.deliveries) ≡ Send s ∷ handed_in a.deliveries)
         × AreInTime N w (Send s ∷ handed_in a.deliveries) }
@@ -62,17 +67,21 @@ pub fn answerable_along_a_way()
 /// at a state that the machine reaches, so after any events of which none delivered a frame late, and a request can be answered
 /// along a way, it is.
 pub fn running_networks_answer()
-    ensures answered { (N : Network) (es : List Event) (first : PortIdentity → ℕ) (r : Running) (s : ℕ) (hops : List Hop) (port ends : ℕ) →
+    ensures answered { (N : Network) (es : List Event) (first : PortIdentity → ℕ)
+        (r : RunningNetwork) (s : ℕ) (hops : List Hop) (port ends : ℕ) →
         IsNetwork N → AllByRecursion IsInRange es →
-        AreFirsts N first → Stands N first r (run N (at_first N) es) → s < N.sessions →
-        is_idle ((run N (at_first N) es).session s) ≡ false → 0 < ((run N (at_first N) es).session s).attempts_left →
-        IsWay N (run N (at_first N) es) s hops port → LinksHaveAtMost N ends →
-        length (run N (at_first N) es).frames + made_each_way ends hops ≤ frames_limit →
+        AreFirsts N first → Stands N first r (state_after N es) → s < N.sessions →
+        is_idle ((state_after N es).session s) ≡ false
+        → 0 < ((state_after N es).session s).attempts_left →
+        IsWay N (state_after N es) s hops port → LinksHaveAtMost N ends →
+        length (state_after N es).frames + made_each_way ends hops ≤ frames_limit →
         RunsToReport N r s hops port }
-    ensures after { (N : Network) (past : List Event) (r : Running) (s : ℕ) (hops : List Hop) (port ends : ℕ) →
+    ensures after { (N : Network) (past : List Event) (r : RunningNetwork) (s : ℕ)
+        (hops : List Hop) (port ends : ℕ) →
         StandsAfter N past r → s < N.sessions →
-        is_idle ((run N (at_first N) past).session s) ≡ false → 0 < ((run N (at_first N) past).session s).attempts_left →
-        IsWay N (run N (at_first N) past) s hops port → LinksHaveAtMost N ends →
-        length (run N (at_first N) past).frames + made_each_way ends hops ≤ frames_limit →
+        is_idle ((state_after N past).session s) ≡ false
+        → 0 < ((state_after N past).session s).attempts_left →
+        IsWay N (state_after N past) s hops port → LinksHaveAtMost N ends →
+        length (state_after N past).frames + made_each_way ends hops ≤ frames_limit →
         RunsToReport N r s hops port }
 {}

@@ -8,10 +8,10 @@ ghost use Rattle.ptpm_manager.specs.declared.error.BeginError.TheVariants as beg
 ghost use Rattle.ptpm_manager.specs.declared.report.Report.{Report};
 ghost use Rattle.ptpm_network.specs.Events.{Begin, BeginRefused, Event, IsInRange, refusal};
 ghost use Rattle.ptpm_network.specs.Headline.{StandsAfter};
-ghost use Rattle.ptpm_network.specs.Machine.{run};
+ghost use Rattle.ptpm_network.specs.Machine.{state_after};
 ghost use Rattle.ptpm_network.specs.Network.{IsNetwork, Network};
-ghost use Rattle.ptpm_network.specs.Stands.{Running};
-ghost use Rattle.ptpm_network.specs.State.{at_first, history, issued};
+ghost use Rattle.ptpm_network.specs.RunningNetwork.{RunningNetwork};
+ghost use Rattle.ptpm_network.specs.State.{history, issued};
 ghost use Rattle.ptpm_network.specs.Worth.{IsWorth, entries_of};
 
 /// What is reported was carried out exactly once. After every list of events, late deliveries among them:
@@ -23,20 +23,21 @@ ghost use Rattle.ptpm_network.specs.Worth.{IsWorth, entries_of};
 pub fn reported_exactly_once()
     ensures in_order { (N : Network) (es : List Event) (s i : ℕ) (r : Report) →
         IsNetwork N → AllByRecursion IsInRange es → s < N.sessions →
-        slice_get ((run N (at_first N) es).session s).reports i ≡ Some r → r.index ≡ i + 1 }
+        slice_get ((state_after N es).session s).reports i ≡ Some r → r.index ≡ i + 1 }
     ensures worth { (N : Network) (es : List Event) (s i : ℕ) (r : Report) →
         IsNetwork N → AllByRecursion IsInRange es → s < N.sessions →
-        slice_get ((run N (at_first N) es).session s).reports i ≡ Some r → IsWorth N (run N (at_first N) es) s r }
+        slice_get ((state_after N es).session s).reports i ≡ Some r
+        → IsWorth N (state_after N es) s r }
     ensures at_most_once { (N : Network) (es : List Event) (c : ℕ) (m : PortIdentity) (k : ℕ) →
-        length (entries_of m k (history N (run N (at_first N) es) c).accepted) ≤ 1 }
+        length (entries_of m k (history N (state_after N es) c).accepted) ≤ 1 }
     ensures last { (N : Network) (es : List Event) (s k : ℕ) →
         IsNetwork N → AllByRecursion IsInRange es → s < N.sessions →
-        length ((run N (at_first N) es).session s).reports < k → k ≤ issued (run N (at_first N) es) s →
-        k ≡ issued (run N (at_first N) es) s }
+        length ((state_after N es).session s).reports < k → k ≤ issued (state_after N es) s →
+        k ≡ issued (state_after N es) s }
     ensures busy { (N : Network) (es : List Event) (s : ℕ) (a : Ask) →
         s < N.sessions →
-        length ((run N (at_first N) es).session s).reports < issued (run N (at_first N) es) s →
-        refusal N (run N (at_first N) es) (Begin s a) ≡ Some (BeginRefused begins.Busy) }
+        length ((state_after N es).session s).reports < issued (state_after N es) s →
+        refusal N (state_after N es) (Begin s a) ≡ Some (BeginRefused begins.Busy) }
 {}
 
 /// A network that runs, whose clocks and sessions tell requests apart by sequenceIds and octets, reports no less. Wherever it
@@ -45,9 +46,12 @@ pub fn reported_exactly_once()
 /// - each is worth what it is in the machine: its request was carried out exactly once, and the report tells the one answer that
 ///   the clock made then.
 pub fn running_networks_report()
-    ensures in_order { (N : Network) (past : List Event) (r : Running) (s i : ℕ) (report : Report) →
-        StandsAfter N past r → s < N.sessions → slice_get (r.reports s) i ≡ Some report → report.index ≡ i + 1 }
-    ensures worth { (N : Network) (past : List Event) (r : Running) (s i : ℕ) (report : Report) →
+    ensures in_order { (N : Network) (past : List Event) (r : RunningNetwork) (s i : ℕ)
+        (report : Report) →
+        StandsAfter N past r → s < N.sessions → slice_get (r.reports s) i ≡ Some report
+        → report.index ≡ i + 1 }
+    ensures worth { (N : Network) (past : List Event) (r : RunningNetwork) (s i : ℕ)
+        (report : Report) →
         StandsAfter N past r → s < N.sessions → slice_get (r.reports s) i ≡ Some report →
-        IsWorth N (run N (at_first N) past) s report }
+        IsWorth N (state_after N past) s report }
 {}

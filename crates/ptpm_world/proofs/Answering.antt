@@ -3,9 +3,8 @@ use Rattle.std.proofs.lemmas.Bool.{ne_eqb, true≢false}
 use Rattle.std.proofs.Common.{◌≡◌, ◌≢◌, ℕ, false, None, Some, Ok, Err, Result, refl, sym, ap, ◌∙◌}
 use Rattle.std.specs.Prelude.{IfErr, IfOk, OnErr, OnOk, Option, option_map}
 use Rattle.ptpm_network.specs.Events.{Event, Refusal}
-use Rattle.ptpm_network.specs.Happening.{happened, refused}
+use Rattle.ptpm_network.specs.RunningNetwork.{RunningNetwork, network_refusal, network_step}
 use Rattle.ptpm_network.specs.Network.{Network}
-use Rattle.ptpm_network.specs.Stands.{Running}
 use Rattle.ptpm_world.specs.declared.took.StepError.{StepError}
 use Rattle.ptpm_world.specs.declared.took.StepError.TheVariants.{OutOfMemory}
 use Rattle.ptpm_world.specs.declared.took.Took.{Took}
@@ -22,19 +21,19 @@ some_is : (a b : StepError) → Some a ≡ Some b → b ≡ a
 some_is a b h = cc
 
 -- a refusal that is there, and its name
-named : (N : Network) (r : Running) (e : Event) (why : Option Refusal) (x : StepError) → option_map error_of why ≡ Some x
+named : (N : Network) (r : RunningNetwork) (e : Event) (why : Option Refusal) (x : StepError) → option_map error_of why ≡ Some x
     → (Err x ≡ answer_by why N r e) × (r ≡ after_by why N r e)
 named N r e None x h = absurd (cc)
 named N r e (Some y) x h = (ap Err (some_is (error_of y) x h), refl)
 
-pub answered : (N : Network) (r next : Running) (e : Event) (result : Result Took StepError) → is_out_of_memory result ≡ false
-    → OnOk result (next ≡ happened N r e) → IfOk result (λ t. t ≡ took N r e) → OnOk result (refused N r e ≡ None)
-    → IfErr result (λ x. x ≢ OutOfMemory → option_map error_of (refused N r e) ≡ Some x) → OnErr result (next ≡ r)
+pub answered : (N : Network) (r next : RunningNetwork) (e : Event) (result : Result Took StepError) → is_out_of_memory result ≡ false
+    → OnOk result (next ≡ network_step N r e) → IfOk result (λ t. t ≡ took N r e) → OnOk result (network_refusal N r e ≡ None)
+    → IfErr result (λ x. x ≢ OutOfMemory → option_map error_of (network_refusal N r e) ≡ Some x) → OnErr result (next ≡ r)
     → (result ≡ answer N r e) × (next ≡ after N r e)
 answered N r next e (Ok t) memory goes is permitted why same =
     (ap Ok is ∙ ap (λ w. answer_by w N r e) (sym permitted), goes ∙ ap (λ w. after_by w N r e) (sym permitted))
 answered N r next e (Err x) memory goes is permitted why same =
-    let both = named N r e (refused N r e) x (why (λ o. true≢false (sym (ap (λ y. is_out_of_memory (Err y)) o) ∙ memory))) in
+    let both = named N r e (network_refusal N r e) x (why (λ o. true≢false (sym (ap (λ y. is_out_of_memory (Err y)) o) ∙ memory))) in
     (both.0, same ∙ both.1)
 
 -- ---- managementErrorIds

@@ -6,7 +6,7 @@ use Rattle.ptpm_manager.specs.declared.report.Report.{Report}
 use Rattle.ptpm_manager.specs.Session.{SessionValue}
 use Rattle.ptpm_network.specs.Machine.{with_place}
 use Rattle.ptpm_network.specs.Network.{Network}
-use Rattle.ptpm_network.specs.Stands.{Held, Running}
+use Rattle.ptpm_network.specs.RunningNetwork.{Held, RunningNetwork}
 use Rattle.ptpm_world.specs.declared.world.World.{World}
 use Rattle.ptpm_world.specs.declared.world.RunningClock.{RunningClock}
 use Rattle.ptpm_world.specs.declared.world.RunningSession.{RunningSession}
@@ -16,12 +16,12 @@ use Rattle.ptpm_world.specs.Running.{IsClockOf, IsOf, IsSessionOf, agent_clock, 
 use Rattle.ptpm_world.proofs.Places.{each-set, map-set_same, read-kept, read-set}
 
 -- a world is a running network where each part is
-pub seen_as : (w : World) (r : Running) → ((c : ℕ) → state_of (slice_get w.clocks.items c) ≡ r.clock c) → ((s : ℕ) → session_of (slice_get w.sessions.items s) ≡ r.session s)
+pub seen_as : (w : World) (r : RunningNetwork) → ((c : ℕ) → state_of (slice_get w.clocks.items c) ≡ r.clock c) → ((s : ℕ) → session_of (slice_get w.sessions.items s) ≡ r.session s)
     → ((s : ℕ) → reports_of (slice_get w.sessions.items s) ≡ r.reports s) → held_in w.frames ≡ r.frames → running w ≡ r
 seen_as w r clocks sessions reports frames = λ i. record { clock = λ c. clocks c i; session = λ s. sessions s i; reports = λ s. reports s i; frames = frames i }
 
 -- what is seen of these clocks, sessions and frames
-abbrev pub running_by : List RunningClock → List RunningSession → List Held → Running
+abbrev pub running_by : List RunningClock → List RunningSession → List Held → RunningNetwork
 running_by clocks sessions frames = record {
   clock = λ c. state_of (slice_get clocks c);
   session = λ s. session_of (slice_get sessions s);

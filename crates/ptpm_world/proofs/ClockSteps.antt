@@ -9,14 +9,13 @@ use Rattle.ptpm_agent.specs.Agent.{IsTurned}
 use Rattle.ptpm_agent.specs.declared.verdict.Verdict.{Verdict}
 use Rattle.ptpm_agent.specs.Turn.{Clock, State, Turned, turn}
 use Rattle.ptpm_network.specs.Events.{Deliver, Stranger, NoSuchName, NoSuchFrame, Forged, FramesAtMaximum, frames_limit, frame_at, is_forged, no_port}
-use Rattle.ptpm_network.specs.Happening.{happened, reaches, reaches_end, seen}
+use Rattle.ptpm_network.specs.RunningNetwork.{Held, RunningNetwork, after_turn, held, network_step, reaches, reaches_end, seen, turn_frames}
 use Rattle.ptpm_network.specs.Machine.{strange_frame}
 use Rattle.ptpm_network.specs.Network.{AtPort, End, Network}
 use Rattle.ptpm_network.specs.Replying.{origin_by, posted_by}
-use Rattle.ptpm_network.specs.Stands.{Held, Running, after_turn, held, turn_frames}
 use Rattle.ptpm_network.specs.State.{Frame, Origin, Neither}
 use Rattle.ptpm_network.proofs.Posting.{held-turn_frames}
-use Rattle.ptpm_network.proofs.TurnKeeps.{turn-ports}
+use Rattle.ptpm_agent.proofs.TurnKeeps.{turn-ports}
 use Rattle.ptpm_world.specs.declared.took.StepError.TheVariants as errors
 use Rattle.ptpm_world.specs.declared.took.Took.TheVariants.{AtClock}
 use Rattle.ptpm_world.specs.declared.world.World.{World}
@@ -78,11 +77,11 @@ turned_same new mid old some links c port passed reply sent out e m l o =
 
 -- ---- a frame comes in
 
-deliver-goes : (N : Network) (r : Running) (n c port : ℕ) (h : Held) → frame_at r.frames n ≡ Some h → h.end ≡ AtPort c port → after_turn N r c port (seen h) ≡ happened N r (Deliver n)
-unfolding happened
+deliver-goes : (N : Network) (r : RunningNetwork) (n c port : ℕ) (h : Held) → frame_at r.frames n ≡ Some h → h.end ≡ AtPort c port → after_turn N r c port (seen h) ≡ network_step N r (Deliver n)
+unfolding network_step
 deliver-goes N r n c port h e at = sym (ap (reaches_end N r) e ∙ ap (reaches N r h) at)
 
-deliver-tells : (N : Network) (r : Running) (n c port : ℕ) (h : Held) → frame_at r.frames n ≡ Some h → h.end ≡ AtPort c port → took_at N r h.octets (AtPort c port) ≡ took N r (Deliver n)
+deliver-tells : (N : Network) (r : RunningNetwork) (n c port : ℕ) (h : Held) → frame_at r.frames n ≡ Some h → h.end ≡ AtPort c port → took_at N r h.octets (AtPort c port) ≡ took N r (Deliver n)
 unfolding took
 deliver-tells N r n c port h e at = sym (ap (took_of N r) e ∙ ap (took_at N r h.octets) at)
 
@@ -125,11 +124,11 @@ clock_lacking N w c port is e =
     let past : N.clocks ≤ c = subst (λ n. n ≤ c) (e ∙ is.clock_count) (le_refl c) in
     cond-true _ _ _ (ap not (and_left (nat_lt c N.clocks) (has_port port (N.start c)) (le-ltb c N.clocks past)))
 
-stranger-goes : (N : Network) (r : Running) (c port : ℕ) (datagram : List ℕ) → after_turn N r c port (strange_frame c port datagram) ≡ happened N r (Stranger c port datagram)
-unfolding happened
+stranger-goes : (N : Network) (r : RunningNetwork) (c port : ℕ) (datagram : List ℕ) → after_turn N r c port (strange_frame c port datagram) ≡ network_step N r (Stranger c port datagram)
+unfolding network_step
 stranger-goes N r c port datagram = refl
 
-stranger-tells : (N : Network) (r : Running) (c port : ℕ) (datagram : List ℕ) → took_at N r datagram (AtPort c port) ≡ took N r (Stranger c port datagram)
+stranger-tells : (N : Network) (r : RunningNetwork) (c port : ℕ) (datagram : List ℕ) → took_at N r datagram (AtPort c port) ≡ took N r (Stranger c port datagram)
 unfolding took
 stranger-tells N r c port datagram = refl
 

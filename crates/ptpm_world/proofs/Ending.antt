@@ -1,7 +1,7 @@
 -- How a step ends: the event happened, was refused, or memory was.
 use Rattle.std.proofs.Common.{◌≡◌, Some, None, Ok, Err, Result, refl, sym, subst, ap, option_map}
 use Rattle.ptpm_network.specs.Events.{Event, Refusal}
-use Rattle.ptpm_network.specs.Happening.{happened, refused}
+use Rattle.ptpm_network.specs.RunningNetwork.{network_refusal, network_step}
 use Rattle.ptpm_network.specs.Network.{Network}
 use Rattle.ptpm_world.specs.declared.took.StepError.{StepError}
 use Rattle.ptpm_world.specs.declared.took.StepError.TheVariants as errors
@@ -11,10 +11,10 @@ use Rattle.ptpm_world.specs.Running.{IsOf, running}
 use Rattle.ptpm_world.specs.Stepping.{IsStep}
 use Rattle.ptpm_world.specs.Took.{error_of, took}
 
-pub step_fine : (N : Network) (old new : World) (e : Event) (t : Took) → running new ≡ happened N (running old) e → t ≡ took N (running old) e → refused N (running old) e ≡ None → IsOf N new → IsStep N old new e (Ok t)
+pub step_fine : (N : Network) (old new : World) (e : Event) (t : Took) → running new ≡ network_step N (running old) e → t ≡ took N (running old) e → network_refusal N (running old) e ≡ None → IsOf N new → IsStep N old new e (Ok t)
 step_fine N old new e t goes answers permitted network = record { goes = goes; answers = answers; permitted = permitted; refuses = tt; network = network }
 
-pub step_refused : (N : Network) (old new : World) (e : Event) (why : Refusal) → refused N (running old) e ≡ Some why → IsOf N new → IsStep N old new e (Err (error_of why))
+pub step_refused : (N : Network) (old new : World) (e : Event) (why : Refusal) → network_refusal N (running old) e ≡ Some why → IsOf N new → IsStep N old new e (Err (error_of why))
 step_refused N old new e why refuses network = record { goes = tt; answers = tt; permitted = tt; refuses = λ other. ap (option_map error_of) refuses; network = network }
 
 pub step_memory : (N : Network) (old new : World) (e : Event) → IsOf N new → IsStep N old new e (Err errors.OutOfMemory)

@@ -15,7 +15,7 @@ use Rattle.ptpm_table.proofs.Slots.{get_used, known_slot}
 use Rattle.ptpm_agent.specs.Laws.{AreOfManagers}
 use Rattle.ptpm_agent.specs.Turn.{Clock}
 use Rattle.ptpm_network.specs.Network.{HasEnd, Network, ports}
-use Rattle.ptpm_network.specs.Stands.{Held}
+use Rattle.ptpm_network.specs.RunningNetwork.{Held}
 use Rattle.ptpm_script.specs.declared.network.End.{End}
 use Rattle.ptpm_script.specs.declared.network.End.TheVariants as ends
 use Rattle.ptpm_world.specs.declared.world.RunningClock.{RunningClock}

@@ -7,9 +7,9 @@ use Rattle.ptpm_network.specs.Events.{Event, IsInRange, Refusal, refusal}
 use Rattle.ptpm_network.specs.Headline.{StandsAfter}
 use Rattle.ptpm_network.specs.Machine.{AreInTime, is_late_delivery, run, step, taken}
 use Rattle.ptpm_network.specs.Network.{Network}
-use Rattle.ptpm_network.specs.Stands.{Running}
-use Rattle.ptpm_network.specs.State.{NetworkState, at_first}
-use Rattle.ptpm_network.proofs.Promise.{stands-happened, stands-judged}
+use Rattle.ptpm_network.specs.RunningNetwork.{RunningNetwork}
+use Rattle.ptpm_network.specs.State.{NetworkState, initial_state}
+use Rattle.ptpm_network.proofs.Promise.{stands-network_step, stands-judged}
 use Rattle.ptpm_network.proofs.Taking.{in_time-parts, run-append, taken-append}
 use Rattle.ptpm_world.specs.declared.took.StepError.{StepError}
 use Rattle.ptpm_world.specs.declared.took.StepError.TheVariants as errors
@@ -22,21 +22,21 @@ use Rattle.ptpm_world.specs.Took.{error_of}
 -- ---- a step
 
 pub step-stands : (N : Network) (past : List Event) (old new : World) (e : Event) (result : Result Took StepError) → IsStep N old new e result
-    → StandsAfter N past (running old) → IsInRange e → is_late_delivery (run N (at_first N) past) e ≡ false
+    → StandsAfter N past (running old) → IsInRange e → is_late_delivery (run N (initial_state N) past) e ≡ false
     → OnOk result (StandsAfter N (past ++ e ∷ []) (running new))
 step-stands N past old new e (Ok t) step at range prompt =
-    subst (λ (r : Running). StandsAfter N (past ++ e ∷ []) r) (sym step.goes)
-    (stands-happened N past (running old) e at range (sym (stands-judged N past (running old) e at) ∙ step.permitted) prompt)
+    subst (λ (r : RunningNetwork). StandsAfter N (past ++ e ∷ []) r) (sym step.goes)
+    (stands-network_step N past (running old) e at range (sym (stands-judged N past (running old) e at) ∙ step.permitted) prompt)
 step-stands N past old new e (Err why) step at range prompt = tt
 
 pub step-taken : (N : Network) (past : List Event) (old new : World) (e : Event) (result : Result Took StepError) → IsStep N old new e result
-    → StandsAfter N past (running old) → OnOk result (refusal N (run N (at_first N) past) e ≡ None)
+    → StandsAfter N past (running old) → OnOk result (refusal N (run N (initial_state N) past) e ≡ None)
 step-taken N past old new e (Ok t) step at = sym (stands-judged N past (running old) e at) ∙ step.permitted
 step-taken N past old new e (Err why) step at = tt
 
 pub step-reason : (N : Network) (past : List Event) (old new : World) (e : Event) (result : Result Took StepError) → IsStep N old new e result
     → StandsAfter N past (running old)
-    → IfErr result (λ x. x ≢ errors.OutOfMemory → option_map error_of (refusal N (run N (at_first N) past) e) ≡ Some x)
+    → IfErr result (λ x. x ≢ errors.OutOfMemory → option_map error_of (refusal N (run N (initial_state N) past) e) ≡ Some x)
 step-reason N past old new e (Ok t) step at = tt
 step-reason N past old new e (Err why) step at = λ other.
     ap (option_map error_of) (sym (stands-judged N past (running old) e at)) ∙ step.refuses other
@@ -44,11 +44,11 @@ step-reason N past old new e (Err why) step at = λ other.
 -- ---- what was carried out so far
 
 -- after these events and those, all of which are taken
-pub record HasGoneOn (N : Network) (past es : List Event) (r : Running) : Type 0 where
+pub record HasGoneOn (N : Network) (past es : List Event) (r : RunningNetwork) : Type 0 where
   pub stands : StandsAfter N (past ++ es) r
-  pub whole : taken N (run N (at_first N) past) es ≡ es
+  pub whole : taken N (run N (initial_state N) past) es ≡ es
 
-pub gone_on-none : (N : Network) (past : List Event) (r : Running) → StandsAfter N past r → HasGoneOn N past [] r
+pub gone_on-none : (N : Network) (past : List Event) (r : RunningNetwork) → StandsAfter N past r → HasGoneOn N past [] r
 gone_on-none N past r at = record {
   stands = subst (λ (es : List Event). StandsAfter N es r) (sym (append-nil past)) at;
   whole = refl;
@@ -58,21 +58,21 @@ taken-fine : (N : Network) (w : NetworkState) (e : Event) → refusal N w e ≡ 
 taken-fine N w e none = cond-true _ _ _ (ap is_none none)
 
 -- and one event more, said by names that stayed the same
-pub gone_on-more : (N : Network) (past es : List Event) (now new : Running) (e f : Event) → f ≡ e
-    → (AreInTime N (run N (at_first N) past) es → HasGoneOn N past es now)
-    → ((events : List Event) → StandsAfter N events now → refusal N (run N (at_first N) events) f ≡ None)
-    → ((events : List Event) → StandsAfter N events now → is_late_delivery (run N (at_first N) events) f ≡ false → StandsAfter N (events ++ f ∷ []) new)
-    → AreInTime N (run N (at_first N) past) (es ++ e ∷ []) → HasGoneOn N past (es ++ e ∷ []) new
+pub gone_on-more : (N : Network) (past es : List Event) (now new : RunningNetwork) (e f : Event) → f ≡ e
+    → (AreInTime N (run N (initial_state N) past) es → HasGoneOn N past es now)
+    → ((events : List Event) → StandsAfter N events now → refusal N (run N (initial_state N) events) f ≡ None)
+    → ((events : List Event) → StandsAfter N events now → is_late_delivery (run N (initial_state N) events) f ≡ false → StandsAfter N (events ++ f ∷ []) new)
+    → AreInTime N (run N (initial_state N) past) (es ++ e ∷ []) → HasGoneOn N past (es ++ e ∷ []) new
 gone_on-more N past es now new e f same before permitted goes time =
-    let w : NetworkState = run N (at_first N) past in
+    let w : NetworkState = run N (initial_state N) past in
     let both = in_time-parts N w es (e ∷ []) time in
     let so_far = before both.0 in
-    let there : run N (at_first N) (past ++ es) ≡ run N w es = run-append N (at_first N) past es in
+    let there : run N (initial_state N) (past ++ es) ≡ run N w es = run-append N (initial_state N) past es in
     let none : refusal N (run N w es) e ≡ None =
     ap (λ (v : NetworkState). refusal N v e) (sym there)
-    ∙ ap (refusal N (run N (at_first N) (past ++ es))) (sym same) ∙ permitted (past ++ es) so_far.stands in
-    let prompt : is_late_delivery (run N (at_first N) (past ++ es)) f ≡ false =
-    ap (is_late_delivery (run N (at_first N) (past ++ es))) same
+    ∙ ap (refusal N (run N (initial_state N) (past ++ es))) (sym same) ∙ permitted (past ++ es) so_far.stands in
+    let prompt : is_late_delivery (run N (initial_state N) (past ++ es)) f ≡ false =
+    ap (is_late_delivery (run N (initial_state N) (past ++ es))) same
     ∙ ap (λ (v : NetworkState). is_late_delivery v e) there ∙ both.1.0 none in
     record {
       stands = subst (λ (events : List Event). StandsAfter N events new) (append_assoc past es (e ∷ []))
@@ -85,12 +85,12 @@ is_none-mapped f None y e = absurd (cc)
 is_none-mapped f (Some x) y e = refl
 
 -- where the next is refused, no more is taken
-pub taken-stops : {B : Type 0} (f : Refusal → B) (y : B) (N : Network) (past es rest : List Event) (e : Event) (r : Running) → HasGoneOn N past es r
-    → option_map f (refusal N (run N (at_first N) (past ++ es)) e) ≡ Some y → taken N (run N (at_first N) past) (es ++ e ∷ rest) ≡ es
+pub taken-stops : {B : Type 0} (f : Refusal → B) (y : B) (N : Network) (past es rest : List Event) (e : Event) (r : RunningNetwork) → HasGoneOn N past es r
+    → option_map f (refusal N (run N (initial_state N) (past ++ es)) e) ≡ Some y → taken N (run N (initial_state N) past) (es ++ e ∷ rest) ≡ es
 taken-stops f y N past es rest e r gone why =
-    let w : NetworkState = run N (at_first N) past in
+    let w : NetworkState = run N (initial_state N) past in
     let there : option_map f (refusal N (run N w es) e) ≡ Some y =
-    ap (λ (v : NetworkState). option_map f (refusal N v e)) (sym (run-append N (at_first N) past es)) ∙ why in
+    ap (λ (v : NetworkState). option_map f (refusal N v e)) (sym (run-append N (initial_state N) past es)) ∙ why in
     taken-append N w es (e ∷ rest) gone.whole
     ∙ ap (λ (ts : List Event). es ++ ts) (cond-false _ _ _ (is_none-mapped f (refusal N (run N w es) e) y there))
     ∙ append-nil es

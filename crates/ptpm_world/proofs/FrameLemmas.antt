@@ -6,7 +6,7 @@ use Rattle.std.proofs.lemmas.List.{drop-append-le, drop_at, length-append, lengt
 use Rattle.std.proofs.lemmas.List.Elements.{All-append, All-filter, All-head, All-map, All-tail, All-weaker, filter-append}
 use Rattle.std.proofs.lemmas.List.Filters.{length-filter_more}
 use Rattle.std.proofs.lemmas.List.Sums.{count_by-le-length, length-filter}
-use Rattle.ptpm_network.specs.Happening.{posted}
+use Rattle.ptpm_network.specs.RunningNetwork.{posted}
 use Rattle.ptpm_network.specs.Network.{peers, same_end}
 use Rattle.ptpm_network.specs.Network as machine
 use Rattle.ptpm_script.specs.declared.network.End.{End}

@@ -5,7 +5,7 @@ use Rattle.std.proofs.lemmas.Bool.{cases_Bool, cond-true, cond-false, eqb-false,
 use Rattle.std.proofs.lemmas.List.{length-map}
 use Rattle.std.proofs.lemmas.Slice.Eq.{bytes_eq-Decides}
 use Rattle.ptpm_network.specs.Events.{frame_at}
-use Rattle.ptpm_network.specs.Stands.{Held, Running}
+use Rattle.ptpm_network.specs.RunningNetwork.{Held, RunningNetwork}
 use Rattle.ptpm_world.specs.Placed.{place_in}
 use Rattle.ptpm_world.specs.Running.{is_late_held}
 
@@ -87,9 +87,9 @@ known-frame view o frames n e =
     (λ some. some-held frames n (sym same ∙ some), λ there. same ∙ held-some frames n there.0 there.1)
 
 -- what is late is there
-late-some : (r : Running) (o : Option Held) → is_late_held r o ≡ true → is_some o ≡ true
+late-some : (r : RunningNetwork) (o : Option Held) → is_late_held r o ≡ true → is_some o ≡ true
 late-some r None e = absurd (false≢true e)
 late-some r (Some h) e = refl
 
-pub late-there : (r : Running) (n : ℕ) → is_late_held r (frame_at r.frames n) ≡ true → (1 ≤ n) × (n ≤ length r.frames)
+pub late-there : (r : RunningNetwork) (n : ℕ) → is_late_held r (frame_at r.frames n) ≡ true → (1 ≤ n) × (n ≤ length r.frames)
 late-there r n e = some-held r.frames n (late-some r (frame_at r.frames n) e)

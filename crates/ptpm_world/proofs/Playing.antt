@@ -6,7 +6,7 @@ use Rattle.std.specs.Io.KnownBytes.{Appends}
 use Rattle.std.specs.Str.Lines.{lines}
 use Rattle.std.proofs.KnownBytes.{Appends-nil, Appends-trans}
 use Rattle.ptpm_network.specs.Network.{Network}
-use Rattle.ptpm_network.specs.Stands.{Running}
+use Rattle.ptpm_network.specs.RunningNetwork.{RunningNetwork}
 use Rattle.ptpm_script.specs.declared.event.Event.{Event}
 use Rattle.ptpm_script.specs.EventLine.{reading}
 use Rattle.ptpm_world.specs.Lines.{BothKnown, ReadsLine}
@@ -21,12 +21,12 @@ abbrev pub SameBad : List (List ℕ) → ℕ → List (List ℕ) → Type 0
 SameBad all n left = bad_line_from n left ≡ bad_line_from 1 all
 
 -- what the lines that are left write goes on from what was written
-abbrev pub GoesOn : Network → Names → Running → Running → Option (List ℕ) → Option (List ℕ) → List (List ℕ) → ℕ → List (List ℕ) → Type 0
+abbrev pub GoesOn : Network → Names → RunningNetwork → RunningNetwork → Option (List ℕ) → Option (List ℕ) → List (List ℕ) → ℕ → List (List ℕ) → Type 0
 GoesOn N names start now first written all n left = (v : Option (List ℕ))
     → Appends written v (event_lines N names now (events_from n left)) → Appends first v (event_lines N names start (events_from 1 all))
 
 -- they lead where all lead
-abbrev pub LeadsOn : Network → Names → Running → Running → List (List ℕ) → ℕ → List (List ℕ) → Type 0
+abbrev pub LeadsOn : Network → Names → RunningNetwork → RunningNetwork → List (List ℕ) → ℕ → List (List ℕ) → Type 0
 LeadsOn N names start now all n left = after_all N names now (events_from n left) ≡ after_all N names start (events_from 1 all)
 
 -- ---- one line more
@@ -51,12 +51,12 @@ pub bad-skip : (all : List (List ℕ)) (n : ℕ) (before after : List (List ℕ)
     → SameBad all n before → SameBad all (n + 1) after
 bad-skip all n before after line e s h = sym (bad_skipped n line after s) ∙ ap (bad_line_from n) (sym e) ∙ h
 
-pub text-skip : (N : Network) (names : Names) (start now : Running) (first written : Option (List ℕ)) (all : List (List ℕ)) (n : ℕ) (before after : List (List ℕ)) (line : List ℕ)
+pub text-skip : (N : Network) (names : Names) (start now : RunningNetwork) (first written : Option (List ℕ)) (all : List (List ℕ)) (n : ℕ) (before after : List (List ℕ)) (line : List ℕ)
     → before ≡ line ∷ after → is_skipped line ≡ true → GoesOn N names start now first written all n before → GoesOn N names start now first written all (n + 1) after
 text-skip N names start now first written all n before after line e s h = λ v w.
     h v (subst (λ es. Appends written v (event_lines N names now es)) (sym (ap (events_from n) e ∙ skipped n line after s)) w)
 
-pub last-skip : (N : Network) (names : Names) (start now : Running) (all : List (List ℕ)) (n : ℕ) (before after : List (List ℕ)) (line : List ℕ)
+pub last-skip : (N : Network) (names : Names) (start now : RunningNetwork) (all : List (List ℕ)) (n : ℕ) (before after : List (List ℕ)) (line : List ℕ)
     → before ≡ line ∷ after → is_skipped line ≡ true → LeadsOn N names start now all n before → LeadsOn N names start now all (n + 1) after
 last-skip N names start now all n before after line e s h = ap (after_all N names now) (sym (ap (events_from n) e ∙ skipped n line after s)) ∙ h
 
@@ -66,7 +66,7 @@ pub bad-take : (all : List (List ℕ)) (n : ℕ) (before after : List (List ℕ)
     → reading line ≡ Ok event → SameBad all n before → SameBad all (n + 1) after
 bad-take all n before after line event e s r h = sym (bad_taken n line after event s r) ∙ ap (bad_line_from n) (sym e) ∙ h
 
-pub text-take : (N : Network) (names : Names) (start now next : Running) (first written more : Option (List ℕ)) (all : List (List ℕ)) (n : ℕ) (before later : List (List ℕ))
+pub text-take : (N : Network) (names : Names) (start now next : RunningNetwork) (first written more : Option (List ℕ)) (all : List (List ℕ)) (n : ℕ) (before later : List (List ℕ))
     (line : List ℕ) (event : Event) → before ≡ line ∷ later → is_skipped line ≡ false → reading line ≡ Ok event
     → next ≡ after N now (placed names event) → Appends written more (event_line N names now n event)
     → GoesOn N names start now first written all n before → GoesOn N names start next first more all (n + 1) later
@@ -75,7 +75,7 @@ text-take N names start now next first written more all n before later line even
     let both = Appends-trans written more v _ _ line_written rest in
     h v (subst (λ es. Appends written v (event_lines N names now es)) (sym (ap (events_from n) e ∙ taken n line later event s r)) both)
 
-pub last-take : (N : Network) (names : Names) (start now next : Running) (all : List (List ℕ)) (n : ℕ) (before later : List (List ℕ)) (line : List ℕ) (event : Event)
+pub last-take : (N : Network) (names : Names) (start now next : RunningNetwork) (all : List (List ℕ)) (n : ℕ) (before later : List (List ℕ)) (line : List ℕ) (event : Event)
     → before ≡ line ∷ later → is_skipped line ≡ false → reading line ≡ Ok event → next ≡ after N now (placed names event)
     → LeadsOn N names start now all n before → LeadsOn N names start next all (n + 1) later
 last-take N names start now next all n before later line event e s r went h =
@@ -87,12 +87,12 @@ last-take N names start now next all n before later line event e s r went h =
 pub bad-end : (all : List (List ℕ)) (n : ℕ) (left : List (List ℕ)) → left ≡ [] → SameBad all n left → bad_line_from 1 all ≡ None
 bad-end all n left e h = sym h ∙ ap (bad_line_from n) e
 
-pub text-end : (N : Network) (names : Names) (start now : Running) (first written : Option (List ℕ)) (all : List (List ℕ)) (n : ℕ) (left : List (List ℕ)) → left ≡ []
+pub text-end : (N : Network) (names : Names) (start now : RunningNetwork) (first written : Option (List ℕ)) (all : List (List ℕ)) (n : ℕ) (left : List (List ℕ)) → left ≡ []
     → GoesOn N names start now first written all n left → Appends first written (event_lines N names start (events_from 1 all))
 text-end N names start now first written all n left e h =
     h written (subst (λ ls. Appends written written (event_lines N names now (events_from n ls))) (sym e) (Appends-nil written))
 
-pub last-end : (N : Network) (names : Names) (start now : Running) (all : List (List ℕ)) (n : ℕ) (left : List (List ℕ)) → left ≡ []
+pub last-end : (N : Network) (names : Names) (start now : RunningNetwork) (all : List (List ℕ)) (n : ℕ) (left : List (List ℕ)) → left ≡ []
     → LeadsOn N names start now all n left → now ≡ after_all N names start (events_from 1 all)
 last-end N names start now all n left e h = sym (ap (λ ls. after_all N names now (events_from n ls)) e) ∙ h
 
@@ -102,12 +102,12 @@ pub bad-first : (a : Option (List ℕ)) (n : ℕ) → n ≡ 1 → BothKnown a a 
 bad-first None n e = tt
 bad-first (Some xs) n e = ap (λ k. bad_line_from k (lines xs)) e
 
-pub text-first : (N : Network) (names : Names) (start : Running) (first : Option (List ℕ)) (a : Option (List ℕ)) (n : ℕ) → n ≡ 1
+pub text-first : (N : Network) (names : Names) (start : RunningNetwork) (first : Option (List ℕ)) (a : Option (List ℕ)) (n : ℕ) → n ≡ 1
     → BothKnown a a (λ xs ys. GoesOn N names start start first first (lines xs) n (lines ys))
 text-first N names start first None n e = tt
 text-first N names start first (Some xs) n e = λ v w. subst (λ k. Appends first v (event_lines N names start (events_from k (lines xs)))) e w
 
-pub last-first : (N : Network) (names : Names) (start : Running) (a : Option (List ℕ)) (n : ℕ) → n ≡ 1
+pub last-first : (N : Network) (names : Names) (start : RunningNetwork) (a : Option (List ℕ)) (n : ℕ) → n ≡ 1
     → BothKnown a a (λ xs ys. LeadsOn N names start start (lines xs) n (lines ys))
 last-first N names start None n e = tt
 last-first N names start (Some xs) n e = ap (λ k. after_all N names start (events_from k (lines xs))) e

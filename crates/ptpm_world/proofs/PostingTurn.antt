@@ -2,10 +2,9 @@
 use Rattle.std.proofs.Common.{◌≡◌, ℕ, ◌+◌, ◌<◌, ◌==◌, List, ◌++◌, sym, ◌∙◌, ap, length, get_or, take, if◌then◌else◌}
 use Rattle.std.proofs.lemmas.List.{flat_map_more}
 use Rattle.std.specs.Prelude.{flat_map, map}
-use Rattle.ptpm_network.specs.Happening.{posted}
+use Rattle.ptpm_network.specs.RunningNetwork.{Held, posted}
 use Rattle.ptpm_network.specs.Network.{AtPort, End, peers}
 use Rattle.ptpm_network.specs.Replying.{posted_by}
-use Rattle.ptpm_network.specs.Stands.{Held}
 use Rattle.ptpm_network.specs.State.{Origin}
 use Rattle.ptpm_world.proofs.Places.{map_more}
 

@@ -7,7 +7,7 @@ use Rattle.ptpm_network.specs.Events as machine
 use Rattle.ptpm_network.specs.Headline.{StandsAfter}
 use Rattle.ptpm_network.specs.Machine.{run}
 use Rattle.ptpm_network.specs.Network.{Network}
-use Rattle.ptpm_network.specs.State.{at_first}
+use Rattle.ptpm_network.specs.State.{initial_state}
 use Rattle.ptpm_network.specs.Worth.{IsWorth}
 use Rattle.ptpm_network.proofs.Reporting.{index-after, worth-after}
 use Rattle.ptpm_world.specs.declared.world.RunningSession.{RunningSession}
@@ -17,7 +17,7 @@ use Rattle.ptpm_world.specs.Running.{IsOf, reports_of, running}
 -- a report of the session at a place
 pub worth-shown : (N : Network) (past : List machine.Event) (w : World) (s : ℕ) (x : RunningSession) → IsOf N w → StandsAfter N past (running w)
     → slice_get w.sessions.items s ≡ Some x → (i : ℕ) (report : Report) → slice_get x.reports.items i ≡ Some report
-    → (report.index ≡ i + 1) × IsWorth N (run N (at_first N) past) s report
+    → (report.index ≡ i + 1) × IsWorth N (run N (initial_state N) past) s report
 worth-shown N past w s x is at there i report e =
     let place : s < N.sessions = subst (λ n. s < n) is.session_count (slice_get_within w.sessions.items s x there) in
     let shown : slice_get ((running w).reports s) i ≡ Some report = ap (λ o. slice_get (reports_of o) i) there ∙ e in

@@ -5,7 +5,7 @@ use Rattle.std.proofs.lemmas.Bool.{cases_lt, cond-false, cond-true, lt-ltb}
 use Rattle.std.proofs.KnownBytes.{Appends-trans}
 use Rattle.std.specs.Io.KnownBytes.{Appends, Keeps}
 use Rattle.std.specs.Str.Lines.{lines}
-use Rattle.ptpm_network.specs.Stands.{Running}
+use Rattle.ptpm_network.specs.RunningNetwork.{RunningNetwork}
 use Rattle.ptpm_script.specs.declared.net_error.NetError.TheVariants as refusals
 use Rattle.ptpm_script.specs.NetworkText.{network_of}
 use Rattle.ptpm_script.specs.NetworkValue.{NetworkValue}
@@ -128,7 +128,7 @@ written-whole : (o0 o1 o2 o3 o4 : Option (List ℕ)) (events reports sets : List
 written-whole o0 o1 o2 o3 o4 events reports sets p q r k =
     kept-appended o0 o3 o4 _ (Appends-trans o0 o2 o3 _ sets (Appends-trans o0 o1 o2 events reports p q) r) k
 
-pub script-prints : (all first second : Option (List ℕ)) (o0 o1 o2 o3 o4 : Option (List ℕ)) (n : NetworkValue) (names : Names) (start last : Running)
+pub script-prints : (all first second : Option (List ℕ)) (o0 o1 o2 o3 o4 : Option (List ℕ)) (n : NetworkValue) (names : Names) (start last : RunningNetwork)
     → IfSome all (λ octets. first ≡ Some octets)
     → BothKnown first second (λ before after. (network_of (network_text (lines before)) ≡ Ok n) × (lines after ≡ event_part (lines before)))
     → names ≡ names_of n → start ≡ started n

@@ -20,9 +20,8 @@ use Rattle.ptpm_manager.specs.Receiving.{left_by, received_of}
 use Rattle.ptpm_manager.specs.Session.{SessionValue, begin_refusal, begun, due_message, is_waiting, resumed, retuned, send_refusal, sent}
 use Rattle.ptpm_manager.specs.Setup.{request_message}
 use Rattle.ptpm_network.specs.Events.{Begin, Send, Resume, Retune, Deliver, NoSuchName, FramesAtMaximum, BeginRefused, SendRefused, frame_at, frames_limit}
-use Rattle.ptpm_network.specs.Happening.{happened, hears, posted, reaches, reaches_end, sent_posted}
+use Rattle.ptpm_network.specs.RunningNetwork.{Held, RunningNetwork, hears, network_step, posted, reaches, reaches_end, sent_posted}
 use Rattle.ptpm_network.specs.Network.{AtSession, End, Network, peers}
-use Rattle.ptpm_network.specs.Stands.{Held, Running}
 use Rattle.ptpm_network.specs.State.{Origin, RequestOf}
 use Rattle.ptpm_world.specs.declared.took.StepError.{StepError}
 use Rattle.ptpm_world.specs.declared.took.StepError.TheVariants as errors
@@ -57,12 +56,12 @@ place-past N w place is e = subst (λ n. n ≤ place) (e ∙ is.session_count) (
 -- ---- begin
 
 begin-goes : (N : Network) (old new : World) (place : ℕ) (x y : RunningSession) (a : Ask) → SessionChange old new place x y → y.session ≡ begun x.session (request_of a) → y.reports.items ≡ x.reports.items → held_in new.frames ≡ held_in old.frames
-    → running new ≡ happened N (running old) (Begin place a)
-unfolding happened
+    → running new ≡ network_step N (running old) (Begin place a)
+unfolding network_step
 begin-goes N old new place x y a c v r f = session_change-quiet old new place x y (begun ((running old).session place) (request_of a)) (held_in old.frames) c
     (v ∙ ap (λ (z : SessionValue). begun z (request_of a)) (sym (session_at old new place x y c))) r f
 
-fine-begin : (N : Network) (r : Running) (s : ℕ) (a : Ask) → Fine ≡ took N r (Begin s a)
+fine-begin : (N : Network) (r : RunningNetwork) (s : ℕ) (a : Ask) → Fine ≡ took N r (Begin s a)
 unfolding took
 fine-begin N r s a = refl
 
@@ -105,12 +104,12 @@ begin-no_name N w s a is e = step_refused N w w (Begin s a) NoSuchName (begin-ab
 -- ---- resume
 
 resume-goes : (N : Network) (old new : World) (place : ℕ) (x y : RunningSession) (attempts : ℕ) → SessionChange old new place x y → y.session ≡ resumed x.session attempts → y.reports.items ≡ x.reports.items → held_in new.frames ≡ held_in old.frames
-    → running new ≡ happened N (running old) (Resume place attempts)
-unfolding happened
+    → running new ≡ network_step N (running old) (Resume place attempts)
+unfolding network_step
 resume-goes N old new place x y attempts c v r f = session_change-quiet old new place x y (resumed ((running old).session place) attempts) (held_in old.frames) c
     (v ∙ ap (λ (z : SessionValue). resumed z attempts) (sym (session_at old new place x y c))) r f
 
-fine-resume : (N : Network) (r : Running) (s attempts : ℕ) → Fine ≡ took N r (Resume s attempts)
+fine-resume : (N : Network) (r : RunningNetwork) (s attempts : ℕ) → Fine ≡ took N r (Resume s attempts)
 unfolding took
 fine-resume N r s attempts = refl
 
@@ -145,12 +144,12 @@ resume-no_name N w s attempts is e = step_refused N w w (Resume s attempts) NoSu
 -- ---- retune
 
 retune-goes : (N : Network) (old new : World) (place : ℕ) (x y : RunningSession) (domain : ℕ) → SessionChange old new place x y → y.session ≡ retuned x.session domain → y.reports.items ≡ x.reports.items → held_in new.frames ≡ held_in old.frames
-    → running new ≡ happened N (running old) (Retune place domain)
-unfolding happened
+    → running new ≡ network_step N (running old) (Retune place domain)
+unfolding network_step
 retune-goes N old new place x y domain c v r f = session_change-quiet old new place x y (retuned ((running old).session place) domain) (held_in old.frames) c
     (v ∙ ap (λ (z : SessionValue). retuned z domain) (sym (session_at old new place x y c))) r f
 
-fine-retune : (N : Network) (r : Running) (s domain : ℕ) → Fine ≡ took N r (Retune s domain)
+fine-retune : (N : Network) (r : RunningNetwork) (s domain : ℕ) → Fine ≡ took N r (Retune s domain)
 unfolding took
 fine-retune N r s domain = refl
 
@@ -182,8 +181,8 @@ sends-frames N old place issued octets v value is count due same =
 send-goes : (N : Network) (old new : World) (place issued : ℕ) (x y : RunningSession) (octets : List ℕ) (v : Message) → IsOf N old → SessionChange old new place x y → y.session ≡ sent x.session → y.reports.items ≡ x.reports.items
     → x.session.issued ≡ issued → due_message x.session ≡ Some v → octets ≡ canonical v
     → held_in new.frames ≡ held_in old.frames ++ posted (peers (link_ends old.links.items) (AtSession place)) octets (RequestOf place issued)
-    → running new ≡ happened N (running old) (Send place)
-unfolding happened
+    → running new ≡ network_step N (running old) (Send place)
+unfolding network_step
 send-goes N old new place issued x y octets v is c value r count due same f =
     let at : (running old).session place ≡ x.session = session_at old new place x y c in
     session_change-quiet old new place x y (sent ((running old).session place))
@@ -191,7 +190,7 @@ send-goes N old new place issued x y octets v is c value r count due same f =
     (value ∙ ap sent (sym at)) r
     (f ∙ sends-frames N old place issued octets v ((running old).session place) is (ap (λ (z : SessionValue). z.issued) at ∙ count) (ap due_message at ∙ due) same)
 
-fine-send : (N : Network) (r : Running) (s : ℕ) → Fine ≡ took N r (Send s)
+fine-send : (N : Network) (r : RunningNetwork) (s : ℕ) → Fine ≡ took N r (Send s)
 unfolding took
 fine-send N r s = refl
 
@@ -259,11 +258,11 @@ hear-goes old new place x y (received.Answered report) c v r f =
 hear-goes old new place x y (received.Ignored reason) c v r f =
     session_change-none old new place x y c v (r ∙ append-nil x.reports.items) f
 
-deliver-hears : (N : Network) (r : Running) (n s : ℕ) (h : Held) → frame_at r.frames n ≡ Some h → h.end ≡ AtSession s → hears r s (received_of (r.session s) h.octets) ≡ happened N r (Deliver n)
-unfolding happened
+deliver-hears : (N : Network) (r : RunningNetwork) (n s : ℕ) (h : Held) → frame_at r.frames n ≡ Some h → h.end ≡ AtSession s → hears r s (received_of (r.session s) h.octets) ≡ network_step N r (Deliver n)
+unfolding network_step
 deliver-hears N r n s h e at = sym (ap (reaches_end N r) e ∙ ap (reaches N r h) at)
 
-deliver-took : (N : Network) (r : Running) (n s : ℕ) (h : Held) → frame_at r.frames n ≡ Some h → h.end ≡ AtSession s → heard (received_of (r.session s) h.octets) ≡ took N r (Deliver n)
+deliver-took : (N : Network) (r : RunningNetwork) (n s : ℕ) (h : Held) → frame_at r.frames n ≡ Some h → h.end ≡ AtSession s → heard (received_of (r.session s) h.octets) ≡ took N r (Deliver n)
 unfolding took
 deliver-took N r n s h e at = sym (ap (took_of N r) e ∙ ap (took_at N r h.octets) at)
 

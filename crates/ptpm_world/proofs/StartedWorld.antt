@@ -10,11 +10,11 @@ use Rattle.ptpm_codec.specs.Identity.{identity_cmp}
 use Rattle.ptpm_data.specs.Members.{DataSetsValue}
 use Rattle.ptpm_table.specs.Entries.{Entry}
 use Rattle.ptpm_table.proofs.Identities.{exact_identities, identities_total}
-use Rattle.ptpm_agent.specs.Laws.{IsKept, StandsAt, fresh}
-use Rattle.ptpm_agent.specs.Once.{beginning}
+use Rattle.ptpm_agent.specs.Laws.{IsKept, StandsAt, initial_clock_state}
+use Rattle.ptpm_agent.specs.Once.{initial_history}
 use Rattle.ptpm_agent.specs.Turn.{State}
 use Rattle.ptpm_network.specs.Stands.{Stands}
-use Rattle.ptpm_network.specs.State.{at_first}
+use Rattle.ptpm_network.specs.State.{initial_state}
 use Rattle.ptpm_script.specs.NetworkValue.{NetworkValue, first_sets}
 use Rattle.ptpm_world.specs.declared.world.World.{World}
 use Rattle.ptpm_world.specs.Described.{clock_at, described, no_clock, no_session}
@@ -24,11 +24,11 @@ use Rattle.ptpm_world.proofs.DescribedLaws.{there}
 
 -- ---- a clock
 
-nothing_kept : (first : PortIdentity → ℕ) (d : DataSetsValue) (m : PortIdentity) (o : Option Entry) → IsKept first (beginning d) m o → o ≡ None
+nothing_kept : (first : PortIdentity → ℕ) (d : DataSetsValue) (m : PortIdentity) (o : Option Entry) → IsKept first (initial_history d) m o → o ≡ None
 nothing_kept first d m None h = refl
 nothing_kept first d m (Some e) h = absurd (omega (arith, h.some))
 
-fresh_clock : (first : PortIdentity → ℕ) (s : State) (d : DataSetsValue) → StandsAt first s (beginning d) → s ≡ fresh d
+fresh_clock : (first : PortIdentity → ℕ) (s : State) (d : DataSetsValue) → StandsAt first s (initial_history d) → s ≡ initial_clock_state d
 fresh_clock first s d h =
     let none : s.entries ≡ empty =
     same_map identities_total exact_identities s.entries empty (λ m. nothing_kept first d m (get s.entries m) (h.entries m) ∙ sym (get-empty identity_cmp m)) in
@@ -36,21 +36,21 @@ fresh_clock first s d h =
 
 -- ---- the whole
 
-pub started-is : (n : NetworkValue) (w : World) → IsOf (described n) w → ((first : PortIdentity → ℕ) → Stands (described n) first (running w) (at_first (described n)))
+pub started-is : (n : NetworkValue) (w : World) → IsOf (described n) w → ((first : PortIdentity → ℕ) → Stands (described n) first (running w) (initial_state (described n)))
     → running w ≡ started n
 started-is n w is stands =
     λ i. record { clock = λ c. clocks c i; session = λ s. sessions s i; reports = λ s. reports s i; frames = at.frames i }
   where
-    at : Stands (described n) (λ m. 0) (running w) (at_first (described n))
+    at : Stands (described n) (λ m. 0) (running w) (initial_state (described n))
     at = stands (λ m. 0)
 
-    clock_by : (c : ℕ) → (c < length n.clocks) ⊎ (length n.clocks ≤ c) → (running w).clock c ≡ fresh (first_sets (clock_at n c))
+    clock_by : (c : ℕ) → (c < length n.clocks) ⊎ (length n.clocks ≤ c) → (running w).clock c ≡ initial_clock_state (first_sets (clock_at n c))
     clock_by c (inl within) = fresh_clock (λ m. 0) ((running w).clock c) (first_sets (clock_at n c)) (at.clocks c within)
     clock_by c (inr past) =
         ap state_of (slice_get_past w.clocks.items c (omega (arith, is.clock_count)))
-        ∙ ap (λ x. fresh (first_sets x)) (sym (get_or_past n.clocks c no_clock past))
+        ∙ ap (λ x. initial_clock_state (first_sets x)) (sym (get_or_past n.clocks c no_clock past))
 
-    clocks : (c : ℕ) → (running w).clock c ≡ fresh (first_sets (clock_at n c))
+    clocks : (c : ℕ) → (running w).clock c ≡ initial_clock_state (first_sets (clock_at n c))
     clocks c = clock_by c (cases_lt c (length n.clocks))
 
     session_by : (s : ℕ) → (s < length n.sessions) ⊎ (length n.sessions ≤ s) → (running w).session s ≡ started_session n (slice_get n.sessions s)

@@ -21,13 +21,14 @@ use Rattle.ptpm_table.specs.Entries.{is_known}
 use Rattle.ptpm_table.specs.Managers.{IsFresh, has_twice, identities, rights_in, table_refusal}
 use Rattle.ptpm_table.specs.Slots as slots
 use Rattle.ptpm_agent.specs.declared.agent.Agent.{Agent}
-use Rattle.ptpm_agent.specs.Laws.{StandsAt, fresh}
+use Rattle.ptpm_agent.specs.Laws.{StandsAt, initial_clock_state}
 use Rattle.ptpm_manager.specs.Session as manager
 use Rattle.ptpm_manager.specs.Setup.{AreTwoClocks}
-use Rattle.ptpm_network.specs.Stands.{Running, Stands}
-use Rattle.ptpm_network.specs.State.{at_first, history}
+use Rattle.ptpm_network.specs.Stands.{Stands}
+use Rattle.ptpm_network.specs.RunningNetwork.{RunningNetwork}
+use Rattle.ptpm_network.specs.State.{initial_state, history}
 use Rattle.ptpm_network.proofs.Lists.{all_get}
-use Rattle.ptpm_network.proofs.Standing.{stands-at_first}
+use Rattle.ptpm_network.proofs.Standing.{stands-initial_state}
 use Rattle.ptpm_script.specs.declared.network.End.{End}
 use Rattle.ptpm_script.specs.declared.network.End.TheVariants as ends
 use Rattle.ptpm_script.specs.declared.network.NetworkClock.{NetworkClock}
@@ -194,7 +195,7 @@ clock_starts a t clock managers same f =
     }
 
 pub state_starts : (a : Agent BoundTable) (t : BoundTable) (sets : DataSetsValue) (clock : ClockIdentity) (managers : List (PortIdentity × Rights))
-    → a.table ≡ t → a.sets ≡ sets → IsFreshTable clock managers t → agent_state a ≡ fresh sets
+    → a.table ≡ t → a.sets ≡ sets → IsFreshTable clock managers t → agent_state a ≡ initial_clock_state sets
 state_starts a t sets clock managers same sets_are f = λ i. record {
   sets = sets_are i;
   entries = (ap table_entries same ∙ f.nothing_kept) i;
@@ -203,7 +204,7 @@ state_starts a t sets clock managers same sets_are f = λ i. record {
 pub started_clock : (n : NetworkValue) (c : ℕ) (k : ClockValue) (managers : List (PortIdentity × Rights)) (x : RunningClock)
     → clock_at n c ≡ k → managers ≡ configured n.sessions c → x.name ≡ k.name
     → agent_clock x.agent ≡ record { identity = k.start.identity; managers = identities managers; rights = rights_in managers }
-    → agent_state x.agent ≡ fresh (first_sets k) → IsStartedClock n c x
+    → agent_state x.agent ≡ initial_clock_state (first_sets k) → IsStartedClock n c x
 started_clock n c k managers x at same name clock state = record {
   name = name ∙ ap (λ (v : ClockValue). v.name) (sym at);
   clock = clock ∙ (λ i. record {
@@ -211,7 +212,7 @@ started_clock n c k managers x at same name clock state = record {
     managers = identities (same i);
     rights = rights_in (same i);
   });
-  state = state ∙ ap (λ (v : ClockValue). fresh (first_sets v)) (sym at);
+  state = state ∙ ap (λ (v : ClockValue). initial_clock_state (first_sets v)) (sym at);
 }
 
 pub started_session : (n : NetworkValue) (s : ℕ) (t : NetworkSession) (k : ClockValue) (x : RunningSession)
@@ -301,7 +302,7 @@ are_names n cs ss clocks sessions =
     λ i. record { clocks = of_clocks i; sessions = of_sessions i }
 
 -- a world of these clocks, sessions and frames
-abbrev running_of : List RunningClock → List RunningSession → Frames → Running
+abbrev running_of : List RunningClock → List RunningSession → Frames → RunningNetwork
 running_of clocks sessions frames = record {
   clock = λ c. state_of (slice_get clocks c);
   session = λ s. session_of (slice_get sessions s);
@@ -310,13 +311,13 @@ running_of clocks sessions frames = record {
 }
 
 pub stands : (n : NetworkValue) (cs : List RunningClock) (ss : List RunningSession) (frames_sent : Frames) (first : PortIdentity → ℕ) → AreStartedClocks n cs
-    → AreStartedSessions n ss → held_in frames_sent ≡ [] → Stands (described n) first (running_of cs ss frames_sent) (at_first (described n))
+    → AreStartedSessions n ss → held_in frames_sent ≡ [] → Stands (described n) first (running_of cs ss frames_sent) (initial_state (described n))
 stands n cs ss frames_sent first clocks sessions frames =
-    let start = stands-at_first (described n) first in
+    let start = stands-initial_state (described n) first in
     record {
       clocks = λ c h. (
           let x = some_at cs c (omega (arith, h, clocks.count)) in
-          subst (λ t. StandsAt first t (history (described n) (at_first (described n)) c))
+          subst (λ t. StandsAt first t (history (described n) (initial_state (described n)) c))
           (sym (ap state_of x.1 ∙ (clocks.each c x.0 x.1).state)) (start.clocks c h));
       sessions = λ s h. (
           let x = some_at ss s (omega (arith, h, sessions.count)) in

@@ -5,7 +5,7 @@ use Rattle.std.specs.Prelude.{map, slice_get}
 use Rattle.ptpm_data.specs.Members.{HasPort}
 use Rattle.ptpm_network.specs.Events.{frame_at}
 use Rattle.ptpm_network.specs.Network as machine
-use Rattle.ptpm_network.specs.Stands.{Held}
+use Rattle.ptpm_network.specs.RunningNetwork.{Held}
 use Rattle.ptpm_script.specs.declared.network.End.{End}
 use Rattle.ptpm_script.specs.declared.network.End.TheVariants as ends
 use Rattle.ptpm_world.specs.declared.frames.Frames.{Frames}

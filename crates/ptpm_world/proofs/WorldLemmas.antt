@@ -9,7 +9,7 @@ use Rattle.std.proofs.lemmas.List.Sums.{prefix_len-le-length}
 use Rattle.std.proofs.lemmas.Option.{get_or_from_slice_get, same_Some, slice_get_past, slice_get_within}
 use Rattle.ptpm_manager.specs.Session.{count_limit}
 use Rattle.ptpm_network.specs.Events.{frame_at}
-use Rattle.ptpm_network.specs.Stands.{Held}
+use Rattle.ptpm_network.specs.RunningNetwork.{Held}
 use Rattle.ptpm_network.specs.State as state
 use Rattle.ptpm_world.specs.declared.frames.Frames.{Frames}
 use Rattle.ptpm_world.specs.declared.frames.Origin.{Origin}

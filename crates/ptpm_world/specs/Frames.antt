@@ -2,7 +2,7 @@
 use Rattle.std.specs.Prelude.{ℕ, ◌+◌, ◌*◌, ◌≤◌, List, map, take, drop, length, vec_capacity, vec_len}
 use Rattle.ptpm_script.specs.declared.network.NetworkLink.{NetworkLink}
 use Rattle.ptpm_network.specs.Network as machine
-use Rattle.ptpm_network.specs.Stands.{Held}
+use Rattle.ptpm_network.specs.RunningNetwork.{Held}
 use Rattle.ptpm_network.specs.State as state
 use Rattle.ptpm_world.specs.declared.frames.Frame.{Frame}
 use Rattle.ptpm_world.specs.declared.frames.Frames.{Frames}

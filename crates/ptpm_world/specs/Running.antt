@@ -8,13 +8,13 @@ use Rattle.ptpm_table.specs.Entries.{Entries}
 use Rattle.ptpm_table.specs.Managers.{identities, rights_in}
 use Rattle.ptpm_table.specs.Slots.{configured, used}
 use Rattle.ptpm_agent.specs.declared.agent.Agent.{Agent}
-use Rattle.ptpm_agent.specs.Laws.{fresh}
+use Rattle.ptpm_agent.specs.Laws.{initial_clock_state}
 use Rattle.ptpm_agent.specs.Turn.{Clock, State}
 use Rattle.ptpm_manager.specs.declared.report.Report.{Report}
 use Rattle.ptpm_manager.specs.Session as session
 use Rattle.ptpm_manager.specs.Session.{SessionValue}
 use Rattle.ptpm_network.specs.Network.{Network, manager, ports}
-use Rattle.ptpm_network.specs.Stands.{Held, Running}
+use Rattle.ptpm_network.specs.RunningNetwork.{Held, RunningNetwork}
 use Rattle.ptpm_network.specs.State as state
 use Rattle.ptpm_network.specs.State.{is_late_at}
 use Rattle.ptpm_script.specs.NetworkValue.{first_sets}
@@ -43,7 +43,7 @@ agent_state a = record { sets = a.sets; entries = table_entries a.table }
 -- ---- what stands at a place; past the last, something that no definition looks at
 
 abbrev pub state_of : Option RunningClock → State
-state_of None = fresh (first_sets described.no_clock)
+state_of None = initial_clock_state (first_sets described.no_clock)
 state_of (Some c) = agent_state c.agent
 
 abbrev pub no_session : SessionValue
@@ -59,7 +59,7 @@ reports_of (Some s) = s.reports.items
 
 -- ---- the whole
 
-abbrev pub running : World → Running
+abbrev pub running : World → RunningNetwork
 running w = record {
   clock = λ c. state_of (slice_get w.clocks.items c);
   session = λ s. session_of (slice_get w.sessions.items s);
@@ -97,11 +97,11 @@ reports_named w name = option_map (λ s. s.reports.items) (find (λ s. bytes_eq 
 -- ---- lateness
 
 -- a copy of a request, or of a reply to it, whose session has begun over 32,768 requests since
-abbrev pub is_late_of : Running → state.Origin → Bool
+abbrev pub is_late_of : RunningNetwork → state.Origin → Bool
 is_late_of r (state.RequestOf s k) = is_late_at k (r.session s).issued
 is_late_of r (state.ReplyTo s k) = is_late_at k (r.session s).issued
 is_late_of r state.Neither = false
 
-abbrev pub is_late_held : Running → Option Held → Bool
+abbrev pub is_late_held : RunningNetwork → Option Held → Bool
 is_late_held r None = false
 is_late_held r (Some h) = is_late_of r h.origin

@@ -1,10 +1,10 @@
 -- What the lines of a script ask for (this project's profile): a network file, a line `%%`, and events, one a line.
 use Rattle.std.specs.Prelude.{◌≡◌, ◌<◌, ◌⊎◌, ℕ, ◌+◌, ◌==◌, length, not, slice_get, Bool, true, bytes_eq, codes, find, List, [], ◌∷◌, ◌++◌, Option, Some, None, Result, Ok, Err, if◌then◌else◌}
 use Rattle.std.specs.Io.KnownBytes.{Appends}
-use Rattle.ptpm_agent.specs.Laws.{fresh}
+use Rattle.ptpm_agent.specs.Laws.{initial_clock_state}
 use Rattle.ptpm_manager.specs.Session.{SessionValue, fresh as fresh_session}
 use Rattle.ptpm_network.specs.Network.{Network}
-use Rattle.ptpm_network.specs.Stands.{Running}
+use Rattle.ptpm_network.specs.RunningNetwork.{RunningNetwork}
 use Rattle.ptpm_script.specs.declared.event.Event.{Event}
 use Rattle.ptpm_script.specs.declared.event.EventError.{EventError}
 use Rattle.ptpm_script.specs.EventLine.{reading}
@@ -71,9 +71,9 @@ started_session n None = no_session
 started_session n (Some s) = fresh_session (described_session n s).setup s.domain
 
 -- each clock with the data sets that it starts with, each session with nothing begun, and no frames
-abbrev pub started : NetworkValue → Running
+abbrev pub started : NetworkValue → RunningNetwork
 started n = record {
-  clock = λ c. fresh (first_sets (clock_at n c));
+  clock = λ c. initial_clock_state (first_sets (clock_at n c));
   session = λ s. started_session n (slice_get n.sessions s);
   reports = λ s. [];
   frames = [];
@@ -101,6 +101,6 @@ pub record Begins (script : List (List ℕ)) (text : List ℕ) : Type 0 where
   pub is_begun : text ++ rest ≡ event_lines (described network) (names_of network) (started network) (events_from 1 (event_part script))
 
 -- a writer took the beginning of the lines of these events
-abbrev pub TakesFirst : Network → Names → Running → List (ℕ × Event) → Option (List ℕ) → Option (List ℕ) → Type 0
+abbrev pub TakesFirst : Network → Names → RunningNetwork → List (ℕ × Event) → Option (List ℕ) → Option (List ℕ) → Type 0
 TakesFirst N names r events before after =
     (text : List ℕ) × ((rest : List ℕ) × ((text ++ rest ≡ event_lines N names r events) × Appends before after text))

@@ -1,6 +1,6 @@
 -- A world as it starts: each clock and session as its file describes it, and nothing done yet.
 use Rattle.std.specs.Prelude.{◌≡◌, ℕ, List, [], Some, length, slice_get}
-use Rattle.ptpm_agent.specs.Laws.{fresh}
+use Rattle.ptpm_agent.specs.Laws.{initial_clock_state}
 use Rattle.ptpm_manager.specs.Session as manager
 use Rattle.ptpm_script.specs.NetworkValue.{NetworkValue, first_sets}
 use Rattle.ptpm_world.specs.declared.world.RunningClock.{RunningClock}
@@ -12,7 +12,7 @@ use Rattle.ptpm_world.specs.Running.{agent_clock, agent_state}
 pub record IsStartedClock (n : NetworkValue) (c : ℕ) (x : RunningClock) : Type 0 where
   pub name : x.name ≡ (clock_at n c).name
   pub clock : agent_clock x.agent ≡ described_clock n c
-  pub state : agent_state x.agent ≡ fresh (first_sets (clock_at n c))
+  pub state : agent_state x.agent ≡ initial_clock_state (first_sets (clock_at n c))
 
 pub record AreStartedClocks (n : NetworkValue) (clocks : List RunningClock) : Type 0 where
   pub count : length clocks ≡ length n.clocks

@@ -10,7 +10,7 @@ use Rattle.ptpm_manager.specs.Receiving.{received_of}
 use Rattle.ptpm_network.specs.Events.{Event, Begin, Send, Resume, Retune, Deliver, Stranger, Refusal, frame_at}
 use Rattle.ptpm_network.specs.Events as refusals
 use Rattle.ptpm_network.specs.Network.{End, AtPort, AtSession, Network}
-use Rattle.ptpm_network.specs.Stands.{Held, Running}
+use Rattle.ptpm_network.specs.RunningNetwork.{Held, RunningNetwork}
 use Rattle.ptpm_world.specs.declared.took.StepError.{StepError}
 use Rattle.ptpm_world.specs.declared.took.StepError.TheVariants as errors
 use Rattle.ptpm_world.specs.declared.took.Took.{Took}
@@ -40,16 +40,16 @@ reports_in (received.Answered report) = report ∷ []
 reports_in (received.Ignored reason) = []
 
 -- a clock answers the verdict of its turn
-abbrev pub took_at : Network → Running → List ℕ → End → Took
+abbrev pub took_at : Network → RunningNetwork → List ℕ → End → Took
 took_at N r octets (AtPort c port) = AtClock (turn (N.clock c) (r.clock c) port octets).verdict
 took_at N r octets (AtSession s) = heard (received_of (r.session s) octets)
 
-abbrev pub took_of : Network → Running → Option Held → Took
+abbrev pub took_of : Network → RunningNetwork → Option Held → Took
 took_of N r None = Fine
 took_of N r (Some h) = took_at N r h.octets h.end
 
 -- what an event that is not refused answers
-unfoldable pub took : Network → Running → Event → Took
+unfoldable pub took : Network → RunningNetwork → Event → Took
 took N r (Begin s ask) = Fine
 took N r (Send s) = Fine
 took N r (Resume s attempts) = Fine

@@ -12,9 +12,8 @@ use Rattle.ptpm_manager.specs.declared.report.Outcome.TheVariants as outcomes
 use Rattle.ptpm_manager.specs.declared.report.Report.{Report}
 use Rattle.ptpm_network.specs.Events as machine
 use Rattle.ptpm_network.specs.Events.{Refusal, frame_at}
-use Rattle.ptpm_network.specs.Happening.{happened, refused}
+use Rattle.ptpm_network.specs.RunningNetwork.{RunningNetwork, network_refusal, network_step}
 use Rattle.ptpm_network.specs.Network.{Network}
-use Rattle.ptpm_network.specs.Stands.{Running}
 use Rattle.ptpm_script.specs.declared.event.Event.{Event}
 use Rattle.ptpm_script.specs.EventLine.{verb_of}
 use Rattle.ptpm_script.specs.OctetText.{text_of_octets}
@@ -48,16 +47,16 @@ event_text number verb answer late before after =
 
 -- ---- what an event does, by its place in the run
 
-abbrev pub answer_by : Option Refusal → Network → Running → machine.Event → Result Took StepError
+abbrev pub answer_by : Option Refusal → Network → RunningNetwork → machine.Event → Result Took StepError
 answer_by None N r e = Ok (took N r e)
 answer_by (Some refusal) N r e = Err (error_of refusal)
 
 -- what it did, or why it is refused
-abbrev pub answer : Network → Running → machine.Event → Result Took StepError
-answer N r e = answer_by (refused N r e) N r e
+abbrev pub answer : Network → RunningNetwork → machine.Event → Result Took StepError
+answer N r e = answer_by (network_refusal N r e) N r e
 
-abbrev pub after_by : Option Refusal → Network → Running → machine.Event → Running
-after_by None N r e = happened N r e
+abbrev pub after_by : Option Refusal → Network → RunningNetwork → machine.Event → RunningNetwork
+after_by None N r e = network_step N r e
 after_by (Some refusal) N r e = r
 
 -- want of memory is no refusal, and ends a script
@@ -66,25 +65,25 @@ is_out_of_memory (Err errors.OutOfMemory) = true
 is_out_of_memory _ = false
 
 -- a refused event changes nothing
-abbrev pub after : Network → Running → machine.Event → Running
-after N r e = after_by (refused N r e) N r e
+abbrev pub after : Network → RunningNetwork → machine.Event → RunningNetwork
+after N r e = after_by (network_refusal N r e) N r e
 
-abbrev pub is_late_event : Running → machine.Event → Bool
+abbrev pub is_late_event : RunningNetwork → machine.Event → Bool
 is_late_event r (machine.Deliver n) = is_late_held r (frame_at r.frames n)
 is_late_event r _ = false
 
-abbrev pub event_line : Network → Names → Running → ℕ → Event → List ℕ
+abbrev pub event_line : Network → Names → RunningNetwork → ℕ → Event → List ℕ
 event_line N names r number e =
     let event = placed names e in
     event_text number (verb_of e) (answer N r event) (is_late_event r event) (length r.frames) (length (after N r event).frames)
 
 -- the lines of numbered events, one after another, whether they are refused or not
-abbrev pub event_lines : Network → Names → Running → List (ℕ × Event) → List ℕ
+abbrev pub event_lines : Network → Names → RunningNetwork → List (ℕ × Event) → List ℕ
 event_lines N names r [] = []
 event_lines N names r (e ∷ es) = event_line N names r e.0 e.1 ++ event_lines N names (after N r (placed names e.1)) es
 
 -- where they lead
-abbrev pub after_all : Network → Names → Running → List (ℕ × Event) → Running
+abbrev pub after_all : Network → Names → RunningNetwork → List (ℕ × Event) → RunningNetwork
 after_all N names r [] = r
 after_all N names r (e ∷ es) = after_all N names (after N r (placed names e.1)) es
 
@@ -114,7 +113,7 @@ report_line session report =
 abbrev pub session_lines : List ℕ → List Report → List ℕ
 session_lines session reports = flat_map (report_line session) reports
 
-abbrev pub report_lines : Names → Running → List ℕ
+abbrev pub report_lines : Names → RunningNetwork → List ℕ
 report_lines names r = flat_map (λ s. session_lines s.1 (r.reports s.0)) (enumerate_from 0 names.sessions)
 
 -- ---- data sets
@@ -140,13 +139,13 @@ data_set_lines clock sets =
 abbrev pub clock_lines : List ℕ → DataSetsValue → List ℕ
 clock_lines clock sets = data_set_lines clock sets ++ flat_map (port_line clock sets) (range_with_len 1 (length sets.ports))
 
-abbrev pub data_lines : Names → Running → List ℕ
+abbrev pub data_lines : Names → RunningNetwork → List ℕ
 data_lines names r = flat_map (λ c. clock_lines c.1 (r.clock c.0).sets) (enumerate_from 0 names.clocks)
 
 -- ---- the whole
 
 -- the lines of the events from a running network on, and the reports and data sets of where they lead
-abbrev pub trace : Network → Names → Running → List (ℕ × Event) → List ℕ
+abbrev pub trace : Network → Names → RunningNetwork → List (ℕ × Event) → List ℕ
 trace N names r es =
     let last = after_all N names r es in
     event_lines N names r es ++ report_lines names last ++ data_lines names last

@@ -82,7 +82,7 @@ impl Frame<'_> {
 
 impl Frames {
     ghost use Rattle.ptpm_network.specs.Events.{frame_at};
-    ghost use Rattle.ptpm_network.specs.Happening.{posted};
+    ghost use Rattle.ptpm_network.specs.RunningNetwork.{posted};
     ghost use Rattle.ptpm_network.specs.Network.{peers};
     ghost use Rattle.ptpm_world.specs.Described.{described_end};
     ghost use Rattle.ptpm_world.specs.Frames.{HasRoom, frame_value, held_in, link_ends, origin_of};

@@ -2,10 +2,10 @@
 
 ghost use Rattle.std.specs.Prelude.{◌≡◌, ◌<◌, ℕ, IfOk, List, [], None, length, map};
 ghost use Rattle.ptpm_codec.specs.declared.identity.PortIdentity.{PortIdentity};
-ghost use Rattle.ptpm_agent.specs.Laws.{fresh};
+ghost use Rattle.ptpm_agent.specs.Laws.{initial_clock_state};
 ghost use Rattle.ptpm_network.specs.Headline.{StandsAfter};
 ghost use Rattle.ptpm_network.specs.Stands.{Stands};
-ghost use Rattle.ptpm_network.specs.State.{at_first};
+ghost use Rattle.ptpm_network.specs.State.{initial_state};
 ghost use Rattle.ptpm_script.specs.NetworkValue.{CanStart, clock_value, first_sets, link_value};
 ghost use Rattle.ptpm_script.specs.NetworkView.{network_value};
 ghost use Rattle.ptpm_table.specs.Managers.{identities, rights_in, table_refusal};
@@ -30,7 +30,7 @@ impl World {
     pub fn new(alloc: Global, network: &Network) -> Result<World, OutOfMemory>
         ensures network { IfOk result (λ w. IsOf (described (network_value network.now)) w) }
         ensures stands { IfOk result (λ w. (first : PortIdentity → ℕ) →
-            Stands (described (network_value network.now)) first (running w) (at_first (described (network_value network.now)))) }
+            Stands (described (network_value network.now)) first (running w) (initial_state (described (network_value network.now)))) }
         ensures after { IfOk result (λ w. StandsAfter (described (network_value network.now)) [] (running w)) }
         ensures names { IfOk result (λ w. names_in w ≡ names_of (network_value network.now)) }
     {
@@ -78,7 +78,7 @@ fn start_agent(clock: &NetworkClock, managers: &[(PortIdentity, Rights)]) -> Age
       managers = identities managers.now;
       rights = rights_in managers.now;
     } }
-    ensures state { agent_state result ≡ fresh (first_sets (clock_value clock.now)) }
+    ensures state { agent_state result ≡ initial_clock_state (first_sets (clock_value clock.now)) }
 {
     let sets = match DataSets::new(&clock.start, clock.ports.as_slice()) {
         Ok(sets) => sets,

@@ -10,13 +10,13 @@ ghost use Rattle.ptpm_agent.specs.Turn.{turn};
 ghost use Rattle.ptpm_table.specs.Outbox.{sent};
 ghost use Rattle.ptpm_network.specs.Events as machine;
 ghost use Rattle.ptpm_network.specs.Events.{frame_at, is_forged, refusal};
-ghost use Rattle.ptpm_network.specs.Happening.{happened, ran, refused};
+ghost use Rattle.ptpm_network.specs.RunningNetwork.{network_refusal, network_run, network_step};
 ghost use Rattle.ptpm_network.specs.Headline.{Headline, StandsAfter};
 ghost use Rattle.ptpm_network.specs.Machine.{AreInTime, is_late_delivery, run, taken};
 ghost use Rattle.ptpm_network.specs.Network.{Network};
 ghost use Rattle.ptpm_network.specs.Network as net;
 ghost use Rattle.ptpm_network.specs.Replying.{origin_by, posted_by};
-ghost use Rattle.ptpm_network.specs.State.{at_first};
+ghost use Rattle.ptpm_network.specs.State.{initial_state};
 ghost use Rattle.ptpm_script.specs.declared.event.Event.{Event};
 ghost use Rattle.ptpm_world.specs.declared.took.StepError.{StepError};
 ghost use Rattle.ptpm_world.specs.Frames.{HasRoom, held_in, link_ends, origin_of};
@@ -44,22 +44,22 @@ impl World {
     /// refuses what that refuses, for the same reason.
     pub fn step(&mut self, event: &Event) -> Result<Took, StepError>
         ensures happened { (N : Network) → IsOf N self.old
-            → OnOk result (running self.new ≡ happened N (running self.old) (placed (names_in self.old) event.now)) }
+            → OnOk result (running self.new ≡ network_step N (running self.old) (placed (names_in self.old) event.now)) }
         ensures took { (N : Network) → IsOf N self.old
             → IfOk result (λ t. t ≡ took N (running self.old) (placed (names_in self.old) event.now)) }
         ensures permitted { (N : Network) → IsOf N self.old
-            → OnOk result (refused N (running self.old) (placed (names_in self.old) event.now) ≡ None) }
+            → OnOk result (network_refusal N (running self.old) (placed (names_in self.old) event.now) ≡ None) }
         ensures refused { (N : Network) → IsOf N self.old
             → IfErr result (λ e. e ≢ StepError.OutOfMemory
-            → option_map error_of (refused N (running self.old) (placed (names_in self.old) event.now)) ≡ Some e) }
+            → option_map error_of (network_refusal N (running self.old) (placed (names_in self.old) event.now)) ≡ Some e) }
         ensures stands { (N : Network) (past : List machine.Event) → IsOf N self.old → StandsAfter N past (running self.old)
-            → is_late_delivery (run N (at_first N) past) (placed (names_in self.old) event.now) ≡ false
+            → is_late_delivery (run N (initial_state N) past) (placed (names_in self.old) event.now) ≡ false
             → OnOk result (StandsAfter N (past ++ placed (names_in self.old) event.now ∷ []) (running self.new)) }
         ensures taken { (N : Network) (past : List machine.Event) → IsOf N self.old → StandsAfter N past (running self.old)
-            → OnOk result (refusal N (run N (at_first N) past) (placed (names_in self.old) event.now) ≡ None) }
+            → OnOk result (refusal N (run N (initial_state N) past) (placed (names_in self.old) event.now) ≡ None) }
         ensures reason { (N : Network) (past : List machine.Event) → IsOf N self.old → StandsAfter N past (running self.old)
             → IfErr result (λ e. e ≢ StepError.OutOfMemory
-            → option_map error_of (refusal N (run N (at_first N) past) (placed (names_in self.old) event.now)) ≡ Some e) }
+            → option_map error_of (refusal N (run N (initial_state N) past) (placed (names_in self.old) event.now)) ≡ Some e) }
         ensures unchanged { OnErr result (running self.new ≡ running self.old) }
         ensures names { names_in self.new ≡ names_in self.old }
         ensures network { (N : Network) → IsOf N self.old → IsOf N self.new }
@@ -78,32 +78,32 @@ impl World {
     /// strangers and refused SETs change no data set (`Headline`).
     pub fn run(&mut self, events: &[Event]) -> Result<(), (usize, StepError)>
         ensures ran { (N : Network) → IsOf N self.old
-            → OnOk result (running self.new ≡ ran N (running self.old) (map (placed (names_in self.old)) events.now)) }
+            → OnOk result (running self.new ≡ network_run N (running self.old) (map (placed (names_in self.old)) events.now)) }
         ensures happened { (N : Network) → IsOf N self.old
             → OnOk result (AllHappen N (running self.old) (map (placed (names_in self.old)) events.now)) }
         ensures place { IfErr result (λ e. e.0 < length events.now) }
         ensures stopped { (N : Network) → IsOf N self.old
-            → IfErr result (λ e. running self.new ≡ ran N (running self.old) (map (placed (names_in self.old)) (take e.0 events.now))) }
+            → IfErr result (λ e. running self.new ≡ network_run N (running self.old) (map (placed (names_in self.old)) (take e.0 events.now))) }
         ensures before { (N : Network) → IsOf N self.old
             → IfErr result (λ e. AllHappen N (running self.old) (map (placed (names_in self.old)) (take e.0 events.now))) }
         ensures refused { (N : Network) → IsOf N self.old
             → IfErr result (λ e. e.1 ≢ StepError.OutOfMemory → (event : Event) → slice_get events.now e.0 ≡ Some event
-            → option_map error_of (refused N (running self.new) (placed (names_in self.old) event)) ≡ Some e.1) }
+            → option_map error_of (network_refusal N (running self.new) (placed (names_in self.old) event)) ≡ Some e.1) }
         ensures stands { (N : Network) (past : List machine.Event) → IsOf N self.old → StandsAfter N past (running self.old)
             → let es = map (placed (names_in self.old)) (carried_out result events.now) in
-            AreInTime N (run N (at_first N) past) es → StandsAfter N (past ++ es) (running self.new) }
+            AreInTime N (run N (initial_state N) past) es → StandsAfter N (past ++ es) (running self.new) }
         ensures headline { (N : Network) (past : List machine.Event) → IsOf N self.old → StandsAfter N past (running self.old)
             → let es = map (placed (names_in self.old)) (carried_out result events.now) in
-            AreInTime N (run N (at_first N) past) es → Headline N (run N (at_first N) (past ++ es)) (running self.new) }
+            AreInTime N (run N (initial_state N) past) es → Headline N (run N (initial_state N) (past ++ es)) (running self.new) }
         ensures taken { (N : Network) (past : List machine.Event) → IsOf N self.old → StandsAfter N past (running self.old)
             → let es = map (placed (names_in self.old)) (carried_out result events.now) in
-            AreInTime N (run N (at_first N) past) es → IfErr result (λ e. e.1 ≢ StepError.OutOfMemory)
-            → taken N (run N (at_first N) past) (map (placed (names_in self.old)) events.now) ≡ es }
+            AreInTime N (run N (initial_state N) past) es → IfErr result (λ e. e.1 ≢ StepError.OutOfMemory)
+            → taken N (run N (initial_state N) past) (map (placed (names_in self.old)) events.now) ≡ es }
         ensures reason { (N : Network) (past : List machine.Event) → IsOf N self.old → StandsAfter N past (running self.old)
             → let es = map (placed (names_in self.old)) (carried_out result events.now) in
-            AreInTime N (run N (at_first N) past) es
+            AreInTime N (run N (initial_state N) past) es
             → IfErr result (λ e. e.1 ≢ StepError.OutOfMemory → (event : Event) → slice_get events.now e.0 ≡ Some event
-            → option_map error_of (refusal N (run N (at_first N) (past ++ es)) (placed (names_in self.old) event)) ≡ Some e.1) }
+            → option_map error_of (refusal N (run N (initial_state N) (past ++ es)) (placed (names_in self.old) event)) ≡ Some e.1) }
         ensures names { names_in self.new ≡ names_in self.old }
         ensures network { (N : Network) → IsOf N self.old → IsOf N self.new }
     {

@@ -52,7 +52,7 @@ impl World {
     ghost use Rattle.ptpm_network.specs.Headline.{StandsAfter};
     ghost use Rattle.ptpm_network.specs.Machine.{is_late_delivery, run};
     ghost use Rattle.ptpm_network.specs.Network.{Network};
-    ghost use Rattle.ptpm_network.specs.State.{at_first, is_late_at};
+    ghost use Rattle.ptpm_network.specs.State.{initial_state, is_late_at};
     ghost use Rattle.ptpm_network.specs.Worth.{IsWorth};
     ghost use Rattle.ptpm_world.specs.Frames.{frame_value};
     ghost use Rattle.ptpm_world.specs.Placed.{names_in, place_in};
@@ -78,7 +78,7 @@ impl World {
         ensures worth { (N : Network) (past : List machine.Event) → IsOf N self.now → StandsAfter N past (running self.now)
             → IfSome result (λ reports. (i : ℕ) (report : Report) → slice_get reports.now i ≡ Some report
             → (report.index ≡ i + 1)
-            × IsWorth N (run N (at_first N) past) (place_in (names_in self.now).sessions session.now) report) }
+            × IsWorth N (run N (initial_state N) past) (place_in (names_in self.now).sessions session.now) report) }
     {
         match self.session_place(session) {
             Some(place) => Some(self.sessions[place].reports.as_slice()),
@@ -107,7 +107,7 @@ impl World {
     pub fn is_late(&self, number: u32) -> bool
         ensures late { result ≡ is_late_held (running self.now) (frame_at (running self.now).frames number) }
         ensures late_after { (N : Network) (past : List machine.Event) → StandsAfter N past (running self.now)
-            → result ≡ is_late_delivery (run N (at_first N) past) (machine.Deliver number) }
+            → result ≡ is_late_delivery (run N (initial_state N) past) (machine.Deliver number) }
         ensures there { IsTrue result → ((1 ≤ number) × (number ≤ length (running self.now).frames)) }
     {
         self.is_overtaken(number)

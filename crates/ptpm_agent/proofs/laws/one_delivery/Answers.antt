@@ -2,7 +2,7 @@ use Rattle.ptpm_agent.proofs.AtMostOnce as law
 use Rattle.ptpm_agent.proofs.laws.one_delivery.Goals as goal
 
 pub returns-clause-begins : goal.returns-clause-begins
-returns-clause-begins c = law.stands_fresh
+returns-clause-begins c = law.stands-initial_history
 
 pub returns-clause-stands : goal.returns-clause-stands
 returns-clause-stands c = λ clock first s h x k at e time. (law.turns_as first clock s h x k at e time).stands

@@ -1,6 +1,6 @@
 use Rattle.std.proofs.Common.{◌≡◌, ◌≢◌, true, refl, ap, length, subst, sym, ◌∙◌}
 use Rattle.std.specs.Io.KnownBytes.{Appends}
-use Rattle.ptpm_network.specs.Stands.{Running}
+use Rattle.ptpm_network.specs.RunningNetwork.{RunningNetwork}
 use Rattle.ptpm_script.specs.EventLine.{verb_of}
 use Rattle.ptpm_world.specs.Placed.{names_in, placed}
 use Rattle.ptpm_world.specs.Running.{running}
@@ -18,7 +18,7 @@ returns-clause-line g c = λ N is.
     let s = c.step-took.ensures in
     let both = answered N r (running c.step-took.new.self) event c.step-took.result (sym c.is_out_of_memory.ensures ∙ c.if-is_out_of_memory.false)
     (s.happened N is) (s.took N is) (s.permitted N is) (s.refused N is) s.unchanged in
-    let made = c.frames-after.ensures.count ∙ ap (λ (x : Running). length x.frames) both.1 in
+    let made = c.frames-after.ensures.count ∙ ap (λ (x : RunningNetwork). length x.frames) both.1 in
     let same : event_text c.args.number (verb_of c.args.event.now) c.step-took.result c.is_late_delivery-is_late.result c.frames-before.result c.frames-after.result
     ≡ event_line N (names_in c.args.world.now) r c.args.number c.args.event.now =
     λ i. event_text c.args.number (verb_of c.args.event.now) (both.0 i) (c.is_late_delivery-is_late.ensures i) (c.frames-before.ensures.count i) (made i) in

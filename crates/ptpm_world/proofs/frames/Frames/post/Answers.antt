@@ -2,7 +2,7 @@ use Rattle.std.proofs.Common.{arith, rules, ◌≡◌, ◌+◌, ◌++◌, Bool, 
 use Rattle.std.specs.Option.{option_copied}
 use Rattle.std.specs.Prelude.{is_ok, vec_len}
 use Rattle.std.proofs.lemmas.List.{append-nil}
-use Rattle.ptpm_network.specs.Happening.{posted}
+use Rattle.ptpm_network.specs.RunningNetwork.{posted}
 use Rattle.ptpm_network.specs.Network as machine
 use Rattle.ptpm_network.specs.Network.{peers}
 use Rattle.ptpm_world.specs.declared.frames.Stored.{Stored}

@@ -2,7 +2,7 @@ use Rattle.std.proofs.Common.{◌≡◌, ◌+◌, ap, sym, subst, ◌∙◌, ref
 use Rattle.std.specs.Prelude.{option_map, slice_get}
 use Rattle.std.proofs.lemmas.Option.{slice_get_read}
 use Rattle.ptpm_network.specs.Machine.{run}
-use Rattle.ptpm_network.specs.State.{at_first}
+use Rattle.ptpm_network.specs.State.{initial_state}
 use Rattle.ptpm_network.specs.Worth.{IsWorth}
 use Rattle.ptpm_world.specs.declared.world.RunningSession.{RunningSession}
 use Rattle.ptpm_world.proofs.Naming.{known-found, unknown-name}
@@ -32,5 +32,5 @@ pub returns-in-Some-clause-worth : goal.returns-in-Some-clause-worth
 returns-in-Some-clause-worth c = λ N past is at i report here.
     let xs = c.args.self.now.sessions.items in
     let there = slice_get_read xs (length xs) c.in-Some.place c.index.result.now refl c.in-Some.ensures.found.1 c.index.ensures in
-    subst (λ s. (report.index ≡ i + 1) × IsWorth N (run N (at_first N) past) s report) c.in-Some.ensures.found.0
+    subst (λ s. (report.index ≡ i + 1) × IsWorth N (run N (initial_state N) past) s report) c.in-Some.ensures.found.0
     (worth-shown N past c.args.self.now c.in-Some.place c.index.result.now is at there i report (ap (λ rs. slice_get rs i) (sym c.as_slice.ensures.value) ∙ here))

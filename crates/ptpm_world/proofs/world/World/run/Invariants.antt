@@ -1,10 +1,10 @@
 use Rattle.std.proofs.Common.{◌≡◌, List, map, take}
 use Rattle.ptpm_network.specs.Events as machine
-use Rattle.ptpm_network.specs.Happening.{ran}
+use Rattle.ptpm_network.specs.RunningNetwork.{network_run}
 use Rattle.ptpm_network.specs.Headline.{StandsAfter}
 use Rattle.ptpm_network.specs.Machine.{AreInTime, run}
 use Rattle.ptpm_network.specs.Network.{Network}
-use Rattle.ptpm_network.specs.State.{at_first}
+use Rattle.ptpm_network.specs.State.{initial_state}
 use Rattle.ptpm_world.specs.Placed.{names_in, placed}
 use Rattle.ptpm_world.specs.Running.{IsOf, running}
 use Rattle.ptpm_world.specs.Stepping.{AllHappen}
@@ -16,9 +16,9 @@ abbrev pub invariant-loop-place : goal.invariant-loop-place
 invariant-loop-place l = record {
   names : names_in l.self ≡ names_in l.fn.self;
   network : (N : Network) → IsOf N l.fn.self → IsOf N l.self;
-  ran : (N : Network) → IsOf N l.fn.self → running l.self ≡ ran N (running l.fn.self) (map (placed (names_in l.fn.self)) (take l.place l.events));
+  ran : (N : Network) → IsOf N l.fn.self → running l.self ≡ network_run N (running l.fn.self) (map (placed (names_in l.fn.self)) (take l.place l.events));
   stands : (N : Network) (past : List machine.Event) → IsOf N l.fn.self → StandsAfter N past (running l.fn.self)
-      → AreInTime N (run N (at_first N) past) (map (placed (names_in l.fn.self)) (take l.place l.events))
+      → AreInTime N (run N (initial_state N) past) (map (placed (names_in l.fn.self)) (take l.place l.events))
       → HasGoneOn N past (map (placed (names_in l.fn.self)) (take l.place l.events)) (running l.self);
   happened : (N : Network) → IsOf N l.fn.self → AllHappen N (running l.fn.self) (map (placed (names_in l.fn.self)) (take l.place l.events));
 }

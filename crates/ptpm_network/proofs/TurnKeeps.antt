@@ -1,2 +1,0 @@
--- What a turn keeps of a clock.
-pub use Rattle.ptpm_agent.proofs.TurnKeeps.{turn-ports}
