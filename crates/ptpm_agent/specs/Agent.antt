@@ -1,23 +1,17 @@
 -- An agent as code, against the definitions: over any reply table, by what the table shows of itself.
 use Rattle.std.specs.Prelude.{◌≡◌, ℕ, List}
-use Rattle.ptpm_codec.specs.declared.identity.ClockIdentity.{ClockIdentity}
-use Rattle.ptpm_codec.specs.declared.identity.PortIdentity.{PortIdentity}
-use Rattle.ptpm_data.specs.declared.rights.Rights.{Rights}
 use Rattle.ptpm_data.specs.Members.{DataSetsValue}
 use Rattle.ptpm_table.specs.Entries.{Entries}
 use Rattle.ptpm_agent.specs.declared.verdict.Verdict.{Verdict}
-use Rattle.ptpm_agent.specs.Turn.{Clock, State, Turned, outbox_of}
-
--- the clock of a table, by its identity, its managers and their rights
-abbrev pub clock_of : {T : Type 0} → (T → ClockIdentity) → (T → List PortIdentity) → (T → PortIdentity → Rights) → T → Clock
-clock_of identity managers rights table = record { identity = identity table; managers = managers table; rights = rights table }
+use Rattle.ptpm_agent.specs.Turn.{State, Turned, outbox_of}
 
 -- the state of an agent, by the entries of its table
 abbrev pub state_of : {T : Type 0} → (T → Entries) → DataSetsValue → T → State
 state_of entries sets table = record { sets = sets; entries = entries table }
 
 -- a call answers this verdict, and leaves this outbox and this state, as the turn says
-pub record IsTurned (t : Turned) (verdict : Verdict) (outbox : List (ℕ × List ℕ)) (next : State) : Type 0 where
+pub record IsTurned (t : Turned) (verdict : Verdict) (outbox : List (ℕ × List ℕ))
+    (next : State) : Type 0 where
   pub verdict_is : verdict ≡ t.verdict
   pub outbox_is : outbox ≡ outbox_of t
   pub sets_are : next.sets ≡ t.next.sets

@@ -3,13 +3,10 @@
 use Rattle.std.specs.Prelude.{ℕ, ◌==◌, ◌&&◌, ◌||◌, not, Bool, true, false, if◌then◌else◌, List, [], ◌++◌, Option, Some, None, Result, Ok, Err}
 use Rattle.std.specs.FinMap.{get, insert}
 use Rattle.ptpm_codec.specs.declared.error.DecodeError.{DecodeError}
-use Rattle.ptpm_codec.specs.declared.identity.ClockIdentity.{ClockIdentity}
-use Rattle.ptpm_codec.specs.declared.identity.PortIdentity.{PortIdentity}
 use Rattle.ptpm_codec.specs.declared.message.Message.{Message}
 use Rattle.ptpm_codec.specs.Identity.{same_clock, every_clock, every_port}
 use Rattle.ptpm_codec.specs.Message.{action_of, id_of, octets_of, is_reply}
 use Rattle.ptpm_codec.specs.Reading.{reading}
-use Rattle.ptpm_data.specs.declared.rights.Rights.{Rights}
 use Rattle.ptpm_data.specs.Changes.{changed_by}
 use Rattle.ptpm_data.specs.Members.{DataSetsValue, has_port}
 use Rattle.ptpm_data.specs.Replies.{reply_to, read_reply_to}
@@ -24,14 +21,10 @@ use Rattle.ptpm_table.specs.Rendering.{rendered}
 use Rattle.ptpm_agent.specs.declared.verdict.Verdict.{Verdict}
 use Rattle.ptpm_agent.specs.declared.verdict.Verdict.TheVariants as verdicts
 use Rattle.ptpm_agent.specs.Forwarding.{forwarded}
-
 -- ---- a clock
 
--- what never changes: its identity, its configured managers, and what each of them may change
-pub record Clock : Type 0 where
-  pub identity : ClockIdentity
-  pub managers : List PortIdentity
-  pub rights : PortIdentity → Rights
+-- what never changes of it is a `Clock`: its identity, its configured managers, and what each of them may change
+pub use Rattle.ptpm_table.specs.Managers.{Clock}
 
 -- what changes: its data sets, and what is kept of each manager
 pub record State : Type 0 where
@@ -42,7 +35,12 @@ pub record State : Type 0 where
 
 -- what a request asks, the target's portNumber included
 abbrev pub request_of : Message → RequestValue
-request_of v = record { action = action_of v.body; id = id_of v.body; port = v.target.port; octets = octets_of v.body }
+request_of v = record {
+  action = action_of v.body;
+  id = id_of v.body;
+  port = v.target.port;
+  octets = octets_of v.body;
+}
 
 -- what a reply takes from the copy that it answers
 abbrev pub heard_of : Message → Heard
@@ -70,7 +68,8 @@ names_port d port = port == every_port || has_port port d
 
 -- for this clock or every clock, at a port that it has (15.3.1)
 abbrev pub is_addressed : Clock → DataSetsValue → Message → Bool
-is_addressed c d v = (is_for_this_clock c v || same_clock v.target.clock every_clock) && names_port d v.target.port
+is_addressed c d v =
+    (is_for_this_clock c v || same_clock v.target.clock every_clock) && names_port d v.target.port
 
 -- from a configured manager, and for exactly this clock: such a request is numbered (this project's profile)
 abbrev pub is_numbered : Clock → Message → Bool
@@ -90,7 +89,8 @@ is_repeat looks.Old = false
 -- The latest accepted request of a manager once more. It is answered in every domain, since a SET of DOMAIN moves the
 -- clock away from those who have not heard of it yet (this project's profile).
 abbrev pub is_accepted_repeat : Clock → State → Message → Bool
-is_accepted_repeat c s v = not (is_own c v) && (is_addressed c s.sets v && (is_request v && is_repeat (look c s v)))
+is_accepted_repeat c s v =
+    not (is_own c v) && (is_addressed c s.sets v && (is_request v && is_repeat (look c s v)))
 
 -- sdoId 0 and the clock's domain, or an accepted repeat
 abbrev pub is_in_domain : Clock → State → Message → Bool
@@ -131,7 +131,8 @@ new_reply c s v = reply_to (request_of v) (c.rights v.source) s.sets
 abbrev pub carried_out : Clock → State → Message → State
 carried_out c s v = record {
   sets = changed_by (request_of v) (c.rights v.source) s.sets;
-  entries = insert s.entries v.source (record { number = v.number; request = request_of v; reply = new_reply c s v });
+  entries = insert s.entries v.source
+      (record { number = v.number; request = request_of v; reply = new_reply c s v });
 }
 
 -- the messages of a reply to what was heard at this port

@@ -9,7 +9,7 @@ ghost use Rattle.ptpm_codec.specs.Spelling.{Spells};
 ghost use Rattle.ptpm_data.specs.Members.{HasPort};
 ghost use Rattle.ptpm_table.specs.Entries.{HasEntry};
 ghost use Rattle.ptpm_table.specs.Rendering.{IsSendable, rendered};
-ghost use Rattle.ptpm_agent.specs.Agent.{IsTurned, clock_of, state_of};
+ghost use Rattle.ptpm_agent.specs.Agent.{IsTurned, state_of};
 ghost use Rattle.ptpm_agent.specs.Forwarding.{forwarded};
 ghost use Rattle.ptpm_agent.specs.Laws.{StandsAt, after_each, datagrams_of, due_messages, last_sent};
 ghost use Rattle.ptpm_agent.specs.Once.{Delivery, History, RequestCopy, applied_once, copy_of, due_reply};
@@ -34,7 +34,7 @@ pub struct Agent<T: ReplyTable + Drop> {
 impl<T: ReplyTable + Drop> Agent<T> {
     /// An agent of these data sets and this table, which are of one clock.
     pub fn new(sets: DataSets, table: T) -> Agent<T>
-        requires { sets.default.identity ≡ T.identity table }
+        requires { sets.default.identity ≡ (T.owner table).identity }
         ensures sets { result.sets ≡ sets }
         ensures table { result.table ≡ table }
     {
@@ -72,17 +72,16 @@ impl<T: ReplyTable + Drop> Agent<T> {
     ) -> Result<Verdict, OutOfMemory>
         requires port { HasPort ingress self.old.sets }
         ensures turned { IfOk result (λ verdict. IsTurned (turn
-            (clock_of T.identity T.managers T.rights_of self.old.table)
-            (state_of T.entries self.old.sets self.old.table) ingress datagram.now)
+            (T.owner self.old.table) (state_of T.entries self.old.sets self.old.table) ingress datagram.now)
             verdict out.new (state_of T.entries self.new.sets self.new.table)) }
         ensures refused { OnErr result
-            (state_of T.entries self.new.sets self.new.table ≡ state_of T.entries self.old.sets self.old.table) }
+            (state_of T.entries self.new.sets self.new.table
+            ≡ state_of T.entries self.old.sets self.old.table) }
         ensures nothing_sent { OnErr result (out.new ≡ out.old) }
         ensures only_new { OnErr result (verdict_of
-            (clock_of T.identity T.managers T.rights_of self.old.table)
-            (state_of T.entries self.old.sets self.old.table) datagram.now ≡ Verdict.AnsweredNew) }
-        ensures clock { clock_of T.identity T.managers T.rights_of self.new.table
-            ≡ clock_of T.identity T.managers T.rights_of self.old.table }
+            (T.owner self.old.table) (state_of T.entries self.old.sets self.old.table) datagram.now
+            ≡ Verdict.AnsweredNew) }
+        ensures clock { T.owner self.new.table ≡ T.owner self.old.table }
     {
         let message = match view(datagram) {
             Ok(message) => message,
@@ -106,8 +105,7 @@ impl<T: ReplyTable + Drop> Agent<T> {
     #[tactic(auto, unfolding(crate::specs::Turn::judged))]
     fn judge(&self, message: &View<'_>) -> Verdict
         ensures verdict { result ≡ judged
-            (clock_of T.identity T.managers T.rights_of self.now.table)
-            (state_of T.entries self.now.sets self.now.table) message.now }
+            (T.owner self.now.table) (state_of T.entries self.now.sets self.now.table) message.now }
         ensures repeat { result ≡ Verdict.AnsweredRepeat →
             HasEntry (T.entries self.now.table) message.now.source message.now.number }
     {
@@ -142,9 +140,9 @@ impl<T: ReplyTable + Drop> Agent<T> {
     /// Whether it is the latest accepted request of its manager once more.
     fn is_accepted_repeat(&self, message: &View<'_>) -> bool
         ensures exact { result ≡ is_accepted_repeat
-            (clock_of T.identity T.managers T.rights_of self.now.table)
-            (state_of T.entries self.now.sets self.now.table) message.now }
-        ensures kept { IsTrue result → HasEntry (T.entries self.now.table) message.now.source message.now.number }
+            (T.owner self.now.table) (state_of T.entries self.now.sets self.now.table) message.now }
+        ensures kept { IsTrue result
+            → HasEntry (T.entries self.now.table) message.now.source message.now.number }
     {
         message.source().clock != self.table.clock()
             && self.is_addressed(message)
@@ -155,7 +153,7 @@ impl<T: ReplyTable + Drop> Agent<T> {
     /// Whether it is for this clock or every clock, at a port that the clock has.
     fn is_addressed(&self, message: &View<'_>) -> bool
         ensures { result ≡ is_addressed
-            (clock_of T.identity T.managers T.rights_of self.now.table) self.now.sets message.now }
+            (T.owner self.now.table) self.now.sets message.now }
     {
         let target = message.target();
         (target.clock == self.table.clock() || target.clock == ClockIdentity::EVERY)
@@ -166,8 +164,7 @@ impl<T: ReplyTable + Drop> Agent<T> {
     #[inline(always)]
     fn look(&self, message: &View<'_>) -> Look
         ensures look { result ≡ look
-            (clock_of T.identity T.managers T.rights_of self.now.table)
-            (state_of T.entries self.now.sets self.now.table) message.now }
+            (T.owner self.now.table) (state_of T.entries self.now.sets self.now.table) message.now }
         ensures repeat { result ≡ Look.Repeat →
             HasEntry (T.entries self.now.table) message.now.source message.now.number }
     {
@@ -191,15 +188,15 @@ impl<T: ReplyTable + Drop> Agent<T> {
         requires read { reading datagram.now ≡ Ok message.now }
         requires spelled { Spells message.now (message_octets datagram.now) }
         requires verdict { verdict ≡ judged
-            (clock_of T.identity T.managers T.rights_of self.old.table)
-            (state_of T.entries self.old.sets self.old.table) message.now }
+            (T.owner self.old.table) (state_of T.entries self.old.sets self.old.table) message.now }
         requires repeat { verdict ≡ Verdict.AnsweredRepeat →
             HasEntry (T.entries self.old.table) message.now.source message.now.number }
         requires not_new { verdict ≢ Verdict.AnsweredNew }
         requires valid { IsValid message.now }
-        ensures sent { out.new ≡ forwarded (T.identity self.old.table) ingress self.old.sets datagram.now ++ reply_messages
-            (clock_of T.identity T.managers T.rights_of self.old.table) ingress (heard_of message.now)
-            (reply_by verdict (clock_of T.identity T.managers T.rights_of self.old.table)
+        ensures sent { out.new ≡ forwarded
+            (T.owner self.old.table).identity ingress self.old.sets datagram.now ++ reply_messages
+            (T.owner self.old.table) ingress (heard_of message.now)
+            (reply_by verdict (T.owner self.old.table)
             (state_of T.entries self.old.sets self.old.table) message.now) }
         ensures sets { self.new.sets ≡ self.old.sets }
         ensures table { self.new.table ≡ self.old.table }
@@ -218,16 +215,15 @@ impl<T: ReplyTable + Drop> Agent<T> {
     /// Appends the reply to a message that is not carried out, if it gets one.
     fn reply(&mut self, verdict: Verdict, ingress: u16, message: &View<'_>, out: &mut Outbox)
         requires verdict { verdict ≡ judged
-            (clock_of T.identity T.managers T.rights_of self.old.table)
-            (state_of T.entries self.old.sets self.old.table) message.now }
+            (T.owner self.old.table) (state_of T.entries self.old.sets self.old.table) message.now }
         requires repeat { verdict ≡ Verdict.AnsweredRepeat →
             HasEntry (T.entries self.old.table) message.now.source message.now.number }
         requires not_new { verdict ≢ Verdict.AnsweredNew }
         requires valid { IsValid message.now }
         requires room { length out.old ≤ 7 }
         ensures sent { out.new ≡ out.old ++ reply_messages
-            (clock_of T.identity T.managers T.rights_of self.old.table) ingress (heard_of message.now)
-            (reply_by verdict (clock_of T.identity T.managers T.rights_of self.old.table)
+            (T.owner self.old.table) ingress (heard_of message.now)
+            (reply_by verdict (T.owner self.old.table)
             (state_of T.entries self.old.sets self.old.table) message.now) }
         ensures sets { self.new.sets ≡ self.old.sets }
         ensures table { self.new.table ≡ self.old.table }
@@ -252,7 +248,8 @@ impl<T: ReplyTable + Drop> Agent<T> {
     /// Leaves the messages of a reply in the outbox, and nothing else.
     fn send(&self, reply: &Reply, ingress: u16, message: &View<'_>, out: &mut Outbox)
         requires sendable { IsSendable reply.now }
-        ensures { out.new ≡ rendered (T.identity self.now.table) (heard_of message.now) reply.now ingress }
+        ensures { out.new ≡ rendered (T.owner self.now.table).identity
+            (heard_of message.now) reply.now ingress }
     {
         out.clear();
         render(&self.table.clock(), &heard_of(message), reply, ingress, out);
@@ -261,20 +258,19 @@ impl<T: ReplyTable + Drop> Agent<T> {
     /// Carries out a new request and keeps it with its reply. Where memory is refused, nothing changes.
     fn try_accept(&mut self, message: &View<'_>) -> Result<Reply, OutOfMemory>
         requires new { judged
-            (clock_of T.identity T.managers T.rights_of self.old.table)
-            (state_of T.entries self.old.sets self.old.table) message.now ≡ Verdict.AnsweredNew }
+            (T.owner self.old.table) (state_of T.entries self.old.sets self.old.table) message.now
+            ≡ Verdict.AnsweredNew }
         requires valid { IsValid message.now }
         ensures reply { IfOk result (λ r. r ≡ new_reply
-            (clock_of T.identity T.managers T.rights_of self.old.table)
-            (state_of T.entries self.old.sets self.old.table) message.now) }
+            (T.owner self.old.table) (state_of T.entries self.old.sets self.old.table) message.now) }
         ensures sendable { IfOk result (λ r. IsSendable r) }
-        ensures accepted { OnOk result (state_of T.entries self.new.sets self.new.table ≡ carried_out
-            (clock_of T.identity T.managers T.rights_of self.old.table)
-            (state_of T.entries self.old.sets self.old.table) message.now) }
+        ensures accepted { OnOk result
+            (state_of T.entries self.new.sets self.new.table ≡ carried_out
+            (T.owner self.old.table) (state_of T.entries self.old.sets self.old.table) message.now) }
         ensures refused { OnErr result
-            (state_of T.entries self.new.sets self.new.table ≡ state_of T.entries self.old.sets self.old.table) }
-        ensures clock { clock_of T.identity T.managers T.rights_of self.new.table
-            ≡ clock_of T.identity T.managers T.rights_of self.old.table }
+            (state_of T.entries self.new.sets self.new.table
+            ≡ state_of T.entries self.old.sets self.old.table) }
+        ensures clock { T.owner self.new.table ≡ T.owner self.old.table }
     {
         let source = message.source();
         let request = request_of(message);
@@ -293,11 +289,9 @@ impl<T: SureTable + Drop> Agent<T> {
     pub fn handle(&mut self, ingress: u16, datagram: &[u8], out: &mut Outbox) -> Verdict
         requires port { HasPort ingress self.old.sets }
         ensures turned { IsTurned (turn
-            (clock_of T.identity T.managers T.rights_of self.old.table)
-            (state_of T.entries self.old.sets self.old.table) ingress datagram.now)
+            (T.owner self.old.table) (state_of T.entries self.old.sets self.old.table) ingress datagram.now)
             result out.new (state_of T.entries self.new.sets self.new.table) }
-        ensures clock { clock_of T.identity T.managers T.rights_of self.new.table
-            ≡ clock_of T.identity T.managers T.rights_of self.old.table }
+        ensures clock { T.owner self.new.table ≡ T.owner self.old.table }
     {
         let message = match view(datagram) {
             Ok(message) => message,
@@ -322,14 +316,12 @@ impl<T: SureTable + Drop> Agent<T> {
     pub fn handle_each(&mut self, datagrams: &[(u16, Octets)], out: &mut Outbox)
         requires ports { All (λ x. HasPort x.0 self.old.sets) datagrams.now }
         ensures turned { state_of T.entries self.new.sets self.new.table ≡ after_each
-            (clock_of T.identity T.managers T.rights_of self.old.table)
-            (state_of T.entries self.old.sets self.old.table) datagrams.now }
+            (T.owner self.old.table) (state_of T.entries self.old.sets self.old.table) datagrams.now }
         ensures sent { out.new ≡ last_sent
-            (clock_of T.identity T.managers T.rights_of self.old.table)
-            (state_of T.entries self.old.sets self.old.table) out.old datagrams.now }
+            (T.owner self.old.table) (state_of T.entries self.old.sets self.old.table) out.old datagrams.now }
         ensures once { (first : PortIdentity → ℕ) (h : History) (xs : List Delivery)
             → datagrams.now ≡ datagrams_of xs
-            → let c = clock_of T.identity T.managers T.rights_of self.old.table in
+            → let c = T.owner self.old.table in
             StandsAt first (state_of T.entries self.old.sets self.old.table) h
             → KeepsWindow c first h xs
             → StandsAt first (state_of T.entries self.new.sets self.new.table)
@@ -337,13 +329,12 @@ impl<T: SureTable + Drop> Agent<T> {
         ensures due { (first : PortIdentity → ℕ) (h : History) (xs : List Delivery) (x : Delivery)
             (k : RequestCopy)
             → datagrams.now ≡ datagrams_of (xs ++ x ∷ [])
-            → let c = clock_of T.identity T.managers T.rights_of self.old.table in
+            → let c = T.owner self.old.table in
             StandsAt first (state_of T.entries self.old.sets self.old.table) h
             → KeepsWindow c first h (xs ++ x ∷ [])
             → copy_of c (applied_once c h xs).sets x ≡ Some k
             → out.new ≡ due_messages c k (due_reply c (applied_once c h xs) k) }
-        ensures clock { clock_of T.identity T.managers T.rights_of self.new.table
-            ≡ clock_of T.identity T.managers T.rights_of self.old.table }
+        ensures clock { T.owner self.new.table ≡ T.owner self.old.table }
     {
         for place in 0..datagrams.len() {
             let arrival = &datagrams[place];
@@ -354,17 +345,15 @@ impl<T: SureTable + Drop> Agent<T> {
     /// Carries out a new request, keeps it with its reply, and leaves the messages of the reply in the outbox, and nothing else.
     fn accept(&mut self, ingress: u16, message: &View<'_>, out: &mut Outbox)
         requires new { judged
-            (clock_of T.identity T.managers T.rights_of self.old.table)
-            (state_of T.entries self.old.sets self.old.table) message.now ≡ Verdict.AnsweredNew }
+            (T.owner self.old.table) (state_of T.entries self.old.sets self.old.table) message.now
+            ≡ Verdict.AnsweredNew }
         requires valid { IsValid message.now }
         ensures accepted { state_of T.entries self.new.sets self.new.table ≡ carried_out
-            (clock_of T.identity T.managers T.rights_of self.old.table)
-            (state_of T.entries self.old.sets self.old.table) message.now }
-        ensures sent { out.new ≡ rendered (T.identity self.old.table) (heard_of message.now) (new_reply
-            (clock_of T.identity T.managers T.rights_of self.old.table)
-            (state_of T.entries self.old.sets self.old.table) message.now) ingress }
-        ensures clock { clock_of T.identity T.managers T.rights_of self.new.table
-            ≡ clock_of T.identity T.managers T.rights_of self.old.table }
+            (T.owner self.old.table) (state_of T.entries self.old.sets self.old.table) message.now }
+        ensures sent { out.new ≡ rendered (T.owner self.old.table).identity (heard_of message.now)
+            (new_reply
+            (T.owner self.old.table) (state_of T.entries self.old.sets self.old.table) message.now) ingress }
+        ensures clock { T.owner self.new.table ≡ T.owner self.old.table }
     {
         let heard = heard_of(message);
         let request = request_of(message);

@@ -3,17 +3,13 @@ use Rattle.ptpm_agent.specs.declared.agent.Agent.{Agent}
 use Rattle.ptpm_agent.specs.Turn.{Clock, State}
 use Rattle.ptpm_codec.specs.Identity.{identity_cmp}
 use Rattle.ptpm_table.specs.declared.bound_table.BoundTable.{BoundTable}
-use Rattle.ptpm_table.specs.Managers.{identities, rights_in}
+use Rattle.ptpm_table.specs.Managers.{clock_with}
 use Rattle.ptpm_table.specs.Slots.{configured, used}
 use Rattle.std.specs.FinMap.{from_entries}
 
 -- its identity, and its managers with their rights
 abbrev pub clock_shown : Agent BoundTable → Clock
-clock_shown a = record {
-  identity = a.table.clock;
-  managers = identities (configured a.table.slots.items);
-  rights = rights_in (configured a.table.slots.items);
-}
+clock_shown a = clock_with a.table.clock (configured a.table.slots.items)
 
 -- its data sets, and what it keeps of its managers
 abbrev pub state_shown : Agent BoundTable → State

@@ -23,8 +23,7 @@ const MANAGER: PortIdentity = PortIdentity {
 pub(crate) fn fresh_clock() -> Agent<BoundTable>
     ensures sets { result.sets ≡ fresh_sets }
     ensures table { IsFresh shown managers
-        (⟦<BoundTable as ReplyTable>⟧.identity result.table) (⟦<BoundTable as ReplyTable>⟧.managers result.table)
-        (⟦<BoundTable as ReplyTable>⟧.rights_of result.table) (⟦<BoundTable as ReplyTable>⟧.entries result.table) }
+        (⟦<BoundTable as ReplyTable>⟧.owner result.table) (⟦<BoundTable as ReplyTable>⟧.entries result.table) }
     ensures port { HasPort 1 result.sets }
 {
     let ports = [PortStart::new(), PortStart::new()];
@@ -39,8 +38,7 @@ pub(crate) fn fresh_clock() -> Agent<BoundTable>
 #[inline(never)]
 fn fresh_table() -> BoundTable
     ensures { IsFresh shown managers
-        (⟦<BoundTable as ReplyTable>⟧.identity result) (⟦<BoundTable as ReplyTable>⟧.managers result)
-        (⟦<BoundTable as ReplyTable>⟧.rights_of result) (⟦<BoundTable as ReplyTable>⟧.entries result) }
+        (⟦<BoundTable as ReplyTable>⟧.owner result) (⟦<BoundTable as ReplyTable>⟧.entries result) }
 {
     match BoundTable::new(CLOCK, &[(MANAGER, Rights(7))]) {
         Ok(table) => table,

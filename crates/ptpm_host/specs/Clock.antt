@@ -7,7 +7,7 @@ use Rattle.ptpm_data.specs.declared.start.StartError.{StartError}
 use Rattle.ptpm_data.specs.Members.{DataSetsValue}
 use Rattle.ptpm_data.specs.Start.{start_of}
 use Rattle.ptpm_table.specs.declared.error.TableError.{TableError}
-use Rattle.ptpm_table.specs.Managers.{identities, rights_in, table_refusal}
+use Rattle.ptpm_table.specs.Managers.{clock_with, identities, table_refusal}
 use Rattle.ptpm_table.specs.Slots.{configured, used}
 use Rattle.ptpm_agent.specs.Turn.{Clock, State}
 use Rattle.ptpm_host.specs.declared.clock.HostedClock.{HostedClock}
@@ -25,11 +25,7 @@ use Rattle.ptpm_host.specs.Settings as settings
 
 -- its identity, its managers, and what each of them may change
 abbrev pub clock_in : HostedClock → Clock
-clock_in c = record {
-  identity = c.agent.table.clock;
-  managers = identities (configured c.agent.table.slots.items);
-  rights = rights_in (configured c.agent.table.slots.items);
-}
+clock_in c = clock_with c.agent.table.clock (configured c.agent.table.slots.items)
 
 -- its data sets, and what is kept of each manager
 abbrev pub state_in : HostedClock → State

@@ -46,8 +46,8 @@ impl HostedClock {
     ) -> Result<HostedClock, StartRefusal>
         ensures sets { IfOk result (λ c. start_by settings.now ports.now ≡ Ok c.agent.sets) }
         ensures table { IfOk result (λ c. IsFresh (record { 0 = settings.now.identity }) (configured managers.now)
-            (⟦<BoundTable as ReplyTable>⟧.identity c.agent.table) (⟦<BoundTable as ReplyTable>⟧.managers c.agent.table)
-            (⟦<BoundTable as ReplyTable>⟧.rights_of c.agent.table) (⟦<BoundTable as ReplyTable>⟧.entries c.agent.table)) }
+            (⟦<BoundTable as ReplyTable>⟧.owner c.agent.table)
+            (⟦<BoundTable as ReplyTable>⟧.entries c.agent.table)) }
         ensures permitted { OnOk result (start_refusal settings.now ports.now managers.now ≡ None) }
         ensures refused { IfErr result (λ e. e ≢ StartRefusal.OutOfMemory →
             start_refusal settings.now ports.now managers.now ≡ Some e) }

@@ -10,6 +10,12 @@ use Rattle.ptpm_table.specs.declared.error.TableError.{TableError}
 use Rattle.ptpm_table.specs.declared.error.TableError.TheVariants.{TooMany, Twice}
 use Rattle.ptpm_table.specs.Entries.{Entries}
 
+-- a clock by what never changes of it: its identity, its configured managers, and what each of them may change
+pub record Clock : Type 0 where
+  pub identity : ClockIdentity
+  pub managers : List PortIdentity
+  pub rights : PortIdentity → Rights
+
 abbrev pub identities : List (PortIdentity × Rights) → List PortIdentity
 identities managers = map (λ m. m.0) managers
 
@@ -21,6 +27,13 @@ abbrev pub rights_in : List (PortIdentity × Rights) → PortIdentity → Rights
 rights_in [] who = no_rights
 rights_in (m ∷ ms) who = if same_identity who m.0 then m.1 else rights_in ms who
 
+abbrev pub clock_with : ClockIdentity → List (PortIdentity × Rights) → Clock
+clock_with identity configured = record {
+  identity = identity;
+  managers = identities configured;
+  rights = rights_in configured;
+}
+
 -- an identity stands twice in the list
 abbrev pub has_twice : List PortIdentity → Bool
 has_twice [] = false
@@ -30,9 +43,8 @@ has_twice (p ∷ ps) = list_any (same_identity p) ps || has_twice ps
 abbrev pub table_refusal : List PortIdentity → Option TableError
 table_refusal managers = if nat_lt 16 (length managers) then Some TooMany else if has_twice managers then Some Twice else None
 
--- a table is of this clock, knows these managers with their rights, and has nothing kept yet
-pub record IsFresh (clock : ClockIdentity) (configured : List (PortIdentity × Rights)) (identity : ClockIdentity) (managers : List PortIdentity) (rights_of : PortIdentity → Rights) (entries : Entries) : Type 0 where
-  pub identity_is : identity ≡ clock
-  pub managers_are : managers ≡ identities configured
-  pub rights_are : (who : PortIdentity) → rights_of who ≡ rights_in configured who
+-- a table is of the clock of this identity and these managers with their rights, and has nothing kept yet
+pub record IsFresh (identity : ClockIdentity) (configured : List (PortIdentity × Rights))
+    (owner : Clock) (entries : Entries) : Type 0 where
+  pub owner_is : owner ≡ clock_with identity configured
   pub nothing_kept : entries ≡ empty

@@ -42,8 +42,7 @@ impl BoundTable {
         managers: &[(PortIdentity, Rights)],
     ) -> Result<BoundTable, TableError>
         ensures fresh { IfOk result (λ t. IsFresh clock managers.now
-            (⟦<BoundTable as ReplyTable>⟧.identity t) (⟦<BoundTable as ReplyTable>⟧.managers t)
-            (⟦<BoundTable as ReplyTable>⟧.rights_of t) (⟦<BoundTable as ReplyTable>⟧.entries t)) }
+            (⟦<BoundTable as ReplyTable>⟧.owner t) (⟦<BoundTable as ReplyTable>⟧.entries t)) }
         ensures refusal { MatchResult result
             (λ _. table_refusal (identities managers.now) ≡ None)
             (λ e. table_refusal (identities managers.now) ≡ Some e) }
@@ -153,14 +152,10 @@ fn put_and_send(
 
 impl ReplyTable for BoundTable {
     ghost use Rattle.std.specs.FinMap as fin;
-    ghost use Rattle.ptpm_table.specs.Managers.{identities, rights_in};
+    ghost use Rattle.ptpm_table.specs.Managers.{clock_with};
     ghost use Rattle.ptpm_table.specs.Slots.{configured, used};
 
-    ghost identity = { λ t. t.clock };
-
-    ghost managers = { λ t. identities (configured t.slots.items) };
-
-    ghost rights_of = { λ t. rights_in (configured t.slots.items) };
+    ghost owner = { λ t. clock_with t.clock (configured t.slots.items) };
 
     ghost entries = { λ t. fin.from_entries (used t.slots.items) };
 
@@ -200,7 +195,7 @@ impl ReplyTable for BoundTable {
         request: &Request<'_>,
         reply: &Reply,
     ) -> Result<(), OutOfMemory>
-        requires known { IsTrue (is_known who.now (⟦<BoundTable as ReplyTable>⟧.managers self.old)) }
+        requires known { IsTrue (is_known who.now (⟦<BoundTable as ReplyTable>⟧.owner self.old).managers) }
         requires action { IsRequestAction request.now.action }
         requires octets { IsDataField request.now.octets }
         requires fits { FitsRequest request.now reply.now }
@@ -208,9 +203,7 @@ impl ReplyTable for BoundTable {
         ensures ok { OnOk result (⟦<BoundTable as ReplyTable>⟧.entries self.new ≡ fin.insert (⟦<BoundTable as ReplyTable>⟧.entries self.old) who.now
             (record { number = number; request = request.now; reply = reply.now })) }
         ensures err { OnErr result (⟦<BoundTable as ReplyTable>⟧.entries self.new ≡ ⟦<BoundTable as ReplyTable>⟧.entries self.old) }
-        ensures managers { ⟦<BoundTable as ReplyTable>⟧.managers self.new ≡ ⟦<BoundTable as ReplyTable>⟧.managers self.old }
-        ensures rights { ⟦<BoundTable as ReplyTable>⟧.rights_of self.new ≡ ⟦<BoundTable as ReplyTable>⟧.rights_of self.old }
-        ensures identity { ⟦<BoundTable as ReplyTable>⟧.identity self.new ≡ ⟦<BoundTable as ReplyTable>⟧.identity self.old }
+        ensures owner { ⟦<BoundTable as ReplyTable>⟧.owner self.new ≡ ⟦<BoundTable as ReplyTable>⟧.owner self.old }
     {
         self.replace(who, number, request, reply);
         Ok(())

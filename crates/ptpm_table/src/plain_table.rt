@@ -76,8 +76,7 @@ impl PlainTable {
         managers: &[(PortIdentity, Rights)],
     ) -> Result<PlainTable, TableError>
         ensures fresh { IfOk result (λ t. IsFresh clock managers.now
-            (⟦<PlainTable as ReplyTable>⟧.identity t) (⟦<PlainTable as ReplyTable>⟧.managers t)
-            (⟦<PlainTable as ReplyTable>⟧.rights_of t) (⟦<PlainTable as ReplyTable>⟧.entries t)) }
+            (⟦<PlainTable as ReplyTable>⟧.owner t) (⟦<PlainTable as ReplyTable>⟧.entries t)) }
         ensures refused { (e : TableError) → table_refusal (identities managers.now) ≡ Some e → result ≡ Err e }
         ensures no_other { IfErr result (λ e. e ≢ TableError.OutOfMemory → table_refusal (identities managers.now) ≡ Some e) }
     {
@@ -104,13 +103,9 @@ impl PlainTable {
 
 impl ReplyTable for PlainTable {
     ghost use Rattle.std.specs.FinMap as fin;
-    ghost use Rattle.ptpm_table.specs.Managers.{identities, rights_in};
+    ghost use Rattle.ptpm_table.specs.Managers.{clock_with};
 
-    ghost identity = { λ t. t.clock };
-
-    ghost managers = { λ t. identities t.managers.items };
-
-    ghost rights_of = { λ t. rights_in t.managers.items };
+    ghost owner = { λ t. clock_with t.clock t.managers.items };
 
     ghost entries = { λ t. fin.from_entries t.kept.entries };
 

@@ -30,39 +30,31 @@ pub enum Look {
 /// The latest accepted request of each configured manager, with its number and reply, however they are kept. Contracts
 /// see a finite map from managers to entries.
 pub trait ReplyTable {
-    ghost use Rattle.std.specs.Prelude.{List};
-    ghost use Rattle.ptpm_codec.specs.declared.identity.ClockIdentity.{ClockIdentity};
-    ghost use Rattle.ptpm_codec.specs.declared.identity.PortIdentity.{PortIdentity};
-    ghost use Rattle.ptpm_data.specs.declared.rights.Rights.{Rights};
     ghost use Rattle.ptpm_table.specs.Entries.{Entries};
+    ghost use Rattle.ptpm_table.specs.Managers.{Clock};
 
-    /// The clock whose table this is.
-    ghost identity: { Self → ClockIdentity };
-
-    /// The configured managers, in their order.
-    ghost managers: { Self → List PortIdentity };
-
-    /// What each manager may change; nothing for anyone else.
-    ghost rights_of: { Self → PortIdentity → Rights };
+    /// The clock whose table this is, with its configured managers and what each may change. No call changes it.
+    ghost owner: { Self → Clock };
 
     /// What is kept.
     ghost entries: { Self → Entries };
 
     /// The clock's identity.
     fn clock(&self) -> ClockIdentity
-        ensures { result ≡ identity self.now };
+        ensures { result ≡ (owner self.now).identity };
 
     /// Whether this is a configured manager.
     fn knows(&self, who: &PortIdentity) -> bool
-        ensures { result ≡ is_known who.now (managers self.now) };
+        ensures { result ≡ is_known who.now (owner self.now).managers };
 
     /// The manager's rights; none for anyone else.
     fn rights(&self, who: &PortIdentity) -> Rights
-        ensures { result ≡ rights_of self.now who.now };
+        ensures { result ≡ (owner self.now).rights who.now };
 
     /// What a request of this source and number is.
     fn look(&self, who: &PortIdentity, number: u16, request: &Request<'_>) -> Look
-        ensures look { result ≡ look_of (is_known who.now (managers self.now)) (fin.get (entries self.now) who.now) number request.now }
+        ensures look { result ≡ look_of (is_known who.now (owner self.now).managers)
+            (fin.get (entries self.now) who.now) number request.now }
         ensures repeat { result ≡ Look.Repeat → HasEntry (entries self.now) who.now number };
 
     /// Puts number, request and reply in place of what is kept of the manager; of no other manager anything changes.
@@ -74,15 +66,14 @@ pub trait ReplyTable {
         request: &Request<'_>,
         reply: &Reply,
     ) -> Result<(), OutOfMemory>
-        requires known { IsTrue (is_known who.now (managers self.old)) }
+        requires known { IsTrue (is_known who.now (owner self.old).managers) }
         requires action { IsRequestAction request.now.action }
         requires octets { IsDataField request.now.octets }
         requires fits { FitsRequest request.now reply.now }
-        ensures ok { OnOk result (entries self.new ≡ fin.insert (entries self.old) who.now (record { number = number; request = request.now; reply = reply.now })) }
+        ensures ok { OnOk result (entries self.new ≡ fin.insert (entries self.old) who.now
+            (record { number = number; request = request.now; reply = reply.now })) }
         ensures err { OnErr result (entries self.new ≡ entries self.old) }
-        ensures managers { managers self.new ≡ managers self.old }
-        ensures rights { rights_of self.new ≡ rights_of self.old }
-        ensures identity { identity self.new ≡ identity self.old };
+        ensures owner { owner self.new ≡ owner self.old };
 
     /// Appends the messages of the kept reply for the copy that was heard, and changes no entry. At most seven messages
     /// stand before them, as many as a clock of eight ports passes on: a kept reply has eight at most, and an outbox has room
@@ -91,7 +82,7 @@ pub trait ReplyTable {
         requires kept { HasEntry (entries self.now) heard.now.source heard.now.number }
         requires room { length out.old ≤ 7 }
         ensures { (e : Entry) → fin.get (entries self.now) heard.now.source ≡ Some e →
-            out.new ≡ out.old ++ rendered (identity self.now) heard.now e.reply ingress };
+            out.new ≡ out.old ++ rendered (owner self.now).identity heard.now e.reply ingress };
 }
 
 /// A table that always has room for what is kept.
@@ -100,14 +91,13 @@ pub trait SureTable: ReplyTable {
 
     /// Does what `keep` does, and is never refused.
     fn replace(&mut self, who: &PortIdentity, number: u16, request: &Request<'_>, reply: &Reply)
-        requires known { IsTrue (is_known who.now (Self.managers self.old)) }
+        requires known { IsTrue (is_known who.now (Self.owner self.old).managers) }
         requires action { IsRequestAction request.now.action }
         requires octets { IsDataField request.now.octets }
         requires fits { FitsRequest request.now reply.now }
-        ensures kept { Self.entries self.new ≡ fin.insert (Self.entries self.old) who.now (record { number = number; request = request.now; reply = reply.now }) }
-        ensures managers { Self.managers self.new ≡ Self.managers self.old }
-        ensures rights { Self.rights_of self.new ≡ Self.rights_of self.old }
-        ensures identity { Self.identity self.new ≡ Self.identity self.old };
+        ensures kept { Self.entries self.new ≡ fin.insert (Self.entries self.old) who.now
+            (record { number = number; request = request.now; reply = reply.now }) }
+        ensures owner { Self.owner self.new ≡ Self.owner self.old };
 
     /// Does what `replace` does, and appends the messages of the reply for the copy that was heard, as `resend` does then. A
     /// table that finds its manager's place once for both has a body of its own.
@@ -119,17 +109,15 @@ pub trait SureTable: ReplyTable {
         ingress: u16,
         out: &mut Outbox,
     )
-        requires known { IsTrue (is_known heard.now.source (Self.managers self.old)) }
+        requires known { IsTrue (is_known heard.now.source (Self.owner self.old).managers) }
         requires action { IsRequestAction request.now.action }
         requires octets { IsDataField request.now.octets }
         requires fits { FitsRequest request.now reply.now }
         requires room { length out.old ≤ 7 }
         ensures kept { Self.entries self.new ≡ fin.insert (Self.entries self.old) heard.now.source
             (record { number = heard.now.number; request = request.now; reply = reply.now }) }
-        ensures sent { out.new ≡ out.old ++ rendered (Self.identity self.old) heard.now reply.now ingress }
-        ensures managers { Self.managers self.new ≡ Self.managers self.old }
-        ensures rights { Self.rights_of self.new ≡ Self.rights_of self.old }
-        ensures identity { Self.identity self.new ≡ Self.identity self.old }
+        ensures sent { out.new ≡ out.old ++ rendered (Self.owner self.old).identity heard.now reply.now ingress }
+        ensures owner { Self.owner self.new ≡ Self.owner self.old }
     {
         self.replace(&heard.source, heard.number, request, reply);
         self.resend(heard, ingress, out);

@@ -18,7 +18,7 @@ use Rattle.ptpm_data.specs.Members.{DataSetsValue}
 use Rattle.ptpm_data.specs.Start.{port_data_set, start_fault, start_of, started, unless}
 use Rattle.ptpm_table.specs.declared.bound_table.BoundTable.{BoundTable}
 use Rattle.ptpm_table.specs.Entries.{is_known}
-use Rattle.ptpm_table.specs.Managers.{IsFresh, has_twice, identities, rights_in, table_refusal}
+use Rattle.ptpm_table.specs.Managers.{IsFresh, clock_with, has_twice, identities, table_refusal}
 use Rattle.ptpm_table.specs.Slots as slots
 use Rattle.ptpm_agent.specs.declared.agent.Agent.{Agent}
 use Rattle.ptpm_agent.specs.Laws.{StandsAt, initial_clock_state}
@@ -182,17 +182,12 @@ sets_start c ports sets h = unless_ok (start_fault c ports) (started c ports) se
 -- the table of a fresh agent
 abbrev IsFreshTable : ClockIdentity → List (PortIdentity × Rights) → BoundTable → Type 0
 IsFreshTable clock managers t =
-    IsFresh clock managers t.clock (identities (slots.configured t.slots.items)) (rights_in (slots.configured t.slots.items)) (table_entries t)
+    IsFresh clock managers (clock_with t.clock (slots.configured t.slots.items)) (table_entries t)
 
 pub clock_starts : (a : Agent BoundTable) (t : BoundTable) (clock : ClockIdentity) (managers : List (PortIdentity × Rights)) → a.table ≡ t
-    → IsFreshTable clock managers t → agent_clock a ≡ record { identity = clock; managers = identities managers; rights = rights_in managers }
+    → IsFreshTable clock managers t → agent_clock a ≡ clock_with clock managers
 clock_starts a t clock managers same f =
-    let slots_are = ap (λ (b : BoundTable). slots.configured b.slots.items) same in
-    λ i. record {
-      identity = (ap (λ (b : BoundTable). b.clock) same ∙ f.identity_is) i;
-      managers = (ap identities slots_are ∙ f.managers_are) i;
-      rights = λ who. (ap (λ ms. rights_in ms who) slots_are ∙ f.rights_are who) i;
-    }
+    ap (λ (b : BoundTable). clock_with b.clock (slots.configured b.slots.items)) same ∙ f.owner_is
 
 pub state_starts : (a : Agent BoundTable) (t : BoundTable) (sets : DataSetsValue) (clock : ClockIdentity) (managers : List (PortIdentity × Rights))
     → a.table ≡ t → a.sets ≡ sets → IsFreshTable clock managers t → agent_state a ≡ initial_clock_state sets
@@ -203,15 +198,11 @@ state_starts a t sets clock managers same sets_are f = λ i. record {
 
 pub started_clock : (n : NetworkValue) (c : ℕ) (k : ClockValue) (managers : List (PortIdentity × Rights)) (x : RunningClock)
     → clock_at n c ≡ k → managers ≡ configured n.sessions c → x.name ≡ k.name
-    → agent_clock x.agent ≡ record { identity = k.start.identity; managers = identities managers; rights = rights_in managers }
+    → agent_clock x.agent ≡ clock_with k.start.identity managers
     → agent_state x.agent ≡ initial_clock_state (first_sets k) → IsStartedClock n c x
 started_clock n c k managers x at same name clock state = record {
   name = name ∙ ap (λ (v : ClockValue). v.name) (sym at);
-  clock = clock ∙ (λ i. record {
-    identity = (sym at i).start.identity;
-    managers = identities (same i);
-    rights = rights_in (same i);
-  });
+  clock = clock ∙ (λ i. clock_with (sym at i).start.identity (same i));
   state = state ∙ ap (λ (v : ClockValue). initial_clock_state (first_sets v)) (sym at);
 }
 

@@ -5,7 +5,7 @@ use Rattle.ptpm_codec.specs.declared.identity.PortIdentity.{PortIdentity}
 use Rattle.ptpm_codec.specs.Identity.{every_clock}
 use Rattle.ptpm_data.specs.declared.rights.Rights.{Rights}
 use Rattle.ptpm_data.specs.Start.{default_clock}
-use Rattle.ptpm_table.specs.Managers.{identities, no_rights, rights_in}
+use Rattle.ptpm_table.specs.Managers.{clock_with, no_rights}
 use Rattle.ptpm_agent.specs.Turn.{Clock}
 use Rattle.ptpm_network.specs.Network as machine
 use Rattle.ptpm_network.specs.Network.{Network, SessionStart}
@@ -47,11 +47,7 @@ abbrev pub configured : List NetworkSession → ℕ → List (PortIdentity × Ri
 configured sessions c = map with_rights (filter (λ s. s.target == c) sessions)
 
 abbrev pub described_clock : NetworkValue → ℕ → Clock
-described_clock n c = record {
-  identity = (clock_at n c).start.identity;
-  managers = identities (configured n.sessions c);
-  rights = rights_in (configured n.sessions c);
-}
+described_clock n c = clock_with (clock_at n c).start.identity (configured n.sessions c)
 
 -- ---- sessions
 

@@ -5,7 +5,7 @@ use Rattle.ptpm_codec.specs.Identity.{identity_cmp}
 use Rattle.ptpm_data.specs.Members.{DataSetsValue}
 use Rattle.ptpm_table.specs.declared.bound_table.BoundTable.{BoundTable}
 use Rattle.ptpm_table.specs.Entries.{Entries}
-use Rattle.ptpm_table.specs.Managers.{identities, rights_in}
+use Rattle.ptpm_table.specs.Managers.{clock_with}
 use Rattle.ptpm_table.specs.Slots.{configured, used}
 use Rattle.ptpm_agent.specs.declared.agent.Agent.{Agent}
 use Rattle.ptpm_agent.specs.Laws.{initial_clock_state}
@@ -31,11 +31,7 @@ abbrev pub table_entries : BoundTable → Entries
 table_entries t = from_entries {R = identity_cmp} (used t.slots.items)
 
 abbrev pub agent_clock : Agent BoundTable → Clock
-agent_clock a = record {
-  identity = a.table.clock;
-  managers = identities (configured a.table.slots.items);
-  rights = rights_in (configured a.table.slots.items);
-}
+agent_clock a = clock_with a.table.clock (configured a.table.slots.items)
 
 abbrev pub agent_state : Agent BoundTable → State
 agent_state a = record { sets = a.sets; entries = table_entries a.table }

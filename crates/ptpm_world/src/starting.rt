@@ -8,7 +8,7 @@ ghost use Rattle.ptpm_network.specs.Stands.{Stands};
 ghost use Rattle.ptpm_network.specs.State.{initial_state};
 ghost use Rattle.ptpm_script.specs.NetworkValue.{CanStart, clock_value, first_sets, link_value};
 ghost use Rattle.ptpm_script.specs.NetworkView.{network_value};
-ghost use Rattle.ptpm_table.specs.Managers.{identities, rights_in, table_refusal};
+ghost use Rattle.ptpm_table.specs.Managers.{clock_with, identities, table_refusal};
 ghost use Rattle.ptpm_world.specs.Described.{configured, described};
 ghost use Rattle.ptpm_world.specs.Placed.{names_in, names_of};
 ghost use Rattle.ptpm_world.specs.Running.{IsOf, agent_clock, agent_state, running};
@@ -73,11 +73,7 @@ fn start_clock(alloc: Global, network: &Network, place: usize) -> Result<Running
 fn start_agent(clock: &NetworkClock, managers: &[(PortIdentity, Rights)]) -> Agent<BoundTable>
     requires starts { CanStart (clock_value clock.now) }
     requires managers { table_refusal (identities managers.now) ≡ None }
-    ensures clock { agent_clock result ≡ record {
-      identity = clock.now.start.identity;
-      managers = identities managers.now;
-      rights = rights_in managers.now;
-    } }
+    ensures clock { agent_clock result ≡ clock_with clock.now.start.identity managers.now }
     ensures state { agent_state result ≡ initial_clock_state (first_sets (clock_value clock.now)) }
 {
     let sets = match DataSets::new(&clock.start, clock.ports.as_slice()) {

@@ -19,7 +19,7 @@ decide_into-requires-clause-port g c =
 pub answer-requires-clause-known : goal.answer-requires-clause-known
 answer-requires-clause-known g c =
     let p = new_parts _ _ _ c.requires.new in
-    subst (λ (h : Heard). IsTrue (is_known h.source (g.T.ReplyTable.managers c.args.self.now.table))) (sym c.heard_of-heard.ensures) p.known
+    subst (λ (h : Heard). IsTrue (is_known h.source (g.T.ReplyTable.owner c.args.self.now.table).managers)) (sym c.heard_of-heard.ensures) p.known
 
 pub answer-requires-clause-action : goal.answer-requires-clause-action
 answer-requires-clause-action g c =

@@ -1,18 +1,18 @@
 use Rattle.std.proofs.Common.{refl, sym, ◌∙◌}
-use Rattle.ptpm_agent.specs.Agent.{clock_of, state_of}
+use Rattle.ptpm_agent.specs.Agent.{state_of}
 use Rattle.ptpm_agent.proofs.Turns.{turned_new, turned_other, turned_refused}
 use Rattle.ptpm_agent.proofs.agent.Agent.handle.Goals as goal
 
 pub returns-in-Err-clause-turned : goal.returns-in-Err-clause-turned
 returns-in-Err-clause-turned g c =
-    turned_refused (clock_of g.T.ReplyTable.identity g.T.ReplyTable.managers g.T.ReplyTable.rights_of c.args.self.now.table)
+    turned_refused (g.T.ReplyTable.owner c.args.self.now.table)
     (state_of g.T.ReplyTable.entries c.args.self.now.sets c.args.self.now.table) c.args.ingress c.args.datagram.now c.in-Err.cause
     c.clear.new.self (state_of g.T.ReplyTable.entries c.args.self.now.sets c.args.self.now.table)
     (sym c.view.ensures.exact ∙ c.in-Err.is) c.clear.ensures refl
 
 pub returns-in-AnsweredNew-clause-turned : goal.returns-in-AnsweredNew-clause-turned
 returns-in-AnsweredNew-clause-turned g c =
-    let clock = clock_of g.T.ReplyTable.identity g.T.ReplyTable.managers g.T.ReplyTable.rights_of c.args.self.now.table in
+    let clock = g.T.ReplyTable.owner c.args.self.now.table in
     let state = state_of g.T.ReplyTable.entries c.args.self.now.sets c.args.self.now.table in
     turned_new clock state c.args.ingress c.args.datagram.now c.in-Ok.message c.judge-verdict.result c.accept.new.out
     (state_of g.T.ReplyTable.entries c.accept.new.self.sets c.accept.new.self.table)
@@ -21,11 +21,11 @@ returns-in-AnsweredNew-clause-turned g c =
 pub returns-in_default : goal.returns-in_default
 returns-in_default g c = record {
   turned =
-      turned_other (clock_of g.T.ReplyTable.identity g.T.ReplyTable.managers g.T.ReplyTable.rights_of c.args.self.now.table)
+      turned_other (g.T.ReplyTable.owner c.args.self.now.table)
       (state_of g.T.ReplyTable.entries c.args.self.now.sets c.args.self.now.table) c.args.ingress c.args.datagram.now c.in-Ok.message
       c.judge-verdict.result c.answer.new.out (state_of g.T.ReplyTable.entries c.answer.new.self.sets c.answer.new.self.table)
       (sym c.view.ensures.exact ∙ c.in-Ok.is) c.judge-verdict.ensures.verdict c.in_default.not-AnsweredNew c.answer.ensures.sent
       (λ i. state_of g.T.ReplyTable.entries (c.answer.ensures.sets i) (c.answer.ensures.table i));
   clock =
-      λ i. clock_of g.T.ReplyTable.identity g.T.ReplyTable.managers g.T.ReplyTable.rights_of (c.answer.ensures.table i);
+      λ i. g.T.ReplyTable.owner (c.answer.ensures.table i);
 }

@@ -1,7 +1,6 @@
 use Rattle.std.proofs.Common.{◌≡◌, ℕ, List, [], ◌∷◌, ◌++◌, ◌<◌, ◌≤◌, ◌+◌, arith, length, take, refl, sym, ◌∙◌, ap, subst}
 use Rattle.std.proofs.lemmas.List.{take_all, take_more}
 use Rattle.ptpm_data.specs.Members.{DataSetsValue, HasPort}
-use Rattle.ptpm_agent.specs.Agent.{clock_of}
 use Rattle.ptpm_agent.specs.Laws.{StandsAt, after_each, datagrams_of, last_sent}
 use Rattle.ptpm_agent.specs.Once.{applied_once}
 use Rattle.ptpm_agent.specs.Turn.{State, Turned, outbox_of, turn}
@@ -25,8 +24,8 @@ handle-requires g c =
 pub loop-place-preserved : goal.loop-place-preserved
 loop-place-preserved g c =
     let item = c.index-datagrams-place.result in
-    let clock = clock_of g.T.ReplyTable.identity g.T.ReplyTable.managers g.T.ReplyTable.rights_of c.args.self.now.table in
-    let here = clock_of g.T.ReplyTable.identity g.T.ReplyTable.managers g.T.ReplyTable.rights_of c.loop-place.self.table in
+    let clock = g.T.ReplyTable.owner c.args.self.now.table in
+    let here = g.T.ReplyTable.owner c.loop-place.self.table in
     let old : State = record { sets = c.args.self.now.sets; entries = g.T.ReplyTable.entries c.args.self.now.table } in
     let now : State = record { sets = c.loop-place.self.sets; entries = g.T.ReplyTable.entries c.loop-place.self.table } in
     let within : c.loop-place.place < length c.args.datagrams.now = omega arith in
@@ -56,14 +55,14 @@ loop-place-preserved g c =
 
 pub returns-clause-turned : goal.returns-clause-turned
 returns-clause-turned g c =
-    let clock = clock_of g.T.ReplyTable.identity g.T.ReplyTable.managers g.T.ReplyTable.rights_of c.args.self.now.table in
+    let clock = g.T.ReplyTable.owner c.args.self.now.table in
     let old : State = record { sets = c.args.self.now.sets; entries = g.T.ReplyTable.entries c.args.self.now.table } in
     let past : length c.args.datagrams.now ≤ c.loop-place.place = omega arith in
     c.loop-place.invariant.turned ∙ ap (λ xs. after_each clock old xs) (take_all c.loop-place.place c.args.datagrams.now past)
 
 pub returns-clause-sent : goal.returns-clause-sent
 returns-clause-sent g c =
-    let clock = clock_of g.T.ReplyTable.identity g.T.ReplyTable.managers g.T.ReplyTable.rights_of c.args.self.now.table in
+    let clock = g.T.ReplyTable.owner c.args.self.now.table in
     let old : State = record { sets = c.args.self.now.sets; entries = g.T.ReplyTable.entries c.args.self.now.table } in
     let past : length c.args.datagrams.now ≤ c.loop-place.place = omega arith in
     c.loop-place.invariant.sent
@@ -71,7 +70,7 @@ returns-clause-sent g c =
 
 pub returns-clause-once : goal.returns-clause-once
 returns-clause-once g c = λ first h xs is at window.
-    let clock = clock_of g.T.ReplyTable.identity g.T.ReplyTable.managers g.T.ReplyTable.rights_of c.args.self.now.table in
+    let clock = g.T.ReplyTable.owner c.args.self.now.table in
     let old : State = record { sets = c.args.self.now.sets; entries = g.T.ReplyTable.entries c.args.self.now.table } in
     let past : length c.args.datagrams.now ≤ c.loop-place.place = omega arith in
     let whole = take_all c.loop-place.place c.args.datagrams.now past in
@@ -81,7 +80,7 @@ returns-clause-once g c = λ first h xs is at window.
 
 pub returns-clause-due : goal.returns-clause-due
 returns-clause-due g c = λ first h xs x k is at window copy.
-    let clock = clock_of g.T.ReplyTable.identity g.T.ReplyTable.managers g.T.ReplyTable.rights_of c.args.self.now.table in
+    let clock = g.T.ReplyTable.owner c.args.self.now.table in
     let old : State = record { sets = c.args.self.now.sets; entries = g.T.ReplyTable.entries c.args.self.now.table } in
     let past : length c.args.datagrams.now ≤ c.loop-place.place = omega arith in
     let whole = take_all c.loop-place.place c.args.datagrams.now past in

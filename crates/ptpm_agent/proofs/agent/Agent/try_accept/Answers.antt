@@ -24,7 +24,7 @@ decide-reply-requires-clause-port g c =
 pub keep-requires-clause-known : goal.keep-requires-clause-known
 keep-requires-clause-known g c =
     let p = new_parts _ _ _ c.requires.new in
-    subst (λ (m : PortIdentity). IsTrue (is_known m (g.T.ReplyTable.managers c.args.self.now.table))) (sym c.source-source.ensures) p.known
+    subst (λ (m : PortIdentity). IsTrue (is_known m (g.T.ReplyTable.owner c.args.self.now.table).managers)) (sym c.source-source.ensures) p.known
 
 pub keep-requires-clause-action : goal.keep-requires-clause-action
 keep-requires-clause-action g c =

@@ -1,20 +1,20 @@
 use Rattle.std.proofs.Common.{refl, sym, ◌∙◌}
 use Rattle.ptpm_table.specs.Rendering.{rendered}
-use Rattle.ptpm_agent.specs.Agent.{clock_of, state_of}
+use Rattle.ptpm_agent.specs.Agent.{state_of}
 use Rattle.ptpm_agent.specs.Turn.{heard_of}
 use Rattle.ptpm_agent.proofs.Turns.{turned_new, turned_other, turned_refused, on_err, verdict_new}
 use Rattle.ptpm_agent.proofs.agent.Agent.try_handle.Goals as goal
 
 pub returns-in-Err-clause-turned : goal.returns-in-Err-clause-turned
 returns-in-Err-clause-turned g c =
-    turned_refused (clock_of g.T.ReplyTable.identity g.T.ReplyTable.managers g.T.ReplyTable.rights_of c.args.self.now.table)
+    turned_refused (g.T.ReplyTable.owner c.args.self.now.table)
     (state_of g.T.ReplyTable.entries c.args.self.now.sets c.args.self.now.table) c.args.ingress c.args.datagram.now c.in-Err.cause
     c.clear.new.self (state_of g.T.ReplyTable.entries c.args.self.now.sets c.args.self.now.table)
     (sym c.view.ensures.exact ∙ c.in-Err.is) c.clear.ensures refl
 
 pub returns-in_ok-reply-in-AnsweredNew-clause-turned : goal.returns-in_ok-reply-in-AnsweredNew-clause-turned
 returns-in_ok-reply-in-AnsweredNew-clause-turned g c =
-    turned_new (clock_of g.T.ReplyTable.identity g.T.ReplyTable.managers g.T.ReplyTable.rights_of c.args.self.now.table)
+    turned_new (g.T.ReplyTable.owner c.args.self.now.table)
     (state_of g.T.ReplyTable.entries c.args.self.now.sets c.args.self.now.table) c.args.ingress c.args.datagram.now c.in-Ok.message
     c.judge-verdict.result c.send.new.out
     (state_of g.T.ReplyTable.entries c.try_accept.new.self.sets c.try_accept.new.self.table)
@@ -25,7 +25,7 @@ returns-in_ok-reply-in-AnsweredNew-clause-turned g c =
 pub returns-in_default : goal.returns-in_default
 returns-in_default g c = record {
   turned =
-      turned_other (clock_of g.T.ReplyTable.identity g.T.ReplyTable.managers g.T.ReplyTable.rights_of c.args.self.now.table)
+      turned_other (g.T.ReplyTable.owner c.args.self.now.table)
       (state_of g.T.ReplyTable.entries c.args.self.now.sets c.args.self.now.table) c.args.ingress c.args.datagram.now c.in-Ok.message
       c.judge-verdict.result c.answer.new.out (state_of g.T.ReplyTable.entries c.answer.new.self.sets c.answer.new.self.table)
       (sym c.view.ensures.exact ∙ c.in-Ok.is) c.judge-verdict.ensures.verdict c.in_default.not-AnsweredNew c.answer.ensures.sent
@@ -34,12 +34,12 @@ returns-in_default g c = record {
   nothing_sent = tt;
   only_new = tt;
   clock =
-      λ i. clock_of g.T.ReplyTable.identity g.T.ReplyTable.managers g.T.ReplyTable.rights_of (c.answer.ensures.table i);
+      λ i. g.T.ReplyTable.owner (c.answer.ensures.table i);
 }
 
 pub returns-in_err-reply-in-AnsweredNew-clause-only_new : goal.returns-in_err-reply-in-AnsweredNew-clause-only_new
 returns-in_err-reply-in-AnsweredNew-clause-only_new g c =
     on_err _ _
-    (verdict_new (clock_of g.T.ReplyTable.identity g.T.ReplyTable.managers g.T.ReplyTable.rights_of c.args.self.now.table)
+    (verdict_new (g.T.ReplyTable.owner c.args.self.now.table)
     (state_of g.T.ReplyTable.entries c.args.self.now.sets c.args.self.now.table) c.args.datagram.now c.in-Ok.message
     c.judge-verdict.result (sym c.view.ensures.exact ∙ c.in-Ok.is) c.judge-verdict.ensures.verdict c.in-AnsweredNew.is)

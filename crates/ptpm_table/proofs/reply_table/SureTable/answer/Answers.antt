@@ -1,9 +1,9 @@
 use Rattle.std.proofs.Common.{◌≡◌, ◌++◌, ◌∙◌, Some, ap, refl}
 use Rattle.std.proofs.lemmas.Bool.{cond-true}
 use Rattle.std.specs.FinMap.{get, get-insert, insert}
-use Rattle.ptpm_codec.specs.declared.identity.ClockIdentity.{ClockIdentity}
 use Rattle.ptpm_codec.specs.declared.identity.PortIdentity.{PortIdentity}
 use Rattle.ptpm_table.specs.Entries.{Entries, Entry}
+use Rattle.ptpm_table.specs.Managers.{Clock}
 use Rattle.ptpm_table.specs.Rendering.{rendered}
 use Rattle.ptpm_table.proofs.Identities.{identities_total, same_identity-refl, tied_identities}
 use Rattle.ptpm_table.proofs.reply_table.SureTable.answer.Goals as goal
@@ -25,4 +25,4 @@ pub returns-clause-sent : goal.returns-clause-sent
 returns-clause-sent g c =
     c.resend.ensures _ (ap (λ (entries : Entries). get entries c.args.heard.now.source) c.replace.ensures.kept
     ∙ found (g.Self.ReplyTable.entries c.args.self.now) c.args.heard.now.source _)
-    ∙ ap (λ (clock : ClockIdentity). c.args.out.now ++ rendered clock c.args.heard.now c.args.reply.now c.args.ingress) c.replace.ensures.identity
+    ∙ ap (λ (clock : Clock). c.args.out.now ++ rendered clock.identity c.args.heard.now c.args.reply.now c.args.ingress) c.replace.ensures.owner
