@@ -1,13 +1,17 @@
 -- An agent as code, against the definitions: over any reply table, by what the table shows of itself.
 use Rattle.std.specs.Prelude.{◌≡◌, ℕ, List}
-use Rattle.ptpm_data.specs.Members.{DataSetsValue}
 use Rattle.ptpm_table.specs.Entries.{Entries}
+use Rattle.ptpm_agent.specs.declared.agent.Agent.{Agent}
 use Rattle.ptpm_agent.specs.declared.verdict.Verdict.{Verdict}
-use Rattle.ptpm_agent.specs.Turn.{State, Turned, outbox_of}
+use Rattle.ptpm_agent.specs.Turn.{Clock, State, Turned, outbox_of}
 
--- the state of an agent, by the entries of its table
-abbrev pub state_of : {T : Type 0} → (T → Entries) → DataSetsValue → T → State
-state_of entries sets table = record { sets = sets; entries = entries table }
+-- the clock of an agent, by the owner of its table
+abbrev pub clock_of : {T : Type 0} → (T → Clock) → Agent T → Clock
+clock_of owner agent = owner agent.table
+
+-- the state of an agent, by its data sets and the entries of its table
+abbrev pub state_of : {T : Type 0} → (T → Entries) → Agent T → State
+state_of entries agent = record { sets = agent.sets; entries = entries agent.table }
 
 -- a call answers this verdict, and leaves this outbox and this state, as the turn says
 pub record IsTurned (t : Turned) (verdict : Verdict) (outbox : List (ℕ × List ℕ))

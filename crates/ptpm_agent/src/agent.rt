@@ -9,7 +9,7 @@ ghost use Rattle.ptpm_codec.specs.Spelling.{Spells};
 ghost use Rattle.ptpm_data.specs.Members.{HasPort};
 ghost use Rattle.ptpm_table.specs.Entries.{HasEntry};
 ghost use Rattle.ptpm_table.specs.Rendering.{IsSendable, rendered};
-ghost use Rattle.ptpm_agent.specs.Agent.{IsTurned, state_of};
+ghost use Rattle.ptpm_agent.specs.Agent.{IsTurned, clock_of, state_of};
 ghost use Rattle.ptpm_agent.specs.Forwarding.{forwarded};
 ghost use Rattle.ptpm_agent.specs.Laws.{StandsAt, after_each, datagrams_of, due_messages, last_sent};
 ghost use Rattle.ptpm_agent.specs.Once.{Delivery, History, RequestCopy, applied_once, copy_of, due_reply};
@@ -72,16 +72,15 @@ impl<T: ReplyTable + Drop> Agent<T> {
     ) -> Result<Verdict, OutOfMemory>
         requires port { HasPort ingress self.old.sets }
         ensures turned { IfOk result (λ verdict. IsTurned (turn
-            (T.owner self.old.table) (state_of T.entries self.old.sets self.old.table) ingress datagram.now)
-            verdict out.new (state_of T.entries self.new.sets self.new.table)) }
+            (clock_of T.owner self.old) (state_of T.entries self.old) ingress datagram.now)
+            verdict out.new (state_of T.entries self.new)) }
         ensures refused { OnErr result
-            (state_of T.entries self.new.sets self.new.table
-            ≡ state_of T.entries self.old.sets self.old.table) }
+            (state_of T.entries self.new ≡ state_of T.entries self.old) }
         ensures nothing_sent { OnErr result (out.new ≡ out.old) }
         ensures only_new { OnErr result (verdict_of
-            (T.owner self.old.table) (state_of T.entries self.old.sets self.old.table) datagram.now
+            (clock_of T.owner self.old) (state_of T.entries self.old) datagram.now
             ≡ Verdict.AnsweredNew) }
-        ensures clock { T.owner self.new.table ≡ T.owner self.old.table }
+        ensures clock { clock_of T.owner self.new ≡ clock_of T.owner self.old }
     {
         let message = match view(datagram) {
             Ok(message) => message,
@@ -105,7 +104,7 @@ impl<T: ReplyTable + Drop> Agent<T> {
     #[tactic(auto, unfolding(crate::specs::Turn::judged))]
     fn judge(&self, message: &View<'_>) -> Verdict
         ensures verdict { result ≡ judged
-            (T.owner self.now.table) (state_of T.entries self.now.sets self.now.table) message.now }
+            (clock_of T.owner self.now) (state_of T.entries self.now) message.now }
         ensures repeat { result ≡ Verdict.AnsweredRepeat →
             HasEntry (T.entries self.now.table) message.now.source message.now.number }
     {
@@ -140,7 +139,7 @@ impl<T: ReplyTable + Drop> Agent<T> {
     /// Whether it is the latest accepted request of its manager once more.
     fn is_accepted_repeat(&self, message: &View<'_>) -> bool
         ensures exact { result ≡ is_accepted_repeat
-            (T.owner self.now.table) (state_of T.entries self.now.sets self.now.table) message.now }
+            (clock_of T.owner self.now) (state_of T.entries self.now) message.now }
         ensures kept { IsTrue result
             → HasEntry (T.entries self.now.table) message.now.source message.now.number }
     {
@@ -152,8 +151,7 @@ impl<T: ReplyTable + Drop> Agent<T> {
 
     /// Whether it is for this clock or every clock, at a port that the clock has.
     fn is_addressed(&self, message: &View<'_>) -> bool
-        ensures { result ≡ is_addressed
-            (T.owner self.now.table) self.now.sets message.now }
+        ensures { result ≡ is_addressed (clock_of T.owner self.now) self.now.sets message.now }
     {
         let target = message.target();
         (target.clock == self.table.clock() || target.clock == ClockIdentity::EVERY)
@@ -164,7 +162,7 @@ impl<T: ReplyTable + Drop> Agent<T> {
     #[inline(always)]
     fn look(&self, message: &View<'_>) -> Look
         ensures look { result ≡ look
-            (T.owner self.now.table) (state_of T.entries self.now.sets self.now.table) message.now }
+            (clock_of T.owner self.now) (state_of T.entries self.now) message.now }
         ensures repeat { result ≡ Look.Repeat →
             HasEntry (T.entries self.now.table) message.now.source message.now.number }
     {
@@ -188,16 +186,15 @@ impl<T: ReplyTable + Drop> Agent<T> {
         requires read { reading datagram.now ≡ Ok message.now }
         requires spelled { Spells message.now (message_octets datagram.now) }
         requires verdict { verdict ≡ judged
-            (T.owner self.old.table) (state_of T.entries self.old.sets self.old.table) message.now }
+            (clock_of T.owner self.old) (state_of T.entries self.old) message.now }
         requires repeat { verdict ≡ Verdict.AnsweredRepeat →
             HasEntry (T.entries self.old.table) message.now.source message.now.number }
         requires not_new { verdict ≢ Verdict.AnsweredNew }
         requires valid { IsValid message.now }
         ensures sent { out.new ≡ forwarded
-            (T.owner self.old.table).identity ingress self.old.sets datagram.now ++ reply_messages
-            (T.owner self.old.table) ingress (heard_of message.now)
-            (reply_by verdict (T.owner self.old.table)
-            (state_of T.entries self.old.sets self.old.table) message.now) }
+            (clock_of T.owner self.old).identity ingress self.old.sets datagram.now ++ reply_messages
+            (clock_of T.owner self.old) ingress (heard_of message.now)
+            (reply_by verdict (clock_of T.owner self.old) (state_of T.entries self.old) message.now) }
         ensures sets { self.new.sets ≡ self.old.sets }
         ensures table { self.new.table ≡ self.old.table }
     {
@@ -215,16 +212,15 @@ impl<T: ReplyTable + Drop> Agent<T> {
     /// Appends the reply to a message that is not carried out, if it gets one.
     fn reply(&mut self, verdict: Verdict, ingress: u16, message: &View<'_>, out: &mut Outbox)
         requires verdict { verdict ≡ judged
-            (T.owner self.old.table) (state_of T.entries self.old.sets self.old.table) message.now }
+            (clock_of T.owner self.old) (state_of T.entries self.old) message.now }
         requires repeat { verdict ≡ Verdict.AnsweredRepeat →
             HasEntry (T.entries self.old.table) message.now.source message.now.number }
         requires not_new { verdict ≢ Verdict.AnsweredNew }
         requires valid { IsValid message.now }
         requires room { length out.old ≤ 7 }
         ensures sent { out.new ≡ out.old ++ reply_messages
-            (T.owner self.old.table) ingress (heard_of message.now)
-            (reply_by verdict (T.owner self.old.table)
-            (state_of T.entries self.old.sets self.old.table) message.now) }
+            (clock_of T.owner self.old) ingress (heard_of message.now)
+            (reply_by verdict (clock_of T.owner self.old) (state_of T.entries self.old) message.now) }
         ensures sets { self.new.sets ≡ self.old.sets }
         ensures table { self.new.table ≡ self.old.table }
     {
@@ -248,7 +244,7 @@ impl<T: ReplyTable + Drop> Agent<T> {
     /// Leaves the messages of a reply in the outbox, and nothing else.
     fn send(&self, reply: &Reply, ingress: u16, message: &View<'_>, out: &mut Outbox)
         requires sendable { IsSendable reply.now }
-        ensures { out.new ≡ rendered (T.owner self.now.table).identity
+        ensures { out.new ≡ rendered (clock_of T.owner self.now).identity
             (heard_of message.now) reply.now ingress }
     {
         out.clear();
@@ -258,19 +254,17 @@ impl<T: ReplyTable + Drop> Agent<T> {
     /// Carries out a new request and keeps it with its reply. Where memory is refused, nothing changes.
     fn try_accept(&mut self, message: &View<'_>) -> Result<Reply, OutOfMemory>
         requires new { judged
-            (T.owner self.old.table) (state_of T.entries self.old.sets self.old.table) message.now
+            (clock_of T.owner self.old) (state_of T.entries self.old) message.now
             ≡ Verdict.AnsweredNew }
         requires valid { IsValid message.now }
         ensures reply { IfOk result (λ r. r ≡ new_reply
-            (T.owner self.old.table) (state_of T.entries self.old.sets self.old.table) message.now) }
+            (clock_of T.owner self.old) (state_of T.entries self.old) message.now) }
         ensures sendable { IfOk result (λ r. IsSendable r) }
-        ensures accepted { OnOk result
-            (state_of T.entries self.new.sets self.new.table ≡ carried_out
-            (T.owner self.old.table) (state_of T.entries self.old.sets self.old.table) message.now) }
+        ensures accepted { OnOk result (state_of T.entries self.new ≡ carried_out
+            (clock_of T.owner self.old) (state_of T.entries self.old) message.now) }
         ensures refused { OnErr result
-            (state_of T.entries self.new.sets self.new.table
-            ≡ state_of T.entries self.old.sets self.old.table) }
-        ensures clock { T.owner self.new.table ≡ T.owner self.old.table }
+            (state_of T.entries self.new ≡ state_of T.entries self.old) }
+        ensures clock { clock_of T.owner self.new ≡ clock_of T.owner self.old }
     {
         let source = message.source();
         let request = request_of(message);
@@ -289,9 +283,9 @@ impl<T: SureTable + Drop> Agent<T> {
     pub fn handle(&mut self, ingress: u16, datagram: &[u8], out: &mut Outbox) -> Verdict
         requires port { HasPort ingress self.old.sets }
         ensures turned { IsTurned (turn
-            (T.owner self.old.table) (state_of T.entries self.old.sets self.old.table) ingress datagram.now)
-            result out.new (state_of T.entries self.new.sets self.new.table) }
-        ensures clock { T.owner self.new.table ≡ T.owner self.old.table }
+            (clock_of T.owner self.old) (state_of T.entries self.old) ingress datagram.now)
+            result out.new (state_of T.entries self.new) }
+        ensures clock { clock_of T.owner self.new ≡ clock_of T.owner self.old }
     {
         let message = match view(datagram) {
             Ok(message) => message,
@@ -315,26 +309,26 @@ impl<T: SureTable + Drop> Agent<T> {
     /// copy, is sent the reply that is due to it.
     pub fn handle_each(&mut self, datagrams: &[(u16, Octets)], out: &mut Outbox)
         requires ports { All (λ x. HasPort x.0 self.old.sets) datagrams.now }
-        ensures turned { state_of T.entries self.new.sets self.new.table ≡ after_each
-            (T.owner self.old.table) (state_of T.entries self.old.sets self.old.table) datagrams.now }
+        ensures turned { state_of T.entries self.new ≡ after_each
+            (clock_of T.owner self.old) (state_of T.entries self.old) datagrams.now }
         ensures sent { out.new ≡ last_sent
-            (T.owner self.old.table) (state_of T.entries self.old.sets self.old.table) out.old datagrams.now }
+            (clock_of T.owner self.old) (state_of T.entries self.old) out.old datagrams.now }
         ensures once { (first : PortIdentity → ℕ) (h : History) (xs : List Delivery)
             → datagrams.now ≡ datagrams_of xs
-            → let c = T.owner self.old.table in
-            StandsAt first (state_of T.entries self.old.sets self.old.table) h
+            → let c = clock_of T.owner self.old in
+            StandsAt first (state_of T.entries self.old) h
             → KeepsWindow c first h xs
-            → StandsAt first (state_of T.entries self.new.sets self.new.table)
+            → StandsAt first (state_of T.entries self.new)
             (applied_once c h xs) }
         ensures due { (first : PortIdentity → ℕ) (h : History) (xs : List Delivery) (x : Delivery)
             (k : RequestCopy)
             → datagrams.now ≡ datagrams_of (xs ++ x ∷ [])
-            → let c = T.owner self.old.table in
-            StandsAt first (state_of T.entries self.old.sets self.old.table) h
+            → let c = clock_of T.owner self.old in
+            StandsAt first (state_of T.entries self.old) h
             → KeepsWindow c first h (xs ++ x ∷ [])
             → copy_of c (applied_once c h xs).sets x ≡ Some k
             → out.new ≡ due_messages c k (due_reply c (applied_once c h xs) k) }
-        ensures clock { T.owner self.new.table ≡ T.owner self.old.table }
+        ensures clock { clock_of T.owner self.new ≡ clock_of T.owner self.old }
     {
         for place in 0..datagrams.len() {
             let arrival = &datagrams[place];
@@ -345,15 +339,15 @@ impl<T: SureTable + Drop> Agent<T> {
     /// Carries out a new request, keeps it with its reply, and leaves the messages of the reply in the outbox, and nothing else.
     fn accept(&mut self, ingress: u16, message: &View<'_>, out: &mut Outbox)
         requires new { judged
-            (T.owner self.old.table) (state_of T.entries self.old.sets self.old.table) message.now
+            (clock_of T.owner self.old) (state_of T.entries self.old) message.now
             ≡ Verdict.AnsweredNew }
         requires valid { IsValid message.now }
-        ensures accepted { state_of T.entries self.new.sets self.new.table ≡ carried_out
-            (T.owner self.old.table) (state_of T.entries self.old.sets self.old.table) message.now }
-        ensures sent { out.new ≡ rendered (T.owner self.old.table).identity (heard_of message.now)
-            (new_reply
-            (T.owner self.old.table) (state_of T.entries self.old.sets self.old.table) message.now) ingress }
-        ensures clock { T.owner self.new.table ≡ T.owner self.old.table }
+        ensures accepted { state_of T.entries self.new ≡ carried_out
+            (clock_of T.owner self.old) (state_of T.entries self.old) message.now }
+        ensures sent { out.new ≡ rendered (clock_of T.owner self.old).identity (heard_of message.now)
+            (new_reply (clock_of T.owner self.old) (state_of T.entries self.old) message.now)
+            ingress }
+        ensures clock { clock_of T.owner self.new ≡ clock_of T.owner self.old }
     {
         let heard = heard_of(message);
         let request = request_of(message);

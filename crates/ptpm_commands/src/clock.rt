@@ -23,7 +23,8 @@ const MANAGER: PortIdentity = PortIdentity {
 pub(crate) fn fresh_clock() -> Agent<BoundTable>
     ensures sets { result.sets ≡ fresh_sets }
     ensures table { IsFresh shown managers
-        (⟦<BoundTable as ReplyTable>⟧.owner result.table) (⟦<BoundTable as ReplyTable>⟧.entries result.table) }
+        (⟦<BoundTable as ReplyTable>⟧.owner result.table)
+        (⟦<BoundTable as ReplyTable>⟧.entries result.table) }
     ensures port { HasPort 1 result.sets }
 {
     let ports = [PortStart::new(), PortStart::new()];

@@ -195,7 +195,8 @@ impl ReplyTable for BoundTable {
         request: &Request<'_>,
         reply: &Reply,
     ) -> Result<(), OutOfMemory>
-        requires known { IsTrue (is_known who.now (⟦<BoundTable as ReplyTable>⟧.owner self.old).managers) }
+        requires known { IsTrue (is_known who.now
+            (⟦<BoundTable as ReplyTable>⟧.owner self.old).managers) }
         requires action { IsRequestAction request.now.action }
         requires octets { IsDataField request.now.octets }
         requires fits { FitsRequest request.now reply.now }
@@ -203,7 +204,8 @@ impl ReplyTable for BoundTable {
         ensures ok { OnOk result (⟦<BoundTable as ReplyTable>⟧.entries self.new ≡ fin.insert (⟦<BoundTable as ReplyTable>⟧.entries self.old) who.now
             (record { number = number; request = request.now; reply = reply.now })) }
         ensures err { OnErr result (⟦<BoundTable as ReplyTable>⟧.entries self.new ≡ ⟦<BoundTable as ReplyTable>⟧.entries self.old) }
-        ensures owner { ⟦<BoundTable as ReplyTable>⟧.owner self.new ≡ ⟦<BoundTable as ReplyTable>⟧.owner self.old }
+        ensures owner { ⟦<BoundTable as ReplyTable>⟧.owner self.new
+            ≡ ⟦<BoundTable as ReplyTable>⟧.owner self.old }
     {
         self.replace(who, number, request, reply);
         Ok(())

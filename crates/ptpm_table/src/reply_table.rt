@@ -116,7 +116,8 @@ pub trait SureTable: ReplyTable {
         requires room { length out.old ≤ 7 }
         ensures kept { Self.entries self.new ≡ fin.insert (Self.entries self.old) heard.now.source
             (record { number = heard.now.number; request = request.now; reply = reply.now }) }
-        ensures sent { out.new ≡ out.old ++ rendered (Self.owner self.old).identity heard.now reply.now ingress }
+        ensures sent { out.new ≡ out.old
+            ++ rendered (Self.owner self.old).identity heard.now reply.now ingress }
         ensures owner { Self.owner self.new ≡ Self.owner self.old }
     {
         self.replace(&heard.source, heard.number, request, reply);

@@ -8,10 +8,10 @@ abbrev pub invariant-loop-place : goal.invariant-loop-place
 invariant-loop-place g l = record {
   clock : g.T.ReplyTable.owner l.self.table ≡ g.T.ReplyTable.owner l.fn.self.table;
   ports : length l.self.sets.ports ≡ length l.fn.self.sets.ports;
-  turned : state_of g.T.ReplyTable.entries l.self.sets l.self.table
+  turned : state_of g.T.ReplyTable.entries l.self
       ≡ after_each (g.T.ReplyTable.owner l.fn.self.table)
-      (state_of g.T.ReplyTable.entries l.fn.self.sets l.fn.self.table) (take l.place l.datagrams);
+      (state_of g.T.ReplyTable.entries l.fn.self) (take l.place l.datagrams);
   sent : l.out
       ≡ last_sent (g.T.ReplyTable.owner l.fn.self.table)
-      (state_of g.T.ReplyTable.entries l.fn.self.sets l.fn.self.table) l.fn.out (take l.place l.datagrams);
+      (state_of g.T.ReplyTable.entries l.fn.self) l.fn.out (take l.place l.datagrams);
 }
