@@ -146,8 +146,8 @@ fn copied(rt: &impl Abort, alloc: Global, body: DraftBody<'_>) -> Result<Message
     decode(alloc, buffer.as_slice())
 }
 
-/// With memory refused once, at any request for it, a call that is made again answers as it would have:
-/// `rt try --test --fail-alloc N` refuses the Nth.
+/// With memory refused once, at any request for it, a call that is made again answers as it would have. The tool
+/// `tools/refuse_memory` refuses each request in turn.
 #[test]
 fn refused_memory_leaves_nothing_behind(rt: HostRuntime) -> Result<(), Fail> {
     let alloc = rt.alloc();

@@ -1,7 +1,5 @@
 //! Worked requests at a clock of two ports, with their answers as octets.
 
-ghost use Rattle.std.specs.Prelude.{◌<◌};
-
 use crate::data_sets::DataSets;
 use crate::reply::{Reply, Value, What};
 use crate::request::Request;
@@ -58,21 +56,33 @@ fn command<'a>(id: u16, port: u16, reply: &'a str) -> Step<'a> {
     }
 }
 
-fn digit(letter: u8) -> u8
-    ensures { result < 16 }
-{
+/// What a lower-case hexadecimal digit is worth.
+fn digit(letter: u8) -> Option<u8> {
     match letter {
-        b'0'..=b'9' => letter - b'0',
-        b'a'..=b'f' => letter - b'a' + 10,
-        _ => 0,
+        b'0'..=b'9' => Some(letter - b'0'),
+        b'a'..=b'f' => Some(letter - b'a' + 10),
+        _ => None,
     }
 }
 
-fn octets(text: &str) -> ArrayVec<u8, 200> {
+/// The octet that two digits spell.
+fn octet_of(pair: &[u8]) -> Option<u8> {
+    match pair {
+        [high, low] => Some(digit(*high)? << 4 | digit(*low)?),
+        _ => None,
+    }
+}
+
+/// The octets that digits spell. A misspelt one ends the test.
+fn octets(rt: &impl Abort, text: &str) -> ArrayVec<u8, 200> {
     let mut octets = ArrayVec::new();
     for pair in text.as_bytes().chunks(2) {
-        if let [high, low] = pair {
-            let _ = octets.try_push(digit(*high) * 16 + digit(*low));
+        match octet_of(pair) {
+            Some(octet) => {
+                let room = octets.try_push(octet).is_ok();
+                assert!(rt; room, "too long: {text}");
+            }
+            None => assert!(rt; false, "no digits: {text}"),
         }
     }
     octets
@@ -116,7 +126,7 @@ fn shown(reply: &Reply) -> ArrayString<320> {
 
 /// The reply to a request, whose conditions are tested first.
 fn ask(rt: &impl Abort, sets: &mut DataSets, rights: Rights, step: &Step<'_>) -> Reply {
-    let octets = octets(step.octets);
+    let octets = octets(rt, step.octets);
     assert!(rt; !step.action.is_reply());
     assert!(rt; octets.len() % 2 == 0);
     assert!(rt; step.port == EVERY || sets.has_port(step.port));
