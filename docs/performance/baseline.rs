@@ -5,8 +5,8 @@
 //!
 //! handles the datagram, in hexadecimal, COUNT times, with its sequenceId raised by STEP each time, at a clock of so many
 //! ports and managers (2 and 1) that has answered a GET by the last of its managers with sequenceId 7: FIRST, or one of
-//! PRIORITY1. With STEP `view` it only reads it, with `nothing` not even that. A datagram that is shorter than its
-//! messageLength gets octets 0.
+//! PRIORITY1. With STEP `view` it only reads it, with `nothing` not even that; with `start` it makes such a clock and its
+//! outbox COUNT times. A datagram that is shorter than its messageLength gets octets 0.
 //!
 //! With STEP `send` a manager sends one GET of PRIORITY1 COUNT times, with `receive` it begins COUNT of them and hears the
 //! DATAGRAM as the answer to each, under the number of the request, with `ignore` it hears it COUNT times under the number
@@ -489,11 +489,15 @@ fn main() {
         forwarding: true, state: 6, peer_delay: 0, log_min_delay_req: 0, log_announce: 1, receipt_timeout: 3, log_sync: 0,
         mechanism: 1, log_min_pdelay: 0,
     };
-    let managers = (1..=number(5, 1) as u16).rev().map(|port| ((asks, port), None)).collect();
-    let ports = vec![port; number(4, 2)];
-    let mut clock = Clock { me, domain: 0, priority: [128; 2], description: vec![0, 0], ports, managers };
-    let mut out: Vec<(u16, Vec<u8>)> = (0..15).map(|_| (0, Vec::with_capacity(1472))).collect();
+    let start = || -> (Clock, Vec<(u16, Vec<u8>)>) {
+        let managers = (1..=number(5, 1) as u16).rev().map(|port| ((asks, port), None)).collect();
+        let ports = vec![port.clone(); number(4, 2)];
+        let clock = Clock { me, domain: 0, priority: [128; 2], description: vec![0, 0], ports, managers };
+        (clock, (0..15).map(|_| (0, Vec::with_capacity(1472))).collect())
+    };
+    let (mut clock, mut out) = start();
     match words[2].as_str() {
+        "start" => return (0..number(3, 0)).for_each(|_| drop(std::hint::black_box(start()))),
         "send" | "receive" | "ignore" => return manage(&words[2], octets(&words[1]), number(3, 0) as u32),
         "deliver" => return deliver(clock, out, octets(&words[1]), number(3, 0) as u32),
         _ => {}
