@@ -30,6 +30,3 @@ pub use names::Name;
 pub use net_error::NetError;
 pub use network::{End, Network, NetworkClock, NetworkLink, NetworkSession};
 pub use network_laws::{accepted_networks, network_law};
-
-#[cfg(test)]
-mod tests;

@@ -1,7 +1,7 @@
 //! What the keys of a network file hold, at the ends of their ranges and just past them.
 
 use super::file_texts::{fault_with, is_fault, rows_are_judged, with_line_ends};
-use crate::NetError;
+use ptpm_script::NetError;
 use std::alloc::Global;
 use std::process::Abort;
 use std::test::Fail;

@@ -1,9 +1,9 @@
 //! Network files and what they are read as.
 
 use super::file_texts::{FIRST, edited, fault, fault_with};
-use crate::{End, NetError, Network, NetworkClock, NetworkSession};
 use ptpm_codec::{ClockIdentity, PortIdentity};
 use ptpm_data::{ClockStart, PortStart, Rights, StartError};
+use ptpm_script::{End, NetError, Network, NetworkClock, NetworkSession};
 use std::alloc::{AllocError, Global};
 use std::process::Abort;
 use std::test::Fail;

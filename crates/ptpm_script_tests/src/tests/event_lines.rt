@@ -1,7 +1,7 @@
 //! Lines of a script.
 
-use crate::{Event, EventError, read_event};
 use ptpm_codec::Action;
+use ptpm_script::{Event, EventError, read_event};
 use std::alloc::Global;
 use std::process::Abort;
 use std::test::Fail;

@@ -1,7 +1,7 @@
 //! Network files in the forms of TOML 1.1.
 
 use super::file_texts::{FIRST, fault, is_fault, rows_are_judged, with_line_ends, with_row};
-use crate::Network;
+use ptpm_script::Network;
 use std::alloc::Global;
 use std::process::Abort;
 use std::test::Fail;

@@ -1,8 +1,8 @@
 //! Of several faults in one file the first in order is answered.
 
 use super::file_texts::{FIRST, edited, fault, is_fault, with_row};
-use crate::NetError;
 use ptpm_data::StartError;
+use ptpm_script::NetError;
 use std::test::Fail;
 
 /// A row for each fault but the first, in the order in which they are judged. None touches a piece of another.

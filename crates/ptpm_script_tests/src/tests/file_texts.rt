@@ -1,6 +1,6 @@
 //! Texts of network files for the tests.
 
-use crate::{NetError, Network};
+use ptpm_script::{NetError, Network};
 use std::alloc::Global;
 use std::process::Abort;
 use std::test::Fail;

@@ -1,7 +1,7 @@
 //! The limits of a network, at each and one past it.
 
 use super::file_texts::{FIRST, edited, fault};
-use crate::{NetError, Network};
+use ptpm_script::{NetError, Network};
 use std::alloc::Global;
 use std::test::Fail;
 
