@@ -1,11 +1,12 @@
-use Rattle.std.proofs.Common.{◌≡◌, ◌+◌, ◌++◌, true, false, None, Ok, refl, ap, subst, sym, ◌∙◌, rules}
+use Rattle.std.proofs.Common.{◌≡◌, ◌+◌, ◌++◌, true, false, None, Ok, refl, ap, sym, ◌∙◌, rules}
 use Rattle.std.specs.Prelude.{string_bytes}
-use Rattle.ptpm_world.specs.Lines.{ReadsLine, left_in}
+use Rattle.ptpm_world.specs.Lines.{left_in}
 use Rattle.ptpm_world.specs.Script.{is_divider}
-use Rattle.ptpm_world.specs.ScriptError.{ReadsWhole, is_outside, text_fault}
+use Rattle.ptpm_world.specs.ScriptError.{is_outside, text_fault}
 use Rattle.ptpm_world.specs.declared.script_error.ScriptError.TheVariants as faults
 use Rattle.ptpm_world.specs.Trace.{line_feed}
 use Rattle.ptpm_world.proofs.FaultLemmas.{FileFault, err-on, file-divider, file-end, file-first, file-more, file-size, file-text, outside}
+use Rattle.ptpm_world.proofs.NextLine.{NextLine, next_line, next_text}
 use Rattle.ptpm_world.proofs.ScriptLemmas.{kept-first, kept-on, read-divider, read-whole}
 use Rattle.ptpm_world.proofs.script.read_text.Goals as goal
 
@@ -20,8 +21,6 @@ loop-text-preserved g c =
     let R = g.R.Read.remaining in
     let line = c.read.new.self.line.items in
     let text = c.in_ok-line.ensures.text in
-    let reads : ReadsLine (left_in R c.loop-text.script) true line (left_in R c.read.new.self) =
-    subst (λ m. ReadsLine (left_in R c.loop-text.script) m line (left_in R c.read.new.self)) c.if-branch.true c.in_ok-read.ensures.line in
     let other : is_divider line ≡ false = ap is_divider (sym text) ∙ sym c.is_divider.ensures ∙ c.if-is_divider.false in
     let told = left_in R c.args.script.now in
     let had = left_in R c.loop-text.script in
@@ -29,14 +28,14 @@ loop-text-preserved g c =
     let first_number = c.args.script.now.count + 1 in
     let line_number = c.loop-text.script.count + 1 in
     let counted : c.read.new.self.count ≡ line_number = c.in_ok-read.ensures.count (ap Ok c.if-branch.true) in
-    let whole : ReadsWhole line_number had true line has =
-    subst (λ m. ReadsWhole line_number had m line has) c.if-branch.true c.in_ok-read.ensures.whole in
-    let is_text : text_fault line_number line ≡ None = ap (λ k. text_fault k line) (sym counted) ∙ c.in_ok-line.ensures.none in
+    let came : NextLine line_number had true line has =
+    next_line c.if-branch.true c.in_ok-read.ensures.line c.in_ok-read.ensures.whole in
+    let is_text : text_fault line_number line ≡ None = next_text line counted c.in_ok-line.ensures.none in
     record {
       kept = kept-on told had has (string_bytes c.loop-text.text) line
-          (string_bytes c.keep_line.new.text) c.loop-text.invariant.kept reads other c.in_ok-keep_line.ensures.long
+          (string_bytes c.keep_line.new.text) c.loop-text.invariant.kept came.reads other c.in_ok-keep_line.ensures.long
           (λ within. c.in_ok-keep_line.ensures.short within ∙ ap (λ l. (string_bytes c.loop-text.text ++ l) ++ line_feed) text);
-      faults = file-more told had has first_number line_number (c.read.new.self.count + 1) line c.loop-text.invariant.faults whole is_text other
+      faults = file-more told had has first_number line_number (c.read.new.self.count + 1) line c.loop-text.invariant.faults came.whole is_text other
           (ap (λ k. k + 1) counted);
     }
 
@@ -44,18 +43,18 @@ pub returns-then-is_divider-clause-text : goal.returns-then-is_divider-clause-te
 returns-then-is_divider-clause-text g c =
     let R = g.R.Read.remaining in
     let line = c.read.new.self.line.items in
-    let reads : ReadsLine (left_in R c.loop-text.script) true line (left_in R c.read.new.self) =
-    subst (λ m. ReadsLine (left_in R c.loop-text.script) m line (left_in R c.read.new.self)) c.if-branch.true c.in_ok-read.ensures.line in
+    let came : NextLine (c.loop-text.script.count + 1) (left_in R c.loop-text.script) true line (left_in R c.read.new.self) =
+    next_line c.if-branch.true c.in_ok-read.ensures.line c.in_ok-read.ensures.whole in
     let divider : is_divider line ≡ true = ap is_divider (sym c.in_ok-line.ensures.text) ∙ sym c.is_divider.ensures ∙ c.if-is_divider.true in
-    read-divider (left_in R c.args.script.now) (left_in R c.loop-text.script) (left_in R c.read.new.self) (string_bytes c.loop-text.text) line c.loop-text.invariant.kept reads divider
+    read-divider (left_in R c.args.script.now) (left_in R c.loop-text.script) (left_in R c.read.new.self) (string_bytes c.loop-text.text) line c.loop-text.invariant.kept came.reads divider
 
 pub returns-clause-text : goal.returns-clause-text
 returns-clause-text g c =
     let R = g.R.Read.remaining in
     let line = c.read.new.self.line.items in
-    let reads : ReadsLine (left_in R c.loop-text.script) false line (left_in R c.read.new.self) =
-    subst (λ m. ReadsLine (left_in R c.loop-text.script) m line (left_in R c.read.new.self)) c.if-branch.false c.in_ok-read.ensures.line in
-    read-whole (left_in R c.args.script.now) (left_in R c.loop-text.script) (left_in R c.read.new.self) (string_bytes c.loop-text.text) line c.loop-text.invariant.kept reads
+    let came : NextLine (c.loop-text.script.count + 1) (left_in R c.loop-text.script) false line (left_in R c.read.new.self) =
+    next_line c.if-branch.false c.in_ok-read.ensures.line c.in_ok-read.ensures.whole in
+    read-whole (left_in R c.args.script.now) (left_in R c.loop-text.script) (left_in R c.read.new.self) (string_bytes c.loop-text.text) line c.loop-text.invariant.kept came.reads
 
 pub returns-then-is_divider-clause-none : goal.returns-then-is_divider-clause-none
 returns-then-is_divider-clause-none g c =
@@ -68,10 +67,10 @@ returns-then-is_divider-clause-none g c =
     let first_number = c.args.script.now.count + 1 in
     let line_number = c.loop-text.script.count + 1 in
     let counted : c.read.new.self.count ≡ line_number = c.in_ok-read.ensures.count (ap Ok c.if-branch.true) in
-    let whole : ReadsWhole line_number had true line has =
-    subst (λ m. ReadsWhole line_number had m line has) c.if-branch.true c.in_ok-read.ensures.whole in
-    let is_text : text_fault line_number line ≡ None = ap (λ k. text_fault k line) (sym counted) ∙ c.in_ok-line.ensures.none in
-    file-divider told had has first_number line_number (c.read.new.self.count + 1) line c.loop-text.invariant.faults whole is_text divider (ap (λ k. k + 1) counted)
+    let came : NextLine line_number had true line has =
+    next_line c.if-branch.true c.in_ok-read.ensures.line c.in_ok-read.ensures.whole in
+    let is_text : text_fault line_number line ≡ None = next_text line counted c.in_ok-line.ensures.none in
+    file-divider told had has first_number line_number (c.read.new.self.count + 1) line c.loop-text.invariant.faults came.whole is_text divider (ap (λ k. k + 1) counted)
 
 pub returns-clause-none : goal.returns-clause-none
 returns-clause-none g c =
@@ -80,9 +79,9 @@ returns-clause-none g c =
     let had = left_in R c.loop-text.script in
     let has = left_in R c.read.new.self in
     let line_number = c.loop-text.script.count + 1 in
-    let whole : ReadsWhole line_number had false line has =
-    subst (λ m. ReadsWhole line_number had m line has) c.if-branch.false c.in_ok-read.ensures.whole in
-    file-end (left_in R c.args.script.now) had has (c.args.script.now.count + 1) line_number (c.read.new.self.count + 1) line c.loop-text.invariant.faults whole
+    let came : NextLine line_number had false line has =
+    next_line c.if-branch.false c.in_ok-read.ensures.line c.in_ok-read.ensures.whole in
+    file-end (left_in R c.args.script.now) had has (c.args.script.now.count + 1) line_number (c.read.new.self.count + 1) line c.loop-text.invariant.faults came.whole
 
 pub returns-in_err-read-clause-fault : goal.returns-in_err-read-clause-fault
 returns-in_err-read-clause-fault g c =
@@ -106,10 +105,10 @@ returns-in_err-line-clause-fault g c =
     let line = c.read.new.self.line.items in
     let has = left_in R c.read.new.self in
     let counted : c.read.new.self.count ≡ line_number = c.in_ok-read.ensures.count (ap Ok c.if-branch.true) in
-    let whole : ReadsWhole line_number had true line has =
-    subst (λ m. ReadsWhole line_number had m line has) c.if-branch.true c.in_ok-read.ensures.whole in
+    let came : NextLine line_number had true line has =
+    next_line c.if-branch.true c.in_ok-read.ensures.line c.in_ok-read.ensures.whole in
     err-on c.from_residual-in_err-line.result c.in_err-line.field-0.0 (λ e. is_outside e ≡ false → FileFault told first_number e) c.from_residual-in_err-line.ensures.1
-    (λ inside. file-text told had has first_number line_number line c.in_err-line.field-0.0 h.faults whole
+    (λ inside. file-text told had has first_number line_number line c.in_err-line.field-0.0 h.faults came.whole
     (ap (λ k. text_fault k line) (sym counted) ∙ c.in_err-line.ensures.fault))
 
 pub returns-in_err-keep_line-clause-fault : goal.returns-in_err-keep_line-clause-fault
