@@ -1,4 +1,5 @@
-//! A clock as the software of a device keeps it: plain numbers and octets go in, and messages to send come out.
+//! A clock, and a manager's session, as the software of a device keeps them: plain numbers and octets go in, and messages to
+//! send come out.
 #![tactic(auto)]
 
 mod clock;
@@ -6,12 +7,23 @@ mod numbers;
 mod reading;
 mod refusal;
 mod sent;
+mod session;
+mod session_numbers;
+mod session_settings;
 mod settings;
 
 pub use clock::{Handled, HostedClock, MOST_SENT};
 pub use numbers::{NO_CLOCK, handle_number, read_number, start_number, verdict_number};
-pub use refusal::{HandleRefusal, ReadRefusal, StartRefusal};
+pub use refusal::{
+    HandleRefusal, ReadRefusal, ReportRefusal, SendRefusal, SessionRefusal, StartRefusal,
+};
 pub use sent::{Sent, hand_out};
+pub use session::{Heard, HostedSession, Told};
+pub use session_numbers::{
+    NO_SESSION, begin_number, heard_number, report_number, resume_number, send_number,
+    session_number, told_number,
+};
+pub use session_settings::SessionSettings;
 pub use settings::{ClockSettings, ManagerSettings, PortSettings};
 
 #[cfg(test)]

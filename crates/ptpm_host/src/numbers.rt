@@ -31,7 +31,7 @@ pub fn verdict_number(verdict: Verdict) -> u32
 }
 
 /// Why a datagram holds no management message, 16 to 24.
-fn cause_number(cause: DecodeError) -> u32
+pub(crate) fn cause_number(cause: DecodeError) -> u32
     ensures { result ≡ cause_number cause }
 {
     match cause {

@@ -1,6 +1,7 @@
 //! Why a call changes nothing.
 
 use ptpm_data::StartError;
+use ptpm_manager::SendError;
 use ptpm_table::TableError;
 
 /// Why a clock does not start, in the order in which the reasons are judged. Want of memory can come in place of any other.
@@ -30,5 +31,38 @@ pub enum ReadRefusal {
     /// The id is of a port, and the clock lacks the port.
     NoPort,
     /// There is room for fewer than 130 octets.
+    NoRoom,
+}
+
+/// Why a session does not start, in the order in which the reasons are judged.
+#[derive(Clone, Copy, Debug, PartialEq, Eq)]
+pub enum SessionRefusal {
+    /// The manager's clockIdentity means every clock.
+    ManagerIsEvery,
+    /// The managed clock's clockIdentity means every clock.
+    TargetIsEvery,
+    /// The manager's clock would manage itself.
+    SameClock,
+    /// The managed clock has no port.
+    NoPorts,
+    /// It has more than eight.
+    TooManyPorts,
+}
+
+/// Why no request is handed out, in the order in which the reasons are judged.
+#[derive(Clone, Copy, Debug, PartialEq, Eq)]
+pub enum SendRefusal {
+    /// There is room for fewer than 1,472 octets.
+    NoRoom,
+    /// The session has none to send.
+    Session(SendError),
+}
+
+/// Why the answer to a request is not told, in the order in which the reasons are judged.
+#[derive(Clone, Copy, Debug, PartialEq, Eq)]
+pub enum ReportRefusal {
+    /// No request was begun, or the latest is not answered.
+    NoReport,
+    /// There is room for fewer octets than its dataField has.
     NoRoom,
 }

@@ -2,14 +2,19 @@
 
 use crate::*;
 use ptpm_agent::Verdict;
+use ptpm_manager::BeginError;
 use std::alloc::Global;
+use std::process::Abort;
 
 /// The clock aabbccfffeddee01.
 const CLOCK: [u8; 8] = [0xaa, 0xbb, 0xcc, 0xff, 0xfe, 0xdd, 0xee, 0x01];
 
+/// The clock of its manager.
+const MANAGER_CLOCK: [u8; 8] = [0x00, 0x11, 0x22, 0x33, 0x44, 0x55, 0x66, 0x77];
+
 /// Its manager, who may change everything.
 const MANAGER: ManagerSettings = ManagerSettings {
-    clock: [0x00, 0x11, 0x22, 0x33, 0x44, 0x55, 0x66, 0x77],
+    clock: MANAGER_CLOCK,
     port: 1,
     rights: 7,
 };
@@ -27,6 +32,53 @@ const REPLY: &[u8; 56] = b"\x0d\x12\x00\x38\x00\x00\
     \xaa\xbb\xcc\xff\xfe\xdd\xee\x01\x00\x01\x00\x07\x04\x7f\
     \x00\x11\x22\x33\x44\x55\x66\x77\x00\x01\x00\x00\x02\x00\
     \x00\x01\x00\x04\x20\x05\x80\x00";
+
+/// COMMAND DISABLE_PORT, number 8, of the manager to port 2 of the clock.
+const COMMAND: &[u8; 54] = b"\x0d\x12\x00\x36\x00\x00\
+    \x00\x00\x00\x00\x00\x00\x00\x00\x00\x00\x00\x00\x00\x00\
+    \x00\x11\x22\x33\x44\x55\x66\x77\x00\x01\x00\x08\x04\x7f\
+    \xaa\xbb\xcc\xff\xfe\xdd\xee\x01\x00\x02\x01\x01\x03\x00\
+    \x00\x01\x00\x02\x20\x0e";
+
+/// The ACKNOWLEDGE of port 2 to it.
+const DONE: &[u8; 54] = b"\x0d\x12\x00\x36\x00\x00\
+    \x00\x00\x00\x00\x00\x00\x00\x00\x00\x00\x00\x00\x00\x00\
+    \xaa\xbb\xcc\xff\xfe\xdd\xee\x01\x00\x02\x00\x08\x04\x7f\
+    \x00\x11\x22\x33\x44\x55\x66\x77\x00\x01\x00\x00\x04\x00\
+    \x00\x01\x00\x02\x20\x0e";
+
+/// SET DEFAULT_DATA_SET without data, number 9, of the manager to the clock, at every port of domain 5.
+const SET: &[u8; 54] = b"\x0d\x12\x00\x36\x05\x00\
+    \x00\x00\x00\x00\x00\x00\x00\x00\x00\x00\x00\x00\x00\x00\
+    \x00\x11\x22\x33\x44\x55\x66\x77\x00\x01\x00\x09\x04\x7f\
+    \xaa\xbb\xcc\xff\xfe\xdd\xee\x01\xff\xff\x01\x01\x01\x00\
+    \x00\x01\x00\x02\x20\x00";
+
+/// The clock's reply to it: NOT_SETABLE.
+const NOT_SETABLE: &[u8; 60] = b"\x0d\x12\x00\x3c\x05\x00\
+    \x00\x00\x00\x00\x00\x00\x00\x00\x00\x00\x00\x00\x00\x00\
+    \xaa\xbb\xcc\xff\xfe\xdd\xee\x01\x00\x01\x00\x09\x04\x7f\
+    \x00\x11\x22\x33\x44\x55\x66\x77\x00\x01\x00\x00\x02\x00\
+    \x00\x02\x00\x08\x00\x05\x20\x00\x00\x00\x00\x00";
+
+/// SET PRIORITY1 to 100, number 7, of the manager to the clock, at every port.
+const SET_PRIORITY1: &[u8; 56] = b"\x0d\x12\x00\x38\x00\x00\
+    \x00\x00\x00\x00\x00\x00\x00\x00\x00\x00\x00\x00\x00\x00\
+    \x00\x11\x22\x33\x44\x55\x66\x77\x00\x01\x00\x07\x04\x7f\
+    \xaa\xbb\xcc\xff\xfe\xdd\xee\x01\xff\xff\x01\x01\x01\x00\
+    \x00\x01\x00\x04\x20\x05\x64\x00";
+
+/// A session of the manager with that clock of two ports.
+const SESSION: SessionSettings = SessionSettings {
+    port: 1,
+    target_ports: 2,
+    first: 7,
+    clock: MANAGER_CLOCK,
+    target: CLOCK,
+    domain: 0,
+    hops: 1,
+    attempts: 2,
+};
 
 fn settings() -> ClockSettings {
     ClockSettings {
@@ -114,4 +166,172 @@ fn start_after_refused_memory(rt: HostRuntime) {
     let first = refusal(rt.alloc(), &settings(), &[PortSettings::new()], &[MANAGER]);
     let again = refusal(rt.alloc(), &settings(), &[PortSettings::new()], &[MANAGER]);
     assert!(rt; first == 0 || first == 35 && again == 0);
+}
+
+/// The number of what a session makes of a datagram.
+fn hears(session: &mut HostedSession, datagram: &[u8]) -> u32 {
+    match session.receive(datagram) {
+        Ok(heard) => heard_number(heard),
+        Err(_) => 35,
+    }
+}
+
+/// The number of the refusal of a request; 0 where it is begun.
+fn begins(
+    alloc: Global,
+    session: &mut HostedSession,
+    action: u8,
+    id: u16,
+    port: u16,
+    octets: &[u8],
+) -> u32 {
+    match session.begin(alloc, action, id, port, octets) {
+        Ok(()) => 0,
+        Err(refusal) => begin_number(refusal),
+    }
+}
+
+/// What a session sends is this request.
+fn sends(rt: &impl Abort, session: &mut HostedSession, request: &[u8]) {
+    let mut octets = [0xee; 1472];
+    match session.send(&mut octets) {
+        Ok(size) if size <= 1472 => assert_eq!(rt; &octets[..size], request),
+        _ => assert!(rt; false, "it sends"),
+    }
+}
+
+/// A session refuses to send, by this number.
+fn sends_nothing(rt: &impl Abort, session: &mut HostedSession, room: usize, number: u32) {
+    let mut octets = [0xee; 1472];
+    if room <= 1472 {
+        match session.send(&mut octets[..room]) {
+            Ok(_) => assert!(rt; false, "it sends nothing"),
+            Err(refusal) => assert_eq!(rt; send_number(refusal), number),
+        }
+    }
+}
+
+#[test]
+fn requests_of_a_session(rt: HostRuntime) {
+    let alloc = rt.alloc();
+    match HostedSession::start(alloc, &SESSION) {
+        Ok(mut session) => {
+            sends_nothing(&rt, &mut session, 1472, 43);
+            assert!(rt; session.resume(1).is_err());
+            assert_eq!(rt; begins(alloc, &mut session, 0, 0x200b, 0, &[]), 39);
+            assert_eq!(rt; begins(alloc, &mut session, 2, 0x2005, 0, &[]), 40);
+            assert_eq!(rt; begins(alloc, &mut session, 255, 0x2005, 0, &[]), 40);
+            assert_eq!(rt; begins(alloc, &mut session, 1, 0x2005, 0, &[100]), 41);
+            assert_eq!(rt; session.issued(), 0);
+            assert_eq!(rt; begins(alloc, &mut session, 0, 0x2005, 0, &[]), 0);
+            sends_nothing(&rt, &mut session, 1471, 34);
+            sends(&rt, &mut session, REQUEST);
+            sends(&rt, &mut session, REQUEST);
+            sends_nothing(&rt, &mut session, 1472, 44);
+            assert_eq!(rt; begins(alloc, &mut session, 0, 0x2005, 0, &[]), 38);
+            assert!(rt; session.resume(1).is_ok());
+            sends(&rt, &mut session, REQUEST);
+            assert_eq!(rt; session.issued(), 1);
+        }
+        Err(_) => assert!(rt; false, "it starts"),
+    }
+}
+
+#[test]
+fn answers_at_a_session(rt: HostRuntime) {
+    let alloc = rt.alloc();
+    let mut octets = [0xee; 4];
+    match HostedSession::start(alloc, &SESSION) {
+        Ok(mut session) => {
+            assert_eq!(rt; hears(&mut session, REPLY), 13);
+            assert_eq!(rt; begins(alloc, &mut session, 0, 0x2005, 0, &[]), 0);
+            assert_eq!(rt; hears(&mut session, &REPLY[..53]), 16);
+            assert_eq!(rt; hears(&mut session, DONE), 14);
+            assert!(rt; matches!(session.report(&mut octets), Err(ReportRefusal::NoReport)));
+            assert_eq!(rt; hears(&mut session, REPLY), 0);
+            assert!(rt; matches!(session.report(&mut octets[..1]), Err(ReportRefusal::NoRoom)));
+            assert!(rt; matches!(session.report(&mut octets), Ok(Told::Value(2))));
+            assert_eq!(rt; octets, [0x80, 0, 0xee, 0xee]);
+            assert_eq!(rt; begins(alloc, &mut session, 3, 0x200e, 2, &[]), 0);
+            assert!(rt; matches!(session.report(&mut octets), Err(ReportRefusal::NoReport)));
+            sends(&rt, &mut session, COMMAND);
+            assert_eq!(rt; hears(&mut session, REPLY), 12);
+            assert_eq!(rt; hears(&mut session, DONE), 0);
+            assert!(rt; matches!(session.report(&mut octets), Ok(Told::Done)));
+            assert_eq!(rt; begins(alloc, &mut session, 1, 0x2000, 0, &[]), 0);
+            session.retune(5);
+            sends(&rt, &mut session, SET);
+            assert_eq!(rt; hears(&mut session, NOT_SETABLE), 0);
+            assert!(rt; matches!(session.report(&mut octets), Ok(Told::Refused(5))));
+            assert_eq!(rt; session.issued(), 3);
+        }
+        Err(_) => assert!(rt; false, "it starts"),
+    }
+}
+
+/// The number of the refusal of a session; 0 where it starts.
+fn session_refusal(alloc: Global, settings: &SessionSettings) -> u32 {
+    match HostedSession::start(alloc, settings) {
+        Ok(_) => 0,
+        Err(refusal) => session_number(refusal),
+    }
+}
+
+#[test]
+fn session_refusals(rt: HostRuntime) {
+    let alloc = rt.alloc();
+    let every = [0xff; 8];
+    let of_every = SessionSettings {
+        clock: every,
+        target: every,
+        ..SESSION
+    };
+    let to_every = SessionSettings {
+        target: every,
+        target_ports: 0,
+        ..SESSION
+    };
+    let to_itself = SessionSettings {
+        clock: CLOCK,
+        target_ports: 9,
+        ..SESSION
+    };
+    let of_no_port = SessionSettings {
+        target_ports: 0,
+        ..SESSION
+    };
+    let of_nine_ports = SessionSettings {
+        target_ports: 9,
+        ..SESSION
+    };
+    assert_eq!(rt; session_refusal(alloc, &of_every), 53);
+    assert_eq!(rt; session_refusal(alloc, &to_every), 54);
+    assert_eq!(rt; session_refusal(alloc, &to_itself), 55);
+    assert_eq!(rt; session_refusal(alloc, &of_no_port), 48);
+    assert_eq!(rt; session_refusal(alloc, &of_nine_ports), 49);
+    assert_eq!(rt; session_refusal(alloc, &SESSION), 0);
+}
+
+/// As `start_after_refused_memory`, of a session's two calls that ask for memory: what is refused changes nothing.
+#[test]
+fn session_after_refused_memory(rt: HostRuntime) {
+    let alloc = rt.alloc();
+    let mut octets = [0; 2];
+    match HostedSession::start(alloc, &SESSION) {
+        Ok(mut session) => {
+            if let Err(refusal) = session.begin(alloc, 1, 0x2005, 0, &[100, 0]) {
+                assert_eq!(rt; refusal, BeginError::OutOfMemory);
+                assert_eq!(rt; session.issued(), 0);
+                assert_eq!(rt; session.begin(alloc, 1, 0x2005, 0, &[100, 0]), Ok(()));
+            }
+            sends(&rt, &mut session, SET_PRIORITY1);
+            if session.receive(REPLY).is_err() {
+                sends(&rt, &mut session, SET_PRIORITY1);
+                assert_eq!(rt; hears(&mut session, REPLY), 0);
+            }
+            assert!(rt; matches!(session.report(&mut octets), Ok(Told::Value(2))));
+            assert_eq!(rt; octets, [0x80, 0]);
+        }
+        Err(_) => assert!(rt; false, "it starts"),
+    }
 }

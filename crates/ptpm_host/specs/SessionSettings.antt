@@ -1,0 +1,41 @@
+-- What the settings of a host describe: a session that has begun nothing. And why they describe none.
+use Rattle.std.specs.Prelude.{nat_lt, [], ◌∷◌, Option}
+use Rattle.ptpm_codec.specs.declared.identity.ClockIdentity.{ClockIdentity}
+use Rattle.ptpm_codec.specs.declared.identity.PortIdentity.{PortIdentity}
+use Rattle.ptpm_codec.specs.Identity.{every_clock, same_clock}
+use Rattle.ptpm_codec.specs.Ordered.{first_of}
+use Rattle.ptpm_manager.specs.declared.setup.Setup.{Setup}
+use Rattle.ptpm_manager.specs.Session.{SessionValue, fresh}
+use Rattle.ptpm_host.specs.declared.refusal.SessionRefusal.{SessionRefusal}
+use Rattle.ptpm_host.specs.declared.refusal.SessionRefusal.TheVariants as refusals
+use Rattle.ptpm_host.specs.declared.session_settings.SessionSettings.{SessionSettings}
+
+abbrev pub manager_port : SessionSettings → PortIdentity
+manager_port s = record { clock = record { 0 = s.clock }; port = s.port }
+
+abbrev pub target_clock : SessionSettings → ClockIdentity
+target_clock s = record { 0 = s.target }
+
+abbrev pub setup_of : SessionSettings → Setup
+setup_of s = record {
+  me = manager_port s;
+  target = target_clock s;
+  ports = s.target_ports;
+  first = s.first;
+  hops = s.hops;
+  attempts = s.attempts;
+}
+
+abbrev pub session_start : SessionSettings → SessionValue
+session_start s = fresh (setup_of s) s.domain
+
+-- a manager and its clock are two clocks, neither is the identity that means every clock (15.3.1), and the clock has one to
+-- eight ports (this project's profile)
+abbrev pub session_refusal : SessionSettings → Option SessionRefusal
+session_refusal s = first_of (
+    (same_clock (manager_port s).clock every_clock, refusals.ManagerIsEvery)
+    ∷ (same_clock (target_clock s) every_clock, refusals.TargetIsEvery)
+    ∷ (same_clock (manager_port s).clock (target_clock s), refusals.SameClock)
+    ∷ (nat_lt s.target_ports 1, refusals.NoPorts)
+    ∷ (nat_lt 8 s.target_ports, refusals.TooManyPorts)
+    ∷ [])

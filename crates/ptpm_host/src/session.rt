@@ -1,0 +1,256 @@
+//! A session with the request that it sends and the answer that it heard, as a host keeps it.
+
+ghost use Rattle.std.specs.Prelude.{◌≡◌, ◌≢◌, false, true, None, Some, IfErr, IfOk, MatchResult, OnErr, OnOk, length, take};
+ghost use Rattle.ptpm_codec.specs.declared.message.Message.{Message};
+ghost use Rattle.ptpm_codec.specs.Canonical.{canonical};
+ghost use Rattle.ptpm_manager.specs.declared.error.BeginError.{BeginError};
+ghost use Rattle.ptpm_manager.specs.declared.error.SendError.{SendError};
+ghost use Rattle.ptpm_manager.specs.declared.report.Report.{Report};
+ghost use Rattle.ptpm_manager.specs.Ask.{request_of};
+ghost use Rattle.ptpm_manager.specs.Receiving.{NeedsMemory, left_by, received_of};
+ghost use Rattle.ptpm_manager.specs.Session.{begin_refusal, begun, due_message, is_waiting, resumed, retuned, sent};
+ghost use Rattle.ptpm_host.specs.Session.{ask_of, asked_action, hand_refusal, heard_of, report_after, report_refusal, told_error, told_octets, told_of, told_size};
+ghost use Rattle.ptpm_host.specs.SessionSettings.{session_refusal, session_start};
+
+use crate::refusal::{ReportRefusal, SendRefusal, SessionRefusal};
+use crate::session_settings::SessionSettings;
+use ptpm_codec::{Action, Buffer, ClockIdentity, MESSAGE_OCTETS, Octets, OutOfMemory};
+use ptpm_manager::{Ask, BeginError, Outcome, Reason, Received, Report, SendError, Session};
+use std::alloc::Global;
+
+/// A session, room for the request that it sends, and the answer to the latest request.
+#[derive(Drop)]
+pub struct HostedSession {
+    session: Session,
+    /// What was sent last.
+    buffer: Buffer,
+    /// None while the latest request is not answered.
+    report: Option<Report>,
+}
+
+/// What a session makes of a datagram.
+#[derive(Clone, Copy, Debug)]
+pub enum Heard {
+    /// It answers the request.
+    Answered,
+    /// It does not, and changes nothing.
+    Ignored(Reason),
+}
+
+/// What the answer to a request tells.
+#[derive(Clone, Copy, Debug)]
+pub enum Told {
+    /// A dataField of this many octets.
+    Value(usize),
+    /// The COMMAND was carried out.
+    Done,
+    /// The managementErrorId of an error status.
+    Refused(u16),
+}
+
+impl Told {
+    /// How many octets of a dataField it tells.
+    pub fn size(self) -> usize
+        ensures { result ≡ told_size self }
+    {
+        match self {
+            Told::Value(size) => size,
+            Told::Done | Told::Refused(_) => 0,
+        }
+    }
+
+    /// The managementErrorId, and 0 where it tells none.
+    pub fn error(self) -> u16
+        ensures { result ≡ told_error self }
+    {
+        match self {
+            Told::Refused(error) => error,
+            Told::Value(_) | Told::Done => 0,
+        }
+    }
+}
+
+impl HostedSession {
+    /// A session that has begun nothing. Takes no memory.
+    pub fn start(alloc: Global, settings: &SessionSettings) -> Result<HostedSession, SessionRefusal>
+        ensures session { IfOk result (λ s. s.session ≡ session_start settings.now) }
+        ensures report { IfOk result (λ s. s.report ≡ None) }
+        ensures refusal { MatchResult result (λ _. session_refusal settings.now ≡ None)
+            (λ e. session_refusal settings.now ≡ Some e) }
+    {
+        let me = settings.manager();
+        let target = settings.target();
+        if me.clock == ClockIdentity::EVERY {
+            return Err(SessionRefusal::ManagerIsEvery);
+        }
+        if target == ClockIdentity::EVERY {
+            return Err(SessionRefusal::TargetIsEvery);
+        }
+        if me.clock == target {
+            return Err(SessionRefusal::SameClock);
+        }
+        let ports = settings.target_ports;
+        if ports < 1 {
+            return Err(SessionRefusal::NoPorts);
+        }
+        if ports > 8 {
+            return Err(SessionRefusal::TooManyPorts);
+        }
+        Ok(HostedSession {
+            session: Session::new(
+                alloc,
+                me,
+                target,
+                ports,
+                settings.domain,
+                settings.first,
+                settings.hops,
+                settings.attempts,
+            ),
+            buffer: Buffer::new(),
+            report: None,
+        })
+    }
+
+    /// How many requests were begun.
+    pub fn issued(&self) -> u64
+        ensures { result ≡ self.now.session.issued }
+    {
+        self.session.issued()
+    }
+
+    /// Begins a request, with all its attempts before it: 0 GET, 1 SET or 3 COMMAND of a managementId, with this dataField.
+    /// The port matters for an id of a port alone. The answer to an earlier request is let go. The first reason that holds
+    /// is why it is refused, and then nothing changes; want of memory can come in place of any other.
+    pub fn begin(
+        &mut self,
+        alloc: Global,
+        action: u8,
+        id: u16,
+        port: u16,
+        octets: &[u8],
+    ) -> Result<(), BeginError>
+        ensures begun { OnOk result (self.new.session ≡ begun self.old.session (request_of (ask_of action id port octets.now))) }
+        ensures report { OnOk result (self.new.report ≡ None) }
+        ensures permitted { OnOk result (begin_refusal self.old.session (ask_of action id port octets.now) ≡ None) }
+        ensures refused { IfErr result (λ e. e ≢ BeginError.OutOfMemory →
+            begin_refusal self.old.session (ask_of action id port octets.now) ≡ Some e) }
+        ensures unchanged { OnErr result (self.new ≡ self.old) }
+    {
+        let Ok(octets) = Octets::copy_of(alloc, octets) else {
+            return Err(BeginError::OutOfMemory);
+        };
+        self.session.begin(&Ask {
+            action: asked_action(action),
+            id,
+            port: Some(port),
+            octets,
+        })?;
+        self.report = None;
+        Ok(())
+    }
+
+    /// Leaves the unanswered request at the head of `octets`, uses one of its attempts, and answers how many octets it has.
+    /// Until `retune` they are the same each time. Where it is refused, nothing changes. Takes no memory.
+    pub fn send(&mut self, octets: &mut [u8]) -> Result<usize, SendRefusal>
+        ensures refusal { MatchResult result
+            (λ _. hand_refusal (length octets.old) self.old.session ≡ None)
+            (λ e. hand_refusal (length octets.old) self.old.session ≡ Some e) }
+        ensures octets { (v : Message) → due_message self.old.session ≡ Some v →
+            IfOk result (λ n. take n octets.new ≡ canonical v) }
+        ensures sent { OnOk result (self.new.session ≡ sent self.old.session) }
+        ensures report { self.new.report ≡ self.old.report }
+        ensures size { length octets.new ≡ length octets.old }
+        ensures unchanged { OnErr result (self.new.session ≡ self.old.session) }
+        ensures untouched { OnErr result (octets.new ≡ octets.old) }
+    {
+        if octets.len() < MESSAGE_OCTETS {
+            return Err(SendRefusal::NoRoom);
+        }
+        if let Err(refusal) = self.session.send(&mut self.buffer) {
+            return Err(SendRefusal::Session(refusal));
+        }
+        let message = self.buffer.as_slice();
+        octets[..message.len()].copy_from_slice(message);
+        Ok(message.len())
+    }
+
+    /// Gives the unanswered request this many attempts, whatever was left. Takes no memory.
+    pub fn resume(&mut self, attempts: u8) -> Result<(), SendError>
+        ensures refusal { MatchResult result (λ _. is_waiting self.old.session ≡ true)
+            (λ e. (e ≡ SendError.Idle) × (is_waiting self.old.session ≡ false)) }
+        ensures resumed { OnOk result (self.new.session ≡ resumed self.old.session attempts) }
+        ensures report { self.new.report ≡ self.old.report }
+        ensures unchanged { OnErr result (self.new ≡ self.old) }
+    {
+        self.session.resume(attempts)
+    }
+
+    /// From now on requests are sent, and replies expected, in this domain, also of a request that was begun before. Takes
+    /// no memory.
+    pub fn retune(&mut self, domain: u8)
+        ensures session { self.new.session ≡ retuned self.old.session domain }
+        ensures report { self.new.report ≡ self.old.report }
+    {
+        self.session.retune(domain);
+    }
+
+    /// What the session makes of a datagram: where it answers the unanswered request, that answer is kept, and the next one
+    /// can be begun. Memory is asked for the dataField of a RESPONSE alone; where it is refused, nothing changes.
+    pub fn receive(&mut self, datagram: &[u8]) -> Result<Heard, OutOfMemory>
+        ensures heard { IfOk result (λ h. h ≡ heard_of (received_of self.old.session datagram.now)) }
+        ensures left { OnOk result (self.new.session ≡ left_by self.old.session (received_of self.old.session datagram.now)) }
+        ensures report { OnOk result (self.new.report ≡ report_after self.old.report (received_of self.old.session datagram.now)) }
+        ensures memory { OnErr result (NeedsMemory (received_of self.old.session datagram.now)) }
+        ensures unchanged { OnErr result (self.new ≡ self.old) }
+    {
+        match self.session.receive(datagram)? {
+            Received::Answered(report) => {
+                self.report = Some(report);
+                Ok(Heard::Answered)
+            }
+            Received::Ignored(reason) => Ok(Heard::Ignored(reason)),
+        }
+    }
+
+    /// What the answer to the latest request tells; a dataField is left at the head of `octets`. Where it is refused, nothing
+    /// is written. Takes no memory.
+    pub fn report(&self, octets: &mut [u8]) -> Result<Told, ReportRefusal>
+        ensures refusal { MatchResult result
+            (λ _. report_refusal (length octets.old) self.now.report ≡ None)
+            (λ e. report_refusal (length octets.old) self.now.report ≡ Some e) }
+        ensures told { (r : Report) → self.now.report ≡ Some r → IfOk result (λ t. t ≡ told_of r.outcome) }
+        ensures octets { (r : Report) → self.now.report ≡ Some r →
+            IfOk result (λ t. take (told_size t) octets.new ≡ told_octets r.outcome) }
+        ensures size { length octets.new ≡ length octets.old }
+        ensures untouched { OnErr result (octets.new ≡ octets.old) }
+    {
+        let Some(report) = &self.report else {
+            return Err(ReportRefusal::NoReport);
+        };
+        match &report.outcome {
+            Outcome::Value(field) => {
+                let field = field.as_slice();
+                if octets.len() < field.len() {
+                    return Err(ReportRefusal::NoRoom);
+                }
+                octets[..field.len()].copy_from_slice(field);
+                Ok(Told::Value(field.len()))
+            }
+            Outcome::Done => Ok(Told::Done),
+            Outcome::Refused(error) => Ok(Told::Refused(*error)),
+        }
+    }
+}
+
+/// The action of an actionField; every other number counts as RESPONSE, which is no request's.
+fn asked_action(action: u8) -> Action
+    ensures { result ≡ asked_action action }
+{
+    match action {
+        0 => Action::Get,
+        1 => Action::Set,
+        3 => Action::Command,
+        _ => Action::Response,
+    }
+}

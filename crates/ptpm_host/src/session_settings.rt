@@ -1,0 +1,49 @@
+//! What a session is set up with, as a host in C lays it out.
+
+ghost use Rattle.std.specs.Prelude.{◌≡◌};
+ghost use Rattle.ptpm_host.specs.SessionSettings.{manager_port, target_clock};
+
+use ptpm_codec::{ClockIdentity, PortIdentity};
+
+/// One manager, the clock that it manages, and how its requests are numbered and sent.
+#[repr(C)]
+#[derive(Clone, Copy)]
+pub struct SessionSettings {
+    /// portNumber of the manager.
+    pub port: u16,
+    /// How many ports the managed clock has, 1 to 8.
+    pub target_ports: u16,
+    /// The sequenceId of the first request.
+    pub first: u16,
+    /// clockIdentity of the manager, not all ones.
+    pub clock: [u8; 8],
+    /// clockIdentity of the managed clock, another one, and not all ones.
+    pub target: [u8; 8],
+    /// domainNumber.
+    pub domain: u8,
+    /// startingBoundaryHops of each request.
+    pub hops: u8,
+    /// How often a request may be sent before it is given up.
+    pub attempts: u8,
+}
+
+const _: () = prove!(size_of::<SessionSettings>() == 26);
+
+impl SessionSettings {
+    /// The manager.
+    pub(crate) fn manager(&self) -> PortIdentity
+        ensures { result ≡ manager_port self.now }
+    {
+        PortIdentity {
+            clock: ClockIdentity(self.clock),
+            port: self.port,
+        }
+    }
+
+    /// The clock that it manages.
+    pub(crate) fn target(&self) -> ClockIdentity
+        ensures { result ≡ target_clock self.now }
+    {
+        ClockIdentity(self.target)
+    }
+}
