@@ -1,5 +1,6 @@
-/* A PTP management agent (IEEE 1588-2019, clause 15) for a host in C: the data sets of one clock, and what becomes of each
-   management message that comes in at its ports. The library opens no socket, reads no clock and starts no thread. Link
+/* PTP management (IEEE 1588-2019, clause 15) for a host in C. An agent: the data sets of one clock, and what becomes of each
+   management message that comes in at its ports. And a session of a manager: one request at a time to one clock; such an
+   agent carries it out once, however often it is sent. The library opens no socket, reads no clock and starts no thread. Link
    libptpm_c.a, and liblibc_c.a of the toolchain, whose heap.c calls malloc, realloc and free.
 
    What is proved of a call is proved of callers that keep to this:
@@ -94,19 +95,47 @@ struct ptpm_sent {
     uint8_t octets[1472];
 };
 
+/* A session of a manager, about 1,600 octets behind one pointer. All zeros hold no session. */
+struct ptpm_session { void *at; bool live; };
+
+/* One manager, the clock that it manages, and how its requests are numbered and sent. A clock takes a request for new where
+   its number is up to 32,767 ahead of the latest that it took from this manager: a manager that starts again goes on from
+   the number behind the last that it began. */
+struct ptpm_session_settings {
+    uint16_t port;                      /* portNumber of the manager */
+    uint16_t target_ports;              /* how many ports the managed clock has, 1 to 8 */
+    uint16_t first;                     /* the sequenceId of the first request */
+    uint8_t clock[8];                   /* clockIdentity of the manager, not all ones */
+    uint8_t target[8];                  /* clockIdentity of the managed clock, another one, and not all ones */
+    uint8_t domain;
+    uint8_t hops;                       /* startingBoundaryHops of each request */
+    uint8_t attempts;                   /* how often a request may be sent before it is given up */
+};
+
+/* What may be asked of a clock: the actionField of a request. */
+enum { PTPM_GET = 0, PTPM_SET = 1, PTPM_COMMAND = 3 };
+
 _Static_assert(sizeof(struct ptpm_clock) == 16 && sizeof(struct ptpm_clock_settings) == 216
                && sizeof(struct ptpm_port_settings) == 16 && sizeof(struct ptpm_manager_settings) == 12
-               && sizeof(struct ptpm_sent) == 1476, "the library was made for other sizes");
+               && sizeof(struct ptpm_sent) == 1476 && sizeof(struct ptpm_session) == 16
+               && sizeof(struct ptpm_session_settings) == 26, "the library was made for other sizes");
 
-/* A clock sends at most so many messages for a datagram, and a dataField of its own has at most so many octets. */
-enum { PTPM_MOST_SENT = 15, PTPM_MOST_READ = 130 };
+/* A clock sends at most so many messages for a datagram, and a dataField of its own has at most so many octets; a message
+   has at most so many, its dataField included. */
+enum { PTPM_MOST_SENT = 15, PTPM_MOST_READ = 130, PTPM_MOST_OCTETS = 1472 };
 
 /* What a call answers. */
 enum {
-    PTPM_STARTED = 0, PTPM_READ = 0,
+    PTPM_STARTED = 0, PTPM_READ = 0, PTPM_BEGUN = 0, PTPM_SENT = 0, PTPM_RESUMED = 0, PTPM_RETUNED = 0,
+    /* what became of a datagram at a session: it answers the request, or it is ignored, as below */
+    PTPM_ANSWERED = 0,
+    /* what the answer tells: a dataField, that a COMMAND was carried out, or a managementErrorId */
+    PTPM_VALUE = 0, PTPM_DONE = 25, PTPM_REFUSED = 26,
     /* what became of a datagram */
     PTPM_OTHER_DOMAIN = 1, PTPM_OWN_MESSAGE, PTPM_NOT_ADDRESSED, PTPM_NOT_A_REQUEST, PTPM_ANSWERED_NEW,
     PTPM_ANSWERED_REPEAT, PTPM_DROPPED_OLD, PTPM_DROPPED_CONFLICT, PTPM_ANSWERED_UNNUMBERED,
+    /* why a session ignores it; PTPM_OTHER_DOMAIN too */
+    PTPM_NOT_A_REPLY, PTPM_OTHER_TARGET, PTPM_OTHER_SOURCE, PTPM_NOTHING_ASKED, PTPM_OTHER_NUMBER, PTPM_OTHER_CONTENT,
     /* why it holds no management message */
     PTPM_TOO_SHORT = 16, PTPM_NOT_MANAGEMENT, PTPM_BAD_VERSION, PTPM_BAD_LENGTH, PTPM_BAD_ACTION, PTPM_BAD_TLV_TYPE,
     PTPM_BAD_TLV_LENGTH, PTPM_BAD_TEXT,
@@ -116,8 +145,19 @@ enum {
     PTPM_NO_ROOM,                       /* room for fewer than PTPM_MOST_SENT messages, or PTPM_MOST_READ octets */
     PTPM_NO_MEMORY,
     PTPM_NOT_READABLE,                  /* the id is not in the table, or permits no GET */
+    PTPM_NO_SESSION,                    /* the handle holds none */
+    PTPM_BUSY,                          /* a request is not answered yet */
+    PTPM_NEEDS_PORT,                    /* the id is of a port, and no port of the clock is named */
+    PTPM_NOT_PERMITTED,                 /* the action is none of the three */
+    PTPM_BAD_VALUE,                     /* the dataField has an odd number of octets, or over 1,418 */
+    PTPM_COUNT_AT_MAXIMUM,              /* the session has begun 1,000,000 requests */
+    PTPM_IDLE,                          /* no request is unanswered */
+    PTPM_GAVE_UP,                       /* no attempts are left */
+    PTPM_NO_REPORT,                     /* no request was begun, or the latest is not answered */
     /* why a clock does not start, the first that holds */
     PTPM_NO_PORTS = 48, PTPM_TOO_MANY_PORTS, PTPM_GRANDMASTER_DIFFERS, PTPM_TOO_MANY_MANAGERS, PTPM_MANAGER_TWICE,
+    /* why a session does not start, the first that holds; PTPM_NO_PORTS and PTPM_TOO_MANY_PORTS too, behind these */
+    PTPM_MANAGER_IS_EVERY, PTPM_TARGET_IS_EVERY, PTPM_SAME_CLOCK,
     /* a member is out of its range */
     PTPM_BAD_IDENTITY = 64, PTPM_BAD_DOMAIN, PTPM_BAD_USER_DESCRIPTION, PTPM_BAD_TWO_STEP, PTPM_BAD_PRIORITY1,
     PTPM_BAD_CLOCK_CLASS, PTPM_BAD_CLOCK_ACCURACY, PTPM_BAD_VARIANCE, PTPM_BAD_PRIORITY2, PTPM_BAD_STEPS_REMOVED,
@@ -153,5 +193,41 @@ uint32_t ptpm_clock_read(struct ptpm_clock *clock, uint16_t id, uint16_t port, u
 
 /* Ends the clock that the handle holds, if it holds one; the handle then holds none. */
 void ptpm_clock_stop(struct ptpm_clock *clock);
+
+/* Starts a session in place of the one that the handle holds: PTPM_STARTED, or why not, and then the handle holds none. */
+uint32_t ptpm_session_start(struct ptpm_session *session, const struct ptpm_session_settings *settings);
+
+/* Begins a request: PTPM_BEGUN, or why not, and then nothing changes. The port matters for an id of a port alone; octets is
+   the dataField. The answer to an earlier request is let go. */
+uint32_t ptpm_session_begin(struct ptpm_session *session, uint8_t action, uint16_t id, uint16_t port, const uint8_t *octets,
+                            size_t size);
+
+/* Leaves the unanswered request at the head of octets, *size octets, and uses one of its attempts: PTPM_SENT, or why not;
+   room is how many octets there are, PTPM_MOST_OCTETS or more. It has the same octets each time, until the session is
+   retuned. Takes no memory. */
+uint32_t ptpm_session_send(struct ptpm_session *session, uint8_t *octets, size_t room, size_t *size);
+
+/* Gives the unanswered request so many attempts, whatever was left: PTPM_RESUMED, PTPM_IDLE or PTPM_NO_SESSION. Takes no
+   memory. */
+uint32_t ptpm_session_resume(struct ptpm_session *session, uint8_t attempts);
+
+/* From now on requests are sent, and replies expected, in this domain, the unanswered one among them: PTPM_RETUNED or
+   PTPM_NO_SESSION. Takes no memory. */
+uint32_t ptpm_session_retune(struct ptpm_session *session, uint8_t domain);
+
+/* What the session makes of a datagram: PTPM_ANSWERED where it answers the unanswered request, after which the next one can
+   be begun; or why it is ignored; or PTPM_NO_MEMORY or PTPM_NO_SESSION. But for PTPM_ANSWERED nothing changes. */
+uint32_t ptpm_session_receive(struct ptpm_session *session, const uint8_t *datagram, size_t size);
+
+/* How many requests were begun; 0 where the handle holds no session. */
+uint64_t ptpm_session_issued(struct ptpm_session *session);
+
+/* What the answer to the latest request tells: PTPM_VALUE, with the dataField at the head of octets, *size octets; PTPM_DONE;
+   PTPM_REFUSED, with the managementErrorId in *error; or why nothing is told. room is how many octets there are: a dataField
+   has at most 1,418. Takes no memory. */
+uint32_t ptpm_session_report(struct ptpm_session *session, uint8_t *octets, size_t room, size_t *size, uint16_t *error);
+
+/* Ends the session that the handle holds, if it holds one; the handle then holds none. */
+void ptpm_session_stop(struct ptpm_session *session);
 
 #endif

@@ -5,11 +5,9 @@ use seplogic.Ra.Ura.{Ura}
 use mir.Syntax.{Ty, Dict, ty_ptr, impl, tnil, tcons, dnil}
 use mir.Raw.{raw as unnamed}
 use mir.Val.{Val, vstruct, vcons, vnil, of_list, has_ty}
-use base.Fml.{ftrue}
 use types.Logic.{Logic}
 use types.Kit.{Goal, Seq, Step, step, Item, ‵, ◌$◌, drop, fsplit, fjoin, fpick, fpack, feq_l, feq_i}
 use denote.RattleType.{RattleType, Valss}
-use denote.Builtin.{RawPtr}
 use denote.RawPtr.{Ptr, ptr_val}
 use denote.Exit.{no}
 use denote.Laws.{Typed}

@@ -1,2 +1,4 @@
 pub mod Kept
 pub mod Turns
+pub mod Numbers
+pub mod SessionKept

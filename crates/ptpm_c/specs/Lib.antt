@@ -1,2 +1,5 @@
 pub mod Keeping
 pub mod Turned
+pub mod KeptSession
+pub mod SessionKeeping
+pub mod Session

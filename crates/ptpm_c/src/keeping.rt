@@ -1,4 +1,4 @@
-//! A clock behind a pointer that a host keeps. All that is unsafe stands here.
+//! A clock behind a pointer that a host keeps. All that is unsafe stands here and in `session_keeping`.
 
 ghost use Rattle.std.specs.Prelude.{◌≡◌, IsTrue, Option, None, Some, is_some};
 ghost use Rattle.ptpm_host.specs.declared.clock.HostedClock.{HostedClock};

@@ -16,6 +16,10 @@ ghost use Rattle.ptpm_c.specs.Turned.{IsTurnedTo};
 
 mod handle;
 mod keeping;
+mod kept_session;
+mod session;
+mod session_handle;
+mod session_keeping;
 
 use crate::handle::ClockHandle;
 use ptpm_host::{

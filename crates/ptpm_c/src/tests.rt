@@ -1,7 +1,10 @@
 //! The calls of a host in C, one after another.
 
 use crate::handle::ClockHandle;
+use crate::session::*;
+use crate::session_handle::SessionHandle;
 use crate::*;
+use ptpm_host::SessionSettings;
 
 /// GET PRIORITY1, number 7, of manager 0011223344556677/1 to clock aabbccfffeddee01, at every port.
 const REQUEST: &[u8; 54] = b"\x0d\x12\x00\x36\x00\x00\
@@ -9,6 +12,13 @@ const REQUEST: &[u8; 54] = b"\x0d\x12\x00\x36\x00\x00\
     \x00\x11\x22\x33\x44\x55\x66\x77\x00\x01\x00\x07\x04\x7f\
     \xaa\xbb\xcc\xff\xfe\xdd\xee\x01\xff\xff\x01\x01\x00\x00\
     \x00\x01\x00\x02\x20\x05";
+
+/// The clock's reply to it: priority1 is 128.
+const REPLY: &[u8; 56] = b"\x0d\x12\x00\x38\x00\x00\
+    \x00\x00\x00\x00\x00\x00\x00\x00\x00\x00\x00\x00\x00\x00\
+    \xaa\xbb\xcc\xff\xfe\xdd\xee\x01\x00\x01\x00\x07\x04\x7f\
+    \x00\x11\x22\x33\x44\x55\x66\x77\x00\x01\x00\x00\x02\x00\
+    \x00\x01\x00\x04\x20\x05\x80\x00";
 
 #[test]
 fn a_clock_from_start_to_stop(rt: HostRuntime) {
@@ -38,4 +48,49 @@ fn a_clock_from_start_to_stop(rt: HostRuntime) {
     ptpm_clock_stop(rt.alloc(), &mut handle);
     let answer = ptpm_clock_handle(rt.alloc(), &mut handle, 1, REQUEST, &mut sent, &mut count);
     assert!(rt; answer == 32 && count == 0);
+}
+
+#[test]
+fn a_session_from_start_to_stop(rt: HostRuntime) {
+    let settings = SessionSettings {
+        port: 1,
+        target_ports: 2,
+        first: 7,
+        clock: [0x00, 0x11, 0x22, 0x33, 0x44, 0x55, 0x66, 0x77],
+        target: [0xaa, 0xbb, 0xcc, 0xff, 0xfe, 0xdd, 0xee, 0x01],
+        domain: 5,
+        hops: 1,
+        attempts: 0,
+    };
+    let mut handle = SessionHandle::empty();
+    let mut octets = [0; 1472];
+    let mut size = 1;
+    let mut error = 1;
+    let answer = ptpm_session_begin(rt.alloc(), &mut handle, 0, 0x2005, 0, &[]);
+    assert!(rt; answer == 37);
+    let answer = ptpm_session_start(rt.alloc(), &mut handle, &settings);
+    assert!(rt; answer == 0);
+    let answer = ptpm_session_begin(rt.alloc(), &mut handle, 0, 0x2005, 0, &[]);
+    assert!(rt; answer == 0);
+    let answer = ptpm_session_send(rt.alloc(), &mut handle, &mut octets, &mut size);
+    assert!(rt; answer == 44 && size == 0);
+    let answer = ptpm_session_resume(rt.alloc(), &mut handle, 1);
+    assert!(rt; answer == 0);
+    let answer = ptpm_session_retune(rt.alloc(), &mut handle, 0);
+    assert!(rt; answer == 0);
+    let answer = ptpm_session_send(rt.alloc(), &mut handle, &mut octets, &mut size);
+    assert!(rt; answer == 0 && size == 54);
+    assert_eq!(rt; &octets[..54], REQUEST.as_slice());
+    let answer = ptpm_session_receive(rt.alloc(), &mut handle, REQUEST);
+    assert!(rt; answer == 10);
+    let answer = ptpm_session_receive(rt.alloc(), &mut handle, REPLY);
+    assert!(rt; answer == 0);
+    let answer = ptpm_session_report(rt.alloc(), &mut handle, &mut octets, &mut size, &mut error);
+    assert!(rt; answer == 0 && size == 2 && error == 0);
+    assert_eq!(rt; &octets[..2], [0x80, 0].as_slice());
+    let issued = ptpm_session_issued(rt.alloc(), &mut handle);
+    assert!(rt; issued == 1);
+    ptpm_session_stop(rt.alloc(), &mut handle);
+    let answer = ptpm_session_receive(rt.alloc(), &mut handle, REPLY);
+    assert!(rt; answer == 37);
 }

@@ -33,7 +33,6 @@ use Rattle.std.proofs.boxed.Box.TheLaws as box
 use Rattle.std.proofs.impls.GlobalAllocator.TheImpl.Met.{passed as heap_meets}
 use Rattle.std.proofs.RcSteps.{Good, Ptr-Good}
 use Rattle.std.proofs.raw_atomic.Walks.{proved_at}
-use Rattle.std.specs.Box.Ownership.{box_owns}
 use Rattle.std.specs.Prelude.{Option, Some, IsTrue, is_some}
 use Rattle.std.specs.contracts.boxed.Box.from_raw as callee
 use Rattle.std.specs.contracts.impls.GlobalAllocator.TheImpl.{ghosts, dict}

@@ -2,16 +2,15 @@
 use mathlib.Core.List.{[], ◌∷◌}
 use mathlib.Core.Path.{refl}
 use base.Fml.{ftrue}
-use prog.Wp.{Tables}
 use contract.Running.{tables}
-use types.Kit.{‵, raw, ◌⊛◌, ◌$◌, ◌∵◌, !, qed, keep, join, fjoin, suffices, done}
+use types.Kit.{‵, raw, ◌⊛◌, ◌$◌, ◌∵◌, !, qed, keep, join, suffices, done}
 use types.Part.{agg}
 use types.Run.{lit, no_more, and_then, returns, enter}
 use types.ByLocal.{alloc_all, pass_all, free_all, look_at, sets}
 use base.Logic.{emp}
 use denote.RawPtr.{null_ptr}
 use denote.Steps.{nothing}
-use denote.Triple.Walked.{says, Stays, ends_at}
+use denote.Triple.Walked.{says, ends_at}
 use Rattle.std.proofs.raw_atomic.Walks.{proved_at}
 use Rattle.std.specs.Prelude.{None}
 use Rattle.ptpm_c.proofs.Kept.{kept_word, kept_good, puts_behind}
