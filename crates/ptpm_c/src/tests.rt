@@ -80,14 +80,14 @@ fn a_session_from_start_to_stop(rt: HostRuntime) {
     assert!(rt; answer == 0);
     let answer = ptpm_session_send(rt.alloc(), &mut handle, &mut octets, &mut size);
     assert!(rt; answer == 0 && size == 54);
-    assert_eq!(rt; &octets[..54], REQUEST.as_slice());
+    assert!(rt; octets.starts_with(REQUEST.as_slice()));
     let answer = ptpm_session_receive(rt.alloc(), &mut handle, REQUEST);
     assert!(rt; answer == 10);
     let answer = ptpm_session_receive(rt.alloc(), &mut handle, REPLY);
     assert!(rt; answer == 0);
     let answer = ptpm_session_report(rt.alloc(), &mut handle, &mut octets, &mut size, &mut error);
     assert!(rt; answer == 0 && size == 2 && error == 0);
-    assert_eq!(rt; &octets[..2], [0x80, 0].as_slice());
+    assert!(rt; octets.starts_with([0x80, 0].as_slice()));
     let issued = ptpm_session_issued(rt.alloc(), &mut handle);
     assert!(rt; issued == 1);
     ptpm_session_stop(rt.alloc(), &mut handle);
