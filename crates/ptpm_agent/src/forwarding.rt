@@ -12,6 +12,7 @@ use ptpm_data::{DataSets, data_sets_law};
 use ptpm_table::Outbox;
 
 /// Leaves in the outbox the copies of a datagram that the clock passes on, and nothing else. Takes no memory.
+#[inline(always)]
 pub(crate) fn forward(
     me: &ClockIdentity,
     sets: &DataSets,

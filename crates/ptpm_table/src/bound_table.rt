@@ -65,7 +65,7 @@ fn empty_slots(
     ensures configured { configured result.items ≡ managers.now }
     ensures used { used result.items ≡ [] }
 {
-    let mut slots = ArrayVec::new();
+    let mut slots = no_slots();
     for manager in managers {
         slots.push(Slot {
             rights: manager.1,
@@ -74,6 +74,14 @@ fn empty_slots(
         });
     }
     slots
+}
+
+/// Room for the slots of sixteen managers. It is made in a frame of its own, since its array is moved there.
+#[inline(never)]
+fn no_slots() -> ArrayVec<Slot, MANAGERS>
+    ensures { result.items ≡ [] }
+{
+    ArrayVec::new()
 }
 
 /// A manager's slot.

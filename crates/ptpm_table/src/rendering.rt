@@ -14,6 +14,7 @@ use ptpm_data::{PortAnswer, Reply, What};
 /// Appends the messages that a reply is sent as, in the order of its answers, for the copy of the request that was heard
 /// at the ingress port; each goes out there (15.4.1). Each message is encoded right where the outbox keeps it. Takes no
 /// memory.
+#[inline(always)]
 pub fn render(me: &ClockIdentity, heard: &Heard, reply: &Reply, ingress: u16, out: &mut Outbox)
     requires action { IsReplyAction reply.now.action }
     requires even { All (λ a. IsEvenOutcome a.outcome) reply.now.answers }

@@ -25,6 +25,9 @@ pub(crate) struct Slot {
 }
 
 impl Default for Slot {
+    /// A slot of nobody. It is made in a frame of its own: of an array whose loop has all that makes a slot, LLVM keeps every
+    /// move.
+    #[inline(never)]
     fn default() -> Slot {
         let clock = ClockIdentity([0; 8]);
         Slot {

@@ -40,7 +40,9 @@ pub fn one_trace()
 /// is a line of the trace too. Without the divider there are no events.
 ///
 /// All lines before the divider are read before the network is judged; each event's line is written before the next is
-/// read. Ends for every reader, since lines and their octets are bounded.
+/// read. Ends for every reader, since lines and their octets are bounded. The world that runs lies in a frame of its own, so
+/// that no other subcommand pays for it.
+#[inline(never)]
 pub fn run_script<R: Read + Drop, W: Write>(
     alloc: Global,
     reader: R,

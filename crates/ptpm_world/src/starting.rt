@@ -56,7 +56,9 @@ fn start_clocks(alloc: Global, network: &Network) -> Result<Vec<RunningClock>, O
     Ok(running)
 }
 
-/// The clock at a place.
+/// The clock at a place. It has some 36,000 octets, and so have its agent and its table, each of which is made in a frame of
+/// its own.
+#[inline(never)]
 fn start_clock(alloc: Global, network: &Network, place: usize) -> Result<RunningClock, OutOfMemory>
     requires { place < length network.now.clocks.items }
     ensures { IfOk result (λ x. IsStartedClock (network_value network.now) place x) }
@@ -70,6 +72,7 @@ fn start_clock(alloc: Global, network: &Network, place: usize) -> Result<Running
 }
 
 /// The agent of a clock with these managers.
+#[inline(never)]
 fn start_agent(clock: &NetworkClock, managers: &[(PortIdentity, Rights)]) -> Agent<BoundTable>
     requires starts { CanStart (clock_value clock.now) }
     requires managers { table_refusal (identities managers.now) ≡ None }
