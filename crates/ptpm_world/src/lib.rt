@@ -21,6 +21,3 @@ pub use script::{one_trace, run_script};
 pub use script_error::ScriptError;
 pub use took::{StepError, Took};
 pub use world::World;
-
-#[cfg(test)]
-mod tests;

@@ -1,7 +1,7 @@
 //! What a report is worth, and what suffices for one, by scripts.
 
 use super::networks::{ONE_CLOCK, RING};
-use crate::script::run_script;
+use ptpm_world::run_script;
 use std::alloc::Global;
 use std::process::Abort;
 use std::test::Fail;

@@ -1,10 +1,9 @@
 //! Over 32,768 requests of one session: which deliveries are late, and what then comes of them. No promise covers it.
 
 use super::networks::{ONE_CLOCK, numbered_from_one, tell, world_of};
-use crate::took::{StepError, Took};
-use crate::world::World;
 use ptpm_agent::Verdict;
 use ptpm_script::{Event, read_event};
+use ptpm_world::{StepError, Took, World};
 use std::alloc::Global;
 use std::process::Abort;
 use std::test::Fail;

@@ -1,10 +1,9 @@
 //! Requests of strangers without end.
 
 use super::networks::{ONE_CLOCK, step, tell, world_of};
-use crate::took::{StepError, Took};
-use crate::world::World;
 use ptpm_agent::Verdict;
 use ptpm_script::{Event, read_event};
+use ptpm_world::{StepError, Took, World};
 use std::alloc::Global;
 use std::test::Fail;
 

@@ -2,8 +2,7 @@
 //! that a delivery is late.
 
 use super::networks::numbered_from_one;
-use crate::script::run_script;
-use crate::script_error::ScriptError;
+use ptpm_world::{ScriptError, run_script};
 use std::alloc::Global;
 use std::io;
 use std::io::Read;

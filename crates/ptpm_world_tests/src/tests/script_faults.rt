@@ -1,8 +1,7 @@
 //! Why a script ends early, and at which line; readers and writers that fail, hesitate or never end.
 
-use crate::script::run_script;
-use crate::script_error::ScriptError;
 use ptpm_script::{EventError, NetError};
+use ptpm_world::{ScriptError, run_script};
 use std::alloc::Global;
 use std::io;
 use std::io::{Read, Write};

@@ -4,13 +4,10 @@
 use super::networks::{FIRST_EVENTS, ONE_CLOCK, RING, is_trace_so_far, tell};
 use super::steps::is_only_report;
 use super::worlds::is_fresh_ring;
-use crate::script::run_script;
-use crate::script_error::ScriptError;
-use crate::took::{StepError, Took};
-use crate::world::World;
 use ptpm_agent::Verdict;
 use ptpm_codec::OutOfMemory;
 use ptpm_script::{Event, EventError, NetError, Network, read_event};
+use ptpm_world::{ScriptError, StepError, Took, World, run_script};
 use std::alloc::Global;
 use std::io::Read;
 use std::process::Abort;

@@ -1,11 +1,10 @@
 //! A request that reaches its clock both ways round a ring.
 
 use super::networks::{RING, step, world_of};
-use crate::took::Took;
-use crate::world::World;
 use ptpm_agent::Verdict;
 use ptpm_manager::Reason;
 use ptpm_script::End;
+use ptpm_world::{Took, World};
 use std::alloc::Global;
 use std::process::Abort;
 use std::test::Fail;

@@ -2,8 +2,7 @@
 
 use super::long_scripts::trace_of;
 use super::networks::{FIRST_EVENTS, ONE_CLOCK, is_trace_so_far};
-use crate::script::run_script;
-use crate::script_error::ScriptError;
+use ptpm_world::{ScriptError, run_script};
 use std::alloc::{AllocError, Global};
 use std::io;
 use std::io::Read;

@@ -1,10 +1,9 @@
 //! Events on a world, one after another, and what each of them does.
 
 use super::networks::{ONE_CLOCK, step, world_of};
-use crate::took::{StepError, Took};
-use crate::world::World;
 use ptpm_manager::{Outcome, Report, SendError};
 use ptpm_script::{Event, read_event};
+use ptpm_world::{StepError, Took, World};
 use std::alloc::Global;
 use std::process::Abort;
 use std::test::Fail;

@@ -1,8 +1,8 @@
 //! Worlds as they start.
 
 use super::networks::RING;
-use crate::world::World;
 use ptpm_script::Network;
+use ptpm_world::World;
 use std::process::Abort;
 use std::test::Fail;
 

@@ -1,12 +1,11 @@
 //! Why a step is refused.
 
 use super::networks::{ONE_CLOCK, step, world_of};
-use crate::took::{StepError, Took};
-use crate::world::World;
 use ptpm_agent::Verdict;
 use ptpm_codec::{Action, DecodeError, Octets};
 use ptpm_manager::{Ask, BeginError, SendError};
 use ptpm_script::{Event, read_event};
+use ptpm_world::{StepError, Took, World};
 use std::alloc::Global;
 use std::process::Abort;
 use std::test::Fail;

@@ -1,11 +1,12 @@
 //! The networks of the tests, and what happens in them.
 
-use crate::took::{StepError, Took};
-use crate::trace::{write_data_sets, write_reports};
-use crate::world::World;
-use ptpm_script::{Network, read_event};
+use ptpm_data::{DataSets, Value};
+use ptpm_manager::{Outcome, Report};
+use ptpm_script::{Hexadecimal, Network, read_event};
+use ptpm_world::{StepError, Took, World};
 use std::alloc::Global;
 use std::io;
+use std::io::Write;
 use std::test::Fail;
 
 /// A clock of two ports with one manager at port 1.
@@ -86,8 +87,39 @@ pub fn step(alloc: Global, world: &mut World, line: &str) -> Result<Result<Took,
     Ok(world.step(&event))
 }
 
-/// Writes what a script tells of a network at its end: the lines of all reports and data sets.
+/// Writes what a network shows: the reports of the session m, and the data sets of the clock K.
 pub fn tell(world: &World, lines: &mut Vec<u8>) -> io::Result<()> {
-    write_reports(world, lines)?;
-    write_data_sets(world, lines)
+    for report in world.reports("m").unwrap_or(&[]) {
+        tell_report(report, lines)?;
+    }
+    match world.sets("K") {
+        Some(sets) => tell_sets(sets, lines),
+        None => Ok(()),
+    }
+}
+
+fn tell_report(report: &Report, lines: &mut Vec<u8>) -> io::Result<()> {
+    let index = report.index;
+    match &report.outcome {
+        Outcome::Value(octets) => {
+            writeln!(
+                lines,
+                "report m {index} value {}",
+                Hexadecimal(octets.as_slice())
+            )
+        }
+        Outcome::Done => writeln!(lines, "report m {index} done"),
+        Outcome::Refused(error) => writeln!(lines, "report m {index} refused {error}"),
+    }
+}
+
+/// USER_DESCRIPTION and DEFAULT_DATA_SET as they are sent, and behind them all members.
+#[tactic(auto, unfolding(ptpm_data::specs::IdTable::row_of))]
+fn tell_sets(sets: &DataSets, lines: &mut Vec<u8>) -> io::Result<()> {
+    let mut value = Value::new();
+    sets.lay(0x0002, 0, &mut value);
+    writeln!(lines, "data K 0002 {}", Hexadecimal(value.as_slice()))?;
+    sets.lay(0x2000, 0, &mut value);
+    writeln!(lines, "data K 2000 {}", Hexadecimal(value.as_slice()))?;
+    writeln!(lines, "{sets:?}")
 }

@@ -1,11 +1,10 @@
 //! One event after another.
 
 use super::networks::{ONE_CLOCK, step, world_of};
-use crate::took::{StepError, Took};
-use crate::world::World;
 use ptpm_agent::Verdict;
 use ptpm_manager::{Outcome, Reason};
 use ptpm_script::{Event, read_event};
+use ptpm_world::{StepError, Took, World};
 use std::alloc::Global;
 use std::test::Fail;
 
