@@ -87,15 +87,15 @@ pub fn step(alloc: Global, world: &mut World, line: &str) -> Result<Result<Took,
     Ok(world.step(&event))
 }
 
-/// Writes what a network shows: the reports of the session m, and the data sets of the clock K.
+/// Writes what a network shows: the reports of the session m, and the data sets of the clock K, which have to be there.
 pub fn tell(world: &World, lines: &mut Vec<u8>) -> io::Result<()> {
-    for report in world.reports("m").unwrap_or(&[]) {
+    let (Some(reports), Some(sets)) = (world.reports("m"), world.sets("K")) else {
+        return Err(io::Error::from(io::ErrorKind::NotFound));
+    };
+    for report in reports {
         tell_report(report, lines)?;
     }
-    match world.sets("K") {
-        Some(sets) => tell_sets(sets, lines),
-        None => Ok(()),
-    }
+    tell_sets(sets, lines)
 }
 
 fn tell_report(report: &Report, lines: &mut Vec<u8>) -> io::Result<()> {
