@@ -7,3 +7,4 @@ pub mod CanonicalLaws
 pub mod RewritingLaws
 pub mod PiecewiseLaws
 pub mod IdentityLaws
+pub mod MessageLaws

@@ -1,5 +1,5 @@
 -- Message values: the fields of a management message, and which of them can be spelled (IEEE 1588-2019, 15.4).
-use Rattle.std.specs.Prelude.{◌≡◌, ℕ, ◌%◌, ◌≤◌, ◌<◌, ◌^◌, Bool, true, false, List, [], length, codes, Option, Some, None}
+use Rattle.std.specs.Prelude.{◌≡◌, ℕ, ◌%◌, ◌==◌, ◌&&◌, nat_le, ◌≤◌, ◌<◌, ◌^◌, Bool, true, false, List, [], length, codes, Option, Some, None}
 use Rattle.ptpm_codec.specs.declared.identity.PortIdentity.{PortIdentity}
 use Rattle.ptpm_codec.specs.declared.message.Action.{Action}
 use Rattle.ptpm_codec.specs.declared.message.Action.TheVariants as actions
@@ -91,7 +91,11 @@ text_of (bodies.Fault action error id text) = text
 
 -- ---- which values have a spelling
 
--- a dataField has an even number of octets, and fits a message of 1,472
+-- a dataField has an even number of octets (14.1.1), and fits a message of 1,472
+abbrev pub is_data_field : List ℕ → Bool
+is_data_field octets = length octets % 2 == 0 && nat_le (length octets) 1418
+
+-- the same as facts
 pub record IsDataField (octets : List ℕ) : Type 0 where
   pub even : length octets % 2 ≡ 0
   pub small : length octets ≤ 1418

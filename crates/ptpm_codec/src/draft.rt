@@ -1,11 +1,15 @@
 //! Messages whose octets are lent, to be sent without a copy.
 
 ghost use Rattle.std.specs.Prelude.{◌≡◌, ◌↔◌, IsTrue};
-ghost use Rattle.ptpm_codec.specs.Message.{IsDataField};
+ghost use Rattle.ptpm_codec.specs.Message.{is_data_field, IsDataField};
 
 use crate::identity::PortIdentity;
 use crate::message::Action;
 use std::marker::Model;
+
+/// How many octets a dataField has at most: those of a message less its header and the head of its TLV (this project's
+/// profile).
+pub const DATA_FIELD_OCTETS: usize = 1418;
 
 /// A `Body` whose octets are lent.
 #[derive(Clone, Copy, Debug)]
@@ -90,8 +94,10 @@ impl DraftBody<'_> {
     }
 }
 
-fn is_data_field(octets: &[u8]) -> bool
-    ensures { IsTrue result ↔ IsDataField octets.now }
+/// Whether a message can have these octets as its dataField: an even number of them (14.1.1), and no more than it has room for.
+pub fn is_data_field(octets: &[u8]) -> bool
+    ensures exact { result ≡ is_data_field octets.now }
+    ensures meaning { IsTrue result ↔ IsDataField octets.now }
 {
-    octets.len() % 2 == 0 && octets.len() <= 1418
+    octets.len() % 2 == 0 && octets.len() <= DATA_FIELD_OCTETS
 }

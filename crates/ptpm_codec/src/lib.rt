@@ -17,7 +17,7 @@ mod viewing;
 
 pub use buffers::overwrite;
 pub use decoding::{decode, view};
-pub use draft::{Draft, DraftBody};
+pub use draft::{DATA_FIELD_OCTETS, Draft, DraftBody, is_data_field};
 pub use encoding::{Buffer, MESSAGE_OCTETS, append, encode, replace};
 pub use error::{DecodeError, ErrorId, OutOfMemory};
 pub use hops::less_hop;

@@ -1,5 +1,5 @@
 -- What the words of `ptpm make` ask for.
-use Rattle.std.specs.Prelude.{ℕ, ◌+◌, ◌*◌, ◌%◌, ◌==◌, ◌&&◌, nat_le, Bool, if◌then◌else◌, List, length, slice_index, codes, bytes_eq, Option, Some, None, option_map, Result, Ok, Err}
+use Rattle.std.specs.Prelude.{ℕ, ◌+◌, ◌*◌, if◌then◌else◌, List, slice_index, codes, bytes_eq, Option, Some, None, option_map, Result, Ok, Err}
 use Rattle.std.specs.Option.{option_or}
 use Rattle.std.specs.Result.{result_ok}
 use Rattle.hex.specs.Hex.{decode_sized}
@@ -8,6 +8,7 @@ use Rattle.ptpm_codec.specs.declared.message.Action.{Action}
 use Rattle.ptpm_codec.specs.declared.message.Action.TheVariants as actions
 use Rattle.ptpm_codec.specs.declared.message.Body.TheVariants as bodies
 use Rattle.ptpm_codec.specs.declared.message.Message.{Message}
+use Rattle.ptpm_codec.specs.Message.{is_data_field}
 use Rattle.ptpm_data.specs.IdTable.{row_named}
 use Rattle.ptpm_commands.specs.declared.faults.Fault.{Fault}
 use Rattle.ptpm_commands.specs.declared.faults.Fault.TheVariants as faults
@@ -33,10 +34,6 @@ id_of_digits word = option_map id_of_octets (result_ok (decode_sized word 2))
 -- the managementId of a word: a name of the table, or four hexadecimal digits
 abbrev pub id_of_word : List ℕ → Option ℕ
 id_of_word word = option_or (option_map (λ e. e.id) (row_named word)) (id_of_digits word)
-
--- a dataField that fits a message: an even number of octets, at most 1,418
-abbrev pub is_data_field : List ℕ → Bool
-is_data_field octets = length octets % 2 == 0 && nat_le (length octets) 1418
 
 -- the request; both hop fields are the hops that were asked for
 abbrev pub request_between : RequestWords → Action → ℕ → List ℕ → PortIdentity → PortIdentity → Message

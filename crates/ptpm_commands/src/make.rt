@@ -8,7 +8,7 @@ use crate::faults::Fault;
 use crate::identity_text::identity_of;
 use arrayvec::ArrayVec;
 use hex::FromHex;
-use ptpm_codec::{Action, Draft, DraftBody, encode};
+use ptpm_codec::{Action, Draft, DraftBody, encode, is_data_field};
 use ptpm_data::by_name;
 use ptpm_script::Hexadecimal;
 use std::alloc::Global;
@@ -89,7 +89,7 @@ fn request_of<'a>(
     ensures request { result ≡ request_of words.now action id octets.now }
     ensures valid { IfOk result (λ request. IsValid request) }
 {
-    if octets.len() % 2 != 0 || octets.len() > 1418 {
+    if !is_data_field(octets) {
         return Err(Fault::BadValue);
     }
     let source = identity_of(words.from).ok_or(Fault::BadIdentity)?;

@@ -1,11 +1,12 @@
 -- Laws of asks: what is not refused is a request with one answer.
-use Rattle.std.proofs.Common.{◌≡◌, ◌≤◌, ◌%◌, ◌==◌, ℕ, Bool, true, false, not, ◌&&◌, cond, nat_le, List, length, Option, Some, None, refl, sym, subst}
-use Rattle.std.proofs.lemmas.Bool.{and_parts, cond-false, eqb-true, leb-true}
+use Rattle.std.proofs.Common.{◌≡◌, ◌≤◌, ℕ, Bool, true, false, not, ◌&&◌, cond, nat_le, Option, Some, None, refl, sym, subst}
+use Rattle.std.proofs.lemmas.Bool.{and_parts, cond-false, leb-true}
 use Rattle.ptpm_codec.specs.Identity.{every_port}
-use Rattle.ptpm_codec.specs.Message.{IsDataField, is_reply}
+use Rattle.ptpm_codec.specs.Message.{is_data_field, is_reply}
+use Rattle.ptpm_codec.proofs.MessageLaws.{is_data_field-IsDataField}
 use Rattle.ptpm_data.specs.IdTable.{is_of_port}
 use Rattle.ptpm_manager.specs.declared.ask.Ask.{Ask}
-use Rattle.ptpm_manager.specs.Ask.{IsRequestTo, ask_refusal, is_data_field, named_port, names_port, request_of, target_port}
+use Rattle.ptpm_manager.specs.Ask.{IsRequestTo, ask_refusal, named_port, names_port, request_of, target_port}
 
 -- a test that lets pass is false
 passes : {A : Type 0} (t : Bool) (e : A) (o : Option A) → cond t (Some e) o ≡ None → (t ≡ false) × (o ≡ None)
@@ -26,9 +27,6 @@ named : (ports : ℕ) (port : Option ℕ) → names_port ports port ≡ true →
 named ports None h = cc
 named ports (Some port) h = let parts = and_parts (nat_le 1 port) _ h in (leb-true 1 port parts.0, leb-true port ports parts.1)
 
-data_field : (octets : List ℕ) → is_data_field octets ≡ true → IsDataField octets
-data_field octets h = let parts = and_parts (length octets % 2 == 0) _ h in record { even = eqb-true _ _ parts.0; small = leb-true _ 1418 parts.1 }
-
 -- what is asked and not refused
 pub request_of-permitted : (ports : ℕ) (a : Ask) → ask_refusal ports a ≡ None → IsRequestTo ports (request_of a)
 unfolding ask_refusal target_port
@@ -38,7 +36,7 @@ request_of-permitted ports a h =
     let octets = passes (not (is_data_field a.octets)) _ _ action.1 in
     record {
       action = action.0;
-      octets = data_field a.octets (not-false _ octets.0);
+      octets = is_data_field-IsDataField a.octets (not-false _ octets.0);
       port = λ p. subst (λ (b : Bool). (1 ≤ cond b (named_port a.port) every_port) × (cond b (named_port a.port) every_port ≤ ports)) (sym p)
           (named ports a.port (other-true (is_of_port a.id) _ port.0 p));
       every = λ p. cond-false _ (named_port a.port) every_port p;

@@ -1,7 +1,7 @@
 -- What is asked of a session, and the request that it makes of it.
-use Rattle.std.specs.Prelude.{◌≡◌, ◌≤◌, ℕ, ◌%◌, ◌==◌, ◌&&◌, Bool, true, false, not, nat_le, List, [], ◌∷◌, length, Option, Some, None, if◌then◌else◌}
+use Rattle.std.specs.Prelude.{◌≡◌, ◌≤◌, ℕ, ◌&&◌, Bool, true, false, not, nat_le, List, [], ◌∷◌, Option, Some, None, if◌then◌else◌}
 use Rattle.ptpm_codec.specs.Identity.{every_port}
-use Rattle.ptpm_codec.specs.Message.{is_reply, IsDataField, IsRequestAction}
+use Rattle.ptpm_codec.specs.Message.{is_reply, is_data_field, IsDataField, IsRequestAction}
 use Rattle.ptpm_data.specs.IdTable.{is_of_port}
 use Rattle.ptpm_data.specs.Request.{RequestValue}
 use Rattle.ptpm_manager.specs.declared.ask.Ask.{Ask}
@@ -39,10 +39,6 @@ pub record IsRequestTo (ports : ℕ) (q : RequestValue) : Type 0 where
   pub octets : IsDataField q.octets
   pub port : is_of_port q.id ≡ true → (1 ≤ q.port) × (q.port ≤ ports)
   pub every : is_of_port q.id ≡ false → q.port ≡ every_port
-
--- a dataField has an even number of octets, at most 1,418
-abbrev pub is_data_field : List ℕ → Bool
-is_data_field octets = length octets % 2 == 0 && nat_le (length octets) 1418
 
 -- why an ask by itself is refused, at a clock of this many ports
 unfoldable pub ask_refusal : ℕ → Ask → Option BeginError

@@ -3,12 +3,12 @@
 ghost use Rattle.std.specs.Prelude.{◌≡◌, ◌≢◌, None, Some, IfErr, IfOk, MatchResult};
 ghost use Rattle.ptpm_data.specs.IdTable.{is_of_port};
 ghost use Rattle.ptpm_manager.specs.declared.error.BeginError.{BeginError};
-ghost use Rattle.ptpm_manager.specs.Ask.{ask_refusal, is_data_field, names_port, pending_request, request_of, target_port};
+ghost use Rattle.ptpm_manager.specs.Ask.{ask_refusal, names_port, pending_request, request_of, target_port};
 ghost use Rattle.ptpm_manager.specs.Receiving.{is_content};
 
 use crate::error::BeginError;
 use crate::receiving::is_answered_by;
-use ptpm_codec::{Action, Octets, OutOfMemory, PortIdentity};
+use ptpm_codec::{Action, Octets, OutOfMemory, PortIdentity, is_data_field};
 use ptpm_data::{Scope, row};
 use std::alloc::Global;
 
@@ -100,10 +100,4 @@ fn target_port(id: u16, port: Option<u16>) -> u16
         Some(port) if is_of_port(id) => port,
         _ => PortIdentity::EVERY_PORT,
     }
-}
-
-fn is_data_field(octets: &[u8]) -> bool
-    ensures { result ≡ is_data_field octets.now }
-{
-    octets.len() % 2 == 0 && octets.len() <= 1418
 }

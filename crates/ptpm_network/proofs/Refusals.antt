@@ -1,30 +1,20 @@
 -- What an event that is not refused tells.
-use Rattle.std.proofs.Common.{suc, zero, arith, ◌≡◌, ℕ, ◌<◌, ◌≤◌, ◌-◌, ◌^◌, ◌&&◌, not, List, [], ◌∷◌, Option, Some, None, Bool, true, false, refl, sym, ◌∙◌, ap, subst, ⊎_elim, length}
-use Rattle.std.proofs.lemmas.Bool.{cases_Bool, and_parts, leb-true, eqb-true, eq-eqb, not-false, cond-true, cond-false, true≢false}
+use Rattle.std.proofs.Common.{suc, zero, arith, ◌≡◌, ℕ, ◌<◌, ◌≤◌, ◌-◌, ◌^◌, ◌&&◌, not, List, [], ◌∷◌, Option, Some, None, true, false, refl, sym, ◌∙◌, ap, ⊎_elim, length}
+use Rattle.std.proofs.lemmas.Bool.{cases_Bool, eq-eqb, cond-false, true≢false}
 use Rattle.std.specs.Prelude.{nat_lt, option_map, is_some, slice_get}
 use Rattle.std.specs.Option.{option_or}
 use Rattle.ptpm_codec.specs.Identity.{every_port}
-use Rattle.ptpm_codec.specs.Message.{IsDataField, is_reply}
 use Rattle.ptpm_codec.specs.Ordered.{first_of}
 use Rattle.ptpm_codec.proofs.OrderedLaws.{first_of-none, option_or-none}
 use Rattle.ptpm_data.specs.IdTable.{is_of_port}
 use Rattle.ptpm_manager.specs.declared.ask.Ask.{Ask}
 use Rattle.ptpm_manager.specs.declared.error.BeginError.TheVariants as begins
-use Rattle.ptpm_manager.specs.Ask as ask
-use Rattle.ptpm_manager.specs.Ask.{ask_refusal, is_data_field, names_port, named_port, target_port}
+use Rattle.ptpm_manager.specs.Ask.{ask_refusal, request_of}
+use Rattle.ptpm_manager.proofs.AskLaws.{request_of-permitted}
 use Rattle.ptpm_manager.specs.Session.{SessionValue, begin_refusal, count_limit, is_waiting}
 use Rattle.ptpm_network.specs.Invariant.{IsAsked}
 use Rattle.ptpm_network.specs.State.{SessionState, is_idle, session_value}
 use Rattle.ptpm_network.specs.Network.{SessionStart}
-
--- ---- tests in an order
-
-first_of_three-none : {A : Type 0} (a b c : Bool) (x y z : A) → first_of ((a, x) ∷ (b, y) ∷ (c, z) ∷ []) ≡ None → (a ≡ false) × (b ≡ false) × (c ≡ false)
-first_of_three-none a b c x y z e =
-    let p = first_of-none a x ((b, y) ∷ (c, z) ∷ []) e in
-    let q = first_of-none b y ((c, z) ∷ []) p.1 in
-    let r = first_of-none c z [] q.1 in
-    (p.0, q.0, r.0)
 
 pub option_map-none : {A B : Type 0} (f : A → B) (o : Option A) → option_map f o ≡ None → o ≡ None
 option_map-none f None e = refl
@@ -32,45 +22,26 @@ option_map-none f (Some a) e = absurd (cc)
 
 -- ---- an ask that is not refused
 
--- the port of a request for an id of a port
-named-port : (ports : ℕ) (id : ℕ) (port : Option ℕ) → (is_of_port id && not (names_port ports port)) ≡ false → is_of_port id ≡ true → (1 ≤ target_port id port) × (target_port id port ≤ ports)
-unfolding target_port
-named-port ports id None e y = absurd (true≢false (sym (ap (λ b. b && true) y) ∙ e))
-named-port ports id (Some port) e y =
-    let named : names_port ports (Some port) ≡ true = not-false _ (sym (ap (λ b. b && not (names_port ports (Some port))) y) ∙ e) in
-    let parts = and_parts _ _ named in
-    let is : target_port id (Some port) ≡ port = cond-true _ _ _ y in
-    (subst (λ p. 1 ≤ p) (sym is) (leb-true 1 port parts.0), subst (λ p. p ≤ ports) (sym is) (leb-true port ports parts.1))
-
-other-port : (id : ℕ) (port : Option ℕ) → is_of_port id ≡ false → target_port id port ≡ every_port
-unfolding target_port
-other-port id port n = cond-false _ _ _ n
-
-data_field : (octets : List ℕ) → is_data_field octets ≡ true → IsDataField octets
-data_field octets y =
-    let parts = and_parts _ _ y in
-    record { even = eqb-true _ _ parts.0; small = leb-true _ _ parts.1 }
-
 port_fits : (p ports : ℕ) → ports ≤ 8 → p ≤ ports → p < 2 ^ 16
 port_fits p ports a b = omega arith
 
 every_port_fits : (p : ℕ) → p ≡ every_port → p < 2 ^ 16
 every_port_fits p e = omega arith
 
-pub asked-not_refused : (ports : ℕ) (a : Ask) → ports ≤ 8 → a.id < 2 ^ 16 → ask_refusal ports a ≡ None → IsAsked ports (ask.request_of a)
-unfolding ask_refusal
+pub asked-not_refused : (ports : ℕ) (a : Ask) → ports ≤ 8 → a.id < 2 ^ 16 → ask_refusal ports a ≡ None
+    → IsAsked ports (request_of a)
 asked-not_refused ports a few id e =
-    let p = first_of_three-none (is_of_port a.id && not (names_port ports a.port)) (is_reply a.action) (not (is_data_field a.octets)) begins.NeedsPort begins.NotPermitted begins.BadValue e in
+    let asked = request_of-permitted ports a e in
     record {
-      action = p.1;
+      action = asked.action;
       id = id;
-      octets = data_field a.octets (not-false _ p.2);
+      octets = asked.octets;
       port = ⊎_elim
-          (λ (y : is_of_port a.id ≡ true). port_fits (target_port a.id a.port) ports few (named-port ports a.id a.port p.0 y).1)
-          (λ (n : is_of_port a.id ≡ false). every_port_fits (target_port a.id a.port) (other-port a.id a.port n))
+          (λ (y : is_of_port a.id ≡ true). port_fits (request_of a).port ports few (asked.port y).1)
+          (λ (n : is_of_port a.id ≡ false). every_port_fits (request_of a).port (asked.every n))
           (cases_Bool (is_of_port a.id));
-      one = named-port ports a.id a.port p.0;
-      every = other-port a.id a.port;
+      one = asked.port;
+      every = asked.every;
     }
 
 -- ---- a session that begins

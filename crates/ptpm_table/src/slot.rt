@@ -11,7 +11,7 @@ use crate::kept_messages::{
 };
 use crate::outbox::Outbox;
 use arrayvec::ArrayVec;
-use ptpm_codec::{Action, ClockIdentity, PortIdentity, overwrite};
+use ptpm_codec::{Action, ClockIdentity, DATA_FIELD_OCTETS, PortIdentity, overwrite};
 use ptpm_data::{Reply, Request, Rights};
 use std::marker::Model;
 
@@ -48,7 +48,7 @@ pub(crate) struct Kept {
     action: Action,
     id: u16,
     port: u16,
-    octets: ArrayVec<u8, 1418>,
+    octets: ArrayVec<u8, DATA_FIELD_OCTETS>,
     /// Whether the answers are of ports.
     of_port: bool,
     /// How many octets each message of the reply has.
