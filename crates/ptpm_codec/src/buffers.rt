@@ -1,17 +1,30 @@
-//! Buffers of fixed size, written over.
+//! Buffers of fixed size, appended to and written over.
 
 ghost use Rattle.std.specs.Prelude.{◌≡◌, ◌≤◌, ◌+◌, ◌++◌, length};
 ghost use Rattle.arrayvec.specs.ArrayVec.{array_vec_len};
+ghost use Rattle.byteorder.specs.Endian.{big_bytes};
 
 use arrayvec::ArrayVec;
+use byteorder::{BigEndian, ByteOrder};
 
 /// Appends a copy of these octets.
-pub(crate) fn put<const N: usize>(buffer: &mut ArrayVec<u8, N>, octets: &[u8])
+pub fn put<const N: usize>(buffer: &mut ArrayVec<u8, N>, octets: &[u8])
     requires { array_vec_len buffer.old + length octets.now ≤ N }
     ensures items { buffer.new.items ≡ buffer.old.items ++ octets.now }
     ensures len { array_vec_len buffer.new ≡ array_vec_len buffer.old + length octets.now }
 {
     let _ = buffer.try_extend_from_slice(octets);
+}
+
+/// Appends a number as two octets, the most significant first.
+pub fn put_u16<const N: usize>(buffer: &mut ArrayVec<u8, N>, number: u16)
+    requires { array_vec_len buffer.old + 2 ≤ N }
+    ensures items { buffer.new.items ≡ buffer.old.items ++ big_bytes 2 number }
+    ensures len { array_vec_len buffer.new ≡ array_vec_len buffer.old + 2 }
+{
+    let mut octets = [0; 2];
+    BigEndian::write_u16(&mut octets, number);
+    put(buffer, &octets);
 }
 
 /// Leaves a copy of these octets in the buffer, and nothing else. What the buffer had is written over and not cleared

@@ -9,11 +9,10 @@ ghost use Rattle.ptpm_codec.specs.Layout.{message_octets};
 ghost use Rattle.ptpm_codec.specs.Message.{BodyFits, Fits, IsValid, IsValidBody, PortIdentityFits, action_code, action_of};
 ghost use Rattle.ptpm_codec.specs.Spelling.{Spells};
 
-use crate::buffers::{overwrite_by_two, put};
+use crate::buffers::{overwrite_by_two, put, put_u16};
 use crate::draft::{Draft, DraftBody};
 use crate::identity::PortIdentity;
 use arrayvec::ArrayVec;
-use byteorder::{BigEndian, ByteOrder};
 
 /// How many octets a message has at most (this project's profile).
 pub const MESSAGE_OCTETS: usize = 1472;
@@ -97,16 +96,6 @@ fn put_middle(head: &mut Head, draft: &Draft<'_>)
     put_identity(head, &draft.target);
     let action = draft.body.action().code();
     put(head, &[draft.starting_hops, draft.hops, action, 0]);
-}
-
-fn put_u16<const N: usize>(buffer: &mut ArrayVec<u8, N>, number: u16)
-    requires { array_vec_len buffer.old + 2 ≤ N }
-    ensures items { buffer.new.items ≡ buffer.old.items ++ big_bytes 2 number }
-    ensures len { array_vec_len buffer.new ≡ array_vec_len buffer.old + 2 }
-{
-    let mut octets = [0; 2];
-    BigEndian::write_u16(&mut octets, number);
-    put(buffer, &octets);
 }
 
 #[tactic(auto, unfolding(crate::specs::Canonical::port_identity_octets))]

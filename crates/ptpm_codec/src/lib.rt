@@ -15,7 +15,7 @@ mod places;
 mod tlv;
 mod viewing;
 
-pub use buffers::overwrite;
+pub use buffers::{overwrite, put, put_u16};
 pub use decoding::{decode, view};
 pub use draft::{DATA_FIELD_OCTETS, Draft, DraftBody, is_data_field};
 pub use encoding::{Buffer, MESSAGE_OCTETS, append, encode, replace};

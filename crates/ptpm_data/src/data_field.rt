@@ -16,7 +16,7 @@ use crate::id_table::row;
 use crate::ids::Layout;
 use crate::reply::Value;
 use byteorder::{BigEndian, ByteOrder};
-use ptpm_codec::ClockIdentity;
+use ptpm_codec::{ClockIdentity, put, put_u16};
 
 impl DataSets {
     /// Leaves in the buffer what a GET of this id is answered, and nothing else. Takes no memory.
@@ -248,24 +248,6 @@ fn i8_octet(number: i8) -> u8
     ensures { result ≡ i8_octet number }
 {
     number.cast_unsigned()
-}
-
-fn put(buffer: &mut Value, octets: &[u8])
-    requires { array_vec_len buffer.old + length octets.now ≤ 130 }
-    ensures items { buffer.new.items ≡ buffer.old.items ++ octets.now }
-    ensures len { array_vec_len buffer.new ≡ array_vec_len buffer.old + length octets.now }
-{
-    let _ = buffer.try_extend_from_slice(octets);
-}
-
-fn put_u16(buffer: &mut Value, number: u16)
-    requires { array_vec_len buffer.old + 2 ≤ 130 }
-    ensures items { buffer.new.items ≡ buffer.old.items ++ big_bytes 2 number }
-    ensures len { array_vec_len buffer.new ≡ array_vec_len buffer.old + 2 }
-{
-    let mut octets = [0; 2];
-    BigEndian::write_u16(&mut octets, number);
-    put(buffer, &octets);
 }
 
 #[tactic(auto, unfolding(crate::specs::DataField::i16_octets))]
