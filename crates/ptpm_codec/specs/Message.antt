@@ -25,7 +25,13 @@ action_name actions.Response = codes "RESPONSE"
 action_name actions.Command = codes "COMMAND"
 action_name actions.Acknowledge = codes "ACKNOWLEDGE"
 
--- RESPONSE answers GET and SET, ACKNOWLEDGE answers COMMAND
+-- RESPONSE answers GET and SET, ACKNOWLEDGE answers COMMAND (15.4.1.6)
+abbrev pub reply_action : Action → Action
+reply_action actions.Get = actions.Response
+reply_action actions.Set = actions.Response
+reply_action actions.Command = actions.Acknowledge
+reply_action action = action
+
 abbrev pub is_reply : Action → Bool
 is_reply actions.Get = false
 is_reply actions.Set = false

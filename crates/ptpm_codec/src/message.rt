@@ -18,13 +18,23 @@ pub enum Action {
 }
 
 impl Action {
-    ghost use Rattle.ptpm_codec.specs.Message.{action_code, is_reply};
+    ghost use Rattle.ptpm_codec.specs.Message.{action_code, is_reply, reply_action};
 
     /// Whether it answers a request, as RESPONSE and ACKNOWLEDGE do.
     pub fn is_reply(self) -> bool
         ensures { result ≡ is_reply self }
     {
         matches!(self, Action::Response | Action::Acknowledge)
+    }
+
+    /// The action that answers it: ACKNOWLEDGE a COMMAND, RESPONSE a GET and a SET; of a reply, itself.
+    pub fn reply(self) -> Action
+        ensures { result ≡ reply_action self }
+    {
+        match self {
+            Action::Get | Action::Set | Action::Response => Action::Response,
+            Action::Command | Action::Acknowledge => Action::Acknowledge,
+        }
     }
 
     /// Its actionField.

@@ -5,6 +5,7 @@ use Rattle.ptpm_codec.specs.declared.message.Action.{Action}
 use Rattle.ptpm_codec.specs.declared.message.Action.TheVariants as actions
 use Rattle.ptpm_codec.specs.declared.error.ErrorId.{ErrorId}
 use Rattle.ptpm_codec.specs.declared.error.ErrorId.TheVariants.{NotSupported}
+use Rattle.ptpm_codec.specs.Message.{reply_action}
 use Rattle.ptpm_data.specs.declared.rights.Rights.{Rights}
 use Rattle.ptpm_data.specs.IdTable.{is_of_port}
 use Rattle.ptpm_data.specs.Request.{RequestValue}
@@ -13,13 +14,6 @@ use Rattle.ptpm_data.specs.Members.{DataSetsValue}
 use Rattle.ptpm_data.specs.DataField.{data_field_of_id}
 use Rattle.ptpm_data.specs.Refusals.{refusal_of}
 use Rattle.ptpm_data.specs.Changes.{is_named, changed_by}
-
--- RESPONSE answers GET and SET, ACKNOWLEDGE answers COMMAND (15.4.1.6)
-abbrev pub reply_action : Action → Action
-reply_action actions.Get = actions.Response
-reply_action actions.Set = actions.Response
-reply_action actions.Command = actions.Acknowledge
-reply_action action = action
 
 -- the clock's ports that a target port means, in ascending order
 unfoldable pub named_ports : ℕ → ℕ → List ℕ

@@ -2,7 +2,6 @@
 
 ghost use Rattle.std.specs.Prelude.{◌≡◌};
 ghost use Rattle.arrayvec.specs.ArrayVec.{array_vec_len};
-ghost use Rattle.ptpm_data.specs.Replies.{reply_action};
 
 use crate::data_sets::DataSets;
 use crate::ids::{Layout, Row, Scope};
@@ -34,7 +33,7 @@ impl DataSets {
         requires port { IsTargetPort request.now.port self.now }
         ensures { reply.new ≡ reply_of request.now refusal self.now }
     {
-        reply.action = reply_action(request.action);
+        reply.action = request.action.reply();
         reply.id = request.id;
         match row.scope {
             Scope::Clock => self.put_clock_answer(row, request, refusal, &mut reply.answers),
@@ -177,7 +176,7 @@ impl Reply {
     pub(crate) fn refuse_by_clock(&mut self, request: &Request<'_>, error: ErrorId)
         ensures { self.new ≡ refused_by_clock request.now error }
     {
-        self.action = reply_action(request.action);
+        self.action = request.action.reply();
         self.id = request.id;
         self.answers.clear();
         self.answers.push(PortAnswer {
@@ -194,14 +193,5 @@ fn leave_one(answers: &mut ArrayVec<PortAnswer, 8>)
     answers.truncate(1);
     if answers.is_empty() {
         answers.push(PortAnswer::default());
-    }
-}
-
-fn reply_action(action: Action) -> Action
-    ensures { result ≡ reply_action action }
-{
-    match action {
-        Action::Get | Action::Set | Action::Response => Action::Response,
-        Action::Command | Action::Acknowledge => Action::Acknowledge,
     }
 }

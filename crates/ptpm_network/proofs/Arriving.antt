@@ -27,7 +27,8 @@ use Rattle.ptpm_network.specs.State.{Frame, NetworkState, Origin, RequestOf, Rep
 use Rattle.ptpm_network.proofs.Accepting.{IsAbove, JoinsOwn, in_step-joined, kept-joined, kept-le}
 use Rattle.ptpm_network.proofs.Frames.{IsHeard, SaysRequest, same_read, says_reply, says_request}
 use Rattle.ptpm_network.proofs.Lists.{with_place-other, with_place-same}
-use Rattle.ptpm_network.proofs.Messages.{reply_action-is_reply, request_at}
+use Rattle.ptpm_codec.proofs.MessageLaws.{reply_action-is_reply}
+use Rattle.ptpm_network.proofs.Messages.{request_at}
 use Rattle.ptpm_network.proofs.Requests.{answered, kept, once}
 use Rattle.ptpm_network.proofs.Steps.{KeptStays, frames-stay}
 

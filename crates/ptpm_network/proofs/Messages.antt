@@ -25,7 +25,7 @@ use Rattle.ptpm_data.specs.Reply as reply
 use Rattle.ptpm_data.specs.Reply.{Answer, Outcome, ReplyValue}
 use Rattle.ptpm_data.specs.Request.{RequestValue}
 use Rattle.ptpm_table.specs.declared.heard.Heard.{Heard}
-use Rattle.ptpm_data.specs.Replies.{reply_action}
+use Rattle.ptpm_codec.proofs.MessageLaws.{reply_action-is_reply}
 use Rattle.ptpm_table.specs.Rendering.{answer_body, reply_message}
 use Rattle.ptpm_agent.specs.Forwarding.{egress_ports, forwarded, forwarded_by, is_forwarded, with_less_hop}
 use Rattle.ptpm_manager.specs.Setup.{request_message}
@@ -130,13 +130,6 @@ request-fits N s k domain hops ports q n place asked =
     }
 
 -- ---- replies
-
-pub reply_action-is_reply : (a : Action) → is_reply (reply_action a) ≡ true
-reply_action-is_reply actions.Get = refl
-reply_action-is_reply actions.Set = refl
-reply_action-is_reply actions.Response = refl
-reply_action-is_reply actions.Command = refl
-reply_action-is_reply actions.Acknowledge = refl
 
 error_number-fits : (e : ErrorId) → error_number e < 2 ^ 16
 error_number-fits errors.ResponseTooBig = omega arith

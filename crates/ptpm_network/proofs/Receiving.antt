@@ -16,7 +16,7 @@ use Rattle.ptpm_codec.specs.Reading.{message_of, reading}
 use Rattle.ptpm_data.specs.IdTable.{is_of_port}
 use Rattle.ptpm_data.specs.Reply as reply
 use Rattle.ptpm_data.specs.Reply.{Answer, Outcome}
-use Rattle.ptpm_data.specs.Replies.{reply_action}
+use Rattle.ptpm_codec.specs.Message.{reply_action}
 use Rattle.ptpm_table.specs.Rendering.{answer_body}
 use Rattle.ptpm_table.proofs.Identities.{same_identity-refl, same_identity-true}
 use Rattle.ptpm_codec.proofs.IdentityLaws.{same_clock-refl, same_clock-true}
@@ -37,7 +37,8 @@ use Rattle.ptpm_network.specs.Network.{AtSession, HasEnd, IsNetwork, Network, Se
 use Rattle.ptpm_network.specs.State.{Frame, NetworkState, Origin, RequestOf, ReplyTo, Neither, SessionState, initial_state, is_idle, is_late, issued, session_value, unanswered}
 use Rattle.ptpm_network.proofs.Arriving.{action_of-answer_body}
 use Rattle.ptpm_network.proofs.Frames.{SaysReply, same_read, says_reply, says_request}
-use Rattle.ptpm_network.proofs.Messages.{reply_action-is_reply, reply_at, request_at}
+use Rattle.ptpm_codec.proofs.MessageLaws.{reply_action-is_reply}
+use Rattle.ptpm_network.proofs.Messages.{reply_at, request_at}
 use Rattle.ptpm_network.proofs.Reaching.{frame_at-is, no_report, told-message}
 use Rattle.ptpm_network.proofs.Schedule.{reached}
 

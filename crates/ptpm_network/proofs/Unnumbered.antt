@@ -28,7 +28,8 @@ use Rattle.ptpm_network.proofs.Answering.{due-frames, rendered-all, reply_frames
 use Rattle.ptpm_network.proofs.Arriving.{action_of-answer_body, arrives-reached, is_copy_of, kept-stays}
 use Rattle.ptpm_network.proofs.Frames.{IsHeard, forwarded_frames-are, same_read, says_reply, says_request}
 use Rattle.ptpm_network.proofs.Lists.{all_append}
-use Rattle.ptpm_network.proofs.Messages.{canonical-message, passed_on, reply_action-is_reply, reply_at, reply-fits, reply-valid, request_at}
+use Rattle.ptpm_codec.proofs.MessageLaws.{reply_action-is_reply}
+use Rattle.ptpm_network.proofs.Messages.{canonical-message, passed_on, reply_at, reply-fits, reply-valid, request_at}
 use Rattle.ptpm_network.proofs.Requests.{read_answered}
 use Rattle.ptpm_network.proofs.Steps.{KeptStays, more-frames, origin-stays}
 

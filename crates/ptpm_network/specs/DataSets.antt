@@ -7,7 +7,7 @@ use Rattle.ptpm_data.specs.Members.{DataSetsValue}
 use Rattle.ptpm_data.specs.Reply as reply
 use Rattle.ptpm_data.specs.Reply.{Answer, Outcome, ReplyValue}
 use Rattle.ptpm_data.specs.Request.{RequestValue}
-use Rattle.ptpm_data.specs.Replies.{reply_action}
+use Rattle.ptpm_codec.specs.Message.{reply_action}
 
 -- the data sets of a clock of this many ports, one to eight: identities have eight octets, and the description fits
 pub record AreDataSets (ports : ℕ) (d : DataSetsValue) : Type 0 where

@@ -1,22 +1,14 @@
 -- A reply that fits its request can be sent.
 use Rattle.std.proofs.Common.{◌≡◌, ◌≤◌, ℕ, Bool, true, false, refl, ap, ◌∙◌, length, arith, All}
 use Rattle.ptpm_codec.specs.declared.message.Action.{Action}
-use Rattle.ptpm_codec.specs.declared.message.Action.TheVariants as actions
 use Rattle.ptpm_codec.specs.Message.{IsReplyAction, is_reply}
+use Rattle.ptpm_codec.proofs.MessageLaws.{reply_action-is_reply}
 use Rattle.ptpm_data.specs.IdTable.{is_of_port}
 use Rattle.ptpm_data.specs.Reply as reply
 use Rattle.ptpm_data.specs.Reply.{Answer, Outcome, ReplyValue}
 use Rattle.ptpm_data.specs.Request.{RequestValue}
-use Rattle.ptpm_data.specs.Replies.{reply_action}
 use Rattle.ptpm_table.specs.Entries.{FitsAnswer, FitsCount, FitsOutcome, FitsRequest}
 use Rattle.ptpm_table.specs.Rendering.{IsEvenOutcome, IsSendable}
-
-reply_action-is_reply : (a : Action) → is_reply (reply_action a) ≡ true
-reply_action-is_reply actions.Get = refl
-reply_action-is_reply actions.Set = refl
-reply_action-is_reply actions.Command = refl
-reply_action-is_reply actions.Response = refl
-reply_action-is_reply actions.Acknowledge = refl
 
 pub fitting_action : (q : RequestValue) (r : ReplyValue) → FitsRequest q r → IsReplyAction r.action
 fitting_action q r fits = ap is_reply fits.action ∙ reply_action-is_reply q.action

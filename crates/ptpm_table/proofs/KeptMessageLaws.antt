@@ -22,7 +22,7 @@ use Rattle.ptpm_data.specs.IdTable.{is_of_port}
 use Rattle.ptpm_data.specs.Request.{RequestValue}
 use Rattle.std.specs.Prelude.{is_some}
 use Rattle.ptpm_table.proofs.ListLemmas.{All-unmap}
-use Rattle.ptpm_data.specs.Replies.{reply_action}
+use Rattle.ptpm_codec.specs.Message.{reply_action}
 use Rattle.ptpm_table.specs.Entries.{FitsAnswer, FitsCount, FitsOutcome, FitsRequest}
 use Rattle.ptpm_table.specs.KeptMessages.{AreSizes, EachKept, Envelope, IsKept, IsKeptReply, answer_in, error_of_number, first_copy, has_port, kept_message, outcome_in, outcome_of_body, pieces, port_for, port_in, renewed, source_port}
 use Rattle.ptpm_table.specs.Rendering.{answer_body, hops_passed, rendered, reply_message}

@@ -10,7 +10,7 @@ use Rattle.ptpm_data.specs.IdTable.{is_of_port}
 use Rattle.ptpm_data.specs.Request.{RequestValue}
 use Rattle.ptpm_data.specs.Reply as reply
 use Rattle.ptpm_data.specs.Reply.{Answer, Outcome, ReplyValue}
-use Rattle.ptpm_data.specs.Replies.{reply_action}
+use Rattle.ptpm_codec.specs.Message.{reply_action}
 
 pub record Entry : Type 0 where
   pub number : ℕ

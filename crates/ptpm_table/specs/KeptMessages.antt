@@ -15,7 +15,7 @@ use Rattle.ptpm_codec.specs.Message.{Fits}
 use Rattle.ptpm_codec.specs.Reading.{message_of}
 use Rattle.ptpm_data.specs.Reply as reply
 use Rattle.ptpm_data.specs.Reply.{Answer, Outcome}
-use Rattle.ptpm_data.specs.Replies.{reply_action}
+use Rattle.ptpm_codec.specs.Message.{reply_action}
 use Rattle.ptpm_table.specs.declared.heard.Heard.{Heard}
 use Rattle.ptpm_table.specs.declared.kept_messages.Exchange.{Exchange}
 use Rattle.ptpm_data.specs.declared.reply.PortAnswer.{PortAnswer}

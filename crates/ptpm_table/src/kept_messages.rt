@@ -4,7 +4,6 @@ ghost use Rattle.std.specs.Prelude.{All, ◌≡◌, ◌+◌, ◌∷◌, ◌++◌
 ghost use Rattle.arrayvec.specs.ArrayVec.{array_vec_len};
 ghost use Rattle.ptpm_codec.specs.Canonical.{canonical, tlv_octets};
 ghost use Rattle.ptpm_codec.specs.Message.{Fits, IsRequestAction, IsValid};
-ghost use Rattle.ptpm_data.specs.Replies.{reply_action};
 ghost use Rattle.ptpm_data.specs.Reply.{answer_of};
 ghost use Rattle.ptpm_table.specs.Entries.{FitsAnswer, FitsCount};
 ghost use Rattle.ptpm_table.specs.KeptMessages.{AreSizes, IsKeptReply, answer_in, envelope_of, has_port, pieces, port_for, renewed};
@@ -119,7 +118,7 @@ pub(crate) fn encode_each(
     ensures kept { IsKeptReply (envelope_of exchange.now) of_port sizes.new.items messages.new.items }
     ensures answers { map (answer_in of_port) (pieces sizes.new.items messages.new.items) ≡ map answer_of answers.now }
 {
-    let action = reply_action(exchange.action);
+    let action = exchange.action.reply();
     let copy = Heard {
         domain: 0,
         source: exchange.manager,
@@ -137,16 +136,6 @@ pub(crate) fn encode_each(
     for answer in answers {
         let draft = draft_of(&exchange.clock, &copy, action, exchange.id, answer, 0);
         append_message(&draft, sizes, messages);
-    }
-}
-
-/// The action that answers a request (15.4.1.6).
-pub(crate) fn reply_action(request: Action) -> Action
-    ensures { result ≡ reply_action request }
-{
-    match request {
-        Action::Get | Action::Set | Action::Response => Action::Response,
-        Action::Command | Action::Acknowledge => Action::Acknowledge,
     }
 }
 

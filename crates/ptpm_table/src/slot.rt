@@ -59,7 +59,7 @@ pub(crate) struct Kept {
 
 impl Model for Kept {
     ghost use Rattle.std.specs.Prelude.{map};
-    ghost use Rattle.ptpm_data.specs.Replies.{reply_action};
+    ghost use Rattle.ptpm_codec.specs.Message.{reply_action};
     ghost use Rattle.ptpm_table.specs.KeptMessages.{IsKeptReply, KeptValue, answer_in, pieces};
 
     ghost Value = { KeptValue };

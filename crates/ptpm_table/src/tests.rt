@@ -3,13 +3,12 @@
 ghost use Rattle.std.specs.Prelude.{◌≡◌, ◌<◌, ◌≤◌, [], length, true};
 ghost use Rattle.ptpm_codec.specs.Message.{IsDataField, IsRequestAction};
 ghost use Rattle.ptpm_data.specs.IdTable.{is_of_port};
-ghost use Rattle.ptpm_data.specs.Replies.{reply_action};
+ghost use Rattle.ptpm_codec.specs.Message.{reply_action};
 ghost use Rattle.ptpm_data.specs.Reply.{Value as value_of, outcome_of};
 ghost use Rattle.ptpm_table.specs.Entries.{FitsAnswer, FitsOutcome, FitsRequest};
 
 use super::*;
 use crate::kept::copy_what;
-use crate::kept_messages::reply_action;
 use arrayvec::ArrayVec;
 use ptpm_codec::{Action, ClockIdentity, ErrorId, OutOfMemory, PortIdentity};
 use ptpm_data::{PortAnswer, Reply, Request, Rights, What};
@@ -657,7 +656,7 @@ fn reply_of_ports(request: &Request<'_>, ports: usize, what: &What) -> Reply
         });
     }
     Reply {
-        action: reply_action(request.action),
+        action: request.action.reply(),
         id: request.id,
         answers,
     }

@@ -4,7 +4,7 @@ use Rattle.ptpm_data.specs.declared.reply.PortAnswer.{PortAnswer}
 use Rattle.ptpm_data.specs.IdTable.{is_of_port}
 use Rattle.ptpm_data.specs.Reply.{Answer, ReplyValue, answer_of, outcome_of}
 use Rattle.ptpm_data.specs.Request.{RequestValue}
-use Rattle.ptpm_data.specs.Replies.{reply_action}
+use Rattle.ptpm_codec.specs.Message.{reply_action}
 use Rattle.ptpm_table.specs.Entries.{FitsAnswer, FitsCount, FitsRequest}
 use Rattle.ptpm_table.proofs.tests.reply_to.Goals as goal
 

@@ -1,5 +1,5 @@
 use Rattle.std.proofs.Common.{arith, ◌<◌, ◌^◌, ◌∙◌, ◌++◌, ap, map, sym}
-use Rattle.ptpm_data.specs.Replies.{reply_action}
+use Rattle.ptpm_codec.specs.Message.{reply_action}
 use Rattle.ptpm_table.specs.KeptMessages.{Envelope, KeptValue, pieces, renewed}
 use Rattle.ptpm_table.specs.Rendering.{rendered}
 use Rattle.ptpm_table.proofs.KeptMessageLaws.{IsCopyOf, renewed_reply}
