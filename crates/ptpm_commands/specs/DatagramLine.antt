@@ -5,11 +5,11 @@ use Rattle.hex.specs.declared.error.FromHexError.{FromHexError}
 use Rattle.hex.specs.Hex.{decode_of}
 use Rattle.ptpm_script.specs.Document.{cut_at}
 use Rattle.ptpm_script.specs.Words.{space}
-use Rattle.ptpm_commands.specs.IdentityText.{port_number_of}
+use Rattle.ptpm_script.specs.Numbers.{decimal_up_to}
 
 abbrev pub behind : Option (List ℕ × List ℕ) → List ℕ → List ℕ
 behind None line = line
-behind (Some parts) line = if is_some (port_number_of parts.0) then parts.1 else line
+behind (Some parts) line = if is_some (decimal_up_to 65535 parts.0) then parts.1 else line
 
 -- what follows a port number and a space; the whole line where it does not begin with these
 unfoldable pub after_port : List ℕ → List ℕ

@@ -4,8 +4,8 @@ ghost use Rattle.std.specs.Prelude.{◌≡◌, ◌⊎◌, IfErr, IfOk, IsErr, Ok
 ghost use Rattle.ptpm_commands.specs.DatagramLine.{after_port, datagram_of, digits_of};
 
 use crate::faults::Fault;
-use crate::identity_text::port_number_of;
 use hex::FromHexError;
+use ptpm_script::decimal_u16;
 use std::alloc::Global;
 
 /// The datagram; none where the line is `nothing`, which is printed where no message is sent. Refused with BadHex where what
@@ -43,7 +43,7 @@ fn after_port(line: &str) -> &str
 {
     match line.split_once(' ') {
         Some((port, rest)) => {
-            if port_number_of(port).is_some() {
+            if decimal_u16(port).is_some() {
                 rest
             } else {
                 line

@@ -1,10 +1,11 @@
 //! Port identities as texts: `aabbccfffeddee01/1`.
 
 ghost use Rattle.std.specs.Prelude.{◌≡◌, option_map};
-ghost use Rattle.ptpm_commands.specs.IdentityText.{clock_octets_of, identity_of, port_number_of};
+ghost use Rattle.ptpm_commands.specs.IdentityText.{clock_octets_of, identity_of};
 
 use hex::FromHex;
 use ptpm_codec::{ClockIdentity, PortIdentity};
+use ptpm_script::decimal_u16;
 
 /// The identity that the text names: sixteen hexadecimal digits in either case, a slash, and a port number.
 #[tactic(auto, unfolding(crate::specs::IdentityText::identity_of))]
@@ -14,7 +15,7 @@ pub fn identity_of(text: &str) -> Option<PortIdentity>
     let (clock, port) = text.split_once('/')?;
     Some(PortIdentity {
         clock: clock_identity_of(clock)?,
-        port: port_number_of(port)?,
+        port: decimal_u16(port)?,
     })
 }
 
@@ -24,15 +25,4 @@ fn clock_identity_of(text: &str) -> Option<ClockIdentity>
 {
     let octets = <[u8; 8] as FromHex>::from_hex(text).ok()?;
     Some(ClockIdentity(octets))
-}
-
-/// The number that one to ten decimal digits spell, where it is below 65,536.
-#[tactic(auto, unfolding(crate::specs::IdentityText::port_number_of))]
-pub(crate) fn port_number_of(text: &str) -> Option<u16>
-    ensures { result ≡ port_number_of text.now }
-{
-    if text.len() > 10 || text.starts_with('+') {
-        return None;
-    }
-    text.parse().ok()
 }

@@ -1,16 +1,14 @@
 //! `ptpm make`: a request that the words of a command line ask for, in octets.
 
-ghost use Rattle.std.specs.Prelude.{◌≡◌, false, IfSome, IfOk};
-ghost use Rattle.ptpm_commands.specs.RequestWords.{action_of_word, id_of_digits, id_of_word, request_of};
+ghost use Rattle.std.specs.Prelude.{◌≡◌, IfOk};
+ghost use Rattle.ptpm_commands.specs.RequestWords.{request_of};
 ghost use Rattle.ptpm_codec.specs.Message.{IsRequestAction, IsValid};
 
 use crate::faults::Fault;
 use crate::identity_text::identity_of;
 use arrayvec::ArrayVec;
-use hex::FromHex;
 use ptpm_codec::{Action, Draft, DraftBody, encode, is_data_field};
-use ptpm_data::by_name;
-use ptpm_script::Hexadecimal;
+use ptpm_script::{Hexadecimal, action_named, id_named};
 use std::alloc::Global;
 use std::io::Write;
 
@@ -39,43 +37,14 @@ pub struct RequestWords<'a> {
 /// id (BadId), value (BadHex, then BadValue), identities (BadIdentity). Whether the id permits the action, and whether the
 /// value is in its range, is not judged.
 pub fn make<O: Write>(alloc: Global, words: &RequestWords<'_>, out: &mut O) -> Result<(), Fault> {
-    let action = action_of_word(words.action).ok_or(Fault::BadAction)?;
-    let id = id_of_word(words.id).ok_or(Fault::BadId)?;
+    let action = action_named(words.action).ok_or(Fault::BadAction)?;
+    let id = id_named(words.id).ok_or(Fault::BadId)?;
     let octets = hex::decode(alloc, words.value)?;
     let request = request_of(words, action, id, octets.as_slice())?;
     let mut buffer = ArrayVec::new();
     encode(&request, &mut buffer);
     writeln!(out, "{}", Hexadecimal(buffer.as_slice()))?;
     Ok(())
-}
-
-fn action_of_word(word: &str) -> Option<Action>
-    ensures action { result ≡ action_of_word word.now }
-    ensures request { IfSome result (λ action. IsRequestAction action) }
-{
-    match word {
-        "get" => Some(Action::Get),
-        "set" => Some(Action::Set),
-        "command" => Some(Action::Command),
-        _ => None,
-    }
-}
-
-fn id_of_word(word: &str) -> Option<u16>
-    ensures { result ≡ id_of_word word.now }
-{
-    match by_name(word) {
-        Some(row) => Some(row.id),
-        None => id_of_digits(word),
-    }
-}
-
-#[tactic(auto, unfolding(crate::specs::RequestWords::id_of_digits))]
-fn id_of_digits(word: &str) -> Option<u16>
-    ensures { result ≡ id_of_digits word.now }
-{
-    let octets = <[u8; 2] as FromHex>::from_hex(word).ok()?;
-    Some(u16::from_be_bytes(octets))
 }
 
 /// The request of an action, an id and a dataField that were read.

@@ -1,17 +1,15 @@
 -- What a line of a script does (this project's profile), by its words. A line that is no event is refused with the first
 -- that holds of: an unknown verb or action, a wrong number of words, and then a bad number, id, or hexadecimal digits.
 use Rattle.std.specs.Prelude.{ℕ, if◌then◌else◌, List, [], ◌∷◌, codes, bytes_eq, Option, Some, None, option_map, Result, Ok, Err, ◌≡◌, ◌⊎◌, drop}
-use Rattle.std.specs.Option.{option_or}
 use Rattle.std.specs.Result.{result_ok}
 use Rattle.hex.specs.Hex.{decode_of}
 use Rattle.ptpm_codec.specs.declared.message.Action.{Action}
-use Rattle.ptpm_codec.specs.declared.message.Action.TheVariants as actions
-use Rattle.ptpm_data.specs.IdTable.{row_named}
 use Rattle.ptpm_script.specs.declared.event.Event.{Event}
 use Rattle.ptpm_script.specs.declared.event.Event.TheVariants.{Begin, Send, Resume, Retune, Deliver, Stranger}
 use Rattle.ptpm_script.specs.declared.event.EventError.{EventError}
 use Rattle.ptpm_script.specs.declared.event.EventError.TheVariants.{UnknownWord, WordCount, BadNumber, BadId, BadHex, OutOfMemory}
-use Rattle.ptpm_script.specs.Numbers.{decimal_up_to, four_digits}
+use Rattle.ptpm_script.specs.Numbers.{decimal_up_to}
+use Rattle.ptpm_script.specs.RequestNames.{action_named, id_named}
 use Rattle.ptpm_script.specs.Words.{words, one_word, two_words, three_words, first_words}
 
 -- ---- single words
@@ -19,17 +17,6 @@ use Rattle.ptpm_script.specs.Words.{words, one_word, two_words, three_words, fir
 -- no value is meant
 abbrev pub dash : List ℕ
 dash = codes "-"
-
-abbrev pub action_named : List ℕ → Option Action
-action_named word =
-    if bytes_eq word (codes "get") then Some actions.Get
-    else if bytes_eq word (codes "set") then Some actions.Set
-    else if bytes_eq word (codes "command") then Some actions.Command
-    else None
-
--- a name of the table, or four hexadecimal digits
-unfoldable pub management_id : List ℕ → Option ℕ
-management_id word = option_or (option_map (λ e. e.id) (row_named word)) (four_digits word)
 
 -- a port, where one is named
 unfoldable pub port_named : List ℕ → Option (Option ℕ)
@@ -73,7 +60,7 @@ stranger_of ws = given (three_words ws) WordCount (λ w.
 abbrev pub ask_of : List ℕ → Action → List (List ℕ) → Result Event EventError
 ask_of session action ws = given (three_words ws) WordCount (λ w.
     given (port_named w.1) BadNumber (λ port.
-    given (management_id w.0) BadId (λ id.
+    given (id_named w.0) BadId (λ id.
     given (octets_of w.2) BadHex (λ octets.
     Ok (Begin session (record { action = action; id = id; port = port; octets = octets }))))))
 

@@ -1,6 +1,7 @@
 pub mod Words
 pub mod OctetText
 pub mod Numbers
+pub mod RequestNames
 pub mod Document
 pub mod Values
 pub mod EventLine

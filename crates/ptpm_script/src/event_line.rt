@@ -1,16 +1,16 @@
 //! Lines of a script as events (this project's profile).
 
 ghost use Rattle.std.specs.Prelude.{◌≡◌, ◌⊎◌, [], Some, None, IfOk, IfErr};
-ghost use Rattle.ptpm_script.specs.EventLine.{IsAnswer, action_named, ask_of, begin_of, deliver_of, management_id, octets_of, port_named, reading, resume_of, retune_of, send_of, stranger_of};
+ghost use Rattle.ptpm_script.specs.EventLine.{IsAnswer, ask_of, begin_of, deliver_of, octets_of, port_named, reading, resume_of, retune_of, send_of, stranger_of};
 ghost use Rattle.ptpm_script.specs.Words.{words};
 
 use crate::event::{Event, EventError};
 use crate::names::Name;
-use crate::numbers::{decimal_u8, decimal_u16, four_digits, frame_number};
+use crate::numbers::{decimal_u8, decimal_u16, frame_number};
+use crate::request_names::{action_named, id_named};
 use crate::words::{one_word, split_two_words, split_word, three_words, two_words};
 use hex::FromHexError;
 use ptpm_codec::{Action, Octets};
-use ptpm_data::by_name;
 use ptpm_manager::Ask;
 use std::alloc::Global;
 
@@ -48,7 +48,7 @@ fn read_ask(alloc: Global, session: &str, action: Action, text: &str) -> Result<
 {
     let (id, port, octets) = three_words(text).ok_or(EventError::WordCount)?;
     let port = port_named(port).ok_or(EventError::BadNumber)?;
-    let id = management_id(id).ok_or(EventError::BadId)?;
+    let id = id_named(id).ok_or(EventError::BadId)?;
     let octets = octets_of(alloc, octets)?;
     let session = Name::copy_of(alloc, session)?;
     let ask = Ask {
@@ -98,29 +98,6 @@ fn read_stranger(alloc: Global, text: &str) -> Result<Event, EventError>
     let port = decimal_u16(port).ok_or(EventError::BadNumber)?;
     let octets = octets_of(alloc, octets)?;
     Ok(Event::Stranger(Name::copy_of(alloc, clock)?, port, octets))
-}
-
-/// The action of a word.
-fn action_named(word: &str) -> Option<Action>
-    ensures { result ≡ action_named word.now }
-{
-    match word {
-        "get" => Some(Action::Get),
-        "set" => Some(Action::Set),
-        "command" => Some(Action::Command),
-        _ => None,
-    }
-}
-
-/// A management id by its name or by four hexadecimal digits.
-#[tactic(auto, unfolding(crate::specs::EventLine::management_id))]
-fn management_id(word: &str) -> Option<u16>
-    ensures { result ≡ management_id word.now }
-{
-    match by_name(word) {
-        Some(row) => Some(row.id),
-        None => four_digits(word),
-    }
 }
 
 /// A port, or none.

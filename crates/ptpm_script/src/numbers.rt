@@ -47,8 +47,8 @@ pub(crate) fn decimal_u8(text: &str) -> Option<u8>
     }
 }
 
-/// A decimal number of two octets.
-pub(crate) fn decimal_u16(text: &str) -> Option<u16>
+/// The number below 65,536 that one to ten decimal digits write, as a portNumber; nothing may stand before them.
+pub fn decimal_u16(text: &str) -> Option<u16>
     ensures { result ≡ decimal_up_to 65535 text.now }
 {
     match decimal_up_to(0xffff, text) {
