@@ -11,6 +11,7 @@ mod managers;
 mod outbox;
 mod plain_table;
 mod rendering;
+mod renewal;
 mod reply_table;
 mod serial;
 mod slot;

@@ -8,7 +8,7 @@ ghost use Rattle.ptpm_codec.specs.Reading.{IsWellFormed};
 ghost use Rattle.ptpm_table.specs.KeptMessages.{renewed};
 ghost use Rattle.ptpm_table.specs.Outbox.{sent};
 
-use crate::kept_messages::{Renewal, renew};
+use crate::renewal::{Renewal, renew};
 use ptpm_codec::{Buffer, Draft, MESSAGE_OCTETS, encode, less_hop, overwrite};
 use std::marker::Model;
 

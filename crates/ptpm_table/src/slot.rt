@@ -7,9 +7,10 @@ ghost use Rattle.ptpm_table.specs.Rendering.{rendered};
 
 use crate::heard::Heard;
 use crate::kept_messages::{
-    Exchange, Messages, Renewal, Sizes, encode_each, has_port, port_for, resend_each,
+    Exchange, Messages, Sizes, encode_each, has_port, port_for, resend_each,
 };
 use crate::outbox::Outbox;
+use crate::renewal::Renewal;
 use arrayvec::ArrayVec;
 use ptpm_codec::{Action, ClockIdentity, DATA_FIELD_OCTETS, PortIdentity, overwrite};
 use ptpm_data::{Reply, Request, Rights};

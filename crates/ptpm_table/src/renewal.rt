@@ -1,0 +1,28 @@
+//! What depends on the copy that is answered, in a message that was kept.
+
+ghost use Rattle.std.specs.Prelude.{◌≡◌, ◌≤◌, length};
+ghost use Rattle.ptpm_table.specs.KeptMessages.{renewed};
+
+/// What depends on the copy that is answered.
+#[derive(Clone, Copy)]
+pub(crate) struct Renewal {
+    pub(crate) domain: u8,
+    /// The source's portNumber, where the answer is of the clock.
+    pub(crate) port: Option<u16>,
+    /// Both hop fields.
+    pub(crate) hops: u8,
+}
+
+/// Writes over what depends on the copy, in a message.
+pub(crate) fn renew(message: &mut [u8], renewal: &Renewal)
+    requires { 54 ≤ length message.old }
+    ensures { message.new ≡ renewed renewal.now.domain renewal.now.port renewal.now.hops message.old }
+{
+    message[4] = renewal.domain;
+    if let Some(port) = renewal.port {
+        message[28] = (port / 256) as u8;
+        message[29] = (port % 256) as u8;
+    }
+    message[44] = renewal.hops;
+    message[45] = renewal.hops;
+}
