@@ -1,6 +1,6 @@
 //! Messages as a host in C takes them over.
 
-ghost use Rattle.std.specs.Prelude.{◌≡◌, ◌≤◌, length, take};
+ghost use Rattle.std.specs.Prelude.{◌≡◌, ◌≤◌, [], length, take};
 ghost use Rattle.ptpm_table.specs.Outbox.{sent};
 ghost use Rattle.ptpm_host.specs.Clock.{message_in, messages_in};
 
@@ -20,8 +20,10 @@ pub struct Sent {
 const _: () = prove!(size_of::<Sent>() == 1_476);
 
 impl Sent {
-    /// A message without octets.
-    pub fn empty() -> Sent {
+    /// A message without octets, for no port.
+    pub fn empty() -> Sent
+        ensures { message_in result ≡ (0, []) }
+    {
         Sent {
             port: 0,
             size: 0,
