@@ -17,7 +17,8 @@ use Rattle.ptpm_table.specs.Numbering.{look_at, look_by, same_request}
 use Rattle.ptpm_table.specs.Serial.{order_of, serial_of}
 use Rattle.ptpm_agent.specs.declared.verdict.Verdict.{Verdict}
 use Rattle.ptpm_agent.specs.declared.verdict.Verdict.TheVariants as verdicts
-use Rattle.ptpm_agent.specs.Turn.{Clock, State, Turned, heard_of, is_repeat, judged, kept_reply_of, look, next_by, outbox_of, reply_by, reply_messages, request_of, turn, turn_by, verdict_at}
+use Rattle.ptpm_agent.specs.Addressing.{heard_of, request_of}
+use Rattle.ptpm_agent.specs.Turn.{Clock, State, Turned, is_repeat, judged, kept_reply_of, look, next_by, outbox_of, reply_by, reply_messages, turn, turn_by, verdict_at}
 use Rattle.ptpm_agent.specs.Once.{Delivery, RequestCopy, History, after, after_arrival, after_copy, applied_once, initial_history, copy_by, copy_from, copy_of, due_reply, greatest, is_copy, joins, kept_for, kept_reply}
 use Rattle.ptpm_codec.specs.SequenceNumber.{number_of}
 use Rattle.ptpm_agent.specs.Window.{IsInTime, IsNumbered, KeepsWindow}

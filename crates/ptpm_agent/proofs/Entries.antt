@@ -8,7 +8,8 @@ use Rattle.ptpm_codec.specs.Identity.{same_identity}
 use Rattle.ptpm_data.specs.Changes.{changed_by}
 use Rattle.ptpm_data.specs.Members.{DataSetsValue}
 use Rattle.ptpm_table.specs.Entries.{Entries, Entry}
-use Rattle.ptpm_agent.specs.Turn.{Clock, State, carried_out, request_of, new_reply}
+use Rattle.ptpm_agent.specs.Addressing.{request_of}
+use Rattle.ptpm_agent.specs.Turn.{Clock, State, carried_out, new_reply}
 use Rattle.ptpm_agent.specs.Once.{Accepted, Delivery, History, RequestCopy, accepted_from, copy_from, greatest, joined, kept_reply}
 use Rattle.ptpm_codec.specs.SequenceNumber.{number_of}
 use Rattle.ptpm_agent.specs.Window.{IsNumbered}

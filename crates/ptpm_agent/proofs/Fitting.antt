@@ -24,7 +24,7 @@ use Rattle.ptpm_data.specs.Request.{RequestValue}
 use Rattle.ptpm_table.specs.Entries.{FitsAnswer, FitsCount, FitsOutcome, FitsRequest}
 use Rattle.ptpm_data.proofs.Keeping.{changed_by-ports, changed_by-sized}
 use Rattle.ptpm_data.proofs.ReplyLemmas.{reply_of-count, reply_of-outcomes}
-use Rattle.ptpm_agent.specs.Turn.{is_request, names_port, request_of}
+use Rattle.ptpm_agent.specs.Addressing.{is_request, names_port, request_of}
 
 pub IsRequestAction-request : (v : Message) → is_request v ≡ true → IsRequestAction (request_of v).action
 IsRequestAction-request v q = not-true _ q

@@ -9,7 +9,8 @@ use Rattle.ptpm_data.specs.Reply.{Answer, Refused, ReplyValue}
 use Rattle.ptpm_data.proofs.Keeping.{refused_answer}
 use Rattle.ptpm_agent.specs.declared.verdict.Verdict.{Verdict}
 use Rattle.ptpm_agent.specs.declared.verdict.Verdict.TheVariants as verdicts
-use Rattle.ptpm_agent.specs.Turn.{Clock, State, judged, new_reply, next_by, reply_by, request_of, turn}
+use Rattle.ptpm_agent.specs.Addressing.{request_of}
+use Rattle.ptpm_agent.specs.Turn.{Clock, State, judged, new_reply, next_by, reply_by, turn}
 use Rattle.ptpm_agent.proofs.Turns.{turn-next}
 
 next_by-refused : (c : Clock) (s : State) (v : Message) (w : Verdict) (r : ReplyValue) (a : Answer) (error : ErrorId) → reply_by w c s v ≡ Some r → Contains r.answers a → a.outcome ≡ Refused error → (next_by w c s v).sets ≡ s.sets

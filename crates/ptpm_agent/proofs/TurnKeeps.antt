@@ -4,7 +4,8 @@ use Rattle.ptpm_codec.specs.declared.message.Message.{Message}
 use Rattle.ptpm_data.proofs.Keeping.{changed_by-ports}
 use Rattle.ptpm_agent.specs.declared.verdict.Verdict.{Verdict}
 use Rattle.ptpm_agent.specs.declared.verdict.Verdict.TheVariants as verdicts
-use Rattle.ptpm_agent.specs.Turn.{Clock, State, judged, next_by, request_of, turn}
+use Rattle.ptpm_agent.specs.Addressing.{request_of}
+use Rattle.ptpm_agent.specs.Turn.{Clock, State, judged, next_by, turn}
 use Rattle.ptpm_agent.proofs.Turns.{turn-next}
 
 next_by-ports : (w : Verdict) (c : Clock) (s : State) (v : Message) → length (next_by w c s v).sets.ports ≡ length s.sets.ports

@@ -21,7 +21,8 @@ use Rattle.ptpm_agent.specs.Agent.{IsTurned}
 use Rattle.ptpm_agent.specs.declared.verdict.Verdict.{Verdict}
 use Rattle.ptpm_agent.specs.declared.verdict.Verdict.TheVariants as verdicts
 use Rattle.ptpm_agent.specs.Forwarding.{egress_ports, forwarded, forwarded_by, is_forwarded, with_less_hop}
-use Rattle.ptpm_agent.specs.Turn.{Clock, State, carried_out, heard_of, is_accepted_repeat, is_addressed, is_for_this_clock, is_in_domain, is_numbered, is_own, is_repeat, is_request, judged, look, names_port, new_reply, next_by, reply_by, reply_messages, request_of, turn, turn_by, verdict_at, verdict_of}
+use Rattle.ptpm_agent.specs.Addressing.{heard_of, is_addressed, is_for_this_clock, is_numbered, is_own, is_request, names_port, request_of}
+use Rattle.ptpm_agent.specs.Turn.{Clock, State, carried_out, is_accepted_repeat, is_in_domain, is_repeat, judged, look, new_reply, next_by, reply_by, reply_messages, turn, turn_by, verdict_at, verdict_of}
 use Rattle.ptpm_agent.specs.Once.{is_copy}
 use Rattle.ptpm_agent.specs.Laws.{AreOfManagers}
 use Rattle.ptpm_table.proofs.Identities.{same_identity-true}

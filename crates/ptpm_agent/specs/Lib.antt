@@ -1,3 +1,4 @@
+pub mod Addressing
 pub mod Forwarding
 pub mod Turn
 pub mod Once

@@ -14,8 +14,9 @@ use Rattle.ptpm_data.specs.Reply.{ReplyValue}
 use Rattle.ptpm_data.specs.Request.{RequestValue}
 use Rattle.ptpm_table.specs.declared.heard.Heard.{Heard}
 use Rattle.ptpm_table.specs.Entries.{is_known}
+use Rattle.ptpm_table.specs.Managers.{Clock}
 use Rattle.ptpm_table.specs.Numbering.{same_request}
-use Rattle.ptpm_agent.specs.Turn.{Clock, request_of, heard_of, is_own, is_request, is_for_this_clock, names_port}
+use Rattle.ptpm_agent.specs.Addressing.{heard_of, is_for_this_clock, is_own, is_request, names_port, request_of}
 
 -- ---- deliveries
 

@@ -4,22 +4,20 @@ use Rattle.std.specs.Prelude.{ℕ, ◌==◌, ◌&&◌, ◌||◌, not, Bool, true
 use Rattle.std.specs.FinMap.{get, insert}
 use Rattle.ptpm_codec.specs.declared.error.DecodeError.{DecodeError}
 use Rattle.ptpm_codec.specs.declared.message.Message.{Message}
-use Rattle.ptpm_codec.specs.Identity.{same_clock, every_clock, every_port}
-use Rattle.ptpm_codec.specs.Message.{action_of, id_of, octets_of, is_reply}
 use Rattle.ptpm_codec.specs.Reading.{reading}
 use Rattle.ptpm_data.specs.Changes.{changed_by}
-use Rattle.ptpm_data.specs.Members.{DataSetsValue, has_port}
+use Rattle.ptpm_data.specs.Members.{DataSetsValue}
 use Rattle.ptpm_data.specs.Replies.{reply_to, read_reply_to}
 use Rattle.ptpm_data.specs.Reply.{ReplyValue}
-use Rattle.ptpm_data.specs.Request.{RequestValue}
 use Rattle.ptpm_table.specs.declared.heard.Heard.{Heard}
 use Rattle.ptpm_table.specs.declared.reply_table.Look.{Look}
 use Rattle.ptpm_table.specs.declared.reply_table.Look.TheVariants as looks
-use Rattle.ptpm_table.specs.Entries.{Entries, Entry, is_known}
+use Rattle.ptpm_table.specs.Entries.{Entries, Entry}
 use Rattle.ptpm_table.specs.Numbering.{look_of}
 use Rattle.ptpm_table.specs.Rendering.{rendered}
 use Rattle.ptpm_agent.specs.declared.verdict.Verdict.{Verdict}
 use Rattle.ptpm_agent.specs.declared.verdict.Verdict.TheVariants as verdicts
+use Rattle.ptpm_agent.specs.Addressing.{heard_of, is_addressed, is_numbered, is_own, is_request, request_of}
 use Rattle.ptpm_agent.specs.Forwarding.{forwarded}
 -- ---- a clock
 
@@ -31,49 +29,7 @@ pub record State : Type 0 where
   pub sets : DataSetsValue
   pub entries : Entries
 
--- ---- what a message is to a clock
-
--- what a request asks, the target's portNumber included
-abbrev pub request_of : Message → RequestValue
-request_of v = record {
-  action = action_of v.body;
-  id = id_of v.body;
-  port = v.target.port;
-  octets = octets_of v.body;
-}
-
--- what a reply takes from the copy that it answers
-abbrev pub heard_of : Message → Heard
-heard_of v = record {
-  domain = v.domain;
-  source = v.source;
-  number = v.number;
-  starting_hops = v.starting_hops;
-  hops = v.hops;
-}
-
-abbrev pub is_own : Clock → Message → Bool
-is_own c v = same_clock v.source.clock c.identity
-
-abbrev pub is_request : Message → Bool
-is_request v = not (is_reply (action_of v.body))
-
--- its target clock is exactly this clock
-abbrev pub is_for_this_clock : Clock → Message → Bool
-is_for_this_clock c v = same_clock v.target.clock c.identity
-
--- every port, or one of the clock's (15.3.1)
-abbrev pub names_port : DataSetsValue → ℕ → Bool
-names_port d port = port == every_port || has_port port d
-
--- for this clock or every clock, at a port that it has (15.3.1)
-abbrev pub is_addressed : Clock → DataSetsValue → Message → Bool
-is_addressed c d v =
-    (is_for_this_clock c v || same_clock v.target.clock every_clock) && names_port d v.target.port
-
--- from a configured manager, and for exactly this clock: such a request is numbered (this project's profile)
-abbrev pub is_numbered : Clock → Message → Bool
-is_numbered c v = is_known v.source c.managers && is_for_this_clock c v
+-- ---- repeats, and the clock's domain
 
 -- a numbered request, by what is kept of its manager; `Unknown` for any other
 abbrev pub look : Clock → State → Message → Look

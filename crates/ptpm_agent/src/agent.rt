@@ -14,7 +14,8 @@ ghost use Rattle.ptpm_agent.specs.Forwarding.{forwarded};
 ghost use Rattle.ptpm_agent.specs.Laws.{StandsAt, after_each, datagrams_of, due_messages, last_sent};
 ghost use Rattle.ptpm_agent.specs.Once.{Delivery, History, RequestCopy, applied_once, copy_of, due_reply};
 ghost use Rattle.ptpm_agent.specs.Window.{KeepsWindow};
-ghost use Rattle.ptpm_agent.specs.Turn.{carried_out, heard_of, is_accepted_repeat, is_addressed, judged, look, new_reply, reply_by, reply_messages, request_of, turn, verdict_of};
+ghost use Rattle.ptpm_agent.specs.Addressing.{heard_of, is_addressed, request_of};
+ghost use Rattle.ptpm_agent.specs.Turn.{carried_out, is_accepted_repeat, judged, look, new_reply, reply_by, reply_messages, turn, verdict_of};
 
 use crate::forwarding::forward;
 use crate::verdict::Verdict;

@@ -17,7 +17,8 @@ use Rattle.ptpm_data.specs.Members.{DataSetsValue, is_forwarding_port, may_forwa
 use Rattle.ptpm_table.specs.Entries.{is_known}
 use Rattle.ptpm_agent.specs.Forwarding.{egress_ports, forwarded, forwarded_by, with_less_hop}
 use Rattle.ptpm_agent.specs.Once.{History, RequestCopy, after_arrival, copy_by, copy_of}
-use Rattle.ptpm_agent.specs.Turn.{Clock, is_addressed, is_for_this_clock, is_own, names_port}
+use Rattle.ptpm_agent.specs.Addressing.{is_addressed, is_for_this_clock, is_own, names_port}
+use Rattle.ptpm_agent.specs.Turn.{Clock}
 use Rattle.ptpm_network.specs.DataSets.{AreDataSets}
 use Rattle.ptpm_network.specs.Invariant.{IsOfOrigin, IsReached}
 use Rattle.ptpm_network.specs.Machine.{answering_frames, arrives, delivered_at_clock, delivery, forwarded_frames, made_frames, read_messages, reply_frames}

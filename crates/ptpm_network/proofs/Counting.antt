@@ -18,7 +18,8 @@ use Rattle.ptpm_table.specs.Rendering.{rendered}
 use Rattle.ptpm_agent.specs.Forwarding.{forwarded, forwarded_by, is_forwarded}
 use Rattle.ptpm_agent.specs.Laws.{due_messages}
 use Rattle.ptpm_agent.specs.Once.{RequestCopy, copy_of, due_reply}
-use Rattle.ptpm_agent.specs.Turn.{Clock, heard_of, request_of}
+use Rattle.ptpm_agent.specs.Addressing.{heard_of, request_of}
+use Rattle.ptpm_agent.specs.Turn.{Clock}
 use Rattle.ptpm_agent.proofs.Egress.{copies_up_to-all, length-copies_up_to_but_one}
 use Rattle.ptpm_manager.specs.Session.{due_message}
 use Rattle.ptpm_network.specs.Events.{Begin, Deliver, Event, Forged, FramesAtMaximum, IsInRange, Refusal, Resume, Retune, Send, Stranger, forged, frame_at, frames_limit, is_forged, no_frame, no_port, no_room, no_session, refusal, send_refused}

@@ -31,7 +31,8 @@ use Rattle.ptpm_table.specs.Rendering.{hops_passed, reply_message}
 use Rattle.ptpm_agent.specs.Forwarding.{forwarded, forwarded_by}
 use Rattle.ptpm_agent.specs.Laws.{due_messages}
 use Rattle.ptpm_agent.specs.Once.{Accepted, History, RequestCopy, after_arrival, after_copy, copy_by, copy_from, copy_of, due_reply, greatest, is_copy, kept_for, kept_reply}
-use Rattle.ptpm_agent.specs.Turn.{Clock, is_for_this_clock, is_own, is_request, names_port}
+use Rattle.ptpm_agent.specs.Addressing.{is_for_this_clock, is_own, is_request, names_port}
+use Rattle.ptpm_agent.specs.Turn.{Clock}
 use Rattle.ptpm_manager.specs.declared.report.Report.{Report}
 use Rattle.ptpm_manager.specs.Report.{outcome_of}
 use Rattle.ptpm_network.specs.DataSets.{AreDataSets}

@@ -23,7 +23,8 @@ use Rattle.ptpm_table.specs.Serial.{serial_of}
 use Rattle.ptpm_agent.specs.declared.verdict.Verdict.{Verdict}
 use Rattle.ptpm_agent.specs.Forwarding.{forwarded, forwarded_by, is_forwarded, with_less_hop}
 use Rattle.ptpm_agent.specs.Once.{Delivery, RequestCopy, copy_by, copy_from, copy_of, is_copy}
-use Rattle.ptpm_agent.specs.Turn.{Clock, State, heard_of, is_for_this_clock, is_numbered, is_own, is_request, judged, look, names_port, reply_by, reply_messages, request_of, turn, turn_by, verdict_at}
+use Rattle.ptpm_agent.specs.Addressing.{heard_of, is_for_this_clock, is_numbered, is_own, is_request, names_port, request_of}
+use Rattle.ptpm_agent.specs.Turn.{Clock, State, judged, look, reply_by, reply_messages, turn, turn_by, verdict_at}
 use Rattle.ptpm_agent.proofs.Turns.{is_copy-numbered, judged-each, message_of-reading, verdict_at-unnumbered}
 use Rattle.ptpm_network.specs.Machine.{answer_origin}
 use Rattle.ptpm_network.specs.State.{Origin}

@@ -14,7 +14,8 @@ use Rattle.ptpm_agent.specs.declared.verdict.Verdict.TheVariants as verdicts
 use Rattle.ptpm_agent.specs.Forwarding.{forwarded}
 use Rattle.ptpm_agent.specs.Laws.{StandsAt}
 use Rattle.ptpm_agent.specs.Once.{Delivery, History, RequestCopy, copy_of, is_copy}
-use Rattle.ptpm_agent.specs.Turn.{Clock, State, Turned, heard_of, is_accepted_repeat, is_addressed, is_for_this_clock, is_in_domain, is_numbered, is_own, is_repeat, is_request, judged, look, names_port, reply_by, reply_messages, turn, turn_by, verdict_at}
+use Rattle.ptpm_agent.specs.Addressing.{heard_of, is_addressed, is_for_this_clock, is_numbered, is_own, is_request, names_port}
+use Rattle.ptpm_agent.specs.Turn.{Clock, State, Turned, is_accepted_repeat, is_in_domain, is_repeat, judged, look, reply_by, reply_messages, turn, turn_by, verdict_at}
 use Rattle.ptpm_agent.specs.Window.{IsInTime}
 use Rattle.ptpm_agent.proofs.AtMostOnce.{no_copy, turns_as}
 use Rattle.ptpm_agent.proofs.Turns.{judged-foreign, judged-request, message_of-reading, reading-message_of, turn-message}

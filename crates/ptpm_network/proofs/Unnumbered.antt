@@ -17,7 +17,8 @@ use Rattle.ptpm_table.specs.Entries.{is_known}
 use Rattle.ptpm_table.specs.Rendering.{hops_passed, rendered}
 use Rattle.ptpm_agent.specs.Forwarding.{forwarded}
 use Rattle.ptpm_agent.specs.Once.{RequestCopy, copy_of, due_reply}
-use Rattle.ptpm_agent.specs.Turn.{Clock, heard_of, is_for_this_clock, is_numbered, is_own, is_request, names_port, request_of}
+use Rattle.ptpm_agent.specs.Addressing.{heard_of, is_for_this_clock, is_numbered, is_own, is_request, names_port, request_of}
+use Rattle.ptpm_agent.specs.Turn.{Clock}
 use Rattle.ptpm_codec.proofs.IdentityLaws.{same_clock-true}
 use Rattle.ptpm_network.specs.DataSets.{Answers}
 use Rattle.ptpm_network.specs.Invariant.{IsForeign, IsForeignFrame, IsFrame, IsReached}

@@ -12,7 +12,8 @@ use Rattle.ptpm_table.specs.Rendering.{rendered}
 use Rattle.ptpm_agent.specs.Forwarding.{forwarded}
 use Rattle.ptpm_agent.specs.Laws.{due_messages}
 use Rattle.ptpm_agent.specs.Once.{Delivery, History, RequestCopy, copy_of, due_reply}
-use Rattle.ptpm_agent.specs.Turn.{Clock, heard_of, is_addressed, is_numbered, is_own, is_request, request_of}
+use Rattle.ptpm_agent.specs.Addressing.{heard_of, is_addressed, is_numbered, is_own, is_request, request_of}
+use Rattle.ptpm_agent.specs.Turn.{Clock}
 use Rattle.ptpm_manager.specs.declared.report.Report.{Report}
 use Rattle.ptpm_manager.specs.Ask as ask
 use Rattle.ptpm_manager.specs.Report.{outcome_of}

@@ -1,7 +1,7 @@
 use Rattle.std.proofs.Common.{refl, sym, ◌∙◌}
 use Rattle.ptpm_table.specs.Rendering.{rendered}
 use Rattle.ptpm_agent.specs.Agent.{state_of}
-use Rattle.ptpm_agent.specs.Turn.{heard_of}
+use Rattle.ptpm_agent.specs.Addressing.{heard_of}
 use Rattle.ptpm_agent.proofs.Turns.{turned_new, turned_other, turned_refused, on_err, verdict_new}
 use Rattle.ptpm_agent.proofs.agent.Agent.try_handle.Goals as goal
 
