@@ -14,7 +14,7 @@ use Rattle.ptpm_data.specs.declared.ids.Layout.{Layout}
 use Rattle.ptpm_data.specs.declared.ids.Layout.TheVariants as layouts
 use Rattle.ptpm_data.specs.declared.data_sets.PortDataSet.{PortDataSet}
 use Rattle.ptpm_data.specs.declared.port_state.DelayMechanism.{DelayMechanism}
-use Rattle.ptpm_data.specs.IdTable.{Entry, has_action}
+use Rattle.ptpm_data.specs.IdTable.{Entry, has_action, set_of}
 use Rattle.ptpm_data.specs.Members.{DataSetsValue}
 use Rattle.ptpm_data.specs.PortState.{mechanism_of}
 use Rattle.ptpm_data.specs.Request.{RequestValue}
@@ -30,16 +30,16 @@ first_of-none false a rest e = (refl, e)
 
 -- the dataField of a request that is not refused suits its id
 pub record Suits (layout : Layout) (q : RequestValue) : Type 0 where
-  pub size : is_length q.action layout q.octets ≡ true
-  pub value : is_value q.action layout q.octets ≡ true
+  pub size : is_length q.action (set_of layout) q.octets ≡ true
+  pub value : is_value q.action (set_of layout) q.octets ≡ true
 
 pub suits_from : (e : Entry) (q : RequestValue) (rights : Rights) → entry_refusal e q rights ≡ None → Suits e.layout q
 unfolding entry_refusal
 suits_from e q rights none =
     let action = first_of-none (not (has_action q.action e.actions)) (unpermitted q.action) (drop 1 (refusals e q rights)) none in
     let right = first_of-none (not (has_right (needed_right q.action e.scope e.layout) rights)) NotSupported (drop 2 (refusals e q rights)) action.1 in
-    let size = first_of-none (not (is_length q.action e.layout q.octets)) WrongLength (drop 3 (refusals e q rights)) right.1 in
-    let value = first_of-none (not (is_value q.action e.layout q.octets)) WrongValue [] size.1 in
+    let size = first_of-none (not (is_length q.action (set_of e.layout) q.octets)) WrongLength (drop 3 (refusals e q rights)) right.1 in
+    let value = first_of-none (not (is_value q.action (set_of e.layout) q.octets)) WrongValue [] size.1 in
     record { size = not-false _ size.0; value = not-false _ value.0 }
 
 -- ---- the number of ports

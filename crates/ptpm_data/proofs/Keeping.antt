@@ -11,7 +11,7 @@ use Rattle.ptpm_data.specs.declared.ids.Layout.TheVariants as layouts
 use Rattle.ptpm_data.specs.declared.data_sets.ClockPrecedence.{ClockPrecedence}
 use Rattle.ptpm_data.specs.declared.data_sets.ParentDataSet.{ParentDataSet}
 use Rattle.ptpm_data.specs.declared.port_state.DelayMechanism.{DelayMechanism}
-use Rattle.ptpm_data.specs.IdTable.{Entry, row_of}
+use Rattle.ptpm_data.specs.IdTable.{Entry, row_of, set_of}
 use Rattle.ptpm_data.specs.Ranges.{is_description}
 use Rattle.ptpm_data.specs.PortState.{mechanism_of}
 use Rattle.ptpm_data.specs.Request.{RequestValue}
@@ -69,15 +69,15 @@ carried_out-keeps layout q _ d = same d
 -- ---- the text
 
 pub described : (text : List ℕ) → is_description text ≡ true → length text ≤ 128
-unfolding is_description
+unfolding is_description set_of
 described text good = leb-true _ _ (both_parts _ _ good).0
 
 with_mechanism-text : (port : ℕ) (d : DataSetsValue) (m : Option DelayMechanism) → (with_mechanism port d m).description ≡ d.description
 with_mechanism-text port d None = refl
 with_mechanism-text port d (Some m) = refl
 
-set_members-text : (layout : Layout) (port : ℕ) (octets : List ℕ) (d : DataSetsValue) → is_set_value layout octets ≡ true → length d.description ≤ 128 → length (set_members layout port octets d).description ≤ 128
-unfolding set_members is_set_value
+set_members-text : (layout : Layout) (port : ℕ) (octets : List ℕ) (d : DataSetsValue) → is_set_value (set_of layout) octets ≡ true → length d.description ≤ 128 → length (set_members layout port octets d).description ≤ 128
+unfolding set_members is_set_value is_description set_of
 set_members-text layouts.UserDescription port octets d good small = described (ptp_text octets) good
 set_members-text layouts.DelayMechanism port octets d good small = rw (with_mechanism-text port d (mechanism_of (octet 0 octets))) small
 set_members-text _ port octets d good small = small
@@ -87,7 +87,7 @@ unfolding commanded
 commanded-text layouts.EnablePort port d = refl
 commanded-text _ port d = refl
 
-carried_out-text : (layout : Layout) (q : RequestValue) (action : Action) (d : DataSetsValue) → is_value action layout q.octets ≡ true → length d.description ≤ 128 → length (carried_out layout q action d).description ≤ 128
+carried_out-text : (layout : Layout) (q : RequestValue) (action : Action) (d : DataSetsValue) → is_value action (set_of layout) q.octets ≡ true → length d.description ≤ 128 → length (carried_out layout q action d).description ≤ 128
 carried_out-text layout q actions.Set d good small = set_members-text layout q.port q.octets d good small
 carried_out-text layout q actions.Command d good small = rw (commanded-text layout q.port d) small
 carried_out-text layout q _ d good small = small

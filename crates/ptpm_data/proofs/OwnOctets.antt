@@ -15,7 +15,7 @@ use Rattle.ptpm_data.specs.declared.data_sets.PortDataSet.{PortDataSet}
 use Rattle.ptpm_data.specs.declared.port_state.DelayMechanism.{DelayMechanism}
 use Rattle.ptpm_data.specs.declared.port_state.DelayMechanism.TheVariants as mechanisms
 use Rattle.ptpm_data.specs.declared.rights.Rights.{Rights}
-use Rattle.ptpm_data.specs.IdTable.{Entry, has_action, id_table, is_of_port, is_port_entry, row_of}
+use Rattle.ptpm_data.specs.IdTable.{Entry, has_action, id_table, is_of_port, is_port_entry, row_of, set_of}
 use Rattle.ptpm_data.specs.Members.{DataSetsValue, port_of}
 use Rattle.ptpm_data.specs.PortState.{mechanism_number, mechanism_of}
 use Rattle.ptpm_data.specs.Request.{RequestValue}
@@ -131,9 +131,9 @@ module _ (port n : ℕ) (octets : List ℕ) (d : DataSetsValue) (range : AreOcte
       let number : mechanism_number m ≡ octet 0 octets = rw same known.2 in
       rw at.1 (ap octet_data_field number)
 
-  shown_field : (layout : Layout) → has_one_number layout ≡ true → is_port_layout layout ≡ true → is_set_value layout octets ≡ true
+  shown_field : (layout : Layout) → has_one_number layout ≡ true → is_port_layout layout ≡ true → is_set_value (set_of layout) octets ≡ true
       → data_field_of layout n (set_members layout port octets d) ≡ octet_data_field (octet 0 octets)
-  unfolding data_field_of set_members port_field_of is_port_layout is_set_value
+  unfolding data_field_of set_members port_field_of is_port_layout is_set_value set_of
   shown_field layouts.LogAnnounceInterval one at good =
       rw (shown_port port n (λ p. record p { log_announce = first_i8 octets }) d s).1 (ap octet_data_field (back octets range))
   shown_field layouts.AnnounceReceiptTimeout one at good =
@@ -161,14 +161,14 @@ number_field layouts.UtcProperties one octets = cc
 number_field _ one octets = refl
 
 module _ (port n : ℕ) (octets : List ℕ) (d : DataSetsValue) (range : AreOctets octets) where
-  one_number : (layout : Layout) → has_one_number layout ≡ true → is_set_value layout octets ≡ true → (b : Bool) → is_port_layout layout ≡ b → (b ≡ true → IsShown port n (length d.ports))
+  one_number : (layout : Layout) → has_one_number layout ≡ true → is_set_value (set_of layout) octets ≡ true → (b : Bool) → is_port_layout layout ≡ b → (b ≡ true → IsShown port n (length d.ports))
       → data_field_of layout n (set_members layout port octets d) ≡ standard_field layout octets
   one_number layout one good true at s = shown_field port n octets d range (s refl) layout one at good ∙ number_field layout one octets
   one_number layout one good false at s = clock_field layout port n octets d one at ∙ number_field layout one octets
 
-  own_field : (layout : Layout) → is_settable layout ≡ true → is_set_length layout octets ≡ true → is_set_value layout octets ≡ true
+  own_field : (layout : Layout) → is_settable layout ≡ true → is_set_length (set_of layout) octets ≡ true → is_set_value (set_of layout) octets ≡ true
       → (is_port_layout layout ≡ true → IsShown port n (length d.ports)) → data_field_of layout n (set_members layout port octets d) ≡ standard_field layout octets
-  unfolding data_field_of set_members is_set_length
+  unfolding data_field_of set_members is_set_length set_of
   own_field layouts.NullPtpManagement may size good s = nothing_held d.default.identity n (port_of n d)
   own_field layouts.UserDescription may size good s = text_back octets size
   own_field layouts.UtcProperties may size good s = utc_back octets d.time (eqb-true _ _ size) range
@@ -212,8 +212,8 @@ module _ (q : RequestValue) (rights : Rights) (d : DataSetsValue) (a : IsAccepte
   field_after e is n shown =
       let none = accepted_by q rights e a is in
       let suits = suits_from e q rights none in
-      let P : Action → Type 0 = λ action. is_value action e.layout q.octets ≡ true in
-      let L : Action → Type 0 = λ action. is_length action e.layout q.octets ≡ true in
+      let P : Action → Type 0 = λ action. is_value action (set_of e.layout) q.octets ≡ true in
+      let L : Action → Type 0 = λ action. is_length action (set_of e.layout) q.octets ≡ true in
       rw (set_changes q rights d e a is, is)
       (own_field q.port n q.octets d range e.layout (settable q.id e is (permitted e q rights a.set none)) (subst L a.set suits.size) (subst P a.set suits.value) shown)
 

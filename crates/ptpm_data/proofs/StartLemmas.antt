@@ -7,6 +7,7 @@ use Rattle.ptpm_data.specs.declared.start.StartError.{StartError}
 use Rattle.ptpm_data.specs.declared.start.PortStart.{PortStart}
 use Rattle.ptpm_data.specs.declared.data_sets.PortDataSet.{PortDataSet}
 use Rattle.ptpm_data.specs.Start.{port_data_set, port_fault, ports_fault, port_start_of, unless, count_fault, clock_fault, grandmaster_fault, all_ones}
+use Rattle.ptpm_data.specs.IdTable.{set_of}
 use Rattle.ptpm_data.specs.Ranges.{is_description}
 use Rattle.ptpm_data.specs.Members.{is_grandmaster, is_same_precedence}
 use Rattle.ptpm_data.specs.declared.data_sets.ClockPrecedence.{ClockPrecedence}
@@ -87,7 +88,7 @@ description_sound c h =
     not-false _ text.0
 
 pub description_small : (text : List ℕ) → is_description text ≡ true → length text ≤ 128
-unfolding is_description
+unfolding is_description set_of
 description_small text h = let small = (and_parts (nat_le (length text) 128) _ h).0 in grind (arith, nat_tests)
 
 pub precedence_sound : (x y : ClockPrecedence) → is_same_precedence x y ≡ true → x ≡ y

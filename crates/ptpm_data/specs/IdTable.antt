@@ -1,22 +1,16 @@
 -- The management ids of this project's profile: their names, scopes and dataFields (IEEE 1588-2019, 15.5.2.3, table 59),
--- and the actions that the profile permits.
-use Rattle.std.specs.Prelude.{ℕ, ◌==◌, Bool, true, false, if◌then◌else◌, List, [], ◌∷◌, Option, Some, None, find, codes, bytes_eq, bit_and}
+-- and the actions and the SETs that the profile permits.
+use Rattle.std.specs.Prelude.{ℕ, ◌==◌, Bool, true, false, if◌then◌else◌, List, [], ◌∷◌, map, Option, Some, None, find, codes, bytes_eq, bit_and}
+use Prim.Native.String.{String}
 use Rattle.ptpm_codec.specs.declared.message.Action.{Action}
 use Rattle.ptpm_codec.specs.declared.message.Action.TheVariants as actions
 use Rattle.ptpm_data.specs.declared.ids.Scope.{Scope}
 use Rattle.ptpm_data.specs.declared.ids.Scope.TheVariants.{Clock, Port}
 use Rattle.ptpm_data.specs.declared.ids.Layout.{Layout}
-use Rattle.ptpm_data.specs.declared.ids.Layout.TheVariants as layouts
+use Rattle.ptpm_data.specs.declared.ids.Layout.TheVariants.{NullPtpManagement, UserDescription, DefaultDataSet, CurrentDataSet, ParentDataSet, TimePropertiesDataSet, PortDataSet, Priority1, Priority2, Domain, SlaveOnly, LogAnnounceInterval, AnnounceReceiptTimeout, LogSyncInterval, VersionNumber, EnablePort, DisablePort, ClockAccuracy, UtcProperties, DelayMechanism, LogMinPdelayReqInterval}
 use Rattle.ptpm_data.specs.declared.ids.Row.{Row}
 
--- an id, its name in ASCII, whether it is of the clock or of each port, the permitted actions, and what its dataField holds
-pub record Entry : Type 0 where
-  pub id : ℕ
-  pub name : List ℕ
-  pub scope : Scope
-  pub actions : ℕ
-  pub layout : Layout
-
+infix 30 from◌to◌ minus◌to◌ either◌to◌or◌
 -- ---- sets of actions: GET is 1, SET is 2, COMMAND is 4
 
 abbrev pub get : ℕ
@@ -39,35 +33,91 @@ has_action actions.Response set = false
 has_action actions.Command set = bit_and set 4 == 4
 has_action actions.Acknowledge set = false
 
+-- ---- what the dataField of a SET may be
+
+pub data SetField : Type 0 where
+  -- the id has no SET
+  NoSet : SetField
+  -- no octet
+  Empty : SetField
+  -- a PTPText (5.3.9) of at most so many octets, which are UTF-8
+  TextUpTo : (limit : ℕ) → SetField
+  -- an octet and a reserved one: of any value, of a range, or of a range or one value more
+  AnyOctet : SetField
+  from◌to◌ : (low : ℕ) → (high : ℕ) → SetField
+  either◌to◌or◌ : (low : ℕ) → (high : ℕ) → (other : ℕ) → SetField
+  -- the number of a delay mechanism (8.2.15.4.4) and a reserved octet
+  MechanismNumber : SetField
+  -- an Integer8, from minus the first number to the second, and a reserved octet
+  minus◌to◌ : (low : ℕ) → (high : ℕ) → SetField
+  -- UTC_PROPERTIES (15.5.3.6.2), of whose two leap flags one at most is set
+  NotBothLeaps : SetField
+
 -- ---- the table
+
+-- a managementId, its name in ASCII, whether it is of the clock or of each port, the permitted actions, and what a SET may be
+pub record Line : Type 0 where
+  pub id : ℕ
+  pub name : List ℕ
+  pub scope : Scope
+  pub actions : ℕ
+  pub set : SetField
+
+abbrev pub clock : ℕ → String → ℕ → SetField → Line
+clock id name actions set = record { id = id; name = codes name; scope = Clock; actions = actions; set = set }
+
+abbrev pub port : ℕ → String → ℕ → SetField → Line
+port id name actions set = record { id = id; name = codes name; scope = Port; actions = actions; set = set }
+
+-- the line of each id, by its layout
+abbrev pub line : Layout → Line
+line NullPtpManagement = port 0x0000 "NULL_PTP_MANAGEMENT" get_set_command Empty
+line UserDescription = clock 0x0002 "USER_DESCRIPTION" get_set (TextUpTo 128)
+line DefaultDataSet = clock 0x2000 "DEFAULT_DATA_SET" get NoSet
+line CurrentDataSet = clock 0x2001 "CURRENT_DATA_SET" get NoSet
+line ParentDataSet = clock 0x2002 "PARENT_DATA_SET" get NoSet
+line TimePropertiesDataSet = clock 0x2003 "TIME_PROPERTIES_DATA_SET" get NoSet
+line PortDataSet = port 0x2004 "PORT_DATA_SET" get NoSet
+line Priority1 = clock 0x2005 "PRIORITY1" get_set AnyOctet
+line Priority2 = clock 0x2006 "PRIORITY2" get_set AnyOctet
+line Domain = clock 0x2007 "DOMAIN" get_set AnyOctet
+line SlaveOnly = clock 0x2008 "SLAVE_ONLY" get NoSet
+line LogAnnounceInterval = port 0x2009 "LOG_ANNOUNCE_INTERVAL" get_set (minus 4 to 4)
+line AnnounceReceiptTimeout = port 0x200a "ANNOUNCE_RECEIPT_TIMEOUT" get_set (from 2 to 10)
+line LogSyncInterval = port 0x200b "LOG_SYNC_INTERVAL" get_set (minus 8 to 1)
+line VersionNumber = port 0x200c "VERSION_NUMBER" get NoSet
+line EnablePort = port 0x200d "ENABLE_PORT" command NoSet
+line DisablePort = port 0x200e "DISABLE_PORT" command NoSet
+line ClockAccuracy = clock 0x2010 "CLOCK_ACCURACY" get_set (either 0x17 to 0x31 or 0xfe)
+line UtcProperties = clock 0x2011 "UTC_PROPERTIES" get_set NotBothLeaps
+line DelayMechanism = port 0x6000 "DELAY_MECHANISM" get_set MechanismNumber
+line LogMinPdelayReqInterval = port 0x6001 "LOG_MIN_PDELAY_REQ_INTERVAL" get_set (minus 8 to 5)
+
+-- what the dataField of a SET may be, where an id's dataField has this layout
+unfoldable pub set_of : Layout → SetField
+set_of layout = (line layout).set
+
+-- an id as the program has it: its layout says what its dataField holds
+pub record Entry : Type 0 where
+  pub id : ℕ
+  pub name : List ℕ
+  pub scope : Scope
+  pub actions : ℕ
+  pub layout : Layout
 
 abbrev pub entry : ℕ → List ℕ → Scope → ℕ → Layout → Entry
 entry id name scope actions layout = record { id = id; name = name; scope = scope; actions = actions; layout = layout }
 
+abbrev pub entry_at : Layout → Entry
+entry_at layout = let l = line layout in entry l.id l.name l.scope l.actions layout
+
 abbrev pub id_table : List Entry
 id_table =
-    entry 0x0000 (codes "NULL_PTP_MANAGEMENT") Port get_set_command layouts.NullPtpManagement
-    ∷ entry 0x0002 (codes "USER_DESCRIPTION") Clock get_set layouts.UserDescription
-    ∷ entry 0x2000 (codes "DEFAULT_DATA_SET") Clock get layouts.DefaultDataSet
-    ∷ entry 0x2001 (codes "CURRENT_DATA_SET") Clock get layouts.CurrentDataSet
-    ∷ entry 0x2002 (codes "PARENT_DATA_SET") Clock get layouts.ParentDataSet
-    ∷ entry 0x2003 (codes "TIME_PROPERTIES_DATA_SET") Clock get layouts.TimePropertiesDataSet
-    ∷ entry 0x2004 (codes "PORT_DATA_SET") Port get layouts.PortDataSet
-    ∷ entry 0x2005 (codes "PRIORITY1") Clock get_set layouts.Priority1
-    ∷ entry 0x2006 (codes "PRIORITY2") Clock get_set layouts.Priority2
-    ∷ entry 0x2007 (codes "DOMAIN") Clock get_set layouts.Domain
-    ∷ entry 0x2008 (codes "SLAVE_ONLY") Clock get layouts.SlaveOnly
-    ∷ entry 0x2009 (codes "LOG_ANNOUNCE_INTERVAL") Port get_set layouts.LogAnnounceInterval
-    ∷ entry 0x200a (codes "ANNOUNCE_RECEIPT_TIMEOUT") Port get_set layouts.AnnounceReceiptTimeout
-    ∷ entry 0x200b (codes "LOG_SYNC_INTERVAL") Port get_set layouts.LogSyncInterval
-    ∷ entry 0x200c (codes "VERSION_NUMBER") Port get layouts.VersionNumber
-    ∷ entry 0x200d (codes "ENABLE_PORT") Port command layouts.EnablePort
-    ∷ entry 0x200e (codes "DISABLE_PORT") Port command layouts.DisablePort
-    ∷ entry 0x2010 (codes "CLOCK_ACCURACY") Clock get_set layouts.ClockAccuracy
-    ∷ entry 0x2011 (codes "UTC_PROPERTIES") Clock get_set layouts.UtcProperties
-    ∷ entry 0x6000 (codes "DELAY_MECHANISM") Port get_set layouts.DelayMechanism
-    ∷ entry 0x6001 (codes "LOG_MIN_PDELAY_REQ_INTERVAL") Port get_set layouts.LogMinPdelayReqInterval
-    ∷ []
+    map entry_at (
+    NullPtpManagement ∷ UserDescription ∷ DefaultDataSet ∷ CurrentDataSet ∷ ParentDataSet
+    ∷ TimePropertiesDataSet ∷ PortDataSet ∷ Priority1 ∷ Priority2 ∷ Domain ∷ SlaveOnly ∷ LogAnnounceInterval
+    ∷ AnnounceReceiptTimeout ∷ LogSyncInterval ∷ VersionNumber ∷ EnablePort ∷ DisablePort ∷ ClockAccuracy
+    ∷ UtcProperties ∷ DelayMechanism ∷ LogMinPdelayReqInterval ∷ [])
 
 -- ---- look-ups
 

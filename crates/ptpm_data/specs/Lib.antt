@@ -1,6 +1,6 @@
 pub mod IdTable
-pub mod Ranges
 pub mod PortState
+pub mod Ranges
 pub mod Request
 pub mod Reply
 pub mod MemberNames

@@ -1,33 +1,47 @@
--- The ranges of members, which a start and a SET keep to (this project's profile).
-use Rattle.std.specs.Prelude.{ℕ, ℤ, pos, negsuc, Bool, ◌&&◌, ◌||◌, ◌==◌, nat_le, int_le, List, length}
+-- The ranges of members, which a start and a SET keep to: those of the table.
+use Rattle.std.specs.Prelude.{ℕ, ℤ, pos, neg_ℤ, Bool, false, true, ◌&&◌, ◌||◌, ◌==◌, nat_le, int_le, List, length, is_some}
 use Rattle.std.specs.Str.{is_utf8}
+use Rattle.ptpm_data.specs.declared.ids.Layout.TheVariants as layouts
+use Rattle.ptpm_data.specs.IdTable.{SetField, TextUpTo, AnyOctet, from◌to◌, either◌to◌or◌, minus◌to◌, MechanismNumber, set_of}
+use Rattle.ptpm_data.specs.PortState.{mechanism_of}
 
 abbrev pub is_within : ℕ → ℕ → ℕ → Bool
 is_within low high n = nat_le low n && nat_le n high
 
-abbrev pub is_int_within : ℤ → ℤ → ℤ → Bool
-is_int_within low high n = int_le low n && int_le n high
+-- ---- what a dataField may say: a text, an octet, an Integer8
+
+abbrev pub allows_text : SetField → List ℕ → Bool
+allows_text (TextUpTo limit) text = nat_le (length text) limit && is_utf8 text
+allows_text _ text = false
+
+abbrev pub allows_octet : SetField → ℕ → Bool
+allows_octet AnyOctet n = true
+allows_octet (from low to high) n = is_within low high n
+allows_octet (either low to high or other) n = is_within low high n || (n == other)
+allows_octet MechanismNumber n = is_some (mechanism_of n)
+allows_octet _ n = false
+
+abbrev pub allows_integer : SetField → ℤ → Bool
+allows_integer (minus low to high) n = int_le (neg_ℤ (pos low)) n && int_le n (pos high)
+allows_integer _ n = false
+
+-- ---- the ranges
 
 -- userDescription
 unfoldable pub is_description : List ℕ → Bool
-is_description text = nat_le (length text) 128 && is_utf8 text
+is_description text = allows_text (set_of layouts.UserDescription) text
 
--- clockAccuracy: 1 ps to over 10 s, or unknown
 abbrev pub is_clock_accuracy : ℕ → Bool
-is_clock_accuracy n = is_within 0x17 0x31 n || (n == 0xfe)
+is_clock_accuracy n = allows_octet (set_of layouts.ClockAccuracy) n
 
--- logAnnounceInterval: -4 to 4
 abbrev pub is_announce_interval : ℤ → Bool
-is_announce_interval n = is_int_within (negsuc 3) (pos 4) n
+is_announce_interval n = allows_integer (set_of layouts.LogAnnounceInterval) n
 
--- announceReceiptTimeout
 abbrev pub is_receipt_timeout : ℕ → Bool
-is_receipt_timeout n = is_within 2 10 n
+is_receipt_timeout n = allows_octet (set_of layouts.AnnounceReceiptTimeout) n
 
--- logSyncInterval: -8 to 1
 abbrev pub is_sync_interval : ℤ → Bool
-is_sync_interval n = is_int_within (negsuc 7) (pos 1) n
+is_sync_interval n = allows_integer (set_of layouts.LogSyncInterval) n
 
--- logMinPdelayReqInterval: -8 to 5
 abbrev pub is_pdelay_interval : ℤ → Bool
-is_pdelay_interval n = is_int_within (negsuc 7) (pos 5) n
+is_pdelay_interval n = allows_integer (set_of layouts.LogMinPdelayReqInterval) n

@@ -1,6 +1,6 @@
 -- Why a request is refused (IEEE 1588-2019, 15.5.4.3). Which actions an id permits, the rights, the ranges, and the order and
 -- choice of the errors are this project's profile.
-use Rattle.std.specs.Prelude.{ℕ, Bool, true, not, ◌&&◌, ◌==◌, bit_and, List, [], ◌∷◌, length, Option, Some, None, is_some}
+use Rattle.std.specs.Prelude.{ℕ, Bool, true, false, not, ◌&&◌, ◌==◌, bit_and, List, [], ◌∷◌, length, Option, Some, None}
 use Rattle.ptpm_codec.specs.declared.message.Action.{Action}
 use Rattle.ptpm_codec.specs.declared.message.Action.TheVariants as actions
 use Rattle.ptpm_codec.specs.declared.error.ErrorId.{ErrorId}
@@ -11,42 +11,39 @@ use Rattle.ptpm_data.specs.declared.ids.Scope.{Scope}
 use Rattle.ptpm_data.specs.declared.ids.Scope.TheVariants.{Clock, Port}
 use Rattle.ptpm_data.specs.declared.ids.Layout.{Layout}
 use Rattle.ptpm_data.specs.declared.ids.Layout.TheVariants as layouts
-use Rattle.ptpm_data.specs.IdTable.{Entry, row_of, has_action}
-use Rattle.ptpm_data.specs.PortState.{mechanism_of}
-use Rattle.ptpm_data.specs.Ranges.{is_description, is_clock_accuracy, is_announce_interval, is_receipt_timeout, is_sync_interval, is_pdelay_interval}
+use Rattle.ptpm_data.specs.IdTable.{Entry, SetField, NoSet, Empty, TextUpTo, minus◌to◌, NotBothLeaps, row_of, has_action, set_of}
+use Rattle.ptpm_data.specs.Ranges.{allows_text, allows_octet, allows_integer}
 use Rattle.ptpm_data.specs.Request.{RequestValue}
 use Rattle.ptpm_data.specs.SetField.{octet, first_i8, has_bit, ptp_text, is_ptp_text}
 
 -- ---- lengths and ranges
 
 -- the size of the dataField of a SET
-unfoldable pub is_set_length : Layout → List ℕ → Bool
-is_set_length layouts.NullPtpManagement octets = length octets == 0
-is_set_length layouts.UserDescription octets = is_ptp_text octets
-is_set_length layouts.UtcProperties octets = length octets == 4
+unfoldable pub is_set_length : SetField → List ℕ → Bool
+is_set_length NoSet octets = false
+is_set_length Empty octets = length octets == 0
+is_set_length (TextUpTo limit) octets = is_ptp_text octets
+is_set_length NotBothLeaps octets = length octets == 4
 is_set_length _ octets = length octets == 2
 
 -- a GET's dataField is ignored, and a COMMAND has none
-abbrev pub is_length : Action → Layout → List ℕ → Bool
-is_length actions.Set layout octets = is_set_length layout octets
-is_length actions.Command layout octets = length octets == 0
-is_length _ layout octets = true
+abbrev pub is_length : Action → SetField → List ℕ → Bool
+is_length actions.Set set octets = is_set_length set octets
+is_length actions.Command set octets = length octets == 0
+is_length _ set octets = true
 
 -- the values that a SET may give
-unfoldable pub is_set_value : Layout → List ℕ → Bool
-is_set_value layouts.UserDescription octets = is_description (ptp_text octets)
-is_set_value layouts.LogAnnounceInterval octets = is_announce_interval (first_i8 octets)
-is_set_value layouts.AnnounceReceiptTimeout octets = is_receipt_timeout (octet 0 octets)
-is_set_value layouts.LogSyncInterval octets = is_sync_interval (first_i8 octets)
-is_set_value layouts.ClockAccuracy octets = is_clock_accuracy (octet 0 octets)
-is_set_value layouts.UtcProperties octets = not (has_bit 0 (octet 2 octets) && has_bit 1 (octet 2 octets))
-is_set_value layouts.DelayMechanism octets = is_some (mechanism_of (octet 0 octets))
-is_set_value layouts.LogMinPdelayReqInterval octets = is_pdelay_interval (first_i8 octets)
-is_set_value _ octets = true
+unfoldable pub is_set_value : SetField → List ℕ → Bool
+is_set_value NoSet octets = false
+is_set_value Empty octets = true
+is_set_value (TextUpTo limit) octets = allows_text (TextUpTo limit) (ptp_text octets)
+is_set_value (minus low to high) octets = allows_integer (minus low to high) (first_i8 octets)
+is_set_value NotBothLeaps octets = not (has_bit 0 (octet 2 octets) && has_bit 1 (octet 2 octets))
+is_set_value set octets = allows_octet set (octet 0 octets)
 
-abbrev pub is_value : Action → Layout → List ℕ → Bool
-is_value actions.Set layout octets = is_set_value layout octets
-is_value _ layout octets = true
+abbrev pub is_value : Action → SetField → List ℕ → Bool
+is_value actions.Set set octets = is_set_value set octets
+is_value _ set octets = true
 
 -- ---- rights: CLOCK_SET is 1, PORT_SET is 2, PORT_COMMAND is 4
 
@@ -80,8 +77,8 @@ abbrev pub refusals : Entry → RequestValue → Rights → List (Bool × ErrorI
 refusals e q rights =
     (not (has_action q.action e.actions), unpermitted q.action)
     ∷ (not (has_right (needed_right q.action e.scope e.layout) rights), NotSupported)
-    ∷ (not (is_length q.action e.layout q.octets), WrongLength)
-    ∷ (not (is_value q.action e.layout q.octets), WrongValue)
+    ∷ (not (is_length q.action (set_of e.layout) q.octets), WrongLength)
+    ∷ (not (is_value q.action (set_of e.layout) q.octets), WrongValue)
     ∷ []
 
 unfoldable pub entry_refusal : Entry → RequestValue → Rights → Option ErrorId

@@ -20,7 +20,7 @@ use ptpm_codec::{Action, ErrorId, PortIdentity};
 
 impl DataSets {
     ghost use Rattle.std.specs.Prelude.{◌≤◌};
-    ghost use Rattle.ptpm_data.specs.IdTable.{entry_of};
+    ghost use Rattle.ptpm_data.specs.IdTable.{entry_of, set_of};
     ghost use Rattle.ptpm_data.specs.Changes.{carried_out, commanded, IsTargetPort, set_members, set_port_member, unless_refused, with_precedence, with_ports};
     ghost use Rattle.ptpm_data.specs.Refusals.{entry_refusal, is_length, is_set_length, is_set_value, is_value};
 
@@ -46,8 +46,8 @@ impl DataSets {
     }
 
     fn apply(&mut self, layout: Layout, request: &Request<'_>)
-        requires length { is_length request.now.action layout request.now.octets ≡ true }
-        requires value { is_value request.now.action layout request.now.octets ≡ true }
+        requires length { is_length request.now.action (set_of layout) request.now.octets ≡ true }
+        requires value { is_value request.now.action (set_of layout) request.now.octets ≡ true }
         requires port { IsTargetPort request.now.port self.old }
         ensures { self.new ≡ carried_out layout request.now request.now.action self.old }
     {
@@ -58,10 +58,10 @@ impl DataSets {
         }
     }
 
-    #[tactic(auto, unfolding(crate::specs::Changes::set_members, crate::specs::Refusals::is_set_length, crate::specs::Refusals::is_set_value))]
+    #[tactic(auto, unfolding(crate::specs::Changes::set_members, crate::specs::Refusals::is_set_length, crate::specs::Refusals::is_set_value, crate::specs::Ranges::is_description, crate::specs::IdTable::set_of))]
     fn set_members(&mut self, layout: Layout, port: u16, octets: &[u8])
-        requires length { is_set_length layout octets.now ≡ true }
-        requires value { is_set_value layout octets.now ≡ true }
+        requires length { is_set_length (set_of layout) octets.now ≡ true }
+        requires value { is_set_value (set_of layout) octets.now ≡ true }
         requires port { IsTargetPort port self.old }
         ensures { self.new ≡ set_members layout port octets.now self.old }
     {
@@ -78,9 +78,9 @@ impl DataSets {
         }
     }
 
-    #[tactic(auto, unfolding(crate::specs::Refusals::is_set_length))]
+    #[tactic(auto, unfolding(crate::specs::Refusals::is_set_length, crate::specs::IdTable::set_of))]
     fn set_port_member(&mut self, layout: Layout, port: u16, octets: &[u8])
-        requires length { is_set_length layout octets.now ≡ true }
+        requires length { is_set_length (set_of layout) octets.now ≡ true }
         requires port { IsTargetPort port self.old }
         ensures { self.new ≡ set_port_member layout port octets.now self.old }
     {
@@ -146,7 +146,7 @@ impl DataSets {
     }
 }
 
-#[tactic(auto, unfolding(crate::specs::Ranges::is_description))]
+#[tactic(auto, unfolding(crate::specs::Ranges::is_description, crate::specs::IdTable::set_of))]
 fn put_description(description: &mut ArrayVec<u8, 128>, text: &[u8])
     requires { is_description text.now ≡ true }
     ensures { description.new.items ≡ text.now }

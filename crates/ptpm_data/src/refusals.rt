@@ -1,7 +1,7 @@
 //! Why a request is refused (15.5.4.3); the order and choice of the errors are this project's profile.
 
 ghost use Rattle.std.specs.Prelude.{◌≡◌, length, true};
-ghost use Rattle.ptpm_data.specs.IdTable.{entry_of, has_action};
+ghost use Rattle.ptpm_data.specs.IdTable.{entry_of, has_action, set_of};
 ghost use Rattle.ptpm_data.specs.Refusals.{entry_refusal, is_length, is_set_length, is_set_value, is_value, needed_right, unpermitted};
 
 use crate::actions::Actions;
@@ -69,7 +69,7 @@ fn needed_right(action: Action, scope: Scope, layout: Layout) -> Rights
 }
 
 fn is_length(action: Action, layout: Layout, octets: &[u8]) -> bool
-    ensures { result ≡ is_length action layout octets.now }
+    ensures { result ≡ is_length action (set_of layout) octets.now }
 {
     match action {
         Action::Set => is_set_length(layout, octets),
@@ -78,32 +78,43 @@ fn is_length(action: Action, layout: Layout, octets: &[u8]) -> bool
     }
 }
 
-#[tactic(auto, unfolding(crate::specs::Refusals::is_set_length))]
+/// No length is right where the id has no SET.
+#[tactic(auto, unfolding(crate::specs::Refusals::is_set_length, crate::specs::IdTable::set_of))]
 fn is_set_length(layout: Layout, octets: &[u8]) -> bool
-    ensures { result ≡ is_set_length layout octets.now }
+    ensures { result ≡ is_set_length (set_of layout) octets.now }
 {
     match layout {
         Layout::NullPtpManagement => octets.is_empty(),
         Layout::UserDescription => is_ptp_text(octets),
         Layout::UtcProperties => octets.len() == 4,
+        Layout::DefaultDataSet
+        | Layout::CurrentDataSet
+        | Layout::ParentDataSet
+        | Layout::TimePropertiesDataSet
+        | Layout::PortDataSet
+        | Layout::SlaveOnly
+        | Layout::VersionNumber
+        | Layout::EnablePort
+        | Layout::DisablePort => false,
         _ => octets.len() == 2,
     }
 }
 
 #[inline(always)]
 fn is_value(action: Action, layout: Layout, octets: &[u8]) -> bool
-    requires { is_length action layout octets.now ≡ true }
-    ensures { result ≡ is_value action layout octets.now }
+    requires { is_length action (set_of layout) octets.now ≡ true }
+    ensures { result ≡ is_value action (set_of layout) octets.now }
 {
     action != Action::Set || is_set_value(layout, octets)
 }
 
-#[tactic(auto, unfolding(crate::specs::Refusals::is_set_value, crate::specs::Refusals::is_set_length))]
+#[tactic(auto, unfolding(crate::specs::Refusals::is_set_value, crate::specs::Refusals::is_set_length, crate::specs::Ranges::is_description, crate::specs::IdTable::set_of))]
 fn is_set_value(layout: Layout, octets: &[u8]) -> bool
-    requires { is_set_length layout octets.now ≡ true }
-    ensures { result ≡ is_set_value layout octets.now }
+    requires { is_set_length (set_of layout) octets.now ≡ true }
+    ensures { result ≡ is_set_value (set_of layout) octets.now }
 {
     match layout {
+        Layout::NullPtpManagement | Layout::Priority1 | Layout::Priority2 | Layout::Domain => true,
         Layout::UserDescription => ranges::is_description(ptp_text(octets)),
         Layout::LogAnnounceInterval => ranges::is_announce_interval(first_i8(octets)),
         Layout::AnnounceReceiptTimeout => ranges::is_receipt_timeout(octets[0]),
@@ -112,6 +123,6 @@ fn is_set_value(layout: Layout, octets: &[u8]) -> bool
         Layout::UtcProperties => !(octets[2] & 1 == 1 && octets[2] & 2 == 2),
         Layout::DelayMechanism => DelayMechanism::from_number(octets[0]).is_some(),
         Layout::LogMinPdelayReqInterval => ranges::is_pdelay_interval(first_i8(octets)),
-        _ => true,
+        _ => false,
     }
 }

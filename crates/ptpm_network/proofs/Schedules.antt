@@ -12,7 +12,7 @@ use Rattle.ptpm_codec.specs.Reading.{body_at, message_of}
 use Rattle.ptpm_codec.specs.Refusal.{frame_refusal, tlv_refusal, text_refusal}
 use Rattle.ptpm_data.specs.Start.{default_clock, default_port, started}
 use Rattle.ptpm_data.specs.declared.rights.Rights.{Rights}
-use Rattle.ptpm_data.specs.IdTable.{row_of}
+use Rattle.ptpm_data.specs.IdTable.{row_of, set_of}
 use Rattle.ptpm_data.specs.DataField.{data_field_of}
 use Rattle.ptpm_data.specs.Refusals.{entry_refusal, is_set_length, is_set_value}
 use Rattle.ptpm_data.specs.Replies.{answer, reply_of, reply_to, read_reply_to}
@@ -198,15 +198,15 @@ other_domain = run one_clock (initial_state one_clock) (
 
 retune-reports : (other_domain.session 0).reports
     ≡ record { index = 1; outcome = outcomes.Value (0x05 ∷ 0x00 ∷ []) } ∷ record { index = 2; outcome = outcomes.Value (0x80 ∷ 0x00 ∷ []) } ∷ []
-unfolding refusal happens begin_refusal send_refusal ask_refusal target_port row_of port_identity_octets tlv_octets message_of frame_refusal tlv_refusal text_refusal body_at number_at port_identity_at changed_by entry_refusal is_set_length is_set_value set_members forwarded answer data_field_of reply_of reply_to read_reply_to rendered
+unfolding refusal happens begin_refusal send_refusal ask_refusal target_port row_of port_identity_octets tlv_octets message_of frame_refusal tlv_refusal text_refusal body_at number_at port_identity_at changed_by entry_refusal is_set_length is_set_value set_of set_members forwarded answer data_field_of reply_of reply_to read_reply_to rendered
 retune-reports = refl
 
 retune-domain : (history one_clock other_domain 0).sets.default.domain ≡ 5
-unfolding refusal happens begin_refusal send_refusal ask_refusal target_port row_of port_identity_octets tlv_octets message_of frame_refusal tlv_refusal text_refusal body_at number_at port_identity_at changed_by entry_refusal is_set_length is_set_value set_members forwarded answer data_field_of reply_of reply_to read_reply_to rendered
+unfolding refusal happens begin_refusal send_refusal ask_refusal target_port row_of port_identity_octets tlv_octets message_of frame_refusal tlv_refusal text_refusal body_at number_at port_identity_at changed_by entry_refusal is_set_length is_set_value set_of set_members forwarded answer data_field_of reply_of reply_to read_reply_to rendered
 retune-domain = refl
 
 retune-frames : map (λ f. octet 4 f.octets) other_domain.frames ≡ 0 ∷ 0 ∷ 0 ∷ 0 ∷ 0 ∷ 5 ∷ 5 ∷ []
-unfolding refusal happens begin_refusal send_refusal ask_refusal target_port row_of port_identity_octets tlv_octets message_of frame_refusal tlv_refusal text_refusal body_at number_at port_identity_at changed_by entry_refusal is_set_length is_set_value set_members forwarded answer data_field_of reply_of reply_to read_reply_to rendered
+unfolding refusal happens begin_refusal send_refusal ask_refusal target_port row_of port_identity_octets tlv_octets message_of frame_refusal tlv_refusal text_refusal body_at number_at port_identity_at changed_by entry_refusal is_set_length is_set_value set_of set_members forwarded answer data_field_of reply_of reply_to read_reply_to rendered
 retune-frames = refl
 
 -- ---- a ring of three clocks
