@@ -1,8 +1,7 @@
-/* clock [-6] [-u PATH] [-m MANAGER]... [-d DOMAIN] [-n SECONDS] [-L PERCENT] [-R PERCENT] [-v] IDENTITY INTERFACE...
+/* clock [-6] [-u PATH] [-m MANAGER]... [-d DOMAIN] [-n SECONDS] [-v] IDENTITY INTERFACE...
    A clock whose management messages come in at UDP port 320 of each interface, its ports 1, 2 and on (IEEE 1588-2019,
    annexes C and D), and at a Unix socket as ptp4l has it for pmc, which counts as port 1. All that decides is the
-   library's; this file only moves octets, and is not proved. For trials -L loses so many datagrams of a hundred on their
-   way in and out, and -R repeats so many. At its end it prints how often each answer was given. */
+   library's; this file only moves octets, and is not proved. At its end it prints how often each answer was given. */
 #define _GNU_SOURCE
 #include "ptpm.h"
 #include <arpa/inet.h>
@@ -25,14 +24,13 @@ static unsigned long answers[ANSWERS];
 static volatile sig_atomic_t stopped;
 static int port_sockets[PORTS], unix_socket = -1, is_six, is_told;
 static size_t port_count;
-static long lose, repeat;
 
 static void stop(int number) { (void)number; stopped = 1; }
 
 static void give_up(const char *what) { perror(what); exit(1); }
 
 static void usage(void) {
-    fputs("clock [-6] [-u PATH] [-m MANAGER]... [-d DOMAIN] [-n SECONDS] [-L PERCENT] [-R PERCENT] [-v] IDENTITY INTERFACE...\n", stderr);
+    fputs("clock [-6] [-u PATH] [-m MANAGER]... [-d DOMAIN] [-n SECONDS] [-v] IDENTITY INTERFACE...\n", stderr);
     exit(2);
 }
 
@@ -126,22 +124,14 @@ static void listen_unix(const char *path) {
     if (unix_socket < 0 || bind(unix_socket, (struct sockaddr *)&me, sizeof me)) give_up(path);
 }
 
-/* How many copies of a datagram arrive: one, but for trials. */
-static int copies(void) {
-    if (lose > 0 && rand() % 100 < lose) return 0;
-    return repeat > 0 && rand() % 100 < repeat ? 2 : 1;
-}
-
 /* A reply to what came in at the Unix socket goes back there, everything else to the group. */
 static void send_out(const struct ptpm_sent *message, const struct sockaddr_un *peer, socklen_t peer_size, uint16_t ingress) {
     struct sockaddr_storage to;
-    for (int left = copies(); left > 0; left--) {
-        if (peer != NULL && message->port == ingress) {
-            sendto(unix_socket, message->octets, message->size, 0, (const struct sockaddr *)peer, peer_size);
-        } else if (message->port >= 1 && message->port <= port_count) {
-            socklen_t size = group(&to, 0);
-            sendto(port_sockets[message->port - 1], message->octets, message->size, 0, (struct sockaddr *)&to, size);
-        }
+    if (peer != NULL && message->port == ingress) {
+        sendto(unix_socket, message->octets, message->size, 0, (const struct sockaddr *)peer, peer_size);
+    } else if (message->port >= 1 && message->port <= port_count) {
+        socklen_t size = group(&to, 0);
+        sendto(port_sockets[message->port - 1], message->octets, message->size, 0, (struct sockaddr *)&to, size);
     }
 }
 
@@ -152,13 +142,11 @@ static void come_in(int at, uint16_t port) {
     int is_unix = at == unix_socket;
     ssize_t size = recvfrom(at, octets, sizeof octets, 0, is_unix ? (struct sockaddr *)&from : NULL, is_unix ? &from_size : NULL);
     if (size < 0) return;
-    for (int left = copies(); left > 0; left--) {
-        size_t count;
-        uint32_t answer = ptpm_clock_handle(&clock_held, port, octets, (size_t)size, sent, PTPM_MOST_SENT, &count);
-        if (answer < ANSWERS) answers[answer]++;
-        if (is_told) printf("port %u, %zd octets: %u, %zu sent\n", port, size, answer, count);
-        for (size_t i = 0; i < count; i++) send_out(&sent[i], is_unix ? &from : NULL, from_size, port);
-    }
+    size_t count;
+    uint32_t answer = ptpm_clock_handle(&clock_held, port, octets, (size_t)size, sent, PTPM_MOST_SENT, &count);
+    if (answer < ANSWERS) answers[answer]++;
+    if (is_told) printf("port %u, %zd octets: %u, %zu sent\n", port, size, answer, count);
+    for (size_t i = 0; i < count; i++) send_out(&sent[i], is_unix ? &from : NULL, from_size, port);
 }
 
 static void run(time_t end) {
@@ -182,15 +170,13 @@ int main(int argc, char **argv) {
     const char *path = NULL;
     time_t end = 0;
     ptpm_clock_defaults(&settings);
-    for (int option; (option = getopt(argc, argv, "6u:m:d:n:L:R:v")) != -1;) {
+    for (int option; (option = getopt(argc, argv, "6u:m:d:n:v")) != -1;) {
         if (option == '6') is_six = 1;
         else if (option == 'v') is_told = 1;
         else if (option == 'u') path = optarg;
         else if (option == 'm' && manager_count <= MANAGERS) managers[manager_count++] = read_manager(optarg);
         else if (option == 'd') settings.domain = (uint8_t)read_number(optarg, 255);
         else if (option == 'n') end = time(NULL) + read_number(optarg, 1000000);
-        else if (option == 'L') lose = read_number(optarg, 100);
-        else if (option == 'R') repeat = read_number(optarg, 100);
         else usage();
     }
     if (optind >= argc || *read_identity(argv[optind], settings.identity) != '\0') usage();

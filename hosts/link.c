@@ -1,8 +1,8 @@
 /* link [-l PERCENT] [-r PERCENT] [-o PERCENT] [-s SEED] NAMESPACE/DEVICE NAMESPACE/DEVICE
    For trials, a link between two network namespaces: a TAP device in each, and what is sent at the one comes in at the
-   other. Each way -l loses so many frames of a hundred; of those that pass -r lets so many come in twice, and -o holds one
-   copy of so many back until the next frame has passed. What becomes of the n-th frame of a way is told by SEED and n alone.
-   At its end, with which the devices are gone, it prints how many frames there were, and what became of them. */
+   other. Each way -l loses so many frames of a hundred; of those that pass -r lets so many come in twice, and -o holds a
+   copy of so many back, one at a time, until the next frame has passed. With these, SEED tells what becomes of the n-th
+   frame of a way. At its end, with which the devices are gone, it prints how many came in, and what became of them. */
 #define _GNU_SOURCE
 #include <errno.h>
 #include <fcntl.h>
