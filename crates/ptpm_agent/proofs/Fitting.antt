@@ -1,12 +1,11 @@
 -- That a request may be judged, and its reply kept and sent.
-use Rattle.std.proofs.Common.{arith, ◌≡◌, ℕ, ◌≤◌, length, [], Option, Some, None, Bool, true, false, refl, sym, ◌∙◌, ap, subst}
+use Rattle.std.proofs.Common.{arith, ◌≡◌, ℕ, ◌≤◌, length, map, [], Option, Some, None, Bool, true, false, refl, sym, ◌∙◌, ap, subst}
 use Rattle.std.proofs.lemmas.Bool.{not-true}
 use Rattle.std.proofs.lemmas.Bool.Decides.{nat_tests}
 use Rattle.std.proofs.lemmas.Bool.{false≢true}
 use Rattle.std.proofs.lemmas.List.Elements.{All-cons, All-map}
 use Rattle.std.specs.List.{All}
 use Rattle.ptpm_codec.specs.declared.error.ErrorId.{ErrorId}
-use Rattle.ptpm_codec.specs.declared.message.Action.{Action}
 use Rattle.ptpm_codec.specs.declared.message.Body.{Body}
 use Rattle.ptpm_codec.specs.declared.message.Body.TheVariants as bodies
 use Rattle.ptpm_codec.specs.declared.message.Message.{Message}
@@ -17,13 +16,13 @@ use Rattle.ptpm_data.specs.IdTable.{is_of_port}
 use Rattle.ptpm_data.specs.Members.{DataSetsValue}
 use Rattle.ptpm_data.specs.Refusals.{refusal_of}
 use Rattle.ptpm_data.specs.RequestLaws.{IsOutcomeOf, IsSized, field_limit, is_get_or_set}
-use Rattle.ptpm_data.specs.Replies.{answer, answers_of, named_ports, port_answers, read_reply_to, reply_of, reply_to}
+use Rattle.ptpm_data.specs.Replies.{answer, named_ports, read_reply_to, reply_of, reply_to}
 use Rattle.ptpm_data.specs.Reply as reply
 use Rattle.ptpm_data.specs.Reply.{Answer, Outcome, ReplyValue}
 use Rattle.ptpm_data.specs.Request.{RequestValue}
 use Rattle.ptpm_table.specs.Entries.{FitsAnswer, FitsCount, FitsOutcome, FitsRequest}
 use Rattle.ptpm_data.proofs.Keeping.{changed_by-ports, changed_by-sized}
-use Rattle.ptpm_data.proofs.ReplyLemmas.{reply_of-count, reply_of-outcomes}
+use Rattle.ptpm_data.proofs.ReplyLemmas.{answers_of, reply_of-count, reply_of-outcomes}
 use Rattle.ptpm_agent.specs.Addressing.{is_request, names_port, request_of}
 
 pub IsRequestAction-request : (v : Message) → is_request v ≡ true → IsRequestAction (request_of v).action
@@ -56,34 +55,41 @@ abbrev SaysPort : Bool → Answer → Type 0
 SaysPort false a = a.port ≡ None
 SaysPort true a = (port : ℕ) × (a.port ≡ Some port)
 
-answer-port : (refusal : Option ErrorId) (action : Action) (id : ℕ) (d : DataSetsValue) (port : ℕ) → SaysPort true (answer refusal action id d (Some port))
+answer-port : (q : RequestValue) (refusal : Option ErrorId) (d : DataSetsValue) (port : ℕ)
+    → SaysPort true (answer q refusal d (Some port))
 unfolding answer
-answer-port refusal action id d port = (port, refl)
+answer-port q refusal d port = (port, refl)
 
-answer-clock : (refusal : Option ErrorId) (action : Action) (id : ℕ) (d : DataSetsValue) → SaysPort false (answer refusal action id d None)
+answer-clock : (q : RequestValue) (refusal : Option ErrorId) (d : DataSetsValue)
+    → SaysPort false (answer q refusal d None)
 unfolding answer
-answer-clock refusal action id d = refl
+answer-clock q refusal d = refl
 
-answers-port : (b : Bool) (refusal : Option ErrorId) (q : RequestValue) (d : DataSetsValue) → All (SaysPort b) (answers_of b refusal q d)
-unfolding port_answers
-answers-port true refusal q d = All-map (SaysPort true) _ (named_ports q.port (length d.ports)) (λ k x below. answer-port refusal q.action q.id d _)
-answers-port false refusal q d = All-cons (SaysPort false) _ [] (answer-clock refusal q.action q.id d) (λ k x below. absurd (omega arith))
+answers-port : (b : Bool) (q : RequestValue) (refusal : Option ErrorId) (d : DataSetsValue)
+    → All (SaysPort b) (answers_of b q refusal d)
+answers-port true q refusal d =
+    let ports = named_ports q.port (length d.ports) in
+    All-map (SaysPort true) (answer q refusal d) (map Some ports)
+    (All-map (λ own. SaysPort true (answer q refusal d own)) (λ n. Some n) ports (λ k x below. answer-port q refusal d _))
+answers-port false q refusal d = All-cons (SaysPort false) _ [] (answer-clock q refusal d) (λ k x below. absurd (omega arith))
 
 answer_fits : (b : Bool) (q : RequestValue) (a : Answer) → is_of_port q.id ≡ b → SaysPort b a → IsOutcomeOf q a.outcome → FitsAnswer b q.action a
 answer_fits true q a e port outcome = (port, outcome_fits q 26 a.outcome (ap field_limit e) outcome)
 answer_fits false q a e port outcome = (port, outcome_fits q 130 a.outcome (ap field_limit e) outcome)
 
-count_fits : (b : Bool) (refusal : Option ErrorId) (q : RequestValue) (d : DataSetsValue) → (1 ≤ length (answers_of b refusal q d)) × (length (answers_of b refusal q d) ≤ 8) → FitsCount b (length (answers_of b refusal q d))
-count_fits true refusal q d count = count
-count_fits false refusal q d count = refl
+count_fits : (b : Bool) (q : RequestValue) (refusal : Option ErrorId) (d : DataSetsValue)
+    → (1 ≤ length (answers_of b q refusal d)) × (length (answers_of b q refusal d) ≤ 8)
+    → FitsCount b (length (answers_of b q refusal d))
+count_fits true q refusal d count = count
+count_fits false q refusal d count = refl
 
 FitsRequest-reply_of : (q : RequestValue) (refusal : Option ErrorId) (d : DataSetsValue) → IsSized d → IsRequestAction q.action → IsTargetPort q.port d → FitsRequest q (reply_of q refusal d)
 unfolding reply_of
 FitsRequest-reply_of q refusal d sized request target = record {
   action = refl;
   id = refl;
-  count = count_fits (is_of_port q.id) refusal q d (reply_of-count q refusal d target sized);
-  answers = λ k x below. answer_fits (is_of_port q.id) q _ refl (answers-port (is_of_port q.id) refusal q d k x below) (reply_of-outcomes q refusal d request sized k x below);
+  count = count_fits (is_of_port q.id) q refusal d (reply_of-count q refusal d target sized);
+  answers = λ k x below. answer_fits (is_of_port q.id) q _ refl (answers-port (is_of_port q.id) q refusal d k x below) (reply_of-outcomes q refusal d request sized k x below);
 }
 
 pub FitsRequest-reply_to : (q : RequestValue) (r : Rights) (d : DataSetsValue) → IsSized d → IsRequestAction q.action → IsTargetPort q.port d → FitsRequest q (reply_to q r d)

@@ -1,5 +1,5 @@
 -- The reply and the data sets after a request, for an id of the table and for any other.
-use Rattle.std.proofs.Common.{◌≡◌, true, false, ◌∙◌, refl, sym, ap, ℕ, Option, Some, None}
+use Rattle.std.proofs.Common.{◌≡◌, true, false, ◌∙◌, refl, sym, ap, ℕ, [], ◌∷◌, Option, Some, None}
 use Rattle.std.specs.Option.{option_map}
 use Rattle.ptpm_codec.specs.declared.error.ErrorId.{ErrorId}
 use Rattle.ptpm_codec.specs.declared.error.ErrorId.TheVariants.{NoSuchId, NotSupported}
@@ -8,9 +8,10 @@ use Rattle.ptpm_data.specs.declared.rights.Rights.{Rights}
 use Rattle.ptpm_data.specs.IdTable.{Entry, entry_of, row_of}
 use Rattle.ptpm_data.specs.Members.{DataSetsValue}
 use Rattle.ptpm_data.specs.Request.{RequestValue}
+use Rattle.ptpm_data.specs.Reply.{Refused, ReplyValue}
 use Rattle.ptpm_data.specs.Refusals.{entry_refusal, refusal_at}
 use Rattle.ptpm_data.specs.Changes.{carried_out, changed_at, changed_by, unless_refused}
-use Rattle.ptpm_data.specs.Replies.{answer, refused_by_clock, reply_of, reply_to, is_get, no_rights, read_reply_to}
+use Rattle.ptpm_data.specs.Replies.{answer, reply_action, reply_of, reply_to, is_get, no_rights, read_reply_to}
 
 pub no_entry : {r : Option Row} {e : Option Entry} → option_map entry_of r ≡ e → r ≡ None → e ≡ None
 no_entry {r = None} is gone = sym is
@@ -21,6 +22,14 @@ entry_is {r = None} is here = cc
 entry_is {r = Some row} is here = cc
 
 -- ---- an id that is not in the table
+
+-- the clock refuses
+abbrev pub refused_by_clock : RequestValue → ErrorId → ReplyValue
+refused_by_clock q error = record {
+  action = reply_action q.action;
+  id = q.id;
+  answers = record { port = None; outcome = Refused error } ∷ [];
+}
 
 pub reply_of-unlisted : (q : RequestValue) (error : ErrorId) (d : DataSetsValue) → row_of q.id ≡ None → refused_by_clock q error ≡ reply_of q (Some error) d
 unfolding reply_of answer

@@ -12,7 +12,7 @@ use Rattle.ptpm_data.specs.declared.ids.Layout.{Layout}
 use Rattle.ptpm_data.specs.declared.ids.Layout.TheVariants as layouts
 use Rattle.ptpm_data.specs.IdTable.{Entry, id_table, row_of, is_port_scope, is_port_entry, is_of_port}
 use Rattle.ptpm_data.specs.Members.{DataSetsValue, port_of}
-use Rattle.ptpm_data.specs.DataField.{i16_octets, i32_octets, i64_octets, precedence_octets, default_data_field, current_data_field, parent_data_field, time_properties_data_field, utc_properties_data_field, text_data_field, port_settings_octets, port_data_field, port_field_of, field_of_port, data_field_of, field_of_entry, data_field_of_id}
+use Rattle.ptpm_data.specs.DataField.{i16_octets, i32_octets, i64_octets, precedence_octets, default_data_field, current_data_field, parent_data_field, time_properties_data_field, utc_properties_data_field, text_data_field, port_settings_octets, port_data_field, clock_field_of, port_field_of, field_of_port, data_field_of, field_of_entry, data_field_at}
 use Rattle.ptpm_data.specs.RequestLaws.{IsSized, IsFieldWithin, field_limit}
 
 -- ---- each data set
@@ -79,31 +79,36 @@ is_port_layout layouts.ClockAccuracy = false
 is_port_layout layouts.UtcProperties = false
 is_port_layout _ = true
 
-of_layout : (layout : Layout) (port : ℕ) (d : DataSetsValue) → IsSized d → IsFieldWithin (field_limit (is_port_layout layout)) (data_field_of layout port d)
-unfolding is_port_layout data_field_of
-of_layout layouts.UserDescription port d s =
+of_clock : (layout : Layout) (d : DataSetsValue) → IsSized d
+    → IsFieldWithin (field_limit (is_port_layout layout)) (clock_field_of layout d)
+unfolding is_port_layout clock_field_of
+of_clock layouts.UserDescription d s =
     let text : length d.description ≤ 128 = s.text in
     within 130 _ (text_size d.description) (omega arith) (omega arith)
-of_layout layouts.DefaultDataSet port d s = within 130 20 (default_size d.default _ s.identity) refl (omega arith)
-of_layout layouts.CurrentDataSet port d s = within 130 18 (current_size d.current) refl (omega arith)
-of_layout layouts.ParentDataSet port d s = within 130 32 (parent_size d.parent s.parent s.grandmaster) refl (omega arith)
-of_layout layouts.TimePropertiesDataSet port d s = within 130 4 (time_size d.time) refl (omega arith)
-of_layout layouts.Priority1 port d s = within 130 2 refl refl (omega arith)
-of_layout layouts.Priority2 port d s = within 130 2 refl refl (omega arith)
-of_layout layouts.Domain port d s = within 130 2 refl refl (omega arith)
-of_layout layouts.SlaveOnly port d s = within 130 2 refl refl (omega arith)
-of_layout layouts.ClockAccuracy port d s = within 130 2 refl refl (omega arith)
-of_layout layouts.UtcProperties port d s = within 130 4 (utc_size d.time) refl (omega arith)
-of_layout layouts.NullPtpManagement port d s = at_port layouts.NullPtpManagement _ port (port_of port d) s.identity
-of_layout layouts.PortDataSet port d s = at_port layouts.PortDataSet _ port (port_of port d) s.identity
-of_layout layouts.LogAnnounceInterval port d s = at_port layouts.LogAnnounceInterval _ port (port_of port d) s.identity
-of_layout layouts.AnnounceReceiptTimeout port d s = at_port layouts.AnnounceReceiptTimeout _ port (port_of port d) s.identity
-of_layout layouts.LogSyncInterval port d s = at_port layouts.LogSyncInterval _ port (port_of port d) s.identity
-of_layout layouts.VersionNumber port d s = at_port layouts.VersionNumber _ port (port_of port d) s.identity
-of_layout layouts.EnablePort port d s = at_port layouts.EnablePort _ port (port_of port d) s.identity
-of_layout layouts.DisablePort port d s = at_port layouts.DisablePort _ port (port_of port d) s.identity
-of_layout layouts.DelayMechanism port d s = at_port layouts.DelayMechanism _ port (port_of port d) s.identity
-of_layout layouts.LogMinPdelayReqInterval port d s = at_port layouts.LogMinPdelayReqInterval _ port (port_of port d) s.identity
+of_clock layouts.DefaultDataSet d s = within 130 20 (default_size d.default _ s.identity) refl (omega arith)
+of_clock layouts.CurrentDataSet d s = within 130 18 (current_size d.current) refl (omega arith)
+of_clock layouts.ParentDataSet d s = within 130 32 (parent_size d.parent s.parent s.grandmaster) refl (omega arith)
+of_clock layouts.TimePropertiesDataSet d s = within 130 4 (time_size d.time) refl (omega arith)
+of_clock layouts.Priority1 d s = within 130 2 refl refl (omega arith)
+of_clock layouts.Priority2 d s = within 130 2 refl refl (omega arith)
+of_clock layouts.Domain d s = within 130 2 refl refl (omega arith)
+of_clock layouts.SlaveOnly d s = within 130 2 refl refl (omega arith)
+of_clock layouts.ClockAccuracy d s = within 130 2 refl refl (omega arith)
+of_clock layouts.UtcProperties d s = within 130 4 (utc_size d.time) refl (omega arith)
+of_clock _ d s = within 26 0 refl refl (omega arith)
+
+-- what a port may say the clock may say
+of_either : (b : Bool) {octets : List ℕ} → IsFieldWithin 26 octets
+    → IsFieldWithin (field_limit b) octets
+of_either true h = h
+of_either false {octets} h =
+    let small : length octets ≤ 26 = h.small in
+    record { even = h.even; small = omega arith }
+
+of_layout : (layout : Layout) (port : Option ℕ) (d : DataSetsValue) → IsSized d
+    → IsFieldWithin (field_limit (is_port_layout layout)) (data_field_of layout port d)
+of_layout layout None d s = of_clock layout d s
+of_layout layout (Some n) d s = of_either (is_port_layout layout) (at_port layout d.default.identity n (port_of n d) s.identity)
 
 -- ---- the table's scopes are those of its layouts
 
@@ -140,11 +145,13 @@ pub layout_of : (id : ℕ) (e : Entry) → row_of id ≡ Some e → is_port_layo
 unfolding row_of
 layout_of id e is = agree (is_port_scope e.scope) (is_port_layout e.layout) (found (λ x. x.id == id) scope_agrees id_table e table_agrees is)
 
-of_entry : (id port : ℕ) (d : DataSetsValue) (entry : Option Entry) → row_of id ≡ entry → IsSized d → IsFieldWithin (field_limit (is_port_entry entry)) (field_of_entry entry port d)
+of_entry : (id : ℕ) (port : Option ℕ) (d : DataSetsValue) (entry : Option Entry) → row_of id ≡ entry
+    → IsSized d → IsFieldWithin (field_limit (is_port_entry entry)) (field_of_entry entry port d)
 of_entry id port d None is s = within 130 0 refl refl (omega arith)
 of_entry id port d (Some e) is s =
     let field = of_layout e.layout port d s in
     rw (← layout_of id e is) field
 
-pub of_id : (id port : ℕ) (d : DataSetsValue) → IsSized d → IsFieldWithin (field_limit (is_of_port id)) (data_field_of_id id port d)
+pub of_id : (id : ℕ) (port : Option ℕ) (d : DataSetsValue) → IsSized d
+    → IsFieldWithin (field_limit (is_of_port id)) (data_field_at id port d)
 of_id id port d s = of_entry id port d (row_of id) refl s

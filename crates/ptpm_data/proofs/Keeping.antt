@@ -20,7 +20,7 @@ use Rattle.ptpm_data.specs.Members.{DataSetsValue, is_own_grandmaster}
 use Rattle.ptpm_data.specs.SetField.{octet, ptp_text}
 use Rattle.ptpm_data.specs.Refusals.{entry_refusal, refusal_at, refusal_of, is_set_value, is_value}
 use Rattle.ptpm_data.specs.Changes.{carried_out, changed_at, changed_by, commanded, grandmaster_changed, set_members, unless_refused, with_mechanism}
-use Rattle.ptpm_data.specs.Replies.{answer, outcome, reply_of, reply_to, port_number}
+use Rattle.ptpm_data.specs.Replies.{answer, outcome, reply_of, reply_to}
 use Rattle.ptpm_data.specs.RequestLaws.{IsSized}
 use Rattle.ptpm_data.proofs.Carrying.{Suits, suits_from, carried_out-ports}
 use Rattle.ptpm_data.proofs.FieldSizes.{both_parts}
@@ -152,17 +152,18 @@ module _ (q : RequestValue) (rights : Rights) (d : DataSetsValue) where
   unfolding changed_by
   changed_by-refused error is = refused_entry (row_of q.id) error is
 
-  is_refused : (r : Option ErrorId) (action : Action) (port : ℕ) (x : DataSetsValue) (error : ErrorId) → outcome r action q.id port x ≡ Refused error → r ≡ Some error
-  is_refused (Some e) action port x error is = cc
-  is_refused None actions.Get port x error is = cc
-  is_refused None actions.Set port x error is = cc
-  is_refused None actions.Command port x error is = cc
-  is_refused None actions.Response port x error is = cc
-  is_refused None actions.Acknowledge port x error is = cc
+  is_refused : (r : Option ErrorId) (action : Action) (octets : List ℕ) (error : ErrorId)
+      → outcome r action octets ≡ Refused error → r ≡ Some error
+  is_refused (Some e) action octets error is = cc
+  is_refused None actions.Get octets error is = cc
+  is_refused None actions.Set octets error is = cc
+  is_refused None actions.Command octets error is = cc
+  is_refused None actions.Response octets error is = cc
+  is_refused None actions.Acknowledge octets error is = cc
 
   pub refused_answer : (a : Answer) (error : ErrorId) → Contains (reply_to q rights d).answers a → a.outcome ≡ Refused error → changed_by q rights d ≡ d
   unfolding reply_to answer
   refused_answer a error among is =
       let P : Answer → Type 0 = λ x. x.outcome ≡ Refused error → refusal_of q rights ≡ Some error in
-      let all = reply_of-all P q (refusal_of q rights) (changed_by q rights d) (λ port. is_refused (refusal_of q rights) q.action (port_number port) (changed_by q rights d) error) in
+      let all = reply_of-all P q (refusal_of q rights) (changed_by q rights d) (λ port. is_refused (refusal_of q rights) q.action _ error) in
       changed_by-refused error (All-contains P (reply_of q (refusal_of q rights) (changed_by q rights d)).answers a all among is)

@@ -7,11 +7,11 @@ use Rattle.ptpm_data.specs.declared.data_sets.PortDataSet.{PortDataSet}
 use Rattle.std.proofs.lemmas.List.{map-append, drop_all}
 use Rattle.std.proofs.lemmas.List.FromFn.{map-range_with_len_more}
 use Rattle.ptpm_codec.specs.declared.error.ErrorId.{ErrorId}
-use Rattle.ptpm_codec.specs.declared.message.Action.{Action}
 use Rattle.ptpm_data.specs.declared.reply.PortAnswer.{PortAnswer}
 use Rattle.ptpm_data.specs.Members.{DataSetsValue}
+use Rattle.ptpm_data.specs.Request.{RequestValue}
 use Rattle.ptpm_data.specs.Reply.{answer_of}
-use Rattle.ptpm_data.specs.Replies.{named_ports, answer, port_answers}
+use Rattle.ptpm_data.specs.Replies.{named_ports, answer}
 
 -- ---- which numbers are named
 
@@ -65,15 +65,15 @@ named_ports-one port n other target =
 
 -- ---- the answers of so many ports, one after another
 
-module _ (refusal : Option ErrorId) (action : Action) (id : ℕ) (d : DataSetsValue) where
-  pub port_answers-none : port_answers refusal action id d [] ≡ []
-  unfolding port_answers
-  port_answers-none = refl
-
-  pub port_answers-after : (items items' : List PortAnswer) (first n m port : ℕ) → first + n ≡ port → m ≡ n + 1 → map answer_of items ≡ port_answers refusal action id d (range_with_len first n) → map answer_of items' ≡ map answer_of items ++ answer refusal action id d (Some port) ∷ [] → map answer_of items' ≡ port_answers refusal action id d (range_with_len first m)
-  unfolding port_answers
-  port_answers-after items items' first n m port here one before after =
-      after ∙ rw (one, map-range_with_len_more (λ k. answer refusal action id d (Some k)) first n port here, before) refl
+module _ (q : RequestValue) (refusal : Option ErrorId) (d : DataSetsValue) where
+  pub answers-after : (items items' : List PortAnswer) (first n m port : ℕ) → first + n ≡ port
+      → m ≡ n + 1
+      → map answer_of items ≡ map (answer q refusal d) (map Some (range_with_len first n))
+      → map answer_of items' ≡ map answer_of items ++ answer q refusal d (Some port) ∷ []
+      → map answer_of items' ≡ map (answer q refusal d) (map Some (range_with_len first m))
+  answers-after items items' first n m port here one before after =
+      let ports : map Some (range_with_len first m) ≡ map Some (range_with_len first n) ++ Some port ∷ [] = rw one (map-range_with_len_more (λ k. Some k) first n port here) in
+      after ∙ rw (ports, map-append (answer q refusal d) (map Some (range_with_len first n)) (Some port ∷ []), before) refl
 
 -- ---- a change of the named ports
 

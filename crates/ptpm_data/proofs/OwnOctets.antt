@@ -1,5 +1,6 @@
 -- An accepted SET is answered by its own octets.
 use Rattle.std.proofs.Common.{◌≡◌, ◌∙◌, arith, refl, sym, ap, subst, ℕ, zero, suc, ◌+◌, ◌-◌, ◌<◌, ◌≤◌, ◌==◌, Bool, true, false, not, ◌||◌, if◌then◌else◌, List, [], ◌∷◌, length, map, slice_get, Option, Some, None, inl, inr}
+use Rattle.std.specs.Prelude.{⊤}
 use Rattle.std.specs.Int.{w8}
 use Rattle.std.specs.List.{All, enumerate_from, filter, list_all, range_with_len}
 use Rattle.std.specs.Option.{is_some, option_map}
@@ -21,14 +22,15 @@ use Rattle.ptpm_data.specs.PortState.{mechanism_number, mechanism_of}
 use Rattle.ptpm_data.specs.Request.{RequestValue}
 use Rattle.ptpm_data.specs.Reply.{Answer, Value}
 use Rattle.ptpm_data.specs.SetField.{first_i8, octet}
-use Rattle.ptpm_data.specs.DataField.{data_field_of, data_field_of_id, field_of_port, i8_octet, octet_data_field, port_field_of}
+use Rattle.ptpm_data.specs.DataField.{clock_field_of, data_field_at, data_field_of, field_of_port, i8_octet, octet_data_field, port_field_of}
 use Rattle.ptpm_data.specs.Refusals.{is_length, is_set_length, is_set_value, is_value, refusal_at}
 use Rattle.ptpm_data.specs.Changes.{changed_by, changed_if, is_named, named_changed, set_members, with_mechanism, with_ports}
-use Rattle.ptpm_data.specs.Replies.{accepted, answer, answers_of, named_ports, outcome, port_answers, reply_of, reply_to}
+use Rattle.ptpm_data.specs.Replies.{answer, named_ports, outcome, reply_of, reply_to}
 use Rattle.ptpm_data.specs.SetLaws.{AreOctets, IsAcceptedSet, standard_field, standard_field_at}
 use Rattle.ptpm_data.proofs.Carrying.{suits_from}
 use Rattle.ptpm_data.proofs.FieldSizes.{found, is_port_layout, layout_of}
 use Rattle.ptpm_data.proofs.Keeping.{changed_by-ports}
+use Rattle.ptpm_data.proofs.ReplyLemmas.{answers_of}
 use Rattle.ptpm_data.proofs.OwnFields.{nothing_held, text_back, utc_back}
 use Rattle.ptpm_data.proofs.Setting.{accepted_by, permitted, set_changes, then_get}
 
@@ -49,11 +51,17 @@ some_at [] i below = absurd (omega arith)
 some_at (p ∷ ps) zero below = (p, refl)
 some_at (p ∷ ps) (suc i) below = some_at ps i (omega arith)
 
--- one of the ports that the SET is for
+-- one of so many ports that the SET is for
 pub record IsShown (port n count : ℕ) : Type 0 where
   pub positive : 1 ≤ n
   pub within : n ≤ count
   pub named : is_named port n ≡ true
+
+-- who answers it: such a port where its id is of a port, else the clock
+abbrev IsAnswerer : Bool → ℕ → ℕ → Option ℕ → Type 0
+IsAnswerer true port count (Some n) = IsShown port n count
+IsAnswerer false port count None = ⊤
+IsAnswerer _ port count _ = ⊥
 
 shown_port : (port n : ℕ) (change : PortDataSet → PortDataSet) (d : DataSetsValue) → IsShown port n (length d.ports)
     → (p : PortDataSet) × (port_of n (with_ports port d change) ≡ Some (change p))
@@ -132,8 +140,8 @@ module _ (port n : ℕ) (octets : List ℕ) (d : DataSetsValue) (range : AreOcte
       rw at.1 (ap octet_data_field number)
 
   shown_field : (layout : Layout) → has_one_number layout ≡ true → is_port_layout layout ≡ true → is_set_value (set_of layout) octets ≡ true
-      → data_field_of layout n (set_members layout port octets d) ≡ octet_data_field (octet 0 octets)
-  unfolding data_field_of set_members port_field_of is_port_layout is_set_value set_of
+      → data_field_of layout (Some n) (set_members layout port octets d) ≡ octet_data_field (octet 0 octets)
+  unfolding set_members port_field_of is_port_layout is_set_value set_of
   shown_field layouts.LogAnnounceInterval one at good =
       rw (shown_port port n (λ p. record p { log_announce = first_i8 octets }) d s).1 (ap octet_data_field (back octets range))
   shown_field layouts.AnnounceReceiptTimeout one at good =
@@ -145,14 +153,15 @@ module _ (port n : ℕ) (octets : List ℕ) (d : DataSetsValue) (range : AreOcte
   shown_field layouts.DelayMechanism one at good = shown_mechanism (mechanism_of (octet 0 octets)) (mechanism_named (octet 0 octets) good)
   shown_field _ one at good = cc
 
-clock_field : (layout : Layout) (port n : ℕ) (octets : List ℕ) (d : DataSetsValue) → has_one_number layout ≡ true → is_port_layout layout ≡ false
-    → data_field_of layout n (set_members layout port octets d) ≡ octet_data_field (octet 0 octets)
-unfolding data_field_of set_members is_port_layout
-clock_field layouts.Priority1 port n octets d one clock = refl
-clock_field layouts.Priority2 port n octets d one clock = refl
-clock_field layouts.Domain port n octets d one clock = refl
-clock_field layouts.ClockAccuracy port n octets d one clock = refl
-clock_field _ port n octets d one clock = cc
+clock_field : (layout : Layout) (port : ℕ) (octets : List ℕ) (d : DataSetsValue)
+    → has_one_number layout ≡ true → is_port_layout layout ≡ false
+    → data_field_of layout None (set_members layout port octets d) ≡ octet_data_field (octet 0 octets)
+unfolding clock_field_of set_members is_port_layout
+clock_field layouts.Priority1 port octets d one clock = refl
+clock_field layouts.Priority2 port octets d one clock = refl
+clock_field layouts.Domain port octets d one clock = refl
+clock_field layouts.ClockAccuracy port octets d one clock = refl
+clock_field _ port octets d one clock = cc
 
 number_field : (layout : Layout) → has_one_number layout ≡ true → (octets : List ℕ) → octet_data_field (octet 0 octets) ≡ standard_field layout octets
 number_field layouts.NullPtpManagement one octets = cc
@@ -160,19 +169,28 @@ number_field layouts.UserDescription one octets = cc
 number_field layouts.UtcProperties one octets = cc
 number_field _ one octets = refl
 
-module _ (port n : ℕ) (octets : List ℕ) (d : DataSetsValue) (range : AreOctets octets) where
-  one_number : (layout : Layout) → has_one_number layout ≡ true → is_set_value (set_of layout) octets ≡ true → (b : Bool) → is_port_layout layout ≡ b → (b ≡ true → IsShown port n (length d.ports))
-      → data_field_of layout n (set_members layout port octets d) ≡ standard_field layout octets
-  one_number layout one good true at s = shown_field port n octets d range (s refl) layout one at good ∙ number_field layout one octets
-  one_number layout one good false at s = clock_field layout port n octets d one at ∙ number_field layout one octets
+module _ (port : ℕ) (octets : List ℕ) (d : DataSetsValue) (range : AreOctets octets) where
+  one_number : (layout : Layout) → has_one_number layout ≡ true → is_set_value (set_of layout) octets ≡ true
+      → (b : Bool) (own : Option ℕ) → is_port_layout layout ≡ b
+      → IsAnswerer b port (length d.ports) own
+      → data_field_of layout own (set_members layout port octets d) ≡ standard_field layout octets
+  one_number layout one good true (Some n) at s = shown_field port n octets d range s layout one at good ∙ number_field layout one octets
+  one_number layout one good false None at s = clock_field layout port octets d one at ∙ number_field layout one octets
+  one_number layout one good true None at s = absurd s
+  one_number layout one good false (Some n) at s = absurd s
 
-  own_field : (layout : Layout) → is_settable layout ≡ true → is_set_length (set_of layout) octets ≡ true → is_set_value (set_of layout) octets ≡ true
-      → (is_port_layout layout ≡ true → IsShown port n (length d.ports)) → data_field_of layout n (set_members layout port octets d) ≡ standard_field layout octets
-  unfolding data_field_of set_members is_set_length set_of
-  own_field layouts.NullPtpManagement may size good s = nothing_held d.default.identity n (port_of n d)
-  own_field layouts.UserDescription may size good s = text_back octets size
-  own_field layouts.UtcProperties may size good s = utc_back octets d.time (eqb-true _ _ size) range
-  own_field layout may size good s = one_number layout may good (is_port_layout layout) refl s
+  own_field : (layout : Layout) (own : Option ℕ) → is_settable layout ≡ true
+      → is_set_length (set_of layout) octets ≡ true → is_set_value (set_of layout) octets ≡ true
+      → IsAnswerer (is_port_layout layout) port (length d.ports) own
+      → data_field_of layout own (set_members layout port octets d) ≡ standard_field layout octets
+  unfolding clock_field_of set_members is_set_length is_port_layout set_of
+  own_field layouts.NullPtpManagement (Some n) may size good s = nothing_held d.default.identity n (port_of n d)
+  own_field layouts.NullPtpManagement None may size good s = absurd s
+  own_field layouts.UserDescription None may size good s = text_back octets size
+  own_field layouts.UserDescription (Some n) may size good s = absurd s
+  own_field layouts.UtcProperties None may size good s = utc_back octets d.time (eqb-true _ _ size) range
+  own_field layouts.UtcProperties (Some n) may size good s = absurd s
+  own_field layout own may size good s = one_number layout may good (is_port_layout layout) own refl s
 
 -- ---- every answer
 
@@ -186,50 +204,55 @@ filtered P p a (suc n) h =
     kept (p a) P a (filter p (range_with_len (a + 1) n)) (λ yes. h a (omega arith) (omega arith) yes)
     (filtered P p (a + 1) n (λ k low high yes. h k (omega arith) (omega arith) yes))
 
-said : (action : Action) (id n : ℕ) (e : DataSetsValue) (octets : List ℕ) → action ≡ actions.Set → data_field_of_id id n e ≡ octets → outcome None action id n e ≡ Value octets
-said actions.Set id n e octets set field = ap (λ (xs : List ℕ). Value xs) field
-said actions.Get id n e octets set field = cc
-said actions.Command id n e octets set field = cc
-said actions.Response id n e octets set field = cc
-said actions.Acknowledge id n e octets set field = cc
+said : (action : Action) (field octets : List ℕ) → action ≡ actions.Set → field ≡ octets
+    → outcome None action field ≡ Value octets
+said actions.Set field octets set is = ap (λ (xs : List ℕ). Value xs) is
+said actions.Get field octets set is = cc
+said actions.Command field octets set is = cc
+said actions.Response field octets set is = cc
+said actions.Acknowledge field octets set is = cc
 
 each : (b : Bool) (q : RequestValue) (e : DataSetsValue) (octets : List ℕ) → q.action ≡ actions.Set
-    → ((n : ℕ) → (b ≡ true → IsShown q.port n (length e.ports)) → data_field_of_id q.id n e ≡ octets)
-    → All (λ a. a.outcome ≡ Value octets) (answers_of b None q e)
-unfolding port_answers answer named_ports
+    → ((own : Option ℕ) → IsAnswerer b q.port (length e.ports) own → data_field_at q.id own e ≡ octets)
+    → All (λ a. a.outcome ≡ Value octets) (answers_of b q None e)
+unfolding answer named_ports
 each true q e octets set field =
     let P : Answer → Type 0 = λ a. a.outcome ≡ Value octets in
-    All-map P (λ n. answer None q.action q.id e (Some n)) (named_ports q.port (length e.ports))
-    (filtered (λ n. outcome None q.action q.id n e ≡ Value octets) (is_named q.port) 1 (length e.ports)
-    (λ k low high yes. said q.action q.id k e octets set (field k (λ same. record { positive = low; within = omega arith; named = yes }))))
+    let Q : Option ℕ → Type 0 = λ own. outcome None q.action (data_field_at q.id own e) ≡ Value octets in
+    All-map P (answer q None e) (map Some (named_ports q.port (length e.ports)))
+    (All-map Q (λ n. Some n) (named_ports q.port (length e.ports))
+    (filtered (λ n. Q (Some n)) (is_named q.port) 1 (length e.ports)
+    (λ k low high yes. said q.action _ octets set (field (Some k) (record { positive = low; within = omega arith; named = yes })))))
 each false q e octets set field =
     let P : Answer → Type 0 = λ a. a.outcome ≡ Value octets in
-    All-cons P (answer None q.action q.id e None) [] (said q.action q.id 0 e octets set (field 0 (λ same. cc))) (λ k x below. absurd (omega arith))
+    All-cons P (answer q None e None) [] (said q.action _ octets set (field None tt)) (λ k x below. absurd (omega arith))
 
 module _ (q : RequestValue) (rights : Rights) (d : DataSetsValue) (a : IsAcceptedSet q rights) (range : AreOctets q.octets) where
-  field_after : (e : Entry) → row_of q.id ≡ Some e → (n : ℕ) → (is_port_layout e.layout ≡ true → IsShown q.port n (length d.ports))
-      → data_field_of_id q.id n (changed_by q rights d) ≡ standard_field e.layout q.octets
-  field_after e is n shown =
+  field_after : (e : Entry) (own : Option ℕ) → row_of q.id ≡ Some e
+      → IsAnswerer (is_port_layout e.layout) q.port (length d.ports) own
+      → data_field_at q.id own (changed_by q rights d) ≡ standard_field e.layout q.octets
+  field_after e own is answerer =
       let none = accepted_by q rights e a is in
       let suits = suits_from e q rights none in
       let P : Action → Type 0 = λ action. is_value action (set_of e.layout) q.octets ≡ true in
       let L : Action → Type 0 = λ action. is_length action (set_of e.layout) q.octets ≡ true in
       rw (set_changes q rights d e a is, is)
-      (own_field q.port n q.octets d range e.layout (settable q.id e is (permitted e q rights a.set none)) (subst L a.set suits.size) (subst P a.set suits.value) shown)
+      (own_field q.port q.octets d range e.layout own (settable q.id e is (permitted e q rights a.set none)) (subst L a.set suits.size) (subst P a.set suits.value) answerer)
 
-  answered : (o : Option Entry) → row_of q.id ≡ o
-      → (n : ℕ) → (is_of_port q.id ≡ true → IsShown q.port n (length (changed_by q rights d).ports)) → data_field_of_id q.id n (changed_by q rights d) ≡ standard_field_at o q.octets
-  answered None is n shown =
+  answered : (o : Option Entry) (own : Option ℕ) → row_of q.id ≡ o
+      → IsAnswerer (is_of_port q.id) q.port (length (changed_by q rights d).ports) own
+      → data_field_at q.id own (changed_by q rights d) ≡ standard_field_at o q.octets
+  answered None own is answerer =
       let P : Option Entry → Type 0 = λ o. refusal_at o q rights ≡ None in
       let wrong = subst P is a.accepted in
       cc
-  answered (Some e) is n shown =
-      let P : Option Entry → Type 0 = λ o. is_port_entry o ≡ true → IsShown q.port n (length d.ports) in
-      let Q : ℕ → Type 0 = λ count. is_of_port q.id ≡ true → IsShown q.port n count in
-      let here = subst P is (subst Q (changed_by-ports q rights d) shown) in
-      field_after e is n (λ at. here (sym (layout_of q.id e is) ∙ at))
+  answered (Some e) own is answerer =
+      let C : ℕ → Type 0 = λ count. IsAnswerer (is_of_port q.id) q.port count own in
+      let O : Option Entry → Type 0 = λ o. IsAnswerer (is_port_entry o) q.port (length d.ports) own in
+      let B : Bool → Type 0 = λ b. IsAnswerer b q.port (length d.ports) own in
+      field_after e own is (subst B (sym (layout_of q.id e is)) (subst O is (subst C (changed_by-ports q rights d) answerer)))
 
   pub own_octets : All (λ x. x.outcome ≡ Value (standard_field_at (row_of q.id) q.octets)) (reply_to q rights d).answers
   unfolding reply_to reply_of
   own_octets =
-      rw a.accepted (each (is_of_port q.id) q (changed_by q rights d) (standard_field_at (row_of q.id) q.octets) a.set (answered (row_of q.id) refl))
+      rw a.accepted (each (is_of_port q.id) q (changed_by q rights d) (standard_field_at (row_of q.id) q.octets) a.set (λ own. answered (row_of q.id) own refl))

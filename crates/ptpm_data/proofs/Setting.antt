@@ -1,17 +1,16 @@
 -- What an accepted SET changes and is answered, and what a GET after it is answered.
-use Rattle.std.proofs.Common.{◌≡◌, ◌∙◌, refl, ap, subst, ◌==◌, Bool, true, false, not, ◌||◌, List, drop, Option, Some, None}
+use Rattle.std.proofs.Common.{◌≡◌, ◌∙◌, refl, ap, subst, ◌==◌, Bool, true, false, not, ◌||◌, drop, Option, Some, None}
 use Rattle.std.specs.List.{list_all}
 use Rattle.std.proofs.lemmas.Bool.{not-false}
 use Rattle.ptpm_codec.specs.declared.message.Action.{Action}
 use Rattle.ptpm_codec.specs.declared.message.Action.TheVariants as actions
 use Rattle.ptpm_data.specs.declared.rights.Rights.{Rights}
-use Rattle.ptpm_data.specs.IdTable.{Entry, has_action, id_table, is_of_port, row_of}
+use Rattle.ptpm_data.specs.IdTable.{Entry, has_action, id_table, row_of}
 use Rattle.ptpm_data.specs.Members.{DataSetsValue}
 use Rattle.ptpm_data.specs.Request.{RequestValue}
-use Rattle.ptpm_data.specs.Reply.{Answer, ReplyValue}
 use Rattle.ptpm_data.specs.Refusals.{entry_refusal, refusal_at, refusal_of, refusals, unpermitted}
 use Rattle.ptpm_data.specs.Changes.{changed_by, set_members}
-use Rattle.ptpm_data.specs.Replies.{answer, answers_of, no_rights, port_answers, read_reply_to, reply_of, reply_to}
+use Rattle.ptpm_data.specs.Replies.{answer, no_rights, read_reply_to, reply_of, reply_to}
 use Rattle.ptpm_data.specs.SetLaws.{IsAcceptedSet, get_of}
 use Rattle.ptpm_data.proofs.Carrying.{first_of-none}
 use Rattle.ptpm_data.proofs.FieldSizes.{found}
@@ -57,15 +56,9 @@ as_set q = record { action = actions.Set; id = q.id; port = q.port; octets = q.o
 set_is : (q : RequestValue) → q.action ≡ actions.Set → q ≡ as_set q
 set_is q set = λ i. record { action = set i; id = q.id; port = q.port; octets = q.octets }
 
-answers_as_get : (b : Bool) (q : RequestValue) (d : DataSetsValue) → answers_of b None (as_set q) d ≡ answers_of b None (get_of q) d
-unfolding port_answers answer
-answers_as_get true q d = refl
-answers_as_get false q d = refl
-
 reply_as_get : (q : RequestValue) (d : DataSetsValue) → reply_of (as_set q) None d ≡ reply_of (get_of q) None d
-unfolding reply_of
-reply_as_get q d =
-    ap (λ (xs : List Answer). let r : ReplyValue = record { action = actions.Response; id = q.id; answers = xs } in r) (answers_as_get (is_of_port q.id) q d)
+unfolding reply_of answer
+reply_as_get q d = refl
 
 pub set_read_back : (q : RequestValue) (rights : Rights) (d : DataSetsValue) → IsAcceptedSet q rights → reply_to q rights d ≡ read_reply_to (get_of q) (changed_by q rights d)
 unfolding reply_to read_reply_to

@@ -1,6 +1,6 @@
 -- What the dataField of a GET holds (IEEE 1588-2019, 15.5.3), one word for each data set. Numbers of several octets have
 -- the highest octet first, and signed ones are in two's complement (5.2). A reserved octet is 0.
-use Rattle.std.specs.Prelude.{ℕ, ◌+◌, ◌*◌, ◌%◌, ◌^◌, Bool, false, List, [], ◌∷◌, ◌++◌, length, replicate, ℤ, Option, Some, None}
+use Rattle.std.specs.Prelude.{ℕ, ◌+◌, ◌*◌, ◌%◌, ◌^◌, Bool, false, if◌then◌else◌, List, [], ◌∷◌, ◌++◌, length, replicate, ℤ, Option, Some, None}
 use Rattle.std.specs.Int.{w8, w16, w32, w64, cast_unsigned, from_bool}
 use Rattle.byteorder.specs.Endian.{big_bytes}
 use Rattle.ptpm_codec.specs.declared.identity.ClockIdentity.{ClockIdentity}
@@ -13,7 +13,7 @@ use Rattle.ptpm_data.specs.declared.data_sets.TimePropertiesDataSet.{TimePropert
 use Rattle.ptpm_data.specs.declared.data_sets.PortDataSet.{PortDataSet}
 use Rattle.ptpm_data.specs.declared.ids.Layout.{Layout}
 use Rattle.ptpm_data.specs.declared.ids.Layout.TheVariants as layouts
-use Rattle.ptpm_data.specs.IdTable.{Entry, row_of, has_action}
+use Rattle.ptpm_data.specs.IdTable.{Entry, row_of, has_action, is_of_port}
 use Rattle.ptpm_data.specs.PortState.{state_number, mechanism_number}
 use Rattle.ptpm_data.specs.Members.{DataSetsValue, port_of}
 
@@ -106,20 +106,25 @@ port_field_of layouts.DelayMechanism identity port p = octet_data_field (mechani
 port_field_of layouts.LogMinPdelayReqInterval identity port p = i8_data_field p.log_min_pdelay
 port_field_of _ identity port p = []
 
--- the dataField of any id; the port matters for an id of a port alone
-unfoldable pub data_field_of : Layout → ℕ → DataSetsValue → List ℕ
-data_field_of layouts.UserDescription port d = text_data_field d.description
-data_field_of layouts.DefaultDataSet port d = default_data_field d.default (length d.ports)
-data_field_of layouts.CurrentDataSet port d = current_data_field d.current
-data_field_of layouts.ParentDataSet port d = parent_data_field d.parent
-data_field_of layouts.TimePropertiesDataSet port d = time_properties_data_field d.time
-data_field_of layouts.Priority1 port d = octet_data_field d.default.precedence.priority1
-data_field_of layouts.Priority2 port d = octet_data_field d.default.precedence.priority2
-data_field_of layouts.Domain port d = octet_data_field d.default.domain
-data_field_of layouts.SlaveOnly port d = octet_data_field 0
-data_field_of layouts.ClockAccuracy port d = octet_data_field d.default.precedence.accuracy
-data_field_of layouts.UtcProperties port d = utc_properties_data_field d.time
-data_field_of layout port d = field_of_port (port_field_of layout d.default.identity port) (port_of port d)
+-- the dataField of an id of the clock, in the same way
+unfoldable pub clock_field_of : Layout → DataSetsValue → List ℕ
+clock_field_of layouts.UserDescription d = text_data_field d.description
+clock_field_of layouts.DefaultDataSet d = default_data_field d.default (length d.ports)
+clock_field_of layouts.CurrentDataSet d = current_data_field d.current
+clock_field_of layouts.ParentDataSet d = parent_data_field d.parent
+clock_field_of layouts.TimePropertiesDataSet d = time_properties_data_field d.time
+clock_field_of layouts.Priority1 d = octet_data_field d.default.precedence.priority1
+clock_field_of layouts.Priority2 d = octet_data_field d.default.precedence.priority2
+clock_field_of layouts.Domain d = octet_data_field d.default.domain
+clock_field_of layouts.SlaveOnly d = octet_data_field 0
+clock_field_of layouts.ClockAccuracy d = octet_data_field d.default.precedence.accuracy
+clock_field_of layouts.UtcProperties d = utc_properties_data_field d.time
+clock_field_of _ d = []
+
+-- the dataField of the clock, or of one of its ports
+abbrev pub data_field_of : Layout → Option ℕ → DataSetsValue → List ℕ
+data_field_of layout None d = clock_field_of layout d
+data_field_of layout (Some n) d = field_of_port (port_field_of layout d.default.identity n) (port_of n d)
 
 -- whether an id permits an action
 abbrev pub entry_permits : Action → Option Entry → Bool
@@ -129,10 +134,18 @@ entry_permits action (Some e) = has_action action e.actions
 abbrev pub permits : Action → ℕ → Bool
 permits action id = entry_permits action (row_of id)
 
-abbrev pub field_of_entry : Option Entry → ℕ → DataSetsValue → List ℕ
+abbrev pub field_of_entry : Option Entry → Option ℕ → DataSetsValue → List ℕ
 field_of_entry None port d = []
 field_of_entry (Some e) port d = data_field_of e.layout port d
 
--- the dataField of an id; nothing for one that is not in the table
+-- the dataField that the clock, or one of its ports, has under an id; nothing for one that is not in the table
+abbrev pub data_field_at : ℕ → Option ℕ → DataSetsValue → List ℕ
+data_field_at id port d = field_of_entry (row_of id) port d
+
+-- whose members an id shows: those of this port, or for an id of the clock the clock's own
+abbrev pub port_shown : ℕ → ℕ → Option ℕ
+port_shown id port = if is_of_port id then Some port else None
+
+-- the dataField of an id; the port matters for an id of a port alone
 abbrev pub data_field_of_id : ℕ → ℕ → DataSetsValue → List ℕ
-data_field_of_id id port d = field_of_entry (row_of id) port d
+data_field_of_id id port d = data_field_at id (port_shown id port) d

@@ -11,7 +11,7 @@ use Rattle.ptpm_data.specs.IdTable.{is_of_port}
 use Rattle.ptpm_data.specs.Request.{RequestValue}
 use Rattle.ptpm_data.specs.Reply.{Outcome, Value, Done, Refused, Answer, ReplyValue}
 use Rattle.ptpm_data.specs.Members.{DataSetsValue}
-use Rattle.ptpm_data.specs.DataField.{data_field_of_id}
+use Rattle.ptpm_data.specs.DataField.{data_field_at}
 use Rattle.ptpm_data.specs.Refusals.{refusal_of}
 use Rattle.ptpm_data.specs.Changes.{is_named, changed_by}
 
@@ -19,45 +19,26 @@ use Rattle.ptpm_data.specs.Changes.{is_named, changed_by}
 unfoldable pub named_ports : ℕ → ℕ → List ℕ
 named_ports port number_of_ports = filter (is_named port) (range_with_len 1 number_of_ports)
 
--- the port whose members are shown; the clock's don't ask for one
-abbrev pub port_number : Option ℕ → ℕ
-port_number None = 0
-port_number (Some n) = n
+-- who answers: for an id of a port each named port, else the clock, which gives no port number
+abbrev pub answerers : RequestValue → DataSetsValue → List (Option ℕ)
+answerers q d = if is_of_port q.id then map Some (named_ports q.port (length d.ports)) else None ∷ []
 
--- what is said to an accepted request: a COMMAND is done; a GET and a SET are answered by the id's dataField
-abbrev pub accepted : Action → ℕ → ℕ → DataSetsValue → Outcome
-accepted actions.Command id port d = Done
-accepted action id port d = Value (data_field_of_id id port d)
+-- what is said to a request: why it is refused; else a COMMAND is done, and a GET and a SET are answered by a dataField
+abbrev pub outcome : Option ErrorId → Action → List ℕ → Outcome
+outcome (Some error) action octets = Refused error
+outcome None actions.Command octets = Done
+outcome None action octets = Value octets
 
-abbrev pub outcome : Option ErrorId → Action → ℕ → ℕ → DataSetsValue → Outcome
-outcome (Some error) action id port d = Refused error
-outcome None action id port d = accepted action id port d
-
-unfoldable pub answer : Option ErrorId → Action → ℕ → DataSetsValue → Option ℕ → Answer
-answer refusal action id d port = record { port = port; outcome = outcome refusal action id (port_number port) d }
-
-unfoldable pub port_answers : Option ErrorId → Action → ℕ → DataSetsValue → List ℕ → List Answer
-port_answers refusal action id d ports = map (λ n. answer refusal action id d (Some n)) ports
-
--- For an id of a port each named port answers, else the clock, which gives no port number.
-abbrev pub answers_of : Bool → Option ErrorId → RequestValue → DataSetsValue → List Answer
-answers_of true refusal q d = port_answers refusal q.action q.id d (named_ports q.port (length d.ports))
-answers_of false refusal q d = answer refusal q.action q.id d None ∷ []
+-- the answer of a port, or of the clock
+unfoldable pub answer : RequestValue → Option ErrorId → DataSetsValue → Option ℕ → Answer
+answer q refusal d port = record { port = port; outcome = outcome refusal q.action (data_field_at q.id port d) }
 
 -- the reply over the data sets as they are after the request
 unfoldable pub reply_of : RequestValue → Option ErrorId → DataSetsValue → ReplyValue
 reply_of q refusal d = record {
   action = reply_action q.action;
   id = q.id;
-  answers = answers_of (is_of_port q.id) refusal q d;
-}
-
--- a refusal of the clock's
-abbrev pub refused_by_clock : RequestValue → ErrorId → ReplyValue
-refused_by_clock q error = record {
-  action = reply_action q.action;
-  id = q.id;
-  answers = record { port = None; outcome = Refused error } ∷ [];
+  answers = map (answer q refusal d) (answerers q d);
 }
 
 -- to a numbered request, with the rights of its manager

@@ -1,11 +1,12 @@
 -- The words of what holds of every request: who answers it, what an answer is, and what no request changes.
-use Rattle.std.specs.Prelude.{◌≡◌, ℕ, ◌%◌, ◌≤◌, ⊤, Bool, true, false, List, [], ◌∷◌, length, Option, Some, None}
+use Rattle.std.specs.Prelude.{◌≡◌, ℕ, ◌%◌, ◌≤◌, ⊤, Bool, true, false, List, [], ◌∷◌, length, Option}
 use Rattle.ptpm_codec.specs.declared.message.Action.{Action}
 use Rattle.ptpm_codec.specs.declared.message.Action.TheVariants as actions
 use Rattle.ptpm_data.specs.IdTable.{is_of_port}
 use Rattle.ptpm_data.specs.Request.{RequestValue}
 use Rattle.ptpm_data.specs.Reply.{Outcome, Value, Done, Refused, ReplyValue}
 use Rattle.ptpm_data.specs.Members.{DataSetsValue, HasPort}
+use Rattle.ptpm_data.specs.DataField.{port_shown}
 
 -- data sets of one to eight ports, whose identities and text have their sizes, as those of every clock have
 pub record IsSized (d : DataSetsValue) : Type 0 where
@@ -20,13 +21,9 @@ pub record IsSized (d : DataSetsValue) : Type 0 where
 abbrev pub IsForOne : RequestValue → DataSetsValue → Type 0
 IsForOne q d = is_of_port q.id ≡ true → HasPort q.port d
 
-abbrev pub answerer_of : Bool → ℕ → Option ℕ
-answerer_of true port = Some port
-answerer_of false port = None
-
 -- who answers it: that port, or the clock, which gives no port number
 abbrev pub answerer : RequestValue → Option ℕ
-answerer q = answerer_of (is_of_port q.id) q.port
+answerer q = port_shown q.id q.port
 
 -- the reply has one answer, of this port or of the clock
 abbrev pub IsOneAnswer : Option ℕ → ReplyValue → Type 0

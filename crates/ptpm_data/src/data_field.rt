@@ -1,9 +1,9 @@
 //! What the dataField of a GET holds (15.5.3).
 
-ghost use Rattle.std.specs.Prelude.{◌≡◌, ◌+◌, ◌≤◌, ◌++◌, ◌∷◌, [], length, ℕ, ℤ, true, option_map};
+ghost use Rattle.std.specs.Prelude.{◌≡◌, ◌+◌, ◌≤◌, ◌++◌, ◌∷◌, [], length, ℕ, ℤ, true, option_map, Some};
 ghost use Rattle.arrayvec.specs.ArrayVec.{array_vec_len};
 ghost use Rattle.byteorder.specs.Endian.{big_bytes};
-ghost use Rattle.ptpm_data.specs.DataField.{current_data_field, data_field_of, data_field_of_id, default_data_field, field_of_port, i16_octets, i32_octets, i64_octets, i8_data_field, i8_octet, octet_data_field, parent_data_field, permits, port_data_field, port_field_of, port_settings_octets, precedence_octets, text_data_field, time_properties_data_field, utc_properties_data_field};
+ghost use Rattle.ptpm_data.specs.DataField.{clock_field_of, current_data_field, data_field_of, data_field_of_id, default_data_field, i16_octets, i32_octets, i64_octets, i8_data_field, i8_octet, octet_data_field, parent_data_field, permits, port_data_field, port_field_of, port_settings_octets, precedence_octets, text_data_field, time_properties_data_field, utc_properties_data_field};
 ghost use Rattle.ptpm_data.specs.IdTable.{is_of_port};
 ghost use Rattle.ptpm_data.specs.Members.{HasPort, port_of};
 ghost use Rattle.ptpm_codec.specs.declared.message.Action.TheVariants.{Get};
@@ -13,7 +13,7 @@ use crate::data_sets::{
     TimePropertiesDataSet,
 };
 use crate::id_table::row;
-use crate::ids::Layout;
+use crate::ids::{Layout, Scope};
 use crate::reply::Value;
 use byteorder::{BigEndian, ByteOrder};
 use ptpm_codec::{ClockIdentity, put, put_u16};
@@ -30,15 +30,18 @@ impl DataSets {
     {
         buffer.clear();
         if let Some(row) = row(id) {
-            self.put_data_field(row.layout, port, buffer);
+            match row.scope {
+                Scope::Clock => self.put_clock_field(row.layout, buffer),
+                Scope::Port => self.put_port_field(row.layout, port, buffer),
+            }
         }
     }
 
-    /// Appends an id's dataField; that of a port that the clock lacks has no octets.
-    #[tactic(auto, unfolding(crate::specs::DataField::data_field_of))]
-    pub(crate) fn put_data_field(&self, layout: Layout, port: u16, buffer: &mut Value)
+    /// Appends the dataField of an id of the clock.
+    #[tactic(auto, unfolding(crate::specs::DataField::clock_field_of))]
+    pub(crate) fn put_clock_field(&self, layout: Layout, buffer: &mut Value)
         requires { buffer.old.items ≡ [] }
-        ensures { buffer.new.items ≡ data_field_of layout port self.now }
+        ensures { buffer.new.items ≡ clock_field_of layout self.now }
     {
         match layout {
             Layout::UserDescription => put_text(buffer, self.description.as_slice()),
@@ -56,11 +59,17 @@ impl DataSets {
             Layout::SlaveOnly => put_octet(buffer, 0),
             Layout::ClockAccuracy => put_octet(buffer, self.default.precedence.accuracy),
             Layout::UtcProperties => put_utc_properties(buffer, &self.time),
-            _ => {
-                if let Some(set) = self.port(port) {
-                    put_port_field(buffer, layout, &self.default.identity, port, set);
-                }
-            }
+            _ => {}
+        }
+    }
+
+    /// Appends the dataField of an id of a port; that of a port that the clock lacks has no octets.
+    pub(crate) fn put_port_field(&self, layout: Layout, port: u16, buffer: &mut Value)
+        requires { buffer.old.items ≡ [] }
+        ensures { buffer.new.items ≡ data_field_of layout (Some port) self.now }
+    {
+        if let Some(set) = self.port(port) {
+            put_field_of_port(buffer, layout, &self.default.identity, port, set);
         }
     }
 
@@ -78,9 +87,9 @@ impl DataSets {
 /// versionNumber (8.2.15.4.6).
 const VERSION: u8 = 2;
 
-/// Appends the dataField of an id of a port.
+/// Appends what an id shows of a port's data set.
 #[tactic(auto, unfolding(crate::specs::DataField::port_field_of))]
-fn put_port_field(
+fn put_field_of_port(
     buffer: &mut Value,
     layout: Layout,
     identity: &ClockIdentity,

@@ -16,8 +16,8 @@ impl DataSets {
     ghost use Rattle.ptpm_data.specs.IdTable.{entry_of, row_of};
     ghost use Rattle.ptpm_data.specs.Changes.{IsTargetPort};
     ghost use Rattle.ptpm_data.specs.DataField.{data_field_of};
-    ghost use Rattle.ptpm_data.specs.Reply.{Value, answer_of, outcome_of};
-    ghost use Rattle.ptpm_data.specs.Replies.{answer, named_ports, outcome, port_answers, reply_of};
+    ghost use Rattle.ptpm_data.specs.Reply.{Value, answer_of};
+    ghost use Rattle.ptpm_data.specs.Replies.{answer, named_ports, reply_of};
 
     /// Leaves the reply to a request for an id of the table, which was carried out, or refused for this reason.
     #[tactic(auto, unfolding(crate::specs::Replies::reply_of))]
@@ -47,7 +47,6 @@ impl DataSets {
     /// Leaves the answer of the clock, and no other. It is written over the first that was there, if any, since an answer
     /// takes 160 octets.
     #[inline(always)]
-    #[tactic(auto, unfolding(crate::specs::Replies::answer))]
     fn put_clock_answer(
         &self,
         row: &Row,
@@ -56,42 +55,45 @@ impl DataSets {
         answers: &mut ArrayVec<PortAnswer, 8>,
     )
         requires row { row_of request.now.id ≡ Some (entry_of row.now) }
-        ensures { map answer_of answers.new.items
-            ≡ answer refusal request.now.action request.now.id self.now None ∷ [] }
+        ensures { map answer_of answers.new.items ≡ answer request.now refusal self.now None ∷ [] }
     {
         leave_one(answers);
-        if let [answer] = answers.as_mut_slice() {
-            answer.port = None;
-            self.set_outcome(row, request, refusal, 0, &mut answer.what);
+        if let [clock] = answers.as_mut_slice() {
+            clock.port = None;
+            self.set_answer(row, request, refusal, clock);
         }
     }
 
-    /// Makes this the outcome of an answer of the clock, or of a port.
-    fn set_outcome(
+    /// Makes this the answer of its port, or of the clock.
+    #[tactic(auto, unfolding(crate::specs::Replies::answer))]
+    fn set_answer(
         &self,
         row: &Row,
         request: &Request<'_>,
         refusal: Option<ErrorId>,
-        port: u16,
-        what: &mut What,
+        own: &mut PortAnswer,
     )
         requires row { row_of request.now.id ≡ Some (entry_of row.now) }
-        ensures { outcome_of what.new ≡ outcome refusal request.now.action request.now.id port self.now }
+        ensures { answer_of own.new ≡ answer request.now refusal self.now own.old.port }
     {
         match refusal {
-            Some(error) => *what = What::Refused(error),
-            None if request.action == Action::Command => *what = What::Done,
-            None => self.set_value(row.layout, port, what),
+            Some(error) => own.what = What::Refused(error),
+            None if request.action == Action::Command => own.what = What::Done,
+            None => self.set_value(row.layout, own),
         }
     }
 
-    /// Makes this the dataField of an id, made where it stays.
-    fn set_value(&self, layout: Layout, port: u16, what: &mut What)
-        ensures { outcome_of what.new ≡ Value (data_field_of layout port self.now) }
+    /// Answers by the dataField of an id, made where it stays.
+    fn set_value(&self, layout: Layout, own: &mut PortAnswer)
+        ensures { answer_of own.new
+            ≡ record { port = own.old.port; outcome = Value (data_field_of layout own.old.port self.now) } }
     {
-        *what = What::Value(Value::new());
-        if let What::Value(value) = what {
-            self.put_data_field(layout, port, value);
+        own.what = What::Value(Value::new());
+        if let What::Value(value) = &mut own.what {
+            match own.port {
+                None => self.put_clock_field(layout, value),
+                Some(port) => self.put_port_field(layout, port, value),
+            }
         }
     }
 
@@ -107,7 +109,7 @@ impl DataSets {
         requires port { IsTargetPort request.now.port self.now }
         requires empty { answers.old.items ≡ [] }
         ensures { map answer_of answers.new.items
-            ≡ port_answers refusal request.now.action request.now.id self.now (named_ports request.now.port (length self.now.ports)) }
+            ≡ map (answer request.now refusal self.now) (map Some (named_ports request.now.port (length self.now.ports))) }
     {
         let (first, end) = self.named_ports(request.port);
         for port in first..end {
@@ -131,7 +133,6 @@ impl DataSets {
     }
 
     /// Appends the answer of a port, made where it stays.
-    #[tactic(auto, unfolding(crate::specs::Replies::answer))]
     fn push_answer(
         &self,
         port: u16,
@@ -143,7 +144,7 @@ impl DataSets {
         requires row { row_of request.now.id ≡ Some (entry_of row.now) }
         requires room { array_vec_len answers.old < 8 }
         ensures items { map answer_of answers.new.items
-            ≡ map answer_of answers.old.items ++ answer refusal request.now.action request.now.id self.now (Some port) ∷ [] }
+            ≡ map answer_of answers.old.items ++ answer request.now refusal self.now (Some port) ∷ [] }
         ensures len { array_vec_len answers.new ≡ array_vec_len answers.old + 1 }
     {
         answers.push(PortAnswer {
@@ -151,15 +152,14 @@ impl DataSets {
             what: What::Done,
         });
         if let [.., last] = answers.as_mut_slice() {
-            self.set_outcome(row, request, refusal, port, &mut last.what);
+            self.set_answer(row, request, refusal, last);
         }
     }
 }
 
 impl Reply {
-    ghost use Rattle.std.specs.Prelude.{Some, None, []};
-    ghost use Rattle.ptpm_data.specs.IdTable.{row_of};
-    ghost use Rattle.ptpm_data.specs.Replies.{refused_by_clock};
+    ghost use Rattle.std.specs.Prelude.{None, [], ◌∷◌};
+    ghost use Rattle.ptpm_data.specs.Reply.{Refused};
 
     /// A reply without answers, to be written over.
     pub fn empty() -> Reply
@@ -174,7 +174,12 @@ impl Reply {
 
     /// Becomes the reply to a request for an id that is not in the table; the clock gives it.
     pub(crate) fn refuse_by_clock(&mut self, request: &Request<'_>, error: ErrorId)
-        ensures { self.new ≡ refused_by_clock request.now error }
+        ensures { self.new
+            ≡ record {
+              action = reply_action request.now.action;
+              id = request.now.id;
+              answers = record { port = None; outcome = Refused error } ∷ [];
+            } }
     {
         self.action = request.action.reply();
         self.id = request.id;

@@ -1,5 +1,5 @@
 -- What a request keeps of the data sets, and what its reply says.
-use Rattle.std.proofs.Common.{arith, ◌≡◌, ◌∙◌, refl, sym, subst, ℕ, zero, suc, ◌+◌, ◌<◌, ◌≤◌, ◌^◌, Bool, true, false, List, length, Option, Some, None, ⊎_elim}
+use Rattle.std.proofs.Common.{arith, ◌≡◌, ◌∙◌, refl, sym, subst, ℕ, zero, suc, ◌+◌, ◌<◌, ◌≤◌, ◌^◌, Bool, true, false, List, length, map, Option, Some, None, ⊎_elim}
 use Rattle.std.proofs.lemmas.Bool.{cases_Bool, cond-true, cond-false}
 use Rattle.std.proofs.lemmas.List.{length-map}
 use Rattle.std.proofs.lemmas.List.FromFn.{length-range_with_len}
@@ -10,17 +10,17 @@ use Rattle.ptpm_codec.specs.declared.message.Action.TheVariants as actions
 use Rattle.ptpm_codec.specs.Message.{IsDataField}
 use Rattle.ptpm_data.specs.declared.rights.Rights.{Rights}
 use Rattle.ptpm_data.specs.Changes.{changed_by, is_named}
-use Rattle.ptpm_data.specs.DataField.{data_field_of_id}
+use Rattle.ptpm_data.specs.DataField.{data_field_at}
 use Rattle.ptpm_data.specs.IdTable.{is_of_port}
 use Rattle.ptpm_data.specs.Members.{DataSetsValue}
 use Rattle.ptpm_data.specs.Refusals.{refusal_of}
-use Rattle.ptpm_data.specs.Replies.{answer, answers_of, named_ports, outcome, port_answers, read_refusal, read_reply_to, reply_of, reply_to}
+use Rattle.ptpm_data.specs.Replies.{answer, named_ports, outcome, read_refusal, read_reply_to, reply_of, reply_to}
 use Rattle.ptpm_data.specs.Reply.{ReplyValue}
 use Rattle.ptpm_data.specs.Request.{RequestValue}
-use Rattle.ptpm_data.specs.RequestLaws.{IsFieldWithin, IsOneAnswer, IsSized, answerer, answerer_of, field_limit}
+use Rattle.ptpm_data.specs.RequestLaws.{IsFieldWithin, IsOneAnswer, IsSized, answerer, field_limit}
 use Rattle.ptpm_data.proofs.FieldSizes.{of_id}
 use Rattle.ptpm_data.proofs.Keeping.{changed_by-ports, changed_by-sized}
-use Rattle.ptpm_data.proofs.ReplyLemmas.{reply_of-one}
+use Rattle.ptpm_data.proofs.ReplyLemmas.{answers_of, reply_of-one}
 use Rattle.ptpm_network.specs.DataSets.{Answers, AreDataSets, HasOneAnswer, IsForOne, IsSendable, IsSendableOutcome}
 use Rattle.ptpm_network.proofs.Lists.{all_made, filter-few}
 
@@ -59,16 +59,18 @@ field_fits : (b : Bool) (octets : List ℕ) → IsFieldWithin (field_limit b) oc
 field_fits true octets f = let small : length octets ≤ 26 = f.small in record { even = f.even; small = omega arith }
 field_fits false octets f = let small : length octets ≤ 130 = f.small in record { even = f.even; small = omega arith }
 
-shown : (id port : ℕ) (d : DataSetsValue) → IsSized d → IsDataField (data_field_of_id id port d)
-shown id port d s = field_fits (is_of_port id) (data_field_of_id id port d) (of_id id port d s)
+shown : (id : ℕ) (port : Option ℕ) (d : DataSetsValue) → IsSized d
+    → IsDataField (data_field_at id port d)
+shown id port d s = field_fits (is_of_port id) (data_field_at id port d) (of_id id port d s)
 
-outcome-sendable : (refusal : Option ErrorId) (action : Action) (id port : ℕ) (d : DataSetsValue) → IsSized d → IsSendableOutcome (outcome refusal action id port d)
-outcome-sendable (Some error) action id port d s = tt
-outcome-sendable None actions.Get id port d s = shown id port d s
-outcome-sendable None actions.Set id port d s = shown id port d s
-outcome-sendable None actions.Command id port d s = tt
-outcome-sendable None actions.Response id port d s = shown id port d s
-outcome-sendable None actions.Acknowledge id port d s = shown id port d s
+outcome-sendable : (refusal : Option ErrorId) (action : Action) (octets : List ℕ)
+    → IsDataField octets → IsSendableOutcome (outcome refusal action octets)
+outcome-sendable (Some error) action octets fits = tt
+outcome-sendable None actions.Get octets fits = fits
+outcome-sendable None actions.Set octets fits = fits
+outcome-sendable None actions.Command octets fits = tt
+outcome-sendable None actions.Response octets fits = fits
+outcome-sendable None actions.Acknowledge octets fits = fits
 
 -- ---- whose it is
 
@@ -88,13 +90,17 @@ named_ports-small port n small = named-small port 1 n (omega arith)
 
 -- ---- the whole reply
 
-answers-sendable : (b : Bool) (q : RequestValue) (refusal : Option ErrorId) (d : DataSetsValue) → IsSized d → AllByRecursion IsSendable (answers_of b refusal q d)
-unfolding port_answers answer
+answers-sendable : (b : Bool) (q : RequestValue) (refusal : Option ErrorId) (d : DataSetsValue)
+    → IsSized d → AllByRecursion IsSendable (answers_of b q refusal d)
+unfolding answer
 answers-sendable true q refusal d s =
-    all_made (λ k. k < 2 ^ 16) IsSendable _
-    (λ k small. record { port = small; outcome = outcome-sendable refusal q.action q.id k d s })
-    (named_ports q.port (length d.ports)) (named_ports-small q.port (length d.ports) s.at_most_eight)
-answers-sendable false q refusal d s = (record { port = tt; outcome = outcome-sendable refusal q.action q.id 0 d s }, tt)
+    let P : Option ℕ → Type 0 = λ own. IsSendable (answer q refusal d own) in
+    let named = named_ports q.port (length d.ports) in
+    all_made P IsSendable (answer q refusal d) (λ own fits. fits) (map Some named)
+    (all_made (λ k. k < 2 ^ 16) P (λ k. Some k)
+    (λ k small. record { port = small; outcome = outcome-sendable refusal q.action _ (shown q.id (Some k) d s) })
+    named (named_ports-small q.port (length d.ports) s.at_most_eight))
+answers-sendable false q refusal d s = (record { port = tt; outcome = outcome-sendable refusal q.action _ (shown q.id None d s) }, tt)
 
 reply_of-answers : (q : RequestValue) (refusal : Option ErrorId) (d : DataSetsValue) → IsSized d → Answers q (reply_of q refusal d)
 unfolding reply_of
@@ -110,15 +116,14 @@ read_answered q ports d s = reply_of-answers q (read_refusal q) d (sized ports d
 
 -- ---- one answer
 
-own_answerer : (b : Bool) (port : ℕ) → b ≡ true → answerer_of b port ≡ Some port
-own_answerer true port e = refl
-own_answerer false port e = cc
+own_answerer : (q : RequestValue) → is_of_port q.id ≡ true → answerer q ≡ Some q.port
+own_answerer q e = rw e refl
 
 one_answer : (q : RequestValue) (reply : ReplyValue) → IsOneAnswer (answerer q) reply → HasOneAnswer q reply
 one_answer q reply one = record {
   answer = record { port = answerer q; outcome = one.0 };
   is = one.1;
-  port = own_answerer (is_of_port q.id) q.port;
+  port = own_answerer q;
 }
 
 pub once : (q : RequestValue) (r : Rights) (ports : ℕ) (d : DataSetsValue) → AreDataSets ports d → IsForOne ports q → HasOneAnswer q (reply_to q r d)
@@ -132,13 +137,15 @@ once q r ports d s one =
 
 -- ---- at most eight
 
-few_answers : (b : Bool) (q : RequestValue) (refusal : Option ErrorId) (d : DataSetsValue) → length d.ports ≤ 8 → length (answers_of b refusal q d) ≤ 8
-unfolding port_answers named_ports
+few_answers : (b : Bool) (q : RequestValue) (refusal : Option ErrorId) (d : DataSetsValue)
+    → length d.ports ≤ 8 → length (answers_of b q refusal d) ≤ 8
+unfolding named_ports
 few_answers false q refusal d eight = omega arith
 few_answers true q refusal d eight =
     let named : List ℕ = filter (is_named q.port) (range_with_len 1 (length d.ports)) in
-    let made : length (port_answers refusal q.action q.id d named) ≡ length named = length-map named _ in
-    omega (arith, made, filter-few (is_named q.port) (range_with_len 1 (length d.ports)), length-range_with_len 1 (length d.ports), eight)
+    let ports : length (map Some named) ≡ length named = length-map named _ in
+    let made : length (map (answer q refusal d) (map Some named)) ≡ length (map Some named) = length-map (map Some named) _ in
+    omega (arith, made, ports, filter-few (is_named q.port) (range_with_len 1 (length d.ports)), length-range_with_len 1 (length d.ports), eight)
 
 pub read_few : (q : RequestValue) (d : DataSetsValue) → length d.ports ≤ 8 → length (read_reply_to q d).answers ≤ 8
 unfolding read_reply_to reply_of
