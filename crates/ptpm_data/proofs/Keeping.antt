@@ -8,7 +8,7 @@ use Rattle.ptpm_codec.specs.declared.error.ErrorId.{ErrorId}
 use Rattle.ptpm_data.specs.declared.rights.Rights.{Rights}
 use Rattle.ptpm_data.specs.declared.ids.Layout.{Layout}
 use Rattle.ptpm_data.specs.declared.ids.Layout.TheVariants as layouts
-use Rattle.ptpm_data.specs.declared.data_sets.ClockPrecedence.{ClockPrecedence}
+use Rattle.ptpm_data.specs.declared.precedence_change.PrecedenceChange.{PrecedenceChange}
 use Rattle.ptpm_data.specs.declared.data_sets.ParentDataSet.{ParentDataSet}
 use Rattle.ptpm_data.specs.declared.port_state.DelayMechanism.{DelayMechanism}
 use Rattle.ptpm_data.specs.IdTable.{Entry, row_of, set_of}
@@ -36,11 +36,13 @@ record Keeps (d e : DataSetsValue) : Type 0 where
 same : (d : DataSetsValue) → Keeps d d
 same d = record { identity = refl; parent_port = refl; grandmaster = refl }
 
-shown_port : (b : Bool) (change : ClockPrecedence → ClockPrecedence) (parent : ParentDataSet) → (grandmaster_changed b change parent).parent_port ≡ parent.parent_port
+shown_port : (b : Bool) (change : PrecedenceChange) (parent : ParentDataSet)
+    → (grandmaster_changed b change parent).parent_port ≡ parent.parent_port
 shown_port true change parent = refl
 shown_port false change parent = refl
 
-shown_grandmaster : (b : Bool) (change : ClockPrecedence → ClockPrecedence) (parent : ParentDataSet) → (grandmaster_changed b change parent).grandmaster ≡ parent.grandmaster
+shown_grandmaster : (b : Bool) (change : PrecedenceChange) (parent : ParentDataSet)
+    → (grandmaster_changed b change parent).grandmaster ≡ parent.grandmaster
 shown_grandmaster true change parent = refl
 shown_grandmaster false change parent = refl
 

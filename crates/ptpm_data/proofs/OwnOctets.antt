@@ -13,6 +13,8 @@ use Rattle.ptpm_codec.specs.declared.message.Action.TheVariants as actions
 use Rattle.ptpm_data.specs.declared.ids.Layout.{Layout}
 use Rattle.ptpm_data.specs.declared.ids.Layout.TheVariants as layouts
 use Rattle.ptpm_data.specs.declared.data_sets.PortDataSet.{PortDataSet}
+use Rattle.ptpm_data.specs.declared.port_change.PortChange.{PortChange}
+use Rattle.ptpm_data.specs.declared.port_change.PortChange.TheVariants as changes
 use Rattle.ptpm_data.specs.declared.port_state.DelayMechanism.{DelayMechanism}
 use Rattle.ptpm_data.specs.declared.port_state.DelayMechanism.TheVariants as mechanisms
 use Rattle.ptpm_data.specs.declared.rights.Rights.{Rights}
@@ -23,6 +25,7 @@ use Rattle.ptpm_data.specs.Request.{RequestValue}
 use Rattle.ptpm_data.specs.Reply.{Answer, Value}
 use Rattle.ptpm_data.specs.SetField.{first_i8, octet}
 use Rattle.ptpm_data.specs.DataField.{clock_field_of, data_field_at, data_field_of, field_of_port, i8_octet, octet_data_field, port_field_of}
+use Rattle.ptpm_data.specs.PortChange.{port_after}
 use Rattle.ptpm_data.specs.Refusals.{is_length, is_set_length, is_set_value, is_value, refusal_at}
 use Rattle.ptpm_data.specs.Changes.{changed_by, changed_if, is_named, named_changed, set_members, with_mechanism, with_ports}
 use Rattle.ptpm_data.specs.Replies.{answer, named_ports, outcome, reply_of, reply_to}
@@ -63,8 +66,9 @@ IsAnswerer true port count (Some n) = IsShown port n count
 IsAnswerer false port count None = ⊤
 IsAnswerer _ port count _ = ⊥
 
-shown_port : (port n : ℕ) (change : PortDataSet → PortDataSet) (d : DataSetsValue) → IsShown port n (length d.ports)
-    → (p : PortDataSet) × (port_of n (with_ports port d change) ≡ Some (change p))
+shown_port : (port n : ℕ) (change : PortChange) (d : DataSetsValue)
+    → IsShown port n (length d.ports)
+    → (p : PortDataSet) × (port_of n (with_ports port d change) ≡ Some (port_after change p))
 unfolding named_changed
 shown_port port n change d s =
     let low = s.positive in
@@ -72,7 +76,7 @@ shown_port port n change d s =
     let found = some_at d.ports (n - 1) (omega arith) in
     let no : n == 0 ≡ false = grind (arith, nat_tests) in
     let place : 1 + (n - 1) ≡ n = omega arith in
-    (found.0, rw (no, named_at port change 1 (n - 1) d.ports, place, s.named, found.1) refl)
+    (found.0, rw (no, named_at port (port_after change) 1 (n - 1) d.ports, place, s.named, found.1) refl)
 
 -- ---- which ids a SET may name
 
@@ -134,7 +138,7 @@ module _ (port n : ℕ) (octets : List ℕ) (d : DataSetsValue) (range : AreOcte
   unfolding port_field_of
   shown_mechanism None known = let wrong = known.1 in cc
   shown_mechanism (Some m) known =
-      let at = shown_port port n (λ p. record p { delay_mechanism = m }) d s in
+      let at = shown_port port n (changes.DelayMechanism m) d s in
       let same : m ≡ known.0 = let e = known.1 in cc in
       let number : mechanism_number m ≡ octet 0 octets = rw same known.2 in
       rw at.1 (ap octet_data_field number)
@@ -143,13 +147,13 @@ module _ (port n : ℕ) (octets : List ℕ) (d : DataSetsValue) (range : AreOcte
       → data_field_of layout (Some n) (set_members layout port octets d) ≡ octet_data_field (octet 0 octets)
   unfolding set_members port_field_of is_port_layout is_set_value set_of
   shown_field layouts.LogAnnounceInterval one at good =
-      rw (shown_port port n (λ p. record p { log_announce = first_i8 octets }) d s).1 (ap octet_data_field (back octets range))
+      rw (shown_port port n (changes.LogAnnounceInterval (first_i8 octets)) d s).1 (ap octet_data_field (back octets range))
   shown_field layouts.AnnounceReceiptTimeout one at good =
-      rw (shown_port port n (λ p. record p { receipt_timeout = octet 0 octets }) d s).1 refl
+      rw (shown_port port n (changes.AnnounceReceiptTimeout (octet 0 octets)) d s).1 refl
   shown_field layouts.LogSyncInterval one at good =
-      rw (shown_port port n (λ p. record p { log_sync = first_i8 octets }) d s).1 (ap octet_data_field (back octets range))
+      rw (shown_port port n (changes.LogSyncInterval (first_i8 octets)) d s).1 (ap octet_data_field (back octets range))
   shown_field layouts.LogMinPdelayReqInterval one at good =
-      rw (shown_port port n (λ p. record p { log_min_pdelay = first_i8 octets }) d s).1 (ap octet_data_field (back octets range))
+      rw (shown_port port n (changes.LogMinPdelayReqInterval (first_i8 octets)) d s).1 (ap octet_data_field (back octets range))
   shown_field layouts.DelayMechanism one at good = shown_mechanism (mechanism_of (octet 0 octets)) (mechanism_named (octet 0 octets) good)
   shown_field _ one at good = cc
 

@@ -7,17 +7,20 @@ use Rattle.ptpm_codec.specs.declared.error.ErrorId.{ErrorId}
 use Rattle.ptpm_data.specs.declared.rights.Rights.{Rights}
 use Rattle.ptpm_data.specs.declared.ids.Layout.{Layout}
 use Rattle.ptpm_data.specs.declared.ids.Layout.TheVariants as layouts
-use Rattle.ptpm_data.specs.declared.data_sets.ClockPrecedence.{ClockPrecedence}
 use Rattle.ptpm_data.specs.declared.data_sets.ParentDataSet.{ParentDataSet}
 use Rattle.ptpm_data.specs.declared.data_sets.TimePropertiesDataSet.{TimePropertiesDataSet}
 use Rattle.ptpm_data.specs.declared.data_sets.PortDataSet.{PortDataSet}
-use Rattle.ptpm_data.specs.declared.port_state.PortState.TheVariants as states
 use Rattle.ptpm_data.specs.declared.port_state.DelayMechanism.{DelayMechanism}
+use Rattle.ptpm_data.specs.declared.port_change.PortChange.{PortChange}
+use Rattle.ptpm_data.specs.declared.port_change.PortChange.TheVariants as changes
+use Rattle.ptpm_data.specs.declared.precedence_change.PrecedenceChange.{PrecedenceChange}
+use Rattle.ptpm_data.specs.declared.precedence_change.PrecedenceChange.TheVariants.{Priority1, Priority2, ClockAccuracy}
 use Rattle.ptpm_data.specs.IdTable.{Entry, row_of}
 use Rattle.ptpm_data.specs.PortState.{mechanism_of}
 use Rattle.ptpm_data.specs.Request.{RequestValue}
 use Rattle.ptpm_data.specs.Members.{DataSetsValue, is_own_grandmaster}
-use Rattle.ptpm_data.specs.PortChange.{enabled}
+use Rattle.ptpm_data.specs.PortChange.{port_after}
+use Rattle.ptpm_data.specs.PrecedenceChange.{precedence_after}
 use Rattle.ptpm_data.specs.SetField.{octet, first_i8, first_i16, has_bit, ptp_text}
 use Rattle.ptpm_data.specs.Refusals.{entry_refusal}
 
@@ -41,19 +44,19 @@ changed_if b change p = if b then change p else p
 unfoldable pub named_changed : ℕ → (PortDataSet → PortDataSet) → List PortDataSet → List PortDataSet
 named_changed port change ports = map (λ e. changed_if (is_named port e.0) change e.1) (enumerate_from 1 ports)
 
-abbrev pub with_ports : ℕ → DataSetsValue → (PortDataSet → PortDataSet) → DataSetsValue
-with_ports port d change = record d { ports = named_changed port change d.ports }
+abbrev pub with_ports : ℕ → DataSetsValue → PortChange → DataSetsValue
+with_ports port d change = record d { ports = named_changed port (port_after change) d.ports }
 
 -- ---- the clock
 
 -- the precedence of the grandmaster changes with the clock's own where the clock is its own grandmaster (9.3.5, table 30)
-abbrev pub grandmaster_changed : Bool → (ClockPrecedence → ClockPrecedence) → ParentDataSet → ParentDataSet
+abbrev pub grandmaster_changed : Bool → PrecedenceChange → ParentDataSet → ParentDataSet
 grandmaster_changed false change p = p
-grandmaster_changed true change p = record p { precedence = change p.precedence }
+grandmaster_changed true change p = record p { precedence = precedence_after change p.precedence }
 
-abbrev pub with_precedence : DataSetsValue → (ClockPrecedence → ClockPrecedence) → DataSetsValue
+abbrev pub with_precedence : DataSetsValue → PrecedenceChange → DataSetsValue
 with_precedence d change = record d {
-  default = record d.default { precedence = change d.default.precedence };
+  default = record d.default { precedence = precedence_after change d.default.precedence };
   parent = grandmaster_changed (is_own_grandmaster d) change d.parent;
 }
 
@@ -65,37 +68,36 @@ with_utc_properties t octets = record t {
   utc_valid = has_bit 2 (octet 2 octets);
 }
 
+-- a number of no mechanism is out of range, and so refused
 abbrev pub with_mechanism : ℕ → DataSetsValue → Option DelayMechanism → DataSetsValue
 with_mechanism port d None = d
-with_mechanism port d (Some m) = with_ports port d (λ p. record p { delay_mechanism = m })
+with_mechanism port d (Some m) = with_ports port d (changes.DelayMechanism m)
 
 -- ---- what an accepted request changes
 
--- SET of an id of the ports (15.5.3): at each named port the id's member is what the dataField says
-abbrev pub set_port_member : Layout → ℕ → List ℕ → DataSetsValue → DataSetsValue
-set_port_member layouts.LogAnnounceInterval port octets d = with_ports port d (λ p. record p { log_announce = first_i8 octets })
-set_port_member layouts.AnnounceReceiptTimeout port octets d =
-    with_ports port d (λ p. record p { receipt_timeout = octet 0 octets })
-set_port_member layouts.LogSyncInterval port octets d = with_ports port d (λ p. record p { log_sync = first_i8 octets })
-set_port_member layouts.LogMinPdelayReqInterval port octets d =
-    with_ports port d (λ p. record p { log_min_pdelay = first_i8 octets })
-set_port_member layouts.DelayMechanism port octets d = with_mechanism port d (mechanism_of (octet 0 octets))
-set_port_member _ port octets d = d
-
--- SET: the members of the id are what the dataField says
+-- SET (15.5.3): the members of the id, for an id of the ports at each named port, are what the dataField says.
+-- NULL_PTP_MANAGEMENT has none.
 unfoldable pub set_members : Layout → ℕ → List ℕ → DataSetsValue → DataSetsValue
 set_members layouts.UserDescription port octets d = record d { description = ptp_text octets }
-set_members layouts.Priority1 port octets d = with_precedence d (λ p. record p { priority1 = octet 0 octets })
-set_members layouts.Priority2 port octets d = with_precedence d (λ p. record p { priority2 = octet 0 octets })
-set_members layouts.ClockAccuracy port octets d = with_precedence d (λ p. record p { accuracy = octet 0 octets })
+set_members layouts.Priority1 port octets d = with_precedence d (Priority1 (octet 0 octets))
+set_members layouts.Priority2 port octets d = with_precedence d (Priority2 (octet 0 octets))
+set_members layouts.ClockAccuracy port octets d = with_precedence d (ClockAccuracy (octet 0 octets))
 set_members layouts.Domain port octets d = record d { default = record d.default { domain = octet 0 octets } }
 set_members layouts.UtcProperties port octets d = record d { time = with_utc_properties d.time octets }
-set_members layout port octets d = set_port_member layout port octets d
+set_members layouts.LogAnnounceInterval port octets d =
+    with_ports port d (changes.LogAnnounceInterval (first_i8 octets))
+set_members layouts.AnnounceReceiptTimeout port octets d =
+    with_ports port d (changes.AnnounceReceiptTimeout (octet 0 octets))
+set_members layouts.LogSyncInterval port octets d = with_ports port d (changes.LogSyncInterval (first_i8 octets))
+set_members layouts.DelayMechanism port octets d = with_mechanism port d (mechanism_of (octet 0 octets))
+set_members layouts.LogMinPdelayReqInterval port octets d =
+    with_ports port d (changes.LogMinPdelayReqInterval (first_i8 octets))
+set_members _ port octets d = d
 
 -- COMMAND: ENABLE_PORT and DISABLE_PORT (15.5.3.7.6 and 7); NULL_PTP_MANAGEMENT changes nothing
 unfoldable pub commanded : Layout → ℕ → DataSetsValue → DataSetsValue
-commanded layouts.EnablePort port d = with_ports port d (λ p. record p { state = enabled p.state })
-commanded layouts.DisablePort port d = with_ports port d (λ p. record p { state = states.Disabled })
+commanded layouts.EnablePort port d = with_ports port d changes.Enable
+commanded layouts.DisablePort port d = with_ports port d changes.Disable
 commanded _ port d = d
 
 abbrev pub carried_out : Layout → RequestValue → Action → DataSetsValue → DataSetsValue

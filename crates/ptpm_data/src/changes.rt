@@ -3,7 +3,6 @@
 ghost use Rattle.std.specs.Prelude.{◌≡◌, true, length};
 ghost use Rattle.ptpm_data.specs.Changes.{IsTargetOf, named_changed, with_utc_properties};
 ghost use Rattle.ptpm_data.specs.PortChange.{port_after};
-ghost use Rattle.ptpm_data.specs.PrecedenceChange.{precedence_after};
 ghost use Rattle.ptpm_data.specs.Ranges.{is_description};
 
 use crate::data_sets::{DataSets, PortDataSet, TimePropertiesDataSet};
@@ -21,7 +20,7 @@ use ptpm_codec::{Action, ErrorId, PortIdentity};
 impl DataSets {
     ghost use Rattle.std.specs.Prelude.{◌≤◌};
     ghost use Rattle.ptpm_data.specs.IdTable.{entry_of, set_of};
-    ghost use Rattle.ptpm_data.specs.Changes.{carried_out, commanded, IsTargetPort, set_members, set_port_member, unless_refused, with_precedence, with_ports};
+    ghost use Rattle.ptpm_data.specs.Changes.{carried_out, commanded, IsTargetPort, set_members, unless_refused, with_precedence, with_ports};
     ghost use Rattle.ptpm_data.specs.Refusals.{entry_refusal, is_length, is_set_length, is_set_value, is_value};
 
     /// Carries out a request for an id of the table, unless it is refused; a refused one changes no member. The answer is why
@@ -74,17 +73,6 @@ impl DataSets {
             )),
             Layout::Domain => self.default.domain = octets[0],
             Layout::UtcProperties => set_utc_properties(&mut self.time, octets),
-            _ => self.set_port_member(layout, port, octets),
-        }
-    }
-
-    #[tactic(auto, unfolding(crate::specs::Refusals::is_set_length, crate::specs::IdTable::set_of))]
-    fn set_port_member(&mut self, layout: Layout, port: u16, octets: &[u8])
-        requires length { is_set_length (set_of layout) octets.now ≡ true }
-        requires port { IsTargetPort port self.old }
-        ensures { self.new ≡ set_port_member layout port octets.now self.old }
-    {
-        match layout {
             Layout::LogAnnounceInterval => self.change_ports(
                 port,
                 PortChange::LogAnnounceInterval(first_i8(octets)),
@@ -130,7 +118,7 @@ impl DataSets {
 
     /// In a clock that is its own grandmaster the grandmaster's member changes with its own (9.3.5, table 30).
     fn change_precedence(&mut self, change: PrecedenceChange)
-        ensures { self.new ≡ with_precedence self.old (precedence_after change) }
+        ensures { self.new ≡ with_precedence self.old change }
     {
         if self.parent.grandmaster == self.default.identity {
             self.parent.precedence.change(change);
@@ -140,7 +128,7 @@ impl DataSets {
 
     fn change_ports(&mut self, port: u16, change: PortChange)
         requires { IsTargetPort port self.old }
-        ensures { self.new ≡ with_ports port self.old (port_after change) }
+        ensures { self.new ≡ with_ports port self.old change }
     {
         change_named(self.ports.as_mut_slice(), port, change);
     }
