@@ -10,9 +10,10 @@ ghost use Rattle.ptpm_manager.specs.Session.{begin_refusal, due_message, is_wait
 ghost use Rattle.ptpm_host.specs.declared.refusal.ReportRefusal.{ReportRefusal};
 ghost use Rattle.ptpm_host.specs.declared.refusal.SendRefusal.{SendRefusal};
 ghost use Rattle.ptpm_host.specs.declared.refusal.SessionRefusal.{SessionRefusal};
-ghost use Rattle.ptpm_host.specs.Session.{ask_of, hand_refusal, heard_of, report_refusal, told_error, told_octets, told_of};
+ghost use Rattle.ptpm_host.specs.Session.{ask_of, hand_refusal, heard_of, report_refusal};
 ghost use Rattle.ptpm_host.specs.SessionNumbers.{begin_number, heard_number, no_session, report_number, send_number, session_number, told_number};
 ghost use Rattle.ptpm_host.specs.SessionSettings.{session_refusal, session_start};
+ghost use Rattle.ptpm_host.specs.Told.{told_error, told_octets, told_of};
 ghost use Rattle.ptpm_c.specs.declared.kept_session.KeptSession.{KeptSession};
 ghost use Rattle.ptpm_c.specs.KeptSession.{session_in};
 ghost use Rattle.ptpm_c.specs.Session.{HasBegun, HasHeard, IsAt};

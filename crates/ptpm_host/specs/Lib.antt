@@ -2,6 +2,10 @@ pub mod Settings
 pub mod Numbers
 pub mod Clock
 pub mod Reading
+pub mod Told
 pub mod SessionSettings
 pub mod Session
 pub mod SessionNumbers
+pub mod SurveySettings
+pub mod Survey
+pub mod SurveyNumbers

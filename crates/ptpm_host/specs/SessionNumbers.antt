@@ -15,8 +15,8 @@ use Rattle.ptpm_host.specs.declared.refusal.SessionRefusal.{SessionRefusal}
 use Rattle.ptpm_host.specs.declared.refusal.SessionRefusal.TheVariants as refusals
 use Rattle.ptpm_host.specs.declared.session.Heard.{Heard}
 use Rattle.ptpm_host.specs.declared.session.Heard.TheVariants as heard
-use Rattle.ptpm_host.specs.declared.session.Told.{Told}
-use Rattle.ptpm_host.specs.declared.session.Told.TheVariants as told
+use Rattle.ptpm_host.specs.declared.told.Told.{Told}
+use Rattle.ptpm_host.specs.declared.told.Told.TheVariants as told
 use Rattle.ptpm_host.specs.Numbers.{cause_number}
 
 -- ---- what became of a datagram

@@ -1,5 +1,5 @@
-//! A clock, and a manager's session, as the software of a device keeps them: plain numbers and octets go in, and messages to
-//! send come out.
+//! A clock, and a manager's session or survey, as the software of a device keeps them: plain numbers and octets go in, and
+//! messages to send come out.
 #![tactic(auto)]
 
 mod clock;
@@ -11,6 +11,10 @@ mod session;
 mod session_numbers;
 mod session_settings;
 mod settings;
+mod survey;
+mod survey_numbers;
+mod survey_settings;
+mod told;
 
 pub use clock::{Handled, HostedClock, MOST_SENT};
 pub use numbers::{NO_CLOCK, handle_number, read_number, start_number, verdict_number};
@@ -18,13 +22,17 @@ pub use refusal::{
     HandleRefusal, ReadRefusal, ReportRefusal, SendRefusal, SessionRefusal, StartRefusal,
 };
 pub use sent::{Sent, hand_out};
-pub use session::{Heard, HostedSession, Told};
+pub use session::{Heard, HostedSession};
 pub use session_numbers::{
     NO_SESSION, begin_number, heard_number, report_number, resume_number, send_number,
     session_number, told_number,
 };
 pub use session_settings::SessionSettings;
 pub use settings::{ClockSettings, ManagerSettings, PortSettings};
+pub use survey::{HostedSurvey, Source, SurveyAnswer};
+pub use survey_numbers::{NO_SURVEY, surveyed_number};
+pub use survey_settings::SurveySettings;
+pub use told::Told;
 
 #[cfg(test)]
 mod tests;

@@ -34,7 +34,7 @@ pub enum ReadRefusal {
     NoRoom,
 }
 
-/// Why a session does not start, in the order in which the reasons are judged.
+/// Why a session does not start, in the order in which the reasons are judged; a survey, for the first alone.
 #[derive(Clone, Copy, Debug, PartialEq, Eq)]
 pub enum SessionRefusal {
     /// The manager's clockIdentity means every clock.
@@ -49,7 +49,7 @@ pub enum SessionRefusal {
     TooManyPorts,
 }
 
-/// Why no request is handed out, in the order in which the reasons are judged.
+/// Why no request is handed out, in the order in which the reasons are judged; a survey's, for the first alone.
 #[derive(Clone, Copy, Debug, PartialEq, Eq)]
 pub enum SendRefusal {
     /// There is room for fewer than 1,472 octets.
@@ -58,10 +58,10 @@ pub enum SendRefusal {
     Session(SendError),
 }
 
-/// Why the answer to a request is not told, in the order in which the reasons are judged.
+/// Why an answer is not told, in the order in which the reasons are judged.
 #[derive(Clone, Copy, Debug, PartialEq, Eq)]
 pub enum ReportRefusal {
-    /// No request was begun, or the latest is not answered.
+    /// No request was begun, or the latest is not answered; or a survey has no answer at the place.
     NoReport,
     /// There is room for fewer octets than its dataField has.
     NoRoom,

@@ -9,13 +9,15 @@ ghost use Rattle.ptpm_manager.specs.declared.report.Report.{Report};
 ghost use Rattle.ptpm_manager.specs.Ask.{request_of};
 ghost use Rattle.ptpm_manager.specs.Receiving.{NeedsMemory, left_by, received_of};
 ghost use Rattle.ptpm_manager.specs.Session.{begin_refusal, begun, due_message, is_waiting, resumed, retuned, sent};
-ghost use Rattle.ptpm_host.specs.Session.{ask_of, asked_action, hand_refusal, heard_of, report_after, report_refusal, told_error, told_octets, told_of, told_size};
+ghost use Rattle.ptpm_host.specs.Session.{ask_of, asked_action, hand_refusal, heard_of, report_after, report_refusal};
 ghost use Rattle.ptpm_host.specs.SessionSettings.{session_refusal, session_start};
+ghost use Rattle.ptpm_host.specs.Told.{told_octets, told_of, told_size};
 
 use crate::refusal::{ReportRefusal, SendRefusal, SessionRefusal};
 use crate::session_settings::SessionSettings;
+use crate::told::{Told, tell};
 use ptpm_codec::{Action, Buffer, ClockIdentity, MESSAGE_OCTETS, Octets, OutOfMemory};
-use ptpm_manager::{Ask, BeginError, Outcome, Reason, Received, Report, SendError, Session};
+use ptpm_manager::{Ask, BeginError, Reason, Received, Report, SendError, Session};
 use std::alloc::Global;
 
 /// A session, room for the request that it sends, and the answer to the latest request.
@@ -35,39 +37,6 @@ pub enum Heard {
     Answered,
     /// It does not, and changes nothing.
     Ignored(Reason),
-}
-
-/// What the answer to a request tells.
-#[derive(Clone, Copy, Debug)]
-pub enum Told {
-    /// A dataField of this many octets.
-    Value(usize),
-    /// The COMMAND was carried out.
-    Done,
-    /// The managementErrorId of an error status.
-    Refused(u16),
-}
-
-impl Told {
-    /// How many octets of a dataField it tells.
-    pub fn size(self) -> usize
-        ensures { result ≡ told_size self }
-    {
-        match self {
-            Told::Value(size) => size,
-            Told::Done | Told::Refused(_) => 0,
-        }
-    }
-
-    /// The managementErrorId, and 0 where it tells none.
-    pub fn error(self) -> u16
-        ensures { result ≡ told_error self }
-    {
-        match self {
-            Told::Refused(error) => error,
-            Told::Value(_) | Told::Done => 0,
-        }
-    }
 }
 
 impl HostedSession {
@@ -228,18 +197,7 @@ impl HostedSession {
         let Some(report) = &self.report else {
             return Err(ReportRefusal::NoReport);
         };
-        match &report.outcome {
-            Outcome::Value(field) => {
-                let field = field.as_slice();
-                if octets.len() < field.len() {
-                    return Err(ReportRefusal::NoRoom);
-                }
-                octets[..field.len()].copy_from_slice(field);
-                Ok(Told::Value(field.len()))
-            }
-            Outcome::Done => Ok(Told::Done),
-            Outcome::Refused(error) => Ok(Told::Refused(*error)),
-        }
+        tell(&report.outcome, octets)
     }
 }
 

@@ -5,7 +5,8 @@ ghost use Rattle.ptpm_host.specs.SessionNumbers.{begin_number, heard_number, rea
 
 use crate::numbers::cause_number;
 use crate::refusal::{ReportRefusal, SendRefusal, SessionRefusal};
-use crate::session::{Heard, Told};
+use crate::session::Heard;
+use crate::told::Told;
 use ptpm_manager::{BeginError, Reason, SendError};
 
 /// No session stands behind a handle.
@@ -22,7 +23,7 @@ pub fn heard_number(heard: Heard) -> u32
 }
 
 /// Why a datagram is ignored.
-fn reason_number(reason: Reason) -> u32
+pub(crate) fn reason_number(reason: Reason) -> u32
     ensures { result ≡ reason_number reason }
 {
     match reason {

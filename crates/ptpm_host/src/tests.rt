@@ -1,5 +1,7 @@
 //! Worked exchanges through the structs of a host, with octets from outside, and each kind of refusal by its number.
 
+mod surveys;
+
 use crate::*;
 use ptpm_agent::Verdict;
 use ptpm_manager::BeginError;

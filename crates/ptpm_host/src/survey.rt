@@ -1,0 +1,149 @@
+//! A survey, as a host keeps it.
+
+ghost use Rattle.std.specs.Prelude.{◌≡◌, ◌++◌, ◌∷◌, [], ℕ, List, None, Some, IfOk, MatchResult, OnErr, OnOk, length, slice_get, take};
+ghost use Rattle.ptpm_codec.specs.Canonical.{canonical};
+ghost use Rattle.ptpm_manager.specs.declared.receiving.Surveyed.{Surveyed};
+ghost use Rattle.ptpm_manager.specs.Answers.{Answer, first_of_each_source, heard, kept_by, surveyed_by};
+ghost use Rattle.ptpm_manager.specs.Enquiry.{survey_message};
+ghost use Rattle.ptpm_host.specs.Session.{message_refusal};
+ghost use Rattle.ptpm_host.specs.Survey.{answer_refusal, source_of};
+ghost use Rattle.ptpm_host.specs.SurveySettings.{enquiry_of, survey_refusal};
+ghost use Rattle.ptpm_host.specs.Told.{told_octets, told_of, told_size};
+
+use crate::refusal::{ReportRefusal, SendRefusal, SessionRefusal};
+use crate::survey_settings::SurveySettings;
+use crate::told::{Told, tell};
+use ptpm_codec::{Buffer, ClockIdentity, MESSAGE_OCTETS, OutOfMemory, PortIdentity};
+use ptpm_manager::{Survey, Surveyed};
+use std::alloc::Global;
+
+/// One GET to every clock and every port, and the first answer of each port that answers.
+#[derive(Drop)]
+pub struct HostedSurvey {
+    survey: Survey,
+}
+
+/// A portIdentity, as a host in C takes it over.
+#[repr(C)]
+#[derive(Clone, Copy, Debug, PartialEq, Eq)]
+pub struct Source {
+    pub clock: [u8; 8],
+    pub port: u16,
+}
+
+const _: () = prove!(size_of::<Source>() == 10);
+
+impl Source {
+    fn of(identity: &PortIdentity) -> Source
+        ensures { result ≡ source_of identity.now }
+    {
+        Source {
+            clock: identity.clock.0,
+            port: identity.port,
+        }
+    }
+}
+
+/// An answer to a survey.
+#[derive(Clone, Copy, Debug)]
+pub struct SurveyAnswer {
+    /// The port that gave it.
+    pub source: Source,
+    pub told: Told,
+}
+
+impl HostedSurvey {
+    /// A survey without answers. Takes no memory.
+    pub fn start(alloc: Global, settings: &SurveySettings) -> Result<HostedSurvey, SessionRefusal>
+        ensures enquiry { IfOk result (λ s. s.survey.enquiry ≡ enquiry_of settings.now) }
+        ensures answers { IfOk result (λ s. s.survey.answers ≡ []) }
+        ensures first { IfOk result (λ s. s.survey.answers ≡ first_of_each_source s.survey.enquiry []) }
+        ensures refusal { MatchResult result (λ _. survey_refusal settings.now ≡ None)
+            (λ e. survey_refusal settings.now ≡ Some e) }
+    {
+        let me = settings.manager();
+        if me.clock == ClockIdentity::EVERY {
+            return Err(SessionRefusal::ManagerIsEvery);
+        }
+        Ok(HostedSurvey {
+            survey: Survey::new(
+                alloc,
+                me,
+                settings.domain,
+                settings.number,
+                settings.hops,
+                settings.id,
+            ),
+        })
+    }
+
+    /// Leaves the GET at the head of `octets`, and answers how many octets it has, the same each time. Where there is too
+    /// little room, nothing is written. Takes no memory.
+    pub fn send(&self, octets: &mut [u8]) -> Result<usize, SendRefusal>
+        ensures refusal { MatchResult result (λ _. message_refusal (length octets.old) ≡ None)
+            (λ e. message_refusal (length octets.old) ≡ Some e) }
+        ensures octets { IfOk result (λ n. take n octets.new ≡ canonical (survey_message self.now.survey.enquiry)) }
+        ensures size { length octets.new ≡ length octets.old }
+        ensures untouched { OnErr result (octets.new ≡ octets.old) }
+    {
+        if octets.len() < MESSAGE_OCTETS {
+            return Err(SendRefusal::NoRoom);
+        }
+        let mut buffer = Buffer::new();
+        self.survey.send(&mut buffer);
+        let message = buffer.as_slice();
+        octets[..message.len()].copy_from_slice(message);
+        Ok(message.len())
+    }
+
+    /// What the survey makes of a datagram: an answer is kept where it is the first of its port and there is room. Memory is
+    /// asked for that alone; where it is refused, nothing changes.
+    pub fn receive(&mut self, datagram: &[u8]) -> Result<Surveyed, OutOfMemory>
+        ensures surveyed { IfOk result (λ surveyed.
+            surveyed ≡ surveyed_by self.old.survey.answers (heard self.old.survey.enquiry datagram.now)) }
+        ensures kept { OnOk result
+            (self.new.survey.answers ≡ kept_by self.old.survey.answers (heard self.old.survey.enquiry datagram.now)) }
+        // Answers that are the first of each source of some datagrams, are so with this one.
+        ensures first { (datagrams : List (List ℕ)) →
+            self.old.survey.answers ≡ first_of_each_source self.old.survey.enquiry datagrams → OnOk result
+            (self.new.survey.answers ≡ first_of_each_source self.old.survey.enquiry (datagrams ++ datagram.now ∷ [])) }
+        ensures enquiry { self.new.survey.enquiry ≡ self.old.survey.enquiry }
+        ensures memory { OnErr result
+            (surveyed_by self.old.survey.answers (heard self.old.survey.enquiry datagram.now) ≡ Surveyed.Taken) }
+        ensures unchanged { OnErr result (self.new ≡ self.old) }
+    {
+        self.survey.receive(datagram)
+    }
+
+    /// How many answers are kept, at most 512.
+    pub fn count(&self) -> usize
+        ensures { result ≡ length self.now.survey.answers }
+    {
+        self.survey.answers().len()
+    }
+
+    /// The answer at a place, counted from 0 in the order in which they came; a dataField is left at the head of `octets`.
+    /// Where it is refused, nothing is written. Takes no memory.
+    pub fn answer(&self, place: usize, octets: &mut [u8]) -> Result<SurveyAnswer, ReportRefusal>
+        ensures refusal { MatchResult result
+            (λ _. answer_refusal (length octets.old) (slice_get self.now.survey.answers place) ≡ None)
+            (λ e. answer_refusal (length octets.old) (slice_get self.now.survey.answers place) ≡ Some e) }
+        ensures source { (a : Answer) → slice_get self.now.survey.answers place ≡ Some a →
+            IfOk result (λ t. t.source ≡ source_of a.0) }
+        ensures told { (a : Answer) → slice_get self.now.survey.answers place ≡ Some a →
+            IfOk result (λ t. t.told ≡ told_of a.1) }
+        ensures octets { (a : Answer) → slice_get self.now.survey.answers place ≡ Some a →
+            IfOk result (λ t. take (told_size t.told) octets.new ≡ told_octets a.1) }
+        ensures size { length octets.new ≡ length octets.old }
+        ensures untouched { OnErr result (octets.new ≡ octets.old) }
+    {
+        let Some((source, outcome)) = self.survey.answers().get_index(place) else {
+            return Err(ReportRefusal::NoReport);
+        };
+        let told = tell(outcome, octets)?;
+        Ok(SurveyAnswer {
+            source: Source::of(source),
+            told,
+        })
+    }
+}

@@ -1,0 +1,38 @@
+//! What a survey asks, as a host in C lays it out.
+
+ghost use Rattle.std.specs.Prelude.{◌≡◌};
+ghost use Rattle.ptpm_host.specs.SurveySettings.{surveying_port};
+
+use ptpm_codec::{ClockIdentity, PortIdentity};
+
+/// One manager, and the GET that it sends to every clock and every port.
+#[repr(C)]
+#[derive(Clone, Copy)]
+pub struct SurveySettings {
+    /// portNumber of the manager.
+    pub port: u16,
+    /// The sequenceId of the GET.
+    pub number: u16,
+    /// managementId.
+    pub id: u16,
+    /// clockIdentity of the manager, not all ones.
+    pub clock: [u8; 8],
+    /// domainNumber.
+    pub domain: u8,
+    /// startingBoundaryHops.
+    pub hops: u8,
+}
+
+const _: () = prove!(size_of::<SurveySettings>() == 16);
+
+impl SurveySettings {
+    /// The manager.
+    pub(crate) fn manager(&self) -> PortIdentity
+        ensures { result ≡ surveying_port self.now }
+    {
+        PortIdentity {
+            clock: ClockIdentity(self.clock),
+            port: self.port,
+        }
+    }
+}
