@@ -1,4 +1,3 @@
-pub mod Kept
+pub mod KeptWord
 pub mod Turns
 pub mod Numbers
-pub mod SessionKept

@@ -1,4 +1,4 @@
--- What a kept clock owns: what a box of it owns, or nothing where no clock is kept.
+-- What a pointer that a host keeps owns: what a box of what is kept there owns, or nothing where nothing is kept.
 use mir.Syntax.{Ty}
 use base.Fml.{Fml, ftrue}
 use base.Stored.{Coded}
@@ -8,7 +8,7 @@ use Rattle.std.specs.Coded.{coded_option}
 use Rattle.std.specs.Global.{Global}
 use Rattle.std.specs.Prelude.{Option, Some, None}
 use Rattle.std.specs.contracts.impls.GlobalAllocator.TheImpl.{ghosts}
-use Rattle.ptpm_host.specs.contracts.clock.HostedClock.{the_row}
+use Rattle.ptpm_c.specs.contracts.kept.Kept.{the_row}
 
 -- the heap has one handle
 abbrev pub the_heap : Global
@@ -20,7 +20,7 @@ may_free = ghosts.dealloc_token the_heap
 
 abbrev pub keeping_owns : Ptr → Option the_row.Denot → Fml
 keeping_owns at None = ftrue
-keeping_owns at (Some clock) = box_owns may_free the_row at clock
+keeping_owns at (Some kept) = box_owns may_free the_row at kept
 
-abbrev pub clock_coded : Coded (Option the_row.Denot)
-clock_coded = coded_option the_row.coded
+abbrev pub kept_coded : Coded (Option the_row.Denot)
+kept_coded = coded_option the_row.coded

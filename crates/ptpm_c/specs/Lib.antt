@@ -1,5 +1,4 @@
 pub mod Keeping
+pub mod Held
 pub mod Turned
-pub mod KeptSession
-pub mod SessionKeeping
 pub mod Session

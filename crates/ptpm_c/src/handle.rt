@@ -1,53 +1,99 @@
-//! A clock as a host in C keeps it.
+//! What a host in C keeps of a clock or of a session.
 
-ghost use Rattle.std.specs.Prelude.{◌≡◌, IfNone, IfSome, None, Some, is_some};
+ghost use Rattle.std.specs.Prelude.{◌≡◌, IfNone, IfSome, None, is_some};
+ghost use Rattle.ptpm_c.specs.declared.kept.Hosted.TheVariants.{Clock, Nothing, Session};
+ghost use Rattle.ptpm_c.specs.Held.{clock_held, held, session_held};
 
 use crate::keeping::Keeping;
-use ptpm_host::HostedClock;
+use crate::kept::{Hosted, Kept};
+use ptpm_host::{HostedClock, HostedSession};
 use std::alloc::Global;
 use std::mem;
 
-/// `struct ptpm_clock { void *at; bool live; }`: where it is all zeros it holds no clock.
+/// `struct ptpm_clock { void *at; bool live; }`, and the same of a session: where it is all zeros it holds nothing.
 #[repr(C)]
 #[derive(Drop)]
-pub struct ClockHandle {
+pub struct Handle {
     keeping: Keeping,
     live: bool,
-    ghost tied: { live ≡ is_some keeping.clock },
+    ghost tied: { live ≡ is_some keeping.kept },
 }
 
-impl ClockHandle {
-    /// No clock.
-    pub fn empty() -> ClockHandle
-        ensures { result.keeping.clock ≡ None }
+impl Handle {
+    /// Holds nothing.
+    pub fn empty() -> Handle
+        ensures { held result.keeping ≡ Nothing }
     {
-        ClockHandle {
+        Handle {
             keeping: Keeping::nothing(),
             live: false,
         }
     }
 
-    /// Holds this clock.
-    pub fn of_box(clock: Box<HostedClock>) -> ClockHandle
-        ensures { result.keeping.clock ≡ Some clock.value }
+    /// Holds this, in this box.
+    pub fn of(mut kept: Box<Kept>, hosted: Hosted) -> Handle
+        ensures { held result.keeping ≡ hosted }
     {
-        ClockHandle {
-            keeping: Keeping::of_box(clock),
+        *kept = Kept::of(hosted);
+        Handle {
+            keeping: Keeping::of_box(kept),
             live: true,
         }
     }
 
-    /// Takes the clock out, if it holds one.
-    pub fn take(&mut self, alloc: Global) -> Option<Box<HostedClock>>
-        ensures left { self.new.keeping.clock ≡ None }
-        ensures some { IfSome result (λ b. self.old.keeping.clock ≡ Some b.value) }
-        ensures none { IfNone result (self.old.keeping.clock ≡ None) }
+    /// Takes the clock out, and the box that it is to be kept in again. What is no clock stays.
+    pub fn take_clock(&mut self, alloc: Global) -> Option<(Box<Kept>, Box<HostedClock>)>
+        ensures some { IfSome result (λ taken. held self.old.keeping ≡ Clock taken.1) }
+        ensures none { IfNone result (clock_held self.old.keeping ≡ None) }
+        ensures unchanged { IfNone result (held self.new.keeping ≡ held self.old.keeping) }
     {
-        let ClockHandle { keeping, live } = mem::replace(self, ClockHandle::empty());
-        if live {
-            Some(keeping.into_box(alloc))
-        } else {
-            None
+        let (kept, hosted) = self.open(alloc)?;
+        match hosted {
+            Hosted::Clock(clock) => Some((kept, clock)),
+            other => {
+                *self = Handle::of(kept, other);
+                None
+            }
         }
+    }
+
+    /// Takes the session out, in the same way.
+    pub fn take_session(&mut self, alloc: Global) -> Option<(Box<Kept>, Box<HostedSession>)>
+        ensures some { IfSome result (λ taken. held self.old.keeping ≡ Session taken.1) }
+        ensures none { IfNone result (session_held self.old.keeping ≡ None) }
+        ensures unchanged { IfNone result (held self.new.keeping ≡ held self.old.keeping) }
+    {
+        let (kept, hosted) = self.open(alloc)?;
+        match hosted {
+            Hosted::Session(session) => Some((kept, session)),
+            other => {
+                *self = Handle::of(kept, other);
+                None
+            }
+        }
+    }
+
+    /// Ends what it holds.
+    pub fn end(&mut self, alloc: Global)
+        ensures { held self.new.keeping ≡ Nothing }
+    {
+        if let Some((_, hosted)) = self.open(alloc) {
+            drop(hosted);
+        }
+    }
+
+    /// Takes out the box, if there is one, and what is kept in it.
+    fn open(&mut self, alloc: Global) -> Option<(Box<Kept>, Hosted)>
+        ensures left { held self.new.keeping ≡ Nothing }
+        ensures some { IfSome result (λ opened. opened.1 ≡ held self.old.keeping) }
+        ensures none { IfNone result (held self.old.keeping ≡ Nothing) }
+    {
+        let Handle { keeping, live } = mem::replace(self, Handle::empty());
+        if !live {
+            return None;
+        }
+        let mut kept = keeping.into_box(alloc);
+        let hosted = mem::replace(&mut *kept, Kept::of(Hosted::Nothing)).into_hosted();
+        Some((kept, hosted))
     }
 }

@@ -1,48 +1,48 @@
-//! A clock behind a pointer that a host keeps. All that is unsafe stands here and in `session_keeping`.
+//! A box behind a pointer that a host keeps. All that is unsafe stands here.
 
 ghost use Rattle.std.specs.Prelude.{◌≡◌, IsTrue, Option, None, Some, is_some};
-ghost use Rattle.ptpm_host.specs.declared.clock.HostedClock.{HostedClock};
-ghost use Rattle.ptpm_c.specs.Keeping.{clock_coded, keeping_owns};
+ghost use Rattle.ptpm_c.specs.declared.kept.Kept.{Kept};
+ghost use Rattle.ptpm_c.specs.Keeping.{keeping_owns, kept_coded};
 
-use ptpm_host::HostedClock;
+use crate::kept::Kept;
 use std::alloc::Global;
 use std::marker::Model;
 
-/// Where the box of a clock lies, or null. Its type names no clock, since none may cross to C.
+/// Where the box lies, or null. Its type names nothing of what is in the box, since none of it may cross to C.
 #[repr(C)]
 #[derive(Drop)]
 pub struct Keeping {
     at: *mut u8,
-    pub ghost clock: { Option HostedClock } by { clock_coded },
+    pub ghost kept: { Option Kept } by { kept_coded },
 }
 
 impl Model for Keeping {
-    ghost also_owns = { λ k. keeping_owns k.at k.clock };
+    ghost also_owns = { λ k. keeping_owns k.at k.kept };
 }
 
 impl Keeping {
-    /// No clock.
+    /// No box.
     pub fn nothing() -> Keeping
-        ensures { result.clock ≡ None }
+        ensures { result.kept ≡ None }
     {
         Keeping {
             at: std::ptr::null_mut(),
         }
     }
 
-    /// A clock in its box.
-    pub fn of_box(clock: Box<HostedClock>) -> Keeping
-        ensures { result.clock ≡ Some clock.value }
+    /// What lies in this box.
+    pub fn of_box(kept: Box<Kept>) -> Keeping
+        ensures { result.kept ≡ Some kept.value }
     {
-        let at = Box::into_raw(clock);
+        let at = Box::into_raw(kept);
         Keeping { at: at as *mut u8 }
     }
 
     /// The box again.
-    pub fn into_box(self, alloc: Global) -> Box<HostedClock>
-        requires { IsTrue (is_some self.clock) }
-        ensures { Some result.value ≡ self.clock }
+    pub fn into_box(self, alloc: Global) -> Box<Kept>
+        requires { IsTrue (is_some self.kept) }
+        ensures { Some result.value ≡ self.kept }
     {
-        unsafe { Box::from_raw(alloc, self.at as *mut HostedClock) }
+        unsafe { Box::from_raw(alloc, self.at as *mut Kept) }
     }
 }

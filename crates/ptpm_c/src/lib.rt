@@ -1,4 +1,5 @@
-//! A clock for hosts in C: a static library of a few calls, each one of `ptpm_host`. `hosts/ptpm.h` is its header.
+//! A clock, and a manager's session, for hosts in C: a static library of a few calls, each one of `ptpm_host`.
+//! `hosts/ptpm.h` is its header.
 #![tactic(auto)]
 
 ghost use Rattle.std.specs.Prelude.{◌≡◌, ◌≤◌, IfNone, IfSome, None, Ok, Some, length, take};
@@ -12,16 +13,17 @@ ghost use Rattle.ptpm_host.specs.Clock.{handle_refusal, messages_in, start_by};
 ghost use Rattle.ptpm_host.specs.Numbers.{handle_number, no_clock, read_number};
 ghost use Rattle.ptpm_host.specs.Reading.{read_refusal};
 ghost use Rattle.ptpm_host.specs.Settings.{clock_start, default_identity, port_start};
+ghost use Rattle.ptpm_c.specs.declared.kept.Hosted.TheVariants.{Nothing};
+ghost use Rattle.ptpm_c.specs.Held.{clock_held, held};
 ghost use Rattle.ptpm_c.specs.Turned.{IsTurnedTo};
 
 mod handle;
 mod keeping;
-mod kept_session;
+mod kept;
 mod session;
-mod session_handle;
-mod session_keeping;
 
-use crate::handle::ClockHandle;
+use crate::handle::Handle;
+use crate::kept::{Hosted, Kept};
 use ptpm_host::{
     ClockSettings, HostedClock, ManagerSettings, NO_CLOCK, PortSettings, Sent, handle_number,
     read_number, start_number, verdict_number,
@@ -49,26 +51,27 @@ pub extern "C" fn ptpm_port_defaults(settings: &mut PortSettings)
 #[unsafe(no_mangle)]
 pub extern "C" fn ptpm_clock_start(
     alloc: Global,
-    handle: &mut ClockHandle,
+    handle: &mut Handle,
     settings: &ClockSettings,
     ports: &[PortSettings],
     managers: &[ManagerSettings],
 ) -> u32
-    ensures started { IfSome handle.new.keeping.clock (λ c. (result ≡ 0) × (start_by settings.now ports.now ≡ Ok c.agent.sets)) }
-    ensures refused { IfNone handle.new.keeping.clock (1 ≤ result) }
+    ensures started { IfSome (clock_held handle.new.keeping) (λ c. (result ≡ 0) × (start_by settings.now ports.now ≡ Ok c.agent.sets)) }
+    ensures refused { IfNone (clock_held handle.new.keeping) ((1 ≤ result) × (held handle.new.keeping ≡ Nothing)) }
 {
-    let _ = handle.take(alloc);
+    handle.end(alloc);
     let clock = match HostedClock::start(alloc, settings, ports, managers) {
         Ok(clock) => clock,
         Err(refusal) => return start_number(refusal),
     };
-    match Box::new(alloc, clock) {
-        Ok(boxed) => {
-            *handle = ClockHandle::of_box(boxed);
-            0
-        }
-        Err(_) => 35,
-    }
+    let Ok(kept) = Box::new(alloc, Kept::of(Hosted::Nothing)) else {
+        return 35;
+    };
+    let Ok(clock) = Box::new(alloc, clock) else {
+        return 35;
+    };
+    *handle = Handle::of(kept, Hosted::Clock(clock));
+    0
 }
 
 /// What becomes of a datagram that comes in at a port: the number of the verdict, or of the refusal. The first `count`
@@ -77,24 +80,24 @@ pub extern "C" fn ptpm_clock_start(
 #[unsafe(no_mangle)]
 pub extern "C" fn ptpm_clock_handle(
     alloc: Global,
-    handle: &mut ClockHandle,
+    handle: &mut Handle,
     port: u16,
     datagram: &[u8],
     sent: &mut [Sent],
     count: &mut usize,
 ) -> u32
-    ensures turned { (c : HostedClock) → handle.old.keeping.clock ≡ Some c →
-        handle_refusal (has_port port c.agent.sets) (length sent.old) ≡ None → IfSome handle.new.keeping.clock (λ d.
+    ensures turned { (c : HostedClock) → clock_held handle.old.keeping ≡ Some c →
+        handle_refusal (has_port port c.agent.sets) (length sent.old) ≡ None → IfSome (clock_held handle.new.keeping) (λ d.
         IsTurnedTo c port datagram.now result (messages_in (take count.new sent.new)) d) }
-    ensures refused { (c : HostedClock) (e : HandleRefusal) → handle.old.keeping.clock ≡ Some c →
+    ensures refused { (c : HostedClock) (e : HandleRefusal) → clock_held handle.old.keeping ≡ Some c →
         handle_refusal (has_port port c.agent.sets) (length sent.old) ≡ Some e →
-        (result ≡ handle_number e) × ((count.new ≡ 0) × (handle.new.keeping.clock ≡ Some c)) }
+        (result ≡ handle_number e) × ((count.new ≡ 0) × (held handle.new.keeping ≡ held handle.old.keeping)) }
     ensures within { count.new ≤ length sent.new }
-    ensures empty { handle.old.keeping.clock ≡ None →
-        (result ≡ no_clock) × ((count.new ≡ 0) × (handle.new.keeping.clock ≡ None)) }
+    ensures empty { clock_held handle.old.keeping ≡ None →
+        (result ≡ no_clock) × ((count.new ≡ 0) × (held handle.new.keeping ≡ held handle.old.keeping)) }
 {
     *count = 0;
-    let Some(mut clock) = handle.take(alloc) else {
+    let Some((kept, mut clock)) = handle.take_clock(alloc) else {
         return NO_CLOCK;
     };
     let number = match clock.handle(port, datagram, sent) {
@@ -104,7 +107,7 @@ pub extern "C" fn ptpm_clock_handle(
         }
         Err(refusal) => handle_number(refusal),
     };
-    *handle = ClockHandle::of_box(clock);
+    *handle = Handle::of(kept, Hosted::Clock(clock));
     number
 }
 
@@ -113,22 +116,22 @@ pub extern "C" fn ptpm_clock_handle(
 #[unsafe(no_mangle)]
 pub extern "C" fn ptpm_clock_read(
     alloc: Global,
-    handle: &mut ClockHandle,
+    handle: &mut Handle,
     id: u16,
     port: u16,
     octets: &mut [u8],
     size: &mut usize,
 ) -> u32
-    ensures kept { handle.new.keeping.clock ≡ handle.old.keeping.clock }
-    ensures field { (c : HostedClock) → handle.old.keeping.clock ≡ Some c →
+    ensures kept { held handle.new.keeping ≡ held handle.old.keeping }
+    ensures field { (c : HostedClock) → clock_held handle.old.keeping ≡ Some c →
         read_refusal id port (length octets.old) c.agent.sets ≡ None →
         (result ≡ 0) × (take size.new octets.new ≡ data_field_of_id id port c.agent.sets) }
-    ensures refused { (c : HostedClock) (e : ReadRefusal) → handle.old.keeping.clock ≡ Some c →
+    ensures refused { (c : HostedClock) (e : ReadRefusal) → clock_held handle.old.keeping ≡ Some c →
         read_refusal id port (length octets.old) c.agent.sets ≡ Some e → (result ≡ read_number e) × (size.new ≡ 0) }
-    ensures empty { handle.old.keeping.clock ≡ None → (result ≡ no_clock) × (size.new ≡ 0) }
+    ensures empty { clock_held handle.old.keeping ≡ None → (result ≡ no_clock) × (size.new ≡ 0) }
 {
     *size = 0;
-    let Some(clock) = handle.take(alloc) else {
+    let Some((kept, clock)) = handle.take_clock(alloc) else {
         return NO_CLOCK;
     };
     let number = match clock.read(id, port, octets) {
@@ -138,16 +141,16 @@ pub extern "C" fn ptpm_clock_read(
         }
         Err(refusal) => read_number(refusal),
     };
-    *handle = ClockHandle::of_box(clock);
+    *handle = Handle::of(kept, Hosted::Clock(clock));
     number
 }
 
 /// Ends the clock that a handle holds, if it holds one.
 #[unsafe(no_mangle)]
-pub extern "C" fn ptpm_clock_stop(alloc: Global, handle: &mut ClockHandle)
-    ensures { handle.new.keeping.clock ≡ None }
+pub extern "C" fn ptpm_clock_stop(alloc: Global, handle: &mut Handle)
+    ensures { held handle.new.keeping ≡ Nothing }
 {
-    let _ = handle.take(alloc);
+    handle.end(alloc);
 }
 
 #[cfg(test)]

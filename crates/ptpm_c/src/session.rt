@@ -10,16 +10,17 @@ ghost use Rattle.ptpm_manager.specs.Session.{begin_refusal, due_message, is_wait
 ghost use Rattle.ptpm_host.specs.declared.refusal.ReportRefusal.{ReportRefusal};
 ghost use Rattle.ptpm_host.specs.declared.refusal.SendRefusal.{SendRefusal};
 ghost use Rattle.ptpm_host.specs.declared.refusal.SessionRefusal.{SessionRefusal};
+ghost use Rattle.ptpm_host.specs.declared.session.HostedSession.{HostedSession};
 ghost use Rattle.ptpm_host.specs.Session.{ask_of, hand_refusal, heard_of, report_refusal};
 ghost use Rattle.ptpm_host.specs.SessionNumbers.{begin_number, heard_number, no_session, report_number, send_number, session_number, told_number};
 ghost use Rattle.ptpm_host.specs.SessionSettings.{session_refusal, session_start};
 ghost use Rattle.ptpm_host.specs.Told.{told_error, told_octets, told_of};
-ghost use Rattle.ptpm_c.specs.declared.kept_session.KeptSession.{KeptSession};
-ghost use Rattle.ptpm_c.specs.KeptSession.{session_in};
+ghost use Rattle.ptpm_c.specs.declared.kept.Hosted.TheVariants.{Nothing};
+ghost use Rattle.ptpm_c.specs.Held.{held, session_held};
 ghost use Rattle.ptpm_c.specs.Session.{HasBegun, HasHeard, IsAt};
 
-use crate::kept_session::KeptSession;
-use crate::session_handle::SessionHandle;
+use crate::handle::Handle;
+use crate::kept::{Hosted, Kept};
 use ptpm_host::{
     HostedSession, NO_SESSION, SessionSettings, begin_number, heard_number, report_number,
     resume_number, send_number, session_number, told_number,
@@ -31,11 +32,11 @@ use std::alloc::Global;
 #[unsafe(no_mangle)]
 pub extern "C" fn ptpm_session_start(
     alloc: Global,
-    handle: &mut SessionHandle,
+    handle: &mut Handle,
     settings: &SessionSettings,
 ) -> u32
-    ensures started { IfSome handle.new.keeping.session (λ k. (result ≡ 0) × IsAt (session_in k) (session_start settings.now) None) }
-    ensures refused { IfNone handle.new.keeping.session (1 ≤ result) }
+    ensures started { IfSome (session_held handle.new.keeping) (λ s. (result ≡ 0) × IsAt s (session_start settings.now) None) }
+    ensures refused { IfNone (session_held handle.new.keeping) ((1 ≤ result) × (held handle.new.keeping ≡ Nothing)) }
     ensures number { (e : SessionRefusal) → session_refusal settings.now ≡ Some e → result ≡ session_number e }
 {
     handle.end(alloc);
@@ -43,13 +44,14 @@ pub extern "C" fn ptpm_session_start(
         Ok(session) => session,
         Err(refusal) => return session_number(refusal),
     };
-    match Box::new(alloc, KeptSession::of(session)) {
-        Ok(boxed) => {
-            *handle = SessionHandle::of_box(boxed);
-            0
-        }
-        Err(_) => 35,
-    }
+    let Ok(kept) = Box::new(alloc, Kept::of(Hosted::Nothing)) else {
+        return 35;
+    };
+    let Ok(session) = Box::new(alloc, session) else {
+        return 35;
+    };
+    *handle = Handle::of(kept, Hosted::Session(session));
+    0
 }
 
 /// Begins a request: 0. Where it is refused, by the number of the refusal, nothing changes.
@@ -57,29 +59,29 @@ pub extern "C" fn ptpm_session_start(
 #[unsafe(no_mangle)]
 pub extern "C" fn ptpm_session_begin(
     alloc: Global,
-    handle: &mut SessionHandle,
+    handle: &mut Handle,
     action: u8,
     id: u16,
     port: u16,
     octets: &[u8],
 ) -> u32
-    ensures begun { (k : KeptSession) → handle.old.keeping.session ≡ Some k → result ≡ 0 →
-        IfSome handle.new.keeping.session (λ l. HasBegun (session_in k) (ask_of action id port octets.now) (session_in l)) }
-    ensures permitted { (k : KeptSession) → handle.old.keeping.session ≡ Some k → result ≡ 0 →
-        begin_refusal (session_in k).session (ask_of action id port octets.now) ≡ None }
-    ensures number { (k : KeptSession) (e : BeginError) → handle.old.keeping.session ≡ Some k →
-        begin_refusal (session_in k).session (ask_of action id port octets.now) ≡ Some e → result ≢ 35 → result ≡ begin_number e }
-    ensures unchanged { result ≢ 0 → handle.new.keeping.session ≡ handle.old.keeping.session }
-    ensures empty { handle.old.keeping.session ≡ None → result ≡ no_session }
+    ensures begun { (s : HostedSession) → session_held handle.old.keeping ≡ Some s → result ≡ 0 →
+        IfSome (session_held handle.new.keeping) (λ t. HasBegun s (ask_of action id port octets.now) t) }
+    ensures permitted { (s : HostedSession) → session_held handle.old.keeping ≡ Some s → result ≡ 0 →
+        begin_refusal s.session (ask_of action id port octets.now) ≡ None }
+    ensures number { (s : HostedSession) (e : BeginError) → session_held handle.old.keeping ≡ Some s →
+        begin_refusal s.session (ask_of action id port octets.now) ≡ Some e → result ≢ 35 → result ≡ begin_number e }
+    ensures unchanged { result ≢ 0 → held handle.new.keeping ≡ held handle.old.keeping }
+    ensures empty { session_held handle.old.keeping ≡ None → result ≡ no_session }
 {
-    let Some(mut kept) = handle.take(alloc) else {
+    let Some((kept, mut session)) = handle.take_session(alloc) else {
         return NO_SESSION;
     };
-    let number = match kept.session.begin(alloc, action, id, port, octets) {
+    let number = match session.begin(alloc, action, id, port, octets) {
         Ok(()) => 0,
         Err(refusal) => begin_number(refusal),
     };
-    *handle = SessionHandle::of_box(kept);
+    *handle = Handle::of(kept, Hosted::Session(session));
     number
 }
 
@@ -87,118 +89,110 @@ pub extern "C" fn ptpm_session_begin(
 #[unsafe(no_mangle)]
 pub extern "C" fn ptpm_session_send(
     alloc: Global,
-    handle: &mut SessionHandle,
+    handle: &mut Handle,
     octets: &mut [u8],
     size: &mut usize,
 ) -> u32
-    ensures sent { (k : KeptSession) → handle.old.keeping.session ≡ Some k →
-        hand_refusal (length octets.old) (session_in k).session ≡ None →
-        (result ≡ 0) × IfSome handle.new.keeping.session (λ l. IsAt (session_in l) (sent (session_in k).session) (session_in k).report) }
-    ensures octets { (k : KeptSession) (v : Message) → handle.old.keeping.session ≡ Some k →
-        hand_refusal (length octets.old) (session_in k).session ≡ None → due_message (session_in k).session ≡ Some v →
+    ensures sent { (s : HostedSession) → session_held handle.old.keeping ≡ Some s →
+        hand_refusal (length octets.old) s.session ≡ None →
+        (result ≡ 0) × IfSome (session_held handle.new.keeping) (λ t. IsAt t (sent s.session) s.report) }
+    ensures octets { (s : HostedSession) (v : Message) → session_held handle.old.keeping ≡ Some s →
+        hand_refusal (length octets.old) s.session ≡ None → due_message s.session ≡ Some v →
         take size.new octets.new ≡ canonical v }
-    ensures refused { (k : KeptSession) (e : SendRefusal) → handle.old.keeping.session ≡ Some k →
-        hand_refusal (length octets.old) (session_in k).session ≡ Some e → (result ≡ send_number e) × ((size.new ≡ 0) ×
-        IfSome handle.new.keeping.session (λ l. IsAt (session_in l) (session_in k).session (session_in k).report)) }
-    ensures empty { handle.old.keeping.session ≡ None →
-        (result ≡ no_session) × ((size.new ≡ 0) × (handle.new.keeping.session ≡ None)) }
+    ensures refused { (s : HostedSession) (e : SendRefusal) → session_held handle.old.keeping ≡ Some s →
+        hand_refusal (length octets.old) s.session ≡ Some e → (result ≡ send_number e) × ((size.new ≡ 0) ×
+        IfSome (session_held handle.new.keeping) (λ t. IsAt t s.session s.report)) }
+    ensures empty { session_held handle.old.keeping ≡ None →
+        (result ≡ no_session) × ((size.new ≡ 0) × (held handle.new.keeping ≡ held handle.old.keeping)) }
 {
     *size = 0;
-    let Some(mut kept) = handle.take(alloc) else {
+    let Some((kept, mut session)) = handle.take_session(alloc) else {
         return NO_SESSION;
     };
-    let number = match kept.session.send(octets) {
+    let number = match session.send(octets) {
         Ok(count) => {
             *size = count;
             0
         }
         Err(refusal) => send_number(refusal),
     };
-    *handle = SessionHandle::of_box(kept);
+    *handle = Handle::of(kept, Hosted::Session(session));
     number
 }
 
 /// Gives the unanswered request this many attempts: 0, or the number of the refusal. Takes no memory.
 #[unsafe(no_mangle)]
-pub extern "C" fn ptpm_session_resume(
-    alloc: Global,
-    handle: &mut SessionHandle,
-    attempts: u8,
-) -> u32
-    ensures resumed { (k : KeptSession) → handle.old.keeping.session ≡ Some k → is_waiting (session_in k).session ≡ true →
-        (result ≡ 0) × IfSome handle.new.keeping.session (λ l. IsAt (session_in l) (resumed (session_in k).session attempts) (session_in k).report) }
-    ensures idle { (k : KeptSession) → handle.old.keeping.session ≡ Some k → is_waiting (session_in k).session ≡ false →
-        (result ≡ 43) × (handle.new.keeping.session ≡ Some k) }
-    ensures empty { handle.old.keeping.session ≡ None →
-        (result ≡ no_session) × (handle.new.keeping.session ≡ None) }
+pub extern "C" fn ptpm_session_resume(alloc: Global, handle: &mut Handle, attempts: u8) -> u32
+    ensures resumed { (s : HostedSession) → session_held handle.old.keeping ≡ Some s → is_waiting s.session ≡ true →
+        (result ≡ 0) × IfSome (session_held handle.new.keeping) (λ t. IsAt t (resumed s.session attempts) s.report) }
+    ensures idle { (s : HostedSession) → session_held handle.old.keeping ≡ Some s → is_waiting s.session ≡ false →
+        (result ≡ 43) × (held handle.new.keeping ≡ held handle.old.keeping) }
+    ensures empty { session_held handle.old.keeping ≡ None →
+        (result ≡ no_session) × (held handle.new.keeping ≡ held handle.old.keeping) }
 {
-    let Some(mut kept) = handle.take(alloc) else {
+    let Some((kept, mut session)) = handle.take_session(alloc) else {
         return NO_SESSION;
     };
-    let number = match kept.session.resume(attempts) {
+    let number = match session.resume(attempts) {
         Ok(()) => 0,
         Err(refusal) => resume_number(refusal),
     };
-    *handle = SessionHandle::of_box(kept);
+    *handle = Handle::of(kept, Hosted::Session(session));
     number
 }
 
 /// From now on requests are sent, and replies expected, in this domain: 0, or the number of the refusal. Takes no memory.
 #[unsafe(no_mangle)]
-pub extern "C" fn ptpm_session_retune(alloc: Global, handle: &mut SessionHandle, domain: u8) -> u32
-    ensures retuned { (k : KeptSession) → handle.old.keeping.session ≡ Some k →
-        (result ≡ 0) × IfSome handle.new.keeping.session (λ l. IsAt (session_in l) (retuned (session_in k).session domain) (session_in k).report) }
-    ensures empty { handle.old.keeping.session ≡ None →
-        (result ≡ no_session) × (handle.new.keeping.session ≡ None) }
+pub extern "C" fn ptpm_session_retune(alloc: Global, handle: &mut Handle, domain: u8) -> u32
+    ensures retuned { (s : HostedSession) → session_held handle.old.keeping ≡ Some s →
+        (result ≡ 0) × IfSome (session_held handle.new.keeping) (λ t. IsAt t (retuned s.session domain) s.report) }
+    ensures empty { session_held handle.old.keeping ≡ None →
+        (result ≡ no_session) × (held handle.new.keeping ≡ held handle.old.keeping) }
 {
-    let Some(mut kept) = handle.take(alloc) else {
+    let Some((kept, mut session)) = handle.take_session(alloc) else {
         return NO_SESSION;
     };
-    kept.session.retune(domain);
-    *handle = SessionHandle::of_box(kept);
+    session.retune(domain);
+    *handle = Handle::of(kept, Hosted::Session(session));
     0
 }
 
 /// What the session makes of a datagram: 0 for the answer, or the number of the reason to ignore it, or of the refusal, and
 /// then nothing changes.
 #[unsafe(no_mangle)]
-pub extern "C" fn ptpm_session_receive(
-    alloc: Global,
-    handle: &mut SessionHandle,
-    datagram: &[u8],
-) -> u32
-    ensures heard { (k : KeptSession) → handle.old.keeping.session ≡ Some k → result ≢ 35 →
-        (result ≡ heard_number (heard_of (received_of (session_in k).session datagram.now))) ×
-        IfSome handle.new.keeping.session (λ l. HasHeard (session_in k) (received_of (session_in k).session datagram.now) (session_in l)) }
-    ensures refused { (k : KeptSession) → handle.old.keeping.session ≡ Some k →
-        result ≢ heard_number (heard_of (received_of (session_in k).session datagram.now)) →
-        (result ≡ 35) × (NeedsMemory (received_of (session_in k).session datagram.now) × (handle.new.keeping.session ≡ Some k)) }
-    ensures empty { handle.old.keeping.session ≡ None →
-        (result ≡ no_session) × (handle.new.keeping.session ≡ None) }
+pub extern "C" fn ptpm_session_receive(alloc: Global, handle: &mut Handle, datagram: &[u8]) -> u32
+    ensures heard { (s : HostedSession) → session_held handle.old.keeping ≡ Some s → result ≢ 35 →
+        (result ≡ heard_number (heard_of (received_of s.session datagram.now))) ×
+        IfSome (session_held handle.new.keeping) (λ t. HasHeard s (received_of s.session datagram.now) t) }
+    ensures refused { (s : HostedSession) → session_held handle.old.keeping ≡ Some s →
+        result ≢ heard_number (heard_of (received_of s.session datagram.now)) →
+        (result ≡ 35) × (NeedsMemory (received_of s.session datagram.now) × (held handle.new.keeping ≡ held handle.old.keeping)) }
+    ensures empty { session_held handle.old.keeping ≡ None →
+        (result ≡ no_session) × (held handle.new.keeping ≡ held handle.old.keeping) }
 {
-    let Some(mut kept) = handle.take(alloc) else {
+    let Some((kept, mut session)) = handle.take_session(alloc) else {
         return NO_SESSION;
     };
-    let number = match kept.session.receive(datagram) {
+    let number = match session.receive(datagram) {
         Ok(heard) => heard_number(heard),
         Err(_) => 35,
     };
-    *handle = SessionHandle::of_box(kept);
+    *handle = Handle::of(kept, Hosted::Session(session));
     number
 }
 
 /// How many requests were begun; 0 where the handle holds no session. Takes no memory.
 #[unsafe(no_mangle)]
-pub extern "C" fn ptpm_session_issued(alloc: Global, handle: &mut SessionHandle) -> u64
-    ensures kept { handle.new.keeping.session ≡ handle.old.keeping.session }
-    ensures issued { (k : KeptSession) → handle.old.keeping.session ≡ Some k → result ≡ (session_in k).session.issued }
-    ensures empty { handle.old.keeping.session ≡ None → result ≡ 0 }
+pub extern "C" fn ptpm_session_issued(alloc: Global, handle: &mut Handle) -> u64
+    ensures kept { held handle.new.keeping ≡ held handle.old.keeping }
+    ensures issued { (s : HostedSession) → session_held handle.old.keeping ≡ Some s → result ≡ s.session.issued }
+    ensures empty { session_held handle.old.keeping ≡ None → result ≡ 0 }
 {
-    let Some(kept) = handle.take(alloc) else {
+    let Some((kept, session)) = handle.take_session(alloc) else {
         return 0;
     };
-    let issued = kept.session.issued();
-    *handle = SessionHandle::of_box(kept);
+    let issued = session.issued();
+    *handle = Handle::of(kept, Hosted::Session(session));
     issued
 }
 
@@ -207,27 +201,27 @@ pub extern "C" fn ptpm_session_issued(alloc: Global, handle: &mut SessionHandle)
 #[unsafe(no_mangle)]
 pub extern "C" fn ptpm_session_report(
     alloc: Global,
-    handle: &mut SessionHandle,
+    handle: &mut Handle,
     octets: &mut [u8],
     size: &mut usize,
     error: &mut u16,
 ) -> u32
-    ensures kept { handle.new.keeping.session ≡ handle.old.keeping.session }
-    ensures told { (k : KeptSession) (r : Report) → handle.old.keeping.session ≡ Some k → (session_in k).report ≡ Some r →
-        report_refusal (length octets.old) (session_in k).report ≡ None →
+    ensures kept { held handle.new.keeping ≡ held handle.old.keeping }
+    ensures told { (s : HostedSession) (r : Report) → session_held handle.old.keeping ≡ Some s → s.report ≡ Some r →
+        report_refusal (length octets.old) s.report ≡ None →
         (result ≡ told_number (told_of r.outcome)) × (take size.new octets.new ≡ told_octets r.outcome) }
-    ensures error { (k : KeptSession) (r : Report) → handle.old.keeping.session ≡ Some k → (session_in k).report ≡ Some r →
-        report_refusal (length octets.old) (session_in k).report ≡ None → error.new ≡ told_error (told_of r.outcome) }
-    ensures refused { (k : KeptSession) (e : ReportRefusal) → handle.old.keeping.session ≡ Some k →
-        report_refusal (length octets.old) (session_in k).report ≡ Some e → (result ≡ report_number e) × (size.new ≡ 0) }
-    ensures empty { handle.old.keeping.session ≡ None → (result ≡ no_session) × (size.new ≡ 0) }
+    ensures error { (s : HostedSession) (r : Report) → session_held handle.old.keeping ≡ Some s → s.report ≡ Some r →
+        report_refusal (length octets.old) s.report ≡ None → error.new ≡ told_error (told_of r.outcome) }
+    ensures refused { (s : HostedSession) (e : ReportRefusal) → session_held handle.old.keeping ≡ Some s →
+        report_refusal (length octets.old) s.report ≡ Some e → (result ≡ report_number e) × (size.new ≡ 0) }
+    ensures empty { session_held handle.old.keeping ≡ None → (result ≡ no_session) × (size.new ≡ 0) }
 {
     *size = 0;
     *error = 0;
-    let Some(kept) = handle.take(alloc) else {
+    let Some((kept, session)) = handle.take_session(alloc) else {
         return NO_SESSION;
     };
-    let number = match kept.session.report(octets) {
+    let number = match session.report(octets) {
         Ok(told) => {
             *size = told.size();
             *error = told.error();
@@ -235,14 +229,14 @@ pub extern "C" fn ptpm_session_report(
         }
         Err(refusal) => report_number(refusal),
     };
-    *handle = SessionHandle::of_box(kept);
+    *handle = Handle::of(kept, Hosted::Session(session));
     number
 }
 
 /// Ends the session that a handle holds, if it holds one.
 #[unsafe(no_mangle)]
-pub extern "C" fn ptpm_session_stop(alloc: Global, handle: &mut SessionHandle)
-    ensures { handle.new.keeping.session ≡ None }
+pub extern "C" fn ptpm_session_stop(alloc: Global, handle: &mut Handle)
+    ensures { held handle.new.keeping ≡ Nothing }
 {
     handle.end(alloc);
 }

@@ -1,8 +1,7 @@
 //! The calls of a host in C, one after another.
 
-use crate::handle::ClockHandle;
+use crate::handle::Handle;
 use crate::session::*;
-use crate::session_handle::SessionHandle;
 use crate::*;
 use ptpm_host::SessionSettings;
 
@@ -22,7 +21,7 @@ const REPLY: &[u8; 56] = b"\x0d\x12\x00\x38\x00\x00\
 
 #[test]
 fn a_clock_from_start_to_stop(rt: HostRuntime) {
-    let mut handle = ClockHandle::empty();
+    let mut handle = Handle::empty();
     let mut settings = ClockSettings::new();
     ptpm_clock_defaults(&mut settings);
     settings.identity = [0xaa, 0xbb, 0xcc, 0xff, 0xfe, 0xdd, 0xee, 0x01];
@@ -62,7 +61,7 @@ fn a_session_from_start_to_stop(rt: HostRuntime) {
         hops: 1,
         attempts: 0,
     };
-    let mut handle = SessionHandle::empty();
+    let mut handle = Handle::empty();
     let mut octets = [0; 1472];
     let mut size = 1;
     let mut error = 1;

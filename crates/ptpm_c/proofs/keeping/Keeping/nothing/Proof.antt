@@ -13,7 +13,7 @@ use denote.Steps.{nothing}
 use denote.Triple.Walked.{says, ends_at}
 use Rattle.std.proofs.raw_atomic.Walks.{proved_at}
 use Rattle.std.specs.Prelude.{None}
-use Rattle.ptpm_c.proofs.Kept.{kept_word, kept_good, puts_behind}
+use Rattle.ptpm_c.proofs.KeptWord.{kept_word, kept_good, puts_behind}
 use Rattle.ptpm_c.specs.contracts.keeping.Keeping.nothing as f
 use Rattle.ptpm_c.proofs.keeping.Keeping.nothing.Statement.{statement}
 use Rattle.ptpm_c.proofs.keeping.Keeping.nothing.Code as code
@@ -26,5 +26,5 @@ nothing_spec 𝓤 𝓛 𝓜 𝓡 wired =
     enter ! 𝓣.C 𝓣.Λ code.function [] _ $ alloc_all ! (λ ls. pass_all ! refl tt $
     sets ! (agg ! (and_then ! (lit ! tt) (no_more !))) refl (kept_good null_ptr) $
     returns ! (look_at ! 0 refl) $ free_all ! refl $ nothing ! $ puts_behind ! null_ptr None $
-    suffices ! _ (ends_at 𝓛 f.ended tt said y (kept_word null_ptr) (record { at = null_ptr; clock = None }) tt tt) $ says ! refl $
+    suffices ! _ (ends_at 𝓛 f.ended tt said y (kept_word null_ptr) (record { at = null_ptr; kept = None }) tt tt) $ says ! refl $
     nothing ! $ join ! $ nothing ! $ join ! $ done !))

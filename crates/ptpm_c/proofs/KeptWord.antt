@@ -1,4 +1,4 @@
--- A kept clock where the machine has it: one word, which is its pointer. And the types of its functions, as their calls pass them.
+-- What is kept for a host where the machine has it: one word, which is its pointer. And the types of its functions, as their calls pass them.
 use mathlib.Core.Path.{◌≡◌, refl, subst}
 use mathlib.Core.List.{List, [], ◌∷◌, ◌++◌}
 use seplogic.Ra.Ura.{Ura}
@@ -25,20 +25,20 @@ use Rattle.std.proofs.Flags.{never_true}
 use Rattle.std.proofs.RcSteps.{Good, Ptr-Good}
 use Rattle.std.proofs.ResultValues.{and_tt}
 use Rattle.std.proofs.alloc.Global.TheLaws as global
-use Rattle.ptpm_host.specs.contracts.clock.HostedClock as Hosted
-use Rattle.ptpm_host.proofs.clock.HostedClock.TheLaws as hosted
 use Rattle.ptpm_c.specs.Keeping.{keeping_owns}
 use Rattle.ptpm_c.specs.contracts.keeping.Keeping as Keeping
+use Rattle.ptpm_c.specs.contracts.kept.Kept as The
+use Rattle.ptpm_c.proofs.kept.Kept.TheLaws as the
 
 -- ---- the types
-abbrev pub Clock : RattleType
-Clock = Hosted.the_row
+abbrev pub Inner : RattleType
+Inner = The.the_row
 
 abbrev pub Heap : RattleType
 Heap = Global.the_row
 
 abbrev pub Boxed : RattleType
-Boxed = Box.the_row Clock Heap ghosts
+Boxed = Box.the_row Inner Heap ghosts
 
 abbrev pub Kept : RattleType
 Kept = Keeping.the_row
@@ -47,8 +47,8 @@ Kept = Keeping.the_row
 abbrev pub passed : RattleType → RattleType
 passed R = arg (unnamed (layout R)) no R
 
-pub clock_laws : Laws (passed Clock)
-clock_laws = arg_laws (unnamed (layout Clock)) no Clock hosted.the_row_laws refl
+pub inner_laws : Laws (passed Inner)
+inner_laws = arg_laws (unnamed (layout Inner)) no Inner the.the_row_laws refl
 
 pub heap_laws : Laws (passed Heap)
 heap_laws = arg_laws (unnamed (layout Heap)) no Heap global.the_row_laws refl
@@ -67,33 +67,33 @@ pub record OneWord (τ : Ty) (vs : List Val) : Type 1 where
 pub one_word : (τ : Ty) (vs : List Val) → Typed (τ ∷ []) vs → OneWord τ vs
 one_word τ vs typed = one_value τ (OneWord τ) vs typed (λ v good. record { word = v; is_it = refl; good = good })
 
--- the word of a kept clock has its pointer alone
+-- the word of what is kept has its pointer alone
 abbrev pub kept_word : Ptr → Val
 kept_word p = vstruct (vcons (ptr_val p) vnil)
 
 pub kept_good : (p : Ptr) → Good (layout Kept) (kept_word p)
 kept_good p = let of_pointer : Good ty_ptr (ptr_val p) = Ptr-Good p in (and_tt (has_ty ty_ptr (ptr_val p)) of_pointer.0, (of_pointer.1, tt))
 
--- ---- the clock of a handle that is known to hold one
-pub record Holding (kept : Option Clock.Denot) : Type 0 where
-  pub clock : Clock.Denot
-  pub is_it : kept ≡ Some clock
+-- ---- what is kept where something is known to be
+pub record Holding (kept : Option Inner.Denot) : Type 0 where
+  pub inner : Inner.Denot
+  pub is_it : kept ≡ Some inner
 
-pub holding : (kept : Option Clock.Denot) → IsTrue (is_some kept) → Holding kept
-holding (Some c) says_so = record { clock = c; is_it = refl }
+pub holding : (kept : Option Inner.Denot) → IsTrue (is_some kept) → Holding kept
+holding (Some c) says_so = record { inner = c; is_it = refl }
 holding None says_so = never_true says_so
 
--- ---- what a kept clock owns
+-- ---- what it owns
 module _ {M : Type 1} {𝓤 : Ura M} {𝓛 : Logic 𝓤} {K : Type 0} {Γ : List (Item 𝓤)} {G : Goal 𝓤 𝓛.H} where
   -- taken out of its word
-  pub lifts_out : K → (k : Kept.Denot) (vs : List Val) → (vs ≡ kept_word k.at ∷ [] → Seq K 𝓛 (‵ (keeping_owns k.at k.clock) ∷ Γ) G) → Seq K 𝓛 (‵ (Kept.own_val k vs) ∷ Γ) G
+  pub lifts_out : K → (k : Kept.Denot) (vs : List Val) → (vs ≡ kept_word k.at ∷ [] → Seq K 𝓛 (‵ (keeping_owns k.at k.kept) ∷ Γ) G) → Seq K 𝓛 (‵ (Kept.own_val k vs) ∷ Γ) G
   lifts_out t k vs next =
       fsplit t $ fpick t (λ fields. fsplit t $ feq_l t (λ whole. fsplit t $ feq_l t (λ first. drop t $
       next (subst (λ (ps : List Val). vs ≡ vstruct (of_list (ps ++ [])) ∷ []) first whole))))
 
   -- put behind a pointer
-  pub puts_behind : K → (p : Ptr) (c : Option Clock.Denot) → Step K 𝓛 (‵ (Kept.own_val (record { at = p; clock = c }) (kept_word p ∷ [])) ∷ Γ) G (‵ (keeping_owns p c) ∷ Γ) G
+  pub puts_behind : K → (p : Ptr) (c : Option Inner.Denot) → Step K 𝓛 (‵ (Kept.own_val (record { at = p; kept = c }) (kept_word p ∷ [])) ∷ Γ) G (‵ (keeping_owns p c) ∷ Γ) G
   puts_behind t p c = step (λ s.
       nothing t $ feq_i t (List Val) (ptr_val p ∷ []) (ptr_val p ∷ []) refl $ fjoin t $
       feq_i t (List Val) (kept_word p ∷ []) (kept_word p ∷ []) refl $ fjoin t $
-      fpack t (Valss (shape Keeping.the_type).fields) (within (shape Keeping.the_type) (to Keeping.the_type (record { at = p; clock = c })) (kept_word p ∷ [])) (ptr_val p ∷ [], tt) $ fjoin t $ s)
+      fpack t (Valss (shape Keeping.the_type).fields) (within (shape Keeping.the_type) (to Keeping.the_type (record { at = p; kept = c })) (kept_word p ∷ [])) (ptr_val p ∷ [], tt) $ fjoin t $ s)

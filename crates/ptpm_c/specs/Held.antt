@@ -1,0 +1,33 @@
+-- What a handle holds: a clock, a session, or nothing.
+use Rattle.std.specs.Prelude.{Option, Some, None}
+use Rattle.ptpm_host.specs.declared.clock.HostedClock.{HostedClock}
+use Rattle.ptpm_host.specs.declared.session.HostedSession.{HostedSession}
+use Rattle.ptpm_c.specs.declared.keeping.Keeping.{Keeping}
+use Rattle.ptpm_c.specs.declared.kept.Hosted.{Hosted}
+use Rattle.ptpm_c.specs.declared.kept.Hosted.TheVariants as hosts
+use Rattle.ptpm_c.specs.declared.kept.Kept.{Kept}
+
+abbrev pub hosted_in : Option Kept → Hosted
+hosted_in None = hosts.Nothing
+hosted_in (Some kept) = kept.hosted.value
+
+abbrev pub held : Keeping → Hosted
+held keeping = hosted_in keeping.kept
+
+abbrev pub clock_of : Hosted → Option HostedClock
+clock_of hosts.Nothing = None
+clock_of (hosts.Clock clock) = Some clock.value
+clock_of (hosts.Session session) = None
+
+abbrev pub session_of : Hosted → Option HostedSession
+session_of hosts.Nothing = None
+session_of (hosts.Clock clock) = None
+session_of (hosts.Session session) = Some session.value
+
+-- the clock, or the session, that a handle holds, if it holds one
+
+abbrev pub clock_held : Keeping → Option HostedClock
+clock_held keeping = clock_of (held keeping)
+
+abbrev pub session_held : Keeping → Option HostedSession
+session_held keeping = session_of (held keeping)
