@@ -1,7 +1,8 @@
 /* PTP management (IEEE 1588-2019, clause 15) for a host in C. An agent: the data sets of one clock, and what becomes of each
    management message that comes in at its ports. And a session of a manager: one request at a time to one clock; such an
-   agent carries it out once, however often it is sent. The library opens no socket, reads no clock and starts no thread. Link
-   libptpm_c.a, and liblibc_c.a of the toolchain, whose heap.c calls malloc, realloc and free.
+   agent carries it out once, however often it is sent. And a survey: one GET to every clock, and the first answer of each
+   port. The library opens no socket, reads no clock and starts no thread. Link libptpm_c.a, and liblibc_c.a of the toolchain,
+   whose heap.c calls malloc, realloc and free.
 
    What is proved of a call is proved of callers that keep to this:
 
@@ -115,26 +116,55 @@ struct ptpm_session_settings {
 /* What may be asked of a clock: the actionField of a request. */
 enum { PTPM_GET = 0, PTPM_SET = 1, PTPM_COMMAND = 3 };
 
+/* A survey of a manager: what it asks and its answers, behind one pointer. All zeros hold no survey. */
+struct ptpm_survey { void *at; bool live; };
+
+/* One manager, and the GET that it sends to every clock and every port. A clock answers it whatever numbers it took from this
+   manager before. A late answer to another GET of the manager with the same number and id counts as one to this: so each
+   survey gets a number that is not on its way any more. */
+struct ptpm_survey_settings {
+    uint16_t port;                      /* portNumber of the manager */
+    uint16_t number;                    /* sequenceId */
+    uint16_t id;                        /* managementId */
+    uint8_t clock[8];                   /* clockIdentity of the manager, not all ones */
+    uint8_t domain;
+    uint8_t hops;                       /* startingBoundaryHops */
+};
+
+/* The port that gave an answer. */
+struct ptpm_source {
+    uint8_t clock[8];
+    uint16_t port;
+};
+
 _Static_assert(sizeof(struct ptpm_clock) == 16 && sizeof(struct ptpm_clock_settings) == 216
                && sizeof(struct ptpm_port_settings) == 16 && sizeof(struct ptpm_manager_settings) == 12
                && sizeof(struct ptpm_sent) == 1476 && sizeof(struct ptpm_session) == 16
-               && sizeof(struct ptpm_session_settings) == 26, "the library was made for other sizes");
+               && sizeof(struct ptpm_session_settings) == 26 && sizeof(struct ptpm_survey) == 16
+               && sizeof(struct ptpm_survey_settings) == 16 && sizeof(struct ptpm_source) == 10,
+               "the library was made for other sizes");
 
 /* A clock sends at most so many messages for a datagram, and a dataField of its own has at most so many octets; a message
    has at most so many, its dataField included. */
 enum { PTPM_MOST_SENT = 15, PTPM_MOST_READ = 130, PTPM_MOST_OCTETS = 1472 };
+
+/* A survey keeps the answers of at most so many ports. */
+enum { PTPM_MOST_ANSWERS = 512 };
 
 /* What a call answers. */
 enum {
     PTPM_STARTED = 0, PTPM_READ = 0, PTPM_BEGUN = 0, PTPM_SENT = 0, PTPM_RESUMED = 0, PTPM_RETUNED = 0,
     /* what became of a datagram at a session: it answers the request, or it is ignored, as below */
     PTPM_ANSWERED = 0,
+    /* what became of a datagram at a survey: it is the first answer of its port, a further one, or the first of one port too
+       many; or it is ignored, as at a session */
+    PTPM_TAKEN = 0, PTPM_AGAIN = 27, PTPM_FULL = 28,
     /* what the answer tells: a dataField, that a COMMAND was carried out, or a managementErrorId */
     PTPM_VALUE = 0, PTPM_DONE = 25, PTPM_REFUSED = 26,
     /* what became of a datagram */
     PTPM_OTHER_DOMAIN = 1, PTPM_OWN_MESSAGE, PTPM_NOT_ADDRESSED, PTPM_NOT_A_REQUEST, PTPM_ANSWERED_NEW,
     PTPM_ANSWERED_REPEAT, PTPM_DROPPED_OLD, PTPM_DROPPED_CONFLICT, PTPM_ANSWERED_UNNUMBERED,
-    /* why a session ignores it; PTPM_OTHER_DOMAIN too */
+    /* why a session or a survey ignores it; PTPM_OTHER_DOMAIN too */
     PTPM_NOT_A_REPLY, PTPM_OTHER_TARGET, PTPM_OTHER_SOURCE, PTPM_NOTHING_ASKED, PTPM_OTHER_NUMBER, PTPM_OTHER_CONTENT,
     /* why it holds no management message */
     PTPM_TOO_SHORT = 16, PTPM_NOT_MANAGEMENT, PTPM_BAD_VERSION, PTPM_BAD_LENGTH, PTPM_BAD_ACTION, PTPM_BAD_TLV_TYPE,
@@ -153,10 +183,12 @@ enum {
     PTPM_COUNT_AT_MAXIMUM,              /* the session has begun 1,000,000 requests */
     PTPM_IDLE,                          /* no request is unanswered */
     PTPM_GAVE_UP,                       /* no attempts are left */
-    PTPM_NO_REPORT,                     /* no request was begun, or the latest is not answered */
+    PTPM_NO_REPORT,                     /* no request was begun, or the latest is not answered; the survey has no such answer */
+    PTPM_NO_SURVEY,                     /* the handle holds none */
     /* why a clock does not start, the first that holds */
     PTPM_NO_PORTS = 48, PTPM_TOO_MANY_PORTS, PTPM_GRANDMASTER_DIFFERS, PTPM_TOO_MANY_MANAGERS, PTPM_MANAGER_TWICE,
-    /* why a session does not start, the first that holds; PTPM_NO_PORTS and PTPM_TOO_MANY_PORTS too, behind these */
+    /* why a session does not start, the first that holds; PTPM_NO_PORTS and PTPM_TOO_MANY_PORTS too, behind these. A survey:
+       the first of these alone */
     PTPM_MANAGER_IS_EVERY, PTPM_TARGET_IS_EVERY, PTPM_SAME_CLOCK,
     /* a member is out of its range */
     PTPM_BAD_IDENTITY = 64, PTPM_BAD_DOMAIN, PTPM_BAD_USER_DESCRIPTION, PTPM_BAD_TWO_STEP, PTPM_BAD_PRIORITY1,
@@ -229,5 +261,30 @@ uint32_t ptpm_session_report(struct ptpm_session *session, uint8_t *octets, size
 
 /* Ends the session that the handle holds, if it holds one; the handle then holds none. */
 void ptpm_session_stop(struct ptpm_session *session);
+
+/* Starts a survey without answers in place of the one that the handle holds: PTPM_STARTED, or why not, and then the handle
+   holds none. */
+uint32_t ptpm_survey_start(struct ptpm_survey *survey, const struct ptpm_survey_settings *settings);
+
+/* Leaves the GET at the head of octets, *size octets, the same each time: PTPM_SENT, or why not; room is how many octets there
+   are, PTPM_MOST_OCTETS or more. Takes no memory. */
+uint32_t ptpm_survey_send(struct ptpm_survey *survey, uint8_t *octets, size_t room, size_t *size);
+
+/* What the survey makes of a datagram: PTPM_TAKEN where it is the first answer of its port, which is kept; PTPM_AGAIN and the
+   first stays; PTPM_FULL; why it is ignored; or PTPM_NO_MEMORY or PTPM_NO_SURVEY. But for PTPM_TAKEN nothing changes. */
+uint32_t ptpm_survey_receive(struct ptpm_survey *survey, const uint8_t *datagram, size_t size);
+
+/* How many answers are kept; 0 where the handle holds no survey. Takes no memory. */
+size_t ptpm_survey_count(struct ptpm_survey *survey);
+
+/* What the answer at a place tells, counted from 0 in the order in which they came: PTPM_VALUE, with the dataField at the head
+   of octets, *size octets; or PTPM_REFUSED, with the managementErrorId in *error; *source is then the port that gave it. Or
+   why nothing is told, and then *source stays as it was. room is how many octets there are: a dataField has at most 1,418.
+   Takes no memory. */
+uint32_t ptpm_survey_answer(struct ptpm_survey *survey, size_t place, struct ptpm_source *source, uint8_t *octets, size_t room,
+                            size_t *size, uint16_t *error);
+
+/* Ends the survey that the handle holds, if it holds one; the handle then holds none. */
+void ptpm_survey_stop(struct ptpm_survey *survey);
 
 #endif

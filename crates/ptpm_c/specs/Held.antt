@@ -1,7 +1,8 @@
--- What a handle holds: a clock, a session, or nothing.
+-- What a handle holds: a clock, a session, a survey, or nothing.
 use Rattle.std.specs.Prelude.{Option, Some, None}
 use Rattle.ptpm_host.specs.declared.clock.HostedClock.{HostedClock}
 use Rattle.ptpm_host.specs.declared.session.HostedSession.{HostedSession}
+use Rattle.ptpm_host.specs.declared.survey.HostedSurvey.{HostedSurvey}
 use Rattle.ptpm_c.specs.declared.keeping.Keeping.{Keeping}
 use Rattle.ptpm_c.specs.declared.kept.Hosted.{Hosted}
 use Rattle.ptpm_c.specs.declared.kept.Hosted.TheVariants as hosts
@@ -18,16 +19,27 @@ abbrev pub clock_of : Hosted → Option HostedClock
 clock_of hosts.Nothing = None
 clock_of (hosts.Clock clock) = Some clock.value
 clock_of (hosts.Session session) = None
+clock_of (hosts.Survey survey) = None
 
 abbrev pub session_of : Hosted → Option HostedSession
 session_of hosts.Nothing = None
 session_of (hosts.Clock clock) = None
 session_of (hosts.Session session) = Some session.value
+session_of (hosts.Survey survey) = None
 
--- the clock, or the session, that a handle holds, if it holds one
+abbrev pub survey_of : Hosted → Option HostedSurvey
+survey_of hosts.Nothing = None
+survey_of (hosts.Clock clock) = None
+survey_of (hosts.Session session) = None
+survey_of (hosts.Survey survey) = Some survey.value
+
+-- the clock, the session, or the survey, that a handle holds, if it holds one
 
 abbrev pub clock_held : Keeping → Option HostedClock
 clock_held keeping = clock_of (held keeping)
 
 abbrev pub session_held : Keeping → Option HostedSession
 session_held keeping = session_of (held keeping)
+
+abbrev pub survey_held : Keeping → Option HostedSurvey
+survey_held keeping = survey_of (held keeping)

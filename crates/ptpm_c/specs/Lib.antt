@@ -2,3 +2,4 @@ pub mod Keeping
 pub mod Held
 pub mod Turned
 pub mod Session
+pub mod Survey

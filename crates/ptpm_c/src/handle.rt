@@ -1,16 +1,16 @@
-//! What a host in C keeps of a clock or of a session.
+//! What a host in C keeps of a clock, a session or a survey.
 
 ghost use Rattle.std.specs.Prelude.{◌≡◌, IfNone, IfSome, None, is_some};
-ghost use Rattle.ptpm_c.specs.declared.kept.Hosted.TheVariants.{Clock, Nothing, Session};
-ghost use Rattle.ptpm_c.specs.Held.{clock_held, held, session_held};
+ghost use Rattle.ptpm_c.specs.declared.kept.Hosted.TheVariants.{Clock, Nothing, Session, Survey};
+ghost use Rattle.ptpm_c.specs.Held.{clock_held, held, session_held, survey_held};
 
 use crate::keeping::Keeping;
 use crate::kept::{Hosted, Kept};
-use ptpm_host::{HostedClock, HostedSession};
+use ptpm_host::{HostedClock, HostedSession, HostedSurvey};
 use std::alloc::Global;
 use std::mem;
 
-/// `struct ptpm_clock { void *at; bool live; }`, and the same of a session: where it is all zeros it holds nothing.
+/// `struct ptpm_clock { void *at; bool live; }`, and the same of a session and a survey: where it is all zeros it holds nothing.
 #[repr(C)]
 #[derive(Drop)]
 pub struct Handle {
@@ -66,6 +66,22 @@ impl Handle {
         let (kept, hosted) = self.open(alloc)?;
         match hosted {
             Hosted::Session(session) => Some((kept, session)),
+            other => {
+                *self = Handle::of(kept, other);
+                None
+            }
+        }
+    }
+
+    /// Takes the survey out, in the same way.
+    pub fn take_survey(&mut self, alloc: Global) -> Option<(Box<Kept>, Box<HostedSurvey>)>
+        ensures some { IfSome result (λ taken. held self.old.keeping ≡ Survey taken.1) }
+        ensures none { IfNone result (survey_held self.old.keeping ≡ None) }
+        ensures unchanged { IfNone result (held self.new.keeping ≡ held self.old.keeping) }
+    {
+        let (kept, hosted) = self.open(alloc)?;
+        match hosted {
+            Hosted::Survey(survey) => Some((kept, survey)),
             other => {
                 *self = Handle::of(kept, other);
                 None

@@ -2,7 +2,7 @@
 
 ghost use Rattle.std.specs.Prelude.{◌≡◌};
 
-use ptpm_host::{HostedClock, HostedSession};
+use ptpm_host::{HostedClock, HostedSession, HostedSurvey};
 use std::mem::ManuallyDrop;
 
 /// One of the things that a handle can hold, each in a block of its own.
@@ -12,6 +12,7 @@ pub enum Hosted {
     Nothing,
     Clock(Box<HostedClock>),
     Session(Box<HostedSession>),
+    Survey(Box<HostedSurvey>),
 }
 
 /// It is let go by `into_hosted` alone. So nothing is to be done when its box is let go.

@@ -1,4 +1,4 @@
-//! A clock, and a manager's session, for hosts in C: a static library of a few calls, each one of `ptpm_host`.
+//! A clock, and a manager's session or survey, for hosts in C: a static library of a few calls, each one of `ptpm_host`.
 //! `hosts/ptpm.h` is its header.
 #![tactic(auto)]
 
@@ -21,6 +21,7 @@ mod handle;
 mod keeping;
 mod kept;
 mod session;
+mod survey;
 
 use crate::handle::Handle;
 use crate::kept::{Hosted, Kept};

@@ -2,8 +2,9 @@
 
 use crate::handle::Handle;
 use crate::session::*;
+use crate::survey::*;
 use crate::*;
-use ptpm_host::SessionSettings;
+use ptpm_host::{SessionSettings, Source, SurveySettings};
 
 /// GET PRIORITY1, number 7, of manager 0011223344556677/1 to clock aabbccfffeddee01, at every port.
 const REQUEST: &[u8; 54] = b"\x0d\x12\x00\x36\x00\x00\
@@ -92,4 +93,66 @@ fn a_session_from_start_to_stop(rt: HostRuntime) {
     ptpm_session_stop(rt.alloc(), &mut handle);
     let answer = ptpm_session_receive(rt.alloc(), &mut handle, REPLY);
     assert!(rt; answer == 37);
+}
+
+/// GET PRIORITY1, number 7, of the manager to every clock, at every port.
+const ENQUIRY: &[u8; 54] = b"\x0d\x12\x00\x36\x00\x00\
+    \x00\x00\x00\x00\x00\x00\x00\x00\x00\x00\x00\x00\x00\x00\
+    \x00\x11\x22\x33\x44\x55\x66\x77\x00\x01\x00\x07\x04\x7f\
+    \xff\xff\xff\xff\xff\xff\xff\xff\xff\xff\x01\x01\x00\x00\
+    \x00\x01\x00\x02\x20\x05";
+
+#[test]
+fn a_survey_from_start_to_stop(rt: HostRuntime) {
+    let settings = SurveySettings {
+        port: 1,
+        number: 7,
+        id: 0x2005,
+        clock: [0x00, 0x11, 0x22, 0x33, 0x44, 0x55, 0x66, 0x77],
+        domain: 0,
+        hops: 1,
+    };
+    let alloc = rt.alloc();
+    let mut handle = Handle::empty();
+    let mut source = Source {
+        clock: [0; 8],
+        port: 0,
+    };
+    let mut octets = [0; 1472];
+    let mut size = 1;
+    let mut error = 1;
+    assert!(rt; ptpm_survey_receive(alloc, &mut handle, REPLY) == 46);
+    assert!(rt; ptpm_survey_start(alloc, &mut handle, &settings) == 0);
+    assert!(rt; ptpm_session_begin(alloc, &mut handle, 0, 0x2005, 0, &[]) == 37);
+    assert!(rt; ptpm_survey_send(alloc, &mut handle, &mut octets, &mut size) == 0);
+    assert!(rt; size == 54 && octets.starts_with(ENQUIRY.as_slice()));
+    assert!(rt; ptpm_survey_receive(alloc, &mut handle, REQUEST) == 10);
+    assert!(rt; ptpm_survey_receive(alloc, &mut handle, REPLY) == 0);
+    assert!(rt; ptpm_survey_receive(alloc, &mut handle, REPLY) == 27);
+    assert!(rt; ptpm_survey_count(alloc, &mut handle) == 1);
+    let answer = ptpm_survey_answer(
+        alloc,
+        &mut handle,
+        0,
+        &mut source,
+        &mut octets,
+        &mut size,
+        &mut error,
+    );
+    assert!(rt; answer == 0 && size == 2 && error == 0);
+    assert!(rt; octets.starts_with([0x80, 0].as_slice()));
+    assert!(rt; source.clock == [0xaa, 0xbb, 0xcc, 0xff, 0xfe, 0xdd, 0xee, 0x01]);
+    assert!(rt; source.port == 1);
+    let answer = ptpm_survey_answer(
+        alloc,
+        &mut handle,
+        1,
+        &mut source,
+        &mut octets,
+        &mut size,
+        &mut error,
+    );
+    assert!(rt; answer == 45 && size == 0);
+    ptpm_survey_stop(alloc, &mut handle);
+    assert!(rt; ptpm_survey_count(alloc, &mut handle) == 0);
 }

@@ -1,0 +1,176 @@
+//! The calls of a survey for hosts in C, each one of `ptpm_host`.
+
+ghost use Rattle.std.specs.Prelude.{◌≡◌, ◌≢◌, ◌≤◌, ◌++◌, ◌∷◌, [], ℕ, List, IfNone, IfSome, None, Some, length, slice_get, take};
+ghost use Rattle.ptpm_codec.specs.Canonical.{canonical};
+ghost use Rattle.ptpm_manager.specs.declared.receiving.Surveyed.{Surveyed};
+ghost use Rattle.ptpm_manager.specs.Answers.{Answer, first_of_each_source, heard, surveyed_by};
+ghost use Rattle.ptpm_manager.specs.Enquiry.{survey_message};
+ghost use Rattle.ptpm_host.specs.declared.refusal.ReportRefusal.{ReportRefusal};
+ghost use Rattle.ptpm_host.specs.declared.refusal.SendRefusal.{SendRefusal};
+ghost use Rattle.ptpm_host.specs.declared.refusal.SessionRefusal.{SessionRefusal};
+ghost use Rattle.ptpm_host.specs.declared.survey.HostedSurvey.{HostedSurvey};
+ghost use Rattle.ptpm_host.specs.Session.{message_refusal};
+ghost use Rattle.ptpm_host.specs.SessionNumbers.{report_number, send_number, session_number, told_number};
+ghost use Rattle.ptpm_host.specs.Survey.{answer_refusal, source_of};
+ghost use Rattle.ptpm_host.specs.SurveyNumbers.{no_survey, surveyed_number};
+ghost use Rattle.ptpm_host.specs.SurveySettings.{enquiry_of, survey_refusal};
+ghost use Rattle.ptpm_host.specs.Told.{told_error, told_octets, told_of};
+ghost use Rattle.ptpm_c.specs.declared.kept.Hosted.TheVariants.{Nothing};
+ghost use Rattle.ptpm_c.specs.Held.{held, survey_held};
+ghost use Rattle.ptpm_c.specs.Survey.{HasSurveyed, IsAt};
+
+use crate::handle::Handle;
+use crate::kept::{Hosted, Kept};
+use ptpm_host::{
+    HostedSurvey, NO_SURVEY, Source, SurveySettings, report_number, send_number, session_number,
+    surveyed_number, told_number,
+};
+use std::alloc::Global;
+
+/// Starts a survey in a handle, in place of what it holds: 0. Where it is refused, by the number of the refusal, the handle
+/// holds none.
+#[unsafe(no_mangle)]
+pub extern "C" fn ptpm_survey_start(
+    alloc: Global,
+    handle: &mut Handle,
+    settings: &SurveySettings,
+) -> u32
+    ensures started { IfSome (survey_held handle.new.keeping) (λ s. (result ≡ 0) × IsAt s (enquiry_of settings.now) []) }
+    ensures refused { IfNone (survey_held handle.new.keeping) ((1 ≤ result) × (held handle.new.keeping ≡ Nothing)) }
+    ensures number { (e : SessionRefusal) → survey_refusal settings.now ≡ Some e → result ≡ session_number e }
+{
+    handle.end(alloc);
+    let survey = match HostedSurvey::start(alloc, settings) {
+        Ok(survey) => survey,
+        Err(refusal) => return session_number(refusal),
+    };
+    let Ok(kept) = Box::new(alloc, Kept::of(Hosted::Nothing)) else {
+        return 35;
+    };
+    let Ok(survey) = Box::new(alloc, survey) else {
+        return 35;
+    };
+    *handle = Handle::of(kept, Hosted::Survey(survey));
+    0
+}
+
+/// Leaves the GET at the head of `octets`, `size` octets: 0, or the number of the refusal. Takes no memory.
+#[unsafe(no_mangle)]
+pub extern "C" fn ptpm_survey_send(
+    alloc: Global,
+    handle: &mut Handle,
+    octets: &mut [u8],
+    size: &mut usize,
+) -> u32
+    ensures kept { held handle.new.keeping ≡ held handle.old.keeping }
+    ensures sent { (s : HostedSurvey) → survey_held handle.old.keeping ≡ Some s → message_refusal (length octets.old) ≡ None →
+        (result ≡ 0) × (take size.new octets.new ≡ canonical (survey_message s.survey.enquiry)) }
+    ensures refused { (s : HostedSurvey) (e : SendRefusal) → survey_held handle.old.keeping ≡ Some s →
+        message_refusal (length octets.old) ≡ Some e → (result ≡ send_number e) × (size.new ≡ 0) }
+    ensures empty { survey_held handle.old.keeping ≡ None → (result ≡ no_survey) × (size.new ≡ 0) }
+{
+    *size = 0;
+    let Some((kept, survey)) = handle.take_survey(alloc) else {
+        return NO_SURVEY;
+    };
+    let number = match survey.send(octets) {
+        Ok(count) => {
+            *size = count;
+            0
+        }
+        Err(refusal) => send_number(refusal),
+    };
+    *handle = Handle::of(kept, Hosted::Survey(survey));
+    number
+}
+
+/// What the survey makes of a datagram, as a number. Where memory is refused, nothing changes.
+#[unsafe(no_mangle)]
+pub extern "C" fn ptpm_survey_receive(alloc: Global, handle: &mut Handle, datagram: &[u8]) -> u32
+    ensures surveyed { (s : HostedSurvey) → survey_held handle.old.keeping ≡ Some s → result ≢ 35 →
+        (result ≡ surveyed_number (surveyed_by s.survey.answers (heard s.survey.enquiry datagram.now))) ×
+        IfSome (survey_held handle.new.keeping) (λ t. HasSurveyed s datagram.now t) }
+    // Answers that are the first of each source of some datagrams, are so with this one.
+    ensures first { (s : HostedSurvey) (datagrams : List (List ℕ)) → survey_held handle.old.keeping ≡ Some s → result ≢ 35 →
+        s.survey.answers ≡ first_of_each_source s.survey.enquiry datagrams →
+        IfSome (survey_held handle.new.keeping) (λ t. t.survey.answers ≡ first_of_each_source s.survey.enquiry (datagrams ++ datagram.now ∷ [])) }
+    ensures refused { (s : HostedSurvey) → survey_held handle.old.keeping ≡ Some s →
+        result ≢ surveyed_number (surveyed_by s.survey.answers (heard s.survey.enquiry datagram.now)) →
+        (result ≡ 35) × ((surveyed_by s.survey.answers (heard s.survey.enquiry datagram.now) ≡ Surveyed.Taken) × (held handle.new.keeping ≡ held handle.old.keeping)) }
+    ensures empty { survey_held handle.old.keeping ≡ None → (result ≡ no_survey) × (held handle.new.keeping ≡ held handle.old.keeping) }
+{
+    let Some((kept, mut survey)) = handle.take_survey(alloc) else {
+        return NO_SURVEY;
+    };
+    let number = match survey.receive(datagram) {
+        Ok(surveyed) => surveyed_number(surveyed),
+        Err(_) => 35,
+    };
+    *handle = Handle::of(kept, Hosted::Survey(survey));
+    number
+}
+
+/// How many answers are kept; 0 where the handle holds no survey. Takes no memory.
+#[unsafe(no_mangle)]
+pub extern "C" fn ptpm_survey_count(alloc: Global, handle: &mut Handle) -> usize
+    ensures kept { held handle.new.keeping ≡ held handle.old.keeping }
+    ensures count { (s : HostedSurvey) → survey_held handle.old.keeping ≡ Some s → result ≡ length s.survey.answers }
+    ensures empty { survey_held handle.old.keeping ≡ None → result ≡ 0 }
+{
+    let Some((kept, survey)) = handle.take_survey(alloc) else {
+        return 0;
+    };
+    let count = survey.count();
+    *handle = Handle::of(kept, Hosted::Survey(survey));
+    count
+}
+
+/// What the answer at a place tells, as a number, counted from 0, and who gave it; a dataField is left at the head of
+/// `octets`, `size` octets, and a managementErrorId in `error`. Takes no memory.
+#[unsafe(no_mangle)]
+pub extern "C" fn ptpm_survey_answer(
+    alloc: Global,
+    handle: &mut Handle,
+    place: usize,
+    source: &mut Source,
+    octets: &mut [u8],
+    size: &mut usize,
+    error: &mut u16,
+) -> u32
+    ensures kept { held handle.new.keeping ≡ held handle.old.keeping }
+    ensures told { (s : HostedSurvey) (a : Answer) → survey_held handle.old.keeping ≡ Some s → slice_get s.survey.answers place ≡ Some a →
+        answer_refusal (length octets.old) (slice_get s.survey.answers place) ≡ None →
+        (result ≡ told_number (told_of a.1)) × (take size.new octets.new ≡ told_octets a.1) }
+    ensures who { (s : HostedSurvey) (a : Answer) → survey_held handle.old.keeping ≡ Some s → slice_get s.survey.answers place ≡ Some a →
+        answer_refusal (length octets.old) (slice_get s.survey.answers place) ≡ None →
+        (source.new ≡ source_of a.0) × (error.new ≡ told_error (told_of a.1)) }
+    ensures refused { (s : HostedSurvey) (e : ReportRefusal) → survey_held handle.old.keeping ≡ Some s →
+        answer_refusal (length octets.old) (slice_get s.survey.answers place) ≡ Some e →
+        (result ≡ report_number e) × ((size.new ≡ 0) × (source.new ≡ source.old)) }
+    ensures empty { survey_held handle.old.keeping ≡ None → (result ≡ no_survey) × ((size.new ≡ 0) × (source.new ≡ source.old)) }
+{
+    *size = 0;
+    *error = 0;
+    let Some((kept, survey)) = handle.take_survey(alloc) else {
+        return NO_SURVEY;
+    };
+    let number = match survey.answer(place, octets) {
+        Ok(answer) => {
+            *source = answer.source;
+            *size = answer.told.size();
+            *error = answer.told.error();
+            told_number(answer.told)
+        }
+        Err(refusal) => report_number(refusal),
+    };
+    *handle = Handle::of(kept, Hosted::Survey(survey));
+    number
+}
+
+/// Ends what a handle holds, if it holds anything.
+#[unsafe(no_mangle)]
+pub extern "C" fn ptpm_survey_stop(alloc: Global, handle: &mut Handle)
+    ensures { held handle.new.keeping ≡ Nothing }
+{
+    handle.end(alloc);
+}
