@@ -179,6 +179,11 @@ clock_at clock (s ∷ ss) (suc i) d inside own = clock_at clock ss i d (omega ar
 
 -- ---- making
 
+-- a table without managers has no slot in use
+pub none_configured : (ss : List Slot) → identities (configured ss) ≡ [] → ss ≡ []
+none_configured [] none = refl
+none_configured (s ∷ ss) none = absurd (cc)
+
 -- one more slot without an entry
 pub used_more : (ss : List Slot) (s : Slot) → s.taken ≡ false → used ss ≡ [] → used (ss ++ s ∷ []) ≡ []
 used_more [] s free none = cond-false s.taken _ _ free

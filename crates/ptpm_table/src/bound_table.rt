@@ -22,7 +22,7 @@ use arrayvec::ArrayVec;
 use ptpm_codec::{ClockIdentity, OutOfMemory, PortIdentity};
 use ptpm_data::{Reply, Request, Rights};
 
-/// The latest accepted requests in sixteen slots inside the value, which has 34,320 octets. Replies are kept as octets,
+/// The latest accepted requests in sixteen slots inside the value, which has 34,192 octets. Replies are kept as octets,
 /// encoded once by `keep`; `resend` copies them and writes over what depends on the copy that is answered. It takes no
 /// memory, and `keep` is never refused.
 #[derive(Drop)]
@@ -33,7 +33,7 @@ pub struct BoundTable {
     ghost own: { All (λ c. c ≡ clock) (clocks slots.items) },
 }
 
-const _: () = prove!(size_of::<BoundTable>() == 34_320);
+const _: () = prove!(size_of::<BoundTable>() == 34_192);
 
 impl BoundTable {
     /// A table without entries, of this clock and these managers. At most sixteen managers, and each identity once.
@@ -47,41 +47,60 @@ impl BoundTable {
             (λ _. table_refusal (identities managers.now) ≡ None)
             (λ e. table_refusal (identities managers.now) ≡ Some e) }
     {
-        if let Some(error) = refusal(managers) {
-            return Err(error);
+        match refusal(managers) {
+            Some(error) => Err(error),
+            None => {
+                let mut table = BoundTable::without_managers(clock);
+                table.admit(managers);
+                Ok(table)
+            }
         }
-        let slots = empty_slots(&clock, managers);
-        Ok(BoundTable { clock, slots })
+    }
+
+    /// A table of this clock that has no managers yet.
+    #[inline(always)]
+    pub fn without_managers(clock: ClockIdentity) -> BoundTable
+        ensures { IsFresh clock []
+            (⟦<BoundTable as ReplyTable>⟧.owner result) (⟦<BoundTable as ReplyTable>⟧.entries result) }
+    {
+        BoundTable {
+            clock,
+            slots: ArrayVec::new(),
+        }
+    }
+
+    /// Gives a table without managers these, where it stands. At most sixteen managers, and each identity once.
+    pub fn admit(&mut self, managers: &[(PortIdentity, Rights)])
+        requires none { (⟦<BoundTable as ReplyTable>⟧.owner self.old).managers ≡ [] }
+        requires few { length managers.now ≤ 16 }
+        requires distinct { has_twice (identities managers.now) ≡ false }
+        ensures { IsFresh (⟦<BoundTable as ReplyTable>⟧.owner self.old).identity managers.now
+            (⟦<BoundTable as ReplyTable>⟧.owner self.new) (⟦<BoundTable as ReplyTable>⟧.entries self.new) }
+    {
+        let clock = self.clock;
+        assign(&mut self.slots, &clock, managers);
     }
 }
 
 /// A slot without an entry for each manager.
-fn empty_slots(
+fn assign(
+    slots: &mut ArrayVec<Slot, MANAGERS>,
     clock: &ClockIdentity,
     managers: &[(PortIdentity, Rights)],
-) -> ArrayVec<Slot, MANAGERS>
-    requires { length managers.now ≤ MANAGERS }
-    ensures own { All (λ c. c ≡ clock.now) (clocks result.items) }
-    ensures configured { configured result.items ≡ managers.now }
-    ensures used { used result.items ≡ [] }
+)
+    requires empty { slots.old.items ≡ [] }
+    requires few { length managers.now ≤ MANAGERS }
+    ensures own { All (λ c. c ≡ clock.now) (clocks slots.new.items) }
+    ensures configured { configured slots.new.items ≡ managers.now }
+    ensures used { used slots.new.items ≡ [] }
 {
-    let mut slots = no_slots();
     for manager in managers {
         slots.push(Slot {
+            kept: Kept::nothing(clock, &manager.0),
             rights: manager.1,
             taken: false,
-            kept: Kept::nothing(clock, &manager.0),
         });
     }
-    slots
-}
-
-/// Room for the slots of sixteen managers. It is made in a frame of its own, since its array is moved there.
-#[inline(never)]
-fn no_slots() -> ArrayVec<Slot, MANAGERS>
-    ensures { result.items ≡ [] }
-{
-    ArrayVec::new()
 }
 
 /// A manager's slot.

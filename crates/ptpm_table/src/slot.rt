@@ -16,25 +16,24 @@ use ptpm_codec::{Action, ClockIdentity, DATA_FIELD_OCTETS, PortIdentity, overwri
 use ptpm_data::{Reply, Request, Rights};
 use std::marker::Model;
 
-/// A manager's rights, and its latest accepted request, where one is kept.
+/// A manager's rights, and its latest accepted request, where one is kept. In it and in `Kept` the large members stand
+/// first, so that no octet between two members belongs to neither: an empty table is then cleared in one piece.
 #[derive(Drop)]
 pub(crate) struct Slot {
+    pub(crate) kept: Kept,
     pub(crate) rights: Rights,
     /// Whether a request is kept.
     pub(crate) taken: bool,
-    pub(crate) kept: Kept,
 }
 
 impl Default for Slot {
-    /// A slot of nobody. It is made in a frame of its own: of an array whose loop has all that makes a slot, LLVM keeps every
-    /// move.
-    #[inline(never)]
+    /// A slot of nobody.
     fn default() -> Slot {
         let clock = ClockIdentity([0; 8]);
         Slot {
+            kept: Kept::nothing(&clock, &PortIdentity { clock, port: 0 }),
             rights: Rights(0),
             taken: false,
-            kept: Kept::nothing(&clock, &PortIdentity { clock, port: 0 }),
         }
     }
 }
@@ -43,19 +42,19 @@ impl Default for Slot {
 /// table that it is, with the manager and the clock.
 #[derive(Drop)]
 pub(crate) struct Kept {
-    clock: ClockIdentity,
-    manager: PortIdentity,
-    number: u16,
-    action: Action,
-    id: u16,
-    port: u16,
     octets: ArrayVec<u8, DATA_FIELD_OCTETS>,
-    /// Whether the answers are of ports.
-    of_port: bool,
     /// How many octets each message of the reply has.
     sizes: Sizes,
     /// The messages of the reply, one after the other.
     messages: Messages,
+    clock: ClockIdentity,
+    manager: PortIdentity,
+    number: u16,
+    id: u16,
+    port: u16,
+    action: Action,
+    /// Whether the answers are of ports.
+    of_port: bool,
 }
 
 impl Model for Kept {
@@ -91,16 +90,16 @@ impl Kept {
         ensures manager { result.manager ≡ manager.now }
     {
         Kept {
+            octets: ArrayVec::new(),
+            sizes: ArrayVec::new(),
+            messages: ArrayVec::new(),
             clock: *clock,
             manager: *manager,
             number: 0,
-            action: Action::Get,
             id: 0,
             port: 0,
-            octets: ArrayVec::new(),
+            action: Action::Get,
             of_port: false,
-            sizes: ArrayVec::new(),
-            messages: ArrayVec::new(),
         }
     }
 

@@ -3,7 +3,7 @@ use Rattle.std.proofs.lemmas.Grind.{common_steps}
 use Rattle.ptpm_table.specs.Slots.{clocks, used}
 use Rattle.ptpm_table.proofs.Slots.{configured_more, own_more, used_more}
 use Rattle.ptpm_table.specs.declared.slot.Slot.{Slot}
-use Rattle.ptpm_table.proofs.bound_table.empty_slots.Goals as goal
+use Rattle.ptpm_table.proofs.bound_table.assign.Goals as goal
 
 pub loop-manager-preserved : goal.loop-manager-preserved
 loop-manager-preserved c = record {

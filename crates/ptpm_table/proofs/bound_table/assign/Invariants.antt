@@ -1,6 +1,6 @@
 use Rattle.std.proofs.Common.{All, ◌≡◌, [], take, length}
 use Rattle.ptpm_table.specs.Slots.{clocks, configured, used}
-use Rattle.ptpm_table.proofs.bound_table.empty_slots.Given as goal
+use Rattle.ptpm_table.proofs.bound_table.assign.Given as goal
 
 abbrev pub invariant-loop-manager : goal.invariant-loop-manager
 invariant-loop-manager l = record {
