@@ -12,7 +12,7 @@ use Rattle.ptpm_codec.specs.declared.message.Message.{Message}
 use Rattle.ptpm_codec.specs.Message.{IsDataField, IsRequestAction, IsValid, IsValidBody, octets_of}
 use Rattle.ptpm_data.specs.declared.rights.Rights.{Rights}
 use Rattle.ptpm_data.specs.Changes.{IsTargetOf, IsTargetPort, changed_by}
-use Rattle.ptpm_data.specs.IdTable.{is_of_port}
+use Rattle.ptpm_data.specs.ManagementId.{is_of_port}
 use Rattle.ptpm_data.specs.Members.{DataSetsValue}
 use Rattle.ptpm_data.specs.Refusals.{refusal_of}
 use Rattle.ptpm_data.specs.RequestLaws.{IsOutcomeOf, IsSized, field_limit, is_get_or_set}

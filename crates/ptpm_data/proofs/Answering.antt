@@ -3,9 +3,9 @@ use Rattle.std.proofs.Common.{◌≡◌, true, false, ◌∙◌, refl, sym, ap, 
 use Rattle.std.specs.Option.{option_map}
 use Rattle.ptpm_codec.specs.declared.error.ErrorId.{ErrorId}
 use Rattle.ptpm_codec.specs.declared.error.ErrorId.TheVariants.{NoSuchId, NotSupported}
-use Rattle.ptpm_data.specs.declared.ids.Row.{Row}
+use Rattle.ptpm_data.specs.declared.management_id.Row.{Row}
 use Rattle.ptpm_data.specs.declared.rights.Rights.{Rights}
-use Rattle.ptpm_data.specs.IdTable.{Entry, entry_of, row_of}
+use Rattle.ptpm_data.specs.ManagementId.{Entry, entry_of, row_of}
 use Rattle.ptpm_data.specs.Members.{DataSetsValue}
 use Rattle.ptpm_data.specs.Request.{RequestValue}
 use Rattle.ptpm_data.specs.Reply.{Refused, ReplyValue}

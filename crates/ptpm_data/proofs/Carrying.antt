@@ -10,11 +10,11 @@ use Rattle.ptpm_codec.specs.declared.error.ErrorId.{ErrorId}
 use Rattle.ptpm_codec.specs.declared.error.ErrorId.TheVariants.{NotSupported, WrongLength, WrongValue}
 use Rattle.ptpm_codec.specs.Ordered.{first_of}
 use Rattle.ptpm_data.specs.declared.rights.Rights.{Rights}
-use Rattle.ptpm_data.specs.declared.ids.Layout.{Layout}
-use Rattle.ptpm_data.specs.declared.ids.Layout.TheVariants as layouts
+use Rattle.ptpm_data.specs.declared.management_id.Layout.{Layout}
+use Rattle.ptpm_data.specs.declared.management_id.Layout.TheVariants as layouts
 use Rattle.ptpm_data.specs.declared.data_sets.PortDataSet.{PortDataSet}
 use Rattle.ptpm_data.specs.declared.port_state.DelayMechanism.{DelayMechanism}
-use Rattle.ptpm_data.specs.IdTable.{Entry, has_action, set_of}
+use Rattle.ptpm_data.specs.ManagementId.{Entry, has_action, set_of}
 use Rattle.ptpm_data.specs.Members.{DataSetsValue}
 use Rattle.ptpm_data.specs.PortState.{mechanism_of}
 use Rattle.ptpm_data.specs.Request.{RequestValue}

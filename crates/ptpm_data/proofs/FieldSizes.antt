@@ -8,9 +8,9 @@ use Rattle.ptpm_data.specs.declared.data_sets.CurrentDataSet.{CurrentDataSet}
 use Rattle.ptpm_data.specs.declared.data_sets.ParentDataSet.{ParentDataSet}
 use Rattle.ptpm_data.specs.declared.data_sets.TimePropertiesDataSet.{TimePropertiesDataSet}
 use Rattle.ptpm_data.specs.declared.data_sets.PortDataSet.{PortDataSet}
-use Rattle.ptpm_data.specs.declared.ids.Layout.{Layout}
-use Rattle.ptpm_data.specs.declared.ids.Layout.TheVariants as layouts
-use Rattle.ptpm_data.specs.IdTable.{Entry, id_table, row_of, is_port_scope, is_port_entry, is_of_port}
+use Rattle.ptpm_data.specs.declared.management_id.Layout.{Layout}
+use Rattle.ptpm_data.specs.declared.management_id.Layout.TheVariants as layouts
+use Rattle.ptpm_data.specs.ManagementId.{Entry, id_table, row_of, is_port_scope, is_port_entry, is_of_port}
 use Rattle.ptpm_data.specs.Members.{DataSetsValue, port_of}
 use Rattle.ptpm_data.specs.DataField.{i16_octets, i32_octets, i64_octets, precedence_octets, default_data_field, current_data_field, parent_data_field, time_properties_data_field, utc_properties_data_field, text_data_field, port_settings_octets, port_data_field, clock_field_of, port_field_of, field_of_port, data_field_of, field_of_entry, data_field_at}
 use Rattle.ptpm_data.specs.RequestLaws.{IsSized, IsFieldWithin, field_limit}

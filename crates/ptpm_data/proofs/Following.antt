@@ -3,10 +3,10 @@ use Rattle.std.proofs.Common.{◌≡◌, ◌≢◌, refl, ap, ℕ, Bool, true, f
 use Rattle.ptpm_data.specs.declared.rights.Rights.{Rights}
 use Rattle.ptpm_data.specs.declared.members.Member.{Member}
 use Rattle.ptpm_data.specs.declared.members.Member.TheVariants as members
-use Rattle.ptpm_data.specs.declared.ids.Layout.TheVariants as layouts
+use Rattle.ptpm_data.specs.declared.management_id.Layout.TheVariants as layouts
 use Rattle.ptpm_data.specs.declared.precedence_change.PrecedenceChange.{PrecedenceChange}
 use Rattle.ptpm_data.specs.declared.precedence_change.PrecedenceChange.TheVariants as changes
-use Rattle.ptpm_data.specs.IdTable.{row_of}
+use Rattle.ptpm_data.specs.ManagementId.{row_of}
 use Rattle.ptpm_data.specs.MemberMap.{OfClock, OfPort, Place, clock_member, value_of}
 use Rattle.ptpm_data.specs.Members.{DataSetsValue, is_own_grandmaster}
 use Rattle.ptpm_data.specs.Request.{RequestValue}

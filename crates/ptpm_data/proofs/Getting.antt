@@ -3,7 +3,7 @@ use Rattle.std.proofs.Common.{◌≡◌, ap, refl, true, Option, Some, None}
 use Rattle.std.specs.Int.Bits.{and_zero_r}
 use Rattle.ptpm_codec.specs.declared.message.Action.TheVariants as actions
 use Rattle.ptpm_data.specs.declared.rights.Rights.{Rights}
-use Rattle.ptpm_data.specs.IdTable.{Entry, row_of}
+use Rattle.ptpm_data.specs.ManagementId.{Entry, row_of}
 use Rattle.ptpm_data.specs.Members.{DataSetsValue}
 use Rattle.ptpm_data.specs.Request.{RequestValue}
 use Rattle.ptpm_data.specs.Refusals.{entry_refusal, refusal_at, refusal_of}

@@ -1,7 +1,7 @@
 -- Looking a name up by way of the ids.
 use Rattle.std.proofs.Common.{◌≡◌, ℕ, ◌+◌, ◌<◌, ◌≤◌, true, false, List, [], ◌∷◌, Option, Some, None, if◌then◌else◌, bytes_eq, drop, length, get_or, drop-cons, add-one, refl, ap, ◌∙◌}
 use Rattle.std.proofs.Math.ListN.{drop_of_length-le}
-use Rattle.ptpm_data.specs.IdTable.{Entry, row_of, row_named, if_named}
+use Rattle.ptpm_data.specs.ManagementId.{Entry, row_of, row_named, if_named}
 
 -- the entry where it has the name, else what comes after
 abbrev pub named_or : List ℕ → Option Entry → Option Entry → Option Entry

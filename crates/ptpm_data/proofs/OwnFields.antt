@@ -7,7 +7,7 @@ use Rattle.std.proofs.lemmas.Int.{of_z-to_z}
 use Rattle.std.proofs.lemmas.List.{length-take-le}
 use Rattle.byteorder.specs.Endian.{big_number}
 use Rattle.ptpm_codec.specs.declared.identity.ClockIdentity.{ClockIdentity}
-use Rattle.ptpm_data.specs.declared.ids.Layout.TheVariants as layouts
+use Rattle.ptpm_data.specs.declared.management_id.Layout.TheVariants as layouts
 use Rattle.ptpm_data.specs.declared.data_sets.PortDataSet.{PortDataSet}
 use Rattle.ptpm_data.specs.declared.data_sets.TimePropertiesDataSet.{TimePropertiesDataSet}
 use Rattle.ptpm_data.specs.Changes.{with_utc_properties}

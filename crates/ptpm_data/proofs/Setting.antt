@@ -5,7 +5,7 @@ use Rattle.std.proofs.lemmas.Bool.{not-false}
 use Rattle.ptpm_codec.specs.declared.message.Action.{Action}
 use Rattle.ptpm_codec.specs.declared.message.Action.TheVariants as actions
 use Rattle.ptpm_data.specs.declared.rights.Rights.{Rights}
-use Rattle.ptpm_data.specs.IdTable.{Entry, has_action, id_table, row_of}
+use Rattle.ptpm_data.specs.ManagementId.{Entry, has_action, id_table, row_of}
 use Rattle.ptpm_data.specs.Members.{DataSetsValue}
 use Rattle.ptpm_data.specs.Request.{RequestValue}
 use Rattle.ptpm_data.specs.Refusals.{entry_refusal, refusal_at, refusal_of, refusals, unpermitted}

@@ -7,7 +7,7 @@ use Rattle.ptpm_data.specs.declared.start.StartError.{StartError}
 use Rattle.ptpm_data.specs.declared.start.PortStart.{PortStart}
 use Rattle.ptpm_data.specs.declared.data_sets.PortDataSet.{PortDataSet}
 use Rattle.ptpm_data.specs.Start.{port_data_set, port_fault, ports_fault, port_start_of, unless, count_fault, clock_fault, grandmaster_fault, all_ones}
-use Rattle.ptpm_data.specs.IdTable.{set_of}
+use Rattle.ptpm_data.specs.ManagementId.{set_of}
 use Rattle.ptpm_data.specs.Ranges.{is_description}
 use Rattle.ptpm_data.specs.Members.{is_grandmaster, is_same_precedence}
 use Rattle.ptpm_data.specs.declared.data_sets.ClockPrecedence.{ClockPrecedence}

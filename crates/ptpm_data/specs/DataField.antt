@@ -11,9 +11,9 @@ use Rattle.ptpm_data.specs.declared.data_sets.CurrentDataSet.{CurrentDataSet}
 use Rattle.ptpm_data.specs.declared.data_sets.ParentDataSet.{ParentDataSet}
 use Rattle.ptpm_data.specs.declared.data_sets.TimePropertiesDataSet.{TimePropertiesDataSet}
 use Rattle.ptpm_data.specs.declared.data_sets.PortDataSet.{PortDataSet}
-use Rattle.ptpm_data.specs.declared.ids.Layout.{Layout}
-use Rattle.ptpm_data.specs.declared.ids.Layout.TheVariants as layouts
-use Rattle.ptpm_data.specs.IdTable.{Entry, row_of, has_action, is_of_port}
+use Rattle.ptpm_data.specs.declared.management_id.Layout.{Layout}
+use Rattle.ptpm_data.specs.declared.management_id.Layout.TheVariants as layouts
+use Rattle.ptpm_data.specs.ManagementId.{Entry, row_of, has_action, is_of_port}
 use Rattle.ptpm_data.specs.PortState.{state_number, mechanism_number}
 use Rattle.ptpm_data.specs.Members.{DataSetsValue, port_of}
 

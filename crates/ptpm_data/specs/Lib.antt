@@ -1,4 +1,4 @@
-pub mod IdTable
+pub mod ManagementId
 pub mod PortState
 pub mod Ranges
 pub mod Request

@@ -1,8 +1,8 @@
 -- The ranges of members, which a start and a SET keep to: those of the table.
 use Rattle.std.specs.Prelude.{ℕ, ℤ, pos, neg_ℤ, Bool, false, true, ◌&&◌, ◌||◌, ◌==◌, nat_le, int_le, List, length, is_some}
 use Rattle.std.specs.Str.{is_utf8}
-use Rattle.ptpm_data.specs.declared.ids.Layout.TheVariants as layouts
-use Rattle.ptpm_data.specs.IdTable.{SetField, TextUpTo, AnyOctet, from◌to◌, either◌to◌or◌, minus◌to◌, MechanismNumber, set_of}
+use Rattle.ptpm_data.specs.declared.management_id.Layout.TheVariants as layouts
+use Rattle.ptpm_data.specs.ManagementId.{SetField, TextUpTo, AnyOctet, from◌to◌, either◌to◌or◌, minus◌to◌, MechanismNumber, set_of}
 use Rattle.ptpm_data.specs.PortState.{mechanism_of}
 
 abbrev pub is_within : ℕ → ℕ → ℕ → Bool

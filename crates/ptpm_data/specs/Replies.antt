@@ -7,7 +7,7 @@ use Rattle.ptpm_codec.specs.declared.error.ErrorId.{ErrorId}
 use Rattle.ptpm_codec.specs.declared.error.ErrorId.TheVariants.{NotSupported}
 use Rattle.ptpm_codec.specs.Message.{reply_action}
 use Rattle.ptpm_data.specs.declared.rights.Rights.{Rights}
-use Rattle.ptpm_data.specs.IdTable.{is_of_port}
+use Rattle.ptpm_data.specs.ManagementId.{is_of_port}
 use Rattle.ptpm_data.specs.Request.{RequestValue}
 use Rattle.ptpm_data.specs.Reply.{Outcome, Value, Done, Refused, Answer, ReplyValue}
 use Rattle.ptpm_data.specs.Members.{DataSetsValue}

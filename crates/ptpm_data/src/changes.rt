@@ -6,7 +6,7 @@ ghost use Rattle.ptpm_data.specs.PortChange.{port_after};
 ghost use Rattle.ptpm_data.specs.Ranges.{is_description};
 
 use crate::data_sets::{DataSets, PortDataSet, TimePropertiesDataSet};
-use crate::ids::{Layout, Row};
+use crate::management_id::{Layout, Row};
 use crate::port_change::PortChange;
 use crate::port_state::DelayMechanism;
 use crate::precedence_change::PrecedenceChange;
@@ -19,7 +19,7 @@ use ptpm_codec::{Action, ErrorId, PortIdentity};
 
 impl DataSets {
     ghost use Rattle.std.specs.Prelude.{◌≤◌};
-    ghost use Rattle.ptpm_data.specs.IdTable.{entry_of, set_of};
+    ghost use Rattle.ptpm_data.specs.ManagementId.{entry_of, set_of};
     ghost use Rattle.ptpm_data.specs.Changes.{carried_out, commanded, IsTargetPort, set_members, unless_refused, with_precedence, with_ports};
     ghost use Rattle.ptpm_data.specs.Refusals.{entry_refusal, is_length, is_set_length, is_set_value, is_value};
 
@@ -57,7 +57,7 @@ impl DataSets {
         }
     }
 
-    #[tactic(auto, unfolding(crate::specs::Changes::set_members, crate::specs::Refusals::is_set_length, crate::specs::Refusals::is_set_value, crate::specs::Ranges::is_description, crate::specs::IdTable::set_of))]
+    #[tactic(auto, unfolding(crate::specs::Changes::set_members, crate::specs::Refusals::is_set_length, crate::specs::Refusals::is_set_value, crate::specs::Ranges::is_description, crate::specs::ManagementId::set_of))]
     fn set_members(&mut self, layout: Layout, port: u16, octets: &[u8])
         requires length { is_set_length (set_of layout) octets.now ≡ true }
         requires value { is_set_value (set_of layout) octets.now ≡ true }
@@ -134,7 +134,7 @@ impl DataSets {
     }
 }
 
-#[tactic(auto, unfolding(crate::specs::Ranges::is_description, crate::specs::IdTable::set_of))]
+#[tactic(auto, unfolding(crate::specs::Ranges::is_description, crate::specs::ManagementId::set_of))]
 fn put_description(description: &mut ArrayVec<u8, 128>, text: &[u8])
     requires { is_description text.now ≡ true }
     ensures { description.new.items ≡ text.now }

@@ -4,7 +4,7 @@ ghost use Rattle.std.specs.Prelude.{◌≡◌, ◌+◌, ◌≤◌, ◌++◌, ◌
 ghost use Rattle.arrayvec.specs.ArrayVec.{array_vec_len};
 ghost use Rattle.byteorder.specs.Endian.{big_bytes};
 ghost use Rattle.ptpm_data.specs.DataField.{clock_field_of, current_data_field, data_field_of, data_field_of_id, default_data_field, i16_octets, i32_octets, i64_octets, i8_data_field, i8_octet, octet_data_field, parent_data_field, permits, port_data_field, port_field_of, port_settings_octets, precedence_octets, text_data_field, time_properties_data_field, utc_properties_data_field};
-ghost use Rattle.ptpm_data.specs.IdTable.{is_of_port};
+ghost use Rattle.ptpm_data.specs.ManagementId.{is_of_port};
 ghost use Rattle.ptpm_data.specs.Members.{HasPort, port_of};
 ghost use Rattle.ptpm_codec.specs.declared.message.Action.TheVariants.{Get};
 
@@ -12,8 +12,7 @@ use crate::data_sets::{
     ClockPrecedence, CurrentDataSet, DataSets, DefaultDataSet, ParentDataSet, PortDataSet,
     TimePropertiesDataSet,
 };
-use crate::id_table::row;
-use crate::ids::{Layout, Scope};
+use crate::management_id::{Layout, Scope, by_id};
 use crate::reply::Value;
 use byteorder::{BigEndian, ByteOrder};
 use ptpm_codec::{ClockIdentity, put, put_u16};
@@ -29,7 +28,7 @@ impl DataSets {
         ensures { buffer.new.items ≡ data_field_of_id id port self.now }
     {
         buffer.clear();
-        if let Some(row) = row(id) {
+        if let Some(row) = by_id(id) {
             match row.scope {
                 Scope::Clock => self.put_clock_field(row.layout, buffer),
                 Scope::Port => self.put_port_field(row.layout, port, buffer),

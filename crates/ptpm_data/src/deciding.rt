@@ -1,7 +1,7 @@
 //! What a numbered request changes and is answered (clause 15).
 
 use crate::data_sets::DataSets;
-use crate::id_table::row;
+use crate::management_id::by_id;
 use crate::reply::Reply;
 use crate::request::Request;
 use crate::rights::Rights;
@@ -43,7 +43,7 @@ impl DataSets {
         ensures reply { reply.new ≡ reply_to request.now rights self.old }
         ensures changed { self.new ≡ changed_by request.now rights self.old }
     {
-        let Some(row) = row(request.id) else {
+        let Some(row) = by_id(request.id) else {
             reply.refuse_by_clock(request, ErrorId::NoSuchId);
             return;
         };

@@ -9,7 +9,7 @@ ghost use Rattle.ptpm_codec.specs.Message.{IsRequestAction};
 ghost use Rattle.ptpm_data.specs.declared.members.Member.TheVariants.{ClockAccuracy, GrandmasterAccuracy, GrandmasterPriority1, GrandmasterPriority2, Priority1, Priority2};
 ghost use Rattle.ptpm_data.specs.declared.rights.Rights.{Rights};
 ghost use Rattle.ptpm_data.specs.Changes.{changed_by, IsTargetPort};
-ghost use Rattle.ptpm_data.specs.IdTable.{id_table, row_of, row_named};
+ghost use Rattle.ptpm_data.specs.ManagementId.{id_table, row_of, row_named};
 ghost use Rattle.ptpm_data.specs.MemberMap.{Place, plain, value_of};
 ghost use Rattle.ptpm_data.specs.Members.{DataSetsValue, IsConsistent};
 ghost use Rattle.ptpm_codec.specs.Message.{reply_action};
@@ -21,12 +21,12 @@ ghost use Rattle.ptpm_data.specs.SetField.{octet};
 ghost use Rattle.ptpm_data.specs.SetLaws.{AreOctets, get_of, IsAcceptedSet, MovesWithGrandmaster, standard_field_at};
 
 use crate::data_sets::DataSets;
-use crate::id_table::MANAGEMENT_IDS;
+use crate::management_id::MANAGEMENT_IDS;
 use ptpm_codec::{ClockIdentity, PortIdentity};
 
 /// Each entry of the table is found by its id and by its name: so ids are distinct, and so are names. `MANAGEMENT_IDS` are
 /// the ids of all entries, in order.
-#[tactic(auto, unfolding(crate::specs::IdTable::row_of, crate::specs::IdTable::row_named))]
+#[tactic(auto, unfolding(crate::specs::ManagementId::row_of, crate::specs::ManagementId::row_named))]
 pub fn id_table_law()
     ensures by_id { map (λ e. row_of e.id) id_table ≡ map Some id_table }
     ensures by_name { map (λ e. row_named e.name) id_table ≡ map Some id_table }

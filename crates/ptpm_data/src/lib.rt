@@ -7,9 +7,8 @@ mod changes;
 mod data_field;
 mod data_sets;
 mod deciding;
-mod id_table;
-mod ids;
 mod laws;
+mod management_id;
 mod members;
 mod port_change;
 mod port_state;
@@ -29,12 +28,11 @@ pub use data_sets::{
     ClockPrecedence, CurrentDataSet, DataSets, DefaultDataSet, ParentDataSet, PortDataSet,
     TimePropertiesDataSet,
 };
-pub use id_table::{MANAGEMENT_IDS, by_name, row};
-pub use ids::{Layout, Row, Scope};
 pub use laws::{
     change_law, data_sets_law, grandmaster_law, id_table_law, member_map_law, plain_map_law,
     read_reply_law, reply_law, set_law,
 };
+pub use management_id::{Layout, MANAGEMENT_IDS, Row, Scope, by_id as row, by_name};
 pub use members::Member;
 pub use port_state::{DelayMechanism, PortState};
 pub use reply::{PortAnswer, Reply, Value, What};

@@ -17,7 +17,7 @@ fn is_utf8(octets: &[u8]) -> bool
 }
 
 /// userDescription: at most 128 octets of UTF-8.
-#[tactic(auto, unfolding(crate::specs::Ranges::is_description, crate::specs::IdTable::set_of))]
+#[tactic(auto, unfolding(crate::specs::Ranges::is_description, crate::specs::ManagementId::set_of))]
 pub(crate) fn is_description(text: &[u8]) -> bool
     ensures { result ≡ is_description text.now }
 {
@@ -25,7 +25,7 @@ pub(crate) fn is_description(text: &[u8]) -> bool
 }
 
 /// clockAccuracy: 0x17 to 0x31, or 0xFE, which means that it is not known.
-#[tactic(auto, unfolding(crate::specs::IdTable::set_of))]
+#[tactic(auto, unfolding(crate::specs::ManagementId::set_of))]
 pub(crate) fn is_clock_accuracy(accuracy: u8) -> bool
     ensures { result ≡ is_clock_accuracy accuracy }
 {
@@ -33,7 +33,7 @@ pub(crate) fn is_clock_accuracy(accuracy: u8) -> bool
 }
 
 /// logAnnounceInterval: -4 to 4.
-#[tactic(auto, unfolding(crate::specs::IdTable::set_of))]
+#[tactic(auto, unfolding(crate::specs::ManagementId::set_of))]
 pub(crate) fn is_announce_interval(interval: i8) -> bool
     ensures { result ≡ is_announce_interval interval }
 {
@@ -41,7 +41,7 @@ pub(crate) fn is_announce_interval(interval: i8) -> bool
 }
 
 /// announceReceiptTimeout: 2 to 10.
-#[tactic(auto, unfolding(crate::specs::IdTable::set_of))]
+#[tactic(auto, unfolding(crate::specs::ManagementId::set_of))]
 pub(crate) fn is_receipt_timeout(timeout: u8) -> bool
     ensures { result ≡ is_receipt_timeout timeout }
 {
@@ -49,7 +49,7 @@ pub(crate) fn is_receipt_timeout(timeout: u8) -> bool
 }
 
 /// logSyncInterval: -8 to 1.
-#[tactic(auto, unfolding(crate::specs::IdTable::set_of))]
+#[tactic(auto, unfolding(crate::specs::ManagementId::set_of))]
 pub(crate) fn is_sync_interval(interval: i8) -> bool
     ensures { result ≡ is_sync_interval interval }
 {
@@ -57,7 +57,7 @@ pub(crate) fn is_sync_interval(interval: i8) -> bool
 }
 
 /// logMinPdelayReqInterval: -8 to 5.
-#[tactic(auto, unfolding(crate::specs::IdTable::set_of))]
+#[tactic(auto, unfolding(crate::specs::ManagementId::set_of))]
 pub(crate) fn is_pdelay_interval(interval: i8) -> bool
     ensures { result ≡ is_pdelay_interval interval }
 {

@@ -4,7 +4,7 @@ ghost use Rattle.std.specs.Prelude.{◌≡◌};
 ghost use Rattle.ptpm_data.specs.Replies.{is_get};
 
 use crate::data_sets::DataSets;
-use crate::id_table::row;
+use crate::management_id::by_id;
 use crate::refusals::refusal;
 use crate::reply::Reply;
 use crate::request::Request;
@@ -41,7 +41,7 @@ impl DataSets {
         ensures { reply.new ≡ read_reply_to request.now self.now }
     {
         let get = is_get(request.action);
-        let Some(row) = row(request.id) else {
+        let Some(row) = by_id(request.id) else {
             let error = if get {
                 ErrorId::NoSuchId
             } else {

@@ -1,11 +1,11 @@
 //! Why a request is refused (15.5.4.3); the order and choice of the errors are this project's profile.
 
 ghost use Rattle.std.specs.Prelude.{◌≡◌, length, true};
-ghost use Rattle.ptpm_data.specs.IdTable.{entry_of, has_action, set_of};
+ghost use Rattle.ptpm_data.specs.ManagementId.{entry_of, has_action, set_of};
 ghost use Rattle.ptpm_data.specs.Refusals.{entry_refusal, is_length, is_set_length, is_set_value, is_value, needed_right, unpermitted};
 
 use crate::actions::Actions;
-use crate::ids::{Layout, Row, Scope};
+use crate::management_id::{Layout, Row, Scope};
 use crate::port_state::DelayMechanism;
 use crate::ranges;
 use crate::request::Request;
@@ -79,7 +79,7 @@ fn is_length(action: Action, layout: Layout, octets: &[u8]) -> bool
 }
 
 /// No length is right where the id has no SET.
-#[tactic(auto, unfolding(crate::specs::Refusals::is_set_length, crate::specs::IdTable::set_of))]
+#[tactic(auto, unfolding(crate::specs::Refusals::is_set_length, crate::specs::ManagementId::set_of))]
 fn is_set_length(layout: Layout, octets: &[u8]) -> bool
     ensures { result ≡ is_set_length (set_of layout) octets.now }
 {
@@ -108,7 +108,7 @@ fn is_value(action: Action, layout: Layout, octets: &[u8]) -> bool
     action != Action::Set || is_set_value(layout, octets)
 }
 
-#[tactic(auto, unfolding(crate::specs::Refusals::is_set_value, crate::specs::Refusals::is_set_length, crate::specs::Ranges::is_description, crate::specs::IdTable::set_of))]
+#[tactic(auto, unfolding(crate::specs::Refusals::is_set_value, crate::specs::Refusals::is_set_length, crate::specs::Ranges::is_description, crate::specs::ManagementId::set_of))]
 fn is_set_value(layout: Layout, octets: &[u8]) -> bool
     requires { is_set_length (set_of layout) octets.now ≡ true }
     ensures { result ≡ is_set_value (set_of layout) octets.now }

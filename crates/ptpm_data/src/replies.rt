@@ -4,7 +4,7 @@ ghost use Rattle.std.specs.Prelude.{◌≡◌};
 ghost use Rattle.arrayvec.specs.ArrayVec.{array_vec_len};
 
 use crate::data_sets::DataSets;
-use crate::ids::{Layout, Row, Scope};
+use crate::management_id::{Layout, Row, Scope};
 use crate::reply::{PortAnswer, Reply, Value, What};
 use crate::request::Request;
 use arrayvec::ArrayVec;
@@ -13,7 +13,7 @@ use ptpm_codec::{Action, ErrorId, PortIdentity};
 impl DataSets {
     ghost use Rattle.std.specs.Prelude.{Some, None, map, [], ◌∷◌, ◌++◌, ◌-◌, ◌<◌, ◌≤◌, ◌+◌, length};
     ghost use Rattle.std.specs.List.{range_with_len};
-    ghost use Rattle.ptpm_data.specs.IdTable.{entry_of, row_of};
+    ghost use Rattle.ptpm_data.specs.ManagementId.{entry_of, row_of};
     ghost use Rattle.ptpm_data.specs.Changes.{IsTargetPort};
     ghost use Rattle.ptpm_data.specs.DataField.{data_field_of};
     ghost use Rattle.ptpm_data.specs.Reply.{Value, answer_of};

@@ -3,7 +3,7 @@ use Rattle.std.specs.Prelude.{ℕ, ◌&&◌, not, nat_lt, [], ◌∷◌, Option}
 use Rattle.ptpm_codec.specs.declared.message.Action.TheVariants.{Get}
 use Rattle.ptpm_codec.specs.Ordered.{first_of}
 use Rattle.ptpm_data.specs.DataField.{permits}
-use Rattle.ptpm_data.specs.IdTable.{is_of_port}
+use Rattle.ptpm_data.specs.ManagementId.{is_of_port}
 use Rattle.ptpm_data.specs.Members.{DataSetsValue, has_port}
 use Rattle.ptpm_host.specs.declared.refusal.ReadRefusal.{ReadRefusal}
 use Rattle.ptpm_host.specs.declared.refusal.ReadRefusal.TheVariants.{NotReadable, NoPort, NoRoom}

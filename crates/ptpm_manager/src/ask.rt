@@ -1,7 +1,7 @@
 //! What is asked of a session.
 
 ghost use Rattle.std.specs.Prelude.{◌≡◌, ◌≢◌, None, Some, IfErr, IfOk, MatchResult};
-ghost use Rattle.ptpm_data.specs.IdTable.{is_of_port};
+ghost use Rattle.ptpm_data.specs.ManagementId.{is_of_port};
 ghost use Rattle.ptpm_manager.specs.declared.error.BeginError.{BeginError};
 ghost use Rattle.ptpm_manager.specs.Ask.{ask_refusal, names_port, pending_request, request_of, target_port};
 ghost use Rattle.ptpm_manager.specs.Receiving.{is_content};

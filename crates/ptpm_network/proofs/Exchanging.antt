@@ -20,7 +20,7 @@ use Rattle.ptpm_codec.proofs.CanonicalLaws.{canonical_spells}
 use Rattle.ptpm_codec.proofs.IdentityLaws.{same_clock-refl, same_clock-true}
 use Rattle.ptpm_codec.proofs.PlaceLaws.{octet-take}
 use Rattle.ptpm_codec.proofs.ReadingLaws.{message_of-some, message_of-spells, message_size}
-use Rattle.ptpm_data.specs.IdTable.{is_of_port}
+use Rattle.ptpm_data.specs.ManagementId.{is_of_port}
 use Rattle.ptpm_data.specs.Members.{DataSetsValue}
 use Rattle.ptpm_data.specs.Replies.{reply_to}
 use Rattle.ptpm_data.specs.Reply.{Answer, ReplyValue}

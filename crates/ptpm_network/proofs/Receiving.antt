@@ -13,7 +13,7 @@ use Rattle.ptpm_codec.specs.declared.message.Message.{Message}
 use Rattle.ptpm_codec.specs.Identity.{every_port, same_clock, same_identity}
 use Rattle.ptpm_codec.specs.Message.{action_of, id_of, is_reply}
 use Rattle.ptpm_codec.specs.Reading.{message_of, reading}
-use Rattle.ptpm_data.specs.IdTable.{is_of_port}
+use Rattle.ptpm_data.specs.ManagementId.{is_of_port}
 use Rattle.ptpm_data.specs.Reply as reply
 use Rattle.ptpm_data.specs.Reply.{Answer, Outcome}
 use Rattle.ptpm_codec.specs.Message.{reply_action}

@@ -11,7 +11,7 @@ use Rattle.ptpm_codec.specs.Message.{IsDataField}
 use Rattle.ptpm_data.specs.declared.rights.Rights.{Rights}
 use Rattle.ptpm_data.specs.Changes.{changed_by, is_named}
 use Rattle.ptpm_data.specs.DataField.{data_field_at}
-use Rattle.ptpm_data.specs.IdTable.{is_of_port}
+use Rattle.ptpm_data.specs.ManagementId.{is_of_port}
 use Rattle.ptpm_data.specs.Members.{DataSetsValue}
 use Rattle.ptpm_data.specs.Refusals.{refusal_of}
 use Rattle.ptpm_data.specs.Replies.{answer, named_ports, outcome, read_refusal, read_reply_to, reply_of, reply_to}

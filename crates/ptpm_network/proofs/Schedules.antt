@@ -12,7 +12,7 @@ use Rattle.ptpm_codec.specs.Reading.{body_at, message_of}
 use Rattle.ptpm_codec.specs.Refusal.{frame_refusal, tlv_refusal, text_refusal}
 use Rattle.ptpm_data.specs.Start.{default_clock, default_port, started}
 use Rattle.ptpm_data.specs.declared.rights.Rights.{Rights}
-use Rattle.ptpm_data.specs.IdTable.{row_of, set_of}
+use Rattle.ptpm_data.specs.ManagementId.{row_of, set_of}
 use Rattle.ptpm_data.specs.DataField.{clock_field_of}
 use Rattle.ptpm_data.specs.Refusals.{entry_refusal, is_set_length, is_set_value}
 use Rattle.ptpm_data.specs.Replies.{answer, reply_of, reply_to, read_reply_to}

@@ -4,7 +4,7 @@ use Rattle.ptpm_codec.specs.Layout.{number_at, port_identity_at}
 use Rattle.ptpm_codec.specs.Canonical.{port_identity_octets, tlv_octets}
 use Rattle.ptpm_codec.specs.Reading.{body_at, message_of}
 use Rattle.ptpm_codec.specs.Refusal.{frame_refusal, tlv_refusal, text_refusal}
-use Rattle.ptpm_data.specs.IdTable.{row_of}
+use Rattle.ptpm_data.specs.ManagementId.{row_of}
 use Rattle.ptpm_data.specs.DataField.{clock_field_of}
 use Rattle.ptpm_data.specs.Refusals.{entry_refusal}
 use Rattle.ptpm_data.specs.Replies.{answer, reply_of, reply_to, read_reply_to}

@@ -9,7 +9,7 @@ use Rattle.ptpm_codec.specs.Identity.{every_port}
 use Rattle.ptpm_codec.specs.Layout.{boundary_hops, message_octets}
 use Rattle.ptpm_codec.specs.Message.{Fits, IsDataField, IsRequestAction}
 use Rattle.ptpm_codec.specs.Reading.{message_of}
-use Rattle.ptpm_data.specs.IdTable.{is_of_port}
+use Rattle.ptpm_data.specs.ManagementId.{is_of_port}
 use Rattle.ptpm_data.specs.Reply.{Answer}
 use Rattle.ptpm_data.specs.Request.{RequestValue}
 use Rattle.ptpm_table.specs.declared.heard.Heard.{Heard}

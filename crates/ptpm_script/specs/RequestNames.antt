@@ -3,7 +3,7 @@ use Rattle.std.specs.Prelude.{ℕ, if◌then◌else◌, List, codes, bytes_eq, O
 use Rattle.std.specs.Option.{option_or}
 use Rattle.ptpm_codec.specs.declared.message.Action.{Action}
 use Rattle.ptpm_codec.specs.declared.message.Action.TheVariants as actions
-use Rattle.ptpm_data.specs.IdTable.{row_named}
+use Rattle.ptpm_data.specs.ManagementId.{row_named}
 use Rattle.ptpm_script.specs.Numbers.{four_digits}
 
 -- the action of a word, in lower case

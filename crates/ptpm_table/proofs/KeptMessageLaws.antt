@@ -18,7 +18,7 @@ use Rattle.ptpm_data.specs.Reply as reply
 use Rattle.ptpm_data.specs.Reply.{Answer, Outcome, ReplyValue, answer_of}
 use Rattle.ptpm_data.specs.declared.reply.PortAnswer.{PortAnswer}
 use Rattle.ptpm_table.specs.declared.heard.Heard.{Heard}
-use Rattle.ptpm_data.specs.IdTable.{is_of_port}
+use Rattle.ptpm_data.specs.ManagementId.{is_of_port}
 use Rattle.ptpm_data.specs.Request.{RequestValue}
 use Rattle.std.specs.Prelude.{is_some}
 use Rattle.ptpm_table.proofs.ListLemmas.{All-unmap}

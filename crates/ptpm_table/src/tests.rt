@@ -2,7 +2,7 @@
 
 ghost use Rattle.std.specs.Prelude.{◌≡◌, ◌<◌, ◌≤◌, [], length, true};
 ghost use Rattle.ptpm_codec.specs.Message.{IsDataField, IsRequestAction};
-ghost use Rattle.ptpm_data.specs.IdTable.{is_of_port};
+ghost use Rattle.ptpm_data.specs.ManagementId.{is_of_port};
 ghost use Rattle.ptpm_codec.specs.Message.{reply_action};
 ghost use Rattle.ptpm_data.specs.Reply.{Value as value_of, outcome_of};
 ghost use Rattle.ptpm_table.specs.Entries.{FitsAnswer, FitsOutcome, FitsRequest};
@@ -145,7 +145,7 @@ fn replies_of_ports_in_a_bound_table(rt: HostRuntime) -> Result<(), Fail> {
 }
 
 /// A refused SET is kept with its refusal; the next one with its value. A copy's reply has its domain and hops.
-#[tactic(auto, unfolding(ptpm_data::specs::IdTable::row_of))]
+#[tactic(auto, unfolding(ptpm_data::specs::ManagementId::row_of))]
 fn set_log_sync_interval<T: ReplyTable>(rt: &impl Abort, table: &mut T) {
     let too_long = set_port(&[2, 0]);
     let refusal = reply_to(&too_long, Some(1), What::Refused(ErrorId::WrongValue));
@@ -171,7 +171,7 @@ fn set_log_sync_interval<T: ReplyTable>(rt: &impl Abort, table: &mut T) {
 }
 
 /// A reply that was kept stays what it was, whatever is kept of others, and whatever comes under its number.
-#[tactic(auto, unfolding(ptpm_data::specs::IdTable::row_of))]
+#[tactic(auto, unfolding(ptpm_data::specs::ManagementId::row_of))]
 fn repeat_gets_kept_reply<T: ReplyTable>(rt: &impl Abort, table: &mut T) {
     let asked = get(PRIORITY1);
     let first = reply_to(&asked, None, value(&[0x80, 0]));
@@ -190,7 +190,7 @@ fn repeat_gets_kept_reply<T: ReplyTable>(rt: &impl Abort, table: &mut T) {
 }
 
 /// Another request under the number of the latest changes nothing.
-#[tactic(auto, unfolding(ptpm_data::specs::IdTable::row_of))]
+#[tactic(auto, unfolding(ptpm_data::specs::ManagementId::row_of))]
 fn same_number_other_request<T: ReplyTable>(rt: &impl Abort, table: &mut T) {
     let asked = get(PRIORITY1);
     let reply = reply_to(&asked, None, value(&[0x80, 0]));
@@ -201,7 +201,7 @@ fn same_number_other_request<T: ReplyTable>(rt: &impl Abort, table: &mut T) {
     assert_resent(rt, table, &heard(&M, 0, 7, 1, 1), &asked, sent);
 }
 
-#[tactic(auto, unfolding(ptpm_data::specs::IdTable::row_of))]
+#[tactic(auto, unfolding(ptpm_data::specs::ManagementId::row_of))]
 fn numbers_wrap<T: ReplyTable>(rt: &impl Abort, table: &mut T) {
     let asked = get(PRIORITY1);
     let reply = reply_to(&asked, None, value(&[0x80, 0]));
@@ -210,7 +210,7 @@ fn numbers_wrap<T: ReplyTable>(rt: &impl Abort, table: &mut T) {
     assert_eq!(rt; table.look(&M, 65535, &asked), Look::Old);
 }
 
-#[tactic(auto, unfolding(ptpm_data::specs::IdTable::row_of))]
+#[tactic(auto, unfolding(ptpm_data::specs::ManagementId::row_of))]
 fn half_the_number_space<T: ReplyTable>(rt: &impl Abort, table: &mut T) {
     let asked = get(PRIORITY1);
     let reply = reply_to(&asked, None, value(&[0x80, 0]));
@@ -221,7 +221,7 @@ fn half_the_number_space<T: ReplyTable>(rt: &impl Abort, table: &mut T) {
 }
 
 /// A COMMAND is answered by an ACKNOWLEDGE with an empty dataField, from the port that it names, wherever its copy came in.
-#[tactic(auto, unfolding(ptpm_data::specs::IdTable::row_of))]
+#[tactic(auto, unfolding(ptpm_data::specs::ManagementId::row_of))]
 fn port_disabled<T: ReplyTable>(rt: &impl Abort, table: &mut T) {
     let asked = to_ports(Action::Command, DISABLE_PORT, 1);
     let reply = reply_of_ports(&asked, 1, &What::Done);
@@ -234,7 +234,7 @@ fn port_disabled<T: ReplyTable>(rt: &impl Abort, table: &mut T) {
 }
 
 /// A GET that the id does not permit, at every port of two: each refuses it.
-#[tactic(auto, unfolding(ptpm_data::specs::IdTable::row_of))]
+#[tactic(auto, unfolding(ptpm_data::specs::ManagementId::row_of))]
 fn refused_get_of_two_ports<T: ReplyTable>(rt: &impl Abort, table: &mut T) {
     let asked = to_ports(Action::Get, ENABLE_PORT, 0xffff);
     let refused = What::Refused(ErrorId::NotSupported);
@@ -263,7 +263,7 @@ fn refused_get_of_two_ports<T: ReplyTable>(rt: &impl Abort, table: &mut T) {
 }
 
 /// A COMMAND without its right, at every port of two: each refuses it, by an ACKNOWLEDGE.
-#[tactic(auto, unfolding(ptpm_data::specs::IdTable::row_of))]
+#[tactic(auto, unfolding(ptpm_data::specs::ManagementId::row_of))]
 fn refused_command_of_two_ports<T: ReplyTable>(rt: &impl Abort, table: &mut T) {
     let refused = What::Refused(ErrorId::NotSupported);
     let asked = to_ports(Action::Command, DISABLE_PORT, 0xffff);
@@ -292,7 +292,7 @@ fn refused_command_of_two_ports<T: ReplyTable>(rt: &impl Abort, table: &mut T) {
 }
 
 /// A SET at every port of two, answered to a copy in domain 9 that lost two hops and came in at port 2.
-#[tactic(auto, unfolding(ptpm_data::specs::IdTable::row_of))]
+#[tactic(auto, unfolding(ptpm_data::specs::ManagementId::row_of))]
 fn values_of_two_ports<T: ReplyTable>(rt: &impl Abort, table: &mut T) {
     let asked = Request {
         action: Action::Set,
@@ -319,7 +319,7 @@ fn values_of_two_ports<T: ReplyTable>(rt: &impl Abort, table: &mut T) {
 }
 
 /// The most octets that a reply has: of eight ports, 80 octets each.
-#[tactic(auto, unfolding(ptpm_data::specs::IdTable::row_of))]
+#[tactic(auto, unfolding(ptpm_data::specs::ManagementId::row_of))]
 fn values_of_eight_ports<T: ReplyTable>(rt: &impl Abort, table: &mut T) {
     let asked = to_ports(Action::Get, PORT_DATA_SET, 0xffff);
     let members = [
@@ -350,7 +350,7 @@ fn values_of_eight_ports<T: ReplyTable>(rt: &impl Abort, table: &mut T) {
 }
 
 /// The longest message that a reply has: 184 octets, of a text of 128.
-#[tactic(auto, unfolding(ptpm_data::specs::IdTable::row_of))]
+#[tactic(auto, unfolding(ptpm_data::specs::ManagementId::row_of))]
 fn longest_user_description<T: ReplyTable>(rt: &impl Abort, table: &mut T) {
     let mut text = [b'x'; 130];
     text[0] = 128;
@@ -379,7 +379,7 @@ fn longest_user_description<T: ReplyTable>(rt: &impl Abort, table: &mut T) {
 }
 
 /// What cannot be refused stands in place of what was kept.
-#[tactic(auto, unfolding(ptpm_data::specs::IdTable::row_of))]
+#[tactic(auto, unfolding(ptpm_data::specs::ManagementId::row_of))]
 fn replaced_reply<T: SureTable>(rt: &impl Abort, table: &mut T) {
     let asked = get(PRIORITY1);
     accept(
@@ -437,7 +437,7 @@ fn plain_table_new_succeeds_with_ample_memory(rt: HostRuntime) -> Result<(), Fai
 }
 
 #[test]
-#[tactic(auto, unfolding(ptpm_data::specs::IdTable::row_of))]
+#[tactic(auto, unfolding(ptpm_data::specs::ManagementId::row_of))]
 fn keep_succeeds_with_ample_memory(rt: HostRuntime) -> Result<(), Fail> {
     let mut table = PlainTable::new(rt.alloc(), K, &[(M, Rights(7))])?;
     let asked = get(PRIORITY1);
@@ -451,7 +451,7 @@ fn keep_succeeds_with_ample_memory(rt: HostRuntime) -> Result<(), Fail> {
 /// To be run with each allocation refused in turn: a table that is refused memory stays as it was, and the same call then
 /// answers as it would have.
 #[test]
-#[tactic(auto, unfolding(ptpm_data::specs::IdTable::row_of))]
+#[tactic(auto, unfolding(ptpm_data::specs::ManagementId::row_of))]
 fn refused_memory_changes_nothing(rt: HostRuntime) -> Result<(), Fail> {
     let two = [(M, Rights(7)), (M2, Rights(0))];
     let made = PlainTable::new(rt.alloc(), K, &two);

@@ -192,7 +192,7 @@ fn write_sets<W: Write>(name: &str, sets: &DataSets, out: &mut W) -> io::Result<
 }
 
 /// USER_DESCRIPTION and the four data sets of a clock, a line each.
-#[tactic(auto, unfolding(ptpm_data::specs::IdTable::row_of, crate::specs::Trace::data_set_lines))]
+#[tactic(auto, unfolding(ptpm_data::specs::ManagementId::row_of, crate::specs::Trace::data_set_lines))]
 fn write_clock<W: Write>(name: &str, sets: &DataSets, out: &mut W) -> io::Result<()>
     ensures { OnOk result (Appends (W.contents out.old) (W.contents out.new)
         (data_set_lines name.now sets.now)) }
@@ -220,7 +220,7 @@ fn write_data<W: Write>(name: &str, id: &str, value: &Value, out: &mut W) -> io:
 }
 
 /// PORT_DATA_SET of one of a clock's ports.
-#[tactic(auto, unfolding(ptpm_data::specs::IdTable::row_of, crate::specs::Trace::port_line, crate::specs::Trace::data_line))]
+#[tactic(auto, unfolding(ptpm_data::specs::ManagementId::row_of, crate::specs::Trace::port_line, crate::specs::Trace::data_line))]
 fn write_port<W: Write>(name: &str, sets: &DataSets, port: u16, out: &mut W) -> io::Result<()>
     requires { HasPort port sets.now }
     ensures { OnOk result (Appends (W.contents out.old) (W.contents out.new)

@@ -467,7 +467,7 @@ fn null_ptp_management(rt: HostRuntime) {
 
 /// What a buffer that held something else has after `lay`.
 #[test]
-#[tactic(auto, unfolding(crate::specs::IdTable::row_of))]
+#[tactic(auto, unfolding(crate::specs::ManagementId::row_of))]
 fn data_fields_laid_in_turn(rt: HostRuntime) {
     let sets = fresh(&rt);
     let mut buffer = Value::new();

@@ -1,7 +1,7 @@
 use Rattle.std.proofs.Common.{suc, zero, arith, ◌≡◌, Bool, true, false, refl, sym, ◌∙◌, ap, map, ◌++◌, subst, List, [], ◌∷◌, length, All}
 use Rattle.ptpm_codec.specs.declared.message.Action.TheVariants as actions
 use Rattle.ptpm_data.specs.declared.reply.PortAnswer.{PortAnswer}
-use Rattle.ptpm_data.specs.IdTable.{is_of_port}
+use Rattle.ptpm_data.specs.ManagementId.{is_of_port}
 use Rattle.ptpm_data.specs.Reply.{Answer, ReplyValue, answer_of, outcome_of}
 use Rattle.ptpm_data.specs.Request.{RequestValue}
 use Rattle.ptpm_codec.specs.Message.{reply_action}

@@ -1,5 +1,5 @@
 use Rattle.std.proofs.Common.{◌≡◌, ◌∙◌, ap, sym}
-use Rattle.ptpm_data.specs.IdTable.{entry_of, row_of}
+use Rattle.ptpm_data.specs.ManagementId.{entry_of, row_of}
 use Rattle.ptpm_data.specs.Request.{RequestValue}
 use Rattle.ptpm_data.specs.Replies.{is_get}
 use Rattle.ptpm_data.proofs.Answering.{no_entry, entry_is, reply_of-unlisted, read-unlisted, read-listed, read-other}
@@ -10,7 +10,7 @@ pub returns-in_default : goal.returns-in_default
 returns-in_default c =
     let id : row_of c.request.inside.id ≡ row_of c.args.request.now.id = ap (λ (q : RequestValue). row_of q.id) c.request.view_is in
     let get : is_get c.args.request.now.action ≡ c.is_get-get.result = ap (λ (q : RequestValue). is_get q.action) (sym c.request.view_is) ∙ sym c.is_get-get.ensures in
-    let gone = no_entry (c.row.ensures ∙ id) c.in_default.is in
+    let gone = no_entry (c.by_id.ensures ∙ id) c.in_default.is in
     elim c.if-get.branch [
       | then-get w ↦ rw (c.refuse_by_clock.ensures, w.error-is) (read-unlisted c.args.request.now c.args.self.now gone (get ∙ w.if-get.true))
       | else-get w ↦
@@ -22,7 +22,7 @@ pub returns : goal.returns
 returns c =
     let id : row_of c.request.inside.id ≡ row_of c.args.request.now.id = ap (λ (q : RequestValue). row_of q.id) c.request.view_is in
     let get : is_get c.args.request.now.action ≡ c.is_get-get.result = ap (λ (q : RequestValue). is_get q.action) (sym c.request.view_is) ∙ sym c.is_get-get.ensures in
-    let here = entry_is (c.row.ensures ∙ id) c.in-Some.is in
+    let here = entry_is (c.by_id.ensures ∙ id) c.in-Some.is in
     elim c.if-get-2.branch [
       | then-get-2 w ↦
           rw (c.put_reply.ensures, w.refusal-is, w.refusal-refusal.ensures)

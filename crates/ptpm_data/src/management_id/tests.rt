@@ -1,8 +1,8 @@
 //! The table of management ids: rows as the standard names them.
 
-use super::{MANAGEMENT_IDS, by_name, row};
-use crate::ids::Layout::*;
-use crate::ids::Scope::*;
+use super::{MANAGEMENT_IDS, by_id, by_name};
+use crate::management_id::Layout::*;
+use crate::management_id::Scope::*;
 
 #[test]
 fn rows_by_id_and_name(rt: HostRuntime) {
@@ -16,7 +16,7 @@ fn rows_by_id_and_name(rt: HostRuntime) {
         (0x200e, "DISABLE_PORT", Port, 4, DisablePort),
         (0x6000, "DELAY_MECHANISM", Port, 3, DelayMechanism),
     ] {
-        for found in [row(id), by_name(name)] {
+        for found in [by_id(id), by_name(name)] {
             let Some(row) = found else {
                 return assert!(rt; false, "{id:04x}");
             };
@@ -35,7 +35,7 @@ fn rows_by_id_and_name(rt: HostRuntime) {
 #[test]
 fn every_row_has_its_name(rt: HostRuntime) {
     for id in MANAGEMENT_IDS {
-        let Some(row) = row(id) else {
+        let Some(row) = by_id(id) else {
             return assert!(rt; false, "{id:04x}");
         };
         assert!(rt;
@@ -47,7 +47,7 @@ fn every_row_has_its_name(rt: HostRuntime) {
 
 #[test]
 fn no_such_row(rt: HostRuntime) {
-    assert!(rt; row(0x2fff).is_none() && row(0x0001).is_none() && row(0xffff).is_none());
+    assert!(rt; by_id(0x2fff).is_none() && by_id(0x0001).is_none() && by_id(0xffff).is_none());
     for name in ["", "priority1", "PRIORITY", "PRIORITY11"] {
         assert!(rt; by_name(name).is_none(), "{name}");
     }

@@ -1,7 +1,7 @@
 use Rattle.std.proofs.Common.{arith, option_map, ◌∙◌, sym, ap}
-use Rattle.ptpm_data.specs.IdTable.{entry_of}
+use Rattle.ptpm_data.specs.ManagementId.{entry_of}
 use Rattle.ptpm_data.proofs.NameLemmas.{named_among_all, goes_on, is_found, is_nowhere, management_ids}
-use Rattle.ptpm_data.proofs.id_table.by_name.Goals as goal
+use Rattle.ptpm_data.proofs.management_id.by_name.Goals as goal
 
 pub loop-id-init : goal.loop-id-init
 loop-id-init c = named_among_all c.args.name.now

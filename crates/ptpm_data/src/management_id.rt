@@ -1,11 +1,56 @@
-//! Look-ups in the table of management ids (15.5.2.3).
+//! The table of management ids, and look-ups in it (15.5.2.3).
 
 ghost use Rattle.std.specs.Prelude.{◌≡◌, option_map, Some};
-ghost use Rattle.ptpm_data.specs.declared.ids.Scope.TheVariants.{Clock, Port};
-ghost use Rattle.ptpm_data.specs.IdTable.{entry, entry_of, row_of, row_named, if_named};
+ghost use Rattle.ptpm_data.specs.declared.management_id.Scope.TheVariants.{Clock, Port};
+ghost use Rattle.ptpm_data.specs.ManagementId.{entry, entry_of, row_of, row_named, if_named};
 
 use crate::actions::Actions;
-use crate::ids::{Layout, Row, Scope};
+
+/// Whether an id is of the clock or of each of its ports.
+#[derive(Clone, Copy, Debug, PartialEq, Eq)]
+pub enum Scope {
+    Clock,
+    Port,
+}
+
+/// What an id's dataField holds (15.5.3), named by its id.
+#[derive(Clone, Copy, Debug, PartialEq, Eq)]
+pub enum Layout {
+    NullPtpManagement,
+    UserDescription,
+    DefaultDataSet,
+    CurrentDataSet,
+    ParentDataSet,
+    TimePropertiesDataSet,
+    PortDataSet,
+    Priority1,
+    Priority2,
+    Domain,
+    SlaveOnly,
+    LogAnnounceInterval,
+    AnnounceReceiptTimeout,
+    LogSyncInterval,
+    VersionNumber,
+    EnablePort,
+    DisablePort,
+    ClockAccuracy,
+    UtcProperties,
+    DelayMechanism,
+    LogMinPdelayReqInterval,
+}
+
+/// A management id of this profile.
+#[derive(Clone, Copy, Debug)]
+pub struct Row {
+    /// managementId.
+    pub id: u16,
+    /// The standard's name, as `PRIORITY1`.
+    pub name: &'static str,
+    pub scope: Scope,
+    /// The actions that this profile permits.
+    pub actions: Actions,
+    pub layout: Layout,
+}
 
 const GET: Actions = Actions(1);
 
@@ -49,9 +94,9 @@ fn port(id: u16, name: &'static str, actions: Actions, layout: Layout) -> Option
 }
 
 /// What the table says of an id; `None` where it is not in the table.
-#[tactic(auto, unfolding(crate::specs::IdTable::row_of))]
+#[tactic(auto, unfolding(crate::specs::ManagementId::row_of))]
 #[inline(always)]
-pub fn row(id: u16) -> Option<Row>
+pub fn by_id(id: u16) -> Option<Row>
     ensures { option_map entry_of result ≡ row_of id }
 {
     use Layout::*;
@@ -95,7 +140,7 @@ pub fn row(id: u16) -> Option<Row>
 fn row_if_named(id: u16, name: &str) -> Option<Row>
     ensures { option_map entry_of result ≡ if_named name.now (row_of id) }
 {
-    match row(id) {
+    match by_id(id) {
         Some(row) if row.name == name => Some(row),
         _ => None,
     }

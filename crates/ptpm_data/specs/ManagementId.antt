@@ -4,11 +4,11 @@ use Rattle.std.specs.Prelude.{ℕ, ◌==◌, Bool, true, false, if◌then◌else
 use Prim.Native.String.{String}
 use Rattle.ptpm_codec.specs.declared.message.Action.{Action}
 use Rattle.ptpm_codec.specs.declared.message.Action.TheVariants as actions
-use Rattle.ptpm_data.specs.declared.ids.Scope.{Scope}
-use Rattle.ptpm_data.specs.declared.ids.Scope.TheVariants.{Clock, Port}
-use Rattle.ptpm_data.specs.declared.ids.Layout.{Layout}
-use Rattle.ptpm_data.specs.declared.ids.Layout.TheVariants.{NullPtpManagement, UserDescription, DefaultDataSet, CurrentDataSet, ParentDataSet, TimePropertiesDataSet, PortDataSet, Priority1, Priority2, Domain, SlaveOnly, LogAnnounceInterval, AnnounceReceiptTimeout, LogSyncInterval, VersionNumber, EnablePort, DisablePort, ClockAccuracy, UtcProperties, DelayMechanism, LogMinPdelayReqInterval}
-use Rattle.ptpm_data.specs.declared.ids.Row.{Row}
+use Rattle.ptpm_data.specs.declared.management_id.Scope.{Scope}
+use Rattle.ptpm_data.specs.declared.management_id.Scope.TheVariants.{Clock, Port}
+use Rattle.ptpm_data.specs.declared.management_id.Layout.{Layout}
+use Rattle.ptpm_data.specs.declared.management_id.Layout.TheVariants.{NullPtpManagement, UserDescription, DefaultDataSet, CurrentDataSet, ParentDataSet, TimePropertiesDataSet, PortDataSet, Priority1, Priority2, Domain, SlaveOnly, LogAnnounceInterval, AnnounceReceiptTimeout, LogSyncInterval, VersionNumber, EnablePort, DisablePort, ClockAccuracy, UtcProperties, DelayMechanism, LogMinPdelayReqInterval}
+use Rattle.ptpm_data.specs.declared.management_id.Row.{Row}
 
 infix 30 from◌to◌ minus◌to◌ either◌to◌or◌
 -- ---- sets of actions: GET is 1, SET is 2, COMMAND is 4
