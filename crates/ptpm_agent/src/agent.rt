@@ -1,6 +1,6 @@
 //! One clock's management agent, over any reply table.
 
-ghost use Rattle.std.specs.Prelude.{◌≡◌, ◌≢◌, ◌≤◌, ◌++◌, ◌∷◌, [], ℕ, List, All, IsTrue, Ok, Some, IfOk, OnOk, OnErr, length};
+ghost use Rattle.std.specs.Prelude.{◌≡◌, ◌≢◌, ◌≤◌, ◌++◌, ◌∷◌, [], false, ℕ, List, All, IsTrue, Ok, Some, IfOk, OnOk, OnErr, length};
 ghost use Rattle.ptpm_codec.specs.declared.identity.PortIdentity.{PortIdentity};
 ghost use Rattle.ptpm_codec.specs.Layout.{message_octets};
 ghost use Rattle.ptpm_codec.specs.Message.{IsValid};
@@ -8,6 +8,7 @@ ghost use Rattle.ptpm_codec.specs.Reading.{reading};
 ghost use Rattle.ptpm_codec.specs.Spelling.{Spells};
 ghost use Rattle.ptpm_data.specs.Members.{HasPort};
 ghost use Rattle.ptpm_table.specs.Entries.{HasEntry};
+ghost use Rattle.ptpm_table.specs.Managers.{IsFresh, has_twice, identities};
 ghost use Rattle.ptpm_table.specs.Rendering.{IsSendable, rendered};
 ghost use Rattle.ptpm_agent.specs.Agent.{IsTurned, clock_of, state_of};
 ghost use Rattle.ptpm_agent.specs.Forwarding.{forwarded};
@@ -20,8 +21,8 @@ ghost use Rattle.ptpm_agent.specs.Turn.{carried_out, is_accepted_repeat, judged,
 use crate::forwarding::forward;
 use crate::verdict::Verdict;
 use ptpm_codec::{ClockIdentity, Octets, OutOfMemory, PortIdentity, View, view};
-use ptpm_data::{DataSets, Reply, Request, data_sets_law};
-use ptpm_table::{Heard, Look, Outbox, ReplyTable, SureTable, render};
+use ptpm_data::{DataSets, Reply, Request, Rights, data_sets_law};
+use ptpm_table::{BoundTable, Heard, Look, Outbox, ReplyTable, SureTable, render};
 
 /// A clock's data sets and its reply table, and what becomes of the datagrams that come in at its ports.
 #[derive(Drop)]
@@ -33,7 +34,8 @@ pub struct Agent<T: ReplyTable + Drop> {
 }
 
 impl<T: ReplyTable + Drop> Agent<T> {
-    /// An agent of these data sets and this table, which are of one clock.
+    /// An agent of these data sets and this table, which are of one clock. It is made in the frame of whoever keeps it.
+    #[inline(always)]
     pub fn new(sets: DataSets, table: T) -> Agent<T>
         requires { sets.default.identity ≡ (T.owner table).identity }
         ensures sets { result.sets ≡ sets }
@@ -276,6 +278,34 @@ impl<T: ReplyTable + Drop> Agent<T> {
             .keep(&source, message.number(), &request, &reply)?;
         self.sets = sets;
         Ok(reply)
+    }
+}
+
+impl Agent<BoundTable> {
+    /// A clock that has heard nothing yet and has no managers. It is never inlined: whoever keeps it has it made where it is
+    /// kept, cleared once and not moved.
+    #[inline(never)]
+    pub fn without_managers(sets: DataSets) -> Agent<BoundTable>
+        ensures sets { result.sets ≡ sets }
+        ensures table { IsFresh sets.default.identity []
+            (⟦<BoundTable as ReplyTable>⟧.owner result.table)
+            (⟦<BoundTable as ReplyTable>⟧.entries result.table) }
+    {
+        let table = BoundTable::without_managers(sets.identity());
+        Agent::new(sets, table)
+    }
+
+    /// Gives a clock without managers these. At most sixteen managers, and each identity once.
+    pub fn admit(&mut self, managers: &[(PortIdentity, Rights)])
+        requires none { (⟦<BoundTable as ReplyTable>⟧.owner self.old.table).managers ≡ [] }
+        requires few { length managers.now ≤ 16 }
+        requires distinct { has_twice (identities managers.now) ≡ false }
+        ensures sets { self.new.sets ≡ self.old.sets }
+        ensures table { IsFresh (⟦<BoundTable as ReplyTable>⟧.owner self.old.table).identity managers.now
+            (⟦<BoundTable as ReplyTable>⟧.owner self.new.table)
+            (⟦<BoundTable as ReplyTable>⟧.entries self.new.table) }
+    {
+        self.table.admit(managers);
     }
 }
 
