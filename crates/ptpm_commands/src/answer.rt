@@ -21,8 +21,14 @@ use std::io::{Read, Write};
 #[inline(never)]
 pub fn answer<O: Write>(alloc: Global, text: &str, out: &mut O) -> Result<(), Fault> {
     let datagram = hex::decode(alloc, text)?;
+    answer_one(datagram.as_slice(), out)
+}
+
+/// Lets a fresh clock answer one datagram. The clock is made first, where it is kept.
+#[inline(never)]
+fn answer_one<O: Write>(datagram: &[u8], out: &mut O) -> Result<(), Fault> {
     let mut clock = fresh_clock();
-    answer_datagram(&mut clock, datagram.as_slice(), out)
+    answer_datagram(&mut clock, datagram, out)
 }
 
 /// The same for each line of a reader in turn, all of them at one clock. A line that is `nothing` is passed over.
@@ -33,6 +39,16 @@ pub fn answer_lines<R: Read + Drop, O: Write>(
     out: &mut O,
 ) -> Result<(), Fault> {
     let mut lines = Lines::new(alloc, reader)?;
+    answer_each(alloc, &mut lines, out)
+}
+
+/// Lets a fresh clock answer the datagram of each line that is left. The clock is made first, where it is kept.
+#[inline(never)]
+fn answer_each<R: Read + Drop, O: Write>(
+    alloc: Global,
+    lines: &mut Lines<R>,
+    out: &mut O,
+) -> Result<(), Fault> {
     let mut clock = fresh_clock();
     for number in 1..u64::MAX {
         if !lines.read(number)? {

@@ -17,9 +17,9 @@ const MANAGER: PortIdentity = PortIdentity {
     port: 1,
 };
 
-/// The clock, which has heard nothing yet. It has some 36,000 octets, and so has its table, which is made in a frame of its
-/// own.
-#[inline(never)]
+/// The clock, which has heard nothing yet. It has some 36,000 octets, and is made where it is kept by whoever calls this first
+/// of all.
+#[inline(always)]
 pub(crate) fn fresh_clock() -> Agent<BoundTable>
     ensures sets { result.sets ≡ fresh_sets }
     ensures table { IsFresh shown managers
@@ -27,22 +27,19 @@ pub(crate) fn fresh_clock() -> Agent<BoundTable>
         (⟦<BoundTable as ReplyTable>⟧.entries result.table) }
     ensures port { HasPort 1 result.sets }
 {
-    let ports = [PortStart::new(), PortStart::new()];
-    let sets = match DataSets::new(&ClockStart::new(CLOCK, 0), &ports) {
-        Ok(sets) => sets,
-        Err(_) => unreachable!(),
-    };
-    Agent::new(sets, fresh_table())
+    let mut clock = Agent::without_managers(first_sets());
+    clock.admit(&[(MANAGER, Rights(7))]);
+    clock
 }
 
-/// The table of the clock's one manager, without an entry.
+/// The data sets that the clock starts with.
 #[inline(never)]
-fn fresh_table() -> BoundTable
-    ensures { IsFresh shown managers
-        (⟦<BoundTable as ReplyTable>⟧.owner result) (⟦<BoundTable as ReplyTable>⟧.entries result) }
+fn first_sets() -> DataSets
+    ensures { result ≡ fresh_sets }
 {
-    match BoundTable::new(CLOCK, &[(MANAGER, Rights(7))]) {
-        Ok(table) => table,
+    let ports = [PortStart::new(), PortStart::new()];
+    match DataSets::new(&ClockStart::new(CLOCK, 0), &ports) {
+        Ok(sets) => sets,
         Err(_) => unreachable!(),
     }
 }

@@ -1,5 +1,5 @@
 use Rattle.ptpm_data.specs.Members.{HasPort}
-use Rattle.ptpm_commands.proofs.answer.answer_lines.Given as goal
+use Rattle.ptpm_commands.proofs.answer.answer_each.Given as goal
 
 -- the clock has its port 1
 abbrev pub invariant-loop-number : goal.invariant-loop-number
