@@ -42,7 +42,9 @@ pub fn fresh_clock(size: Size) -> Option<Agent<BoundTable>> {
     }
 }
 
-fn data_sets(ports: &[PortStart]) -> Option<DataSets> {
+/// The data sets of such a clock. They are made in a frame of their own.
+#[inline(never)]
+pub fn data_sets(ports: &[PortStart]) -> Option<DataSets> {
     DataSets::new(&ClockStart::new(CLOCK, 0), ports).ok()
 }
 

@@ -1,9 +1,10 @@
 //! A datagram handled as often as told.
 
-use crate::clock::{Size, fresh_clock};
+use crate::clock::{MANAGER, data_sets, fresh_clock};
 use crate::list::List;
 use ptpm_agent::{Agent, Verdict};
 use ptpm_codec::view;
+use ptpm_data::{PortStart, Rights};
 use ptpm_table::{BoundTable, Outbox};
 
 /// What came of the last datagram.
@@ -60,7 +61,9 @@ fn number_of(datagram: &[u8]) -> u16 {
 pub fn start_each(count: u32) -> Option<u64> {
     let mut ports = 0_u64;
     for _ in 0..count {
-        let clock = fresh_clock(Size::TwoPorts)?;
+        let sets = data_sets(&[PortStart::new(); 2])?;
+        let mut clock = Agent::without_managers(sets);
+        clock.admit(&[(MANAGER, Rights(7))]);
         let out = fresh_outbox();
         ports = ports
             .wrapping_add(clock.sets().port_count() as u64)
