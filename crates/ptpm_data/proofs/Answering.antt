@@ -3,6 +3,7 @@ use Rattle.std.proofs.Common.{◌≡◌, true, false, ◌∙◌, refl, sym, ap, 
 use Rattle.std.specs.Option.{option_map}
 use Rattle.ptpm_codec.specs.declared.error.ErrorId.{ErrorId}
 use Rattle.ptpm_codec.specs.declared.error.ErrorId.TheVariants.{NoSuchId, NotSupported}
+use Rattle.ptpm_codec.specs.Message.{reply_action}
 use Rattle.ptpm_data.specs.declared.management_id.Row.{Row}
 use Rattle.ptpm_data.specs.declared.rights.Rights.{Rights}
 use Rattle.ptpm_data.specs.ManagementId.{Entry, entry_of, row_of}
@@ -11,7 +12,7 @@ use Rattle.ptpm_data.specs.Request.{RequestValue}
 use Rattle.ptpm_data.specs.Reply.{Refused, ReplyValue}
 use Rattle.ptpm_data.specs.Refusals.{entry_refusal, refusal_at}
 use Rattle.ptpm_data.specs.Changes.{carried_out, changed_at, changed_by, unless_refused}
-use Rattle.ptpm_data.specs.Replies.{answer, reply_action, reply_of, reply_to, is_get, no_rights, read_reply_to}
+use Rattle.ptpm_data.specs.Replies.{answer, reply_of, reply_to, is_get, no_rights, read_reply_to}
 
 pub no_entry : {r : Option Row} {e : Option Entry} → option_map entry_of r ≡ e → r ≡ None → e ≡ None
 no_entry {r = None} is gone = sym is

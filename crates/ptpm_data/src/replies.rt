@@ -159,6 +159,7 @@ impl DataSets {
 
 impl Reply {
     ghost use Rattle.std.specs.Prelude.{None, [], ◌∷◌};
+    ghost use Rattle.ptpm_codec.specs.Message.{reply_action};
     ghost use Rattle.ptpm_data.specs.Reply.{Refused};
 
     /// A reply without answers, to be written over.
