@@ -92,7 +92,7 @@ pub extern "C" fn ptpm_clock_handle(
         IsTurnedTo c port datagram.now result (messages_in (take count.new sent.new)) d) }
     ensures refused { (c : HostedClock) (e : HandleRefusal) → clock_held handle.old.keeping ≡ Some c →
         handle_refusal (has_port port c.agent.sets) (length sent.old) ≡ Some e →
-        (result ≡ handle_number e) × ((count.new ≡ 0) × (held handle.new.keeping ≡ held handle.old.keeping)) }
+        (result ≡ handle_number e) × ((count.new ≡ 0) × (clock_held handle.new.keeping ≡ Some c)) }
     ensures within { count.new ≤ length sent.new }
     ensures empty { clock_held handle.old.keeping ≡ None →
         (result ≡ no_clock) × ((count.new ≡ 0) × (held handle.new.keeping ≡ held handle.old.keeping)) }

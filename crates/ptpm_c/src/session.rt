@@ -71,8 +71,10 @@ pub extern "C" fn ptpm_session_begin(
         begin_refusal s.session (ask_of action id port octets.now) ≡ None }
     ensures number { (s : HostedSession) (e : BeginError) → session_held handle.old.keeping ≡ Some s →
         begin_refusal s.session (ask_of action id port octets.now) ≡ Some e → result ≢ 35 → result ≡ begin_number e }
-    ensures unchanged { result ≢ 0 → held handle.new.keeping ≡ held handle.old.keeping }
-    ensures empty { session_held handle.old.keeping ≡ None → result ≡ no_session }
+    ensures unchanged { (s : HostedSession) → session_held handle.old.keeping ≡ Some s → result ≢ 0 →
+        session_held handle.new.keeping ≡ Some s }
+    ensures empty { session_held handle.old.keeping ≡ None →
+        (result ≡ no_session) × (held handle.new.keeping ≡ held handle.old.keeping) }
 {
     let Some((kept, mut session)) = handle.take_session(alloc) else {
         return NO_SESSION;
@@ -126,7 +128,7 @@ pub extern "C" fn ptpm_session_resume(alloc: Global, handle: &mut Handle, attemp
     ensures resumed { (s : HostedSession) → session_held handle.old.keeping ≡ Some s → is_waiting s.session ≡ true →
         (result ≡ 0) × IfSome (session_held handle.new.keeping) (λ t. IsAt t (resumed s.session attempts) s.report) }
     ensures idle { (s : HostedSession) → session_held handle.old.keeping ≡ Some s → is_waiting s.session ≡ false →
-        (result ≡ 43) × (held handle.new.keeping ≡ held handle.old.keeping) }
+        (result ≡ 43) × (session_held handle.new.keeping ≡ Some s) }
     ensures empty { session_held handle.old.keeping ≡ None →
         (result ≡ no_session) × (held handle.new.keeping ≡ held handle.old.keeping) }
 {
@@ -166,7 +168,7 @@ pub extern "C" fn ptpm_session_receive(alloc: Global, handle: &mut Handle, datag
         IfSome (session_held handle.new.keeping) (λ t. HasHeard s (received_of s.session datagram.now) t) }
     ensures refused { (s : HostedSession) → session_held handle.old.keeping ≡ Some s →
         result ≢ heard_number (heard_of (received_of s.session datagram.now)) →
-        (result ≡ 35) × (NeedsMemory (received_of s.session datagram.now) × (held handle.new.keeping ≡ held handle.old.keeping)) }
+        (result ≡ 35) × (NeedsMemory (received_of s.session datagram.now) × (session_held handle.new.keeping ≡ Some s)) }
     ensures empty { session_held handle.old.keeping ≡ None →
         (result ≡ no_session) × (held handle.new.keeping ≡ held handle.old.keeping) }
 {

@@ -96,7 +96,7 @@ pub extern "C" fn ptpm_survey_receive(alloc: Global, handle: &mut Handle, datagr
         IfSome (survey_held handle.new.keeping) (λ t. t.survey.answers ≡ first_of_each_source s.survey.enquiry (datagrams ++ datagram.now ∷ [])) }
     ensures refused { (s : HostedSurvey) → survey_held handle.old.keeping ≡ Some s →
         result ≢ surveyed_number (surveyed_by s.survey.answers (heard s.survey.enquiry datagram.now)) →
-        (result ≡ 35) × ((surveyed_by s.survey.answers (heard s.survey.enquiry datagram.now) ≡ Surveyed.Taken) × (held handle.new.keeping ≡ held handle.old.keeping)) }
+        (result ≡ 35) × ((surveyed_by s.survey.answers (heard s.survey.enquiry datagram.now) ≡ Surveyed.Taken) × (survey_held handle.new.keeping ≡ Some s)) }
     ensures empty { survey_held handle.old.keeping ≡ None → (result ≡ no_survey) × (held handle.new.keeping ≡ held handle.old.keeping) }
 {
     let Some((kept, mut survey)) = handle.take_survey(alloc) else {

@@ -8,7 +8,7 @@ pub append_message-requires-clause-small : goal.append_message-requires-clause-s
 append_message-requires-clause-small c =
     omega (
       arith,
-      made_small c.args.of_port (envelope_of c.args.exchange.now) c.args.exchange.now.action c.reply_action-action.result c.args.answers.now
+      made_small c.args.of_port (envelope_of c.args.exchange.now) c.args.exchange.now.action c.reply-action.result c.args.answers.now
           c.loop-answer.answer-index c.answer-item-in-loop-answer.result c.draft_of-draft-in-loop-answer.result c.answer-item-in-loop-answer.is c.loop-answer-test.true c.requires.suits
           c.draft_of-draft-in-loop-answer.ensures.message,
       most_of_all c.args.of_port,
@@ -19,16 +19,16 @@ append_message-requires-clause-room c =
     omega (
       arith,
       has_room c.args.of_port _ _ _ _ c.requires.count c.loop-answer-test.true c.loop-answer.invariant.room
-          (made_small c.args.of_port (envelope_of c.args.exchange.now) c.args.exchange.now.action c.reply_action-action.result c.args.answers.now
+          (made_small c.args.of_port (envelope_of c.args.exchange.now) c.args.exchange.now.action c.reply-action.result c.args.answers.now
           c.loop-answer.answer-index c.answer-item-in-loop-answer.result c.draft_of-draft-in-loop-answer.result c.answer-item-in-loop-answer.is c.loop-answer-test.true c.requires.suits
           c.draft_of-draft-in-loop-answer.ensures.message),
     )
 
 pub loop-answer-preserved : goal.loop-answer-preserved
 loop-answer-preserved c =
-    let one = made c.args.of_port (envelope_of c.args.exchange.now) c.args.exchange.now.action c.reply_action-action.result c.args.answers.now
+    let one = made c.args.of_port (envelope_of c.args.exchange.now) c.args.exchange.now.action c.reply-action.result c.args.answers.now
     c.loop-answer.answer-index c.answer-item-in-loop-answer.result c.draft_of-draft-in-loop-answer.result c.answer-item-in-loop-answer.is c.loop-answer-test.true c.requires.suits
-    c.draft_of-draft-in-loop-answer.ensures.message c.reply_action-action.ensures refl c.requires.asks c.draft_of-draft-in-loop-answer.ensures.valid c.append_message.ensures.fits in
+    c.draft_of-draft-in-loop-answer.ensures.message c.reply-action.ensures refl c.requires.asks c.draft_of-draft-in-loop-answer.ensures.valid c.append_message.ensures.fits in
     filled_after c.args.of_port (envelope_of c.args.exchange.now) c.args.answers.now c.loop-answer.sizes.items c.loop-answer.messages.items
     c.append_message.new.sizes.items c.append_message.new.messages.items c.loop-answer.answer-index c.answer-item-in-loop-answer.result c.draft_of-draft-in-loop-answer.result
     c.loop-answer.invariant c.answer-item-in-loop-answer.is c.loop-answer-test.true one c.append_message.ensures.sizes c.append_message.ensures.messages
@@ -37,7 +37,7 @@ pub leave_message-requires-clause-small : goal.leave_message-requires-clause-sma
 leave_message-requires-clause-small c =
     omega (
       arith,
-      made_small c.args.of_port (envelope_of c.args.exchange.now) c.args.exchange.now.action c.reply_action-action.result c.args.answers.now
+      made_small c.args.of_port (envelope_of c.args.exchange.now) c.args.exchange.now.action c.reply-action.result c.args.answers.now
           0 c.answer-item.result c.draft_of-draft.result c.answer-item.is (omega (arith, c.in-len1.len_at_least)) c.requires.suits
           c.draft_of-draft.ensures.message,
       most_of_all c.args.of_port,
@@ -46,9 +46,9 @@ leave_message-requires-clause-small c =
 pub returns-in-len1-clause-kept : goal.returns-in-len1-clause-kept
 returns-in-len1-clause-kept c =
     let inside : 0 < length c.args.answers.now = omega (arith, c.in-len1.len_at_least) in
-    let one = made c.args.of_port (envelope_of c.args.exchange.now) c.args.exchange.now.action c.reply_action-action.result c.args.answers.now
+    let one = made c.args.of_port (envelope_of c.args.exchange.now) c.args.exchange.now.action c.reply-action.result c.args.answers.now
     0 c.answer-item.result c.draft_of-draft.result c.answer-item.is inside c.requires.suits c.draft_of-draft.ensures.message
-    c.reply_action-action.ensures refl c.requires.asks c.draft_of-draft.ensures.valid c.leave_message.ensures.fits in
+    c.reply-action.ensures refl c.requires.asks c.draft_of-draft.ensures.valid c.leave_message.ensures.fits in
     (filled_one c.args.of_port (envelope_of c.args.exchange.now) c.args.answers.now c.leave_message.new.sizes.items
     c.leave_message.new.messages.items c.answer-item.result c.draft_of-draft.result c.answer-item.is inside one
     c.leave_message.ensures.sizes c.leave_message.ensures.messages).kept
@@ -56,9 +56,9 @@ returns-in-len1-clause-kept c =
 pub returns-in-len1-clause-answers : goal.returns-in-len1-clause-answers
 returns-in-len1-clause-answers c =
     let inside : 0 < length c.args.answers.now = omega (arith, c.in-len1.len_at_least) in
-    let one = made c.args.of_port (envelope_of c.args.exchange.now) c.args.exchange.now.action c.reply_action-action.result c.args.answers.now
+    let one = made c.args.of_port (envelope_of c.args.exchange.now) c.args.exchange.now.action c.reply-action.result c.args.answers.now
     0 c.answer-item.result c.draft_of-draft.result c.answer-item.is inside c.requires.suits c.draft_of-draft.ensures.message
-    c.reply_action-action.ensures refl c.requires.asks c.draft_of-draft.ensures.valid c.leave_message.ensures.fits in
+    c.reply-action.ensures refl c.requires.asks c.draft_of-draft.ensures.valid c.leave_message.ensures.fits in
     (filled_one c.args.of_port (envelope_of c.args.exchange.now) c.args.answers.now c.leave_message.new.sizes.items
     c.leave_message.new.messages.items c.answer-item.result c.draft_of-draft.result c.answer-item.is inside one
     c.leave_message.ensures.sizes c.leave_message.ensures.messages).answers_are

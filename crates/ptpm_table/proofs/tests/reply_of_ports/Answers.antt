@@ -48,9 +48,9 @@ loop-port-preserved c =
 
 pub returns : goal.returns
 returns c =
-    let r : ReplyValue = record { action = c.reply_action.result; id = c.request.inside.id; answers = map answer_of c.loop-port.answers.items } in
+    let r : ReplyValue = record { action = c.reply.result; id = c.request.inside.id; answers = map answer_of c.loop-port.answers.items } in
     of_ports c.args.request.now r c.loop-port.answers.items
-    (c.reply_action.ensures ∙ ap (λ (q : RequestValue). reply_action q.action) c.request.view_is)
+    (c.reply.ensures ∙ ap (λ (q : RequestValue). reply_action q.action) c.request.view_is)
     (ap (λ (q : RequestValue). q.id) c.request.view_is) refl c.requires.of_port
     (omega (arith, c.loop-port.invariant.count, c.loop-port-test.false, c.requires.some))
     (omega (arith, c.loop-port.invariant.count, c.loop-port-test.false, c.loop-port.auto.port-end, c.requires.few))
