@@ -1,15 +1,17 @@
 -- At-most-once execution: what a turn does with a copy of a request is what the history says, and so for lists.
-use Rattle.std.proofs.Common.{arith, ◌≡◌, ℕ, ◌<◌, ◌≤◌, ◌==◌, List, [], ◌∷◌, ◌++◌, Option, Some, None, Ok, Bool, true, false, refl, sym, ◌∙◌, ap, subst, ⊎_elim}
+use Rattle.std.proofs.Common.{arith, ◌≡◌, ℕ, ◌<◌, ◌≤◌, ◌==◌, List, [], ◌∷◌, ◌++◌, Option, Some, None, Ok, Bool, true, false, length, refl, sym, ◌∙◌, ap, subst, ⊎_elim}
 use Rattle.std.proofs.lemmas.Bool.{cases_Bool, cases_eq, cases_order, and_from, and_left, and_right, or_left, or_right, or_from, eq-eqb, ne_eqb, lt-ltb, le-ltb, cond-true, cond-false, true≢false, false≢true}
 use Rattle.std.proofs.lemmas.Bool.Decides.{nat_tests}
 use Rattle.std.proofs.lemmas.Option.{none-some, cond_some}
 use Rattle.std.specs.FinMap.{get, get-empty}
+use Rattle.std.specs.List.{cons_option}
 use Rattle.ptpm_codec.specs.declared.identity.PortIdentity.{PortIdentity}
 use Rattle.ptpm_codec.specs.declared.message.Message.{Message}
 use Rattle.ptpm_codec.specs.Identity.{identity_cmp}
 use Rattle.ptpm_codec.specs.Reading.{message_of}
 use Rattle.ptpm_data.specs.Members.{DataSetsValue}
 use Rattle.ptpm_data.specs.Replies.{reply_to}
+use Rattle.ptpm_data.proofs.Keeping.{changed_by-ports}
 use Rattle.ptpm_table.specs.declared.serial.Serial.{Serial}
 use Rattle.ptpm_table.specs.declared.serial.Serial.TheVariants.{Same, Newer, Older}
 use Rattle.ptpm_table.specs.Entries.{Entry}
@@ -19,9 +21,9 @@ use Rattle.ptpm_agent.specs.declared.verdict.Verdict.{Verdict}
 use Rattle.ptpm_agent.specs.declared.verdict.Verdict.TheVariants as verdicts
 use Rattle.ptpm_agent.specs.Addressing.{heard_of, request_of}
 use Rattle.ptpm_agent.specs.Turn.{Clock, State, Turned, is_repeat, judged, kept_reply_of, look, next_by, outbox_of, reply_by, reply_messages, turn, turn_by, verdict_at}
-use Rattle.ptpm_agent.specs.Once.{Delivery, RequestCopy, History, after, after_arrival, after_copy, applied_once, initial_history, copy_by, copy_from, copy_of, due_reply, greatest, is_copy, joins, kept_for, kept_reply}
+use Rattle.ptpm_agent.specs.Once.{Delivery, RequestCopy, History, after_copy, applied_once, copies, initial_history, copy_by, copy_from, copy_of, due_reply, greatest, is_copy, joins, kept_for, kept_reply}
 use Rattle.ptpm_codec.specs.SequenceNumber.{number_of}
-use Rattle.ptpm_agent.specs.Window.{IsInTime, IsNumbered, KeepsWindow}
+use Rattle.ptpm_agent.specs.Window.{AreNumbered, IsInTime, IsInWindow, IsNumbered, KeepsWindow}
 use Rattle.ptpm_agent.specs.Laws.{IsKept, IsLatest, StandsAt, due_messages, initial_clock_state, turns}
 use Rattle.ptpm_agent.proofs.Entries.{StandsAt-joined, accepted_at}
 use Rattle.ptpm_agent.proofs.Numbers.{serial_of-number_of}
@@ -30,26 +32,26 @@ use Rattle.ptpm_agent.proofs.Turns.{CopyParts, copy_parts, forwarded-copy, judge
 -- ---- the copy of a delivery
 
 -- the message that a delivered copy is of
-pub record DeliversCopy (c : Clock) (d : DataSetsValue) (x : Delivery) (k : RequestCopy) : Type 0 where
+pub record DeliversCopy (c : Clock) (ports : ℕ) (x : Delivery) (k : RequestCopy) : Type 0 where
   pub message : Message
   pub read : message_of x.datagram ≡ Some message
-  pub passes : is_copy c d message ≡ true
+  pub passes : is_copy c ports message ≡ true
   pub copy : copy_from x message ≡ k
 
-delivers_by : (c : Clock) (d : DataSetsValue) (x : Delivery) (k : RequestCopy) (o : Option Message) → message_of x.datagram ≡ o → copy_by c d x o ≡ Some k → DeliversCopy c d x k
-delivers_by c d x k None r e = absurd (none-some k e)
-delivers_by c d x k (Some v) r e =
-    let parts = cond_some (is_copy c d v) (copy_from x v) k e in
+delivers_by : (c : Clock) (ports : ℕ) (x : Delivery) (k : RequestCopy) (o : Option Message) → message_of x.datagram ≡ o → copy_by c ports x o ≡ Some k → DeliversCopy c ports x k
+delivers_by c ports x k None r e = absurd (none-some k e)
+delivers_by c ports x k (Some v) r e =
+    let parts = cond_some (is_copy c ports v) (copy_from x v) k e in
     record { message = v; read = r; passes = parts.0; copy = parts.1 }
 
-pub delivers_copy : (c : Clock) (d : DataSetsValue) (x : Delivery) (k : RequestCopy) → copy_of c d x ≡ Some k → DeliversCopy c d x k
-delivers_copy c d x k e = delivers_by c d x k (message_of x.datagram) refl e
+pub delivers_copy : (c : Clock) (ports : ℕ) (x : Delivery) (k : RequestCopy) → copy_of c ports x ≡ Some k → DeliversCopy c ports x k
+delivers_copy c ports x k e = delivers_by c ports x k (message_of x.datagram) refl e
 
 -- the message of a delivery that is no copy
-pub no_copy : (c : Clock) (d : DataSetsValue) (x : Delivery) (v : Message) → copy_of c d x ≡ None → message_of x.datagram ≡ Some v → is_copy c d v ≡ false
-no_copy c d x v none r = ⊎_elim
-    (λ (y : is_copy c d v ≡ true). absurd (none-some (copy_from x v) (sym none ∙ (ap (copy_by c d x) r ∙ cond-true _ _ _ y))))
-    (λ (n : is_copy c d v ≡ false). n) (cases_Bool (is_copy c d v))
+pub no_copy : (c : Clock) (ports : ℕ) (x : Delivery) (v : Message) → copy_of c ports x ≡ None → message_of x.datagram ≡ Some v → is_copy c ports v ≡ false
+no_copy c ports x v none r = ⊎_elim
+    (λ (y : is_copy c ports v ≡ true). absurd (none-some (copy_from x v) (sym none ∙ (ap (copy_by c ports x) r ∙ cond-true _ _ _ y))))
+    (λ (n : is_copy c ports v ≡ false). n) (cases_Bool (is_copy c ports v))
 
 -- ---- one verdict
 
@@ -202,9 +204,9 @@ goes_elsewhere first c s h x v at time d n =
     goes_still first c s h x v verdicts.OtherDomain refl at j
     (sym (due_reply-elsewhere first c s h x v (get s.entries v.source) time j n (at.entries v.source)))
 
-goes_copy : (first : PortIdentity → ℕ) (c : Clock) (s : State) (h : History) (x : Delivery) (v : Message) → StandsAt first s h → is_copy c h.sets v ≡ true → IsInTime first h (copy_from x v) → Goes first c s h x v (judged c s v)
+goes_copy : (first : PortIdentity → ℕ) (c : Clock) (s : State) (h : History) (x : Delivery) (v : Message) → StandsAt first s h → is_copy c (length h.sets.ports) v ≡ true → IsInTime first h (copy_from x v) → Goes first c s h x v (judged c s v)
 goes_copy first c s h x v at y time =
-    let parts : CopyParts c s.sets v = copy_parts c s.sets v (subst (λ (d : DataSetsValue). is_copy c d v ≡ true) (sym at.sets) y) in
+    let parts : CopyParts c (length s.sets.ports) v = copy_parts c (length s.sets.ports) v (subst (λ (d : DataSetsValue). is_copy c (length d.ports) v ≡ true) (sym at.sets) y) in
     let home : v.domain == s.sets.default.domain ≡ v.domain == h.sets.default.domain = ap (λ (d : DataSetsValue). v.domain == d.default.domain) at.sets in
     let looked : is_repeat (look c s v) ≡ is_repeat (look_at (get s.entries v.source) v.number (request_of v)) = ap is_repeat (look-copy c s v parts) in
     ⊎_elim
@@ -230,43 +232,29 @@ pub record TurnsAs (first : PortIdentity → ℕ) (c : Clock) (s : State) (h : H
   pub forwards : (turn c s x.ingress x.datagram).forwards ≡ []
   pub stays : joins h k ≡ false → (turn c s x.ingress x.datagram).next ≡ s
 
-turns_as_message : (first : PortIdentity → ℕ) (c : Clock) (s : State) (h : History) (x : Delivery) (v : Message) → StandsAt first s h → message_of x.datagram ≡ Some v → is_copy c h.sets v ≡ true → IsInTime first h (copy_from x v) → TurnsAs first c s h x (copy_from x v)
+turns_as_message : (first : PortIdentity → ℕ) (c : Clock) (s : State) (h : History) (x : Delivery) (v : Message) → StandsAt first s h → message_of x.datagram ≡ Some v → is_copy c (length h.sets.ports) v ≡ true → IsInTime first h (copy_from x v) → TurnsAs first c s h x (copy_from x v)
 turns_as_message first c s h x v at r y time =
     let goes : Goes first c s h x v (judged c s v) = goes_copy first c s h x v at y time in
     let t : turn c s x.ingress x.datagram ≡ turn_by c s x.ingress x.datagram (Ok v) = turn-message c s x.ingress x.datagram v r in
     record {
       stands = subst (λ (u : Turned). StandsAt first u.next (after_copy c h (copy_from x v))) (sym t) goes.stands;
       replies = ap (λ (u : Turned). u.replies) t ∙ ap (reply_messages c x.ingress (heard_of v)) goes.reply;
-      forwards = ap (λ (u : Turned). u.forwards) t ∙ forwarded-copy c x.ingress s.sets x.datagram v r (copy_parts c h.sets v y).target;
+      forwards = ap (λ (u : Turned). u.forwards) t ∙ forwarded-copy c x.ingress s.sets x.datagram v r (copy_parts c (length h.sets.ports) v y).target;
       stays = λ j. ap (λ (u : Turned). u.next) t ∙ goes.stays j;
     }
 
-pub turns_as : (first : PortIdentity → ℕ) (c : Clock) (s : State) (h : History) (x : Delivery) (k : RequestCopy) → StandsAt first s h → copy_of c h.sets x ≡ Some k → IsInTime first h k → TurnsAs first c s h x k
+pub turns_as : (first : PortIdentity → ℕ) (c : Clock) (s : State) (h : History) (x : Delivery) (k : RequestCopy) → StandsAt first s h → copy_of c (length h.sets.ports) x ≡ Some k → IsInTime first h k → TurnsAs first c s h x k
 turns_as first c s h x k at e time =
-    let copy = delivers_copy c h.sets x k e in
+    let copy = delivers_copy c (length h.sets.ports) x k e in
     subst (λ (j : RequestCopy). TurnsAs first c s h x j) copy.copy
     (turns_as_message first c s h x copy.message at copy.read copy.passes (subst (λ (j : RequestCopy). IsInTime first h j) (sym copy.copy) time))
 
 -- any other delivery changes nothing
-pub turn-no_copy : (c : Clock) (s : State) (x : Delivery) → copy_of c s.sets x ≡ None → (turn c s x.ingress x.datagram).next ≡ s
+pub turn-no_copy : (c : Clock) (s : State) (x : Delivery) → copy_of c (length s.sets.ports) x ≡ None → (turn c s x.ingress x.datagram).next ≡ s
 turn-no_copy c s x none =
-    turn-next (λ (n : State). n ≡ s) c s x.ingress x.datagram refl (λ v r. next_by-no_copy c s v (no_copy c s.sets x v none r))
+    turn-next (λ (n : State). n ≡ s) c s x.ingress x.datagram refl (λ v r. next_by-no_copy c s v (no_copy c (length s.sets.ports) x v none r))
 
 -- ---- lists
-
-stands_by : (first : PortIdentity → ℕ) (c : Clock) (s : State) (h : History) (x : Delivery) (o : Option RequestCopy) → copy_of c h.sets x ≡ o → StandsAt first s h → ((k : RequestCopy) → copy_of c h.sets x ≡ Some k → IsInTime first h k) → StandsAt first (turn c s x.ingress x.datagram).next (after_arrival c h o)
-stands_by first c s h x None e at time =
-    subst (λ (t : State). StandsAt first t h)
-    (sym (turn-no_copy c s x (ap (λ (d : DataSetsValue). copy_of c d x) at.sets ∙ e))) at
-stands_by first c s h x (Some k) e at time = (turns_as first c s h x k at e (time k e)).stands
-
-pub stands_after : (first : PortIdentity → ℕ) (c : Clock) (s : State) (h : History) (x : Delivery) → StandsAt first s h → ((k : RequestCopy) → copy_of c h.sets x ≡ Some k → IsInTime first h k) → StandsAt first (turn c s x.ingress x.datagram).next (after c h x)
-stands_after first c s h x at time = stands_by first c s h x (copy_of c h.sets x) refl at time
-
-pub stands_turns : (first : PortIdentity → ℕ) (c : Clock) (s : State) (h : History) (xs : List Delivery) → StandsAt first s h → KeepsWindow c first h xs → StandsAt first (turns c s xs) (applied_once c h xs)
-stands_turns first c s h [] at window = at
-stands_turns first c s h (x ∷ xs) at window =
-    stands_turns first c (turn c s x.ingress x.datagram).next (after c h x) xs (stands_after first c s h x at window.0) window.1
 
 pub stands-initial_history : (first : PortIdentity → ℕ) (d : DataSetsValue) → StandsAt first (initial_clock_state d) (initial_history d)
 stands-initial_history first d = record {
@@ -274,44 +262,120 @@ stands-initial_history first d = record {
   entries = λ m. subst (λ (o : Option Entry). IsKept first (initial_history d) m o) (sym (get-empty identity_cmp m)) refl;
 }
 
--- the window of a list with one more delivery
-window_parts : (c : Clock) (first : PortIdentity → ℕ) (h : History) (xs : List Delivery) (x : Delivery) → KeepsWindow c first h (xs ++ x ∷ []) → KeepsWindow c first h xs × ((k : RequestCopy) → copy_of c (applied_once c h xs).sets x ≡ Some k → IsInTime first (applied_once c h xs) k)
-window_parts c first h [] x window = (tt, window.0)
-window_parts c first h (y ∷ ys) x window = let rest = window_parts c first (after c h y) ys x window.1 in ((window.0, rest.0), rest.1)
+-- what was accepted leaves as many ports
+after_copy-ports : (c : Clock) (h : History) (k : RequestCopy) → length (after_copy c h k).sets.ports ≡ length h.sets.ports
+after_copy-ports c h k = ⊎_elim
+    (λ (y : joins h k ≡ true).
+    ap (λ (g : History). length g.sets.ports) (cond-true _ _ _ y) ∙ changed_by-ports k.request (c.rights k.heard.source) h.sets)
+    (λ (n : joins h k ≡ false). ap (λ (g : History). length g.sets.ports) (cond-false _ _ _ n))
+    (cases_Bool (joins h k))
+
+pub applied_once-ports : (c : Clock) (h : History) (ks : List RequestCopy) → length (applied_once c h ks).sets.ports ≡ length h.sets.ports
+applied_once-ports c h [] = refl
+applied_once-ports c h (k ∷ ks) = applied_once-ports c (after_copy c h k) ks ∙ after_copy-ports c h k
+
+-- a delivery at a clock that stands at a history, and has its number of ports
+pub stands-other : (first : PortIdentity → ℕ) (c : Clock) (ports : ℕ) (s : State) (h : History) (x : Delivery) → length h.sets.ports ≡ ports → copy_of c ports x ≡ None → StandsAt first s h → StandsAt first (turn c s x.ingress x.datagram).next h
+stands-other first c ports s h x many e at =
+    subst (λ (t : State). StandsAt first t h)
+    (sym (turn-no_copy c s x (ap (λ (d : DataSetsValue). copy_of c (length d.ports) x) at.sets ∙ (ap (λ p. copy_of c p x) many ∙ e)))) at
+
+pub stands-copy : (first : PortIdentity → ℕ) (c : Clock) (ports : ℕ) (s : State) (h : History) (x : Delivery) (k : RequestCopy) → length h.sets.ports ≡ ports → copy_of c ports x ≡ Some k → StandsAt first s h → IsInTime first h k
+    → StandsAt first (turn c s x.ingress x.datagram).next (after_copy c h k)
+stands-copy first c ports s h x k many e at time = (turns_as first c s h x k at (ap (λ p. copy_of c p x) many ∙ e) time).stands
+
+-- a clock stands where the copies ks, which are left of all, go on from
+record GoesOn (first : PortIdentity → ℕ) (c : Clock) (ports : ℕ) (s : State) (h : History) (ks all : List RequestCopy) : Type 0 where
+  pub before : History
+  pub as_many : length before.sets.ports ≡ ports
+  pub stands : StandsAt first s before
+  pub numbered : AreNumbered first ks
+  pub window : KeepsWindow c before ks
+  pub is : applied_once c before ks ≡ applied_once c h all
+
+-- so it does after a delivery, of which there is a copy or none
+goes_on : (first : PortIdentity → ℕ) (c : Clock) (ports : ℕ) (s : State) (h : History) (x : Delivery) (o : Option RequestCopy) (ks : List RequestCopy) → length h.sets.ports ≡ ports → copy_of c ports x ≡ o → StandsAt first s h
+    → AreNumbered first (cons_option o ks) → KeepsWindow c h (cons_option o ks) → GoesOn first c ports (turn c s x.ingress x.datagram).next h ks (cons_option o ks)
+goes_on first c ports s h x None ks many e at numbered window = record {
+  before = h;
+  as_many = many;
+  stands = stands-other first c ports s h x many e at;
+  numbered = numbered;
+  window = window;
+  is = refl;
+}
+goes_on first c ports s h x (Some k) ks many e at numbered window = record {
+  before = after_copy c h k;
+  as_many = after_copy-ports c h k ∙ many;
+  stands = stands-copy first c ports s h x k many e at (record { numbered = numbered.0; window = window.0 });
+  numbered = numbered.1;
+  window = window.1;
+  is = refl;
+}
+
+pub stands_turns : (first : PortIdentity → ℕ) (c : Clock) (ports : ℕ) (s : State) (h : History) (xs : List Delivery) → length h.sets.ports ≡ ports → StandsAt first s h
+    → AreNumbered first (copies c ports xs) → KeepsWindow c h (copies c ports xs) → StandsAt first (turns c s xs) (applied_once c h (copies c ports xs))
+stands_turns first c ports s h [] many at numbered window = at
+stands_turns first c ports s h (x ∷ xs) many at numbered window =
+    let on : GoesOn first c ports (turn c s x.ingress x.datagram).next h (copies c ports xs) (copies c ports (x ∷ xs)) =
+    goes_on first c ports s h x (copy_of c ports x) (copies c ports xs) many refl at numbered window in
+    subst (λ (g : History). StandsAt first (turns c (turn c s x.ingress x.datagram).next xs) g) on.is
+    (stands_turns first c ports (turn c s x.ingress x.datagram).next on.before xs on.as_many on.stands on.numbered on.window)
+
+-- a list with one more copy
+numbered_parts : (first : PortIdentity → ℕ) (ks : List RequestCopy) (k : RequestCopy) → AreNumbered first (ks ++ k ∷ []) → AreNumbered first ks × IsNumbered first k
+numbered_parts first [] k numbered = (tt, numbered.0)
+numbered_parts first (j ∷ js) k numbered = let rest = numbered_parts first js k numbered.1 in ((numbered.0, rest.0), rest.1)
+
+window_parts : (c : Clock) (h : History) (ks : List RequestCopy) (k : RequestCopy) → KeepsWindow c h (ks ++ k ∷ []) → KeepsWindow c h ks × IsInWindow (applied_once c h ks) k
+window_parts c h [] k window = (tt, window.0)
+window_parts c h (j ∷ js) k window = let rest = window_parts c (after_copy c h j) js k window.1 in ((window.0, rest.0), rest.1)
 
 turns-append : (c : Clock) (s : State) (xs : List Delivery) (x : Delivery) → turns c s (xs ++ x ∷ []) ≡ (turn c (turns c s xs) x.ingress x.datagram).next
 turns-append c s [] x = refl
 turns-append c s (y ∷ ys) x = turns-append c (turn c s y.ingress y.datagram).next ys x
 
-pub sets_once : (c : Clock) (first : PortIdentity → ℕ) (d : DataSetsValue) (xs : List Delivery) → KeepsWindow c first (initial_history d) xs → (turns c (initial_clock_state d) xs).sets ≡ (applied_once c (initial_history d) xs).sets
-sets_once c first d xs window = (stands_turns first c (initial_clock_state d) (initial_history d) xs (stands-initial_history first d) window).sets
+pub sets_once : (c : Clock) (first : PortIdentity → ℕ) (d : DataSetsValue) (xs : List Delivery) → AreNumbered first (copies c (length d.ports) xs) → KeepsWindow c (initial_history d) (copies c (length d.ports) xs)
+    → (turns c (initial_clock_state d) xs).sets ≡ (applied_once c (initial_history d) (copies c (length d.ports) xs)).sets
+sets_once c first d xs numbered window =
+    (stands_turns first c (length d.ports) (initial_clock_state d) (initial_history d) xs refl (stands-initial_history first d) numbered window).sets
 
-turns_as_next : (c : Clock) (first : PortIdentity → ℕ) (s : State) (h : History) (xs : List Delivery)
-    (x : Delivery) (k : RequestCopy) → StandsAt first s h → KeepsWindow c first h (xs ++ x ∷ [])
-    → copy_of c (applied_once c h xs).sets x ≡ Some k
-    → TurnsAs first c (turns c s xs) (applied_once c h xs) x k
-turns_as_next c first s h xs x k at window e =
-    let parts = window_parts c first h xs x window in
-    turns_as first c (turns c s xs) (applied_once c h xs) x k (stands_turns first c s h xs at parts.0) e (parts.1 k e)
+turns_as_next : (c : Clock) (first : PortIdentity → ℕ) (ports : ℕ) (s : State) (h : History) (xs : List Delivery)
+    (x : Delivery) (k : RequestCopy) → length h.sets.ports ≡ ports → StandsAt first s h → copy_of c ports x ≡ Some k
+    → AreNumbered first (copies c ports xs ++ k ∷ []) → KeepsWindow c h (copies c ports xs ++ k ∷ [])
+    → TurnsAs first c (turns c s xs) (applied_once c h (copies c ports xs)) x k
+turns_as_next c first ports s h xs x k many at e numbered window =
+    let n = numbered_parts first (copies c ports xs) k numbered in
+    let w = window_parts c h (copies c ports xs) k window in
+    turns_as first c (turns c s xs) (applied_once c h (copies c ports xs)) x k
+    (stands_turns first c ports s h xs many at n.0 w.0)
+    (ap (λ p. copy_of c p x) (applied_once-ports c h (copies c ports xs) ∙ many) ∙ e)
+    (record { numbered = n.1; window = w.1 })
 
-pub outbox_due-at : (c : Clock) (first : PortIdentity → ℕ) (s : State) (h : History) (xs : List Delivery)
-    (x : Delivery) (k : RequestCopy) → StandsAt first s h → KeepsWindow c first h (xs ++ x ∷ [])
-    → copy_of c (applied_once c h xs).sets x ≡ Some k
-    → outbox_of (turn c (turns c s xs) x.ingress x.datagram) ≡ due_messages c k (due_reply c (applied_once c h xs) k)
-outbox_due-at c first s h xs x k at window e =
-    let as' = turns_as_next c first s h xs x k at window e in
+pub outbox_due-at : (c : Clock) (first : PortIdentity → ℕ) (ports : ℕ) (s : State) (h : History) (xs : List Delivery)
+    (x : Delivery) (k : RequestCopy) → length h.sets.ports ≡ ports → StandsAt first s h → copy_of c ports x ≡ Some k
+    → AreNumbered first (copies c ports xs ++ k ∷ []) → KeepsWindow c h (copies c ports xs ++ k ∷ [])
+    → outbox_of (turn c (turns c s xs) x.ingress x.datagram) ≡ due_messages c k (due_reply c (applied_once c h (copies c ports xs)) k)
+outbox_due-at c first ports s h xs x k many at e numbered window =
+    let as' = turns_as_next c first ports s h xs x k many at e numbered window in
     ap (λ (f : List (ℕ × List ℕ)). f ++ (turn c (turns c s xs) x.ingress x.datagram).replies) as'.forwards ∙ as'.replies
 
-pub outbox_due : (c : Clock) (first : PortIdentity → ℕ) (d : DataSetsValue) (xs : List Delivery) (x : Delivery) (k : RequestCopy) → KeepsWindow c first (initial_history d) (xs ++ x ∷ []) → copy_of c (applied_once c (initial_history d) xs).sets x ≡ Some k → outbox_of (turn c (turns c (initial_clock_state d) xs) x.ingress x.datagram) ≡ due_messages c k (due_reply c (applied_once c (initial_history d) xs) k)
-outbox_due c first d xs x k window e =
-    outbox_due-at c first (initial_clock_state d) (initial_history d) xs x k (stands-initial_history first d) window e
+pub outbox_due : (c : Clock) (first : PortIdentity → ℕ) (d : DataSetsValue) (xs : List Delivery) (x : Delivery) (k : RequestCopy) → copy_of c (length d.ports) x ≡ Some k
+    → AreNumbered first (copies c (length d.ports) xs ++ k ∷ []) → KeepsWindow c (initial_history d) (copies c (length d.ports) xs ++ k ∷ [])
+    → outbox_of (turn c (turns c (initial_clock_state d) xs) x.ingress x.datagram) ≡ due_messages c k (due_reply c (applied_once c (initial_history d) (copies c (length d.ports) xs)) k)
+outbox_due c first d xs x k e numbered window =
+    outbox_due-at c first (length d.ports) (initial_clock_state d) (initial_history d) xs x k refl (stands-initial_history first d) e numbered window
 
-pub turns-repeat : (c : Clock) (first : PortIdentity → ℕ) (d : DataSetsValue) (xs : List Delivery) (x : Delivery) (k : RequestCopy) → KeepsWindow c first (initial_history d) (xs ++ x ∷ []) → copy_of c (applied_once c (initial_history d) xs).sets x ≡ Some k → joins (applied_once c (initial_history d) xs) k ≡ false → turns c (initial_clock_state d) (xs ++ x ∷ []) ≡ turns c (initial_clock_state d) xs
-turns-repeat c first d xs x k window e j = turns-append c (initial_clock_state d) xs x ∙ (turns_as_next c first (initial_clock_state d) (initial_history d) xs x k (stands-initial_history first d) window e).stays j
+pub turns-repeat : (c : Clock) (first : PortIdentity → ℕ) (d : DataSetsValue) (xs : List Delivery) (x : Delivery) (k : RequestCopy) → copy_of c (length d.ports) x ≡ Some k
+    → AreNumbered first (copies c (length d.ports) xs ++ k ∷ []) → KeepsWindow c (initial_history d) (copies c (length d.ports) xs ++ k ∷ [])
+    → joins (applied_once c (initial_history d) (copies c (length d.ports) xs)) k ≡ false → turns c (initial_clock_state d) (xs ++ x ∷ []) ≡ turns c (initial_clock_state d) xs
+turns-repeat c first d xs x k e numbered window j =
+    turns-append c (initial_clock_state d) xs x
+    ∙ (turns_as_next c first (length d.ports) (initial_clock_state d) (initial_history d) xs x k refl (stands-initial_history first d) e numbered window).stays j
 
 -- a copy is never passed on, in the window or not
-pub forwards-copy : (c : Clock) (s : State) (x : Delivery) (k : RequestCopy) → copy_of c s.sets x ≡ Some k → (turn c s x.ingress x.datagram).forwards ≡ []
+pub forwards-copy : (c : Clock) (s : State) (x : Delivery) (k : RequestCopy) → copy_of c (length s.sets.ports) x ≡ Some k → (turn c s x.ingress x.datagram).forwards ≡ []
 forwards-copy c s x k e =
-    let copy = delivers_copy c s.sets x k e in
+    let copy = delivers_copy c (length s.sets.ports) x k e in
     ap (λ (u : Turned). u.forwards) (turn-message c s x.ingress x.datagram copy.message copy.read)
-    ∙ forwarded-copy c x.ingress s.sets x.datagram copy.message copy.read (copy_parts c s.sets copy.message copy.passes).target
+    ∙ forwarded-copy c x.ingress s.sets x.datagram copy.message copy.read (copy_parts c (length s.sets.ports) copy.message copy.passes).target

@@ -28,10 +28,10 @@ use Rattle.ptpm_agent.specs.Addressing.{is_request, names_port, request_of}
 pub IsRequestAction-request : (v : Message) → is_request v ≡ true → IsRequestAction (request_of v).action
 IsRequestAction-request v q = not-true _ q
 
-target_port : (port : ℕ) (d : DataSetsValue) → names_port d port ≡ true → IsTargetPort port d
+target_port : (port : ℕ) (d : DataSetsValue) → names_port (length d.ports) port ≡ true → IsTargetPort port d
 target_port port d h = grind (arith, nat_tests)
 
-pub IsTargetPort-request : (d : DataSetsValue) (v : Message) → names_port d v.target.port ≡ true → IsTargetPort (request_of v).port d
+pub IsTargetPort-request : (d : DataSetsValue) (v : Message) → names_port (length d.ports) v.target.port ≡ true → IsTargetPort (request_of v).port d
 IsTargetPort-request d v h = target_port v.target.port d h
 
 IsDataField-body : (b : Body) → IsValidBody b → IsDataField (octets_of b)
@@ -107,18 +107,18 @@ FitsRequest-read_reply_to q d sized request target = FitsRequest-reply_of q _ d 
 pub may_judge_action : (q : RequestValue) (v : Message) → q ≡ request_of v → is_request v ≡ true → IsRequestAction q.action
 may_judge_action q v e h = subst (λ (r : RequestValue). IsRequestAction r.action) (sym e) (IsRequestAction-request v h)
 
-pub may_judge_port : (q : RequestValue) (d : DataSetsValue) (v : Message) → q ≡ request_of v → names_port d v.target.port ≡ true → IsTargetPort q.port d
+pub may_judge_port : (q : RequestValue) (d : DataSetsValue) (v : Message) → q ≡ request_of v → names_port (length d.ports) v.target.port ≡ true → IsTargetPort q.port d
 may_judge_port q d v e h = subst (λ (r : RequestValue). IsTargetPort r.port d) (sym e) (IsTargetPort-request d v h)
 
 pub may_judge_octets : (q : RequestValue) (v : Message) → q ≡ request_of v → IsValid v → IsDataField q.octets
 may_judge_octets q v e valid = subst (λ (r : RequestValue). IsDataField r.octets) (sym e) (IsDataField-request v valid)
 
-pub fits_numbered : (q : RequestValue) (r : Rights) (d : DataSetsValue) (v : Message) (reply : ReplyValue) → q ≡ request_of v → IsSized d → is_request v ≡ true → names_port d v.target.port ≡ true → IsValid v → reply ≡ reply_to q r d → FitsRequest q reply
+pub fits_numbered : (q : RequestValue) (r : Rights) (d : DataSetsValue) (v : Message) (reply : ReplyValue) → q ≡ request_of v → IsSized d → is_request v ≡ true → names_port (length d.ports) v.target.port ≡ true → IsValid v → reply ≡ reply_to q r d → FitsRequest q reply
 fits_numbered q r d v reply e sized request port valid is =
     subst (λ (a : ReplyValue). FitsRequest q a) (sym is)
     (FitsRequest-reply_to q r d sized (may_judge_action q v e request) (may_judge_port q d v e port))
 
-pub fits_unnumbered : (q : RequestValue) (d : DataSetsValue) (v : Message) (reply : ReplyValue) → q ≡ request_of v → IsSized d → is_request v ≡ true → names_port d v.target.port ≡ true → IsValid v → reply ≡ read_reply_to q d → FitsRequest q reply
+pub fits_unnumbered : (q : RequestValue) (d : DataSetsValue) (v : Message) (reply : ReplyValue) → q ≡ request_of v → IsSized d → is_request v ≡ true → names_port (length d.ports) v.target.port ≡ true → IsValid v → reply ≡ read_reply_to q d → FitsRequest q reply
 fits_unnumbered q d v reply e sized request port valid is =
     subst (λ (a : ReplyValue). FitsRequest q a) (sym is)
     (FitsRequest-read_reply_to q d sized (may_judge_action q v e request) (may_judge_port q d v e port))

@@ -1,5 +1,5 @@
 -- What a turn does with a message, by what the message is to the clock.
-use Rattle.std.proofs.Common.{◌≡◌, ℕ, ◌==◌, ◌&&◌, ◌||◌, not, List, [], Option, Some, None, Result, Ok, Err, IfErr, IfOk, OnErr, map, ◌++◌, Bool, true, false, refl, sym, ◌∙◌, ap, subst, ⊎_elim}
+use Rattle.std.proofs.Common.{◌≡◌, ℕ, ◌==◌, ◌&&◌, ◌||◌, not, List, [], length, Option, Some, None, Result, Ok, Err, IfErr, IfOk, OnErr, map, ◌++◌, Bool, true, false, refl, sym, ◌∙◌, ap, subst, ⊎_elim}
 use Rattle.std.proofs.lemmas.Bool.{cases_Bool, and_parts, and_from, and_left, and_right, or_left, or_right, not-true, cond-true, cond-false, true≢false, false≢true}
 use Rattle.std.proofs.lemmas.Option.{none-some, same_Some}
 use Rattle.std.specs.FinMap.{get}
@@ -110,16 +110,16 @@ judged-repeat c s v sdo repeat =
 -- ---- a copy of a numbered request
 
 -- the test of a copy, part by part
-pub record CopyParts (c : Clock) (d : DataSetsValue) (v : Message) : Type 0 where
+pub record CopyParts (c : Clock) (ports : ℕ) (v : Message) : Type 0 where
   pub sdo : v.sdo == 0 ≡ true
   pub own : is_own c v ≡ false
   pub known : is_known v.source c.managers ≡ true
   pub target : is_for_this_clock c v ≡ true
-  pub port : names_port d v.target.port ≡ true
+  pub port : names_port ports v.target.port ≡ true
   pub request : is_request v ≡ true
 
-pub copy_parts : (c : Clock) (d : DataSetsValue) (v : Message) → is_copy c d v ≡ true → CopyParts c d v
-copy_parts c d v h =
+pub copy_parts : (c : Clock) (ports : ℕ) (v : Message) → is_copy c ports v ≡ true → CopyParts c ports v
+copy_parts c ports v h =
     let a = and_parts _ _ h in
     let b = and_parts _ _ a.1 in
     let e = and_parts _ _ b.1 in
@@ -127,17 +127,17 @@ copy_parts c d v h =
     let g = and_parts _ _ f.1 in
     record { sdo = a.0; own = not-true _ b.0; known = e.0; target = f.0; port = g.0; request = g.1 }
 
-addressed : (c : Clock) (d : DataSetsValue) (v : Message) → CopyParts c d v → is_addressed c d v ≡ true
+addressed : (c : Clock) (d : DataSetsValue) (v : Message) → CopyParts c (length d.ports) v → is_addressed c d v ≡ true
 addressed c d v p = and_from _ _ (or_left _ (same_clock v.target.clock every_clock) p.target) p.port
 
-pub look-copy : (c : Clock) (s : State) (v : Message) → CopyParts c s.sets v → look c s v ≡ look_at (get s.entries v.source) v.number (request_of v)
+pub look-copy : (c : Clock) (s : State) (v : Message) → CopyParts c (length s.sets.ports) v → look c s v ≡ look_at (get s.entries v.source) v.number (request_of v)
 look-copy c s v p = cond-true _ _ _ (and_from _ _ p.known p.target)
 
 -- a test that holds leaves the other
 and_true : (a b : Bool) → a ≡ true → (a && b) ≡ b
 and_true a b e = ap (λ t. t && b) e
 
-in_domain-copy : (c : Clock) (s : State) (v : Message) → CopyParts c s.sets v → is_in_domain c s v ≡ (v.domain == s.sets.default.domain || is_repeat (look c s v))
+in_domain-copy : (c : Clock) (s : State) (v : Message) → CopyParts c (length s.sets.ports) v → is_in_domain c s v ≡ (v.domain == s.sets.default.domain || is_repeat (look c s v))
 in_domain-copy c s v p =
     and_true (v.sdo == 0) _ p.sdo
     ∙ ap (λ t. v.domain == s.sets.default.domain || t)
@@ -145,11 +145,11 @@ in_domain-copy c s v p =
     ∙ (and_true (is_addressed c s.sets v) _ (addressed c s.sets v p) ∙ and_true (is_request v) _ p.request))
 
 -- in the clock's domain, or a repeat: as the number says
-pub judged-numbered : (c : Clock) (s : State) (v : Message) → CopyParts c s.sets v → (v.domain == s.sets.default.domain || is_repeat (look c s v)) ≡ true → judged c s v ≡ verdict_at (look_at (get s.entries v.source) v.number (request_of v))
+pub judged-numbered : (c : Clock) (s : State) (v : Message) → CopyParts c (length s.sets.ports) v → (v.domain == s.sets.default.domain || is_repeat (look c s v)) ≡ true → judged c s v ≡ verdict_at (look_at (get s.entries v.source) v.number (request_of v))
 judged-numbered c s v p d =
     judged-request c s v (in_domain-copy c s v p ∙ d) p.own (addressed c s.sets v p) p.request ∙ ap verdict_at (look-copy c s v p)
 
-pub judged-elsewhere : (c : Clock) (s : State) (v : Message) → CopyParts c s.sets v → (v.domain == s.sets.default.domain || is_repeat (look c s v)) ≡ false → judged c s v ≡ verdicts.OtherDomain
+pub judged-elsewhere : (c : Clock) (s : State) (v : Message) → CopyParts c (length s.sets.ports) v → (v.domain == s.sets.default.domain || is_repeat (look c s v)) ≡ false → judged c s v ≡ verdicts.OtherDomain
 judged-elsewhere c s v p d = judged-foreign c s v (in_domain-copy c s v p ∙ d)
 
 -- it is not passed on, for its target is exactly this clock
@@ -183,10 +183,10 @@ forwarded-refused me ingress d datagram cause e =
 -- ---- any other message changes nothing
 
 -- a numbered request in the clock's domain, or a repeat, is a copy
-pub is_copy-numbered : (c : Clock) (s : State) (v : Message) → is_in_domain c s v ≡ true → is_own c v ≡ false → is_addressed c s.sets v ≡ true → is_request v ≡ true → is_numbered c v ≡ true → is_copy c s.sets v ≡ true
+pub is_copy-numbered : (c : Clock) (s : State) (v : Message) → is_in_domain c s v ≡ true → is_own c v ≡ false → is_addressed c s.sets v ≡ true → is_request v ≡ true → is_numbered c v ≡ true → is_copy c (length s.sets.ports) v ≡ true
 is_copy-numbered c s v d o a q n =
     let sdo = (and_parts (v.sdo == 0) (v.domain == s.sets.default.domain || is_accepted_repeat c s v) d).0 in
-    let port = (and_parts (is_for_this_clock c v || same_clock v.target.clock every_clock) (names_port s.sets v.target.port) a).1 in
+    let port = (and_parts (is_for_this_clock c v || same_clock v.target.clock every_clock) (names_port (length s.sets.ports) v.target.port) a).1 in
     let numbered = and_parts (is_known v.source c.managers) (is_for_this_clock c v) n in
     and_from _ _ sdo (and_from _ _ (ap not o) (and_from _ _ numbered.0 (and_from _ _ numbered.1 (and_from _ _ port q))))
 
@@ -210,7 +210,7 @@ judged-each P c s v foreign own away reply request = ⊎_elim
 pub verdict_at-unnumbered : (c : Clock) (s : State) (v : Message) → is_numbered c v ≡ false → verdict_at (look c s v) ≡ verdicts.AnsweredUnnumbered
 verdict_at-unnumbered c s v n = ap verdict_at (cond-false _ _ _ n)
 
-pub next_by-no_copy : (c : Clock) (s : State) (v : Message) → is_copy c s.sets v ≡ false → next_by (judged c s v) c s v ≡ s
+pub next_by-no_copy : (c : Clock) (s : State) (v : Message) → is_copy c (length s.sets.ports) v ≡ false → next_by (judged c s v) c s v ≡ s
 next_by-no_copy c s v no_copy = judged-each (λ (w : Verdict). next_by w c s v ≡ s) c s v refl refl refl refl
     (λ d o a q. ⊎_elim
     (λ (n : is_numbered c v ≡ true). absurd (true≢false (sym (is_copy-numbered c s v d o a q n) ∙ no_copy)))
@@ -228,16 +228,16 @@ is_unnumbered verdicts.AnsweredUnnumbered = true
 is_unnumbered _ = false
 
 -- what is carried out is a copy
-is_copy-is_new : (c : Clock) (s : State) (v : Message) → is_new (judged c s v) ≡ true → is_copy c s.sets v ≡ true
+is_copy-is_new : (c : Clock) (s : State) (v : Message) → is_new (judged c s v) ≡ true → is_copy c (length s.sets.ports) v ≡ true
 unfolding is_new
-is_copy-is_new c s v = judged-each (λ (w : Verdict). is_new w ≡ true → is_copy c s.sets v ≡ true) c s v
+is_copy-is_new c s v = judged-each (λ (w : Verdict). is_new w ≡ true → is_copy c (length s.sets.ports) v ≡ true) c s v
     (λ e. absurd (false≢true e)) (λ e. absurd (false≢true e)) (λ e. absurd (false≢true e)) (λ e. absurd (false≢true e))
     (λ d o a q e. ⊎_elim
     (λ (n : is_numbered c v ≡ true). is_copy-numbered c s v d o a q n)
     (λ (n : is_numbered c v ≡ false). absurd (false≢true (sym (ap is_new (verdict_at-unnumbered c s v n)) ∙ e)))
     (cases_Bool (is_numbered c v)))
 
-pub is_copy-new : (c : Clock) (s : State) (v : Message) → judged c s v ≡ verdicts.AnsweredNew → is_copy c s.sets v ≡ true
+pub is_copy-new : (c : Clock) (s : State) (v : Message) → judged c s v ≡ verdicts.AnsweredNew → is_copy c (length s.sets.ports) v ≡ true
 unfolding is_new
 is_copy-new c s v e = is_copy-is_new c s v (ap is_new e)
 
@@ -252,15 +252,15 @@ is_addressed-unnumbered : (c : Clock) (s : State) (v : Message) → judged c s v
 unfolding is_unnumbered
 is_addressed-unnumbered c s v e = is_addressed-is_unnumbered c s v (ap is_unnumbered e)
 
-port_of_addressed : (c : Clock) (d : DataSetsValue) (v : Message) → is_addressed c d v ≡ true → names_port d v.target.port ≡ true
+port_of_addressed : (c : Clock) (d : DataSetsValue) (v : Message) → is_addressed c d v ≡ true → names_port (length d.ports) v.target.port ≡ true
 port_of_addressed c d v a =
-    (and_parts (is_for_this_clock c v || same_clock v.target.clock every_clock) (names_port d v.target.port) a).1
+    (and_parts (is_for_this_clock c v || same_clock v.target.clock every_clock) (names_port (length d.ports) v.target.port) a).1
 
-pub new_parts : (c : Clock) (s : State) (v : Message) → judged c s v ≡ verdicts.AnsweredNew → CopyParts c s.sets v
-new_parts c s v e = copy_parts c s.sets v (is_copy-new c s v e)
+pub new_parts : (c : Clock) (s : State) (v : Message) → judged c s v ≡ verdicts.AnsweredNew → CopyParts c (length s.sets.ports) v
+new_parts c s v e = copy_parts c (length s.sets.ports) v (is_copy-new c s v e)
 
 -- a port that it names, and that it is a request
-pub unnumbered_parts : (c : Clock) (s : State) (v : Message) → judged c s v ≡ verdicts.AnsweredUnnumbered → (names_port s.sets v.target.port ≡ true) × (is_request v ≡ true)
+pub unnumbered_parts : (c : Clock) (s : State) (v : Message) → judged c s v ≡ verdicts.AnsweredUnnumbered → (names_port (length s.sets.ports) v.target.port ≡ true) × (is_request v ≡ true)
 unnumbered_parts c s v e =
     let p = is_addressed-unnumbered c s v e in
     (port_of_addressed c s.sets v p.0, p.1)
@@ -323,6 +323,6 @@ AreOfManagers-next_by c s v _ known before m unknown = before m unknown
 
 pub AreOfManagers-judged : (c : Clock) (s : State) (v : Message) → AreOfManagers c s.entries → AreOfManagers c (next_by (judged c s v) c s v).entries
 AreOfManagers-judged c s v before = ⊎_elim
-    (λ (y : is_copy c s.sets v ≡ true). AreOfManagers-next_by c s v (judged c s v) (copy_parts c s.sets v y).known before)
-    (λ (n : is_copy c s.sets v ≡ false). subst (λ (t : State). AreOfManagers c t.entries) (sym (next_by-no_copy c s v n)) before)
-    (cases_Bool (is_copy c s.sets v))
+    (λ (y : is_copy c (length s.sets.ports) v ≡ true). AreOfManagers-next_by c s v (judged c s v) (copy_parts c (length s.sets.ports) v y).known before)
+    (λ (n : is_copy c (length s.sets.ports) v ≡ false). subst (λ (t : State). AreOfManagers c t.entries) (sym (next_by-no_copy c s v n)) before)
+    (cases_Bool (is_copy c (length s.sets.ports) v))

@@ -1,10 +1,10 @@
 -- What a message asks, and whether it is for a clock (IEEE 1588-2019, 15.3.1; which requests are numbered is this project's
 -- profile).
-use Rattle.std.specs.Prelude.{ℕ, ◌==◌, ◌&&◌, ◌||◌, not, Bool}
+use Rattle.std.specs.Prelude.{ℕ, ◌==◌, ◌&&◌, ◌||◌, nat_le, not, Bool, length}
 use Rattle.ptpm_codec.specs.declared.message.Message.{Message}
 use Rattle.ptpm_codec.specs.Identity.{same_clock, every_clock, every_port}
 use Rattle.ptpm_codec.specs.Message.{action_of, id_of, octets_of, is_reply}
-use Rattle.ptpm_data.specs.Members.{DataSetsValue, has_port}
+use Rattle.ptpm_data.specs.Members.{DataSetsValue}
 use Rattle.ptpm_data.specs.Request.{RequestValue}
 use Rattle.ptpm_table.specs.declared.heard.Heard.{Heard}
 use Rattle.ptpm_table.specs.Entries.{is_known}
@@ -44,14 +44,15 @@ is_own c v = same_clock v.source.clock c.identity
 abbrev pub is_for_this_clock : Clock → Message → Bool
 is_for_this_clock c v = same_clock v.target.clock c.identity
 
--- every port, or one of the clock's (15.3.1)
-abbrev pub names_port : DataSetsValue → ℕ → Bool
-names_port d port = port == every_port || has_port port d
+-- every port, or one of a clock's so many (15.3.1)
+abbrev pub names_port : ℕ → ℕ → Bool
+names_port ports port = port == every_port || (nat_le 1 port && nat_le port ports)
 
 -- for this clock or every clock, at a port that it has (15.3.1)
 abbrev pub is_addressed : Clock → DataSetsValue → Message → Bool
 is_addressed c d v =
-    (is_for_this_clock c v || same_clock v.target.clock every_clock) && names_port d v.target.port
+    (is_for_this_clock c v || same_clock v.target.clock every_clock)
+    && names_port (length d.ports) v.target.port
 
 -- from a configured manager, and for exactly this clock: such a request is numbered (this project's profile)
 abbrev pub is_numbered : Clock → Message → Bool

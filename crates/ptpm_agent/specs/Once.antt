@@ -1,7 +1,7 @@
--- At-most-once execution: which requests were accepted of a list of deliveries, and what each copy is to be answered. It
--- counts a manager's requests by unbounded indexes from 1 on, and has everything that was ever accepted; sequenceIds, the
--- entries of a clock and its verdicts are no part of it (this project's profile).
-use Rattle.std.specs.Prelude.{ℕ, ◌==◌, ◌&&◌, nat_lt, max, not, Bool, if◌then◌else◌, List, [], ◌∷◌, Option, Some, None}
+-- At-most-once execution: which copies of requests are among deliveries, which of them were accepted, and what each is to be
+-- answered. It counts a manager's requests by unbounded indexes from 1 on, and has everything that was ever accepted;
+-- sequenceIds, the entries of a clock and its verdicts are no part of it (this project's profile).
+use Rattle.std.specs.Prelude.{ℕ, ◌==◌, ◌&&◌, nat_lt, max, not, Bool, if◌then◌else◌, List, [], ◌∷◌, filter_map, Option, Some, None}
 use Rattle.std.specs.List.{find}
 use Rattle.ptpm_codec.specs.declared.identity.PortIdentity.{PortIdentity}
 use Rattle.ptpm_codec.specs.declared.message.Message.{Message}
@@ -33,24 +33,28 @@ pub record RequestCopy : Type 0 where
   pub heard : Heard
   pub request : RequestValue
 
--- of sdoId 0, from a configured manager that is not of this clock, for exactly this clock and a port that it has, and a
--- GET, SET or COMMAND
-abbrev pub is_copy : Clock → DataSetsValue → Message → Bool
-is_copy c d v =
+-- of sdoId 0, from a configured manager that is not of this clock, for exactly this clock and one of its so many ports or
+-- all, and a GET, SET or COMMAND
+abbrev pub is_copy : Clock → ℕ → Message → Bool
+is_copy c ports v =
     v.sdo == 0 && (not (is_own c v) && (is_known v.source c.managers && (is_for_this_clock c v
-    && (names_port d v.target.port && is_request v))))
+    && (names_port ports v.target.port && is_request v))))
 
 abbrev pub copy_from : Delivery → Message → RequestCopy
 copy_from x v =
     record { ingress = x.ingress; index = x.index; heard = heard_of v; request = request_of v }
 
-abbrev pub copy_by : Clock → DataSetsValue → Delivery → Option Message → Option RequestCopy
-copy_by c d x None = None
-copy_by c d x (Some v) = if is_copy c d v then Some (copy_from x v) else None
+abbrev pub copy_by : Clock → ℕ → Delivery → Option Message → Option RequestCopy
+copy_by c ports x None = None
+copy_by c ports x (Some v) = if is_copy c ports v then Some (copy_from x v) else None
 
--- the copy that was delivered, if it is one
-abbrev pub copy_of : Clock → DataSetsValue → Delivery → Option RequestCopy
-copy_of c d x = copy_by c d x (message_of x.datagram)
+-- the copy that was delivered at a clock of so many ports, if it is one
+abbrev pub copy_of : Clock → ℕ → Delivery → Option RequestCopy
+copy_of c ports x = copy_by c ports x (message_of x.datagram)
+
+-- the copies among deliveries, in their order
+abbrev pub copies : Clock → ℕ → List Delivery → List RequestCopy
+copies c ports xs = filter_map (copy_of c ports) xs
 
 -- ---- what was accepted
 
@@ -102,18 +106,10 @@ joined c h x = record {
 abbrev pub after_copy : Clock → History → RequestCopy → History
 after_copy c h x = if joins h x then joined c h x else h
 
-abbrev pub after_arrival : Clock → History → Option RequestCopy → History
-after_arrival c h None = h
-after_arrival c h (Some x) = after_copy c h x
-
--- a delivery that is no copy leaves all as it was
-abbrev pub after : Clock → History → Delivery → History
-after c h x = after_arrival c h (copy_of c h.sets x)
-
--- each accepted request applied once, in order of first acceptance
-abbrev pub applied_once : Clock → History → List Delivery → History
+-- of copies in their order, each accepted request applied once, in order of first acceptance
+abbrev pub applied_once : Clock → History → List RequestCopy → History
 applied_once c h [] = h
-applied_once c h (x ∷ xs) = applied_once c (after c h x) xs
+applied_once c h (x ∷ xs) = applied_once c (after_copy c h x) xs
 
 -- ---- what is due to a copy
 

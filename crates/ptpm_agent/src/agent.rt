@@ -13,8 +13,8 @@ ghost use Rattle.ptpm_table.specs.Rendering.{IsSendable, rendered};
 ghost use Rattle.ptpm_agent.specs.Agent.{IsTurned, clock_of, state_of};
 ghost use Rattle.ptpm_agent.specs.Forwarding.{forwarded};
 ghost use Rattle.ptpm_agent.specs.Laws.{StandsAt, after_each, datagrams_of, due_messages, last_sent};
-ghost use Rattle.ptpm_agent.specs.Once.{Delivery, History, RequestCopy, applied_once, copy_of, due_reply};
-ghost use Rattle.ptpm_agent.specs.Window.{KeepsWindow};
+ghost use Rattle.ptpm_agent.specs.Once.{Delivery, History, RequestCopy, applied_once, copies, copy_of, due_reply};
+ghost use Rattle.ptpm_agent.specs.Window.{AreNumbered, KeepsWindow};
 ghost use Rattle.ptpm_agent.specs.Addressing.{heard_of, is_addressed, request_of};
 ghost use Rattle.ptpm_agent.specs.Turn.{carried_out, is_accepted_repeat, judged, look, new_reply, reply_by, reply_messages, turn, verdict_of};
 
@@ -347,18 +347,22 @@ impl<T: SureTable + Drop> Agent<T> {
         ensures once { (first : PortIdentity → ℕ) (h : History) (xs : List Delivery)
             → datagrams.now ≡ datagrams_of xs
             → let c = clock_of T.owner self.old in
+            let came_in = copies c (length self.old.sets.ports) xs in
             StandsAt first (state_of T.entries self.old) h
-            → KeepsWindow c first h xs
+            → AreNumbered first came_in
+            → KeepsWindow c h came_in
             → StandsAt first (state_of T.entries self.new)
-            (applied_once c h xs) }
+            (applied_once c h came_in) }
         ensures due { (first : PortIdentity → ℕ) (h : History) (xs : List Delivery) (x : Delivery)
             (k : RequestCopy)
             → datagrams.now ≡ datagrams_of (xs ++ x ∷ [])
             → let c = clock_of T.owner self.old in
+            let came_in = copies c (length self.old.sets.ports) xs in
             StandsAt first (state_of T.entries self.old) h
-            → KeepsWindow c first h (xs ++ x ∷ [])
-            → copy_of c (applied_once c h xs).sets x ≡ Some k
-            → out.new ≡ due_messages c k (due_reply c (applied_once c h xs) k) }
+            → copy_of c (length self.old.sets.ports) x ≡ Some k
+            → AreNumbered first (came_in ++ k ∷ [])
+            → KeepsWindow c h (came_in ++ k ∷ [])
+            → out.new ≡ due_messages c k (due_reply c (applied_once c h came_in) k) }
         ensures clock { clock_of T.owner self.new ≡ clock_of T.owner self.old }
     {
         for place in 0..datagrams.len() {

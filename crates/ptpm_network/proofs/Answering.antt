@@ -12,7 +12,7 @@ use Rattle.ptpm_table.specs.declared.heard.Heard.{Heard}
 use Rattle.ptpm_table.specs.Numbering.{same_request}
 use Rattle.ptpm_table.specs.Rendering.{hops_passed, rendered, reply_message}
 use Rattle.ptpm_agent.specs.Laws.{due_messages}
-use Rattle.ptpm_agent.specs.Once.{Accepted, History, RequestCopy, accepted_from, after_arrival, after_copy, copy_of, due_reply, greatest, joins, kept_for, kept_reply}
+use Rattle.ptpm_agent.specs.Once.{Accepted, History, RequestCopy, accepted_from, after_copy, copy_of, due_reply, greatest, joins, kept_for, kept_reply}
 use Rattle.ptpm_agent.specs.Turn.{Clock}
 use Rattle.ptpm_table.proofs.Identities.{same_identity-refl}
 use Rattle.ptpm_network.specs.DataSets.{IsSendable}
@@ -20,7 +20,7 @@ use Rattle.ptpm_network.specs.Invariant.{IsFrame, IsOfOrigin, IsReached}
 use Rattle.ptpm_network.specs.Machine.{arrives, delivery, reply_frames, reply_origin}
 use Rattle.ptpm_network.specs.Network.{AtPort, HasEnd, IsNetwork, Network, manager, peers, ports}
 use Rattle.ptpm_network.specs.State.{Frame, NetworkState, Origin, ReplyTo, accepted_at_target, history}
-use Rattle.ptpm_network.proofs.Arriving.{IsCopyOf, history-here}
+use Rattle.ptpm_network.proofs.Arriving.{IsCopyOf, after_arrival, history-here}
 use Rattle.ptpm_network.proofs.Frames.{SaysKept, says_kept}
 use Rattle.ptpm_network.proofs.Lists.{all_flat, all_made}
 use Rattle.ptpm_network.proofs.Steps.{has_peers, new_frames-are}
@@ -95,7 +95,7 @@ pub record KeepsDue (N : Network) (u : NetworkState) (s k : ℕ) (r : ReplyValue
   pub reply : entry.reply ≡ r
 
 pub keeps_due : (N : Network) (w : NetworkState) (c port : ℕ) (f : Frame) (copy : RequestCopy) (r : ReplyValue) → IsReached N (arrives w c (delivery port f))
-    → (of : IsCopyOf N w c port f copy) → copy_of (N.clock c) (history N w c).sets (delivery port f) ≡ Some copy → due_reply (N.clock c) (history N w c) copy ≡ Some r
+    → (of : IsCopyOf N w c port f copy) → copy_of (N.clock c) (ports N c) (delivery port f) ≡ Some copy → due_reply (N.clock c) (history N w c) copy ≡ Some r
     → KeepsDue N (arrives w c (delivery port f)) of.session of.k r
 keeps_due N w c port f copy r reached of e d =
     let u = arrives w c (delivery port f) in
@@ -118,7 +118,7 @@ keeps_due N w c port f copy r reached of e d =
 
 -- it is a frame of the reply that is kept for the copy's request
 due-origin : (N : Network) (w : NetworkState) (c port : ℕ) (f : Frame) (copy : RequestCopy) (r : ReplyValue) → IsNetwork N → IsReached N (arrives w c (delivery port f)) → HasEnd N (AtPort c port)
-    → (of : IsCopyOf N w c port f copy) → copy_of (N.clock c) (history N w c).sets (delivery port f) ≡ Some copy → due_reply (N.clock c) (history N w c) copy ≡ Some r
+    → (of : IsCopyOf N w c port f copy) → copy_of (N.clock c) (ports N c) (delivery port f) ≡ Some copy → due_reply (N.clock c) (history N w c) copy ≡ Some r
     → AllByRecursion (λ m. IsOfOrigin N (arrives w c (delivery port f)) m.1 (ReplyTo of.session of.k)) (rendered (N.clock c).identity copy.heard r copy.ingress)
 due-origin N w c port f copy r n reached end of e d =
     let u = arrives w c (delivery port f) in
@@ -151,7 +151,7 @@ due-origin N w c port f copy r n reached end of e d =
     )
 
 pub due-frames : (N : Network) (w : NetworkState) (c port : ℕ) (f : Frame) (copy : RequestCopy) (o : Option ReplyValue) → IsNetwork N → IsReached N (arrives w c (delivery port f)) → HasEnd N (AtPort c port)
-    → IsCopyOf N w c port f copy → copy_of (N.clock c) (history N w c).sets (delivery port f) ≡ Some copy → due_reply (N.clock c) (history N w c) copy ≡ o
+    → IsCopyOf N w c port f copy → copy_of (N.clock c) (ports N c) (delivery port f) ≡ Some copy → due_reply (N.clock c) (history N w c) copy ≡ o
     → AllByRecursion (IsFrame N (arrives w c (delivery port f))) (reply_frames N c (reply_origin f.origin) (due_messages (N.clock c) copy o))
 due-frames N w c port f copy None n reached end of e d = tt
 due-frames N w c port f copy (Some r) n reached end of e d =

@@ -2,6 +2,8 @@
 use Rattle.std.proofs.Common.{◌≡◌, ℕ, ◌<◌, ◌≤◌, ◌-◌, ◌==◌, nat_lt, List, [], ◌∷◌, ◌++◌, Option, Some, None, true, false, refl, sym, ◌∙◌, ap, subst, ⊎_elim, ◌⊎◌, inl, inr, length}
 use Rattle.std.proofs.lemmas.Bool.{cases_Bool, and_parts, cond-true, cond-false, eq-eqb, eqb-true, ltb-true, not-true, true≢false}
 use Rattle.std.proofs.lemmas.Option.{same_Some}
+use Rattle.std.proofs.lemmas.List.Elements.{filter_map-append}
+use Rattle.std.specs.List.{cons_option}
 use Rattle.std.specs.Prelude.{slice_get}
 use Rattle.ptpm_codec.specs.declared.identity.PortIdentity.{PortIdentity}
 use Rattle.ptpm_codec.specs.declared.message.Action.{Action}
@@ -13,9 +15,9 @@ use Rattle.ptpm_data.specs.Reply as reply
 use Rattle.ptpm_data.specs.Reply.{Outcome, ReplyValue}
 use Rattle.ptpm_data.specs.Request.{RequestValue}
 use Rattle.ptpm_table.specs.Rendering.{answer_body}
-use Rattle.ptpm_agent.specs.Once.{Accepted, Delivery, History, RequestCopy, accepted_from, after, after_arrival, after_copy, applied_once, initial_history, copy_from, copy_of, greatest, is_copy, joined, joins, kept_reply}
+use Rattle.ptpm_agent.specs.Once.{Accepted, Delivery, History, RequestCopy, accepted_from, after_copy, applied_once, copies, initial_history, copy_from, copy_of, greatest, is_copy, joined, joins, kept_reply}
 use Rattle.ptpm_agent.specs.Turn.{Clock}
-use Rattle.ptpm_agent.proofs.AtMostOnce.{DeliversCopy, delivers_copy}
+use Rattle.ptpm_agent.proofs.AtMostOnce.{DeliversCopy, applied_once-ports, delivers_copy}
 use Rattle.ptpm_table.proofs.Identities.{same_identity-true}
 use Rattle.ptpm_agent.proofs.Turns.{copy_parts}
 use Rattle.ptpm_codec.specs.SequenceNumber.{number_of}
@@ -23,7 +25,7 @@ use Rattle.ptpm_network.specs.DataSets.{AreDataSets, IsForOne}
 use Rattle.ptpm_network.specs.Invariant.{IsInStep, IsReached}
 use Rattle.ptpm_network.specs.Machine.{arrives, delivery, index_of}
 use Rattle.ptpm_network.specs.Network.{IsNetwork, Network, manager, ports}
-use Rattle.ptpm_network.specs.State.{Frame, NetworkState, Origin, RequestOf, ReplyTo, Neither, accepted_at_target, history}
+use Rattle.ptpm_network.specs.State.{Frame, NetworkState, Origin, RequestOf, ReplyTo, Neither, accepted_at_target, copies_at, history}
 use Rattle.ptpm_network.proofs.Accepting.{IsAbove, JoinsOwn, in_step-joined, kept-joined, kept-le}
 use Rattle.ptpm_network.proofs.Frames.{IsHeard, SaysRequest, same_read, says_reply, says_request}
 use Rattle.ptpm_network.proofs.Lists.{with_place-other, with_place-same}
@@ -46,7 +48,7 @@ pub record IsCopyOf (N : Network) (w : NetworkState) (c port : ℕ) (f : Frame) 
   pub source : copy.heard.source ≡ manager N session
   pub number : copy.heard.number ≡ number_of (N.session session).setup.first k
   pub request : copy.request ≡ says.request
-  pub read : (v : Message) → message_of f.octets ≡ Some v → is_copy (N.clock c) (history N w c).sets v ≡ true
+  pub read : (v : Message) → message_of f.octets ≡ Some v → is_copy (N.clock c) (ports N c) v ≡ true
 
 pub action_of-answer_body : (action : Action) (id : ℕ) (o : Outcome) → action_of (answer_body action id o) ≡ action
 action_of-answer_body action id (reply.Value octets) = refl
@@ -54,12 +56,12 @@ action_of-answer_body action id reply.Done = refl
 action_of-answer_body action id (reply.Refused error) = refl
 
 copy_of-origin : (N : Network) (w : NetworkState) (c port : ℕ) (f : Frame) (o : Origin) (copy : RequestCopy) → f.origin ≡ o → IsNetwork N → IsReached N w → c < N.clocks → IsHeard N w f.octets o
-    → DeliversCopy (N.clock c) (history N w c).sets (delivery port f) copy → IsCopyOf N w c port f copy
+    → DeliversCopy (N.clock c) (ports N c) (delivery port f) copy → IsCopyOf N w c port f copy
 copy_of-origin N w c port f (RequestOf t k) copy e n r place i d =
     let says = says_request N w t k f.octets n r i in
     let v : Message = request_at N t k says.domain says.hops says.request in
     let same : d.message ≡ v = same_read f.octets d.message v says.message d.read in
-    let parts = copy_parts (N.clock c) (history N w c).sets d.message d.passes in
+    let parts = copy_parts (N.clock c) (ports N c) d.message d.passes in
     let m = n.managers c d.message.source place parts.known in
     let source : manager N m.0 ≡ manager N t = m.2 ∙ ap (λ (u : Message). u.source) same in
     let ts : m.0 ≡ t = n.sessions_apart m.0 t m.1 says.place source in
@@ -75,39 +77,58 @@ copy_of-origin N w c port f (RequestOf t k) copy e n r place i d =
       source = sym (ap (λ (x : RequestCopy). x.heard.source) is);
       number = sym (ap (λ (x : RequestCopy). x.heard.number) is);
       request = sym (ap (λ (x : RequestCopy). x.request) is);
-      read = λ u h. subst (λ (z : Message). is_copy (N.clock c) (history N w c).sets z ≡ true) (same_Some d.message u (sym d.read ∙ h)) d.passes;
+      read = λ u h. subst (λ (z : Message). is_copy (N.clock c) (ports N c) z ≡ true) (same_Some d.message u (sym d.read ∙ h)) d.passes;
     }
 copy_of-origin N w c port f (ReplyTo t k) copy e n r place i d =
     let says = says_reply N w t k f.octets n r i in
     let same = same_read f.octets d.message _ says.message d.read in
-    let parts = copy_parts (N.clock c) (history N w c).sets d.message d.passes in
+    let parts = copy_parts (N.clock c) (ports N c) d.message d.passes in
     let answers : is_reply (action_of d.message.body) ≡ true =
     ap (λ (u : Message). is_reply (action_of u.body)) same
     ∙ ap is_reply (action_of-answer_body says.entry.reply.action says.entry.reply.id says.answer.outcome ∙ says.says.answers.action)
     ∙ reply_action-is_reply says.entry.request.action in
     absurd (true≢false (sym answers ∙ not-true _ parts.request))
 copy_of-origin N w c port f Neither copy e n r place i d =
-    let parts = copy_parts (N.clock c) (history N w c).sets d.message d.passes in
+    let parts = copy_parts (N.clock c) (ports N c) d.message d.passes in
     let m = n.managers c d.message.source place parts.known in
     absurd ((i d.message d.read).1.no_request m.0 m.1 (sym m.2))
 
-pub is_copy_of : (N : Network) (w : NetworkState) (c port : ℕ) (f : Frame) (copy : RequestCopy) → IsNetwork N → IsReached N w → c < N.clocks → IsHeard N w f.octets f.origin → copy_of (N.clock c) (history N w c).sets (delivery port f) ≡ Some copy → IsCopyOf N w c port f copy
+pub is_copy_of : (N : Network) (w : NetworkState) (c port : ℕ) (f : Frame) (copy : RequestCopy) → IsNetwork N → IsReached N w → c < N.clocks → IsHeard N w f.octets f.origin → copy_of (N.clock c) (ports N c) (delivery port f) ≡ Some copy → IsCopyOf N w c port f copy
 is_copy_of N w c port f copy n r place i e =
-    copy_of-origin N w c port f f.origin copy refl n r place i (delivers_copy (N.clock c) (history N w c).sets (delivery port f) copy e)
+    copy_of-origin N w c port f f.origin copy refl n r place i (delivers_copy (N.clock c) (ports N c) (delivery port f) copy e)
 
 -- ---- what a delivery leaves of a clock
 
-pub applied_once-append : (c : Clock) (h : History) (xs : List Delivery) (x : Delivery) → applied_once c h (xs ++ x ∷ []) ≡ after c (applied_once c h xs) x
-applied_once-append c h [] x = refl
-applied_once-append c h (y ∷ ys) x = applied_once-append c (after c h y) ys x
+-- the copies of a list with one more delivery
+pub copies-here : (N : Network) (w : NetworkState) (c : ℕ) (x : Delivery) → copies_at N (arrives w c x) c ≡ copies_at N w c ++ cons_option (copy_of (N.clock c) (ports N c) x) []
+copies-here N w c x =
+    ap (copies (N.clock c) (ports N c)) (with_place-same w.arrivals c (w.arrivals c ++ x ∷ []) c (eq-eqb c c refl))
+    ∙ filter_map-append (copy_of (N.clock c) (ports N c)) (w.arrivals c) (x ∷ [])
 
-pub history-here : (N : Network) (w : NetworkState) (c : ℕ) (x : Delivery) → history N (arrives w c x) c ≡ after (N.clock c) (history N w c) x
+pub copies-elsewhere : (N : Network) (w : NetworkState) (c : ℕ) (x : Delivery) (d : ℕ) → d == c ≡ false → copies_at N (arrives w c x) d ≡ copies_at N w d
+copies-elsewhere N w c x d n = ap (copies (N.clock d) (ports N d)) (with_place-other w.arrivals c (w.arrivals c ++ x ∷ []) d n)
+
+-- where a delivery leads, of which there is a copy or none
+abbrev pub after_arrival : Clock → History → Option RequestCopy → History
+after_arrival c h None = h
+after_arrival c h (Some copy) = after_copy c h copy
+
+applied_once-arrival : (c : Clock) (h : History) (ks : List RequestCopy) (o : Option RequestCopy) → applied_once c h (ks ++ cons_option o []) ≡ after_arrival c (applied_once c h ks) o
+applied_once-arrival c h [] None = refl
+applied_once-arrival c h [] (Some k) = refl
+applied_once-arrival c h (j ∷ js) o = applied_once-arrival c (after_copy c h j) js o
+
+pub history-here : (N : Network) (w : NetworkState) (c : ℕ) (x : Delivery) → history N (arrives w c x) c ≡ after_arrival (N.clock c) (history N w c) (copy_of (N.clock c) (ports N c) x)
 history-here N w c x =
-    ap (applied_once (N.clock c) (initial_history (N.start c))) (with_place-same w.arrivals c (w.arrivals c ++ x ∷ []) c (eq-eqb c c refl))
-    ∙ applied_once-append (N.clock c) (initial_history (N.start c)) (w.arrivals c) x
+    ap (applied_once (N.clock c) (initial_history (N.start c))) (copies-here N w c x)
+    ∙ applied_once-arrival (N.clock c) (initial_history (N.start c)) (copies_at N w c) (copy_of (N.clock c) (ports N c) x)
 
 pub history-elsewhere : (N : Network) (w : NetworkState) (c : ℕ) (x : Delivery) (d : ℕ) → d == c ≡ false → history N (arrives w c x) d ≡ history N w d
-history-elsewhere N w c x d n = ap (applied_once (N.clock d) (initial_history (N.start d))) (with_place-other w.arrivals c (w.arrivals c ++ x ∷ []) d n)
+history-elsewhere N w c x d n = ap (applied_once (N.clock d) (initial_history (N.start d))) (copies-elsewhere N w c x d n)
+
+-- a clock keeps its number of ports
+pub history-ports : (N : Network) (w : NetworkState) (c : ℕ) → length (history N w c).sets.ports ≡ ports N c
+history-ports N w c = applied_once-ports (N.clock c) (initial_history (N.start c)) (copies_at N w c)
 
 -- a copy joins
 pub record JoinsAt (N : Network) (w : NetworkState) (c port : ℕ) (f : Frame) : Type 0 where
@@ -119,7 +140,7 @@ pub record JoinsAt (N : Network) (w : NetworkState) (c port : ℕ) (f : Frame) :
 abbrev HereAfter : Network → NetworkState → ℕ → ℕ → Frame → Type 0
 HereAfter N w c port f = (history N (arrives w c (delivery port f)) c ≡ history N w c) ⊎ JoinsAt N w c port f
 
-here_by : (N : Network) (w : NetworkState) (c port : ℕ) (f : Frame) (o : Option RequestCopy) → IsNetwork N → IsReached N w → c < N.clocks → IsHeard N w f.octets f.origin → copy_of (N.clock c) (history N w c).sets (delivery port f) ≡ o → HereAfter N w c port f
+here_by : (N : Network) (w : NetworkState) (c port : ℕ) (f : Frame) (o : Option RequestCopy) → IsNetwork N → IsReached N w → c < N.clocks → IsHeard N w f.octets f.origin → copy_of (N.clock c) (ports N c) (delivery port f) ≡ o → HereAfter N w c port f
 here_by N w c port f None n r place i e =
     inl (history-here N w c (delivery port f) ∙ ap (after_arrival (N.clock c) (history N w c)) e)
 here_by N w c port f (Some copy) n r place i e =
@@ -136,7 +157,7 @@ here_by N w c port f (Some copy) n r place i e =
     (cases_Bool (joins (history N w c) copy))
 
 pub here_after : (N : Network) (w : NetworkState) (c port : ℕ) (f : Frame) → IsNetwork N → IsReached N w → c < N.clocks → IsHeard N w f.octets f.origin → HereAfter N w c port f
-here_after N w c port f n r place i = here_by N w c port f (copy_of (N.clock c) (history N w c).sets (delivery port f)) n r place i refl
+here_after N w c port f n r place i = here_by N w c port f (copy_of (N.clock c) (ports N c) (delivery port f)) n r place i refl
 
 -- ---- data sets stay data sets
 

@@ -16,7 +16,7 @@ use Rattle.ptpm_data.specs.declared.data_sets.PortDataSet.{PortDataSet}
 use Rattle.ptpm_data.specs.Members.{DataSetsValue, is_forwarding_port, may_forward}
 use Rattle.ptpm_table.specs.Entries.{is_known}
 use Rattle.ptpm_agent.specs.Forwarding.{egress_ports, forwarded, forwarded_by, with_less_hop}
-use Rattle.ptpm_agent.specs.Once.{History, RequestCopy, after_arrival, copy_by, copy_of}
+use Rattle.ptpm_agent.specs.Once.{History, RequestCopy, copy_by, copy_of}
 use Rattle.ptpm_agent.specs.Addressing.{is_addressed, is_for_this_clock, is_own, names_port}
 use Rattle.ptpm_agent.specs.Turn.{Clock}
 use Rattle.ptpm_network.specs.DataSets.{AreDataSets}
@@ -25,7 +25,7 @@ use Rattle.ptpm_network.specs.Machine.{answering_frames, arrives, delivered_at_c
 use Rattle.ptpm_network.specs.Network.{AtPort, AtSession, End, IsNetwork, Network, manager, peers, ports, same_end}
 use Rattle.ptpm_network.specs.State.{Frame, NetworkState, RequestOf, ReplyTo, Neither, frames_to, history}
 use Rattle.ptpm_network.specs.Way.{LinksHaveAtMost, passed_at_most}
-use Rattle.ptpm_network.proofs.Arriving.{history-elsewhere, history-here}
+use Rattle.ptpm_network.proofs.Arriving.{after_arrival, history-elsewhere, history-here}
 use Rattle.ptpm_network.proofs.Exchanging.{clocks_apart, message-domain}
 use Rattle.ptpm_network.proofs.Frames.{says_reply, says_request}
 use Rattle.ptpm_network.proofs.Lists.{get_append}
@@ -259,10 +259,10 @@ passing-forwarded me p q d octets v may =
     (and_from (not (same_clock m.target.clock me)) _ (ap not (clocks_apart m.target.clock me v.target))
     (and_from (nat_lt 0 m.hops) (may_forward p d) (lt-ltb 0 m.hops hop) may.ingress)))))
 
-passing-no_copy : (c : Clock) (d : DataSetsValue) (p : ℕ) (f : Frame) → IsPassing c.identity f.octets → copy_of c d (delivery p f) ≡ None
-passing-no_copy c d p f v =
+passing-no_copy : (c : Clock) (count p : ℕ) (f : Frame) → IsPassing c.identity f.octets → copy_of c count (delivery p f) ≡ None
+passing-no_copy c count p f v =
     let m : Message = v.message in
-    ap (copy_by c d (delivery p f)) v.read
+    ap (copy_by c count (delivery p f)) v.read
     ∙ cond-false _ _ _ (and_right (m.sdo == 0) _ (and_right (not (is_own c m)) _ (and_right (is_known m.source c.managers) _ (and_left (is_for_this_clock c m) _ (clocks_apart m.target.clock c.identity v.target)))))
 
 passing-not_read : (c : Clock) (d : DataSetsValue) (p : ℕ) (octets : List ℕ) → IsPassing c.identity octets → read_messages c d p (message_of octets) ≡ []
@@ -270,7 +270,7 @@ passing-not_read c d p octets v =
     let m : Message = v.message in
     ap (read_messages c d p) v.read
     ∙ cond-false _ _ _ (and_right (m.sdo == 0) _ (and_right (m.domain == d.default.domain) _ (and_right (not (is_own c m)) _
-    (and_left (is_addressed c d m) _ (and_left (is_for_this_clock c m || same_clock m.target.clock every_clock) (names_port d m.target.port)
+    (and_left (is_addressed c d m) _ (and_left (is_for_this_clock c m || same_clock m.target.clock every_clock) (names_port (length d.ports) m.target.port)
     (or_from (is_for_this_clock c m) (same_clock m.target.clock every_clock) (clocks_apart m.target.clock c.identity v.target) (clocks_apart m.target.clock every_clock v.every)))))))
 
 made-passing : (N : Network) (w : NetworkState) (c p q : ℕ) (f : Frame) → IsPassing (N.clock c).identity f.octets → MayPass (history N w c).sets p q f.octets
@@ -278,8 +278,8 @@ made-passing : (N : Network) (w : NetworkState) (c p q : ℕ) (f : Frame) → Is
 made-passing N w c p q f v may =
     let h : History = history N w c in
     let sent : List (ℕ × List ℕ) = map (λ port. (port, with_less_hop f.octets)) (egress_ports p h.sets) in
-    ap (λ fs. forwarded_frames N c f fs ++ answering_frames N c h p f (copy_of (N.clock c) h.sets (delivery p f))) (passing-forwarded (N.clock c).identity p q h.sets f.octets v may)
-    ∙ ap (λ (o : Option RequestCopy). forwarded_frames N c f sent ++ answering_frames N c h p f o) (passing-no_copy (N.clock c) h.sets p f v)
+    ap (λ fs. forwarded_frames N c f fs ++ answering_frames N c h p f (copy_of (N.clock c) (ports N c) (delivery p f))) (passing-forwarded (N.clock c).identity p q h.sets f.octets v may)
+    ∙ ap (λ (o : Option RequestCopy). forwarded_frames N c f sent ++ answering_frames N c h p f o) (passing-no_copy (N.clock c) (ports N c) p f v)
     ∙ ap (λ ms. forwarded_frames N c f sent ++ reply_frames N c Neither ms) (passing-not_read (N.clock c) h.sets p f.octets v)
     ∙ append-nil (forwarded_frames N c f sent)
 
@@ -288,7 +288,7 @@ pub passing-history : (N : Network) (w : NetworkState) (c p : ℕ) (f : Frame) (
 passing-history N w c p f d v = ⊎_elim
     (λ (y : d == c ≡ true).
     subst (λ j. history N (arrives w c (delivery p f)) j ≡ history N w j) (sym (eqb-true d c y))
-    (history-here N w c (delivery p f) ∙ ap (after_arrival (N.clock c) (history N w c)) (passing-no_copy (N.clock c) (history N w c).sets p f v)))
+    (history-here N w c (delivery p f) ∙ ap (after_arrival (N.clock c) (history N w c)) (passing-no_copy (N.clock c) (ports N c) p f v)))
     (λ (n : d == c ≡ false). history-elsewhere N w c (delivery p f) d n)
     (cases_Bool (d == c))
 

@@ -25,7 +25,7 @@ use Rattle.ptpm_manager.specs.Session.{due_message}
 use Rattle.ptpm_network.specs.Events.{Begin, Deliver, Event, Forged, FramesAtMaximum, IsInRange, Refusal, Resume, Retune, Send, Stranger, forged, frame_at, frames_limit, is_forged, no_frame, no_port, no_room, no_session, refusal, send_refused}
 use Rattle.ptpm_network.specs.Invariant.{IsFrame, IsReached}
 use Rattle.ptpm_network.specs.Machine.{answer_messages, answer_origin, answering_frames, arrives, delivered, delivered_at, delivery, forwarded_frames, happens, is_read, made_frames, read_messages, reply_frames, run, sent_frames, step, step_by, strange_frame}
-use Rattle.ptpm_network.specs.Network.{AtPort, AtSession, End, HasEnd, IsLink, IsNetwork, Network, peers, same_end}
+use Rattle.ptpm_network.specs.Network.{AtPort, AtSession, End, HasEnd, IsLink, IsNetwork, Network, peers, ports, same_end}
 use Rattle.ptpm_network.specs.State.{Frame, NetworkState, Origin, initial_state, frames_to, history, session_value}
 use Rattle.ptpm_network.proofs.Answering.{keeps_due}
 use Rattle.ptpm_network.proofs.Arriving.{IsCopyOf, arrives-reached, is_copy_of}
@@ -86,7 +86,7 @@ length-rendered me heard r ingress = length-map r.answers _
 
 -- the reply that is due to a numbered copy has one answer
 due-few : (N : Network) (w : NetworkState) (c port : ℕ) (f : Frame) (copy : RequestCopy) (o : Option ReplyValue) → IsReached N (arrives w c (delivery port f)) → IsCopyOf N w c port f copy
-    → copy_of (N.clock c) (history N w c).sets (delivery port f) ≡ Some copy → due_reply (N.clock c) (history N w c) copy ≡ o → length (due_messages (N.clock c) copy o) ≤ 8
+    → copy_of (N.clock c) (ports N c) (delivery port f) ≡ Some copy → due_reply (N.clock c) (history N w c) copy ≡ o → length (due_messages (N.clock c) copy o) ≤ 8
 due-few N w c port f copy None reached of e d = omega arith
 due-few N w c port f copy (Some r) reached of e d =
     let keeps = keeps_due N w c port f copy r reached of e d in
@@ -104,7 +104,7 @@ read-few c d port (Some v) eight = ⊎_elim
     (cases_Bool (is_read c d v))
 
 answers-few : (N : Network) (w : NetworkState) (c port : ℕ) (f : Frame) (o : Option RequestCopy) → IsNetwork N → IsReached N w → c < N.clocks → IsHeard N w f.octets f.origin → length (history N w c).sets.ports ≤ 8
-    → copy_of (N.clock c) (history N w c).sets (delivery port f) ≡ o → length (answer_messages (N.clock c) (history N w c) port f.octets o) ≤ 8
+    → copy_of (N.clock c) (ports N c) (delivery port f) ≡ o → length (answer_messages (N.clock c) (history N w c) port f.octets o) ≤ 8
 answers-few N w c port f None n r place i eight e = read-few (N.clock c) (history N w c).sets port (message_of f.octets) eight
 answers-few N w c port f (Some copy) n r place i eight e =
     due-few N w c port f copy (due_reply (N.clock c) (history N w c) copy) (arrives-reached N w c port f n r place i) (is_copy_of N w c port f copy n r place i e) e refl
@@ -118,7 +118,7 @@ made-few N w c port f n r end i =
     let sets = r.clocks c end.0 in
     let has : port ≤ length h.sets.ports = subst (λ k. port ≤ k) (sym sets.ports_are) end.2 in
     let eight : length h.sets.ports ≤ 8 = subst (λ k. k ≤ 8) (sym sets.ports_are) sets.at_most_eight in
-    let copy = copy_of (N.clock c) h.sets (delivery port f) in
+    let copy = copy_of (N.clock c) (ports N c) (delivery port f) in
     let sent = forwarded (N.clock c).identity port h.sets f.octets in
     let told = answer_messages (N.clock c) h port f.octets copy in
     all_few (length (made_frames N c h port f)) (length (forwarded_frames N c f sent)) (length (answering_frames N c h port f copy)) (length sent) (length told)

@@ -18,7 +18,7 @@ use Rattle.ptpm_network.specs.Copies.{IsCopyAt}
 use Rattle.ptpm_network.specs.Events.{Deliver, Event, IsInRange}
 use Rattle.ptpm_network.specs.Invariant.{IsReached}
 use Rattle.ptpm_network.specs.Machine.{answering_frames, delivered, delivered_at, delivery, forwarded_frames, happens, made_frames, reply_frames, reply_origin, run}
-use Rattle.ptpm_network.specs.Network.{End, HasEnd, IsNetwork, Network, manager}
+use Rattle.ptpm_network.specs.Network.{End, HasEnd, IsNetwork, Network, manager, ports}
 use Rattle.ptpm_network.specs.State.{Frame, NetworkState, accepted_at_target, initial_state, history}
 use Rattle.ptpm_network.proofs.Arriving.{IsCopyOf, is_copy_of}
 use Rattle.ptpm_network.proofs.Frames.{heard-frame}
@@ -96,13 +96,13 @@ older-none c h copy below =
 -- ---- the delivery of a copy
 
 -- it is passed on nowhere
-made-copy : (N : Network) (c port : ℕ) (h : History) (f : Frame) (copy : RequestCopy) → copy_of (N.clock c) h.sets (delivery port f) ≡ Some copy
+made-copy : (N : Network) (c port : ℕ) (h : History) (f : Frame) (copy : RequestCopy) → copy_of (N.clock c) (ports N c) (delivery port f) ≡ Some copy
     → made_frames N c h port f ≡ reply_frames N c (reply_origin f.origin) (due_messages (N.clock c) copy (due_reply (N.clock c) h copy))
 made-copy N c port h f copy e =
-    let d = delivers_copy (N.clock c) h.sets (delivery port f) copy e in
+    let d = delivers_copy (N.clock c) (ports N c) (delivery port f) copy e in
     let none : forwarded (N.clock c).identity port h.sets f.octets ≡ [] =
-    forwarded-copy (N.clock c) port h.sets f.octets d.message d.read (copy_parts (N.clock c) h.sets d.message d.passes).target in
-    ap (λ sent. forwarded_frames N c f sent ++ answering_frames N c h port f (copy_of (N.clock c) h.sets (delivery port f))) none
+    forwarded-copy (N.clock c) port h.sets f.octets d.message d.read (copy_parts (N.clock c) (ports N c) d.message d.passes).target in
+    ap (λ sent. forwarded_frames N c f sent ++ answering_frames N c h port f (copy_of (N.clock c) (ports N c) (delivery port f))) none
     ∙ ap (answering_frames N c h port f) e
 
 pub copy-delivered : (N : Network) (w : NetworkState) (n c port : ℕ) (f : Frame) (copy : RequestCopy) → IsCopyAt N w n c port f copy

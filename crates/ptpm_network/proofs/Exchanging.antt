@@ -30,12 +30,11 @@ use Rattle.ptpm_table.specs.Numbering.{same_request}
 use Rattle.ptpm_table.specs.Rendering.{hops_passed, reply_message}
 use Rattle.ptpm_agent.specs.Forwarding.{forwarded, forwarded_by}
 use Rattle.ptpm_agent.specs.Laws.{due_messages}
-use Rattle.ptpm_agent.specs.Once.{Accepted, History, RequestCopy, after_arrival, after_copy, copy_by, copy_from, copy_of, due_reply, greatest, is_copy, kept_for, kept_reply}
+use Rattle.ptpm_agent.specs.Once.{Accepted, History, RequestCopy, after_copy, copy_by, copy_from, copy_of, due_reply, greatest, is_copy, kept_for, kept_reply}
 use Rattle.ptpm_agent.specs.Addressing.{is_for_this_clock, is_own, is_request, names_port}
 use Rattle.ptpm_agent.specs.Turn.{Clock}
 use Rattle.ptpm_manager.specs.declared.report.Report.{Report}
 use Rattle.ptpm_manager.specs.Report.{outcome_of}
-use Rattle.ptpm_network.specs.DataSets.{AreDataSets}
 use Rattle.ptpm_network.specs.Events.{Deliver, Event, FramesAtMaximum, IsInRange, frame_at, frames_limit, no_frame, no_room, refusal}
 use Rattle.ptpm_network.specs.Exchange.{HasReplied, HasReported, HasRoom, IsHeardBy}
 use Rattle.ptpm_network.specs.Invariant.{IsAsked, IsFrame, IsOfOrigin, IsReached}
@@ -43,7 +42,7 @@ use Rattle.ptpm_network.specs.Machine.{answering_frames, arrives, delivered, del
 use Rattle.ptpm_network.specs.Network.{AtPort, AtSession, End, HasEnd, IsNetwork, Network, manager, peers, ports}
 use Rattle.ptpm_network.specs.State.{Frame, NetworkState, Origin, RequestOf, ReplyTo, SessionState, accepted_at_target, initial_state, greatest_accepted, history, is_idle, is_late, issued, new_frames}
 use Rattle.ptpm_network.proofs.Answering.{is_due, rendered-one, small}
-use Rattle.ptpm_network.proofs.Arriving.{arrives-reached, history-here}
+use Rattle.ptpm_network.proofs.Arriving.{after_arrival, arrives-reached, history-here}
 use Rattle.ptpm_network.proofs.Frames.{SaysRequest, heard-frame, says_kept, says_reply, says_request, sendable-one}
 use Rattle.ptpm_network.proofs.Lists.{with_place-same}
 use Rattle.ptpm_network.proofs.Messages.{message-hops, reply-fits, reply-valid, reply_at, request_at}
@@ -85,36 +84,35 @@ clocks_same a b e = subst (λ (x : ClockIdentity). same_clock a x ≡ true) e (s
 
 -- ---- a copy of a session's request at its target
 
-port-named : (p : ℕ) (q : RequestValue) (d : DataSetsValue) → AreDataSets p d → IsAsked p q → names_port d q.port ≡ true
-port-named p q d sets asked = ⊎_elim
+port-named : (p : ℕ) (q : RequestValue) → IsAsked p q → names_port p q.port ≡ true
+port-named p q asked = ⊎_elim
     (λ (y : is_of_port q.id ≡ true).
     let one = asked.one y in
-    let last : q.port ≤ length d.ports = subst (λ n. q.port ≤ n) (sym sets.ports_are) one.1 in
-    or_right _ _ (and_from (nat_le 1 q.port) (nat_le q.port (length d.ports)) (le-leb 1 q.port one.0) (le-leb q.port (length d.ports) last)))
+    or_right _ _ (and_from (nat_le 1 q.port) (nat_le q.port p) (le-leb 1 q.port one.0) (le-leb q.port p one.1)))
     (λ (n : is_of_port q.id ≡ false). or_left _ _ (eq-eqb q.port every_port (asked.every n)))
     (cases_Bool (is_of_port q.id))
 
-request-is_copy : (N : Network) (w : NetworkState) (s k domain hops : ℕ) (q : RequestValue) → IsNetwork N → IsReached N w → s < N.sessions → IsAsked (ports N (N.session s).target) q
-    → is_copy (N.clock (N.session s).target) (history N w (N.session s).target).sets (request_at N s k domain hops q) ≡ true
-request-is_copy N w s k domain hops q n r place asked =
+request-is_copy : (N : Network) (s k domain hops : ℕ) (q : RequestValue) → IsNetwork N → s < N.sessions → IsAsked (ports N (N.session s).target) q
+    → is_copy (N.clock (N.session s).target) (ports N (N.session s).target) (request_at N s k domain hops q) ≡ true
+request-is_copy N s k domain hops q n place asked =
     let session = n.are_sessions s place in
     let c : Clock = N.clock (N.session s).target in
-    let d = (history N w (N.session s).target).sets in
+    let p = ports N (N.session s).target in
     let v : Message = request_at N s k domain hops q in
     let not_own : not (is_own c v) ≡ true = ap not (clocks_apart (manager N s).clock c.identity (n.no_clock s (N.session s).target place session.exists)) in
     let here : is_for_this_clock c v ≡ true = clocks_same (N.session s).setup.target c.identity session.target in
-    let named : names_port d v.target.port ≡ true = port-named (ports N (N.session s).target) q d (r.clocks (N.session s).target session.exists) asked in
+    let named : names_port p v.target.port ≡ true = port-named p q asked in
     let asks : is_request v ≡ true = ap not asked.action in
     and_from (v.sdo == 0) _ refl
     (and_from (not (is_own c v)) _ not_own
     (and_from (is_known v.source c.managers) _ (n.configured s place)
     (and_from (is_for_this_clock c v) _ here
-    (and_from (names_port d v.target.port) (is_request v) named asks))))
+    (and_from (names_port p v.target.port) (is_request v) named asks))))
 
-copy-is : (N : Network) (w : NetworkState) (s port : ℕ) (f : Frame) (v : Message) → message_of f.octets ≡ Some v → is_copy (N.clock (N.session s).target) (history N w (N.session s).target).sets v ≡ true
-    → copy_of (N.clock (N.session s).target) (history N w (N.session s).target).sets (delivery port f) ≡ Some (copy_from (delivery port f) v)
-copy-is N w s port f v e is =
-    ap (copy_by (N.clock (N.session s).target) (history N w (N.session s).target).sets (delivery port f)) e ∙ cond-true _ _ _ is
+copy-is : (N : Network) (s port : ℕ) (f : Frame) (v : Message) → message_of f.octets ≡ Some v → is_copy (N.clock (N.session s).target) (ports N (N.session s).target) v ≡ true
+    → copy_of (N.clock (N.session s).target) (ports N (N.session s).target) (delivery port f) ≡ Some (copy_from (delivery port f) v)
+copy-is N s port f v e is =
+    ap (copy_by (N.clock (N.session s).target) (ports N (N.session s).target) (delivery port f)) e ∙ cond-true _ _ _ is
 
 -- what is for exactly this clock is not passed on
 here-kept : (c : Clock) (port : ℕ) (d : DataSetsValue) (octets : List ℕ) (v : Message) → message_of octets ≡ Some v → is_for_this_clock c v ≡ true → forwarded c.identity port d octets ≡ []
@@ -191,7 +189,7 @@ pub record IsReplyMessage (me : ClockIdentity) (x : RequestCopy) (r : ReplyValue
   pub fits : Fits (reply_message me x.heard r.action r.id x.ingress answer)
 
 reply-message : (N : Network) (w : NetworkState) (s port : ℕ) (f : Frame) (x : RequestCopy) (r : ReplyValue) → IsNetwork N → IsReached N w → s < N.sessions → HasEnd N (AtPort (N.session s).target port) → f.origin ≡ RequestOf s (issued w s)
-    → IsOfOrigin N w f.octets f.origin → IsLatestCopy N w s f.octets x → x.ingress ≡ port → x.heard.number < 2 ^ 16 → copy_of (N.clock (N.session s).target) (history N w (N.session s).target).sets (delivery port f) ≡ Some x
+    → IsOfOrigin N w f.octets f.origin → IsLatestCopy N w s f.octets x → x.ingress ≡ port → x.heard.number < 2 ^ 16 → copy_of (N.clock (N.session s).target) (ports N (N.session s).target) (delivery port f) ≡ Some x
     → due_reply (N.clock (N.session s).target) (history N w (N.session s).target) x ≡ Some r → IsReplyMessage (N.clock (N.session s).target).identity x r
 reply-message N w s port f x r n reached place end origin i of ingress number e d =
     let c = (N.session s).target in
@@ -229,7 +227,7 @@ said-hops v hops valid fits e = sym (canonical_spells v valid fits).hops ∙ e
 
 -- all that the target makes of the copy is the reply
 made-reply : (N : Network) (w : NetworkState) (s port : ℕ) (f : Frame) (x : RequestCopy) (v : Message) (r : ReplyValue) → f.origin ≡ RequestOf s (issued w s) → message_of f.octets ≡ Some v → is_for_this_clock (N.clock (N.session s).target) v ≡ true
-    → copy_of (N.clock (N.session s).target) (history N w (N.session s).target).sets (delivery port f) ≡ Some x → due_reply (N.clock (N.session s).target) (history N w (N.session s).target) x ≡ Some r → x.ingress ≡ port
+    → copy_of (N.clock (N.session s).target) (ports N (N.session s).target) (delivery port f) ≡ Some x → due_reply (N.clock (N.session s).target) (history N w (N.session s).target) x ≡ Some r → x.ingress ≡ port
     → (m : IsReplyMessage (N.clock (N.session s).target).identity x r)
     → made_frames N (N.session s).target (history N w (N.session s).target) port f
     ≡ new_frames (peers N.links (AtPort (N.session s).target port)) (canonical (reply_message (N.clock (N.session s).target).identity x.heard r.action r.id x.ingress m.answer)) (ReplyTo s (issued w s))
@@ -237,7 +235,7 @@ made-reply N w s port f x v r origin e here is due ingress m =
     let c = (N.session s).target in
     let h : History = history N w c in
     let octets = canonical (reply_message (N.clock c).identity x.heard r.action r.id x.ingress m.answer) in
-    ap (λ sent. forwarded_frames N c f sent ++ answering_frames N c h port f (copy_of (N.clock c) h.sets (delivery port f))) (here-kept (N.clock c) port h.sets f.octets v e here)
+    ap (λ sent. forwarded_frames N c f sent ++ answering_frames N c h port f (copy_of (N.clock c) (ports N c) (delivery port f))) (here-kept (N.clock c) port h.sets f.octets v e here)
     ∙ ap (answering_frames N c h port f) is
     ∙ ap (λ (o : Origin). reply_frames N c (reply_origin o) (due_messages (N.clock c) x (due_reply (N.clock c) h x))) origin
     ∙ ap (λ (o : Option ReplyValue). reply_frames N c (ReplyTo s (issued w s)) (due_messages (N.clock c) x o)) due
@@ -261,7 +259,7 @@ replied N w s port f n r place i end origin heard =
     let x : RequestCopy = copy_from (delivery port f) v in
     let domain : says.domain ≡ domain_number f.octets = message-domain v f.octets says.message.read in
     let of : IsLatestCopy N w s f.octets x = record { says = says; source = refl; index = ap index_of origin; request = refl; domain = domain } in
-    let is = copy-is N w s port f v says.message.read (request-is_copy N w s (issued w s) says.domain says.hops says.request n r place says.asked) in
+    let is = copy-is N s port f v says.message.read (request-is_copy N s (issued w s) says.domain says.hops says.request n place says.asked) in
     let due = due-to N w s f.octets x r place of heard in
     let m = reply-message N w s port f x due.0 n r place (subst (HasEnd N) end i.end) origin i.origin of refl says.message.fits.number is due.1 in
     let u : Message = reply_message (N.clock c).identity x.heard (due.0).action (due.0).id x.ingress m.answer in

@@ -1,5 +1,5 @@
 -- Frames as a running network holds them, without their first hops and forwardings.
-use Rattle.std.proofs.Common.{◌≡◌, ℕ, ◌+◌, ◌-◌, ◌==◌, List, [], ◌∷◌, ◌++◌, Option, Some, None, true, false, refl, sym, ◌∙◌, ap, ⊎_elim}
+use Rattle.std.proofs.Common.{◌≡◌, ℕ, ◌+◌, ◌-◌, ◌==◌, List, [], ◌∷◌, ◌++◌, Option, Some, None, true, false, refl, sym, ◌∙◌, ap, ⊎_elim, length}
 use Rattle.std.proofs.lemmas.Bool.{cases_Bool, cond-true, cond-false}
 use Rattle.std.proofs.lemmas.List.{map-append}
 use Rattle.std.proofs.lemmas.Option.{slice_get-map}
@@ -50,7 +50,7 @@ held-forwarded N c f (m ∷ ms) =
 pub turned-seen : (N : Network) (r : RunningNetwork) (c port : ℕ) (f : Frame) → after_turn N r c port (seen (held f)) ≡ after_turn N r c port f
 turned-seen N r c port f =
     let sent = turn (N.clock c) (r.clock c) port f.octets in
-    let replies : List Frame = reply_frames N c (answer_origin f.origin (copy_of (N.clock c) (r.clock c).sets (delivery port f))) sent.replies in
+    let replies : List Frame = reply_frames N c (answer_origin f.origin (copy_of (N.clock c) (length (r.clock c).sets.ports) (delivery port f))) sent.replies in
     let frames : map held (turn_frames N (r.clock c) c port (seen (held f))) ≡ map held (turn_frames N (r.clock c) c port f) =
     map-append held (forwarded_frames N c (seen (held f)) sent.forwards) replies
     ∙ ap (λ (hs : List Held). hs ++ map held replies) (held-forwarded N c (seen (held f)) sent.forwards ∙ sym (held-forwarded N c f sent.forwards))

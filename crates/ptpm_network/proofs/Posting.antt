@@ -1,5 +1,5 @@
 -- The frames of a turn, message by message of the outbox.
-use Rattle.std.proofs.Common.{◌≡◌, ℕ, ◌==◌, ◌⊎◌, inl, inr, List, [], ◌∷◌, ◌++◌, refl, sym, ◌∙◌, ap, ⊎_elim}
+use Rattle.std.proofs.Common.{◌≡◌, ℕ, ◌==◌, ◌⊎◌, inl, inr, List, [], ◌∷◌, ◌++◌, refl, sym, ◌∙◌, ap, ⊎_elim, length}
 use Rattle.std.proofs.lemmas.Bool.{cond-true, cond-false}
 use Rattle.std.proofs.lemmas.Grind.{flat_map-append}
 use Rattle.std.proofs.lemmas.List.{map-append}
@@ -49,7 +49,7 @@ reply_origins N c due told replies cases = ⊎_elim
     cases
 
 told_or_none : (N : Network) (s : State) (c ingress : ℕ) (f : Frame) →
-    ((turn (N.clock c) s ingress f.octets).replies ≡ []) ⊎ (origin_by (turn (N.clock c) s ingress f.octets).verdict f.origin ≡ answer_origin f.origin (copy_of (N.clock c) s.sets (delivery ingress f)))
+    ((turn (N.clock c) s ingress f.octets).replies ≡ []) ⊎ (origin_by (turn (N.clock c) s ingress f.octets).verdict f.origin ≡ answer_origin f.origin (copy_of (N.clock c) (length s.sets.ports) (delivery ingress f)))
 told_or_none N s c ingress f = ⊎_elim (λ none. inl none) (λ told. inr (told f.origin)) (reply-origin (N.clock c) s (delivery ingress f))
 
 -- the frames of a turn are those of its outbox, each message by the port that it leaves at
@@ -59,7 +59,7 @@ pub held-turn_frames : (N : Network) (s : State) (c ingress : ℕ) (f : Frame) �
 held-turn_frames N s c ingress f =
     let t : Turned = turn (N.clock c) s ingress f.octets in
     let told : Origin = origin_by t.verdict f.origin in
-    let due : Origin = answer_origin f.origin (copy_of (N.clock c) s.sets (delivery ingress f)) in
+    let due : Origin = answer_origin f.origin (copy_of (N.clock c) (length s.sets.ports) (delivery ingress f)) in
     flat_map-append (posted_by N.links c ingress f.origin told) t.forwards t.replies
     ∙ ap (λ hs. hs ++ flat_map (posted_by N.links c ingress f.origin told) t.replies)
     (sym (posted-away N.links c ingress f.origin told t.forwards (forwards-away (N.clock c) s ingress f.octets)) ∙ sym (held-forwarded N c f t.forwards))

@@ -1,5 +1,5 @@
 -- A clock that takes its turn at a frame goes where the machine goes.
-use Rattle.std.proofs.Common.{◌≡◌, ℕ, ◌<◌, ◌==◌, List, ◌++◌, Some, true, false, refl, sym, ◌∙◌, ap, subst, ⊎_elim}
+use Rattle.std.proofs.Common.{◌≡◌, ℕ, ◌<◌, ◌==◌, List, ◌++◌, Some, true, false, refl, sym, ◌∙◌, ap, subst, ⊎_elim, length, Option, None}
 use Rattle.std.proofs.lemmas.Bool.{cases_Bool, eqb-true}
 use Rattle.std.proofs.lemmas.List.{map-append}
 use Rattle.std.specs.Prelude.{map}
@@ -8,17 +8,17 @@ use Rattle.ptpm_codec.specs.declared.identity.PortIdentity.{PortIdentity}
 use Rattle.ptpm_data.specs.Members.{DataSetsValue}
 use Rattle.ptpm_agent.specs.Forwarding.{forwarded}
 use Rattle.ptpm_agent.specs.Laws.{StandsAt}
-use Rattle.ptpm_agent.specs.Once.{History, RequestCopy, copy_of}
-use Rattle.ptpm_agent.specs.Turn.{State, turn}
+use Rattle.ptpm_agent.specs.Once.{Delivery, History, RequestCopy, copy_of}
+use Rattle.ptpm_agent.specs.Turn.{Clock, State, turn}
 use Rattle.ptpm_agent.specs.Window.{IsInTime}
-use Rattle.ptpm_agent.proofs.AtMostOnce.{stands_after, stands-initial_history}
+use Rattle.ptpm_agent.proofs.AtMostOnce.{stands-copy, stands-initial_history, stands-other}
 use Rattle.ptpm_network.specs.Events.{Event, IsInRange, frame_at}
 use Rattle.ptpm_network.specs.Machine.{answer_messages, answer_origin, arrives, delivered_at_clock, delivery, forwarded_frames, made_frames, reply_frames, run, with_place}
-use Rattle.ptpm_network.specs.Network.{AtPort, HasEnd, IsNetwork, Network}
+use Rattle.ptpm_network.specs.Network.{AtPort, HasEnd, IsNetwork, Network, ports}
 use Rattle.ptpm_network.specs.Stands.{AreFirsts, Stands}
 use Rattle.ptpm_network.specs.RunningNetwork.{RunningNetwork, after_turn, held, initial_network, turn_frames}
 use Rattle.ptpm_network.specs.State.{Frame, NetworkState, initial_state, history, is_late}
-use Rattle.ptpm_network.proofs.Arriving.{history-elsewhere, history-here}
+use Rattle.ptpm_network.proofs.Arriving.{after_arrival, history-elsewhere, history-here, history-ports}
 use Rattle.ptpm_network.proofs.Frames.{heard-frame}
 use Rattle.ptpm_network.proofs.InTime.{in_window}
 use Rattle.ptpm_network.proofs.Lists.{with_place-other, with_place-same}
@@ -26,35 +26,44 @@ use Rattle.ptpm_network.proofs.Reaching.{frame_at-is}
 use Rattle.ptpm_network.proofs.Schedule.{reached}
 use Rattle.ptpm_network.proofs.Turning.{turn-answers, turn-passes_on}
 
--- they are the frames that the machine makes
-turn_frames-made : (N : Network) (first : PortIdentity → ℕ) (s : State) (h : History) (c port : ℕ) (f : Frame) → StandsAt first s h → ((k : RequestCopy) → copy_of (N.clock c) h.sets (delivery port f) ≡ Some k → IsInTime first h k) → turn_frames N s c port f ≡ made_frames N c h port f
-turn_frames-made N first s h c port f at time =
-    ap (λ sent. forwarded_frames N c f sent ++ reply_frames N c (answer_origin f.origin (copy_of (N.clock c) s.sets (delivery port f))) (turn (N.clock c) s port f.octets).replies) (turn-passes_on (N.clock c) first s h port f at)
-    ∙ ap (λ sent. forwarded_frames N c f (forwarded (N.clock c).identity port h.sets f.octets) ++ reply_frames N c (answer_origin f.origin (copy_of (N.clock c) s.sets (delivery port f))) sent) (turn-answers (N.clock c) first s h port f at time)
-    ∙ ap (λ (d : DataSetsValue). forwarded_frames N c f (forwarded (N.clock c).identity port h.sets f.octets)
-    ++ reply_frames N c (answer_origin f.origin (copy_of (N.clock c) d (delivery port f))) (answer_messages (N.clock c) h port f.octets (copy_of (N.clock c) h.sets (delivery port f)))) at.sets
+-- a clock after a delivery, of which there is a copy in time or none
+stands_by : (first : PortIdentity → ℕ) (c : Clock) (ports : ℕ) (s : State) (h : History) (x : Delivery) (o : Option RequestCopy) → length h.sets.ports ≡ ports → copy_of c ports x ≡ o → StandsAt first s h
+    → ((k : RequestCopy) → copy_of c ports x ≡ Some k → IsInTime first h k) → StandsAt first (turn c s x.ingress x.datagram).next (after_arrival c h o)
+stands_by first c ports s h x None many e at time = stands-other first c ports s h x many e at
+stands_by first c ports s h x (Some k) many e at time = stands-copy first c ports s h x k many e at (time k e)
 
-clock-stands : (N : Network) (first : PortIdentity → ℕ) (r : RunningNetwork) (w : NetworkState) (c port : ℕ) (f : Frame) → Stands N first r w → c < N.clocks → ((k : RequestCopy) → copy_of (N.clock c) (history N w c).sets (delivery port f) ≡ Some k → IsInTime first (history N w c) k)
+-- they are the frames that the machine makes
+turn_frames-made : (N : Network) (first : PortIdentity → ℕ) (s : State) (h : History) (c port : ℕ) (f : Frame) → StandsAt first s h → length h.sets.ports ≡ ports N c
+    → ((k : RequestCopy) → copy_of (N.clock c) (ports N c) (delivery port f) ≡ Some k → IsInTime first h k) → turn_frames N s c port f ≡ made_frames N c h port f
+turn_frames-made N first s h c port f at many time =
+    ap (λ sent. forwarded_frames N c f sent ++ reply_frames N c (answer_origin f.origin (copy_of (N.clock c) (length s.sets.ports) (delivery port f))) (turn (N.clock c) s port f.octets).replies) (turn-passes_on (N.clock c) first s h port f at)
+    ∙ ap (λ sent. forwarded_frames N c f (forwarded (N.clock c).identity port h.sets f.octets) ++ reply_frames N c (answer_origin f.origin (copy_of (N.clock c) (length s.sets.ports) (delivery port f))) sent) (turn-answers (N.clock c) first s h port f at (λ k e. time k (ap (λ p. copy_of (N.clock c) p (delivery port f)) (sym many) ∙ e)))
+    ∙ ap (λ (d : DataSetsValue). forwarded_frames N c f (forwarded (N.clock c).identity port h.sets f.octets)
+    ++ reply_frames N c (answer_origin f.origin (copy_of (N.clock c) (length d.ports) (delivery port f))) (answer_messages (N.clock c) h port f.octets (copy_of (N.clock c) (length h.sets.ports) (delivery port f)))) at.sets
+    ∙ ap (λ p. forwarded_frames N c f (forwarded (N.clock c).identity port h.sets f.octets)
+    ++ reply_frames N c (answer_origin f.origin (copy_of (N.clock c) p (delivery port f))) (answer_messages (N.clock c) h port f.octets (copy_of (N.clock c) p (delivery port f)))) many
+
+clock-stands : (N : Network) (first : PortIdentity → ℕ) (r : RunningNetwork) (w : NetworkState) (c port : ℕ) (f : Frame) → Stands N first r w → c < N.clocks → ((k : RequestCopy) → copy_of (N.clock c) (ports N c) (delivery port f) ≡ Some k → IsInTime first (history N w c) k)
     → (d : ℕ) → d < N.clocks → StandsAt first (with_place r.clock c (turn (N.clock c) (r.clock c) port f.octets).next d) (history N (arrives w c (delivery port f)) d)
 clock-stands N first r w c port f at place time d there = ⊎_elim
     (λ (y : d == c ≡ true).
     subst (λ (s : State). StandsAt first s (history N (arrives w c (delivery port f)) d)) (sym (with_place-same r.clock c (turn (N.clock c) (r.clock c) port f.octets).next d y))
     (subst (λ j. StandsAt first (turn (N.clock c) (r.clock c) port f.octets).next (history N (arrives w c (delivery port f)) j)) (sym (eqb-true d c y))
     (subst (StandsAt first (turn (N.clock c) (r.clock c) port f.octets).next) (sym (history-here N w c (delivery port f)))
-    (stands_after first (N.clock c) (r.clock c) (history N w c) (delivery port f) (at.clocks c place) time))))
+    (stands_by first (N.clock c) (ports N c) (r.clock c) (history N w c) (delivery port f) (copy_of (N.clock c) (ports N c) (delivery port f)) (history-ports N w c) refl (at.clocks c place) time))))
     (λ (n : d == c ≡ false).
     subst (λ (s : State). StandsAt first s (history N (arrives w c (delivery port f)) d)) (sym (with_place-other r.clock c (turn (N.clock c) (r.clock c) port f.octets).next d n))
     (subst (StandsAt first (r.clock d)) (sym (history-elsewhere N w c (delivery port f) d n)) (at.clocks d there)))
     (cases_Bool (d == c))
 
-pub stands-turned : (N : Network) (first : PortIdentity → ℕ) (r : RunningNetwork) (w : NetworkState) (c port : ℕ) (f : Frame) → Stands N first r w → c < N.clocks → ((k : RequestCopy) → copy_of (N.clock c) (history N w c).sets (delivery port f) ≡ Some k → IsInTime first (history N w c) k)
+pub stands-turned : (N : Network) (first : PortIdentity → ℕ) (r : RunningNetwork) (w : NetworkState) (c port : ℕ) (f : Frame) → Stands N first r w → c < N.clocks → ((k : RequestCopy) → copy_of (N.clock c) (ports N c) (delivery port f) ≡ Some k → IsInTime first (history N w c) k)
     → Stands N first (after_turn N r c port f) (delivered_at_clock N w c port f)
 stands-turned N first r w c port f at place time = record {
   clocks = clock-stands N first r w c port f at place time;
   sessions = at.sessions;
   reports = at.reports;
   frames = ap (λ fs. fs ++ map held (turn_frames N (r.clock c) c port f)) at.frames
-      ∙ ap (λ fs. map held w.frames ++ map held fs) (turn_frames-made N first (r.clock c) (history N w c) c port f (at.clocks c place) time)
+      ∙ ap (λ fs. map held w.frames ++ map held fs) (turn_frames-made N first (r.clock c) (history N w c) c port f (at.clocks c place) (history-ports N w c) time)
       ∙ sym (map-append held w.frames (made_frames N c (history N w c) port f));
 }
 

@@ -97,10 +97,10 @@ replies-at c s ingress datagram = turn_by-at c s ingress datagram (reading datag
 abbrev IsToCopy : Verdict → List (ℕ × List ℕ) → Option RequestCopy → Type 0
 IsToCopy w replies copy = (replies ≡ []) ⊎ ((o : Origin) → origin_by w o ≡ answer_origin o copy)
 
-copy_by-copy : (c : Clock) (s : State) (x : Delivery) (v : Message) → is_copy c s.sets v ≡ true → copy_by c s.sets x (Some v) ≡ Some (copy_from x v)
+copy_by-copy : (c : Clock) (s : State) (x : Delivery) (v : Message) → is_copy c (length s.sets.ports) v ≡ true → copy_by c (length s.sets.ports) x (Some v) ≡ Some (copy_from x v)
 copy_by-copy c s x v y = cond-true _ _ _ y
 
-copy_by-none : (c : Clock) (s : State) (x : Delivery) (v : Message) → is_copy c s.sets v ≡ false → copy_by c s.sets x (Some v) ≡ None
+copy_by-none : (c : Clock) (s : State) (x : Delivery) (v : Message) → is_copy c (length s.sets.ports) v ≡ false → copy_by c (length s.sets.ports) x (Some v) ≡ None
 copy_by-none c s x v n = cond-false _ _ _ n
 
 -- what is not numbered is no copy
@@ -109,8 +109,8 @@ not_copy a o true true p q e = absurd (cc)
 not_copy a o true false p q e = and_right a _ (and_right (not o) _ refl)
 not_copy a o false t p q e = and_right a _ (and_right (not o) _ refl)
 
-is_copy-unnumbered : (c : Clock) (s : State) (v : Message) → is_numbered c v ≡ false → is_copy c s.sets v ≡ false
-is_copy-unnumbered c s v n = not_copy (v.sdo == 0) (is_own c v) (is_known v.source c.managers) (is_for_this_clock c v) (names_port s.sets v.target.port) (is_request v) n
+is_copy-unnumbered : (c : Clock) (s : State) (v : Message) → is_numbered c v ≡ false → is_copy c (length s.sets.ports) v ≡ false
+is_copy-unnumbered c s v n = not_copy (v.sdo == 0) (is_own c v) (is_known v.source c.managers) (is_for_this_clock c v) (names_port (length s.sets.ports) v.target.port) (is_request v) n
 
 -- what is told to a numbered request, by what it is
 look_by-copy : (c : Clock) (s : State) (ingress : ℕ) (v : Message) (k : RequestCopy) (z : Serial) (same : Bool) →
@@ -132,9 +132,9 @@ numbered-copy c s ingress v k n =
     (look_at-copy c s ingress v k (get s.entries v.source))
 
 message-copy : (c : Clock) (s : State) (x : Delivery) (v : Message) →
-    IsToCopy (judged c s v) (reply_messages c x.ingress (heard_of v) (reply_by (judged c s v) c s v)) (copy_by c s.sets x (Some v))
+    IsToCopy (judged c s v) (reply_messages c x.ingress (heard_of v) (reply_by (judged c s v) c s v)) (copy_by c (length s.sets.ports) x (Some v))
 message-copy c s x v =
-    judged-each (λ (w : Verdict). IsToCopy w (reply_messages c x.ingress (heard_of v) (reply_by w c s v)) (copy_by c s.sets x (Some v))) c s v
+    judged-each (λ (w : Verdict). IsToCopy w (reply_messages c x.ingress (heard_of v) (reply_by w c s v)) (copy_by c (length s.sets.ports) x (Some v))) c s v
     (inl refl) (inl refl) (inl refl) (inl refl)
     (λ d o a q. ⊎_elim
     (λ (n : is_numbered c v ≡ true).
@@ -147,14 +147,14 @@ message-copy c s x v =
     (cases_Bool (is_numbered c v)))
 
 turn_by-copy : (c : Clock) (s : State) (x : Delivery) (r : Result Message DecodeError) → reading x.datagram ≡ r →
-    IsToCopy (turn_by c s x.ingress x.datagram r).verdict (turn_by c s x.ingress x.datagram r).replies (copy_of c s.sets x)
+    IsToCopy (turn_by c s x.ingress x.datagram r).verdict (turn_by c s x.ingress x.datagram r).replies (copy_of c (length s.sets.ports) x)
 turn_by-copy c s x (Err cause) e = inl refl
 turn_by-copy c s x (Ok v) e =
-    subst (λ (m : Option Message). IsToCopy (judged c s v) (reply_messages c x.ingress (heard_of v) (reply_by (judged c s v) c s v)) (copy_by c s.sets x m))
+    subst (λ (m : Option Message). IsToCopy (judged c s v) (reply_messages c x.ingress (heard_of v) (reply_by (judged c s v) c s v)) (copy_by c (length s.sets.ports) x m))
     (sym (message_of-reading x.datagram v e)) (message-copy c s x v)
 
 -- where a clock replies, its verdict says whether it is to a numbered copy
 pub reply-origin : (c : Clock) (s : State) (x : Delivery) →
-    ((turn c s x.ingress x.datagram).replies ≡ []) ⊎ ((o : Origin) → origin_by (turn c s x.ingress x.datagram).verdict o ≡ answer_origin o (copy_of c s.sets x))
+    ((turn c s x.ingress x.datagram).replies ≡ []) ⊎ ((o : Origin) → origin_by (turn c s x.ingress x.datagram).verdict o ≡ answer_origin o (copy_of c (length s.sets.ports) x))
 unfolding turn
 reply-origin c s x = turn_by-copy c s x (reading x.datagram) refl

@@ -1,5 +1,5 @@
 -- What a clock sends in a turn is what the machine says that it sends.
-use Rattle.std.proofs.Common.{◌≡◌, ℕ, ◌==◌, ◌&&◌, ◌||◌, not, List, Option, Some, None, Result, Ok, Err, Bool, true, false, refl, sym, ◌∙◌, ap, ⊎_elim}
+use Rattle.std.proofs.Common.{◌≡◌, ℕ, ◌==◌, ◌&&◌, ◌||◌, not, List, Option, Some, None, Result, Ok, Err, Bool, true, false, refl, sym, ◌∙◌, ap, ⊎_elim, length}
 use Rattle.std.proofs.lemmas.Bool.{cases_Bool, and_from, and_left, and_right, and_parts, cond-true, cond-false, true≢false}
 use Rattle.ptpm_codec.specs.declared.error.DecodeError.{DecodeError}
 use Rattle.ptpm_codec.specs.declared.identity.PortIdentity.{PortIdentity}
@@ -85,12 +85,12 @@ says_read c s ingress v d o a q n =
     let read : is_read c s.sets v ≡ true = and_from _ _ home.0 (and_from _ _ home.1 (and_from _ _ (ap not o) (and_from _ _ a (and_from _ _ q (ap not n))))) in
     ap (λ (u : Verdict). reply_messages c ingress (heard_of v) (reply_by u c s v)) verdict ∙ sym (cond-true _ _ _ read)
 
-says_request_or_nothing : (c : Clock) (s : State) (ingress : ℕ) (v : Message) → is_copy c s.sets v ≡ false → is_in_domain c s v ≡ true → is_own c v ≡ false → is_addressed c s.sets v ≡ true
+says_request_or_nothing : (c : Clock) (s : State) (ingress : ℕ) (v : Message) → is_copy c (length s.sets.ports) v ≡ false → is_in_domain c s v ≡ true → is_own c v ≡ false → is_addressed c s.sets v ≡ true
     → reply_messages c ingress (heard_of v) (reply_by (judged c s v) c s v) ≡ read_messages c s.sets ingress (Some v)
 says_request_or_nothing c s ingress v n d o a = ⊎_elim
     (λ (q : is_request v ≡ true). ⊎_elim
     (λ (y : is_numbered c v ≡ true). absurd (true≢false (sym
-    (is_copy-bits (v.sdo == 0) (is_own c v) (is_known v.source c.managers) (is_for_this_clock c v) (names_port s.sets v.target.port) (is_request v) (same_clock v.target.clock every_clock)
+    (is_copy-bits (v.sdo == 0) (is_own c v) (is_known v.source c.managers) (is_for_this_clock c v) (names_port (length s.sets.ports) v.target.port) (is_request v) (same_clock v.target.clock every_clock)
     (and_parts (v.sdo == 0) (v.domain == s.sets.default.domain || is_accepted_repeat c s v) d).0 o y a q) ∙ n)))
     (λ (f : is_numbered c v ≡ false). says_read c s ingress v d o a q f)
     (cases_Bool (is_numbered c v)))
@@ -98,7 +98,7 @@ says_request_or_nothing c s ingress v n d o a = ⊎_elim
     (is_read-reply (v.sdo == 0) (v.domain == s.sets.default.domain) (is_own c v) (is_addressed c s.sets v) (is_request v) (not (is_numbered c v)) q))
     (cases_Bool (is_request v))
 
-says_as_read : (c : Clock) (s : State) (ingress : ℕ) (v : Message) → is_copy c s.sets v ≡ false
+says_as_read : (c : Clock) (s : State) (ingress : ℕ) (v : Message) → is_copy c (length s.sets.ports) v ≡ false
     → reply_messages c ingress (heard_of v) (reply_by (judged c s v) c s v) ≡ read_messages c s.sets ingress (Some v)
 says_as_read c s ingress v n = ⊎_elim
     (λ (d : is_in_domain c s v ≡ true). ⊎_elim
@@ -135,14 +135,14 @@ turn-forwards : (c : Clock) (s : State) (ingress : ℕ) (d : List ℕ) → (turn
 unfolding turn
 turn-forwards c s ingress d = turn_by-forwards c s ingress d (reading d)
 
-turn-reads : (c : Clock) (s : State) (x : Delivery) (r : Result Message DecodeError) → reading x.datagram ≡ r → copy_of c s.sets x ≡ None → (turn c s x.ingress x.datagram).replies ≡ read_messages c s.sets x.ingress (message_of x.datagram)
+turn-reads : (c : Clock) (s : State) (x : Delivery) (r : Result Message DecodeError) → reading x.datagram ≡ r → copy_of c (length s.sets.ports) x ≡ None → (turn c s x.ingress x.datagram).replies ≡ read_messages c s.sets x.ingress (message_of x.datagram)
 turn-reads c s x (Err cause) e none =
     ap (λ (t : Turned). t.replies) (turn-refused c s x.ingress x.datagram cause e)
     ∙ sym (ap (read_messages c s.sets x.ingress) (no_message x.datagram cause (message_of x.datagram) refl e))
 turn-reads c s x (Ok v) e none =
     let m : message_of x.datagram ≡ Some v = message_of-reading x.datagram v e in
     ap (λ (t : Turned). t.replies) (turn-message c s x.ingress x.datagram v m)
-    ∙ says_as_read c s x.ingress v (no_copy c s.sets x v none m)
+    ∙ says_as_read c s x.ingress v (no_copy c (length s.sets.ports) x v none m)
     ∙ sym (ap (read_messages c s.sets x.ingress) m)
 
 -- ---- both are the machine's
@@ -150,13 +150,13 @@ turn-reads c s x (Ok v) e none =
 pub turn-passes_on : (c : Clock) (first : PortIdentity → ℕ) (s : State) (h : History) (ingress : ℕ) (f : Frame) → StandsAt first s h → (turn c s ingress f.octets).forwards ≡ forwarded c.identity ingress h.sets f.octets
 turn-passes_on c first s h ingress f at = turn-forwards c s ingress f.octets ∙ ap (λ (d : DataSetsValue). forwarded c.identity ingress d f.octets) at.sets
 
-answers-by : (c : Clock) (first : PortIdentity → ℕ) (s : State) (h : History) (ingress : ℕ) (f : Frame) (o : Option RequestCopy) → StandsAt first s h → ((k : RequestCopy) → copy_of c h.sets (delivery ingress f) ≡ Some k → IsInTime first h k)
-    → copy_of c h.sets (delivery ingress f) ≡ o → (turn c s ingress f.octets).replies ≡ answer_messages c h ingress f.octets o
+answers-by : (c : Clock) (first : PortIdentity → ℕ) (s : State) (h : History) (ingress : ℕ) (f : Frame) (o : Option RequestCopy) → StandsAt first s h → ((k : RequestCopy) → copy_of c (length h.sets.ports) (delivery ingress f) ≡ Some k → IsInTime first h k)
+    → copy_of c (length h.sets.ports) (delivery ingress f) ≡ o → (turn c s ingress f.octets).replies ≡ answer_messages c h ingress f.octets o
 answers-by c first s h ingress f None at time e =
-    turn-reads c s (delivery ingress f) (reading f.octets) refl (ap (λ (d : DataSetsValue). copy_of c d (delivery ingress f)) at.sets ∙ e)
+    turn-reads c s (delivery ingress f) (reading f.octets) refl (ap (λ (d : DataSetsValue). copy_of c (length d.ports) (delivery ingress f)) at.sets ∙ e)
     ∙ ap (λ (d : DataSetsValue). read_messages c d ingress (message_of f.octets)) at.sets
 answers-by c first s h ingress f (Some k) at time e = (turns_as first c s h (delivery ingress f) k at e (time k e)).replies
 
-pub turn-answers : (c : Clock) (first : PortIdentity → ℕ) (s : State) (h : History) (ingress : ℕ) (f : Frame) → StandsAt first s h → ((k : RequestCopy) → copy_of c h.sets (delivery ingress f) ≡ Some k → IsInTime first h k)
-    → (turn c s ingress f.octets).replies ≡ answer_messages c h ingress f.octets (copy_of c h.sets (delivery ingress f))
-turn-answers c first s h ingress f at time = answers-by c first s h ingress f (copy_of c h.sets (delivery ingress f)) at time refl
+pub turn-answers : (c : Clock) (first : PortIdentity → ℕ) (s : State) (h : History) (ingress : ℕ) (f : Frame) → StandsAt first s h → ((k : RequestCopy) → copy_of c (length h.sets.ports) (delivery ingress f) ≡ Some k → IsInTime first h k)
+    → (turn c s ingress f.octets).replies ≡ answer_messages c h ingress f.octets (copy_of c (length h.sets.ports) (delivery ingress f))
+turn-answers c first s h ingress f at time = answers-by c first s h ingress f (copy_of c (length h.sets.ports) (delivery ingress f)) at time refl

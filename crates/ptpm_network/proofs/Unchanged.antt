@@ -7,14 +7,14 @@ use Rattle.ptpm_codec.proofs.OrderedLaws.{first_of-none, option_or-none}
 use Rattle.ptpm_codec.specs.declared.error.ErrorId.{ErrorId}
 use Rattle.ptpm_data.specs.Reply.{Answer, Refused, ReplyValue}
 use Rattle.ptpm_data.proofs.Keeping.{refused_answer}
-use Rattle.ptpm_agent.specs.Once.{Delivery, History, RequestCopy, accepted_from, after, after_arrival, after_copy, copy_of, due_reply, joins}
+use Rattle.ptpm_agent.specs.Once.{Delivery, History, RequestCopy, accepted_from, after_copy, copy_of, due_reply, joins}
 use Rattle.ptpm_agent.specs.Turn.{Clock}
 use Rattle.ptpm_network.specs.Events.{Event, Forged, IsInRange, Refusal, Stranger, forged, is_forged, no_port, no_room, refusal}
 use Rattle.ptpm_network.specs.Invariant.{IsReached}
 use Rattle.ptpm_network.specs.Machine.{arrives, delivery, happens, run, step, step_by, strange_frame}
-use Rattle.ptpm_network.specs.Network.{IsNetwork, Network}
+use Rattle.ptpm_network.specs.Network.{IsNetwork, Network, ports}
 use Rattle.ptpm_network.specs.State.{NetworkState, Neither, RequestOf, initial_state, history}
-use Rattle.ptpm_network.proofs.Arriving.{history-elsewhere, history-here, is_copy_of}
+use Rattle.ptpm_network.proofs.Arriving.{after_arrival, history-elsewhere, history-here, is_copy_of}
 use Rattle.ptpm_network.proofs.Frames.{IsHeard}
 use Rattle.ptpm_network.proofs.Reaching.{port-exists}
 use Rattle.ptpm_network.proofs.Schedule.{reached}
@@ -27,7 +27,7 @@ of_nothing s k e = absurd (cc)
 
 -- what belongs to nothing is no copy
 strange-no_copy : (N : Network) (w : NetworkState) (c port : ℕ) (datagram : List ℕ) (o : Option RequestCopy) → IsNetwork N → IsReached N w → c < N.clocks → IsHeard N w datagram Neither
-    → copy_of (N.clock c) (history N w c).sets (delivery port (strange_frame c port datagram)) ≡ o → o ≡ None
+    → copy_of (N.clock c) (ports N c) (delivery port (strange_frame c port datagram)) ≡ o → o ≡ None
 strange-no_copy N w c port datagram None n r place i e = refl
 strange-no_copy N w c port datagram (Some copy) n r place i e =
     let of = is_copy_of N w c port (strange_frame c port datagram) copy n r place i e in
@@ -66,10 +66,10 @@ strangers-leave N es c port datagram d n i octets =
 
 -- ---- refused requests
 
-pub no_copy-leaves : (c : Clock) (h : History) (x : Delivery) → copy_of c h.sets x ≡ None → after c h x ≡ h
-no_copy-leaves c h x none = ap (after_arrival c h) none
+pub no_copy-leaves : (N : Network) (w : NetworkState) (c : ℕ) (x : Delivery) → copy_of (N.clock c) (ports N c) x ≡ None → history N (arrives w c x) c ≡ history N w c
+no_copy-leaves N w c x none = history-here N w c x ∙ ap (after_arrival (N.clock c) (history N w c)) none
 
-refused-copy : (c : Clock) (h : History) (copy : RequestCopy) (r : ReplyValue) (a : Answer) (error : ErrorId) → due_reply c h copy ≡ Some r → Contains r.answers a → a.outcome ≡ Refused error → (after_copy c h copy).sets ≡ h.sets
+pub refused-copy : (c : Clock) (h : History) (copy : RequestCopy) (r : ReplyValue) (a : Answer) (error : ErrorId) → due_reply c h copy ≡ Some r → Contains r.answers a → a.outcome ≡ Refused error → (after_copy c h copy).sets ≡ h.sets
 refused-copy c h copy r a error due has refused = ⊎_elim
     (λ (y : joins h copy ≡ true).
     let same : (accepted_from c h copy).reply ≡ r = same_Some _ r (sym (cond-true _ _ _ y) ∙ due) in
@@ -79,7 +79,8 @@ refused-copy c h copy r a error due has refused = ⊎_elim
     (λ (n : joins h copy ≡ false). ap (λ (g : History). g.sets) (cond-false _ _ _ n))
     (cases_Bool (joins h copy))
 
-pub refused-leaves : (c : Clock) (h : History) (x : Delivery) (copy : RequestCopy) (r : ReplyValue) (a : Answer) (error : ErrorId) → copy_of c h.sets x ≡ Some copy → due_reply c h copy ≡ Some r
-    → Contains r.answers a → a.outcome ≡ Refused error → (after c h x).sets ≡ h.sets
-refused-leaves c h x copy r a error is due has refused =
-    ap (λ o. (after_arrival c h o).sets) is ∙ refused-copy c h copy r a error due has refused
+pub refused-leaves : (N : Network) (w : NetworkState) (c : ℕ) (x : Delivery) (copy : RequestCopy) (r : ReplyValue) (a : Answer) (error : ErrorId) → copy_of (N.clock c) (ports N c) x ≡ Some copy
+    → due_reply (N.clock c) (history N w c) copy ≡ Some r → Contains r.answers a → a.outcome ≡ Refused error → (history N (arrives w c x) c).sets ≡ (history N w c).sets
+refused-leaves N w c x copy r a error is due has refused =
+    ap (λ (h : History). h.sets) (history-here N w c x ∙ ap (after_arrival (N.clock c) (history N w c)) is)
+    ∙ refused-copy (N.clock c) (history N w c) copy r a error due has refused

@@ -1,5 +1,5 @@
 -- Replies to what is not numbered go to no session, and a delivery at a clock keeps the invariant.
-use Rattle.std.proofs.Common.{◌≡◌, ℕ, ◌<◌, ◌+◌, ◌^◌, ◌==◌, ◌&&◌, ◌||◌, not, List, Option, Some, None, Bool, true, false, refl, sym, ◌∙◌, ap, subst, ⊎_elim, ◌⊎◌, inl, inr}
+use Rattle.std.proofs.Common.{◌≡◌, ℕ, ◌<◌, ◌+◌, ◌^◌, ◌==◌, ◌&&◌, ◌||◌, not, List, Option, Some, None, Bool, true, false, refl, sym, ◌∙◌, ap, subst, ⊎_elim, ◌⊎◌, inl, inr, length}
 use Rattle.std.proofs.lemmas.Bool.{cases_Bool, and_from, and_parts, cond-true, cond-false, not-true, true≢false}
 use Rattle.std.specs.Prelude.{slice_get}
 use Rattle.std.specs.List.{AllByRecursion}
@@ -134,9 +134,9 @@ read-by N w c port octets o (Some v) n r end i e =
     let d = (history N w c).sets in
     ⊎_elim
     (λ (y : is_read (N.clock c) d v ≡ true).
-    let p = read_parts (N.clock c) (v.sdo == 0) (v.domain == d.default.domain) (not (is_own (N.clock c) v)) (names_port d v.target.port) (is_request v) (is_numbered (N.clock c) v) (is_for_this_clock (N.clock c) v || same_clock v.target.clock every_clock) refl y in
+    let p = read_parts (N.clock c) (v.sdo == 0) (v.domain == d.default.domain) (not (is_own (N.clock c) v)) (names_port (length d.ports) v.target.port) (is_request v) (is_numbered (N.clock c) v) (is_for_this_clock (N.clock c) v || same_clock v.target.clock every_clock) refl y in
     subst (AllByRecursion (λ m. IsForeignFrame N m.1)) (sym (cond-true _ _ _ y))
-    (read-origin N w c port octets o v (names_port d v.target.port) n r end i e (record { addressed = p.0; request = p.1; not_numbered = p.2 })
+    (read-origin N w c port octets o v (names_port (length d.ports) v.target.port) n r end i e (record { addressed = p.0; request = p.1; not_numbered = p.2 })
     (read_reply_to (request_of v) d) (read_answered (request_of v) (ports N c) d (r.clocks c end.0))))
     (λ (n : is_read (N.clock c) d v ≡ false). subst (AllByRecursion (λ m. IsForeignFrame N m.1)) (sym (cond-false _ _ _ n)) tt)
     (cases_Bool (is_read (N.clock c) d v))
@@ -149,7 +149,7 @@ heard-stays N w u octets (ReplyTo s k) same kept i = origin-stays N w u (λ t j 
 heard-stays N w u octets Neither same kept i = i
 
 answering-frames : (N : Network) (w : NetworkState) (c port : ℕ) (f : Frame) (o : Option RequestCopy) → IsNetwork N → IsReached N w → IsReached N (arrives w c (delivery port f)) → HasEnd N (AtPort c port) → IsHeard N w f.octets f.origin
-    → copy_of (N.clock c) (history N w c).sets (delivery port f) ≡ o → AllByRecursion (IsFrame N (arrives w c (delivery port f))) (answering_frames N c (history N w c) port f o)
+    → copy_of (N.clock c) (ports N c) (delivery port f) ≡ o → AllByRecursion (IsFrame N (arrives w c (delivery port f))) (answering_frames N c (history N w c) port f o)
 answering-frames N w c port f (Some copy) n r reached end i e =
     due-frames N w c port f copy (due_reply (N.clock c) (history N w c) copy) n reached end (is_copy_of N w c port f copy n r end.0 i e) e refl
 answering-frames N w c port f None n r reached end i e =
@@ -166,5 +166,5 @@ delivered_at_clock-reached N w c port f n r end i hops =
     more-frames N u (made_frames N c (history N w c) port f)
     (all_append (IsFrame N u) _ _
     (forwarded_frames-are N u c port f sent (passed_on (N.clock c).identity port (history N w c).sets f.octets) n reached heard hops)
-    (answering-frames N w c port f (copy_of (N.clock c) (history N w c).sets (delivery port f)) n r reached end i refl))
+    (answering-frames N w c port f (copy_of (N.clock c) (ports N c) (delivery port f)) n r reached end i refl))
     reached

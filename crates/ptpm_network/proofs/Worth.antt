@@ -1,5 +1,5 @@
 -- What a report is worth: its request was carried out exactly once, and the report tells the answer of that moment.
-use Rattle.std.proofs.Common.{suc, zero, arith, ◌≡◌, ℕ, ◌<◌, ◌≤◌, ◌+◌, ◌-◌, ◌==◌, ◌&&◌, max, Bool, List, [], ◌∷◌, ◌++◌, Option, Some, None, true, false, refl, sym, ◌∙◌, ap, subst, ⊎_elim, ◌⊎◌, inl, inr, length, length-append, append_assoc}
+use Rattle.std.proofs.Common.{suc, zero, arith, ◌≡◌, ℕ, ◌<◌, ◌≤◌, ◌+◌, ◌-◌, ◌==◌, ◌&&◌, max, Bool, List, [], ◌∷◌, ◌++◌, Some, None, true, false, refl, sym, ◌∙◌, ap, subst, ⊎_elim, ◌⊎◌, inl, inr, length, length-append, append_assoc}
 use Rattle.std.proofs.lemmas.Bool.{cases_Bool, and_parts, and_left, and_right, eqb-true, ltb-true, ne_eqb, cond-true, cond-false, lt-ltb}
 use Rattle.std.proofs.lemmas.List.{append-nil}
 use Rattle.std.specs.Prelude.{is_some, nat_lt, not, option_map, slice_get}
@@ -12,7 +12,7 @@ use Rattle.ptpm_data.specs.Members.{DataSetsValue}
 use Rattle.ptpm_data.specs.Reply.{Answer}
 use Rattle.ptpm_data.specs.Request.{RequestValue}
 use Rattle.ptpm_table.proofs.Identities.{same_identity-true}
-use Rattle.ptpm_agent.specs.Once.{Accepted, Delivery, History, RequestCopy, accepted_from, after, after_arrival, applied_once, initial_history, copy_of, greatest, joins, kept_reply}
+use Rattle.ptpm_agent.specs.Once.{Accepted, History, RequestCopy, accepted_from, after_copy, applied_once, initial_history, greatest, joins, kept_reply}
 use Rattle.ptpm_agent.specs.Turn.{Clock}
 use Rattle.ptpm_manager.specs.declared.ask.Ask.{Ask}
 use Rattle.ptpm_manager.specs.declared.error.BeginError.TheVariants as begins
@@ -23,10 +23,9 @@ use Rattle.ptpm_network.specs.Events.{Begin, BeginRefused, Event, IsInRange, NoS
 use Rattle.ptpm_network.specs.Invariant.{IsReached, WasAccepted}
 use Rattle.ptpm_network.specs.Machine.{run}
 use Rattle.ptpm_network.specs.Network.{IsNetwork, Network, manager}
-use Rattle.ptpm_network.specs.State.{NetworkState, SessionState, accepted_at_target, initial_state, history, issued, outcomes_kept, reports_by, reports_of, session_value, unanswered}
+use Rattle.ptpm_network.specs.State.{NetworkState, SessionState, accepted_at_target, copies_at, initial_state, history, issued, outcomes_kept, reports_by, reports_of, session_value, unanswered}
 use Rattle.ptpm_network.specs.Worth.{IsWorth, WasCarriedOut, entries_of}
 use Rattle.ptpm_network.proofs.Accepting.{report_of}
-use Rattle.ptpm_network.proofs.Arriving.{applied_once-append}
 use Rattle.ptpm_network.proofs.Lists.{all_weaker}
 use Rattle.ptpm_network.proofs.Refusals.{get-below}
 use Rattle.ptpm_network.proofs.Schedule.{reached}
@@ -62,21 +61,20 @@ once-joined es d above once m k = ⊎_elim
     (λ (n : (same_identity m d.manager && d.index == k) ≡ false). subst (λ (rest : List Accepted). length rest ≤ 1) (sym (cond-false _ _ _ n)) (once m k))
     (cases_Bool (same_identity m d.manager && d.index == k))
 
-once-by : (c : Clock) (h : History) (o : Option RequestCopy) → AreOnce h.accepted → AreOnce (after_arrival c h o).accepted
-once-by c h None once = once
-once-by c h (Some x) once = ⊎_elim
+once-copy : (c : Clock) (h : History) (x : RequestCopy) → AreOnce h.accepted → AreOnce (after_copy c h x).accepted
+once-copy c h x once = ⊎_elim
     (λ (y : joins h x ≡ true).
     let above : greatest x.heard.source h.accepted < x.index = ltb-true _ _ (and_parts (x.heard.domain == h.sets.default.domain) (nat_lt (greatest x.heard.source h.accepted) x.index) y).1 in
     subst (λ (g : History). AreOnce g.accepted) (sym (cond-true _ _ _ y)) (once-joined h.accepted (accepted_from c h x) above once))
     (λ (n : joins h x ≡ false). subst (λ (g : History). AreOnce g.accepted) (sym (cond-false _ _ _ n)) once)
     (cases_Bool (joins h x))
 
-once-applied : (c : Clock) (h : History) (xs : List Delivery) → AreOnce h.accepted → AreOnce (applied_once c h xs).accepted
+once-applied : (c : Clock) (h : History) (xs : List RequestCopy) → AreOnce h.accepted → AreOnce (applied_once c h xs).accepted
 once-applied c h [] once = once
-once-applied c h (x ∷ xs) once = once-applied c (after c h x) xs (once-by c h (copy_of c h.sets x) once)
+once-applied c h (x ∷ xs) once = once-applied c (after_copy c h x) xs (once-copy c h x once)
 
 pub at_most_once : (N : Network) (w : NetworkState) (c : ℕ) → AreOnce (history N w c).accepted
-at_most_once N w c = once-applied (N.clock c) (initial_history (N.start c)) (w.arrivals c) (λ m k. omega arith)
+at_most_once N w c = once-applied (N.clock c) (initial_history (N.start c)) (copies_at N w c) (λ m k. omega arith)
 
 -- what is kept is the only entry
 first-entry : (m : PortIdentity) (k : ℕ) (es : List Accepted) (e : Accepted) → kept_reply m k es ≡ Some e → (rest : List Accepted) × (entries_of m k es ≡ e ∷ rest)
@@ -100,44 +98,45 @@ only-entry m k es e once kept = let first = first-entry m k es e kept in alone e
 
 -- ---- the moment at which a request was carried out
 
-carried_out-before : (c : Clock) (start : DataSetsValue) (xs : List Delivery) (x : Delivery) (e : Accepted) → WasCarriedOut c start xs e → WasCarriedOut c start (xs ++ x ∷ []) e
+carried_out-before : (c : Clock) (start : DataSetsValue) (xs : List RequestCopy) (x : RequestCopy) (e : Accepted) → WasCarriedOut c start xs e → WasCarriedOut c start (xs ++ x ∷ []) e
 carried_out-before c start xs x e was = record {
   before = was.before;
-  arrival = was.arrival;
-  later = was.later ++ x ∷ [];
-  came_in = ap (λ ys. ys ++ x ∷ []) was.came_in ∙ append_assoc was.before (was.arrival ∷ was.later) (x ∷ []);
   copy = was.copy;
-  is_copy = was.is_copy;
+  later = was.later ++ x ∷ [];
+  came_in = ap (λ ys. ys ++ x ∷ []) was.came_in ∙ append_assoc was.before (was.copy ∷ was.later) (x ∷ []);
   joined = was.joined;
   is = was.is;
 }
 
-abbrev AreCarriedOut : Clock → DataSetsValue → List Delivery → List Accepted → Type 0
+abbrev AreCarriedOut : Clock → DataSetsValue → List RequestCopy → List Accepted → Type 0
 AreCarriedOut c start xs es = AllByRecursion (WasCarriedOut c start xs) es
 
-carried_out-by : (c : Clock) (start : DataSetsValue) (xs : List Delivery) (x : Delivery) (o : Option RequestCopy) → copy_of c (applied_once c (initial_history start) xs).sets x ≡ o
-    → AreCarriedOut c start (xs ++ x ∷ []) (applied_once c (initial_history start) xs).accepted → AreCarriedOut c start (xs ++ x ∷ []) (after_arrival c (applied_once c (initial_history start) xs) o).accepted
-carried_out-by c start xs x None e all = all
-carried_out-by c start xs x (Some copy) e all =
+carried_out-copy : (c : Clock) (start : DataSetsValue) (xs : List RequestCopy) (x : RequestCopy) → AreCarriedOut c start (xs ++ x ∷ []) (applied_once c (initial_history start) xs).accepted
+    → AreCarriedOut c start (xs ++ x ∷ []) (after_copy c (applied_once c (initial_history start) xs) x).accepted
+carried_out-copy c start xs x all =
     let h : History = applied_once c (initial_history start) xs in
     ⊎_elim
-    (λ (y : joins h copy ≡ true). subst (λ (g : History). AreCarriedOut c start (xs ++ x ∷ []) g.accepted) (sym (cond-true _ _ _ y)) (
-      record { before = xs; arrival = x; later = []; came_in = refl; copy = copy; is_copy = e; joined = y; is = refl },
+    (λ (y : joins h x ≡ true). subst (λ (g : History). AreCarriedOut c start (xs ++ x ∷ []) g.accepted) (sym (cond-true _ _ _ y)) (
+      record { before = xs; copy = x; later = []; came_in = refl; joined = y; is = refl },
       all,
     ))
-    (λ (n : joins h copy ≡ false). subst (λ (g : History). AreCarriedOut c start (xs ++ x ∷ []) g.accepted) (sym (cond-false _ _ _ n)) all)
-    (cases_Bool (joins h copy))
+    (λ (n : joins h x ≡ false). subst (λ (g : History). AreCarriedOut c start (xs ++ x ∷ []) g.accepted) (sym (cond-false _ _ _ n)) all)
+    (cases_Bool (joins h x))
 
-abbrev AllCarriedOut : Clock → DataSetsValue → List Delivery → Type 0
+abbrev AllCarriedOut : Clock → DataSetsValue → List RequestCopy → Type 0
 AllCarriedOut c start xs = AreCarriedOut c start xs (applied_once c (initial_history start) xs).accepted
 
-carried_out-next : (c : Clock) (start : DataSetsValue) (xs : List Delivery) (x : Delivery) → AllCarriedOut c start xs → AllCarriedOut c start (xs ++ x ∷ [])
+applied_once-append : (c : Clock) (h : History) (xs : List RequestCopy) (x : RequestCopy) → applied_once c h (xs ++ x ∷ []) ≡ after_copy c (applied_once c h xs) x
+applied_once-append c h [] x = refl
+applied_once-append c h (y ∷ ys) x = applied_once-append c (after_copy c h y) ys x
+
+carried_out-next : (c : Clock) (start : DataSetsValue) (xs : List RequestCopy) (x : RequestCopy) → AllCarriedOut c start xs → AllCarriedOut c start (xs ++ x ∷ [])
 carried_out-next c start xs x all =
     let h : History = applied_once c (initial_history start) xs in
     subst (λ (g : History). AreCarriedOut c start (xs ++ x ∷ []) g.accepted) (sym (applied_once-append c (initial_history start) xs x))
-    (carried_out-by c start xs x (copy_of c h.sets x) refl (all_weaker (WasCarriedOut c start xs) (WasCarriedOut c start (xs ++ x ∷ [])) (carried_out-before c start xs x) h.accepted all))
+    (carried_out-copy c start xs x (all_weaker (WasCarriedOut c start xs) (WasCarriedOut c start (xs ++ x ∷ [])) (carried_out-before c start xs x) h.accepted all))
 
-carried_out-from : (c : Clock) (start : DataSetsValue) (xs ys : List Delivery) → AllCarriedOut c start xs → AllCarriedOut c start (xs ++ ys)
+carried_out-from : (c : Clock) (start : DataSetsValue) (xs ys : List RequestCopy) → AllCarriedOut c start xs → AllCarriedOut c start (xs ++ ys)
 carried_out-from c start xs [] all = subst (AllCarriedOut c start) (sym (append-nil xs)) all
 carried_out-from c start xs (y ∷ ys) all = subst (AllCarriedOut c start) (append_assoc xs (y ∷ []) ys) (carried_out-from c start (xs ++ y ∷ []) ys (carried_out-next c start xs y all))
 
@@ -150,9 +149,9 @@ found P test (d ∷ es) e all is = ⊎_elim
     (λ (n : test d ≡ false). found P test es e all.1 (sym (cond-false _ _ _ n) ∙ is))
     (cases_Bool (test d))
 
-carried_out : (N : Network) (w : NetworkState) (c : ℕ) (m : PortIdentity) (k : ℕ) (e : Accepted) → kept_reply m k (history N w c).accepted ≡ Some e → WasCarriedOut (N.clock c) (N.start c) (w.arrivals c) e
+carried_out : (N : Network) (w : NetworkState) (c : ℕ) (m : PortIdentity) (k : ℕ) (e : Accepted) → kept_reply m k (history N w c).accepted ≡ Some e → WasCarriedOut (N.clock c) (N.start c) (copies_at N w c) e
 carried_out N w c m k e kept =
-    found (WasCarriedOut (N.clock c) (N.start c) (w.arrivals c)) _ (history N w c).accepted e (carried_out-from (N.clock c) (N.start c) [] (w.arrivals c) tt) kept
+    found (WasCarriedOut (N.clock c) (N.start c) (copies_at N w c)) _ (history N w c).accepted e (carried_out-from (N.clock c) (N.start c) [] (copies_at N w c) tt) kept
 
 -- ---- each report tells the one answer to its request
 

@@ -12,7 +12,7 @@ use Rattle.ptpm_network.specs.Machine.{AreInTime, state_after}
 use Rattle.ptpm_network.specs.Network.{IsNetwork, Network, manager}
 use Rattle.ptpm_network.specs.Stands.{AreFirsts, Stands}
 use Rattle.ptpm_network.specs.RunningNetwork.{RunningNetwork, held}
-use Rattle.ptpm_network.specs.State.{NetworkState, accepted_at_target, greatest_accepted, initial_state, issued, outcomes_kept}
+use Rattle.ptpm_network.specs.State.{NetworkState, accepted_at_target, copies_at, greatest_accepted, initial_state, issued, outcomes_kept}
 
 -- ---- the premises
 
@@ -28,10 +28,10 @@ pub record IsPromised (N : Network) (events : List Event) : Type 0 where
 
 -- of the running network r, where the machine is in the state w
 pub record Headline (N : Network) (w : NetworkState) (r : RunningNetwork) : Type 0 where
-  -- A clock's data sets are those that it started with after the requests accepted among its arrivals, each applied once, in
-  -- order of first acceptance.
+  -- A clock's data sets are those that it started with after the requests accepted among the copies that came in at it, each
+  -- applied once, in order of first acceptance.
   pub sets : (c : ℕ) → c < N.clocks → (r.clock c).sets
-      ≡ (applied_once (N.clock c) (initial_history (N.start c)) (w.arrivals c)).sets
+      ≡ (applied_once (N.clock c) (initial_history (N.start c)) (copies_at N w c)).sets
   -- The frames are the machine's: for each delivered copy of a request the reply that is due to it, and no other.
   pub frames : r.frames ≡ map held w.frames
   -- A manager is to be told the outcomes of the replies kept for its requests, in order. Its reports are the first of these.

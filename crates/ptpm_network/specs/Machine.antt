@@ -18,7 +18,7 @@ use Rattle.ptpm_manager.specs.declared.report.Report.{Report}
 use Rattle.ptpm_manager.specs.Ask as ask
 use Rattle.ptpm_manager.specs.Report.{outcome_of}
 use Rattle.ptpm_manager.specs.Session.{due_message}
-use Rattle.ptpm_network.specs.Network.{End, AtPort, AtSession, Network, SessionStart, peers}
+use Rattle.ptpm_network.specs.Network.{End, AtPort, AtSession, Network, SessionStart, peers, ports}
 use Rattle.ptpm_network.specs.State.{Frame, Neither, NetworkState, Origin, ReplyTo, RequestOf, SessionState, frames_to, history, initial_state, is_idle, is_late, new_frames, session_value}
 use Rattle.ptpm_network.specs.Events.{Event, Begin, Send, Resume, Retune, Deliver, Stranger, Refusal, frame_at, refusal}
 
@@ -108,7 +108,7 @@ answering_frames N c h port f copy =
 abbrev pub made_frames : Network → ℕ → History → ℕ → Frame → List Frame
 made_frames N c h port f =
     forwarded_frames N c f (forwarded (N.clock c).identity port h.sets f.octets)
-    ++ answering_frames N c h port f (copy_of (N.clock c) h.sets (delivery port f))
+    ++ answering_frames N c h port f (copy_of (N.clock c) (ports N c) (delivery port f))
 
 abbrev pub arrives : NetworkState → ℕ → Delivery → NetworkState
 arrives w c x = record w { arrivals = with_place w.arrivals c (w.arrivals c ++ x ∷ []) }

@@ -1,6 +1,6 @@
 -- A running network: what its clocks and sessions can see, sequenceIds and octets; what an event does to it, and which events
 -- it refuses.
-use Rattle.std.specs.Prelude.{ℕ, not, List, [], ◌∷◌, ◌++◌, map, Option, Some, None, is_none, option_map, if◌then◌else◌}
+use Rattle.std.specs.Prelude.{ℕ, not, List, [], ◌∷◌, ◌++◌, length, map, Option, Some, None, is_none, option_map, if◌then◌else◌}
 use Rattle.std.specs.Option.{option_or}
 use Rattle.ptpm_codec.specs.declared.message.Message.{Message}
 use Rattle.ptpm_codec.specs.Canonical.{canonical}
@@ -51,7 +51,8 @@ initial_network N = record {
 abbrev pub turn_frames : Network → State → ℕ → ℕ → Frame → List Frame
 turn_frames N s c ingress f =
     forwarded_frames N c f (turn (N.clock c) s ingress f.octets).forwards
-    ++ reply_frames N c (answer_origin f.origin (copy_of (N.clock c) s.sets (delivery ingress f)))
+    ++ reply_frames N c
+    (answer_origin f.origin (copy_of (N.clock c) (length s.sets.ports) (delivery ingress f)))
     (turn (N.clock c) s ingress f.octets).replies
 
 -- a clock has taken its turn at a frame

@@ -6,11 +6,11 @@ use Rattle.ptpm_codec.specs.Layout.{boundary_hops}
 use Rattle.ptpm_data.specs.Reply.{Answer, ReplyValue}
 use Rattle.ptpm_data.specs.Request.{RequestValue}
 use Rattle.ptpm_table.specs.Rendering.{answer_body}
-use Rattle.ptpm_agent.specs.Once.{Accepted, Delivery, History, applied_once, initial_history, greatest, kept_reply}
+use Rattle.ptpm_agent.specs.Once.{Accepted, Delivery, History, RequestCopy, applied_once, copies, greatest, initial_history, kept_reply}
 use Rattle.ptpm_manager.specs.declared.report.Report.{Report}
 use Rattle.ptpm_manager.specs.Report.{outcome_of}
 use Rattle.ptpm_manager.specs.Session.{SessionValue}
-use Rattle.ptpm_network.specs.Network.{End, Network, SessionStart, manager}
+use Rattle.ptpm_network.specs.Network.{End, Network, SessionStart, manager, ports}
 
 -- ---- frames
 
@@ -87,9 +87,13 @@ issued w s = length (w.session s).begun
 
 -- ---- clocks
 
--- the data sets of a clock and all that it accepted: each accepted request of its arrivals applied once
+-- the copies of its managers' requests among what came in at a clock
+abbrev pub copies_at : Network → NetworkState → ℕ → List RequestCopy
+copies_at N w c = copies (N.clock c) (ports N c) (w.arrivals c)
+
+-- the data sets of a clock and all that it accepted: of these copies, each accepted request applied once
 abbrev pub history : Network → NetworkState → ℕ → History
-history N w c = applied_once (N.clock c) (initial_history (N.start c)) (w.arrivals c)
+history N w c = applied_once (N.clock c) (initial_history (N.start c)) (copies_at N w c)
 
 -- what was accepted at a session's target
 abbrev pub accepted_at_target : Network → NetworkState → ℕ → List Accepted

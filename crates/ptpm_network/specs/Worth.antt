@@ -6,27 +6,25 @@ use Rattle.ptpm_codec.specs.Identity.{same_identity}
 use Rattle.ptpm_data.specs.Members.{DataSetsValue}
 use Rattle.ptpm_data.specs.Reply.{Answer}
 use Rattle.ptpm_table.specs.Rendering.{answer_body}
-use Rattle.ptpm_agent.specs.Once.{Accepted, Delivery, RequestCopy, accepted_from, applied_once, initial_history, copy_of, joins}
+use Rattle.ptpm_agent.specs.Once.{Accepted, RequestCopy, accepted_from, applied_once, initial_history, joins}
 use Rattle.ptpm_agent.specs.Turn.{Clock}
 use Rattle.ptpm_manager.specs.declared.report.Report.{Report}
 use Rattle.ptpm_manager.specs.Report.{outcome_of}
 use Rattle.ptpm_network.specs.Network.{Network, manager}
-use Rattle.ptpm_network.specs.State.{NetworkState, accepted_at_target}
+use Rattle.ptpm_network.specs.State.{NetworkState, accepted_at_target, copies_at}
 
 -- what was accepted as request k of a manager: one entry for each time that it was carried out
 abbrev pub entries_of : PortIdentity → ℕ → List Accepted → List Accepted
 entries_of m k accepted = filter (λ a. same_identity m a.manager && a.index == k) accepted
 
--- The moment at which a clock carried a request out: what had come in before, the copy that joined then, and what came in
--- after it. The request is the copy's, and the reply is made of the data sets as they stood then.
-pub record WasCarriedOut (c : Clock) (start : DataSetsValue) (arrivals : List Delivery)
+-- The moment at which a clock carried a request out: the copies that had come in before, the one that joined then, and those
+-- that came in after it. The request is the copy's, and the reply is made of the data sets as they stood then.
+pub record WasCarriedOut (c : Clock) (start : DataSetsValue) (copies : List RequestCopy)
     (entry : Accepted) : Type 0 where
-  pub before : List Delivery
-  pub arrival : Delivery
-  pub later : List Delivery
-  pub came_in : arrivals ≡ before ++ arrival ∷ later
+  pub before : List RequestCopy
   pub copy : RequestCopy
-  pub is_copy : copy_of c (applied_once c (initial_history start) before).sets arrival ≡ Some copy
+  pub later : List RequestCopy
+  pub came_in : copies ≡ before ++ copy ∷ later
   pub joined : joins (applied_once c (initial_history start) before) copy ≡ true
   pub is : entry ≡ accepted_from c (applied_once c (initial_history start) before) copy
 
@@ -37,7 +35,7 @@ pub record IsWorth (N : Network) (w : NetworkState) (s : ℕ) (report : Report) 
   pub once : entries_of (manager N s) report.index (accepted_at_target N w s) ≡ entry ∷ []
   pub begun_as : slice_get (w.session s).begun (report.index - 1) ≡ Some entry.request
   pub carried_out : WasCarriedOut (N.clock (N.session s).target) (N.start (N.session s).target)
-      (w.arrivals (N.session s).target) entry
+      (copies_at N w (N.session s).target) entry
   pub answer : Answer
   pub one : entry.reply.answers ≡ answer ∷ []
   pub outcome : report.outcome

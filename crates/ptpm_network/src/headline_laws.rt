@@ -6,14 +6,14 @@ ghost use Rattle.std.specs.List.{AllByRecursion, Contains};
 ghost use Rattle.ptpm_codec.specs.declared.error.ErrorId.{ErrorId};
 ghost use Rattle.ptpm_data.specs.Reply.{Answer, Refused, ReplyValue};
 ghost use Rattle.ptpm_agent.specs.Laws.{due_messages};
-ghost use Rattle.ptpm_agent.specs.Once.{Accepted, Delivery, History, RequestCopy, after, copy_of, due_reply, greatest, kept_reply};
+ghost use Rattle.ptpm_agent.specs.Once.{Accepted, Delivery, History, RequestCopy, after_copy, copy_of, due_reply, greatest, kept_reply};
 ghost use Rattle.ptpm_agent.specs.Turn.{Clock};
 ghost use Rattle.ptpm_network.specs.Copies.{IsCopyAt};
 ghost use Rattle.ptpm_network.specs.Events.{Deliver, Event, IsInRange, Refusal, Stranger, refusal};
 ghost use Rattle.ptpm_network.specs.RunningNetwork.{RunningNetwork, initial_network, network_refusal, network_run, network_step};
 ghost use Rattle.ptpm_network.specs.Headline.{Headline, StandsAfter};
-ghost use Rattle.ptpm_network.specs.Machine.{AreInTime, happens, is_late_delivery, reply_frames, reply_origin, state_after, step, taken};
-ghost use Rattle.ptpm_network.specs.Network.{IsNetwork, Network};
+ghost use Rattle.ptpm_network.specs.Machine.{AreInTime, arrives, happens, is_late_delivery, reply_frames, reply_origin, state_after, step, taken};
+ghost use Rattle.ptpm_network.specs.Network.{IsNetwork, Network, ports};
 ghost use Rattle.ptpm_network.specs.State.{Frame, NetworkState, history};
 
 /// The headline. However a network loses, repeats, reorders or duplicates messages, if none arrives after more than 32,768 later
@@ -81,11 +81,17 @@ pub fn strangers_change_nothing()
 /// Refused SETs change no data set, nor does any other request of which an answer is an error; and what is no numbered copy of
 /// a request leaves all that a clock has.
 pub fn refused_requests_change_no_data()
-    ensures refused { (c : Clock) (h : History) (x : Delivery) (copy : RequestCopy) (r : ReplyValue)
-        (a : Answer) (error : ErrorId) →
-        copy_of c h.sets x ≡ Some copy → due_reply c h copy ≡ Some r →
+    ensures refused { (c : Clock) (h : History) (copy : RequestCopy) (r : ReplyValue) (a : Answer)
+        (error : ErrorId) →
+        due_reply c h copy ≡ Some r → Contains r.answers a → a.outcome ≡ Refused error →
+        (after_copy c h copy).sets ≡ h.sets }
+    ensures delivered { (N : Network) (w : NetworkState) (c : ℕ) (x : Delivery) (copy : RequestCopy)
+        (r : ReplyValue) (a : Answer) (error : ErrorId) →
+        copy_of (N.clock c) (ports N c) x ≡ Some copy →
+        due_reply (N.clock c) (history N w c) copy ≡ Some r →
         Contains r.answers a → a.outcome ≡ Refused error →
-        (after c h x).sets ≡ h.sets }
-    ensures no_copy { (c : Clock) (h : History) (x : Delivery) → copy_of c h.sets x ≡ None
-        → after c h x ≡ h }
+        (history N (arrives w c x) c).sets ≡ (history N w c).sets }
+    ensures no_copy { (N : Network) (w : NetworkState) (c : ℕ) (x : Delivery) →
+        copy_of (N.clock c) (ports N c) x ≡ None →
+        history N (arrives w c x) c ≡ history N w c }
 {}

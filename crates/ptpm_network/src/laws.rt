@@ -9,7 +9,7 @@ ghost use Rattle.ptpm_agent.specs.Forwarding.{forwarded};
 ghost use Rattle.ptpm_agent.specs.Laws.{StandsAt, initial_clock_state, turns};
 ghost use Rattle.ptpm_agent.specs.Once.{Accepted, History, RequestCopy, initial_history, copy_of, kept_reply};
 ghost use Rattle.ptpm_agent.specs.Turn.{Clock, State, turn};
-ghost use Rattle.ptpm_agent.specs.Window.{IsInTime, KeepsWindow};
+ghost use Rattle.ptpm_agent.specs.Window.{AreNumbered, IsInTime, KeepsWindow};
 ghost use Rattle.ptpm_manager.specs.declared.receiving.Received.TheVariants as received;
 ghost use Rattle.ptpm_manager.specs.declared.report.Report.{Report};
 ghost use Rattle.ptpm_manager.specs.Receiving.{received_of};
@@ -17,9 +17,9 @@ ghost use Rattle.ptpm_network.specs.Events.{Event, IsInRange, frame_at, refusal}
 ghost use Rattle.ptpm_network.specs.RunningNetwork.{RunningNetwork, after_turn, initial_network, network_refusal, network_run, network_step};
 ghost use Rattle.ptpm_network.specs.Invariant.{IsReached};
 ghost use Rattle.ptpm_network.specs.Machine.{AreInTime, answer_messages, delivered_at_clock, delivery, happens, is_late_delivery, report_from, run, state_after, taken};
-ghost use Rattle.ptpm_network.specs.Network.{AtPort, AtSession, IsNetwork, Network, manager};
+ghost use Rattle.ptpm_network.specs.Network.{AtPort, AtSession, IsNetwork, Network, manager, ports};
 ghost use Rattle.ptpm_network.specs.Stands.{AreFirsts, Stands};
-ghost use Rattle.ptpm_network.specs.State.{Frame, NetworkState, accepted_at_target, greatest_accepted, history, initial_state, is_late, issued, outcomes_kept, session_value};
+ghost use Rattle.ptpm_network.specs.State.{Frame, NetworkState, accepted_at_target, copies_at, greatest_accepted, history, initial_state, is_late, issued, outcomes_kept, session_value};
 
 /// The invariant holds after every list of events, late deliveries among them.
 pub fn every_schedule()
@@ -82,7 +82,8 @@ pub fn at_most_225_frames()
 
 /// The window of 65,536 sequenceIds in which a clock tells new requests from old is never left:
 /// - a copy of a manager's request that is not late lies in it, whatever came before;
-/// - where no delivery of a list of events was late, so do all arrivals of each clock;
+/// - each copy that came in at a clock has the sequenceId that its index gives, late or not;
+/// - where no delivery of a list of events was late, all of them lie in the window;
 /// - then a clock that takes its turn at each of them has the data sets after its managers' accepted requests, each applied
 ///   once, in order of first acceptance.
 pub fn in_the_window()
@@ -92,14 +93,16 @@ pub fn in_the_window()
         AreFirsts N first →
         frame_at (state_after N es).frames n ≡ Some f → f.end ≡ AtPort c port
         → is_late (state_after N es) f.origin ≡ false →
-        copy_of (N.clock c) (history N (state_after N es) c).sets (delivery port f) ≡ Some copy →
+        copy_of (N.clock c) (ports N c) (delivery port f) ≡ Some copy →
         IsInTime first (history N (state_after N es) c) copy }
-    ensures arrivals { (N : Network) (es : List Event) (first : PortIdentity → ℕ) (c : ℕ) →
+    ensures numbered { (N : Network) (es : List Event) (first : PortIdentity → ℕ) (c : ℕ) →
         IsNetwork N → AllByRecursion IsInRange es →
-        AreFirsts N first →
+        AreFirsts N first → c < N.clocks →
+        AreNumbered first (copies_at N (state_after N es) c) }
+    ensures copies { (N : Network) (es : List Event) (c : ℕ) →
+        IsNetwork N → AllByRecursion IsInRange es →
         AreInTime N (initial_state N) es → c < N.clocks →
-        KeepsWindow (N.clock c) first (initial_history (N.start c))
-        ((state_after N es).arrivals c) }
+        KeepsWindow (N.clock c) (initial_history (N.start c)) (copies_at N (state_after N es) c) }
     ensures sets { (N : Network) (es : List Event) (first : PortIdentity → ℕ) (c : ℕ) →
         IsNetwork N → AllByRecursion IsInRange es →
         AreFirsts N first →
@@ -116,9 +119,10 @@ pub fn outbox_of_turns()
         (turn c s ingress f.octets).forwards ≡ forwarded c.identity ingress h.sets f.octets }
     ensures replies { (c : Clock) (first : PortIdentity → ℕ) (s : State) (h : History) (ingress : ℕ)
         (f : Frame) → StandsAt first s h →
-        ((k : RequestCopy) → copy_of c h.sets (delivery ingress f) ≡ Some k → IsInTime first h k) →
-        (turn c s ingress f.octets).replies
-        ≡ answer_messages c h ingress f.octets (copy_of c h.sets (delivery ingress f)) }
+        ((k : RequestCopy) → copy_of c (length h.sets.ports) (delivery ingress f) ≡ Some k →
+        IsInTime first h k) →
+        (turn c s ingress f.octets).replies ≡ answer_messages c h ingress f.octets
+        (copy_of c (length h.sets.ports) (delivery ingress f)) }
 {}
 
 /// A running network, whose clocks tell requests apart by sequenceIds, stands where the machine stands: as both start, and,

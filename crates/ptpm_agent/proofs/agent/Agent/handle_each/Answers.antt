@@ -1,8 +1,9 @@
 use Rattle.std.proofs.Common.{◌≡◌, ℕ, List, [], ◌∷◌, ◌++◌, ◌<◌, ◌≤◌, ◌+◌, arith, length, take, refl, sym, ◌∙◌, ap, subst}
 use Rattle.std.proofs.lemmas.List.{take_all, take_more}
+use Rattle.ptpm_codec.specs.declared.identity.PortIdentity.{PortIdentity}
 use Rattle.ptpm_data.specs.Members.{DataSetsValue, HasPort}
 use Rattle.ptpm_agent.specs.Laws.{StandsAt, after_each, datagrams_of, last_sent}
-use Rattle.ptpm_agent.specs.Once.{applied_once}
+use Rattle.ptpm_agent.specs.Once.{History, applied_once, copies}
 use Rattle.ptpm_agent.specs.Turn.{State, Turned, outbox_of, turn}
 use Rattle.ptpm_agent.proofs.AtMostOnce.{outbox_due-at, stands_turns}
 use Rattle.ptpm_agent.proofs.Lists.{after_each-append, after_each-datagrams, datagrams_of-append, last_sent-append, state_after}
@@ -53,6 +54,10 @@ loop-place-preserved g c =
           ∙ sym (ap (λ xs. last_sent clock old c.args.out.now xs) more ∙ last_sent-append clock old c.args.out.now front item);
     }
 
+-- a clock has as many ports as where it stands
+as_many : (first : PortIdentity → ℕ) (s : State) (h : History) → StandsAt first s h → length h.sets.ports ≡ length s.sets.ports
+as_many first s h at = ap (λ (d : DataSetsValue). length d.ports) (sym at.sets)
+
 pub returns-clause-turned : goal.returns-clause-turned
 returns-clause-turned g c =
     let clock = g.T.ReplyTable.owner c.args.self.now.table in
@@ -69,17 +74,18 @@ returns-clause-sent g c =
     ∙ ap (λ xs. last_sent clock old c.args.out.now xs) (take_all c.loop-place.place c.args.datagrams.now past)
 
 pub returns-clause-once : goal.returns-clause-once
-returns-clause-once g c = λ first h xs is at window.
+returns-clause-once g c = λ first h xs is at numbered window.
     let clock = g.T.ReplyTable.owner c.args.self.now.table in
     let old : State = record { sets = c.args.self.now.sets; entries = g.T.ReplyTable.entries c.args.self.now.table } in
     let past : length c.args.datagrams.now ≤ c.loop-place.place = omega arith in
     let whole = take_all c.loop-place.place c.args.datagrams.now past in
-    subst (λ (s : State). StandsAt first s (applied_once clock h xs))
+    let ports = length old.sets.ports in
+    subst (λ (s : State). StandsAt first s (applied_once clock h (copies clock ports xs)))
     (sym (c.loop-place.invariant.turned ∙ ap (λ ds. after_each clock old ds) (whole ∙ is) ∙ after_each-datagrams clock old xs))
-    (stands_turns first clock old h xs at window)
+    (stands_turns first clock ports old h xs (as_many first old h at) at numbered window)
 
 pub returns-clause-due : goal.returns-clause-due
-returns-clause-due g c = λ first h xs x k is at window copy.
+returns-clause-due g c = λ first h xs x k is at copy numbered window.
     let clock = g.T.ReplyTable.owner c.args.self.now.table in
     let old : State = record { sets = c.args.self.now.sets; entries = g.T.ReplyTable.entries c.args.self.now.table } in
     let past : length c.args.datagrams.now ≤ c.loop-place.place = omega arith in
@@ -88,7 +94,7 @@ returns-clause-due g c = λ first h xs x k is at window copy.
     ∙ ap (λ ds. last_sent clock old c.args.out.now ds) (whole ∙ is ∙ datagrams_of-append xs x)
     ∙ last_sent-append clock old c.args.out.now (datagrams_of xs) (x.ingress, x.datagram)
     ∙ ap (λ (s : State). outbox_of (turn clock s x.ingress x.datagram)) (after_each-datagrams clock old xs)
-    ∙ outbox_due-at clock first old h xs x k at window copy
+    ∙ outbox_due-at clock first (length old.sets.ports) old h xs x k (as_many first old h at) at copy numbered window
 
 pub returns-clause-clock : goal.returns-clause-clock
 returns-clause-clock g c = c.loop-place.invariant.clock
