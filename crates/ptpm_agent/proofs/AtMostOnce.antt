@@ -38,17 +38,25 @@ pub record DeliversCopy (c : Clock) (ports : ℕ) (x : Delivery) (k : RequestCop
   pub passes : is_copy c ports message ≡ true
   pub copy : copy_from x message ≡ k
 
-delivers_by : (c : Clock) (ports : ℕ) (x : Delivery) (k : RequestCopy) (o : Option Message) → message_of x.datagram ≡ o → copy_by c ports x o ≡ Some k → DeliversCopy c ports x k
+delivers_by : (c : Clock) (ports : ℕ) (x : Delivery) (k : RequestCopy) (o : Option Message)
+    → message_of x.datagram ≡ o
+    → copy_by c ports x o ≡ Some k
+    → DeliversCopy c ports x k
 delivers_by c ports x k None r e = absurd (none-some k e)
 delivers_by c ports x k (Some v) r e =
     let parts = cond_some (is_copy c ports v) (copy_from x v) k e in
     record { message = v; read = r; passes = parts.0; copy = parts.1 }
 
-pub delivers_copy : (c : Clock) (ports : ℕ) (x : Delivery) (k : RequestCopy) → copy_of c ports x ≡ Some k → DeliversCopy c ports x k
+pub delivers_copy : (c : Clock) (ports : ℕ) (x : Delivery) (k : RequestCopy)
+    → copy_of c ports x ≡ Some k
+    → DeliversCopy c ports x k
 delivers_copy c ports x k e = delivers_by c ports x k (message_of x.datagram) refl e
 
 -- the message of a delivery that is no copy
-pub no_copy : (c : Clock) (ports : ℕ) (x : Delivery) (v : Message) → copy_of c ports x ≡ None → message_of x.datagram ≡ Some v → is_copy c ports v ≡ false
+pub no_copy : (c : Clock) (ports : ℕ) (x : Delivery) (v : Message)
+    → copy_of c ports x ≡ None
+    → message_of x.datagram ≡ Some v
+    → is_copy c ports v ≡ false
 no_copy c ports x v none r = ⊎_elim
     (λ (y : is_copy c ports v ≡ true). absurd (none-some (copy_from x v) (sym none ∙ (ap (copy_by c ports x) r ∙ cond-true _ _ _ y))))
     (λ (n : is_copy c ports v ≡ false). n) (cases_Bool (is_copy c ports v))
@@ -61,11 +69,21 @@ pub record Goes (first : PortIdentity → ℕ) (c : Clock) (s : State) (h : Hist
   pub reply : reply_by w c s v ≡ due_reply c h (copy_from x v)
   pub stays : joins h (copy_from x v) ≡ false → next_by w c s v ≡ s
 
-goes_at : (first : PortIdentity → ℕ) (c : Clock) (s : State) (h : History) (x : Delivery) (v : Message) (u w : Verdict) → u ≡ w → Goes first c s h x v w → Goes first c s h x v u
+goes_at : (first : PortIdentity → ℕ) (c : Clock) (s : State) (h : History) (x : Delivery)
+    (v : Message) (u w : Verdict)
+    → u ≡ w
+    → Goes first c s h x v w
+    → Goes first c s h x v u
 goes_at first c s h x v u w e goes = subst (λ (t : Verdict). Goes first c s h x v t) (sym e) goes
 
 -- a new request
-goes_new : (first : PortIdentity → ℕ) (c : Clock) (s : State) (h : History) (x : Delivery) (v : Message) → StandsAt first s h → IsNumbered first (copy_from x v) → v.domain == h.sets.default.domain ≡ true → greatest v.source h.accepted < x.index → Goes first c s h x v verdicts.AnsweredNew
+goes_new : (first : PortIdentity → ℕ) (c : Clock) (s : State) (h : History) (x : Delivery)
+    (v : Message)
+    → StandsAt first s h
+    → IsNumbered first (copy_from x v)
+    → v.domain == h.sets.default.domain ≡ true
+    → greatest v.source h.accepted < x.index
+    → Goes first c s h x v verdicts.AnsweredNew
 goes_new first c s h x v at n d above =
     let j : joins h (copy_from x v) ≡ true = and_from _ _ d (lt-ltb _ _ above) in
     record {
@@ -75,7 +93,13 @@ goes_new first c s h x v at n d above =
     }
 
 -- a verdict that changes nothing
-goes_still : (first : PortIdentity → ℕ) (c : Clock) (s : State) (h : History) (x : Delivery) (v : Message) (w : Verdict) → next_by w c s v ≡ s → StandsAt first s h → joins h (copy_from x v) ≡ false → reply_by w c s v ≡ due_reply c h (copy_from x v) → Goes first c s h x v w
+goes_still : (first : PortIdentity → ℕ) (c : Clock) (s : State) (h : History) (x : Delivery)
+    (v : Message) (w : Verdict)
+    → next_by w c s v ≡ s
+    → StandsAt first s h
+    → joins h (copy_from x v) ≡ false
+    → reply_by w c s v ≡ due_reply c h (copy_from x v)
+    → Goes first c s h x v w
 goes_still first c s h x v w stays at j reply = record {
   stands = subst (λ (t : State). StandsAt first t (after_copy c h (copy_from x v))) (sym stays)
       (subst (StandsAt first s) (sym (cond-false _ _ _ j)) at);
@@ -85,15 +109,24 @@ goes_still first c s h x v w stays at j reply = record {
 
 -- ---- what is due
 
-joins-below : (h : History) (k : RequestCopy) → k.index ≤ greatest k.heard.source h.accepted → joins h k ≡ false
+joins-below : (h : History) (k : RequestCopy)
+    → k.index ≤ greatest k.heard.source h.accepted
+    → joins h k ≡ false
 joins-below h k le = and_right _ _ (le-ltb _ _ le)
 
 -- nothing is due to a copy that neither joins nor has the greatest index
-due_reply-none : (c : Clock) (h : History) (k : RequestCopy) → joins h k ≡ false → (greatest k.heard.source h.accepted ≡ k.index → ⊥) → due_reply c h k ≡ None
+due_reply-none : (c : Clock) (h : History) (k : RequestCopy)
+    → joins h k ≡ false
+    → (greatest k.heard.source h.accepted ≡ k.index → ⊥)
+    → due_reply c h k ≡ None
 due_reply-none c h k j other = cond-false _ _ _ j ∙ cond-false _ _ _ (ne_eqb (greatest k.heard.source h.accepted) k.index other)
 
 -- to one that has it, what is kept of the latest request is due, where it is a copy of that
-due_reply-kept : (first : PortIdentity → ℕ) (c : Clock) (h : History) (k : RequestCopy) (e : Entry) → joins h k ≡ false → greatest k.heard.source h.accepted ≡ k.index → IsLatest first h k.heard.source e → due_reply c h k ≡ kept_for k (Some (accepted_at k.heard.source k.index e))
+due_reply-kept : (first : PortIdentity → ℕ) (c : Clock) (h : History) (k : RequestCopy) (e : Entry)
+    → joins h k ≡ false
+    → greatest k.heard.source h.accepted ≡ k.index
+    → IsLatest first h k.heard.source e
+    → due_reply c h k ≡ kept_for k (Some (accepted_at k.heard.source k.index e))
 due_reply-kept first c h k e j same latest =
     let kept : kept_reply k.heard.source k.index h.accepted ≡ Some (accepted_at k.heard.source k.index e) =
     subst (λ i. kept_reply k.heard.source i h.accepted ≡ Some (accepted_at k.heard.source i e)) same latest.kept in
@@ -111,20 +144,32 @@ order_of-older : (g k : ℕ) → k < g → order_of g k ≡ Older
 order_of-older g k l = grind (arith, nat_tests)
 
 -- it tells the order of the indexes
-serial_of-copy : (first : PortIdentity → ℕ) (h : History) (k : RequestCopy) (e : Entry) → IsInTime first h k → IsLatest first h k.heard.source e → serial_of e.number k.heard.number ≡ order_of (greatest k.heard.source h.accepted) k.index
+serial_of-copy : (first : PortIdentity → ℕ) (h : History) (k : RequestCopy) (e : Entry)
+    → IsInTime first h k
+    → IsLatest first h k.heard.source e
+    → serial_of e.number k.heard.number ≡ order_of (greatest k.heard.source h.accepted) k.index
 serial_of-copy first h k e time latest =
     ap (λ n. serial_of n k.heard.number) latest.number
     ∙ (ap (serial_of (number_of (first k.heard.source) (greatest k.heard.source h.accepted))) time.numbered.number
     ∙ serial_of-number_of (first k.heard.source) (greatest k.heard.source h.accepted) k.index latest.some time.numbered.positive (time.window latest.some))
 
 -- where nothing of the manager was accepted, a copy is new
-above_none : (first : PortIdentity → ℕ) (h : History) (k : RequestCopy) → IsInTime first h k → greatest k.heard.source h.accepted ≡ 0 → greatest k.heard.source h.accepted < k.index
+above_none : (first : PortIdentity → ℕ) (h : History) (k : RequestCopy)
+    → IsInTime first h k
+    → greatest k.heard.source h.accepted ≡ 0
+    → greatest k.heard.source h.accepted < k.index
 above_none first h k time none = omega (arith, none, time.numbered.positive)
 
 -- ---- a copy
 
 -- the latest request once more, or another under its number
-goes_same : (first : PortIdentity → ℕ) (c : Clock) (s : State) (h : History) (x : Delivery) (v : Message) (e : Entry) → StandsAt first s h → get s.entries v.source ≡ Some e → IsLatest first h v.source e → greatest v.source h.accepted ≡ x.index → Goes first c s h x v (verdict_at (look_by Same (same_request e.request (request_of v))))
+goes_same : (first : PortIdentity → ℕ) (c : Clock) (s : State) (h : History) (x : Delivery)
+    (v : Message) (e : Entry)
+    → StandsAt first s h
+    → get s.entries v.source ≡ Some e
+    → IsLatest first h v.source e
+    → greatest v.source h.accepted ≡ x.index
+    → Goes first c s h x v (verdict_at (look_by Same (same_request e.request (request_of v))))
 goes_same first c s h x v e at g latest same =
     let k : RequestCopy = copy_from x v in
     let j : joins h k ≡ false = joins-below h k (omega arith) in
@@ -140,7 +185,17 @@ goes_same first c s h x v e at g latest same =
     (cases_Bool (same_request e.request (request_of v)))
 
 -- a copy in the clock's domain, by the order of its index
-goes_by_order : (first : PortIdentity → ℕ) (c : Clock) (s : State) (h : History) (x : Delivery) (v : Message) (e : Entry) → StandsAt first s h → IsInTime first h (copy_from x v) → v.domain == h.sets.default.domain ≡ true → get s.entries v.source ≡ Some e → IsLatest first h v.source e → Goes first c s h x v (verdict_at (look_by (order_of (greatest v.source h.accepted) x.index) (same_request e.request (request_of v))))
+goes_by_order : (first : PortIdentity → ℕ) (c : Clock) (s : State) (h : History) (x : Delivery)
+    (v : Message) (e : Entry)
+    → StandsAt first s h
+    → IsInTime first h (copy_from x v)
+    → v.domain == h.sets.default.domain ≡ true
+    → get s.entries v.source ≡ Some e
+    → IsLatest first h v.source e
+    → Goes first c s h x v
+    (verdict_at
+    (look_by (order_of (greatest v.source h.accepted) x.index)
+    (same_request e.request (request_of v))))
 goes_by_order first c s h x v e at time d g latest =
     let by : (o : Serial) → order_of (greatest v.source h.accepted) x.index ≡ o → Goes first c s h x v (verdict_at (look_by o (same_request e.request (request_of v)))) → Goes first c s h x v (verdict_at (look_by (order_of (greatest v.source h.accepted) x.index) (same_request e.request (request_of v)))) =
     λ o q goes. goes_at first c s h x v _ _ (ap (λ (r : Serial). verdict_at (look_by r (same_request e.request (request_of v)))) q) goes in
@@ -156,7 +211,14 @@ goes_by_order first c s h x v e at time d g latest =
     (cases_order (greatest v.source h.accepted) x.index)
 
 -- a copy in the clock's domain
-goes_at_home : (first : PortIdentity → ℕ) (c : Clock) (s : State) (h : History) (x : Delivery) (v : Message) (o : Option Entry) → StandsAt first s h → IsInTime first h (copy_from x v) → v.domain == h.sets.default.domain ≡ true → get s.entries v.source ≡ o → IsKept first h v.source o → Goes first c s h x v (verdict_at (look_at o v.number (request_of v)))
+goes_at_home : (first : PortIdentity → ℕ) (c : Clock) (s : State) (h : History) (x : Delivery)
+    (v : Message) (o : Option Entry)
+    → StandsAt first s h
+    → IsInTime first h (copy_from x v)
+    → v.domain == h.sets.default.domain ≡ true
+    → get s.entries v.source ≡ o
+    → IsKept first h v.source o
+    → Goes first c s h x v (verdict_at (look_at o v.number (request_of v)))
 goes_at_home first c s h x v None at time d g none = goes_new first c s h x v at time.numbered d (above_none first h (copy_from x v) time none)
 goes_at_home first c s h x v (Some e) at time d g latest =
     goes_at first c s h x v _ _
@@ -164,12 +226,25 @@ goes_at_home first c s h x v (Some e) at time d g latest =
     (goes_by_order first c s h x v e at time d g latest)
 
 -- the class of a repeat's number
-repeat_class : (first : PortIdentity → ℕ) (h : History) (x : Delivery) (v : Message) (e : Entry) (o : Serial) → IsInTime first h (copy_from x v) → IsLatest first h v.source e → order_of (greatest v.source h.accepted) x.index ≡ o → is_repeat (look_at (Some e) v.number (request_of v)) ≡ is_repeat (look_by o (same_request e.request (request_of v)))
+repeat_class : (first : PortIdentity → ℕ) (h : History) (x : Delivery) (v : Message) (e : Entry)
+    (o : Serial)
+    → IsInTime first h (copy_from x v)
+    → IsLatest first h v.source e
+    → order_of (greatest v.source h.accepted) x.index ≡ o
+    → is_repeat (look_at (Some e) v.number (request_of v))
+    ≡ is_repeat (look_by o (same_request e.request (request_of v)))
 repeat_class first h x v e o time latest q =
     ap (λ (r : Serial). is_repeat (look_by r (same_request e.request (request_of v)))) (serial_of-copy first h (copy_from x v) e time latest ∙ q)
 
 -- a repeat, in whatever domain
-goes_repeat : (first : PortIdentity → ℕ) (c : Clock) (s : State) (h : History) (x : Delivery) (v : Message) (o : Option Entry) → StandsAt first s h → IsInTime first h (copy_from x v) → is_repeat (look_at o v.number (request_of v)) ≡ true → get s.entries v.source ≡ o → IsKept first h v.source o → Goes first c s h x v (verdict_at (look_at o v.number (request_of v)))
+goes_repeat : (first : PortIdentity → ℕ) (c : Clock) (s : State) (h : History) (x : Delivery)
+    (v : Message) (o : Option Entry)
+    → StandsAt first s h
+    → IsInTime first h (copy_from x v)
+    → is_repeat (look_at o v.number (request_of v)) ≡ true
+    → get s.entries v.source ≡ o
+    → IsKept first h v.source o
+    → Goes first c s h x v (verdict_at (look_at o v.number (request_of v)))
 goes_repeat first c s h x v None at time y g none = absurd (false≢true y)
 goes_repeat first c s h x v (Some e) at time y g latest =
     ⊎_elim
@@ -187,7 +262,13 @@ conflict true n = absurd (true≢false n)
 conflict false n = refl
 
 -- nothing is due to a copy of another domain that is no repeat
-due_reply-elsewhere : (first : PortIdentity → ℕ) (c : Clock) (s : State) (h : History) (x : Delivery) (v : Message) (o : Option Entry) → IsInTime first h (copy_from x v) → joins h (copy_from x v) ≡ false → is_repeat (look_at o v.number (request_of v)) ≡ false → IsKept first h v.source o → due_reply c h (copy_from x v) ≡ None
+due_reply-elsewhere : (first : PortIdentity → ℕ) (c : Clock) (s : State) (h : History)
+    (x : Delivery) (v : Message) (o : Option Entry)
+    → IsInTime first h (copy_from x v)
+    → joins h (copy_from x v) ≡ false
+    → is_repeat (look_at o v.number (request_of v)) ≡ false
+    → IsKept first h v.source o
+    → due_reply c h (copy_from x v) ≡ None
 due_reply-elsewhere first c s h x v None time j n none =
     due_reply-none c h (copy_from x v) j (λ (q : greatest v.source h.accepted ≡ x.index). omega (arith, none, time.numbered.positive))
 due_reply-elsewhere first c s h x v (Some e) time j n latest =
@@ -198,13 +279,24 @@ due_reply-elsewhere first c s h x v (Some e) time j n latest =
     (λ (other : greatest v.source h.accepted ≡ x.index → ⊥). due_reply-none c h (copy_from x v) j other)
     (cases_eq (greatest v.source h.accepted) x.index)
 
-goes_elsewhere : (first : PortIdentity → ℕ) (c : Clock) (s : State) (h : History) (x : Delivery) (v : Message) → StandsAt first s h → IsInTime first h (copy_from x v) → v.domain == h.sets.default.domain ≡ false → is_repeat (look_at (get s.entries v.source) v.number (request_of v)) ≡ false → Goes first c s h x v verdicts.OtherDomain
+goes_elsewhere : (first : PortIdentity → ℕ) (c : Clock) (s : State) (h : History) (x : Delivery)
+    (v : Message)
+    → StandsAt first s h
+    → IsInTime first h (copy_from x v)
+    → v.domain == h.sets.default.domain ≡ false
+    → is_repeat (look_at (get s.entries v.source) v.number (request_of v)) ≡ false
+    → Goes first c s h x v verdicts.OtherDomain
 goes_elsewhere first c s h x v at time d n =
     let j : joins h (copy_from x v) ≡ false = and_left _ _ d in
     goes_still first c s h x v verdicts.OtherDomain refl at j
     (sym (due_reply-elsewhere first c s h x v (get s.entries v.source) time j n (at.entries v.source)))
 
-goes_copy : (first : PortIdentity → ℕ) (c : Clock) (s : State) (h : History) (x : Delivery) (v : Message) → StandsAt first s h → is_copy c (length h.sets.ports) v ≡ true → IsInTime first h (copy_from x v) → Goes first c s h x v (judged c s v)
+goes_copy : (first : PortIdentity → ℕ) (c : Clock) (s : State) (h : History) (x : Delivery)
+    (v : Message)
+    → StandsAt first s h
+    → is_copy c (length h.sets.ports) v ≡ true
+    → IsInTime first h (copy_from x v)
+    → Goes first c s h x v (judged c s v)
 goes_copy first c s h x v at y time =
     let parts : CopyParts c (length s.sets.ports) v = copy_parts c (length s.sets.ports) v (subst (λ (d : DataSetsValue). is_copy c (length d.ports) v ≡ true) (sym at.sets) y) in
     let home : v.domain == s.sets.default.domain ≡ v.domain == h.sets.default.domain = ap (λ (d : DataSetsValue). v.domain == d.default.domain) at.sets in
@@ -232,7 +324,13 @@ pub record TurnsAs (first : PortIdentity → ℕ) (c : Clock) (s : State) (h : H
   pub forwards : (turn c s x.ingress x.datagram).forwards ≡ []
   pub stays : joins h k ≡ false → (turn c s x.ingress x.datagram).next ≡ s
 
-turns_as_message : (first : PortIdentity → ℕ) (c : Clock) (s : State) (h : History) (x : Delivery) (v : Message) → StandsAt first s h → message_of x.datagram ≡ Some v → is_copy c (length h.sets.ports) v ≡ true → IsInTime first h (copy_from x v) → TurnsAs first c s h x (copy_from x v)
+turns_as_message : (first : PortIdentity → ℕ) (c : Clock) (s : State) (h : History) (x : Delivery)
+    (v : Message)
+    → StandsAt first s h
+    → message_of x.datagram ≡ Some v
+    → is_copy c (length h.sets.ports) v ≡ true
+    → IsInTime first h (copy_from x v)
+    → TurnsAs first c s h x (copy_from x v)
 turns_as_message first c s h x v at r y time =
     let goes : Goes first c s h x v (judged c s v) = goes_copy first c s h x v at y time in
     let t : turn c s x.ingress x.datagram ≡ turn_by c s x.ingress x.datagram (Ok v) = turn-message c s x.ingress x.datagram v r in
@@ -243,44 +341,64 @@ turns_as_message first c s h x v at r y time =
       stays = λ j. ap (λ (u : Turned). u.next) t ∙ goes.stays j;
     }
 
-pub turns_as : (first : PortIdentity → ℕ) (c : Clock) (s : State) (h : History) (x : Delivery) (k : RequestCopy) → StandsAt first s h → copy_of c (length h.sets.ports) x ≡ Some k → IsInTime first h k → TurnsAs first c s h x k
+pub turns_as : (first : PortIdentity → ℕ) (c : Clock) (s : State) (h : History) (x : Delivery)
+    (k : RequestCopy)
+    → StandsAt first s h
+    → copy_of c (length h.sets.ports) x ≡ Some k
+    → IsInTime first h k
+    → TurnsAs first c s h x k
 turns_as first c s h x k at e time =
     let copy = delivers_copy c (length h.sets.ports) x k e in
     subst (λ (j : RequestCopy). TurnsAs first c s h x j) copy.copy
     (turns_as_message first c s h x copy.message at copy.read copy.passes (subst (λ (j : RequestCopy). IsInTime first h j) (sym copy.copy) time))
 
 -- any other delivery changes nothing
-pub turn-no_copy : (c : Clock) (s : State) (x : Delivery) → copy_of c (length s.sets.ports) x ≡ None → (turn c s x.ingress x.datagram).next ≡ s
+pub turn-no_copy : (c : Clock) (s : State) (x : Delivery)
+    → copy_of c (length s.sets.ports) x ≡ None
+    → (turn c s x.ingress x.datagram).next ≡ s
 turn-no_copy c s x none =
     turn-next (λ (n : State). n ≡ s) c s x.ingress x.datagram refl (λ v r. next_by-no_copy c s v (no_copy c (length s.sets.ports) x v none r))
 
 -- ---- lists
 
-pub stands-initial_history : (first : PortIdentity → ℕ) (d : DataSetsValue) → StandsAt first (initial_clock_state d) (initial_history d)
+pub stands-initial_history : (first : PortIdentity → ℕ) (d : DataSetsValue)
+    → StandsAt first (initial_clock_state d) (initial_history d)
 stands-initial_history first d = record {
   sets = refl;
   entries = λ m. subst (λ (o : Option Entry). IsKept first (initial_history d) m o) (sym (get-empty identity_cmp m)) refl;
 }
 
 -- what was accepted leaves as many ports
-after_copy-ports : (c : Clock) (h : History) (k : RequestCopy) → length (after_copy c h k).sets.ports ≡ length h.sets.ports
+after_copy-ports : (c : Clock) (h : History) (k : RequestCopy)
+    → length (after_copy c h k).sets.ports ≡ length h.sets.ports
 after_copy-ports c h k = ⊎_elim
     (λ (y : joins h k ≡ true).
     ap (λ (g : History). length g.sets.ports) (cond-true _ _ _ y) ∙ changed_by-ports k.request (c.rights k.heard.source) h.sets)
     (λ (n : joins h k ≡ false). ap (λ (g : History). length g.sets.ports) (cond-false _ _ _ n))
     (cases_Bool (joins h k))
 
-pub applied_once-ports : (c : Clock) (h : History) (ks : List RequestCopy) → length (applied_once c h ks).sets.ports ≡ length h.sets.ports
+pub applied_once-ports : (c : Clock) (h : History) (ks : List RequestCopy)
+    → length (applied_once c h ks).sets.ports ≡ length h.sets.ports
 applied_once-ports c h [] = refl
 applied_once-ports c h (k ∷ ks) = applied_once-ports c (after_copy c h k) ks ∙ after_copy-ports c h k
 
 -- a delivery at a clock that stands at a history, and has its number of ports
-pub stands-other : (first : PortIdentity → ℕ) (c : Clock) (ports : ℕ) (s : State) (h : History) (x : Delivery) → length h.sets.ports ≡ ports → copy_of c ports x ≡ None → StandsAt first s h → StandsAt first (turn c s x.ingress x.datagram).next h
+pub stands-other : (first : PortIdentity → ℕ) (c : Clock) (ports : ℕ) (s : State) (h : History)
+    (x : Delivery)
+    → length h.sets.ports ≡ ports
+    → copy_of c ports x ≡ None
+    → StandsAt first s h
+    → StandsAt first (turn c s x.ingress x.datagram).next h
 stands-other first c ports s h x many e at =
     subst (λ (t : State). StandsAt first t h)
     (sym (turn-no_copy c s x (ap (λ (d : DataSetsValue). copy_of c (length d.ports) x) at.sets ∙ (ap (λ p. copy_of c p x) many ∙ e)))) at
 
-pub stands-copy : (first : PortIdentity → ℕ) (c : Clock) (ports : ℕ) (s : State) (h : History) (x : Delivery) (k : RequestCopy) → length h.sets.ports ≡ ports → copy_of c ports x ≡ Some k → StandsAt first s h → IsInTime first h k
+pub stands-copy : (first : PortIdentity → ℕ) (c : Clock) (ports : ℕ) (s : State) (h : History)
+    (x : Delivery) (k : RequestCopy)
+    → length h.sets.ports ≡ ports
+    → copy_of c ports x ≡ Some k
+    → StandsAt first s h
+    → IsInTime first h k
     → StandsAt first (turn c s x.ingress x.datagram).next (after_copy c h k)
 stands-copy first c ports s h x k many e at time = (turns_as first c s h x k at (ap (λ p. copy_of c p x) many ∙ e) time).stands
 
@@ -294,8 +412,14 @@ record GoesOn (first : PortIdentity → ℕ) (c : Clock) (ports : ℕ) (s : Stat
   pub is : applied_once c before ks ≡ applied_once c h all
 
 -- so it does after a delivery, of which there is a copy or none
-goes_on : (first : PortIdentity → ℕ) (c : Clock) (ports : ℕ) (s : State) (h : History) (x : Delivery) (o : Option RequestCopy) (ks : List RequestCopy) → length h.sets.ports ≡ ports → copy_of c ports x ≡ o → StandsAt first s h
-    → AreNumbered first (cons_option o ks) → KeepsWindow c h (cons_option o ks) → GoesOn first c ports (turn c s x.ingress x.datagram).next h ks (cons_option o ks)
+goes_on : (first : PortIdentity → ℕ) (c : Clock) (ports : ℕ) (s : State) (h : History)
+    (x : Delivery) (o : Option RequestCopy) (ks : List RequestCopy)
+    → length h.sets.ports ≡ ports
+    → copy_of c ports x ≡ o
+    → StandsAt first s h
+    → AreNumbered first (cons_option o ks)
+    → KeepsWindow c h (cons_option o ks)
+    → GoesOn first c ports (turn c s x.ingress x.datagram).next h ks (cons_option o ks)
 goes_on first c ports s h x None ks many e at numbered window = record {
   before = h;
   as_many = many;
@@ -313,8 +437,13 @@ goes_on first c ports s h x (Some k) ks many e at numbered window = record {
   is = refl;
 }
 
-pub stands_turns : (first : PortIdentity → ℕ) (c : Clock) (ports : ℕ) (s : State) (h : History) (xs : List Delivery) → length h.sets.ports ≡ ports → StandsAt first s h
-    → AreNumbered first (copies c ports xs) → KeepsWindow c h (copies c ports xs) → StandsAt first (turns c s xs) (applied_once c h (copies c ports xs))
+pub stands_turns : (first : PortIdentity → ℕ) (c : Clock) (ports : ℕ) (s : State) (h : History)
+    (xs : List Delivery)
+    → length h.sets.ports ≡ ports
+    → StandsAt first s h
+    → AreNumbered first (copies c ports xs)
+    → KeepsWindow c h (copies c ports xs)
+    → StandsAt first (turns c s xs) (applied_once c h (copies c ports xs))
 stands_turns first c ports s h [] many at numbered window = at
 stands_turns first c ports s h (x ∷ xs) many at numbered window =
     let on : GoesOn first c ports (turn c s x.ingress x.datagram).next h (copies c ports xs) (copies c ports (x ∷ xs)) =
@@ -323,26 +452,36 @@ stands_turns first c ports s h (x ∷ xs) many at numbered window =
     (stands_turns first c ports (turn c s x.ingress x.datagram).next on.before xs on.as_many on.stands on.numbered on.window)
 
 -- a list with one more copy
-numbered_parts : (first : PortIdentity → ℕ) (ks : List RequestCopy) (k : RequestCopy) → AreNumbered first (ks ++ k ∷ []) → AreNumbered first ks × IsNumbered first k
+numbered_parts : (first : PortIdentity → ℕ) (ks : List RequestCopy) (k : RequestCopy)
+    → AreNumbered first (ks ++ k ∷ [])
+    → AreNumbered first ks × IsNumbered first k
 numbered_parts first [] k numbered = (tt, numbered.0)
 numbered_parts first (j ∷ js) k numbered = let rest = numbered_parts first js k numbered.1 in ((numbered.0, rest.0), rest.1)
 
-window_parts : (c : Clock) (h : History) (ks : List RequestCopy) (k : RequestCopy) → KeepsWindow c h (ks ++ k ∷ []) → KeepsWindow c h ks × IsInWindow (applied_once c h ks) k
+window_parts : (c : Clock) (h : History) (ks : List RequestCopy) (k : RequestCopy)
+    → KeepsWindow c h (ks ++ k ∷ [])
+    → KeepsWindow c h ks × IsInWindow (applied_once c h ks) k
 window_parts c h [] k window = (tt, window.0)
 window_parts c h (j ∷ js) k window = let rest = window_parts c (after_copy c h j) js k window.1 in ((window.0, rest.0), rest.1)
 
-turns-append : (c : Clock) (s : State) (xs : List Delivery) (x : Delivery) → turns c s (xs ++ x ∷ []) ≡ (turn c (turns c s xs) x.ingress x.datagram).next
+turns-append : (c : Clock) (s : State) (xs : List Delivery) (x : Delivery)
+    → turns c s (xs ++ x ∷ []) ≡ (turn c (turns c s xs) x.ingress x.datagram).next
 turns-append c s [] x = refl
 turns-append c s (y ∷ ys) x = turns-append c (turn c s y.ingress y.datagram).next ys x
 
-pub sets_once : (c : Clock) (first : PortIdentity → ℕ) (d : DataSetsValue) (xs : List Delivery) → AreNumbered first (copies c (length d.ports) xs) → KeepsWindow c (initial_history d) (copies c (length d.ports) xs)
-    → (turns c (initial_clock_state d) xs).sets ≡ (applied_once c (initial_history d) (copies c (length d.ports) xs)).sets
+pub sets_once : (c : Clock) (first : PortIdentity → ℕ) (d : DataSetsValue) (xs : List Delivery)
+    → AreNumbered first (copies c (length d.ports) xs)
+    → KeepsWindow c (initial_history d) (copies c (length d.ports) xs)
+    → (turns c (initial_clock_state d) xs).sets
+    ≡ (applied_once c (initial_history d) (copies c (length d.ports) xs)).sets
 sets_once c first d xs numbered window =
     (stands_turns first c (length d.ports) (initial_clock_state d) (initial_history d) xs refl (stands-initial_history first d) numbered window).sets
 
-turns_as_next : (c : Clock) (first : PortIdentity → ℕ) (ports : ℕ) (s : State) (h : History) (xs : List Delivery)
+turns_as_next : (c : Clock) (first : PortIdentity → ℕ) (ports : ℕ) (s : State) (h : History)
+    (xs : List Delivery)
     (x : Delivery) (k : RequestCopy) → length h.sets.ports ≡ ports → StandsAt first s h → copy_of c ports x ≡ Some k
-    → AreNumbered first (copies c ports xs ++ k ∷ []) → KeepsWindow c h (copies c ports xs ++ k ∷ [])
+    → AreNumbered first (copies c ports xs ++ k ∷ [])
+    → KeepsWindow c h (copies c ports xs ++ k ∷ [])
     → TurnsAs first c (turns c s xs) (applied_once c h (copies c ports xs)) x k
 turns_as_next c first ports s h xs x k many at e numbered window =
     let n = numbered_parts first (copies c ports xs) k numbered in
@@ -352,29 +491,43 @@ turns_as_next c first ports s h xs x k many at e numbered window =
     (ap (λ p. copy_of c p x) (applied_once-ports c h (copies c ports xs) ∙ many) ∙ e)
     (record { numbered = n.1; window = w.1 })
 
-pub outbox_due-at : (c : Clock) (first : PortIdentity → ℕ) (ports : ℕ) (s : State) (h : History) (xs : List Delivery)
+pub outbox_due-at : (c : Clock) (first : PortIdentity → ℕ) (ports : ℕ) (s : State) (h : History)
+    (xs : List Delivery)
     (x : Delivery) (k : RequestCopy) → length h.sets.ports ≡ ports → StandsAt first s h → copy_of c ports x ≡ Some k
-    → AreNumbered first (copies c ports xs ++ k ∷ []) → KeepsWindow c h (copies c ports xs ++ k ∷ [])
-    → outbox_of (turn c (turns c s xs) x.ingress x.datagram) ≡ due_messages c k (due_reply c (applied_once c h (copies c ports xs)) k)
+    → AreNumbered first (copies c ports xs ++ k ∷ [])
+    → KeepsWindow c h (copies c ports xs ++ k ∷ [])
+    → outbox_of (turn c (turns c s xs) x.ingress x.datagram)
+    ≡ due_messages c k (due_reply c (applied_once c h (copies c ports xs)) k)
 outbox_due-at c first ports s h xs x k many at e numbered window =
     let as' = turns_as_next c first ports s h xs x k many at e numbered window in
     ap (λ (f : List (ℕ × List ℕ)). f ++ (turn c (turns c s xs) x.ingress x.datagram).replies) as'.forwards ∙ as'.replies
 
-pub outbox_due : (c : Clock) (first : PortIdentity → ℕ) (d : DataSetsValue) (xs : List Delivery) (x : Delivery) (k : RequestCopy) → copy_of c (length d.ports) x ≡ Some k
-    → AreNumbered first (copies c (length d.ports) xs ++ k ∷ []) → KeepsWindow c (initial_history d) (copies c (length d.ports) xs ++ k ∷ [])
-    → outbox_of (turn c (turns c (initial_clock_state d) xs) x.ingress x.datagram) ≡ due_messages c k (due_reply c (applied_once c (initial_history d) (copies c (length d.ports) xs)) k)
+pub outbox_due : (c : Clock) (first : PortIdentity → ℕ) (d : DataSetsValue) (xs : List Delivery)
+    (x : Delivery) (k : RequestCopy)
+    → copy_of c (length d.ports) x ≡ Some k
+    → AreNumbered first (copies c (length d.ports) xs ++ k ∷ [])
+    → KeepsWindow c (initial_history d) (copies c (length d.ports) xs ++ k ∷ [])
+    → outbox_of (turn c (turns c (initial_clock_state d) xs) x.ingress x.datagram)
+    ≡ due_messages c k
+    (due_reply c (applied_once c (initial_history d) (copies c (length d.ports) xs)) k)
 outbox_due c first d xs x k e numbered window =
     outbox_due-at c first (length d.ports) (initial_clock_state d) (initial_history d) xs x k refl (stands-initial_history first d) e numbered window
 
-pub turns-repeat : (c : Clock) (first : PortIdentity → ℕ) (d : DataSetsValue) (xs : List Delivery) (x : Delivery) (k : RequestCopy) → copy_of c (length d.ports) x ≡ Some k
-    → AreNumbered first (copies c (length d.ports) xs ++ k ∷ []) → KeepsWindow c (initial_history d) (copies c (length d.ports) xs ++ k ∷ [])
-    → joins (applied_once c (initial_history d) (copies c (length d.ports) xs)) k ≡ false → turns c (initial_clock_state d) (xs ++ x ∷ []) ≡ turns c (initial_clock_state d) xs
+pub turns-repeat : (c : Clock) (first : PortIdentity → ℕ) (d : DataSetsValue) (xs : List Delivery)
+    (x : Delivery) (k : RequestCopy)
+    → copy_of c (length d.ports) x ≡ Some k
+    → AreNumbered first (copies c (length d.ports) xs ++ k ∷ [])
+    → KeepsWindow c (initial_history d) (copies c (length d.ports) xs ++ k ∷ [])
+    → joins (applied_once c (initial_history d) (copies c (length d.ports) xs)) k ≡ false
+    → turns c (initial_clock_state d) (xs ++ x ∷ []) ≡ turns c (initial_clock_state d) xs
 turns-repeat c first d xs x k e numbered window j =
     turns-append c (initial_clock_state d) xs x
     ∙ (turns_as_next c first (length d.ports) (initial_clock_state d) (initial_history d) xs x k refl (stands-initial_history first d) e numbered window).stays j
 
 -- a copy is never passed on, in the window or not
-pub forwards-copy : (c : Clock) (s : State) (x : Delivery) (k : RequestCopy) → copy_of c (length s.sets.ports) x ≡ Some k → (turn c s x.ingress x.datagram).forwards ≡ []
+pub forwards-copy : (c : Clock) (s : State) (x : Delivery) (k : RequestCopy)
+    → copy_of c (length s.sets.ports) x ≡ Some k
+    → (turn c s x.ingress x.datagram).forwards ≡ []
 forwards-copy c s x k e =
     let copy = delivers_copy c (length s.sets.ports) x k e in
     ap (λ (u : Turned). u.forwards) (turn-message c s x.ingress x.datagram copy.message copy.read)

@@ -14,11 +14,14 @@ pub copies_up_to : ℕ → DataSetsValue → List ℕ → ℕ → List (ℕ × L
 copies_up_to ingress d datagram n =
     map (λ port. (port, with_less_hop datagram)) (filter (λ port. passes ingress d port) (range_with_len 1 n))
 
-pub copies_up_to-none : (ingress : ℕ) (d : DataSetsValue) (datagram : List ℕ) → copies_up_to ingress d datagram 0 ≡ []
+pub copies_up_to-none : (ingress : ℕ) (d : DataSetsValue) (datagram : List ℕ)
+    → copies_up_to ingress d datagram 0 ≡ []
 unfolding copies_up_to
 copies_up_to-none ingress d datagram = refl
 
-pub copies_up_to-all : (ingress : ℕ) (d : DataSetsValue) (datagram : List ℕ) → copies_up_to ingress d datagram (length d.ports) ≡ map (λ port. (port, with_less_hop datagram)) (egress_ports ingress d)
+pub copies_up_to-all : (ingress : ℕ) (d : DataSetsValue) (datagram : List ℕ)
+    → copies_up_to ingress d datagram (length d.ports)
+    ≡ map (λ port. (port, with_less_hop datagram)) (egress_ports ingress d)
 unfolding copies_up_to
 copies_up_to-all ingress d datagram = refl
 
@@ -29,7 +32,8 @@ range_with_len-suc a (suc n) =
     let there : a + 1 + n ≡ a + suc n = omega arith in
     ap (λ (xs : List ℕ). a ∷ xs) (range_with_len-suc (a + 1) n ∙ ap (λ k. range_with_len (a + 1) n ++ k ∷ []) there)
 
-filter-last : (t : ℕ → Bool) (f : ℕ → ℕ × List ℕ) (xs : List ℕ) (x : ℕ) → map f (filter t (xs ++ x ∷ [])) ≡ map f (filter t xs) ++ cond (t x) (f x ∷ []) []
+filter-last : (t : ℕ → Bool) (f : ℕ → ℕ × List ℕ) (xs : List ℕ) (x : ℕ)
+    → map f (filter t (xs ++ x ∷ [])) ≡ map f (filter t xs) ++ cond (t x) (f x ∷ []) []
 filter-last t f [] x = ⊎_elim
     (λ (y : t x ≡ true). ap (map f) (cond-true (t x) (x ∷ []) [] y) ∙ sym (cond-true (t x) (f x ∷ []) [] y))
     (λ (n : t x ≡ false). ap (map f) (cond-false (t x) (x ∷ []) [] n) ∙ sym (cond-false (t x) (f x ∷ []) [] n))
@@ -45,7 +49,12 @@ filter-last t f (z ∷ zs) x = ⊎_elim
     ∙ ap (λ (r : List ℕ). map f r ++ cond (t x) (f x ∷ []) []) (sym (cond-false (t z) (z ∷ filter t zs) (filter t zs) n))))
     (cases_Bool (t z))
 
-copies_up_to-more : (ingress : ℕ) (d : DataSetsValue) (datagram : List ℕ) (port : ℕ) → 1 ≤ port → copies_up_to ingress d datagram port ≡ copies_up_to ingress d datagram (port - 1) ++ cond (not (port == ingress) && may_forward port d) ((port, with_less_hop datagram) ∷ []) []
+copies_up_to-more : (ingress : ℕ) (d : DataSetsValue) (datagram : List ℕ) (port : ℕ)
+    → 1 ≤ port
+    → copies_up_to ingress d datagram port
+    ≡ copies_up_to ingress d datagram (port - 1)
+    ++ cond (not (port == ingress) && may_forward port d)
+    ((port, with_less_hop datagram) ∷ []) []
 unfolding copies_up_to
 copies_up_to-more ingress d datagram port some =
     let before : port ≡ suc (port - 1) = omega (arith, some) in
@@ -54,12 +63,19 @@ copies_up_to-more ingress d datagram port some =
     ∙ (ap (λ (xs : List ℕ). map (λ p. (p, with_less_hop datagram)) (filter (λ p. passes ingress d p) xs)) (range_with_len-suc 1 (port - 1) ∙ ap (λ k. range_with_len 1 (port - 1) ++ k ∷ []) last)
     ∙ filter-last (λ p. passes ingress d p) (λ p. (p, with_less_hop datagram)) (range_with_len 1 (port - 1)) port)
 
-pub copies_up_to-pass : (ingress : ℕ) (d : DataSetsValue) (datagram : List ℕ) (port : ℕ) → 1 ≤ port → (not (port == ingress) && may_forward port d) ≡ true → copies_up_to ingress d datagram port ≡ copies_up_to ingress d datagram (port - 1) ++ (port, with_less_hop datagram) ∷ []
+pub copies_up_to-pass : (ingress : ℕ) (d : DataSetsValue) (datagram : List ℕ) (port : ℕ)
+    → 1 ≤ port
+    → (not (port == ingress) && may_forward port d) ≡ true
+    → copies_up_to ingress d datagram port
+    ≡ copies_up_to ingress d datagram (port - 1) ++ (port, with_less_hop datagram) ∷ []
 copies_up_to-pass ingress d datagram port some y =
     copies_up_to-more ingress d datagram port some
     ∙ ap (λ (xs : List (ℕ × List ℕ)). copies_up_to ingress d datagram (port - 1) ++ xs) (cond-true _ _ _ y)
 
-pub copies_up_to-skip : (ingress : ℕ) (d : DataSetsValue) (datagram : List ℕ) (port : ℕ) → 1 ≤ port → (not (port == ingress) && may_forward port d) ≡ false → copies_up_to ingress d datagram port ≡ copies_up_to ingress d datagram (port - 1)
+pub copies_up_to-skip : (ingress : ℕ) (d : DataSetsValue) (datagram : List ℕ) (port : ℕ)
+    → 1 ≤ port
+    → (not (port == ingress) && may_forward port d) ≡ false
+    → copies_up_to ingress d datagram port ≡ copies_up_to ingress d datagram (port - 1)
 copies_up_to-skip ingress d datagram port some n =
     copies_up_to-more ingress d datagram port some
     ∙ (ap (λ (xs : List (ℕ × List ℕ)). copies_up_to ingress d datagram (port - 1) ++ xs) (cond-false _ _ _ n)
@@ -81,7 +97,11 @@ length-filter_range t a (suc n) =
     (cases_Bool (t a))
 
 -- one less where a number of the range does not pass
-length-filter_range_but_one : (t : ℕ → Bool) (a n i : ℕ) → a ≤ i → i < a + n → t i ≡ false → length (filter t (range_with_len a n)) + 1 ≤ n
+length-filter_range_but_one : (t : ℕ → Bool) (a n i : ℕ)
+    → a ≤ i
+    → i < a + n
+    → t i ≡ false
+    → length (filter t (range_with_len a n)) + 1 ≤ n
 length-filter_range_but_one t a zero i low high f = absurd (omega (arith, low, high))
 length-filter_range_but_one t a (suc n) i low high f = ⊎_elim
     (λ (same : i ≡ a).
@@ -98,14 +118,18 @@ length-filter_range_but_one t a (suc n) i low high f = ⊎_elim
     (cases_Bool (t a)))
     (cases_eq i a)
 
-pub length-copies_up_to : (ingress : ℕ) (d : DataSetsValue) (datagram : List ℕ) (n : ℕ) → length (copies_up_to ingress d datagram n) ≤ n
+pub length-copies_up_to : (ingress : ℕ) (d : DataSetsValue) (datagram : List ℕ) (n : ℕ)
+    → length (copies_up_to ingress d datagram n) ≤ n
 unfolding copies_up_to
 length-copies_up_to ingress d datagram n =
     subst (λ k. k ≤ n) (sym (length-copies (λ port. (port, with_less_hop datagram)) (filter (λ port. passes ingress d port) (range_with_len 1 n))))
     (length-filter_range (λ port. passes ingress d port) 1 n)
 
 -- nothing goes out at the ingress port
-pub length-copies_up_to_but_one : (ingress : ℕ) (d : DataSetsValue) (datagram : List ℕ) (n : ℕ) → 1 ≤ ingress → ingress ≤ n → length (copies_up_to ingress d datagram n) + 1 ≤ n
+pub length-copies_up_to_but_one : (ingress : ℕ) (d : DataSetsValue) (datagram : List ℕ) (n : ℕ)
+    → 1 ≤ ingress
+    → ingress ≤ n
+    → length (copies_up_to ingress d datagram n) + 1 ≤ n
 unfolding copies_up_to
 length-copies_up_to_but_one ingress d datagram n low high =
     let inside : ingress < 1 + n = omega (arith, high) in

@@ -18,11 +18,14 @@ use Rattle.ptpm_table.proofs.Identities.{identities_total, same_identity-true, s
 
 -- ---- entries
 
-pub get-insert_same : (entries : Entries) (m : PortIdentity) (e : Entry) → get (insert entries m e) m ≡ Some e
+pub get-insert_same : (entries : Entries) (m : PortIdentity) (e : Entry)
+    → get (insert entries m e) m ≡ Some e
 get-insert_same entries m e =
     get-insert identities_total entries m e m ∙ cond-true _ _ _ (tied_identities m m ∙ same_identity-refl m)
 
-pub get-insert_other : (entries : Entries) (m : PortIdentity) (e : Entry) (q : PortIdentity) → same_identity q m ≡ false → get (insert entries m e) q ≡ get entries q
+pub get-insert_other : (entries : Entries) (m : PortIdentity) (e : Entry) (q : PortIdentity)
+    → same_identity q m ≡ false
+    → get (insert entries m e) q ≡ get entries q
 get-insert_other entries m e q other =
     get-insert identities_total entries m e q ∙ cond-false _ _ _ (tied_identities q m ∙ other)
 
@@ -32,29 +35,47 @@ abbrev pub accepted_at : PortIdentity → ℕ → Entry → Accepted
 accepted_at m k e = record { manager = m; index = k; request = e.request; reply = e.reply }
 
 -- where the greatest index is k, what is said of it is said of k
-latest_at : (first : PortIdentity → ℕ) (h : History) (m : PortIdentity) (e : Entry) (k : ℕ) → greatest m h.accepted ≡ k → 0 < k → kept_reply m k h.accepted ≡ Some (accepted_at m k e) → e.number ≡ number_of (first m) k → IsLatest first h m e
+latest_at : (first : PortIdentity → ℕ) (h : History) (m : PortIdentity) (e : Entry) (k : ℕ)
+    → greatest m h.accepted ≡ k
+    → 0 < k
+    → kept_reply m k h.accepted ≡ Some (accepted_at m k e)
+    → e.number ≡ number_of (first m) k
+    → IsLatest first h m e
 latest_at first h m e k g some kept number = record {
   some = subst (λ i. 0 < i) (sym g) some;
   kept = subst (λ i. kept_reply m i h.accepted ≡ Some (accepted_at m i e)) (sym g) kept;
   number = subst (λ i. e.number ≡ number_of (first m) i) (sym g) number;
 }
 
-greatest_same : (m : PortIdentity) (a : Accepted) (rest : List Accepted) → same_identity m a.manager ≡ true → greatest m rest < a.index → greatest m (a ∷ rest) ≡ a.index
+greatest_same : (m : PortIdentity) (a : Accepted) (rest : List Accepted)
+    → same_identity m a.manager ≡ true
+    → greatest m rest < a.index
+    → greatest m (a ∷ rest) ≡ a.index
 greatest_same m a rest same above = cond-true _ _ _ same ∙ omega arith
 
-greatest_other : (m : PortIdentity) (a : Accepted) (rest : List Accepted) → same_identity m a.manager ≡ false → greatest m (a ∷ rest) ≡ greatest m rest
+greatest_other : (m : PortIdentity) (a : Accepted) (rest : List Accepted)
+    → same_identity m a.manager ≡ false
+    → greatest m (a ∷ rest) ≡ greatest m rest
 greatest_other m a rest other = cond-false _ _ _ other
 
-kept_same : (m : PortIdentity) (a : Accepted) (rest : List Accepted) → same_identity m a.manager ≡ true → kept_reply m a.index (a ∷ rest) ≡ Some a
+kept_same : (m : PortIdentity) (a : Accepted) (rest : List Accepted)
+    → same_identity m a.manager ≡ true
+    → kept_reply m a.index (a ∷ rest) ≡ Some a
 kept_same m a rest same = cond-true _ _ _ (and_from _ _ same (eq-eqb a.index a.index refl))
 
-kept_other : (m : PortIdentity) (k : ℕ) (a : Accepted) (rest : List Accepted) → same_identity m a.manager ≡ false → kept_reply m k (a ∷ rest) ≡ kept_reply m k rest
+kept_other : (m : PortIdentity) (k : ℕ) (a : Accepted) (rest : List Accepted)
+    → same_identity m a.manager ≡ false
+    → kept_reply m k (a ∷ rest) ≡ kept_reply m k rest
 kept_other m k a rest other = cond-false _ _ _ (and_left _ _ other)
 
 -- ---- both, after a copy joins
 
 -- what is kept of other managers stays
-IsKept-other : (first : PortIdentity → ℕ) (c : Clock) (h : History) (x : RequestCopy) (m : PortIdentity) (o : Option Entry) → same_identity m x.heard.source ≡ false → IsKept first h m o → IsKept first (joined c h x) m o
+IsKept-other : (first : PortIdentity → ℕ) (c : Clock) (h : History) (x : RequestCopy)
+    (m : PortIdentity) (o : Option Entry)
+    → same_identity m x.heard.source ≡ false
+    → IsKept first h m o
+    → IsKept first (joined c h x) m o
 IsKept-other first c h x m None other k = greatest_other m (accepted_from c h x) h.accepted other ∙ k
 IsKept-other first c h x m (Some e) other k =
     latest_at first (joined c h x) m e (greatest m h.accepted) (greatest_other m (accepted_from c h x) h.accepted other) k.some
@@ -64,11 +85,18 @@ abbrev pub accepted_entry : Clock → State → Message → Entry
 accepted_entry c s v = record { number = v.number; request = request_of v; reply = new_reply c s v }
 
 -- what is kept of its manager once a request is carried out
-pub accepted_kept : (c : Clock) (s t : State) (v : Message) → t ≡ carried_out c s v → get t.entries v.source ≡ Some (accepted_entry c s v)
+pub accepted_kept : (c : Clock) (s t : State) (v : Message)
+    → t ≡ carried_out c s v
+    → get t.entries v.source ≡ Some (accepted_entry c s v)
 accepted_kept c s t v e = ap (λ (u : State). get u.entries v.source) e ∙ get-insert_same s.entries v.source (accepted_entry c s v)
 
 -- the entry that is put in is the latest of its manager
-IsLatest-joined : (first : PortIdentity → ℕ) (c : Clock) (s : State) (h : History) (x : Delivery) (v : Message) → StandsAt first s h → IsNumbered first (copy_from x v) → greatest v.source h.accepted < x.index → IsLatest first (joined c h (copy_from x v)) v.source (accepted_entry c s v)
+IsLatest-joined : (first : PortIdentity → ℕ) (c : Clock) (s : State) (h : History) (x : Delivery)
+    (v : Message)
+    → StandsAt first s h
+    → IsNumbered first (copy_from x v)
+    → greatest v.source h.accepted < x.index
+    → IsLatest first (joined c h (copy_from x v)) v.source (accepted_entry c s v)
 IsLatest-joined first c s h x v stands n above =
     let same : same_identity v.source v.source ≡ true = same_identity-refl v.source in
     let new : Accepted = accepted_from c h (copy_from x v) in
@@ -79,7 +107,12 @@ IsLatest-joined first c s h x v stands n above =
     n.number
 
 -- a clock that carries a copy out stands where the history stands that the copy joins
-pub StandsAt-joined : (first : PortIdentity → ℕ) (c : Clock) (s : State) (h : History) (x : Delivery) (v : Message) → StandsAt first s h → IsNumbered first (copy_from x v) → greatest v.source h.accepted < x.index → StandsAt first (carried_out c s v) (joined c h (copy_from x v))
+pub StandsAt-joined : (first : PortIdentity → ℕ) (c : Clock) (s : State) (h : History)
+    (x : Delivery) (v : Message)
+    → StandsAt first s h
+    → IsNumbered first (copy_from x v)
+    → greatest v.source h.accepted < x.index
+    → StandsAt first (carried_out c s v) (joined c h (copy_from x v))
 StandsAt-joined first c s h x v stands n above = record {
   sets = ap (changed_by (request_of v) (c.rights v.source)) stands.sets;
   entries = λ m.

@@ -22,7 +22,8 @@ pub after_each-append : (c : Clock) (s : State) (xs : List (ℕ × List ℕ)) (x
 after_each-append c s [] x = refl
 after_each-append c s (y ∷ ys) x = after_each-append c (turn c s y.0 y.1).next ys x
 
-pub last_sent-append : (c : Clock) (s : State) (before : List (ℕ × List ℕ)) (xs : List (ℕ × List ℕ)) (x : ℕ × List ℕ)
+pub last_sent-append : (c : Clock) (s : State) (before : List (ℕ × List ℕ)) (xs : List (ℕ × List ℕ))
+    (x : ℕ × List ℕ)
     → last_sent c s before (xs ++ x ∷ []) ≡ outbox_of (turn c (after_each c s xs) x.0 x.1)
 last_sent-append c s before [] x = refl
 last_sent-append c s before (y ∷ ys) x =

@@ -13,13 +13,24 @@ use Rattle.ptpm_agent.specs.Addressing.{request_of}
 use Rattle.ptpm_agent.specs.Turn.{Clock, State, judged, new_reply, next_by, reply_by, turn}
 use Rattle.ptpm_agent.proofs.Turns.{turn-next}
 
-next_by-refused : (c : Clock) (s : State) (v : Message) (w : Verdict) (r : ReplyValue) (a : Answer) (error : ErrorId) → reply_by w c s v ≡ Some r → Contains r.answers a → a.outcome ≡ Refused error → (next_by w c s v).sets ≡ s.sets
+next_by-refused : (c : Clock) (s : State) (v : Message) (w : Verdict) (r : ReplyValue) (a : Answer)
+    (error : ErrorId)
+    → reply_by w c s v ≡ Some r
+    → Contains r.answers a
+    → a.outcome ≡ Refused error
+    → (next_by w c s v).sets ≡ s.sets
 next_by-refused c s v verdicts.AnsweredNew r a error is has refused =
     refused_answer (request_of v) (c.rights v.source) s.sets a error
     (subst (λ (x : ReplyValue). Contains x.answers a) (sym (same_Some (new_reply c s v) r is)) has) refused
 next_by-refused c s v _ r a error is has refused = refl
 
-pub turn-refused : (c : Clock) (s : State) (ingress : ℕ) (datagram : List ℕ) (v : Message) (r : ReplyValue) (a : Answer) (error : ErrorId) → message_of datagram ≡ Some v → reply_by (judged c s v) c s v ≡ Some r → Contains r.answers a → a.outcome ≡ Refused error → (turn c s ingress datagram).next.sets ≡ s.sets
+pub turn-refused : (c : Clock) (s : State) (ingress : ℕ) (datagram : List ℕ) (v : Message)
+    (r : ReplyValue) (a : Answer) (error : ErrorId)
+    → message_of datagram ≡ Some v
+    → reply_by (judged c s v) c s v ≡ Some r
+    → Contains r.answers a
+    → a.outcome ≡ Refused error
+    → (turn c s ingress datagram).next.sets ≡ s.sets
 turn-refused c s ingress datagram v r a error is reply has refused =
     turn-next (λ (n : State). n.sets ≡ s.sets) c s ingress datagram refl
     (λ (u : Message) (read : message_of datagram ≡ Some u).

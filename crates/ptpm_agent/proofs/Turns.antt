@@ -30,32 +30,50 @@ use Rattle.ptpm_agent.proofs.Entries.{get-insert_other}
 
 -- ---- the message of a datagram
 
-ok_unless-some : (o : Option DecodeError) (v w : Message) → some_unless o v ≡ Some w → ok_unless o v ≡ Ok w
+ok_unless-some : (o : Option DecodeError) (v w : Message)
+    → some_unless o v ≡ Some w
+    → ok_unless o v ≡ Ok w
 ok_unless-some None v w e = ap (λ (u : Message). Ok u) (same_Some v w e)
 ok_unless-some (Some cause) v w e = absurd (none-some w e)
 
-some_unless-ok : (o : Option DecodeError) (v w : Message) → ok_unless o v ≡ Ok w → some_unless o v ≡ Some w
+some_unless-ok : (o : Option DecodeError) (v w : Message)
+    → ok_unless o v ≡ Ok w
+    → some_unless o v ≡ Some w
 some_unless-ok None v w e = ap (λ (u : Message). Some u) (subst (λ (r : Result Message DecodeError). IfOk r (λ u. v ≡ u)) e refl)
 some_unless-ok (Some cause) v w e = absurd (subst (λ (r : Result Message DecodeError). IfOk r (λ u. ⊥)) e tt)
 
-pub reading-message_of : (datagram : List ℕ) (v : Message) → message_of datagram ≡ Some v → reading datagram ≡ Ok v
+pub reading-message_of : (datagram : List ℕ) (v : Message)
+    → message_of datagram ≡ Some v
+    → reading datagram ≡ Ok v
 unfolding message_of
 reading-message_of datagram v e = ok_unless-some (refusal datagram) (message_at (message_octets datagram)) v e
 
-pub message_of-reading : (datagram : List ℕ) (v : Message) → reading datagram ≡ Ok v → message_of datagram ≡ Some v
+pub message_of-reading : (datagram : List ℕ) (v : Message)
+    → reading datagram ≡ Ok v
+    → message_of datagram ≡ Some v
 unfolding message_of
 message_of-reading datagram v e = some_unless-ok (refusal datagram) (message_at (message_octets datagram)) v e
 
-pub turn-message : (c : Clock) (s : State) (ingress : ℕ) (datagram : List ℕ) (v : Message) → message_of datagram ≡ Some v → turn c s ingress datagram ≡ turn_by c s ingress datagram (Ok v)
+pub turn-message : (c : Clock) (s : State) (ingress : ℕ) (datagram : List ℕ) (v : Message)
+    → message_of datagram ≡ Some v
+    → turn c s ingress datagram ≡ turn_by c s ingress datagram (Ok v)
 unfolding turn
 turn-message c s ingress datagram v e = ap (λ (r : Result Message DecodeError). turn_by c s ingress datagram r) (reading-message_of datagram v e)
 
 -- what holds of the state as it was, and of what each message leaves, holds of what a turn leaves
-turn_by-next : (P : State → Type 0) (c : Clock) (s : State) (ingress : ℕ) (datagram : List ℕ) (r : Result Message DecodeError) → reading datagram ≡ r → P s → ((v : Message) → message_of datagram ≡ Some v → P (next_by (judged c s v) c s v)) → P (turn_by c s ingress datagram r).next
+turn_by-next : (P : State → Type 0) (c : Clock) (s : State) (ingress : ℕ) (datagram : List ℕ)
+    (r : Result Message DecodeError)
+    → reading datagram ≡ r
+    → P s
+    → ((v : Message) → message_of datagram ≡ Some v → P (next_by (judged c s v) c s v))
+    → P (turn_by c s ingress datagram r).next
 turn_by-next P c s ingress datagram (Err cause) e before each = before
 turn_by-next P c s ingress datagram (Ok v) e before each = each v (message_of-reading datagram v e)
 
-pub turn-next : (P : State → Type 0) (c : Clock) (s : State) (ingress : ℕ) (datagram : List ℕ) → P s → ((v : Message) → message_of datagram ≡ Some v → P (next_by (judged c s v) c s v)) → P (turn c s ingress datagram).next
+pub turn-next : (P : State → Type 0) (c : Clock) (s : State) (ingress : ℕ) (datagram : List ℕ)
+    → P s
+    → ((v : Message) → message_of datagram ≡ Some v → P (next_by (judged c s v) c s v))
+    → P (turn c s ingress datagram).next
 unfolding turn
 turn-next P c s ingress datagram before each = turn_by-next P c s ingress datagram (reading datagram) refl before each
 
@@ -63,30 +81,51 @@ pub on_err : {A E : Type 0} (r : Result A E) (P : Type 0) → P → OnErr r P
 on_err (Ok a) P p = tt
 on_err (Err e) P p = p
 
-pub verdict_new : (c : Clock) (s : State) (datagram : List ℕ) (v : Message) (verdict : Verdict) → reading datagram ≡ Ok v → verdict ≡ judged c s v
+pub verdict_new : (c : Clock) (s : State) (datagram : List ℕ) (v : Message) (verdict : Verdict)
+    → reading datagram ≡ Ok v
+    → verdict ≡ judged c s v
     → verdict ≡ verdicts.AnsweredNew → verdict_of c s datagram ≡ verdicts.AnsweredNew
 verdict_new c s datagram v verdict read is new = rw read (sym is ∙ new)
 
 -- ---- the verdict on a message
 
-pub judged-foreign : (c : Clock) (s : State) (v : Message) → is_in_domain c s v ≡ false → judged c s v ≡ verdicts.OtherDomain
+pub judged-foreign : (c : Clock) (s : State) (v : Message)
+    → is_in_domain c s v ≡ false
+    → judged c s v ≡ verdicts.OtherDomain
 unfolding judged
 judged-foreign c s v d = cond-true _ _ _ (ap not d)
 
-judged-own : (c : Clock) (s : State) (v : Message) → is_in_domain c s v ≡ true → is_own c v ≡ true → judged c s v ≡ verdicts.OwnMessage
+judged-own : (c : Clock) (s : State) (v : Message)
+    → is_in_domain c s v ≡ true
+    → is_own c v ≡ true
+    → judged c s v ≡ verdicts.OwnMessage
 unfolding judged
 judged-own c s v d o = cond-false _ _ _ (ap not d) ∙ cond-true _ _ _ o
 
-judged-away : (c : Clock) (s : State) (v : Message) → is_in_domain c s v ≡ true → is_own c v ≡ false → is_addressed c s.sets v ≡ false → judged c s v ≡ verdicts.NotAddressed
+judged-away : (c : Clock) (s : State) (v : Message)
+    → is_in_domain c s v ≡ true
+    → is_own c v ≡ false
+    → is_addressed c s.sets v ≡ false
+    → judged c s v ≡ verdicts.NotAddressed
 unfolding judged
 judged-away c s v d o a = cond-false _ _ _ (ap not d) ∙ (cond-false _ _ _ o ∙ cond-true _ _ _ (ap not a))
 
-judged-reply : (c : Clock) (s : State) (v : Message) → is_in_domain c s v ≡ true → is_own c v ≡ false → is_addressed c s.sets v ≡ true → is_request v ≡ false → judged c s v ≡ verdicts.NotARequest
+judged-reply : (c : Clock) (s : State) (v : Message)
+    → is_in_domain c s v ≡ true
+    → is_own c v ≡ false
+    → is_addressed c s.sets v ≡ true
+    → is_request v ≡ false
+    → judged c s v ≡ verdicts.NotARequest
 unfolding judged
 judged-reply c s v d o a q =
     cond-false _ _ _ (ap not d) ∙ (cond-false _ _ _ o ∙ (cond-false _ _ _ (ap not a) ∙ cond-true _ _ _ (ap not q)))
 
-pub judged-request : (c : Clock) (s : State) (v : Message) → is_in_domain c s v ≡ true → is_own c v ≡ false → is_addressed c s.sets v ≡ true → is_request v ≡ true → judged c s v ≡ verdict_at (look c s v)
+pub judged-request : (c : Clock) (s : State) (v : Message)
+    → is_in_domain c s v ≡ true
+    → is_own c v ≡ false
+    → is_addressed c s.sets v ≡ true
+    → is_request v ≡ true
+    → judged c s v ≡ verdict_at (look c s v)
 unfolding judged
 judged-request c s v d o a q =
     cond-false _ _ _ (ap not d) ∙ (cond-false _ _ _ o ∙ (cond-false _ _ _ (ap not a) ∙ cond-false _ _ _ (ap not q)))
@@ -99,7 +138,10 @@ repeat_verdict looks.Conflict r = absurd (false≢true r)
 repeat_verdict looks.Old r = absurd (false≢true r)
 
 -- an accepted repeat is answered in every domain
-pub judged-repeat : (c : Clock) (s : State) (v : Message) → v.sdo == 0 ≡ true → is_accepted_repeat c s v ≡ true → judged c s v ≡ verdicts.AnsweredRepeat
+pub judged-repeat : (c : Clock) (s : State) (v : Message)
+    → v.sdo == 0 ≡ true
+    → is_accepted_repeat c s v ≡ true
+    → judged c s v ≡ verdicts.AnsweredRepeat
 judged-repeat c s v sdo repeat =
     let own = and_parts (not (is_own c v)) (is_addressed c s.sets v && (is_request v && is_repeat (look c s v))) repeat in
     let addressed = and_parts (is_addressed c s.sets v) (is_request v && is_repeat (look c s v)) own.1 in
@@ -118,7 +160,9 @@ pub record CopyParts (c : Clock) (ports : ℕ) (v : Message) : Type 0 where
   pub port : names_port ports v.target.port ≡ true
   pub request : is_request v ≡ true
 
-pub copy_parts : (c : Clock) (ports : ℕ) (v : Message) → is_copy c ports v ≡ true → CopyParts c ports v
+pub copy_parts : (c : Clock) (ports : ℕ) (v : Message)
+    → is_copy c ports v ≡ true
+    → CopyParts c ports v
 copy_parts c ports v h =
     let a = and_parts _ _ h in
     let b = and_parts _ _ a.1 in
@@ -127,17 +171,23 @@ copy_parts c ports v h =
     let g = and_parts _ _ f.1 in
     record { sdo = a.0; own = not-true _ b.0; known = e.0; target = f.0; port = g.0; request = g.1 }
 
-addressed : (c : Clock) (d : DataSetsValue) (v : Message) → CopyParts c (length d.ports) v → is_addressed c d v ≡ true
+addressed : (c : Clock) (d : DataSetsValue) (v : Message)
+    → CopyParts c (length d.ports) v
+    → is_addressed c d v ≡ true
 addressed c d v p = and_from _ _ (or_left _ (same_clock v.target.clock every_clock) p.target) p.port
 
-pub look-copy : (c : Clock) (s : State) (v : Message) → CopyParts c (length s.sets.ports) v → look c s v ≡ look_at (get s.entries v.source) v.number (request_of v)
+pub look-copy : (c : Clock) (s : State) (v : Message)
+    → CopyParts c (length s.sets.ports) v
+    → look c s v ≡ look_at (get s.entries v.source) v.number (request_of v)
 look-copy c s v p = cond-true _ _ _ (and_from _ _ p.known p.target)
 
 -- a test that holds leaves the other
 and_true : (a b : Bool) → a ≡ true → (a && b) ≡ b
 and_true a b e = ap (λ t. t && b) e
 
-in_domain-copy : (c : Clock) (s : State) (v : Message) → CopyParts c (length s.sets.ports) v → is_in_domain c s v ≡ (v.domain == s.sets.default.domain || is_repeat (look c s v))
+in_domain-copy : (c : Clock) (s : State) (v : Message)
+    → CopyParts c (length s.sets.ports) v
+    → is_in_domain c s v ≡ (v.domain == s.sets.default.domain || is_repeat (look c s v))
 in_domain-copy c s v p =
     and_true (v.sdo == 0) _ p.sdo
     ∙ ap (λ t. v.domain == s.sets.default.domain || t)
@@ -145,37 +195,63 @@ in_domain-copy c s v p =
     ∙ (and_true (is_addressed c s.sets v) _ (addressed c s.sets v p) ∙ and_true (is_request v) _ p.request))
 
 -- in the clock's domain, or a repeat: as the number says
-pub judged-numbered : (c : Clock) (s : State) (v : Message) → CopyParts c (length s.sets.ports) v → (v.domain == s.sets.default.domain || is_repeat (look c s v)) ≡ true → judged c s v ≡ verdict_at (look_at (get s.entries v.source) v.number (request_of v))
+pub judged-numbered : (c : Clock) (s : State) (v : Message)
+    → CopyParts c (length s.sets.ports) v
+    → (v.domain == s.sets.default.domain || is_repeat (look c s v)) ≡ true
+    → judged c s v ≡ verdict_at (look_at (get s.entries v.source) v.number (request_of v))
 judged-numbered c s v p d =
     judged-request c s v (in_domain-copy c s v p ∙ d) p.own (addressed c s.sets v p) p.request ∙ ap verdict_at (look-copy c s v p)
 
-pub judged-elsewhere : (c : Clock) (s : State) (v : Message) → CopyParts c (length s.sets.ports) v → (v.domain == s.sets.default.domain || is_repeat (look c s v)) ≡ false → judged c s v ≡ verdicts.OtherDomain
+pub judged-elsewhere : (c : Clock) (s : State) (v : Message)
+    → CopyParts c (length s.sets.ports) v
+    → (v.domain == s.sets.default.domain || is_repeat (look c s v)) ≡ false
+    → judged c s v ≡ verdicts.OtherDomain
 judged-elsewhere c s v p d = judged-foreign c s v (in_domain-copy c s v p ∙ d)
 
 -- it is not passed on, for its target is exactly this clock
-is_forwarded-copy : (c : Clock) (ingress : ℕ) (d : DataSetsValue) (v : Message) → is_for_this_clock c v ≡ true → is_forwarded c.identity ingress d v ≡ false
+is_forwarded-copy : (c : Clock) (ingress : ℕ) (d : DataSetsValue) (v : Message)
+    → is_for_this_clock c v ≡ true
+    → is_forwarded c.identity ingress d v ≡ false
 is_forwarded-copy c ingress d v t =
     and_right (v.sdo == 0) _ (and_right (v.domain == d.default.domain) _ (and_right (not (is_own c v)) _ (and_left _ _ (ap not t))))
 
-pub forwarded-copy : (c : Clock) (ingress : ℕ) (d : DataSetsValue) (datagram : List ℕ) (v : Message) → message_of datagram ≡ Some v → is_for_this_clock c v ≡ true → forwarded c.identity ingress d datagram ≡ []
+pub forwarded-copy : (c : Clock) (ingress : ℕ) (d : DataSetsValue) (datagram : List ℕ) (v : Message)
+    → message_of datagram ≡ Some v
+    → is_for_this_clock c v ≡ true
+    → forwarded c.identity ingress d datagram ≡ []
 unfolding forwarded
 forwarded-copy c ingress d datagram v e t =
     ap (forwarded_by c.identity ingress d datagram) e ∙ cond-false _ _ _ (is_forwarded-copy c ingress d v t)
 
 -- a message is passed on at each egress port, or not at all
-pub forwarded-on : (me : ClockIdentity) (ingress : ℕ) (d : DataSetsValue) (datagram : List ℕ) (v : Message) → reading datagram ≡ Ok v → is_forwarded me ingress d v ≡ true → forwarded me ingress d datagram ≡ map (λ port. (port, with_less_hop datagram)) (egress_ports ingress d)
+pub forwarded-on : (me : ClockIdentity) (ingress : ℕ) (d : DataSetsValue) (datagram : List ℕ)
+    (v : Message)
+    → reading datagram ≡ Ok v
+    → is_forwarded me ingress d v ≡ true
+    → forwarded me ingress d datagram
+    ≡ map (λ port. (port, with_less_hop datagram)) (egress_ports ingress d)
 unfolding forwarded
 forwarded-on me ingress d datagram v e y = ap (forwarded_by me ingress d datagram) (message_of-reading datagram v e) ∙ cond-true _ _ _ y
 
-pub forwarded-not : (me : ClockIdentity) (ingress : ℕ) (d : DataSetsValue) (datagram : List ℕ) (v : Message) → reading datagram ≡ Ok v → is_forwarded me ingress d v ≡ false → forwarded me ingress d datagram ≡ []
+pub forwarded-not : (me : ClockIdentity) (ingress : ℕ) (d : DataSetsValue) (datagram : List ℕ)
+    (v : Message)
+    → reading datagram ≡ Ok v
+    → is_forwarded me ingress d v ≡ false
+    → forwarded me ingress d datagram ≡ []
 unfolding forwarded
 forwarded-not me ingress d datagram v e n = ap (forwarded_by me ingress d datagram) (message_of-reading datagram v e) ∙ cond-false _ _ _ n
 
-message_of-refused : (datagram : List ℕ) (o : Option DecodeError) (v : Message) (cause : DecodeError) → ok_unless o v ≡ Err cause → some_unless o v ≡ None
+message_of-refused : (datagram : List ℕ) (o : Option DecodeError) (v : Message)
+    (cause : DecodeError)
+    → ok_unless o v ≡ Err cause
+    → some_unless o v ≡ None
 message_of-refused datagram None v cause e = absurd (subst (λ (r : Result Message DecodeError). IfErr r (λ u. ⊥)) e tt)
 message_of-refused datagram (Some other) v cause e = refl
 
-pub forwarded-refused : (me : ClockIdentity) (ingress : ℕ) (d : DataSetsValue) (datagram : List ℕ) (cause : DecodeError) → reading datagram ≡ Err cause → forwarded me ingress d datagram ≡ []
+pub forwarded-refused : (me : ClockIdentity) (ingress : ℕ) (d : DataSetsValue) (datagram : List ℕ)
+    (cause : DecodeError)
+    → reading datagram ≡ Err cause
+    → forwarded me ingress d datagram ≡ []
 unfolding forwarded message_of
 forwarded-refused me ingress d datagram cause e =
     ap (forwarded_by me ingress d datagram) (message_of-refused datagram (refusal datagram) (message_at (message_octets datagram)) cause e)
@@ -183,7 +259,13 @@ forwarded-refused me ingress d datagram cause e =
 -- ---- any other message changes nothing
 
 -- a numbered request in the clock's domain, or a repeat, is a copy
-pub is_copy-numbered : (c : Clock) (s : State) (v : Message) → is_in_domain c s v ≡ true → is_own c v ≡ false → is_addressed c s.sets v ≡ true → is_request v ≡ true → is_numbered c v ≡ true → is_copy c (length s.sets.ports) v ≡ true
+pub is_copy-numbered : (c : Clock) (s : State) (v : Message)
+    → is_in_domain c s v ≡ true
+    → is_own c v ≡ false
+    → is_addressed c s.sets v ≡ true
+    → is_request v ≡ true
+    → is_numbered c v ≡ true
+    → is_copy c (length s.sets.ports) v ≡ true
 is_copy-numbered c s v d o a q n =
     let sdo = (and_parts (v.sdo == 0) (v.domain == s.sets.default.domain || is_accepted_repeat c s v) d).0 in
     let port = (and_parts (is_for_this_clock c v || same_clock v.target.clock every_clock) (names_port (length s.sets.ports) v.target.port) a).1 in
@@ -191,7 +273,17 @@ is_copy-numbered c s v d o a q n =
     and_from _ _ sdo (and_from _ _ (ap not o) (and_from _ _ numbered.0 (and_from _ _ numbered.1 (and_from _ _ port q))))
 
 -- what holds of each verdict where it is the first that holds, holds of the verdict
-pub judged-each : (P : Verdict → Type 0) (c : Clock) (s : State) (v : Message) → P verdicts.OtherDomain → P verdicts.OwnMessage → P verdicts.NotAddressed → P verdicts.NotARequest → (is_in_domain c s v ≡ true → is_own c v ≡ false → is_addressed c s.sets v ≡ true → is_request v ≡ true → P (verdict_at (look c s v))) → P (judged c s v)
+pub judged-each : (P : Verdict → Type 0) (c : Clock) (s : State) (v : Message)
+    → P verdicts.OtherDomain
+    → P verdicts.OwnMessage
+    → P verdicts.NotAddressed
+    → P verdicts.NotARequest
+    → (is_in_domain c s v ≡ true
+    → is_own c v ≡ false
+    → is_addressed c s.sets v ≡ true
+    → is_request v ≡ true
+    → P (verdict_at (look c s v)))
+    → P (judged c s v)
 judged-each P c s v foreign own away reply request = ⊎_elim
     (λ (d : is_in_domain c s v ≡ true). ⊎_elim
     (λ (o : is_own c v ≡ true). subst P (sym (judged-own c s v d o)) own)
@@ -207,10 +299,14 @@ judged-each P c s v foreign own away reply request = ⊎_elim
     (cases_Bool (is_in_domain c s v))
 
 -- a request without a number is answered from the data sets as they stand
-pub verdict_at-unnumbered : (c : Clock) (s : State) (v : Message) → is_numbered c v ≡ false → verdict_at (look c s v) ≡ verdicts.AnsweredUnnumbered
+pub verdict_at-unnumbered : (c : Clock) (s : State) (v : Message)
+    → is_numbered c v ≡ false
+    → verdict_at (look c s v) ≡ verdicts.AnsweredUnnumbered
 verdict_at-unnumbered c s v n = ap verdict_at (cond-false _ _ _ n)
 
-pub next_by-no_copy : (c : Clock) (s : State) (v : Message) → is_copy c (length s.sets.ports) v ≡ false → next_by (judged c s v) c s v ≡ s
+pub next_by-no_copy : (c : Clock) (s : State) (v : Message)
+    → is_copy c (length s.sets.ports) v ≡ false
+    → next_by (judged c s v) c s v ≡ s
 next_by-no_copy c s v no_copy = judged-each (λ (w : Verdict). next_by w c s v ≡ s) c s v refl refl refl refl
     (λ d o a q. ⊎_elim
     (λ (n : is_numbered c v ≡ true). absurd (true≢false (sym (is_copy-numbered c s v d o a q n) ∙ no_copy)))
@@ -228,7 +324,9 @@ is_unnumbered verdicts.AnsweredUnnumbered = true
 is_unnumbered _ = false
 
 -- what is carried out is a copy
-is_copy-is_new : (c : Clock) (s : State) (v : Message) → is_new (judged c s v) ≡ true → is_copy c (length s.sets.ports) v ≡ true
+is_copy-is_new : (c : Clock) (s : State) (v : Message)
+    → is_new (judged c s v) ≡ true
+    → is_copy c (length s.sets.ports) v ≡ true
 unfolding is_new
 is_copy-is_new c s v = judged-each (λ (w : Verdict). is_new w ≡ true → is_copy c (length s.sets.ports) v ≡ true) c s v
     (λ e. absurd (false≢true e)) (λ e. absurd (false≢true e)) (λ e. absurd (false≢true e)) (λ e. absurd (false≢true e))
@@ -237,37 +335,54 @@ is_copy-is_new c s v = judged-each (λ (w : Verdict). is_new w ≡ true → is_c
     (λ (n : is_numbered c v ≡ false). absurd (false≢true (sym (ap is_new (verdict_at-unnumbered c s v n)) ∙ e)))
     (cases_Bool (is_numbered c v)))
 
-pub is_copy-new : (c : Clock) (s : State) (v : Message) → judged c s v ≡ verdicts.AnsweredNew → is_copy c (length s.sets.ports) v ≡ true
+pub is_copy-new : (c : Clock) (s : State) (v : Message)
+    → judged c s v ≡ verdicts.AnsweredNew
+    → is_copy c (length s.sets.ports) v ≡ true
 unfolding is_new
 is_copy-new c s v e = is_copy-is_new c s v (ap is_new e)
 
 -- what is read is addressed, and a request
-is_addressed-is_unnumbered : (c : Clock) (s : State) (v : Message) → is_unnumbered (judged c s v) ≡ true → (is_addressed c s.sets v ≡ true) × (is_request v ≡ true)
+is_addressed-is_unnumbered : (c : Clock) (s : State) (v : Message)
+    → is_unnumbered (judged c s v) ≡ true
+    → (is_addressed c s.sets v ≡ true) × (is_request v ≡ true)
 unfolding is_unnumbered
 is_addressed-is_unnumbered c s v = judged-each (λ (w : Verdict). is_unnumbered w ≡ true → (is_addressed c s.sets v ≡ true) × (is_request v ≡ true)) c s v
     (λ e. absurd (false≢true e)) (λ e. absurd (false≢true e)) (λ e. absurd (false≢true e)) (λ e. absurd (false≢true e))
     (λ d o a q e. (a, q))
 
-is_addressed-unnumbered : (c : Clock) (s : State) (v : Message) → judged c s v ≡ verdicts.AnsweredUnnumbered → (is_addressed c s.sets v ≡ true) × (is_request v ≡ true)
+is_addressed-unnumbered : (c : Clock) (s : State) (v : Message)
+    → judged c s v ≡ verdicts.AnsweredUnnumbered
+    → (is_addressed c s.sets v ≡ true) × (is_request v ≡ true)
 unfolding is_unnumbered
 is_addressed-unnumbered c s v e = is_addressed-is_unnumbered c s v (ap is_unnumbered e)
 
-port_of_addressed : (c : Clock) (d : DataSetsValue) (v : Message) → is_addressed c d v ≡ true → names_port (length d.ports) v.target.port ≡ true
+port_of_addressed : (c : Clock) (d : DataSetsValue) (v : Message)
+    → is_addressed c d v ≡ true
+    → names_port (length d.ports) v.target.port ≡ true
 port_of_addressed c d v a =
     (and_parts (is_for_this_clock c v || same_clock v.target.clock every_clock) (names_port (length d.ports) v.target.port) a).1
 
-pub new_parts : (c : Clock) (s : State) (v : Message) → judged c s v ≡ verdicts.AnsweredNew → CopyParts c (length s.sets.ports) v
+pub new_parts : (c : Clock) (s : State) (v : Message)
+    → judged c s v ≡ verdicts.AnsweredNew
+    → CopyParts c (length s.sets.ports) v
 new_parts c s v e = copy_parts c (length s.sets.ports) v (is_copy-new c s v e)
 
 -- a port that it names, and that it is a request
-pub unnumbered_parts : (c : Clock) (s : State) (v : Message) → judged c s v ≡ verdicts.AnsweredUnnumbered → (names_port (length s.sets.ports) v.target.port ≡ true) × (is_request v ≡ true)
+pub unnumbered_parts : (c : Clock) (s : State) (v : Message)
+    → judged c s v ≡ verdicts.AnsweredUnnumbered
+    → (names_port (length s.sets.ports) v.target.port ≡ true) × (is_request v ≡ true)
 unnumbered_parts c s v e =
     let p = is_addressed-unnumbered c s v e in
     (port_of_addressed c s.sets v p.0, p.1)
 
 -- ---- a call, against the turn
 
-pub turned_refused : (c : Clock) (s : State) (ingress : ℕ) (datagram : List ℕ) (cause : DecodeError) (out : List (ℕ × List ℕ)) (next : State) → reading datagram ≡ Err cause → out ≡ [] → next ≡ s → IsTurned (turn c s ingress datagram) (verdicts.Malformed cause) out next
+pub turned_refused : (c : Clock) (s : State) (ingress : ℕ) (datagram : List ℕ) (cause : DecodeError)
+    (out : List (ℕ × List ℕ)) (next : State)
+    → reading datagram ≡ Err cause
+    → out ≡ []
+    → next ≡ s
+    → IsTurned (turn c s ingress datagram) (verdicts.Malformed cause) out next
 unfolding turn
 turned_refused c s ingress datagram cause out next e sent same =
     subst (λ (r : Result Message DecodeError). IsTurned (turn_by c s ingress datagram r) (verdicts.Malformed cause) out next) (sym e)
@@ -279,7 +394,15 @@ turned_refused c s ingress datagram cause out next e sent same =
     })
 
 -- on a message whose verdict is w
-turned_at : (c : Clock) (s : State) (ingress : ℕ) (datagram : List ℕ) (v : Message) (w : Verdict) (out : List (ℕ × List ℕ)) (next : State) → reading datagram ≡ Ok v → w ≡ judged c s v → out ≡ forwarded c.identity ingress s.sets datagram ++ reply_messages c ingress (heard_of v) (reply_by w c s v) → next ≡ next_by w c s v → IsTurned (turn c s ingress datagram) w out next
+turned_at : (c : Clock) (s : State) (ingress : ℕ) (datagram : List ℕ) (v : Message) (w : Verdict)
+    (out : List (ℕ × List ℕ)) (next : State)
+    → reading datagram ≡ Ok v
+    → w ≡ judged c s v
+    → out
+    ≡ forwarded c.identity ingress s.sets datagram
+    ++ reply_messages c ingress (heard_of v) (reply_by w c s v)
+    → next ≡ next_by w c s v
+    → IsTurned (turn c s ingress datagram) w out next
 unfolding turn
 turned_at c s ingress datagram v w out next e verdict sent left =
     subst (λ (r : Result Message DecodeError). IsTurned (turn_by c s ingress datagram r) w out next) (sym e)
@@ -290,7 +413,14 @@ turned_at c s ingress datagram v w out next e verdict sent left =
       entries_are = ap (λ (t : State). t.entries) left ∙ ap (λ (u : Verdict). (next_by u c s v).entries) verdict;
     })
 
-pub turned_new : (c : Clock) (s : State) (ingress : ℕ) (datagram : List ℕ) (v : Message) (w : Verdict) (out : List (ℕ × List ℕ)) (next : State) → reading datagram ≡ Ok v → w ≡ judged c s v → w ≡ verdicts.AnsweredNew → out ≡ rendered c.identity (heard_of v) (new_reply c s v) ingress → next ≡ carried_out c s v → IsTurned (turn c s ingress datagram) w out next
+pub turned_new : (c : Clock) (s : State) (ingress : ℕ) (datagram : List ℕ) (v : Message)
+    (w : Verdict) (out : List (ℕ × List ℕ)) (next : State)
+    → reading datagram ≡ Ok v
+    → w ≡ judged c s v
+    → w ≡ verdicts.AnsweredNew
+    → out ≡ rendered c.identity (heard_of v) (new_reply c s v) ingress
+    → next ≡ carried_out c s v
+    → IsTurned (turn c s ingress datagram) w out next
 turned_new c s ingress datagram v w out next e verdict new sent left =
     let none : forwarded c.identity ingress s.sets datagram ≡ [] =
     forwarded-copy c ingress s.sets datagram v (message_of-reading datagram v e) (new_parts c s v (sym verdict ∙ new)).target in
@@ -299,29 +429,48 @@ turned_new c s ingress datagram v w out next e verdict new sent left =
     ∙ sym (ap (λ (u : Verdict). forwarded c.identity ingress s.sets datagram ++ reply_messages c ingress (heard_of v) (reply_by u c s v)) new)))
     (left ∙ sym (ap (λ (u : Verdict). next_by u c s v) new))
 
-next_by-not_new : (w : Verdict) (c : Clock) (s : State) (v : Message) → (w ≡ verdicts.AnsweredNew → ⊥) → next_by w c s v ≡ s
+next_by-not_new : (w : Verdict) (c : Clock) (s : State) (v : Message)
+    → (w ≡ verdicts.AnsweredNew → ⊥)
+    → next_by w c s v ≡ s
 next_by-not_new verdicts.AnsweredNew c s v other = absurd (other refl)
 next_by-not_new _ c s v other = refl
 
-pub turned_other : (c : Clock) (s : State) (ingress : ℕ) (datagram : List ℕ) (v : Message) (w : Verdict) (out : List (ℕ × List ℕ)) (next : State) → reading datagram ≡ Ok v → w ≡ judged c s v → (w ≡ verdicts.AnsweredNew → ⊥) → out ≡ forwarded c.identity ingress s.sets datagram ++ reply_messages c ingress (heard_of v) (reply_by w c s v) → next ≡ s → IsTurned (turn c s ingress datagram) w out next
+pub turned_other : (c : Clock) (s : State) (ingress : ℕ) (datagram : List ℕ) (v : Message)
+    (w : Verdict) (out : List (ℕ × List ℕ)) (next : State)
+    → reading datagram ≡ Ok v
+    → w ≡ judged c s v
+    → (w ≡ verdicts.AnsweredNew → ⊥)
+    → out
+    ≡ forwarded c.identity ingress s.sets datagram
+    ++ reply_messages c ingress (heard_of v) (reply_by w c s v)
+    → next ≡ s
+    → IsTurned (turn c s ingress datagram) w out next
 turned_other c s ingress datagram v w out next e verdict other sent same =
     turned_at c s ingress datagram v w out next e verdict sent (same ∙ sym (next_by-not_new w c s v other))
 
 -- ---- whose entries there are
 
 -- a manager is not one who is none
-other_identity : (managers : List PortIdentity) (m q : PortIdentity) → is_known m managers ≡ false → is_known q managers ≡ true → same_identity m q ≡ false
+other_identity : (managers : List PortIdentity) (m q : PortIdentity)
+    → is_known m managers ≡ false
+    → is_known q managers ≡ true
+    → same_identity m q ≡ false
 other_identity managers m q unknown known = ⊎_elim
     (λ (same : same_identity m q ≡ true).
     absurd (true≢false (sym known ∙ (sym (ap (λ (p : PortIdentity). is_known p managers) (same_identity-true m q same)) ∙ unknown))))
     (λ (other : same_identity m q ≡ false). other) (cases_Bool (same_identity m q))
 
-AreOfManagers-next_by : (c : Clock) (s : State) (v : Message) (w : Verdict) → is_known v.source c.managers ≡ true → AreOfManagers c s.entries → AreOfManagers c (next_by w c s v).entries
+AreOfManagers-next_by : (c : Clock) (s : State) (v : Message) (w : Verdict)
+    → is_known v.source c.managers ≡ true
+    → AreOfManagers c s.entries
+    → AreOfManagers c (next_by w c s v).entries
 AreOfManagers-next_by c s v verdicts.AnsweredNew known before m unknown =
     get-insert_other s.entries v.source _ m (other_identity c.managers m v.source unknown known) ∙ before m unknown
 AreOfManagers-next_by c s v _ known before m unknown = before m unknown
 
-pub AreOfManagers-judged : (c : Clock) (s : State) (v : Message) → AreOfManagers c s.entries → AreOfManagers c (next_by (judged c s v) c s v).entries
+pub AreOfManagers-judged : (c : Clock) (s : State) (v : Message)
+    → AreOfManagers c s.entries
+    → AreOfManagers c (next_by (judged c s v) c s v).entries
 AreOfManagers-judged c s v before = ⊎_elim
     (λ (y : is_copy c (length s.sets.ports) v ≡ true). AreOfManagers-next_by c s v (judged c s v) (copy_parts c (length s.sets.ports) v y).known before)
     (λ (n : is_copy c (length s.sets.ports) v ≡ false). subst (λ (t : State). AreOfManagers c t.entries) (sym (next_by-no_copy c s v n)) before)

@@ -194,10 +194,11 @@ impl<T: ReplyTable + Drop> Agent<T> {
             HasEntry (T.entries self.old.table) message.now.source message.now.number }
         requires not_new { verdict ≢ Verdict.AnsweredNew }
         requires valid { IsValid message.now }
-        ensures sent { out.new ≡ forwarded
-            (clock_of T.owner self.old).identity ingress self.old.sets datagram.now ++ reply_messages
-            (clock_of T.owner self.old) ingress (heard_of message.now)
-            (reply_by verdict (clock_of T.owner self.old) (state_of T.entries self.old) message.now) }
+        ensures sent { out.new
+            ≡ forwarded (clock_of T.owner self.old).identity ingress self.old.sets datagram.now
+            ++ reply_messages (clock_of T.owner self.old) ingress (heard_of message.now)
+            (reply_by verdict (clock_of T.owner self.old) (state_of T.entries self.old)
+            message.now) }
         ensures sets { self.new.sets ≡ self.old.sets }
         ensures table { self.new.table ≡ self.old.table }
     {
@@ -221,9 +222,11 @@ impl<T: ReplyTable + Drop> Agent<T> {
         requires not_new { verdict ≢ Verdict.AnsweredNew }
         requires valid { IsValid message.now }
         requires room { length out.old ≤ 7 }
-        ensures sent { out.new ≡ out.old ++ reply_messages
-            (clock_of T.owner self.old) ingress (heard_of message.now)
-            (reply_by verdict (clock_of T.owner self.old) (state_of T.entries self.old) message.now) }
+        ensures sent { out.new
+            ≡ out.old
+            ++ reply_messages (clock_of T.owner self.old) ingress (heard_of message.now)
+            (reply_by verdict (clock_of T.owner self.old) (state_of T.entries self.old)
+            message.now) }
         ensures sets { self.new.sets ≡ self.old.sets }
         ensures table { self.new.table ≡ self.old.table }
     {
@@ -301,8 +304,8 @@ impl Agent<BoundTable> {
         requires few { length managers.now ≤ 16 }
         requires distinct { has_twice (identities managers.now) ≡ false }
         ensures sets { self.new.sets ≡ self.old.sets }
-        ensures table { IsFresh (⟦<BoundTable as ReplyTable>⟧.owner self.old.table).identity managers.now
-            (⟦<BoundTable as ReplyTable>⟧.owner self.new.table)
+        ensures table { IsFresh (⟦<BoundTable as ReplyTable>⟧.owner self.old.table).identity
+            managers.now (⟦<BoundTable as ReplyTable>⟧.owner self.new.table)
             (⟦<BoundTable as ReplyTable>⟧.entries self.new.table) }
     {
         self.table.admit(managers);
@@ -379,7 +382,8 @@ impl<T: SureTable + Drop> Agent<T> {
         requires valid { IsValid message.now }
         ensures accepted { state_of T.entries self.new ≡ carried_out
             (clock_of T.owner self.old) (state_of T.entries self.old) message.now }
-        ensures sent { out.new ≡ rendered (clock_of T.owner self.old).identity (heard_of message.now)
+        ensures sent { out.new
+            ≡ rendered (clock_of T.owner self.old).identity (heard_of message.now)
             (new_reply (clock_of T.owner self.old) (state_of T.entries self.old) message.now)
             ingress }
         ensures clock { clock_of T.owner self.new ≡ clock_of T.owner self.old }

@@ -86,13 +86,19 @@ holding None says_so = never_true says_so
 -- ---- what it owns
 module _ {M : Type 1} {𝓤 : Ura M} {𝓛 : Logic 𝓤} {K : Type 0} {Γ : List (Item 𝓤)} {G : Goal 𝓤 𝓛.H} where
   -- taken out of its word
-  pub lifts_out : K → (k : Kept.Denot) (vs : List Val) → (vs ≡ kept_word k.at ∷ [] → Seq K 𝓛 (‵ (keeping_owns k.at k.kept) ∷ Γ) G) → Seq K 𝓛 (‵ (Kept.own_val k vs) ∷ Γ) G
+  pub lifts_out : K
+      → (k : Kept.Denot) (vs : List Val)
+      → (vs ≡ kept_word k.at ∷ [] → Seq K 𝓛 (‵ (keeping_owns k.at k.kept) ∷ Γ) G)
+      → Seq K 𝓛 (‵ (Kept.own_val k vs) ∷ Γ) G
   lifts_out t k vs next =
       fsplit t $ fpick t (λ fields. fsplit t $ feq_l t (λ whole. fsplit t $ feq_l t (λ first. drop t $
       next (subst (λ (ps : List Val). vs ≡ vstruct (of_list (ps ++ [])) ∷ []) first whole))))
 
   -- put behind a pointer
-  pub puts_behind : K → (p : Ptr) (c : Option Inner.Denot) → Step K 𝓛 (‵ (Kept.own_val (record { at = p; kept = c }) (kept_word p ∷ [])) ∷ Γ) G (‵ (keeping_owns p c) ∷ Γ) G
+  pub puts_behind : K
+      → (p : Ptr) (c : Option Inner.Denot)
+      → Step K 𝓛 (‵ (Kept.own_val (record { at = p; kept = c }) (kept_word p ∷ [])) ∷ Γ) G
+      (‵ (keeping_owns p c) ∷ Γ) G
   puts_behind t p c = step (λ s.
       nothing t $ feq_i t (List Val) (ptr_val p ∷ []) (ptr_val p ∷ []) refl $ fjoin t $
       feq_i t (List Val) (kept_word p ∷ []) (kept_word p ∷ []) refl $ fjoin t $

@@ -4,10 +4,16 @@ use Rattle.ptpm_manager.specs.declared.error.BeginError.{BeginError}
 use Rattle.ptpm_manager.specs.declared.error.BeginError.TheVariants.{OutOfMemory}
 use Rattle.ptpm_host.specs.SessionNumbers.{begin_number}
 
-one_reason : (first : Option BeginError) (r e : BeginError) → first ≡ Some r → first ≡ Some e → r ≡ e
+one_reason : (first : Option BeginError) (r e : BeginError)
+    → first ≡ Some r
+    → first ≡ Some e
+    → r ≡ e
 one_reason first r e p q = cc
 
-pub number_of_refusal : (first : Option BeginError) (r e : BeginError) (number : ℕ) → (r ≢ OutOfMemory → first ≡ Some r) → number ≡ begin_number r → number ≢ 35
+pub number_of_refusal : (first : Option BeginError) (r e : BeginError) (number : ℕ)
+    → (r ≢ OutOfMemory → first ≡ Some r)
+    → number ≡ begin_number r
+    → number ≢ 35
     → first ≡ Some e → number ≡ begin_number e
 number_of_refusal first r e number told numbered not_memory is_e =
     let is_r : first ≡ Some r = told (λ memory. not_memory (numbered ∙ ap begin_number memory)) in

@@ -11,9 +11,16 @@ use Rattle.ptpm_c.specs.Turned.{IsTurnedTo, turn_of}
 one_value : (held : Option HostedClock) (b c : HostedClock) → held ≡ Some b → held ≡ Some c → b ≡ c
 one_value held b c p q = cc
 
-pub turned_to : (held left : Option HostedClock) (b c d : HostedClock) (port : ℕ) (datagram : List ℕ) (verdict : Verdict) (number : ℕ) (messages : List (ℕ × List ℕ))
-    → held ≡ Some b → held ≡ Some c → IsTurned (turn_of b port datagram) verdict d.outbox (state_in d) → number ≡ verdict_number verdict
-    → messages ≡ d.outbox → clock_in d ≡ clock_in b → left ≡ Some d → IfSome left (λ e. IsTurnedTo c port datagram number messages e)
+pub turned_to : (held left : Option HostedClock) (b c d : HostedClock) (port : ℕ)
+    (datagram : List ℕ) (verdict : Verdict) (number : ℕ) (messages : List (ℕ × List ℕ))
+    → held ≡ Some b
+    → held ≡ Some c
+    → IsTurned (turn_of b port datagram) verdict d.outbox (state_in d)
+    → number ≡ verdict_number verdict
+    → messages ≡ d.outbox
+    → clock_in d ≡ clock_in b
+    → left ≡ Some d
+    → IfSome left (λ e. IsTurnedTo c port datagram number messages e)
 turned_to held left b c d port datagram verdict number messages is_b is_c turned numbered handed clock is_d =
     let same : b ≡ c = one_value held b c is_b is_c in
     let at_b : IsTurnedTo b port datagram number messages d = record {

@@ -57,8 +57,10 @@ pub extern "C" fn ptpm_clock_start(
     ports: &[PortSettings],
     managers: &[ManagerSettings],
 ) -> u32
-    ensures started { IfSome (clock_held handle.new.keeping) (λ c. (result ≡ 0) × (start_by settings.now ports.now ≡ Ok c.agent.sets)) }
-    ensures refused { IfNone (clock_held handle.new.keeping) ((1 ≤ result) × (held handle.new.keeping ≡ Nothing)) }
+    ensures started { IfSome (clock_held handle.new.keeping)
+        (λ c. (result ≡ 0) × (start_by settings.now ports.now ≡ Ok c.agent.sets)) }
+    ensures refused { IfNone (clock_held handle.new.keeping)
+        ((1 ≤ result) × (held handle.new.keeping ≡ Nothing)) }
 {
     handle.end(alloc);
     let clock = match HostedClock::start(alloc, settings, ports, managers) {
@@ -87,15 +89,20 @@ pub extern "C" fn ptpm_clock_handle(
     sent: &mut [Sent],
     count: &mut usize,
 ) -> u32
-    ensures turned { (c : HostedClock) → clock_held handle.old.keeping ≡ Some c →
-        handle_refusal (has_port port c.agent.sets) (length sent.old) ≡ None → IfSome (clock_held handle.new.keeping) (λ d.
-        IsTurnedTo c port datagram.now result (messages_in (take count.new sent.new)) d) }
-    ensures refused { (c : HostedClock) (e : HandleRefusal) → clock_held handle.old.keeping ≡ Some c →
-        handle_refusal (has_port port c.agent.sets) (length sent.old) ≡ Some e →
-        (result ≡ handle_number e) × ((count.new ≡ 0) × (clock_held handle.new.keeping ≡ Some c)) }
+    ensures turned { (c : HostedClock)
+        → clock_held handle.old.keeping ≡ Some c
+        → handle_refusal (has_port port c.agent.sets) (length sent.old) ≡ None
+        → IfSome (clock_held handle.new.keeping)
+        (λ d. IsTurnedTo c port datagram.now result (messages_in (take count.new sent.new)) d) }
+    ensures refused { (c : HostedClock) (e : HandleRefusal)
+        → clock_held handle.old.keeping ≡ Some c
+        → handle_refusal (has_port port c.agent.sets) (length sent.old) ≡ Some e
+        → (result ≡ handle_number e)
+        × ((count.new ≡ 0) × (clock_held handle.new.keeping ≡ Some c)) }
     ensures within { count.new ≤ length sent.new }
-    ensures empty { clock_held handle.old.keeping ≡ None →
-        (result ≡ no_clock) × ((count.new ≡ 0) × (held handle.new.keeping ≡ held handle.old.keeping)) }
+    ensures empty { clock_held handle.old.keeping ≡ None
+        → (result ≡ no_clock)
+        × ((count.new ≡ 0) × (held handle.new.keeping ≡ held handle.old.keeping)) }
 {
     *count = 0;
     let Some((kept, mut clock)) = handle.take_clock(alloc) else {
@@ -127,8 +134,10 @@ pub extern "C" fn ptpm_clock_read(
     ensures field { (c : HostedClock) → clock_held handle.old.keeping ≡ Some c →
         read_refusal id port (length octets.old) c.agent.sets ≡ None →
         (result ≡ 0) × (take size.new octets.new ≡ data_field_of_id id port c.agent.sets) }
-    ensures refused { (c : HostedClock) (e : ReadRefusal) → clock_held handle.old.keeping ≡ Some c →
-        read_refusal id port (length octets.old) c.agent.sets ≡ Some e → (result ≡ read_number e) × (size.new ≡ 0) }
+    ensures refused { (c : HostedClock) (e : ReadRefusal)
+        → clock_held handle.old.keeping ≡ Some c
+        → read_refusal id port (length octets.old) c.agent.sets ≡ Some e
+        → (result ≡ read_number e) × (size.new ≡ 0) }
     ensures empty { clock_held handle.old.keeping ≡ None → (result ≡ no_clock) × (size.new ≡ 0) }
 {
     *size = 0;

@@ -35,9 +35,13 @@ pub extern "C" fn ptpm_session_start(
     handle: &mut Handle,
     settings: &SessionSettings,
 ) -> u32
-    ensures started { IfSome (session_held handle.new.keeping) (λ s. (result ≡ 0) × IsAt s (session_start settings.now) None) }
-    ensures refused { IfNone (session_held handle.new.keeping) ((1 ≤ result) × (held handle.new.keeping ≡ Nothing)) }
-    ensures number { (e : SessionRefusal) → session_refusal settings.now ≡ Some e → result ≡ session_number e }
+    ensures started { IfSome (session_held handle.new.keeping)
+        (λ s. (result ≡ 0) × IsAt s (session_start settings.now) None) }
+    ensures refused { IfNone (session_held handle.new.keeping)
+        ((1 ≤ result) × (held handle.new.keeping ≡ Nothing)) }
+    ensures number { (e : SessionRefusal)
+        → session_refusal settings.now ≡ Some e
+        → result ≡ session_number e }
 {
     handle.end(alloc);
     let session = match HostedSession::start(alloc, settings) {
@@ -65,14 +69,24 @@ pub extern "C" fn ptpm_session_begin(
     port: u16,
     octets: &[u8],
 ) -> u32
-    ensures begun { (s : HostedSession) → session_held handle.old.keeping ≡ Some s → result ≡ 0 →
-        IfSome (session_held handle.new.keeping) (λ t. HasBegun s (ask_of action id port octets.now) t) }
-    ensures permitted { (s : HostedSession) → session_held handle.old.keeping ≡ Some s → result ≡ 0 →
-        begin_refusal s.session (ask_of action id port octets.now) ≡ None }
-    ensures number { (s : HostedSession) (e : BeginError) → session_held handle.old.keeping ≡ Some s →
-        begin_refusal s.session (ask_of action id port octets.now) ≡ Some e → result ≢ 35 → result ≡ begin_number e }
-    ensures unchanged { (s : HostedSession) → session_held handle.old.keeping ≡ Some s → result ≢ 0 →
-        session_held handle.new.keeping ≡ Some s }
+    ensures begun { (s : HostedSession)
+        → session_held handle.old.keeping ≡ Some s
+        → result ≡ 0
+        → IfSome (session_held handle.new.keeping)
+        (λ t. HasBegun s (ask_of action id port octets.now) t) }
+    ensures permitted { (s : HostedSession)
+        → session_held handle.old.keeping ≡ Some s
+        → result ≡ 0
+        → begin_refusal s.session (ask_of action id port octets.now) ≡ None }
+    ensures number { (s : HostedSession) (e : BeginError)
+        → session_held handle.old.keeping ≡ Some s
+        → begin_refusal s.session (ask_of action id port octets.now) ≡ Some e
+        → result ≢ 35
+        → result ≡ begin_number e }
+    ensures unchanged { (s : HostedSession)
+        → session_held handle.old.keeping ≡ Some s
+        → result ≢ 0
+        → session_held handle.new.keeping ≡ Some s }
     ensures empty { session_held handle.old.keeping ≡ None →
         (result ≡ no_session) × (held handle.new.keeping ≡ held handle.old.keeping) }
 {
@@ -95,17 +109,23 @@ pub extern "C" fn ptpm_session_send(
     octets: &mut [u8],
     size: &mut usize,
 ) -> u32
-    ensures sent { (s : HostedSession) → session_held handle.old.keeping ≡ Some s →
-        hand_refusal (length octets.old) s.session ≡ None →
-        (result ≡ 0) × IfSome (session_held handle.new.keeping) (λ t. IsAt t (sent s.session) s.report) }
+    ensures sent { (s : HostedSession)
+        → session_held handle.old.keeping ≡ Some s
+        → hand_refusal (length octets.old) s.session ≡ None
+        → (result ≡ 0)
+        × IfSome (session_held handle.new.keeping) (λ t. IsAt t (sent s.session) s.report) }
     ensures octets { (s : HostedSession) (v : Message) → session_held handle.old.keeping ≡ Some s →
         hand_refusal (length octets.old) s.session ≡ None → due_message s.session ≡ Some v →
         take size.new octets.new ≡ canonical v }
-    ensures refused { (s : HostedSession) (e : SendRefusal) → session_held handle.old.keeping ≡ Some s →
-        hand_refusal (length octets.old) s.session ≡ Some e → (result ≡ send_number e) × ((size.new ≡ 0) ×
-        IfSome (session_held handle.new.keeping) (λ t. IsAt t s.session s.report)) }
-    ensures empty { session_held handle.old.keeping ≡ None →
-        (result ≡ no_session) × ((size.new ≡ 0) × (held handle.new.keeping ≡ held handle.old.keeping)) }
+    ensures refused { (s : HostedSession) (e : SendRefusal)
+        → session_held handle.old.keeping ≡ Some s
+        → hand_refusal (length octets.old) s.session ≡ Some e
+        → (result ≡ send_number e)
+        × ((size.new ≡ 0)
+        × IfSome (session_held handle.new.keeping) (λ t. IsAt t s.session s.report)) }
+    ensures empty { session_held handle.old.keeping ≡ None
+        → (result ≡ no_session)
+        × ((size.new ≡ 0) × (held handle.new.keeping ≡ held handle.old.keeping)) }
 {
     *size = 0;
     let Some((kept, mut session)) = handle.take_session(alloc) else {
@@ -125,10 +145,16 @@ pub extern "C" fn ptpm_session_send(
 /// Gives the unanswered request this many attempts: 0, or the number of the refusal. Takes no memory.
 #[unsafe(no_mangle)]
 pub extern "C" fn ptpm_session_resume(alloc: Global, handle: &mut Handle, attempts: u8) -> u32
-    ensures resumed { (s : HostedSession) → session_held handle.old.keeping ≡ Some s → is_waiting s.session ≡ true →
-        (result ≡ 0) × IfSome (session_held handle.new.keeping) (λ t. IsAt t (resumed s.session attempts) s.report) }
-    ensures idle { (s : HostedSession) → session_held handle.old.keeping ≡ Some s → is_waiting s.session ≡ false →
-        (result ≡ 43) × (session_held handle.new.keeping ≡ Some s) }
+    ensures resumed { (s : HostedSession)
+        → session_held handle.old.keeping ≡ Some s
+        → is_waiting s.session ≡ true
+        → (result ≡ 0)
+        × IfSome (session_held handle.new.keeping)
+        (λ t. IsAt t (resumed s.session attempts) s.report) }
+    ensures idle { (s : HostedSession)
+        → session_held handle.old.keeping ≡ Some s
+        → is_waiting s.session ≡ false
+        → (result ≡ 43) × (session_held handle.new.keeping ≡ Some s) }
     ensures empty { session_held handle.old.keeping ≡ None →
         (result ≡ no_session) × (held handle.new.keeping ≡ held handle.old.keeping) }
 {
@@ -146,8 +172,11 @@ pub extern "C" fn ptpm_session_resume(alloc: Global, handle: &mut Handle, attemp
 /// From now on requests are sent, and replies expected, in this domain: 0, or the number of the refusal. Takes no memory.
 #[unsafe(no_mangle)]
 pub extern "C" fn ptpm_session_retune(alloc: Global, handle: &mut Handle, domain: u8) -> u32
-    ensures retuned { (s : HostedSession) → session_held handle.old.keeping ≡ Some s →
-        (result ≡ 0) × IfSome (session_held handle.new.keeping) (λ t. IsAt t (retuned s.session domain) s.report) }
+    ensures retuned { (s : HostedSession)
+        → session_held handle.old.keeping ≡ Some s
+        → (result ≡ 0)
+        × IfSome (session_held handle.new.keeping)
+        (λ t. IsAt t (retuned s.session domain) s.report) }
     ensures empty { session_held handle.old.keeping ≡ None →
         (result ≡ no_session) × (held handle.new.keeping ≡ held handle.old.keeping) }
 {
@@ -163,12 +192,18 @@ pub extern "C" fn ptpm_session_retune(alloc: Global, handle: &mut Handle, domain
 /// then nothing changes.
 #[unsafe(no_mangle)]
 pub extern "C" fn ptpm_session_receive(alloc: Global, handle: &mut Handle, datagram: &[u8]) -> u32
-    ensures heard { (s : HostedSession) → session_held handle.old.keeping ≡ Some s → result ≢ 35 →
-        (result ≡ heard_number (heard_of (received_of s.session datagram.now))) ×
-        IfSome (session_held handle.new.keeping) (λ t. HasHeard s (received_of s.session datagram.now) t) }
-    ensures refused { (s : HostedSession) → session_held handle.old.keeping ≡ Some s →
-        result ≢ heard_number (heard_of (received_of s.session datagram.now)) →
-        (result ≡ 35) × (NeedsMemory (received_of s.session datagram.now) × (session_held handle.new.keeping ≡ Some s)) }
+    ensures heard { (s : HostedSession)
+        → session_held handle.old.keeping ≡ Some s
+        → result ≢ 35
+        → (result ≡ heard_number (heard_of (received_of s.session datagram.now)))
+        × IfSome (session_held handle.new.keeping)
+        (λ t. HasHeard s (received_of s.session datagram.now) t) }
+    ensures refused { (s : HostedSession)
+        → session_held handle.old.keeping ≡ Some s
+        → result ≢ heard_number (heard_of (received_of s.session datagram.now))
+        → (result ≡ 35)
+        × (NeedsMemory (received_of s.session datagram.now)
+        × (session_held handle.new.keeping ≡ Some s)) }
     ensures empty { session_held handle.old.keeping ≡ None →
         (result ≡ no_session) × (held handle.new.keeping ≡ held handle.old.keeping) }
 {
@@ -187,7 +222,9 @@ pub extern "C" fn ptpm_session_receive(alloc: Global, handle: &mut Handle, datag
 #[unsafe(no_mangle)]
 pub extern "C" fn ptpm_session_issued(alloc: Global, handle: &mut Handle) -> u64
     ensures kept { held handle.new.keeping ≡ held handle.old.keeping }
-    ensures issued { (s : HostedSession) → session_held handle.old.keeping ≡ Some s → result ≡ s.session.issued }
+    ensures issued { (s : HostedSession)
+        → session_held handle.old.keeping ≡ Some s
+        → result ≡ s.session.issued }
     ensures empty { session_held handle.old.keeping ≡ None → result ≡ 0 }
 {
     let Some((kept, session)) = handle.take_session(alloc) else {
@@ -209,14 +246,23 @@ pub extern "C" fn ptpm_session_report(
     error: &mut u16,
 ) -> u32
     ensures kept { held handle.new.keeping ≡ held handle.old.keeping }
-    ensures told { (s : HostedSession) (r : Report) → session_held handle.old.keeping ≡ Some s → s.report ≡ Some r →
-        report_refusal (length octets.old) s.report ≡ None →
-        (result ≡ told_number (told_of r.outcome)) × (take size.new octets.new ≡ told_octets r.outcome) }
-    ensures error { (s : HostedSession) (r : Report) → session_held handle.old.keeping ≡ Some s → s.report ≡ Some r →
-        report_refusal (length octets.old) s.report ≡ None → error.new ≡ told_error (told_of r.outcome) }
-    ensures refused { (s : HostedSession) (e : ReportRefusal) → session_held handle.old.keeping ≡ Some s →
-        report_refusal (length octets.old) s.report ≡ Some e → (result ≡ report_number e) × (size.new ≡ 0) }
-    ensures empty { session_held handle.old.keeping ≡ None → (result ≡ no_session) × (size.new ≡ 0) }
+    ensures told { (s : HostedSession) (r : Report)
+        → session_held handle.old.keeping ≡ Some s
+        → s.report ≡ Some r
+        → report_refusal (length octets.old) s.report ≡ None
+        → (result ≡ told_number (told_of r.outcome))
+        × (take size.new octets.new ≡ told_octets r.outcome) }
+    ensures error { (s : HostedSession) (r : Report)
+        → session_held handle.old.keeping ≡ Some s
+        → s.report ≡ Some r
+        → report_refusal (length octets.old) s.report ≡ None
+        → error.new ≡ told_error (told_of r.outcome) }
+    ensures refused { (s : HostedSession) (e : ReportRefusal)
+        → session_held handle.old.keeping ≡ Some s
+        → report_refusal (length octets.old) s.report ≡ Some e
+        → (result ≡ report_number e) × (size.new ≡ 0) }
+    ensures empty { session_held handle.old.keeping ≡ None
+        → (result ≡ no_session) × (size.new ≡ 0) }
 {
     *size = 0;
     *error = 0;

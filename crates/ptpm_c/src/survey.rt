@@ -35,9 +35,13 @@ pub extern "C" fn ptpm_survey_start(
     handle: &mut Handle,
     settings: &SurveySettings,
 ) -> u32
-    ensures started { IfSome (survey_held handle.new.keeping) (λ s. (result ≡ 0) × IsAt s (enquiry_of settings.now) []) }
-    ensures refused { IfNone (survey_held handle.new.keeping) ((1 ≤ result) × (held handle.new.keeping ≡ Nothing)) }
-    ensures number { (e : SessionRefusal) → survey_refusal settings.now ≡ Some e → result ≡ session_number e }
+    ensures started { IfSome (survey_held handle.new.keeping)
+        (λ s. (result ≡ 0) × IsAt s (enquiry_of settings.now) []) }
+    ensures refused { IfNone (survey_held handle.new.keeping)
+        ((1 ≤ result) × (held handle.new.keeping ≡ Nothing)) }
+    ensures number { (e : SessionRefusal)
+        → survey_refusal settings.now ≡ Some e
+        → result ≡ session_number e }
 {
     handle.end(alloc);
     let survey = match HostedSurvey::start(alloc, settings) {
@@ -63,10 +67,14 @@ pub extern "C" fn ptpm_survey_send(
     size: &mut usize,
 ) -> u32
     ensures kept { held handle.new.keeping ≡ held handle.old.keeping }
-    ensures sent { (s : HostedSurvey) → survey_held handle.old.keeping ≡ Some s → message_refusal (length octets.old) ≡ None →
-        (result ≡ 0) × (take size.new octets.new ≡ canonical (survey_message s.survey.enquiry)) }
-    ensures refused { (s : HostedSurvey) (e : SendRefusal) → survey_held handle.old.keeping ≡ Some s →
-        message_refusal (length octets.old) ≡ Some e → (result ≡ send_number e) × (size.new ≡ 0) }
+    ensures sent { (s : HostedSurvey)
+        → survey_held handle.old.keeping ≡ Some s
+        → message_refusal (length octets.old) ≡ None
+        → (result ≡ 0) × (take size.new octets.new ≡ canonical (survey_message s.survey.enquiry)) }
+    ensures refused { (s : HostedSurvey) (e : SendRefusal)
+        → survey_held handle.old.keeping ≡ Some s
+        → message_refusal (length octets.old) ≡ Some e
+        → (result ≡ send_number e) × (size.new ≡ 0) }
     ensures empty { survey_held handle.old.keeping ≡ None → (result ≡ no_survey) × (size.new ≡ 0) }
 {
     *size = 0;
@@ -87,17 +95,31 @@ pub extern "C" fn ptpm_survey_send(
 /// What the survey makes of a datagram, as a number. Where memory is refused, nothing changes.
 #[unsafe(no_mangle)]
 pub extern "C" fn ptpm_survey_receive(alloc: Global, handle: &mut Handle, datagram: &[u8]) -> u32
-    ensures surveyed { (s : HostedSurvey) → survey_held handle.old.keeping ≡ Some s → result ≢ 35 →
-        (result ≡ surveyed_number (surveyed_by s.survey.answers (heard s.survey.enquiry datagram.now))) ×
-        IfSome (survey_held handle.new.keeping) (λ t. HasSurveyed s datagram.now t) }
+    ensures surveyed { (s : HostedSurvey)
+        → survey_held handle.old.keeping ≡ Some s
+        → result ≢ 35
+        → (result
+        ≡ surveyed_number
+        (surveyed_by s.survey.answers (heard s.survey.enquiry datagram.now)))
+        × IfSome (survey_held handle.new.keeping) (λ t. HasSurveyed s datagram.now t) }
     // Answers that are the first of each source of some datagrams, are so with this one.
-    ensures first { (s : HostedSurvey) (datagrams : List (List ℕ)) → survey_held handle.old.keeping ≡ Some s → result ≢ 35 →
-        s.survey.answers ≡ first_of_each_source s.survey.enquiry datagrams →
-        IfSome (survey_held handle.new.keeping) (λ t. t.survey.answers ≡ first_of_each_source s.survey.enquiry (datagrams ++ datagram.now ∷ [])) }
-    ensures refused { (s : HostedSurvey) → survey_held handle.old.keeping ≡ Some s →
-        result ≢ surveyed_number (surveyed_by s.survey.answers (heard s.survey.enquiry datagram.now)) →
-        (result ≡ 35) × ((surveyed_by s.survey.answers (heard s.survey.enquiry datagram.now) ≡ Surveyed.Taken) × (survey_held handle.new.keeping ≡ Some s)) }
-    ensures empty { survey_held handle.old.keeping ≡ None → (result ≡ no_survey) × (held handle.new.keeping ≡ held handle.old.keeping) }
+    ensures first { (s : HostedSurvey) (datagrams : List (List ℕ))
+        → survey_held handle.old.keeping ≡ Some s
+        → result ≢ 35
+        → s.survey.answers ≡ first_of_each_source s.survey.enquiry datagrams
+        → IfSome (survey_held handle.new.keeping)
+        (λ t.
+        t.survey.answers
+        ≡ first_of_each_source s.survey.enquiry (datagrams ++ datagram.now ∷ [])) }
+    ensures refused { (s : HostedSurvey)
+        → survey_held handle.old.keeping ≡ Some s
+        → result
+        ≢ surveyed_number (surveyed_by s.survey.answers (heard s.survey.enquiry datagram.now))
+        → (result ≡ 35)
+        × ((surveyed_by s.survey.answers (heard s.survey.enquiry datagram.now) ≡ Surveyed.Taken)
+        × (survey_held handle.new.keeping ≡ Some s)) }
+    ensures empty { survey_held handle.old.keeping ≡ None
+        → (result ≡ no_survey) × (held handle.new.keeping ≡ held handle.old.keeping) }
 {
     let Some((kept, mut survey)) = handle.take_survey(alloc) else {
         return NO_SURVEY;
@@ -114,7 +136,9 @@ pub extern "C" fn ptpm_survey_receive(alloc: Global, handle: &mut Handle, datagr
 #[unsafe(no_mangle)]
 pub extern "C" fn ptpm_survey_count(alloc: Global, handle: &mut Handle) -> usize
     ensures kept { held handle.new.keeping ≡ held handle.old.keeping }
-    ensures count { (s : HostedSurvey) → survey_held handle.old.keeping ≡ Some s → result ≡ length s.survey.answers }
+    ensures count { (s : HostedSurvey)
+        → survey_held handle.old.keeping ≡ Some s
+        → result ≡ length s.survey.answers }
     ensures empty { survey_held handle.old.keeping ≡ None → result ≡ 0 }
 {
     let Some((kept, survey)) = handle.take_survey(alloc) else {
@@ -138,16 +162,22 @@ pub extern "C" fn ptpm_survey_answer(
     error: &mut u16,
 ) -> u32
     ensures kept { held handle.new.keeping ≡ held handle.old.keeping }
-    ensures told { (s : HostedSurvey) (a : Answer) → survey_held handle.old.keeping ≡ Some s → slice_get s.survey.answers place ≡ Some a →
-        answer_refusal (length octets.old) (slice_get s.survey.answers place) ≡ None →
-        (result ≡ told_number (told_of a.1)) × (take size.new octets.new ≡ told_octets a.1) }
-    ensures who { (s : HostedSurvey) (a : Answer) → survey_held handle.old.keeping ≡ Some s → slice_get s.survey.answers place ≡ Some a →
-        answer_refusal (length octets.old) (slice_get s.survey.answers place) ≡ None →
-        (source.new ≡ source_of a.0) × (error.new ≡ told_error (told_of a.1)) }
-    ensures refused { (s : HostedSurvey) (e : ReportRefusal) → survey_held handle.old.keeping ≡ Some s →
-        answer_refusal (length octets.old) (slice_get s.survey.answers place) ≡ Some e →
-        (result ≡ report_number e) × ((size.new ≡ 0) × (source.new ≡ source.old)) }
-    ensures empty { survey_held handle.old.keeping ≡ None → (result ≡ no_survey) × ((size.new ≡ 0) × (source.new ≡ source.old)) }
+    ensures told { (s : HostedSurvey) (a : Answer)
+        → survey_held handle.old.keeping ≡ Some s
+        → slice_get s.survey.answers place ≡ Some a
+        → answer_refusal (length octets.old) (slice_get s.survey.answers place) ≡ None
+        → (result ≡ told_number (told_of a.1)) × (take size.new octets.new ≡ told_octets a.1) }
+    ensures who { (s : HostedSurvey) (a : Answer)
+        → survey_held handle.old.keeping ≡ Some s
+        → slice_get s.survey.answers place ≡ Some a
+        → answer_refusal (length octets.old) (slice_get s.survey.answers place) ≡ None
+        → (source.new ≡ source_of a.0) × (error.new ≡ told_error (told_of a.1)) }
+    ensures refused { (s : HostedSurvey) (e : ReportRefusal)
+        → survey_held handle.old.keeping ≡ Some s
+        → answer_refusal (length octets.old) (slice_get s.survey.answers place) ≡ Some e
+        → (result ≡ report_number e) × ((size.new ≡ 0) × (source.new ≡ source.old)) }
+    ensures empty { survey_held handle.old.keeping ≡ None
+        → (result ≡ no_survey) × ((size.new ≡ 0) × (source.new ≡ source.old)) }
 {
     *size = 0;
     *error = 0;

@@ -17,7 +17,11 @@ use Rattle.ptpm_codec.specs.Canonical.{canonical, header_octets, port_identity_o
 -- ---- clock identities, octet by octet
 
 -- what holds of any eight octets holds of a list of that length
-by_eight : (P : List ℕ → Type 0) → ((a b c d e f g h : ℕ) → P (a ∷ b ∷ c ∷ d ∷ e ∷ f ∷ g ∷ h ∷ [])) → (xs : List ℕ) → length xs ≡ 8 → P xs
+by_eight : (P : List ℕ → Type 0)
+    → ((a b c d e f g h : ℕ) → P (a ∷ b ∷ c ∷ d ∷ e ∷ f ∷ g ∷ h ∷ []))
+    → (xs : List ℕ)
+    → length xs ≡ 8
+    → P xs
 by_eight P each [] n = absurd (omega arith)
 by_eight P each (a ∷ []) n = absurd (omega arith)
 by_eight P each (a ∷ b ∷ []) n = absurd (omega arith)
@@ -38,7 +42,10 @@ with_clocks v source target = record v {
 
 -- a claim on messages of eight octets in each clock identity is shown with these octets named
 pub by_clocks : (P : Message → Type 0) (v : Message) → Fits v
-    → ((a b c d e f g h a' b' c' d' e' f' g' h' : ℕ) → P (with_clocks v (a ∷ b ∷ c ∷ d ∷ e ∷ f ∷ g ∷ h ∷ []) (a' ∷ b' ∷ c' ∷ d' ∷ e' ∷ f' ∷ g' ∷ h' ∷ [])))
+    → ((a b c d e f g h a' b' c' d' e' f' g' h' : ℕ)
+    → P
+    (with_clocks v (a ∷ b ∷ c ∷ d ∷ e ∷ f ∷ g ∷ h ∷ [])
+    (a' ∷ b' ∷ c' ∷ d' ∷ e' ∷ f' ∷ g' ∷ h' ∷ [])))
     → P v
 by_clocks P v fits each =
     by_eight (λ s. P (with_clocks v s v.target.clock.0))
@@ -70,9 +77,13 @@ action_code-mod actions.Response = refl
 action_code-mod actions.Command = refl
 action_code-mod actions.Acknowledge = refl
 
-header_of_octets : (v : Message) (size : ℕ) (following : List ℕ) → v.sdo ≤ 4095 → Fits v → size < 2 ^ 16
+header_of_octets : (v : Message) (size : ℕ) (following : List ℕ)
+    → v.sdo ≤ 4095
+    → Fits v
+    → size < 2 ^ 16
     → (a b c d e f g h a' b' c' d' e' f' g' h' : ℕ)
-    → let w = with_clocks v (a ∷ b ∷ c ∷ d ∷ e ∷ f ∷ g ∷ h ∷ []) (a' ∷ b' ∷ c' ∷ d' ∷ e' ∷ f' ∷ g' ∷ h' ∷ []) in
+    → let w = with_clocks v (a ∷ b ∷ c ∷ d ∷ e ∷ f ∷ g ∷ h ∷ [])
+    (a' ∷ b' ∷ c' ∷ d' ∷ e' ∷ f' ∷ g' ∷ h' ∷ []) in
     HasHeader w size following (header_octets w size ++ following)
 unfolding number_at port_identity_at port_identity_octets
 header_of_octets v size following small fits low a b c d e f g h a' b' c' d' e' f' g' h' =
@@ -95,7 +106,11 @@ header_of_octets v size following small fits low a b c d e f g h a' b' c' d' e' 
       whole = omega arith;
     }
 
-has_header : (v : Message) (size : ℕ) (following : List ℕ) → v.sdo ≤ 4095 → Fits v → size < 2 ^ 16 → HasHeader v size following (header_octets v size ++ following)
+has_header : (v : Message) (size : ℕ) (following : List ℕ)
+    → v.sdo ≤ 4095
+    → Fits v
+    → size < 2 ^ 16
+    → HasHeader v size following (header_octets v size ++ following)
 has_header v size following small fits low =
     by_clocks (λ w. HasHeader w size following (header_octets w size ++ following)) v fits (header_of_octets v size following small fits low)
 
@@ -265,7 +280,10 @@ pub canonical_size : (v : Message) → IsValid v → Fits v → IsCanonicalSize 
 canonical_size v valid fits = let s = canonical_spells v valid fits in record { at_least = s.at_least; at_most = s.at_most }
 
 -- a datagram that begins with a canonical spelling has it for its message
-pub canonical_octets : (v : Message) (rest : List ℕ) → IsValid v → Fits v → message_octets (canonical v ++ rest) ≡ canonical v
+pub canonical_octets : (v : Message) (rest : List ℕ)
+    → IsValid v
+    → Fits v
+    → message_octets (canonical v ++ rest) ≡ canonical v
 canonical_octets v rest valid fits =
     let tlv = tlv_octets v.body in
     let size = 48 + length tlv in
@@ -277,5 +295,8 @@ canonical_octets v rest valid fits =
     ap layout.message_length (append_assoc (header_octets v size) tlv rest) ∙ followed.message_length in
     ap (λ n. take n (canonical v ++ rest)) number ∙ take_at (canonical v) rest size alone.whole
 
-pub canonical_round_trip : (v : Message) (rest : List ℕ) → IsValid v → Fits v → Spells v (message_octets (canonical v ++ rest))
+pub canonical_round_trip : (v : Message) (rest : List ℕ)
+    → IsValid v
+    → Fits v
+    → Spells v (message_octets (canonical v ++ rest))
 canonical_round_trip v rest valid fits = subst (λ m. Spells v m) (sym (canonical_octets v rest valid fits)) (canonical_spells v valid fits)

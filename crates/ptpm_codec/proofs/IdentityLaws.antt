@@ -8,7 +8,14 @@ use Rattle.std.proofs.lemmas.Slice.Eq.{bytes_eq-Decides}
 use Rattle.ptpm_codec.specs.declared.identity.ClockIdentity.{ClockIdentity}
 use Rattle.ptpm_codec.specs.Identity.{same_clock}
 
-pub octets_by_number : (a b : List ℕ) (m n : ℕ) → length a ≡ 8 → length b ≡ 8 → ((i : ℕ) → get_or a i 0 < 256) → ((i : ℕ) → get_or b i 0 < 256) → m ≡ from_be_bytes w64 a → n ≡ from_be_bytes w64 b → (m == n) ≡ bytes_eq a b
+pub octets_by_number : (a b : List ℕ) (m n : ℕ)
+    → length a ≡ 8
+    → length b ≡ 8
+    → ((i : ℕ) → get_or a i 0 < 256)
+    → ((i : ℕ) → get_or b i 0 < 256)
+    → m ≡ from_be_bytes w64 a
+    → n ≡ from_be_bytes w64 b
+    → (m == n) ≡ bytes_eq a b
 octets_by_number a b m n la lb sa sb ma nb =
     let forth : m == n ≡ true → a ≡ b = λ e.
     sym (be_bytes_8 a m la sa ma) ∙ (ap (to_be_bytes w64) ((Decides-eqb m n).0 e) ∙ be_bytes_8 b n lb sb nb) in

@@ -19,7 +19,10 @@ middle v =
 regroup : (p n k q d : List ℕ) → p ++ (((n ++ k) ++ q) ++ d) ≡ (((p ++ n) ++ k) ++ q) ++ d
 regroup p n k q d = simp append_assoc
 
-pub appended : (v : Message) (old a b c : List ℕ) (size : ℕ) → a ≡ front v size → b ≡ a ++ middle v → c ≡ old ++ (b ++ tlv_octets v.body)
+pub appended : (v : Message) (old a b c : List ℕ) (size : ℕ)
+    → a ≡ front v size
+    → b ≡ a ++ middle v
+    → c ≡ old ++ (b ++ tlv_octets v.body)
     → size ≡ 48 + length (tlv_octets v.body) → c ≡ old ++ canonical v
 appended v old a b c size first second third same =
     let T : List ℕ = tlv_octets v.body in

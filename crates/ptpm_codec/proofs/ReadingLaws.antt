@@ -52,7 +52,8 @@ action_at-code a m e = sym (action_from-code a) ∙ ap action_from e
 
 -- ---- the parts of the body that octets have
 
-pub action_of-body_from : (kind : TlvKind) (action : Action) (m : List ℕ) → action_of (body_from kind action m) ≡ action
+pub action_of-body_from : (kind : TlvKind) (action : Action) (m : List ℕ)
+    → action_of (body_from kind action m) ≡ action
 action_of-body_from Management actions.Get m = refl
 action_of-body_from Management actions.Set m = refl
 action_of-body_from Management actions.Response m = refl
@@ -84,8 +85,12 @@ tlv_kind-management m e = rw e refl
 tlv_kind-status : (m : List ℕ) → layout.tlv_type m ≡ 2 → tlv_kind_at m ≡ ErrorStatus
 tlv_kind-status m e = rw e refl
 
-spells_management : (a : Action) (r : Bool) (m : List ℕ) → is_reply a ≡ r → SpellsManagement (layout.management_id m) (layout.data_field m) m
-    → SpellsBody (cond r (bodies.Answer a (layout.management_id m) (layout.data_field m)) (bodies.Request a (layout.management_id m) (layout.data_field m))) m
+spells_management : (a : Action) (r : Bool) (m : List ℕ)
+    → is_reply a ≡ r
+    → SpellsManagement (layout.management_id m) (layout.data_field m) m
+    → SpellsBody
+    (cond r (bodies.Answer a (layout.management_id m) (layout.data_field m))
+    (bodies.Request a (layout.management_id m) (layout.data_field m))) m
 spells_management a true m h s = (h, s)
 spells_management a false m h s = (h, s)
 
@@ -130,10 +135,14 @@ framed_of : (d : List ℕ) → IsWellFormed d → IsFramed d
 framed_of d h = framed d (option_or-none (frame_refusal d) (message_refusal (message_octets d)) h).0
 
 -- a well-formed datagram has a messageLength between these bounds
-pub message_size : (d : List ℕ) → IsWellFormed d → (54 ≤ message_length d) × (message_length d ≤ length d) × (message_length d ≤ 1472)
+pub message_size : (d : List ℕ)
+    → IsWellFormed d
+    → (54 ≤ message_length d) × (message_length d ≤ length d) × (message_length d ≤ 1472)
 message_size d h = let f = framed_of d h in (f.low, f.inside, f.high)
 
-pub spelled : (d : List ℕ) → IsWellFormed d → Spells (message_at (message_octets d)) (message_octets d)
+pub spelled : (d : List ℕ)
+    → IsWellFormed d
+    → Spells (message_at (message_octets d)) (message_octets d)
 spelled d h =
     let p = option_or-none (frame_refusal d) (message_refusal (message_octets d)) h in
     let f = framed d p.0 in
@@ -164,10 +173,15 @@ spelled d h =
 -- ---- what is spelled is what is read
 
 body_management : (a : Action) (r : Bool) (m : List ℕ) → is_reply a ≡ r
-    → body_from Management a m ≡ cond r (bodies.Answer a (layout.management_id m) (layout.data_field m)) (bodies.Request a (layout.management_id m) (layout.data_field m))
+    → body_from Management a m
+    ≡ cond r (bodies.Answer a (layout.management_id m) (layout.data_field m))
+    (bodies.Request a (layout.management_id m) (layout.data_field m))
 body_management a r m h = rw h refl
 
-body_spelled : (x : Body) (m : List ℕ) → action_code (action_of x) ≡ layout.action_field m → SpellsBody x m → x ≡ body_at m
+body_spelled : (x : Body) (m : List ℕ)
+    → action_code (action_of x) ≡ layout.action_field m
+    → SpellsBody x m
+    → x ≡ body_at m
 unfolding body_at
 body_spelled (bodies.Request a id octets) m code (request, s) =
     rw (sym (action_at-code a m code), tlv_kind-management m s.type, body_management a false m request, s.id_is, s.octets_are) refl
@@ -189,12 +203,26 @@ made sdo domain source number target starting_hops hops body = record {
   body = body;
 }
 
-same_made : (a a' b b' : ℕ) (c c' : PortIdentity) (d d' : ℕ) (e e' : PortIdentity) (f f' g g' : ℕ) (h h' : Body)
-    → a ≡ a' → b ≡ b' → c ≡ c' → d ≡ d' → e ≡ e' → f ≡ f' → g ≡ g' → h ≡ h' → made a b c d e f g h ≡ made a' b' c' d' e' f' g' h'
+same_made : (a a' b b' : ℕ) (c c' : PortIdentity) (d d' : ℕ) (e e' : PortIdentity) (f f' g g' : ℕ)
+    (h h' : Body)
+    → a ≡ a'
+    → b ≡ b'
+    → c ≡ c'
+    → d ≡ d'
+    → e ≡ e'
+    → f ≡ f'
+    → g ≡ g'
+    → h ≡ h'
+    → made a b c d e f g h ≡ made a' b' c' d' e' f' g' h'
 same_made a a' b b' c c' d d' e e' f f' g g' h h' p q r s t u v w = rw (p, q, r, s, t, u, v, w) refl
 
 -- messages of equal fields are equal
-pub message_ext : (v w : Message) → v.sdo ≡ w.sdo → v.domain ≡ w.domain → v.source ≡ w.source → v.number ≡ w.number → v.target ≡ w.target
+pub message_ext : (v w : Message)
+    → v.sdo ≡ w.sdo
+    → v.domain ≡ w.domain
+    → v.source ≡ w.source
+    → v.number ≡ w.number
+    → v.target ≡ w.target
     → v.starting_hops ≡ w.starting_hops → v.hops ≡ w.hops → v.body ≡ w.body → v ≡ w
 message_ext v w = same_made v.sdo w.sdo v.domain w.domain v.source w.source v.number w.number v.target w.target v.starting_hops w.starting_hops v.hops w.hops v.body w.body
 
@@ -220,14 +248,22 @@ frame_spelled d v s =
       high = omega (arith, same, is, high);
     }
 
-tlv_management : (code : ℕ) (id : ℕ) (octets m : List ℕ) → code ≤ 4 → 54 ≤ length m → layout.length_field m + 52 ≡ length m → SpellsManagement id octets m
+tlv_management : (code : ℕ) (id : ℕ) (octets m : List ℕ)
+    → code ≤ 4
+    → 54 ≤ length m
+    → layout.length_field m + 52 ≡ length m
+    → SpellsManagement id octets m
     → IsTlv code (layout.tlv_type m) (layout.length_field m) (length m)
 tlv_management code id octets m small low ends s =
     let type = s.type in
     record { action = small; tlv_type = inl type; even = omega (arith, s.even, ends); least = rw type (omega arith); ends = ends }
 
-tlv_spelled : (x : Body) (m : List ℕ) → action_code (action_of x) ≡ layout.action_field m → 54 ≤ length m → layout.length_field m + 52 ≡ length m
-    → SpellsBody x m → IsTlv (layout.action_field m) (layout.tlv_type m) (layout.length_field m) (length m)
+tlv_spelled : (x : Body) (m : List ℕ)
+    → action_code (action_of x) ≡ layout.action_field m
+    → 54 ≤ length m
+    → layout.length_field m + 52 ≡ length m
+    → SpellsBody x m
+    → IsTlv (layout.action_field m) (layout.tlv_type m) (layout.length_field m) (length m)
 tlv_spelled (bodies.Request a id octets) m code low ends (request, s) =
     tlv_management (layout.action_field m) id octets m (omega (arith, code, action_code-small a)) low ends s
 tlv_spelled (bodies.Answer a id octets) m code low ends (reply, s) =
@@ -244,7 +280,9 @@ tlv_spelled (bodies.Fault a error id text) m code low ends (reply, s) =
       ends = ends;
     }
 
-text_not_refused : (x : Body) (m : List ℕ) → SpellsBody x m → text_refusal (tlv_kind_at m) (layout.display_data m) ≡ None
+text_not_refused : (x : Body) (m : List ℕ)
+    → SpellsBody x m
+    → text_refusal (tlv_kind_at m) (layout.display_data m) ≡ None
 text_not_refused (bodies.Request a id octets) m (request, s) = rw (tlv_kind-management m s.type) (not_refused-management (layout.display_data m))
 text_not_refused (bodies.Answer a id octets) m (reply, s) = rw (tlv_kind-management m s.type) (not_refused-management (layout.display_data m))
 text_not_refused (bodies.Fault a error id text) m (reply, s) =
@@ -260,12 +298,16 @@ none_refused d v s =
     both_none _ _ (not_refused-tlv _ _ _ _ (tlv_spelled v.body m s.action s.at_least s.length_field s.body))
     (text_not_refused v.body m s.body))
 
-pub not_both : (d : List ℕ) (v : Message) (e : DecodeError) → refusal d ≡ Some e → Spells v (message_octets d) → ⊥
+pub not_both : (d : List ℕ) (v : Message) (e : DecodeError)
+    → refusal d ≡ Some e
+    → Spells v (message_octets d)
+    → ⊥
 not_both d v e h s = let none = none_refused d v s in cc
 
 -- what passes each test in turn is spelled
 pub spells_read : (d m : List ℕ) (kind : TlvKind) → frame_refusal d ≡ None → m ≡ message_octets d
-    → tlv_refusal (layout.action_field m) (layout.tlv_type m) (layout.length_field m) (length m) ≡ None
+    → tlv_refusal (layout.action_field m) (layout.tlv_type m) (layout.length_field m) (length m)
+    ≡ None
     → kind ≡ tlv_kind_at m → text_refusal kind (layout.display_data m) ≡ None
     → Spells (message_at m) (message_octets d)
 spells_read d m kind frame e tlv k text =
@@ -276,7 +318,9 @@ spells_read d m kind frame e tlv k text =
 
 -- what passes each test in turn, and has a MANAGEMENT TLV, is well-formed
 pub well_formed_management : (d m : List ℕ) → frame_refusal d ≡ None → m ≡ message_octets d
-    → tlv_refusal (layout.action_field m) (layout.tlv_type m) (layout.length_field m) (length m) ≡ None → layout.tlv_type m ≡ 1
+    → tlv_refusal (layout.action_field m) (layout.tlv_type m) (layout.length_field m) (length m)
+    ≡ None
+    → layout.tlv_type m ≡ 1
     → IsWellFormed d
 well_formed_management d m frame e tlv one =
     none_refused d (message_at m)
@@ -288,15 +332,23 @@ ok_unless-none : (o : Option DecodeError) (v w : Message) → o ≡ None → v �
 ok_unless-none None v w h e = rw e refl
 ok_unless-none (Some r) v w h e = absurd cc
 
-pub reading-well_formed : (d m : List ℕ) → IsWellFormed d → m ≡ message_octets d → reading d ≡ Ok (message_at m)
+pub reading-well_formed : (d m : List ℕ)
+    → IsWellFormed d
+    → m ≡ message_octets d
+    → reading d ≡ Ok (message_at m)
 reading-well_formed d m h e = ok_unless-none (refusal d) (message_at (message_octets d)) (message_at m) h (ap message_at (sym e))
 
-pub spelled-well_formed : (d m : List ℕ) → IsWellFormed d → m ≡ message_octets d → Spells (message_at m) (message_octets d)
+pub spelled-well_formed : (d m : List ℕ)
+    → IsWellFormed d
+    → m ≡ message_octets d
+    → Spells (message_at m) (message_octets d)
 spelled-well_formed d m h e = subst (λ (n : List ℕ). Spells (message_at n) (message_octets d)) (sym e) (spelled d h)
 
 -- ---- `message_of`
 
-some_unless-some : (o : Option DecodeError) (w v : Message) → some_unless o w ≡ Some v → (o ≡ None) × (v ≡ w)
+some_unless-some : (o : Option DecodeError) (w v : Message)
+    → some_unless o w ≡ Some v
+    → (o ≡ None) × (v ≡ w)
 some_unless-some None w v e = (refl, cc)
 some_unless-some (Some r) w v e = absurd cc
 
@@ -305,20 +357,28 @@ some_unless-none None w h = refl
 some_unless-none (Some r) w h = absurd cc
 
 -- where `message_of` gives a value, the datagram is well-formed, and the value is the one read from its octets
-pub message_of-some : (d : List ℕ) (v : Message) → message_of d ≡ Some v → IsWellFormed d × (v ≡ message_at (message_octets d))
+pub message_of-some : (d : List ℕ) (v : Message)
+    → message_of d ≡ Some v
+    → IsWellFormed d × (v ≡ message_at (message_octets d))
 unfolding message_of
 message_of-some d v e = some_unless-some (refusal d) (message_at (message_octets d)) v e
 
-pub message_of-well_formed : (d : List ℕ) → IsWellFormed d → message_of d ≡ Some (message_at (message_octets d))
+pub message_of-well_formed : (d : List ℕ)
+    → IsWellFormed d
+    → message_of d ≡ Some (message_at (message_octets d))
 unfolding message_of
 message_of-well_formed d h = some_unless-none (refusal d) (message_at (message_octets d)) h
 
-pub message_of-spells : (v : Message) (d : List ℕ) → message_of d ≡ Some v → Spells v (message_octets d)
+pub message_of-spells : (v : Message) (d : List ℕ)
+    → message_of d ≡ Some v
+    → Spells v (message_octets d)
 message_of-spells v d e =
     let p = message_of-some d v e in
     subst (λ (w : Message). Spells w (message_octets d)) (sym p.1) (spelled d p.0)
 
-pub spells-message_of : (v : Message) (d : List ℕ) → Spells v (message_octets d) → message_of d ≡ Some v
+pub spells-message_of : (v : Message) (d : List ℕ)
+    → Spells v (message_octets d)
+    → message_of d ≡ Some v
 spells-message_of v d s = message_of-well_formed d (none_refused d v s) ∙ ap Some (sym (same_message v (message_octets d) s))
 
 -- ---- what octets spell is valid
@@ -337,7 +397,10 @@ short-text : (text d : List ℕ) → octet 0 d < 256 → SpellsText text d → l
 short-text text d h (inl (none, e)) = rw e (omega arith)
 short-text text d h (inr (some, e)) = rw e (omega (arith, length-take (octet 0 d) (drop 1 d)))
 
-data_field-valid : (id : ℕ) (octets m : List ℕ) → length m ≤ 1472 → SpellsManagement id octets m → IsDataField octets
+data_field-valid : (id : ℕ) (octets m : List ℕ)
+    → length m ≤ 1472
+    → SpellsManagement id octets m
+    → IsDataField octets
 data_field-valid id octets m high s =
     let len : length octets ≡ length m - 54 = ap length s.octets_are ∙ length-drop 54 m in
     record { even = omega (arith, len, s.even); small = omega (arith, len, high) }

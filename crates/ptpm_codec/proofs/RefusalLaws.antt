@@ -10,11 +10,16 @@ use Rattle.ptpm_codec.specs.Message.{is_reply}
 use Rattle.ptpm_codec.specs.Refusal.{action_from, least_length, is_text, frame_refusal, tlv_refusal, text_refusal}
 
 -- one test of the list, and the tests behind it
-passes : (test : Bool) (e : DecodeError) (o : Option DecodeError) → cond test (Some e) o ≡ None → (test ≡ false) × (o ≡ None)
+passes : (test : Bool) (e : DecodeError) (o : Option DecodeError)
+    → cond test (Some e) o ≡ None
+    → (test ≡ false) × (o ≡ None)
 passes true e o h = absurd cc
 passes false e o h = (refl, h)
 
-skips : (test : Bool) (e : DecodeError) (o : Option DecodeError) → test ≡ false → o ≡ None → cond test (Some e) o ≡ None
+skips : (test : Bool) (e : DecodeError) (o : Option DecodeError)
+    → test ≡ false
+    → o ≡ None
+    → cond test (Some e) o ≡ None
 skips true e o f h = absurd cc
 skips false e o f h = h
 
@@ -67,18 +72,24 @@ pub record IsTlv (code type field size : ℕ) : Type 0 where
   pub least : least_length type ≤ field
   pub ends : field + 52 ≡ size
 
-one_or_two : (n : ℕ) (r : Bool) → not (eqb n 1) && not (eqb n 2 && r) ≡ false → (n ≡ 1) ⊎ ((n ≡ 2) × (r ≡ true))
+one_or_two : (n : ℕ) (r : Bool)
+    → not (eqb n 1) && not (eqb n 2 && r) ≡ false
+    → (n ≡ 1) ⊎ ((n ≡ 2) × (r ≡ true))
 one_or_two n r h =
     elim (and_cases (not (eqb n 1)) (not (eqb n 2 && r)) h) [
       | inl one ↦ inl (eqb-true n 1 (not-false _ one))
       | inr two ↦ let p = and_parts (eqb n 2) r (not-false _ two) in inr (eqb-true n 2 p.0, p.1)
     ]
 
-from_one_or_two : (n : ℕ) (r : Bool) → (n ≡ 1) ⊎ ((n ≡ 2) × (r ≡ true)) → not (eqb n 1) && not (eqb n 2 && r) ≡ false
+from_one_or_two : (n : ℕ) (r : Bool)
+    → (n ≡ 1) ⊎ ((n ≡ 2) × (r ≡ true))
+    → not (eqb n 1) && not (eqb n 2 && r) ≡ false
 from_one_or_two n r (inl e) = rw e refl
 from_one_or_two n r (inr (e, h)) = rw (e, h) refl
 
-pub is_tlv : (code type field size : ℕ) → tlv_refusal code type field size ≡ None → IsTlv code type field size
+pub is_tlv : (code type field size : ℕ)
+    → tlv_refusal code type field size ≡ None
+    → IsTlv code type field size
 unfolding tlv_refusal
 is_tlv code type field size h =
     let action = passes (ltb 4 code) BadAction _ h in
@@ -94,7 +105,9 @@ is_tlv code type field size h =
       ends = eqb-true _ _ (not-false _ ends.1);
     }
 
-pub not_refused-tlv : (code type field size : ℕ) → IsTlv code type field size → tlv_refusal code type field size ≡ None
+pub not_refused-tlv : (code type field size : ℕ)
+    → IsTlv code type field size
+    → tlv_refusal code type field size ≡ None
 unfolding tlv_refusal
 not_refused-tlv code type field size t =
     skips (ltb 4 code) BadAction _ (le-ltb _ _ t.action) (

@@ -18,15 +18,20 @@ use Rattle.ptpm_codec.proofs.CanonicalLaws.{by_clocks, continues_with}
 abbrev with_source_port : Message → ℕ → Message
 with_source_port v port = record v { source = record { clock = v.source.clock; port = port } }
 
-pub set_domain : (v : Message) (n : ℕ) → slice_set (canonical v) 4 n ≡ canonical (record v { domain = n })
+pub set_domain : (v : Message) (n : ℕ)
+    → slice_set (canonical v) 4 n ≡ canonical (record v { domain = n })
 set_domain v n = refl
 
-pub set_starting_hops : (v : Message) (n : ℕ) → Fits v → slice_set (canonical v) 44 n ≡ canonical (record v { starting_hops = n })
+pub set_starting_hops : (v : Message) (n : ℕ)
+    → Fits v
+    → slice_set (canonical v) 44 n ≡ canonical (record v { starting_hops = n })
 unfolding port_identity_octets
 set_starting_hops v n fits =
     by_clocks (λ w. slice_set (canonical w) 44 n ≡ canonical (record w { starting_hops = n })) v fits (λ a b c d e f g h a' b' c' d' e' f' g' h'. refl)
 
-pub set_hops : (v : Message) (n : ℕ) → Fits v → slice_set (canonical v) 45 n ≡ canonical (record v { hops = n })
+pub set_hops : (v : Message) (n : ℕ)
+    → Fits v
+    → slice_set (canonical v) 45 n ≡ canonical (record v { hops = n })
 unfolding port_identity_octets
 set_hops v n fits =
     by_clocks (λ w. slice_set (canonical w) 45 n ≡ canonical (record w { hops = n })) v fits (λ a b c d e f g h a' b' c' d' e' f' g' h'. refl)
@@ -40,7 +45,8 @@ set_source_port_to v n high low fits first second =
     (λ a b c d e f g h a' b' c' d' e' f' g' h'. rw (first, second) refl)
 
 pub set_source_port : (v : Message) (high low : ℕ) → Fits v → high < 256 → low < 256
-    → slice_set (slice_set (canonical v) 28 high) 29 low ≡ canonical (with_source_port v (high * 256 + low))
+    → slice_set (slice_set (canonical v) 28 high) 29 low
+    ≡ canonical (with_source_port v (high * 256 + low))
 set_source_port v high low fits p q = set_source_port_to v (high * 256 + low) high low fits (omega arith) (omega arith)
 
 -- the message from another port, in another domain and with other hops
@@ -53,7 +59,10 @@ renewed v domain port starting_hops hops = record v {
 }
 
 pub set_all : (v : Message) (domain port starting_hops hops : ℕ) → Fits v → port < 2 ^ 16
-    → slice_set (slice_set (slice_set (slice_set (slice_set (canonical v) 4 domain) 28 (port / 256)) 29 (port % 256)) 44 starting_hops) 45 hops
+    → slice_set
+    (slice_set
+    (slice_set (slice_set (slice_set (canonical v) 4 domain) 28 (port / 256)) 29
+    (port % 256)) 44 starting_hops) 45 hops
     ≡ canonical (renewed v domain port starting_hops hops)
 unfolding port_identity_octets
 set_all v domain port starting_hops hops fits low =
@@ -64,27 +73,35 @@ set_all v domain port starting_hops hops fits low =
 
 -- ---- boundaryHops written over in any spelling
 
-number_at-set : (place i n : ℕ) (m : List ℕ) → place ≢ i → place + 1 ≢ i → number_at place (slice_set m i n) ≡ number_at place m
+number_at-set : (place i n : ℕ) (m : List ℕ)
+    → place ≢ i
+    → place + 1 ≢ i
+    → number_at place (slice_set m i n) ≡ number_at place m
 number_at-set place i n m p q =
     let high = get_or-set_other m i place n 0 p in
     let low = get_or-set_other m i (place + 1) n 0 q in
     omega (arith, number_at-octets place m, number_at-octets place (slice_set m i n), high, low)
 
 -- an octet behind the identity
-port_identity_at-set : (place k n : ℕ) (m : List ℕ) → 10 ≤ k → port_identity_at place (slice_set m (place + k) n) ≡ port_identity_at place m
+port_identity_at-set : (place k n : ℕ) (m : List ℕ)
+    → 10 ≤ k
+    → port_identity_at place (slice_set m (place + k) n) ≡ port_identity_at place m
 unfolding port_identity_at
 port_identity_at-set place k n m behind =
     let clock = ap (take 8) (drop-set-add place m k n) ∙ take-set-le 8 (drop place m) k n (omega arith) in
     let port = number_at-set (place + 8) (place + k) n m (λ e. omega arith) (λ e. omega arith) in
     rw (clock, port) refl
 
-pub set_hops-source : (m : List ℕ) (n : ℕ) → layout.source_port_identity (slice_set m 45 n) ≡ layout.source_port_identity m
+pub set_hops-source : (m : List ℕ) (n : ℕ)
+    → layout.source_port_identity (slice_set m 45 n) ≡ layout.source_port_identity m
 set_hops-source m n = port_identity_at-set 20 25 n m (omega arith)
 
-pub set_hops-target : (m : List ℕ) (n : ℕ) → layout.target_port_identity (slice_set m 45 n) ≡ layout.target_port_identity m
+pub set_hops-target : (m : List ℕ) (n : ℕ)
+    → layout.target_port_identity (slice_set m 45 n) ≡ layout.target_port_identity m
 set_hops-target m n = port_identity_at-set 34 11 n m (omega arith)
 
-pub set_hops-number : (m : List ℕ) (n : ℕ) → layout.sequence_id (slice_set m 45 n) ≡ layout.sequence_id m
+pub set_hops-number : (m : List ℕ) (n : ℕ)
+    → layout.sequence_id (slice_set m 45 n) ≡ layout.sequence_id m
 set_hops-number m n = number_at-set 30 45 n m (λ e. omega arith) (λ e. omega arith)
 
 pub set_hops-behind : (m : List ℕ) (n : ℕ) → drop 46 (slice_set m 45 n) ≡ drop 46 m
@@ -99,7 +116,11 @@ record SameTlv (m k : List ℕ) : Type 0 where
   display_data : layout.display_data k ≡ layout.display_data m
   whole : length k ≡ length m
 
-same_tlv : (m k : List ℕ) → 48 ≤ length m → drop 48 k ≡ drop 48 m → length k ≡ length m → SameTlv m k
+same_tlv : (m k : List ℕ)
+    → 48 ≤ length m
+    → drop 48 k ≡ drop 48 m
+    → length k ≡ length m
+    → SameTlv m k
 same_tlv m k low same whole =
     let size : length m ≡ 48 + length (drop 48 m) = omega (arith, length-drop 48 m) in
     let before = continues_with (drop 48 m) m refl size in
@@ -113,7 +134,10 @@ same_tlv m k low same whole =
       whole = whole;
     }
 
-management_kept : (id : ℕ) (octets m k : List ℕ) → SameTlv m k → SpellsManagement id octets m → SpellsManagement id octets k
+management_kept : (id : ℕ) (octets m k : List ℕ)
+    → SameTlv m k
+    → SpellsManagement id octets m
+    → SpellsManagement id octets k
 management_kept id octets m k same s = record {
   type = same.tlv_type ∙ s.type;
   id_is = s.id_is ∙ sym same.first_id;
@@ -135,7 +159,9 @@ body_kept (bodies.Fault action error id text) m k same (answers, s) = (
   },
 )
 
-set_hops-spelled : (v : Message) (m : List ℕ) (n : ℕ) → Spells v m → Spells (record v { hops = n }) (slice_set m 45 n)
+set_hops-spelled : (v : Message) (m : List ℕ) (n : ℕ)
+    → Spells v m
+    → Spells (record v { hops = n }) (slice_set m 45 n)
 set_hops-spelled v m n s =
     let k = slice_set m 45 n in
     let size : length k ≡ length m = length-set m 45 n in
@@ -164,7 +190,8 @@ message_octets-whole : (v : Message) (m : List ℕ) → Spells v m → message_o
 message_octets-whole v m s = ap (λ n. take n m) s.message_length ∙ take_all (length m) m (omega arith)
 
 pub less_hop_message : (v : Message) (d : List ℕ) → message_of d ≡ Some v
-    → message_of (slice_set (message_octets d) 45 (layout.boundary_hops d - 1)) ≡ Some (record v { hops = v.hops - 1 })
+    → message_of (slice_set (message_octets d) 45 (layout.boundary_hops d - 1))
+    ≡ Some (record v { hops = v.hops - 1 })
 less_hop_message v d e =
     let m = message_octets d in
     let s = message_of-spells v d e in

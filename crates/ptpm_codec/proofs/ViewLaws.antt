@@ -19,25 +19,35 @@ body_seen v m action kind found e i k =
     let seen : body_from kind action m ≡ body_at m = rw (i.action_is, i.kind_is) refl in
     ap (λ (t : TlvKind). body_from t action m) (sym k) ∙ seen ∙ ap (λ (w : Message). w.body) e
 
-pub action_seen : (v : Message) (m : List ℕ) (action : Action) (kind : TlvKind) → message_at m ≡ v → IsViewed m action kind → action ≡ action_of v.body
+pub action_seen : (v : Message) (m : List ℕ) (action : Action) (kind : TlvKind)
+    → message_at m ≡ v
+    → IsViewed m action kind
+    → action ≡ action_of v.body
 action_seen v m action kind e i =
     sym (action_of-body_from kind action m) ∙ ap action_of (body_seen v m action kind kind e i refl)
 
 -- a part of the body that a MANAGEMENT TLV carries, whatever the action
-part : {X : Type 0} (f : Body → X) (x : X) (r : Bool) (y z : Body) → f y ≡ x → f z ≡ x → f (cond r y z) ≡ x
+part : {X : Type 0} (f : Body → X) (x : X) (r : Bool) (y z : Body)
+    → f y ≡ x
+    → f z ≡ x
+    → f (cond r y z) ≡ x
 part f x true y z p q = p
 part f x false y z p q = q
 
-pub id_of-management : (action : Action) (m : List ℕ) → id_of (body_from Management action m) ≡ layout.management_id m
+pub id_of-management : (action : Action) (m : List ℕ)
+    → id_of (body_from Management action m) ≡ layout.management_id m
 id_of-management action m = part id_of _ (is_reply action) _ _ refl refl
 
-pub octets_of-management : (action : Action) (m : List ℕ) → octets_of (body_from Management action m) ≡ layout.data_field m
+pub octets_of-management : (action : Action) (m : List ℕ)
+    → octets_of (body_from Management action m) ≡ layout.data_field m
 octets_of-management action m = part octets_of _ (is_reply action) _ _ refl refl
 
-pub error_of-management : (action : Action) (m : List ℕ) → error_of (body_from Management action m) ≡ None
+pub error_of-management : (action : Action) (m : List ℕ)
+    → error_of (body_from Management action m) ≡ None
 error_of-management action m = part error_of _ (is_reply action) _ _ refl refl
 
-pub text_of-management : (action : Action) (m : List ℕ) → text_of (body_from Management action m) ≡ []
+pub text_of-management : (action : Action) (m : List ℕ)
+    → text_of (body_from Management action m) ≡ []
 text_of-management action m = part text_of _ (is_reply action) _ _ refl refl
 
 -- ---- a body is known by its parts
@@ -49,20 +59,34 @@ same_some : (n k : ℕ) → some n ≡ some k → n ≡ k
 same_some n k e = cc
 
 pub fault_of-parts : (x : Body) (action : Action) (error id : ℕ) (text : List ℕ)
-    → action ≡ action_of x → Some error ≡ error_of x → id ≡ id_of x → text ≡ text_of x → bodies.Fault action error id text ≡ x
+    → action ≡ action_of x
+    → Some error ≡ error_of x
+    → id ≡ id_of x
+    → text ≡ text_of x
+    → bodies.Fault action error id text ≡ x
 fault_of-parts (bodies.Request a i octets) action error id text p q r s = absurd cc
 fault_of-parts (bodies.Answer a i octets) action error id text p q r s = absurd cc
 fault_of-parts (bodies.Fault a e i t) action error id text p q r s = rw (p, same_some error e q, r, s) refl
 
-management_of-seen : (action : Action) (m : List ℕ) (kind : TlvKind) (r : Bool) (id : ℕ) (octets : List ℕ)
-    → None ≡ error_of (body_from kind action m) → id ≡ id_of (body_from kind action m) → octets ≡ octets_of (body_from kind action m)
-    → r ≡ is_reply action → cond r (bodies.Answer action id octets) (bodies.Request action id octets) ≡ body_from kind action m
+management_of-seen : (action : Action) (m : List ℕ) (kind : TlvKind) (r : Bool) (id : ℕ)
+    (octets : List ℕ)
+    → None ≡ error_of (body_from kind action m)
+    → id ≡ id_of (body_from kind action m)
+    → octets ≡ octets_of (body_from kind action m)
+    → r ≡ is_reply action
+    → cond r (bodies.Answer action id octets) (bodies.Request action id octets)
+    ≡ body_from kind action m
 management_of-seen action m Management r id octets none p q h =
     rw (p ∙ id_of-management action m, q ∙ octets_of-management action m, h) refl
 management_of-seen action m ErrorStatus r id octets none p q h = absurd cc
 
-pub management_of-parts : (x : Body) (action : Action) (m : List ℕ) (kind : TlvKind) (r : Bool) (id : ℕ) (octets : List ℕ)
-    → body_from kind action m ≡ x → None ≡ error_of x → id ≡ id_of x → octets ≡ octets_of x → r ≡ is_reply action
+pub management_of-parts : (x : Body) (action : Action) (m : List ℕ) (kind : TlvKind) (r : Bool)
+    (id : ℕ) (octets : List ℕ)
+    → body_from kind action m ≡ x
+    → None ≡ error_of x
+    → id ≡ id_of x
+    → octets ≡ octets_of x
+    → r ≡ is_reply action
     → cond r (bodies.Answer action id octets) (bodies.Request action id octets) ≡ x
 management_of-parts x action m kind r id octets e none p q h =
     management_of-seen action m kind r id octets (none ∙ ap error_of (sym e)) (p ∙ ap id_of (sym e)) (q ∙ ap octets_of (sym e)) h ∙ e

@@ -21,7 +21,8 @@ use std::alloc::Global;
 /// The first messageLength octets of a datagram.
 #[tactic(auto, unfolding(crate::specs::Refusal::frame_refusal))]
 fn message_octets(datagram: &[u8]) -> Result<&[u8], DecodeError>
-    ensures refusal { MatchResult result (λ _. frame_refusal datagram.now ≡ None) (λ e. frame_refusal datagram.now ≡ Some e) }
+    ensures refusal { MatchResult result (λ _. frame_refusal datagram.now ≡ None)
+        (λ e. frame_refusal datagram.now ≡ Some e) }
     ensures octets { IfOk result (λ m. m.now ≡ message_octets datagram.now) }
     ensures long { IfOk result (λ m. 54 ≤ length m.now) }
     ensures whole { IfOk result (λ m. length m.now ≡ message_length datagram.now) }
@@ -62,7 +63,8 @@ fn judge_text(message: &[u8], tlv: TlvKind) -> Result<(), DecodeError>
     ensures refusal { MatchResult result
         (λ _. text_refusal tlv (layout.display_data message.now) ≡ None)
         (λ e. text_refusal tlv (layout.display_data message.now) ≡ Some e) }
-    ensures text { OnOk result (tlv ≡ TlvKind.ErrorStatus → is_text (layout.display_data message.now) ≡ true) }
+    ensures text { OnOk result
+        (tlv ≡ TlvKind.ErrorStatus → is_text (layout.display_data message.now) ≡ true) }
 {
     match tlv {
         TlvKind::Management => Ok(()),
@@ -153,13 +155,16 @@ pub fn decode(alloc: Global, datagram: &[u8]) -> Result<Message, DecodeError>
     ensures valid { IfOk result (λ v. IsValid v) }
 
     // What is spelled is decoded, unless memory is refused.
-    ensures decoded { (v : Message) → Spells v (message_octets datagram.now) → IsOkUnlessMemory result v }
+    ensures decoded { (v : Message)
+        → Spells v (message_octets datagram.now)
+        → IsOkUnlessMemory result v }
 
     ensures well_formed { OnOk result (IsWellFormed datagram.now) }
 
     // A refusal is the first that holds.
     ensures refused { (e : DecodeError) → refusal datagram.now ≡ Some e → result ≡ Err e }
-    ensures no_other { IfErr result (λ e. e ≢ DecodeError.OutOfMemory → refusal datagram.now ≡ Some e) }
+    ensures no_other { IfErr result
+        (λ e. e ≢ DecodeError.OutOfMemory → refusal datagram.now ≡ Some e) }
 {
     let view = view(datagram)?;
     match view.to_message(alloc) {

@@ -29,7 +29,8 @@ type Head = ArrayVec<u8, 60>;
 pub fn encode(draft: &Draft<'_>, buffer: &mut Buffer)
     requires { IsValid draft.now }
     ensures items { buffer.new.items ≡ canonical draft.now }
-    ensures spells { (rest : List ℕ) → Spells draft.now (message_octets (buffer.new.items ++ rest)) }
+    ensures spells { (rest : List ℕ)
+        → Spells draft.now (message_octets (buffer.new.items ++ rest)) }
     ensures fits { Fits draft.now }
 {
     replace(draft, buffer);
@@ -68,8 +69,11 @@ pub fn append<const N: usize>(draft: &Draft<'_>, buffer: &mut ArrayVec<u8, N>)
 fn put_front(head: &mut Head, draft: &Draft<'_>, size: u16)
     requires sdo { draft.now.sdo < 4096 }
     requires room { array_vec_len head.old + 30 ≤ 60 }
-    ensures items { head.new.items ≡ head.old.items ++ ((draft.now.sdo / 256 * 16 + 0xd) ∷ 0x12 ∷ [] ++ big_bytes 2 size
-        ++ draft.now.domain ∷ (draft.now.sdo % 256) ∷ [] ++ replicate 14 0 ++ port_identity_octets draft.now.source) }
+    ensures items { head.new.items
+        ≡ head.old.items
+        ++ ((draft.now.sdo / 256 * 16 + 0xd) ∷ 0x12 ∷ [] ++ big_bytes 2 size
+        ++ draft.now.domain ∷ (draft.now.sdo % 256) ∷ [] ++ replicate 14 0
+        ++ port_identity_octets draft.now.source) }
     ensures len { array_vec_len head.new ≡ array_vec_len head.old + 30 }
     ensures fits { PortIdentityFits draft.now.source }
 {
@@ -84,9 +88,12 @@ fn put_front(head: &mut Head, draft: &Draft<'_>, size: u16)
 #[inline(always)]
 fn put_middle(head: &mut Head, draft: &Draft<'_>)
     requires { array_vec_len head.old + 18 ≤ 60 }
-    ensures items { head.new.items ≡ head.old.items ++ (big_bytes 2 draft.now.number ++ 0x04 ∷ 0x7f ∷ []
+    ensures items { head.new.items
+        ≡ head.old.items
+        ++ (big_bytes 2 draft.now.number ++ 0x04 ∷ 0x7f ∷ []
         ++ port_identity_octets draft.now.target
-        ++ draft.now.starting_hops ∷ draft.now.hops ∷ action_code (action_of draft.now.body) ∷ 0 ∷ []) }
+        ++ draft.now.starting_hops ∷ draft.now.hops ∷ action_code (action_of draft.now.body)
+        ∷ 0 ∷ []) }
     ensures len { array_vec_len head.new ≡ array_vec_len head.old + 18 }
     ensures number { draft.now.number < 2 ^ 16 }
     ensures fits { PortIdentityFits draft.now.target }
@@ -116,7 +123,8 @@ fn put_tlv<const N: usize>(buffer: &mut ArrayVec<u8, N>, head: &mut Head, body: 
     requires valid { IsValidBody (body_of body.now) }
     requires header { array_vec_len head.old ≡ 48 }
     requires room { array_vec_len buffer.old + 48 + length (tlv_octets (body_of body.now)) ≤ N }
-    ensures items { buffer.new.items ≡ buffer.old.items ++ (head.old.items ++ tlv_octets (body_of body.now)) }
+    ensures items { buffer.new.items
+        ≡ buffer.old.items ++ (head.old.items ++ tlv_octets (body_of body.now)) }
     ensures fits { BodyFits (body_of body.now) }
 {
     match body {
@@ -169,7 +177,8 @@ fn put_management<const N: usize>(
     requires small { length octets.now ≤ 1418 }
     requires header { array_vec_len head.old ≡ 48 }
     requires room { array_vec_len buffer.old + 54 + length octets.now ≤ N }
-    ensures items { buffer.new.items ≡ buffer.old.items ++ (head.old.items ++ management_octets id octets.now) }
+    ensures items { buffer.new.items
+        ≡ buffer.old.items ++ (head.old.items ++ management_octets id octets.now) }
 {
     put_management_head(head, id, octets.len() as u16);
     put(buffer, head.as_slice());
@@ -181,7 +190,8 @@ fn put_management<const N: usize>(
 fn put_management_head(head: &mut Head, id: u16, size: u16)
     requires small { size ≤ 1418 }
     requires header { array_vec_len head.old ≡ 48 }
-    ensures items { head.new.items ≡ head.old.items ++ big_bytes 2 0x0001 ++ big_bytes 2 (2 + size) ++ big_bytes 2 id }
+    ensures items { head.new.items
+        ≡ head.old.items ++ big_bytes 2 0x0001 ++ big_bytes 2 (2 + size) ++ big_bytes 2 id }
     ensures len { array_vec_len head.new ≡ 54 }
     ensures id { id < 2 ^ 16 }
 {
@@ -200,7 +210,8 @@ fn put_error_status<const N: usize>(
     requires small { length text.now ≤ 255 }
     requires header { array_vec_len head.old ≡ 48 }
     requires room { array_vec_len buffer.old + 60 + length (text_octets text.now) ≤ N }
-    ensures items { buffer.new.items ≡ buffer.old.items ++ (head.old.items ++ error_status_octets error id text.now) }
+    ensures items { buffer.new.items
+        ≡ buffer.old.items ++ (head.old.items ++ error_status_octets error id text.now) }
 {
     put_u16(head, 0x0002);
     put_u16(head, 8 + text_size(text) as u16);

@@ -14,7 +14,8 @@ use crate::places::u16_at;
 pub fn less_hop(datagram: &[u8], buffer: &mut Buffer)
     requires well_formed { IsWellFormed datagram.now }
     requires hops { 0 < boundary_hops datagram.now }
-    ensures { buffer.new.items ≡ slice_set (message_octets datagram.now) 45 (boundary_hops datagram.now - 1) }
+    ensures { buffer.new.items
+        ≡ slice_set (message_octets datagram.now) 45 (boundary_hops datagram.now - 1) }
 {
     let length = u16_at(datagram, 2) as usize;
     overwrite(buffer, &datagram[..length]);
@@ -24,7 +25,8 @@ pub fn less_hop(datagram: &[u8], buffer: &mut Buffer)
 fn lower(buffer: &mut Buffer, place: usize)
     requires inside { place < array_vec_len buffer.old }
     requires above { 0 < octet place buffer.old.items }
-    ensures { buffer.new.items ≡ slice_set buffer.old.items place (octet place buffer.old.items - 1) }
+    ensures { buffer.new.items
+        ≡ slice_set buffer.old.items place (octet place buffer.old.items - 1) }
 {
     buffer[place] -= 1;
 }

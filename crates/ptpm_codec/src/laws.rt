@@ -25,9 +25,18 @@ pub fn message_of_spelling()
 
 /// The canonical spelling spells its message, whatever octets follow, and is from 54 to 1,472 octets long.
 pub fn round_trip()
-    ensures spells { (v : Message) (rest : List ℕ) → IsValid v → Fits v → Spells v (message_octets (canonical v ++ rest)) }
-    ensures read { (v : Message) (rest : List ℕ) → IsValid v → Fits v → message_of (canonical v ++ rest) ≡ Some v }
-    ensures octets { (v : Message) (rest : List ℕ) → IsValid v → Fits v → message_octets (canonical v ++ rest) ≡ canonical v }
+    ensures spells { (v : Message) (rest : List ℕ)
+        → IsValid v
+        → Fits v
+        → Spells v (message_octets (canonical v ++ rest)) }
+    ensures read { (v : Message) (rest : List ℕ)
+        → IsValid v
+        → Fits v
+        → message_of (canonical v ++ rest) ≡ Some v }
+    ensures octets { (v : Message) (rest : List ℕ)
+        → IsValid v
+        → Fits v
+        → message_octets (canonical v ++ rest) ≡ canonical v }
     ensures at_least { (v : Message) → IsValid v → Fits v → 54 ≤ length (canonical v) }
     ensures at_most { (v : Message) → IsValid v → Fits v → length (canonical v) ≤ 1472 }
 {}
@@ -35,10 +44,15 @@ pub fn round_trip()
 /// What a boundary clock passes on is the message with boundaryHops less by one. In any list, that octet is no part of the
 /// two identities, of sequenceId, or of what stands from octet 46 on.
 pub fn forwarded_message()
-    ensures message { (v : Message) (d : List ℕ) → message_of d ≡ Some v → 0 < boundary_hops d →
-        message_of (slice_set (message_octets d) 45 (boundary_hops d - 1)) ≡ Some (record v { hops = v.hops - 1 }) }
-    ensures source { (m : List ℕ) (n : ℕ) → source_port_identity (slice_set m 45 n) ≡ source_port_identity m }
-    ensures target { (m : List ℕ) (n : ℕ) → target_port_identity (slice_set m 45 n) ≡ target_port_identity m }
+    ensures message { (v : Message) (d : List ℕ)
+        → message_of d ≡ Some v
+        → 0 < boundary_hops d
+        → message_of (slice_set (message_octets d) 45 (boundary_hops d - 1))
+        ≡ Some (record v { hops = v.hops - 1 }) }
+    ensures source { (m : List ℕ) (n : ℕ)
+        → source_port_identity (slice_set m 45 n) ≡ source_port_identity m }
+    ensures target { (m : List ℕ) (n : ℕ)
+        → target_port_identity (slice_set m 45 n) ≡ target_port_identity m }
     ensures number { (m : List ℕ) (n : ℕ) → sequence_id (slice_set m 45 n) ≡ sequence_id m }
     ensures behind { (m : List ℕ) (n : ℕ) → drop 46 (slice_set m 45 n) ≡ drop 46 m }
 {}
@@ -48,9 +62,13 @@ pub fn forwarded_message()
 pub fn rewritten()
     ensures domain { (v : Message) (n : ℕ) → Fits v →
         slice_set (canonical v) 4 n ≡ canonical (record v { domain = n }) }
-    ensures port { (v : Message) (high low : ℕ) → Fits v → high < 256 → low < 256 →
-        slice_set (slice_set (canonical v) 28 high) 29 low
-        ≡ canonical (record v { source = record { clock = v.source.clock; port = high * 256 + low } }) }
+    ensures port { (v : Message) (high low : ℕ)
+        → Fits v
+        → high < 256
+        → low < 256
+        → slice_set (slice_set (canonical v) 28 high) 29 low
+        ≡ canonical
+        (record v { source = record { clock = v.source.clock; port = high * 256 + low } }) }
     ensures starting_hops { (v : Message) (n : ℕ) → Fits v →
         slice_set (canonical v) 44 n ≡ canonical (record v { starting_hops = n }) }
     ensures hops { (v : Message) (n : ℕ) → Fits v →

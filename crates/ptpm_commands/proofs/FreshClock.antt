@@ -18,11 +18,18 @@ unfolding start_of count_fault clock_fault port_fault ports_fault grandmaster_fa
 faultless = refl
 
 -- whatever values are the defaults
-pub starts : (c : ClockStart) (p q : PortStart) → c ≡ default_clock shown 0 → p ≡ default_port → q ≡ default_port → start_of c (p ∷ q ∷ []) ≡ made
+pub starts : (c : ClockStart) (p q : PortStart)
+    → c ≡ default_clock shown 0
+    → p ≡ default_port
+    → q ≡ default_port
+    → start_of c (p ∷ q ∷ []) ≡ made
 starts c p q clock first second = rw (clock, first, second) faultless
 
 pub not_err : (r : Result DataSetsValue StartError) (e : StartError) → r ≡ made → r ≡ Err e → ⊥
 not_err r e ok err = cc
 
-pub is_made : (r : Result DataSetsValue StartError) (d : DataSetsValue) → r ≡ made → r ≡ Ok d → d ≡ fresh_sets
+pub is_made : (r : Result DataSetsValue StartError) (d : DataSetsValue)
+    → r ≡ made
+    → r ≡ Ok d
+    → d ≡ fresh_sets
 is_made r d made ok = cc

@@ -5,11 +5,15 @@ use Rattle.std.specs.List.{position_or_len}
 use Rattle.ptpm_script.specs.Numbers.{decimal, decimal_up_to}
 use Rattle.ptpm_commands.specs.IdentityText.{identity, identity_of, is_slash}
 
-no_port : (octets : Option (List ℕ)) (text : List ℕ) → text ≡ [] → identity octets (decimal_up_to 65535 text) ≡ None
+no_port : (octets : Option (List ℕ)) (text : List ℕ)
+    → text ≡ []
+    → identity octets (decimal_up_to 65535 text) ≡ None
 unfolding decimal
 no_port None text e = refl
 no_port (Some octets) text e = rw e refl
 
-pub no_slash : (text : List ℕ) → position_or_len is_slash text ≡ length text → identity_of text ≡ None
+pub no_slash : (text : List ℕ)
+    → position_or_len is_slash text ≡ length text
+    → identity_of text ≡ None
 unfolding identity_of
 no_slash text e = no_port _ _ (drop_of_length-le text (omega (arith, e)))

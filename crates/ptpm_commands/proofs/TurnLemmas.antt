@@ -14,7 +14,9 @@ use Rattle.ptpm_agent.specs.Turn.{Clock, State, judged, next_by, turn, turn_by}
 abbrev pub KeepsPorts : Type 0
 KeepsPorts = (q : RequestValue) (rights : Rights) (d : DataSetsValue) → length (changed_by q rights d).ports ≡ length d.ports
 
-next-ports : KeepsPorts → (verdict : Verdict) (c : Clock) (s : State) (v : Message) → length (next_by verdict c s v).sets.ports ≡ length s.sets.ports
+next-ports : KeepsPorts
+    → (verdict : Verdict) (c : Clock) (s : State) (v : Message)
+    → length (next_by verdict c s v).sets.ports ≡ length s.sets.ports
 next-ports keeps (verdicts.Malformed cause) c s v = refl
 next-ports keeps verdicts.OtherDomain c s v = refl
 next-ports keeps verdicts.OwnMessage c s v = refl
@@ -26,7 +28,8 @@ next-ports keeps verdicts.AnsweredRepeat c s v = refl
 next-ports keeps verdicts.DroppedConflict c s v = refl
 next-ports keeps verdicts.DroppedOld c s v = refl
 
-read-ports : KeepsPorts → (c : Clock) (s : State) (ingress : ℕ) (datagram : List ℕ) (r : Result Message DecodeError)
+read-ports : KeepsPorts
+    → (c : Clock) (s : State) (ingress : ℕ) (datagram : List ℕ) (r : Result Message DecodeError)
     → length (turn_by c s ingress datagram r).next.sets.ports ≡ length s.sets.ports
 read-ports keeps c s ingress datagram (Err cause) = refl
 read-ports keeps c s ingress datagram (Ok v) = next-ports keeps (judged c s v) c s v

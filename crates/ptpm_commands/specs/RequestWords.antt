@@ -11,7 +11,13 @@ use Rattle.ptpm_commands.specs.declared.make.RequestWords.{RequestWords}
 use Rattle.ptpm_commands.specs.IdentityText.{identity_of}
 
 -- the request; both hop fields are the hops that were asked for
-abbrev pub request_between : RequestWords → Action → ℕ → List ℕ → PortIdentity → PortIdentity → Message
+abbrev pub request_between : RequestWords
+    → Action
+    → ℕ
+    → List ℕ
+    → PortIdentity
+    → PortIdentity
+    → Message
 request_between words action id octets source target = record {
   sdo = 0;
   domain = words.domain;
@@ -23,7 +29,13 @@ request_between words action id octets source target = record {
   body = bodies.Request action id octets;
 }
 
-abbrev pub with_identities : RequestWords → Action → ℕ → List ℕ → Option PortIdentity → Option PortIdentity → Result Message Fault
+abbrev pub with_identities : RequestWords
+    → Action
+    → ℕ
+    → List ℕ
+    → Option PortIdentity
+    → Option PortIdentity
+    → Result Message Fault
 with_identities words action id octets None target = Err faults.BadIdentity
 with_identities words action id octets (Some source) None = Err faults.BadIdentity
 with_identities words action id octets (Some source) (Some target) = Ok (request_between words action id octets source target)

@@ -71,7 +71,8 @@ fn answer_datagram<O: Write>(
 ) -> Result<(), Fault>
     requires port { HasPort 1 clock.old.sets }
     ensures clock { clock_shown clock.new ≡ clock_shown clock.old }
-    ensures state { state_shown clock.new ≡ (turn (clock_shown clock.old) (state_shown clock.old) 1 datagram.now).next }
+    ensures state { state_shown clock.new
+        ≡ (turn (clock_shown clock.old) (state_shown clock.old) 1 datagram.now).next }
     ensures port { HasPort 1 clock.new.sets }
 {
     change_law();

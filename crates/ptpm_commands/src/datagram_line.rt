@@ -12,7 +12,8 @@ use std::alloc::Global;
 /// should be its digits are none.
 pub(crate) fn datagram_of(alloc: Global, line: &str) -> Result<Option<Vec<u8>>, Fault>
     ensures ok { IfOk result (λ d. datagram_of line.now ≡ Ok (option_map (λ v. v.items) d)) }
-    ensures err { IfErr result (λ e. (e ≡ Fault.OutOfMemory) ⊎ ((e ≡ Fault.BadHex) × IsErr (datagram_of line.now))) }
+    ensures err { IfErr result
+        (λ e. (e ≡ Fault.OutOfMemory) ⊎ ((e ≡ Fault.BadHex) × IsErr (datagram_of line.now))) }
 {
     let Some(digits) = digits_of(line) else {
         return Ok(None);

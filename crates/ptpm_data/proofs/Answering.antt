@@ -18,7 +18,10 @@ pub no_entry : {r : Option Row} {e : Option Entry} → option_map entry_of r ≡
 no_entry {r = None} is gone = sym is
 no_entry {r = Some row} is gone = cc
 
-pub entry_is : {r : Option Row} {e : Option Entry} {row : Row} → option_map entry_of r ≡ e → r ≡ Some row → e ≡ Some (entry_of row)
+pub entry_is : {r : Option Row} {e : Option Entry} {row : Row}
+    → option_map entry_of r ≡ e
+    → r ≡ Some row
+    → e ≡ Some (entry_of row)
 entry_is {r = None} is here = cc
 entry_is {r = Some row} is here = cc
 
@@ -32,36 +35,53 @@ refused_by_clock q error = record {
   answers = record { port = None; outcome = Refused error } ∷ [];
 }
 
-pub reply_of-unlisted : (q : RequestValue) (error : ErrorId) (d : DataSetsValue) → row_of q.id ≡ None → refused_by_clock q error ≡ reply_of q (Some error) d
+pub reply_of-unlisted : (q : RequestValue) (error : ErrorId) (d : DataSetsValue)
+    → row_of q.id ≡ None
+    → refused_by_clock q error ≡ reply_of q (Some error) d
 unfolding reply_of answer
 reply_of-unlisted q error d e = rw e refl
 
-pub reply_to-unlisted : (q : RequestValue) (rights : Rights) (d : DataSetsValue) → row_of q.id ≡ None → refused_by_clock q NoSuchId ≡ reply_to q rights d
+pub reply_to-unlisted : (q : RequestValue) (rights : Rights) (d : DataSetsValue)
+    → row_of q.id ≡ None
+    → refused_by_clock q NoSuchId ≡ reply_to q rights d
 unfolding reply_to
 reply_to-unlisted q rights d e = reply_of-unlisted q NoSuchId _ e ∙ ap (λ (o : Option Entry). reply_of q (refusal_at o q rights) (changed_by q rights d)) (sym e)
 
-pub changed_by-unlisted : (q : RequestValue) (rights : Rights) (d : DataSetsValue) → row_of q.id ≡ None → d ≡ changed_by q rights d
+pub changed_by-unlisted : (q : RequestValue) (rights : Rights) (d : DataSetsValue)
+    → row_of q.id ≡ None
+    → d ≡ changed_by q rights d
 unfolding changed_by
 changed_by-unlisted q rights d e = rw e refl
 
 -- ---- an id of the table
 
-pub reply_to-listed : (q : RequestValue) (rights : Rights) (d : DataSetsValue) (e : Entry) → row_of q.id ≡ Some e → reply_of q (entry_refusal e q rights) (changed_by q rights d) ≡ reply_to q rights d
+pub reply_to-listed : (q : RequestValue) (rights : Rights) (d : DataSetsValue) (e : Entry)
+    → row_of q.id ≡ Some e
+    → reply_of q (entry_refusal e q rights) (changed_by q rights d) ≡ reply_to q rights d
 unfolding reply_to
 reply_to-listed q rights d e is = ap (λ (o : Option Entry). reply_of q (refusal_at o q rights) (changed_by q rights d)) (sym is)
 
-pub changed_by-listed : (q : RequestValue) (rights : Rights) (d : DataSetsValue) (e : Entry) → row_of q.id ≡ Some e → unless_refused (entry_refusal e q rights) (carried_out e.layout q q.action d) d ≡ changed_by q rights d
+pub changed_by-listed : (q : RequestValue) (rights : Rights) (d : DataSetsValue) (e : Entry)
+    → row_of q.id ≡ Some e
+    → unless_refused (entry_refusal e q rights) (carried_out e.layout q q.action d) d
+    ≡ changed_by q rights d
 unfolding changed_by
 changed_by-listed q rights d e is = ap (λ (o : Option Entry). changed_at o q rights d) (sym is)
 
 -- ---- requests that are not numbered
 
 module _ (q : RequestValue) (d : DataSetsValue) where
-  pub read-unlisted : row_of q.id ≡ None → is_get q.action ≡ true → refused_by_clock q NoSuchId ≡ read_reply_to q d
+  pub read-unlisted : row_of q.id ≡ None
+      → is_get q.action ≡ true
+      → refused_by_clock q NoSuchId ≡ read_reply_to q d
   unfolding read_reply_to
   read-unlisted e get = rw (get, e) (reply_of-unlisted q NoSuchId d e)
 
-  pub read-listed : (e : Entry) (rights : Rights) → rights.0 ≡ 0 → row_of q.id ≡ Some e → is_get q.action ≡ true → reply_of q (entry_refusal e q rights) d ≡ read_reply_to q d
+  pub read-listed : (e : Entry) (rights : Rights)
+      → rights.0 ≡ 0
+      → row_of q.id ≡ Some e
+      → is_get q.action ≡ true
+      → reply_of q (entry_refusal e q rights) d ≡ read_reply_to q d
   unfolding read_reply_to
   read-listed e rights none is get =
       let same : rights ≡ no_rights = ap (λ (n : ℕ). let r : Rights = record { 0 = n } in r) none in

@@ -24,7 +24,9 @@ use Rattle.ptpm_data.specs.Changes.{carried_out, commanded, named_changed, set_m
 
 -- ---- the tests of a request that is not refused
 
-pub first_of-none : {A : Type 0} (test : Bool) (a : A) (rest : List (Bool × A)) → first_of ((test, a) ∷ rest) ≡ None → (test ≡ false) × (first_of rest ≡ None)
+pub first_of-none : {A : Type 0} (test : Bool) (a : A) (rest : List (Bool × A))
+    → first_of ((test, a) ∷ rest) ≡ None
+    → (test ≡ false) × (first_of rest ≡ None)
 first_of-none true a rest e = absurd cc
 first_of-none false a rest e = (refl, e)
 
@@ -33,7 +35,9 @@ pub record Suits (layout : Layout) (q : RequestValue) : Type 0 where
   pub size : is_length q.action (set_of layout) q.octets ≡ true
   pub value : is_value q.action (set_of layout) q.octets ≡ true
 
-pub suits_from : (e : Entry) (q : RequestValue) (rights : Rights) → entry_refusal e q rights ≡ None → Suits e.layout q
+pub suits_from : (e : Entry) (q : RequestValue) (rights : Rights)
+    → entry_refusal e q rights ≡ None
+    → Suits e.layout q
 unfolding entry_refusal
 suits_from e q rights none =
     let action = first_of-none (not (has_action q.action e.actions)) (unpermitted q.action) (drop 1 (refusals e q rights)) none in
@@ -44,15 +48,18 @@ suits_from e q rights none =
 
 -- ---- the number of ports
 
-length-named_changed : (port : ℕ) (change : PortDataSet → PortDataSet) (ports : List PortDataSet) → length (named_changed port change ports) ≡ length ports
+length-named_changed : (port : ℕ) (change : PortDataSet → PortDataSet) (ports : List PortDataSet)
+    → length (named_changed port change ports) ≡ length ports
 unfolding named_changed
 length-named_changed port change ports = simp (length-map, length-enumerate_from)
 
-with_mechanism-ports : (port : ℕ) (d : DataSetsValue) (m : Option DelayMechanism) → length (with_mechanism port d m).ports ≡ length d.ports
+with_mechanism-ports : (port : ℕ) (d : DataSetsValue) (m : Option DelayMechanism)
+    → length (with_mechanism port d m).ports ≡ length d.ports
 with_mechanism-ports port d None = refl
 with_mechanism-ports port d (Some m) = length-named_changed port _ d.ports
 
-set_members-ports : (layout : Layout) (port : ℕ) (octets : List ℕ) (d : DataSetsValue) → length (set_members layout port octets d).ports ≡ length d.ports
+set_members-ports : (layout : Layout) (port : ℕ) (octets : List ℕ) (d : DataSetsValue)
+    → length (set_members layout port octets d).ports ≡ length d.ports
 unfolding set_members
 set_members-ports layouts.LogAnnounceInterval port octets d = length-named_changed port _ d.ports
 set_members-ports layouts.AnnounceReceiptTimeout port octets d = length-named_changed port _ d.ports
@@ -61,13 +68,15 @@ set_members-ports layouts.LogMinPdelayReqInterval port octets d = length-named_c
 set_members-ports layouts.DelayMechanism port octets d = with_mechanism-ports port d (mechanism_of (octet 0 octets))
 set_members-ports _ port octets d = refl
 
-commanded-ports : (layout : Layout) (port : ℕ) (d : DataSetsValue) → length (commanded layout port d).ports ≡ length d.ports
+commanded-ports : (layout : Layout) (port : ℕ) (d : DataSetsValue)
+    → length (commanded layout port d).ports ≡ length d.ports
 unfolding commanded
 commanded-ports layouts.EnablePort port d = length-named_changed port _ d.ports
 commanded-ports layouts.DisablePort port d = length-named_changed port _ d.ports
 commanded-ports _ port d = refl
 
-pub carried_out-ports : (layout : Layout) (q : RequestValue) (action : Action) (d : DataSetsValue) → length (carried_out layout q action d).ports ≡ length d.ports
+pub carried_out-ports : (layout : Layout) (q : RequestValue) (action : Action) (d : DataSetsValue)
+    → length (carried_out layout q action d).ports ≡ length d.ports
 carried_out-ports layout q actions.Set d = set_members-ports layout q.port q.octets d
 carried_out-ports layout q actions.Command d = commanded-ports layout q.port d
 carried_out-ports layout q _ d = refl

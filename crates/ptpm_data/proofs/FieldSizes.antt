@@ -17,7 +17,9 @@ use Rattle.ptpm_data.specs.RequestLaws.{IsSized, IsFieldWithin, field_limit}
 
 -- ---- each data set
 
-default_size : (d : DefaultDataSet) (n : ℕ) → length d.identity.0 ≡ 8 → length (default_data_field d n) ≡ 20
+default_size : (d : DefaultDataSet) (n : ℕ)
+    → length d.identity.0 ≡ 8
+    → length (default_data_field d n) ≡ 20
 unfolding default_data_field precedence_octets
 default_size d n h = simp length-append (omega arith)
 
@@ -25,7 +27,10 @@ current_size : (c : CurrentDataSet) → length (current_data_field c) ≡ 18
 unfolding current_data_field i64_octets
 current_size c = simp length-append (omega arith)
 
-parent_size : (p : ParentDataSet) → length p.parent_port.clock.0 ≡ 8 → length p.grandmaster.0 ≡ 8 → length (parent_data_field p) ≡ 32
+parent_size : (p : ParentDataSet)
+    → length p.parent_port.clock.0 ≡ 8
+    → length p.grandmaster.0 ≡ 8
+    → length (parent_data_field p) ≡ 32
 unfolding parent_data_field precedence_octets i32_octets
 parent_size p h k = simp length-append (omega arith)
 
@@ -37,20 +42,29 @@ utc_size : (t : TimePropertiesDataSet) → length (utc_properties_data_field t) 
 unfolding utc_properties_data_field i16_octets
 utc_size t = simp length-append (omega arith)
 
-port_size : (identity : ClockIdentity) (port : ℕ) (p : PortDataSet) → length identity.0 ≡ 8 → length (port_data_field identity port p) ≡ 26
+port_size : (identity : ClockIdentity) (port : ℕ) (p : PortDataSet)
+    → length identity.0 ≡ 8
+    → length (port_data_field identity port p) ≡ 26
 unfolding port_data_field port_settings_octets i64_octets
 port_size identity port p h = simp length-append (omega arith)
 
-text_size : (text : List ℕ) → length (text_data_field text) ≡ 1 + length text + (1 + length text) % 2
+text_size : (text : List ℕ)
+    → length (text_data_field text) ≡ 1 + length text + (1 + length text) % 2
 unfolding text_data_field
 text_size text = simp (length-append, length-replicate) (omega arith)
 
 -- ---- each id
 
-within : (limit n : ℕ) {octets : List ℕ} → length octets ≡ n → n % 2 ≡ 0 → n ≤ limit → IsFieldWithin limit octets
+within : (limit n : ℕ) {octets : List ℕ}
+    → length octets ≡ n
+    → n % 2 ≡ 0
+    → n ≤ limit
+    → IsFieldWithin limit octets
 within limit n {octets} e even small = record { even = rw e even; small = rw e small }
 
-of_port : (layout : Layout) (identity : ClockIdentity) (port : ℕ) (p : PortDataSet) → length identity.0 ≡ 8 → IsFieldWithin 26 (port_field_of layout identity port p)
+of_port : (layout : Layout) (identity : ClockIdentity) (port : ℕ) (p : PortDataSet)
+    → length identity.0 ≡ 8
+    → IsFieldWithin 26 (port_field_of layout identity port p)
 unfolding port_field_of
 of_port layouts.PortDataSet identity port p h = within 26 26 (port_size identity port p h) refl (omega arith)
 of_port layouts.LogAnnounceInterval identity port p h = within 26 2 refl refl (omega arith)
@@ -61,7 +75,9 @@ of_port layouts.DelayMechanism identity port p h = within 26 2 refl refl (omega 
 of_port layouts.LogMinPdelayReqInterval identity port p h = within 26 2 refl refl (omega arith)
 of_port _ identity port p h = within 26 0 refl refl (omega arith)
 
-at_port : (layout : Layout) (identity : ClockIdentity) (port : ℕ) (set : Option PortDataSet) → length identity.0 ≡ 8 → IsFieldWithin 26 (field_of_port (port_field_of layout identity port) set)
+at_port : (layout : Layout) (identity : ClockIdentity) (port : ℕ) (set : Option PortDataSet)
+    → length identity.0 ≡ 8
+    → IsFieldWithin 26 (field_of_port (port_field_of layout identity port) set)
 at_port layout identity port None h = within 26 0 refl refl (omega arith)
 at_port layout identity port (Some p) h = of_port layout identity port p h
 
@@ -117,13 +133,20 @@ both_parts true b e = (refl, e)
 both_parts false b e = cc
 
 module _ {X : Type 0} (test good : X → Bool) where
-  found_first : (b : Bool) (y x : X) (rest : Option X) → cond b (Some y) rest ≡ Some x → good y ≡ true → (rest ≡ Some x → good x ≡ true) → good x ≡ true
+  found_first : (b : Bool) (y x : X) (rest : Option X)
+      → cond b (Some y) rest ≡ Some x
+      → good y ≡ true
+      → (rest ≡ Some x → good x ≡ true)
+      → good x ≡ true
   found_first true y x rest e first others =
       let same : y ≡ x = cc in
       rw (← same) first
   found_first false y x rest e first others = others e
 
-  pub found : (xs : List X) (x : X) → list_all good xs ≡ true → find test xs ≡ Some x → good x ≡ true
+  pub found : (xs : List X) (x : X)
+      → list_all good xs ≡ true
+      → find test xs ≡ Some x
+      → good x ≡ true
   found [] x all e = cc
   found (y ∷ ys) x all e =
       let parts = both_parts (good y) (list_all good ys) all in
@@ -141,7 +164,9 @@ agree true l e = e
 agree false true e = cc
 agree false false e = refl
 
-pub layout_of : (id : ℕ) (e : Entry) → row_of id ≡ Some e → is_port_layout e.layout ≡ is_port_scope e.scope
+pub layout_of : (id : ℕ) (e : Entry)
+    → row_of id ≡ Some e
+    → is_port_layout e.layout ≡ is_port_scope e.scope
 unfolding row_of
 layout_of id e is = agree (is_port_scope e.scope) (is_port_layout e.layout) (found (λ x. x.id == id) scope_agrees id_table e table_agrees is)
 

@@ -22,6 +22,8 @@ module _ (q : RequestValue) (rights : Rights) (get : q.action ≡ actions.Get) w
   read_refusal-get : read_refusal q ≡ refusal_of q rights
   read_refusal-get = let yes : is_get q.action ≡ true = ap is_get get in rw yes (refusal_at-get (row_of q.id))
 
-pub read-as-numbered : (q : RequestValue) (rights : Rights) (d : DataSetsValue) → q.action ≡ actions.Get → read_reply_to q d ≡ reply_to q rights d
+pub read-as-numbered : (q : RequestValue) (rights : Rights) (d : DataSetsValue)
+    → q.action ≡ actions.Get
+    → read_reply_to q d ≡ reply_to q rights d
 unfolding read_reply_to reply_to
 read-as-numbered q rights d get = rw (changed_by-get q rights d get, read_refusal-get q rights get) refl

@@ -46,11 +46,13 @@ shown_grandmaster : (b : Bool) (change : PrecedenceChange) (parent : ParentDataS
 shown_grandmaster true change parent = refl
 shown_grandmaster false change parent = refl
 
-with_mechanism-keeps : (port : ℕ) (d : DataSetsValue) (m : Option DelayMechanism) → Keeps d (with_mechanism port d m)
+with_mechanism-keeps : (port : ℕ) (d : DataSetsValue) (m : Option DelayMechanism)
+    → Keeps d (with_mechanism port d m)
 with_mechanism-keeps port d None = same d
 with_mechanism-keeps port d (Some m) = record { identity = refl; parent_port = refl; grandmaster = refl }
 
-set_members-keeps : (layout : Layout) (port : ℕ) (octets : List ℕ) (d : DataSetsValue) → Keeps d (set_members layout port octets d)
+set_members-keeps : (layout : Layout) (port : ℕ) (octets : List ℕ) (d : DataSetsValue)
+    → Keeps d (set_members layout port octets d)
 unfolding set_members
 set_members-keeps layouts.DelayMechanism port octets d = with_mechanism-keeps port d (mechanism_of (octet 0 octets))
 set_members-keeps layouts.Priority1 port octets d = record { identity = refl; parent_port = shown_port (is_own_grandmaster d) _ d.parent; grandmaster = shown_grandmaster (is_own_grandmaster d) _ d.parent }
@@ -58,12 +60,14 @@ set_members-keeps layouts.Priority2 port octets d = record { identity = refl; pa
 set_members-keeps layouts.ClockAccuracy port octets d = record { identity = refl; parent_port = shown_port (is_own_grandmaster d) _ d.parent; grandmaster = shown_grandmaster (is_own_grandmaster d) _ d.parent }
 set_members-keeps _ port octets d = record { identity = refl; parent_port = refl; grandmaster = refl }
 
-commanded-keeps : (layout : Layout) (port : ℕ) (d : DataSetsValue) → Keeps d (commanded layout port d)
+commanded-keeps : (layout : Layout) (port : ℕ) (d : DataSetsValue)
+    → Keeps d (commanded layout port d)
 unfolding commanded
 commanded-keeps layouts.EnablePort port d = record { identity = refl; parent_port = refl; grandmaster = refl }
 commanded-keeps _ port d = record { identity = refl; parent_port = refl; grandmaster = refl }
 
-carried_out-keeps : (layout : Layout) (q : RequestValue) (action : Action) (d : DataSetsValue) → Keeps d (carried_out layout q action d)
+carried_out-keeps : (layout : Layout) (q : RequestValue) (action : Action) (d : DataSetsValue)
+    → Keeps d (carried_out layout q action d)
 carried_out-keeps layout q actions.Set d = set_members-keeps layout q.port q.octets d
 carried_out-keeps layout q actions.Command d = commanded-keeps layout q.port d
 carried_out-keeps layout q _ d = same d
@@ -74,27 +78,38 @@ pub described : (text : List ℕ) → is_description text ≡ true → length te
 unfolding is_description set_of
 described text good = leb-true _ _ (both_parts _ _ good).0
 
-with_mechanism-text : (port : ℕ) (d : DataSetsValue) (m : Option DelayMechanism) → (with_mechanism port d m).description ≡ d.description
+with_mechanism-text : (port : ℕ) (d : DataSetsValue) (m : Option DelayMechanism)
+    → (with_mechanism port d m).description ≡ d.description
 with_mechanism-text port d None = refl
 with_mechanism-text port d (Some m) = refl
 
-set_members-text : (layout : Layout) (port : ℕ) (octets : List ℕ) (d : DataSetsValue) → is_set_value (set_of layout) octets ≡ true → length d.description ≤ 128 → length (set_members layout port octets d).description ≤ 128
+set_members-text : (layout : Layout) (port : ℕ) (octets : List ℕ) (d : DataSetsValue)
+    → is_set_value (set_of layout) octets ≡ true
+    → length d.description ≤ 128
+    → length (set_members layout port octets d).description ≤ 128
 unfolding set_members is_set_value is_description set_of
 set_members-text layouts.UserDescription port octets d good small = described (ptp_text octets) good
 set_members-text layouts.DelayMechanism port octets d good small = rw (with_mechanism-text port d (mechanism_of (octet 0 octets))) small
 set_members-text _ port octets d good small = small
 
-commanded-text : (layout : Layout) (port : ℕ) (d : DataSetsValue) → (commanded layout port d).description ≡ d.description
+commanded-text : (layout : Layout) (port : ℕ) (d : DataSetsValue)
+    → (commanded layout port d).description ≡ d.description
 unfolding commanded
 commanded-text layouts.EnablePort port d = refl
 commanded-text _ port d = refl
 
-carried_out-text : (layout : Layout) (q : RequestValue) (action : Action) (d : DataSetsValue) → is_value action (set_of layout) q.octets ≡ true → length d.description ≤ 128 → length (carried_out layout q action d).description ≤ 128
+carried_out-text : (layout : Layout) (q : RequestValue) (action : Action) (d : DataSetsValue)
+    → is_value action (set_of layout) q.octets ≡ true
+    → length d.description ≤ 128
+    → length (carried_out layout q action d).description ≤ 128
 carried_out-text layout q actions.Set d good small = set_members-text layout q.port q.octets d good small
 carried_out-text layout q actions.Command d good small = rw (commanded-text layout q.port d) small
 carried_out-text layout q _ d good small = small
 
-carried_out-sized : (layout : Layout) (q : RequestValue) (d : DataSetsValue) → Suits layout q → IsSized d → IsSized (carried_out layout q q.action d)
+carried_out-sized : (layout : Layout) (q : RequestValue) (d : DataSetsValue)
+    → Suits layout q
+    → IsSized d
+    → IsSized (carried_out layout q q.action d)
 carried_out-sized layout q d suits s =
     let keeps = carried_out-keeps layout q q.action d in
     let ports = carried_out-ports layout q q.action d in
@@ -110,15 +125,24 @@ carried_out-sized layout q d suits s =
 -- ---- the data sets after a request
 
 module _ (P : DataSetsValue → Type 0) (q : RequestValue) (rights : Rights) (d : DataSetsValue) where
-  unless : (e : Entry) (r : Option ErrorId) → entry_refusal e q rights ≡ r → P d → ((e : Entry) → Suits e.layout q → P (carried_out e.layout q q.action d)) → P (unless_refused r (carried_out e.layout q q.action d) d)
+  unless : (e : Entry) (r : Option ErrorId)
+      → entry_refusal e q rights ≡ r
+      → P d
+      → ((e : Entry) → Suits e.layout q → P (carried_out e.layout q q.action d))
+      → P (unless_refused r (carried_out e.layout q q.action d) d)
   unless e None is before after = after e (suits_from e q rights is)
   unless e (Some error) is before after = before
 
-  changed : (o : Option Entry) → P d → ((e : Entry) → Suits e.layout q → P (carried_out e.layout q q.action d)) → P (changed_at o q rights d)
+  changed : (o : Option Entry)
+      → P d
+      → ((e : Entry) → Suits e.layout q → P (carried_out e.layout q q.action d))
+      → P (changed_at o q rights d)
   changed None before after = before
   changed (Some e) before after = unless e (entry_refusal e q rights) refl before after
 
-  changed_by-all : P d → ((e : Entry) → Suits e.layout q → P (carried_out e.layout q q.action d)) → P (changed_by q rights d)
+  changed_by-all : P d
+      → ((e : Entry) → Suits e.layout q → P (carried_out e.layout q q.action d))
+      → P (changed_by q rights d)
   unfolding changed_by
   changed_by-all before after = changed (row_of q.id) before after
 
@@ -134,7 +158,9 @@ module _ (q : RequestValue) (rights : Rights) (d : DataSetsValue) where
   pub changed_by-sized : IsSized d → IsSized (changed_by q rights d)
   changed_by-sized s = changed_by-all IsSized q rights d s (λ e suits. carried_out-sized e.layout q d suits s)
 
-  got : (layout : Layout) (action : Action) → action ≡ actions.Get → carried_out layout q action d ≡ d
+  got : (layout : Layout) (action : Action)
+      → action ≡ actions.Get
+      → carried_out layout q action d ≡ d
   got layout actions.Get get = refl
   got layout actions.Set get = cc
   got layout actions.Command get = cc
@@ -146,11 +172,15 @@ module _ (q : RequestValue) (rights : Rights) (d : DataSetsValue) where
 
   -- ---- a refused request
 
-  refused_entry : (o : Option Entry) (error : ErrorId) → refusal_at o q rights ≡ Some error → changed_at o q rights d ≡ d
+  refused_entry : (o : Option Entry) (error : ErrorId)
+      → refusal_at o q rights ≡ Some error
+      → changed_at o q rights d ≡ d
   refused_entry None error is = refl
   refused_entry (Some e) error is = rw is refl
 
-  pub changed_by-refused : (error : ErrorId) → refusal_of q rights ≡ Some error → changed_by q rights d ≡ d
+  pub changed_by-refused : (error : ErrorId)
+      → refusal_of q rights ≡ Some error
+      → changed_by q rights d ≡ d
   unfolding changed_by
   changed_by-refused error is = refused_entry (row_of q.id) error is
 
@@ -163,7 +193,10 @@ module _ (q : RequestValue) (rights : Rights) (d : DataSetsValue) where
   is_refused None actions.Response octets error is = cc
   is_refused None actions.Acknowledge octets error is = cc
 
-  pub refused_answer : (a : Answer) (error : ErrorId) → Contains (reply_to q rights d).answers a → a.outcome ≡ Refused error → changed_by q rights d ≡ d
+  pub refused_answer : (a : Answer) (error : ErrorId)
+      → Contains (reply_to q rights d).answers a
+      → a.outcome ≡ Refused error
+      → changed_by q rights d ≡ d
   unfolding reply_to answer
   refused_answer a error among is =
       let P : Answer → Type 0 = λ x. x.outcome ≡ Refused error → refusal_of q rights ≡ Some error in

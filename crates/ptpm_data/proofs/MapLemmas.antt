@@ -62,7 +62,9 @@ mechanism_back mechanisms.EndToEnd = refl
 mechanism_back mechanisms.PeerToPeer = refl
 mechanism_back mechanisms.NoMechanism = refl
 
-mechanism_same : (m n : DelayMechanism) → natural (mechanism_number m) ≡ natural (mechanism_number n) → m ≡ n
+mechanism_same : (m n : DelayMechanism)
+    → natural (mechanism_number m) ≡ natural (mechanism_number n)
+    → m ≡ n
 mechanism_same m n h = some_same m n (sym (mechanism_back m) ∙ ap mechanism_of (natural_same _ _ h) ∙ mechanism_back n)
 
 -- ---- ports
@@ -88,7 +90,9 @@ port_same p q h =
       log_min_pdelay = min_pdelay i;
     }
 
-option_same : (o p : Option PortDataSet) → ((m : Member) → option_and_then (port_member m) o ≡ option_and_then (port_member m) p) → o ≡ p
+option_same : (o p : Option PortDataSet)
+    → ((m : Member) → option_and_then (port_member m) o ≡ option_and_then (port_member m) p)
+    → o ≡ p
 option_same None None h = refl
 option_same None (Some q) h = let e = h members.State in cc
 option_same (Some p) None h = let e = h members.State in cc
@@ -111,7 +115,9 @@ port_at d i =
 
 -- ---- the data sets
 
-pub map_decides : (a b : DataSetsValue) → ((place : Place) → value_of place a ≡ value_of place b) → a ≡ b
+pub map_decides : (a b : DataSetsValue)
+    → ((place : Place) → value_of place a ≡ value_of place b)
+    → a ≡ b
 map_decides a b h =
     let identity = identity_same _ _ (h (OfClock members.Identity)) in
     let domain = natural_same _ _ (h (OfClock members.Domain)) in

@@ -24,7 +24,8 @@ unfolding row_named row_of named_among
 named_among_all name = refl
 
 pub named_among_step : (name ids : List ℕ) (i : ℕ) → i < length ids
-    → named_among name (drop i ids) ≡ named_or name (row_of (get_or ids i 0)) (named_among name (drop (i + 1) ids))
+    → named_among name (drop i ids)
+    ≡ named_or name (row_of (get_or ids i 0)) (named_among name (drop (i + 1) ids))
 unfolding named_among
 named_among_step name ids i h = rw (drop-cons ids i 0 h, add-one i) refl
 
@@ -35,19 +36,29 @@ passes name (Some e) o h =
     elim (bytes_eq e.name name) as (λ b. (if b then Some e else None) ≡ None → (if b then Some e else o) ≡ o) [ true ↦ λ q. cc | false ↦ λ q. refl ] h
 
 -- at one id: this name
-pub stops : (name : List ℕ) (r o : Option Entry) (e : Entry) → if_named name r ≡ Some e → named_or name r o ≡ Some e
+pub stops : (name : List ℕ) (r o : Option Entry) (e : Entry)
+    → if_named name r ≡ Some e
+    → named_or name r o ≡ Some e
 stops name None o e h = cc
 stops name (Some d) o e h =
     elim (bytes_eq d.name name) as (λ b. (if b then Some d else None) ≡ Some e → (if b then Some d else o) ≡ Some e) [ true ↦ λ q. q | false ↦ λ q. cc ] h
 
-pub goes_on : (name ids : List ℕ) (i : ℕ) → i < length ids → row_named name ≡ named_among name (drop i ids)
-    → if_named name (row_of (get_or ids i 0)) ≡ None → row_named name ≡ named_among name (drop (i + 1) ids)
+pub goes_on : (name ids : List ℕ) (i : ℕ)
+    → i < length ids
+    → row_named name ≡ named_among name (drop i ids)
+    → if_named name (row_of (get_or ids i 0)) ≡ None
+    → row_named name ≡ named_among name (drop (i + 1) ids)
 goes_on name ids i below here other = here ∙ named_among_step name ids i below ∙ passes name _ _ other
 
-pub is_found : (name ids : List ℕ) (i : ℕ) (e : Entry) → i < length ids → row_named name ≡ named_among name (drop i ids)
+pub is_found : (name ids : List ℕ) (i : ℕ) (e : Entry)
+    → i < length ids
+    → row_named name ≡ named_among name (drop i ids)
     → if_named name (row_of (get_or ids i 0)) ≡ Some e → row_named name ≡ Some e
 is_found name ids i e below here this = here ∙ named_among_step name ids i below ∙ stops name _ _ e this
 
-pub is_nowhere : (name ids : List ℕ) (i : ℕ) → length ids ≤ i → row_named name ≡ named_among name (drop i ids) → row_named name ≡ None
+pub is_nowhere : (name ids : List ℕ) (i : ℕ)
+    → length ids ≤ i
+    → row_named name ≡ named_among name (drop i ids)
+    → row_named name ≡ None
 unfolding named_among
 is_nowhere name ids i past here = here ∙ ap (named_among name) (drop_of_length-le ids past)

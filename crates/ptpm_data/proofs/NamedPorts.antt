@@ -29,12 +29,19 @@ either_or false = refl
 own_named : (port n : ℕ) → port ≡ n → is_named port n ≡ true
 own_named port n e = rw (eq-eqb port n e) (either_or (port == 0xffff))
 
-none_named : (port a n : ℕ) → (port == 0xffff) ≡ false → port < a → filter (is_named port) (range_with_len a n) ≡ []
+none_named : (port a n : ℕ)
+    → (port == 0xffff) ≡ false
+    → port < a
+    → filter (is_named port) (range_with_len a n) ≡ []
 none_named port a zero one below = refl
 none_named port a (suc n) one below =
     cond-false _ _ _ (not_named port a one (λ e. omega arith)) ∙ none_named port (a + 1) n one (omega arith)
 
-one_named : (port a n : ℕ) → (port == 0xffff) ≡ false → a ≤ port → port < a + n → filter (is_named port) (range_with_len a n) ≡ port ∷ []
+one_named : (port a n : ℕ)
+    → (port == 0xffff) ≡ false
+    → a ≤ port
+    → port < a + n
+    → filter (is_named port) (range_with_len a n) ≡ port ∷ []
 one_named port a zero one low high = absurd (omega arith)
 one_named port a (suc n) one low high =
     elim (cases_lt a port) [
@@ -48,13 +55,19 @@ one_named port a (suc n) one low high =
 
 -- ---- as ranges
 
-pub named_ports-every : (port n k : ℕ) → port ≡ 0xffff → k ≡ n → named_ports port n ≡ range_with_len 1 (k + 1 - 1)
+pub named_ports-every : (port n k : ℕ)
+    → port ≡ 0xffff
+    → k ≡ n
+    → named_ports port n ≡ range_with_len 1 (k + 1 - 1)
 unfolding named_ports
 named_ports-every port n k e same =
     let number : k + 1 - 1 ≡ n = omega arith in
     rw (e, number) (every_named 1 n)
 
-pub named_ports-one : (port n : ℕ) → (port ≡ 0xffff → ⊥) → IsTargetOf port n → named_ports port n ≡ range_with_len port (port + 1 - port)
+pub named_ports-one : (port n : ℕ)
+    → (port ≡ 0xffff → ⊥)
+    → IsTargetOf port n
+    → named_ports port n ≡ range_with_len port (port + 1 - port)
 unfolding named_ports
 named_ports-one port n other target =
     let number : port + 1 - port ≡ 1 = omega arith in
@@ -77,27 +90,44 @@ module _ (q : RequestValue) (refusal : Option ErrorId) (d : DataSetsValue) where
 
 -- ---- a change of the named ports
 
-every_changed : (change : PortDataSet → PortDataSet) (k : ℕ) (ports : List PortDataSet) → map (λ e. changed_if (is_named 0xffff e.0) change e.1) (enumerate_from k ports) ≡ map change ports
+every_changed : (change : PortDataSet → PortDataSet) (k : ℕ) (ports : List PortDataSet)
+    → map (λ e. changed_if (is_named 0xffff e.0) change e.1) (enumerate_from k ports)
+    ≡ map change ports
 every_changed change k [] = refl
 every_changed change k (p ∷ ps) = ap (λ (xs : List PortDataSet). change p ∷ xs) (every_changed change (k + 1) ps)
 
-pub named_changed-every : (port : ℕ) (change : PortDataSet → PortDataSet) (ports : List PortDataSet) → port ≡ 0xffff → named_changed port change ports ≡ map change ports
+pub named_changed-every : (port : ℕ) (change : PortDataSet → PortDataSet) (ports : List PortDataSet)
+    → port ≡ 0xffff
+    → named_changed port change ports ≡ map change ports
 unfolding named_changed
 named_changed-every port change ports e = rw e (every_changed change 1 ports)
 
-none_changed : (port : ℕ) (change : PortDataSet → PortDataSet) (k : ℕ) (ports : List PortDataSet) → (port == 0xffff) ≡ false → port < k → map (λ e. changed_if (is_named port e.0) change e.1) (enumerate_from k ports) ≡ ports
+none_changed : (port : ℕ) (change : PortDataSet → PortDataSet) (k : ℕ) (ports : List PortDataSet)
+    → (port == 0xffff) ≡ false
+    → port < k
+    → map (λ e. changed_if (is_named port e.0) change e.1) (enumerate_from k ports) ≡ ports
 none_changed port change k [] one below = refl
 none_changed port change k (p ∷ ps) one below =
     rw (not_named port k one (λ e. omega arith)) (ap (λ (xs : List PortDataSet). p ∷ xs) (none_changed port change (k + 1) ps one (omega arith)))
 
-one_changed : (port : ℕ) (change : PortDataSet → PortDataSet) (k i : ℕ) (ports : List PortDataSet) (p : PortDataSet) → (port == 0xffff) ≡ false → k + i ≡ port → i < length ports → map (λ e. changed_if (is_named port e.0) change e.1) (enumerate_from k ports) ≡ set ports i (change (get_or ports i p))
+one_changed : (port : ℕ) (change : PortDataSet → PortDataSet) (k i : ℕ) (ports : List PortDataSet)
+    (p : PortDataSet)
+    → (port == 0xffff) ≡ false
+    → k + i ≡ port
+    → i < length ports
+    → map (λ e. changed_if (is_named port e.0) change e.1) (enumerate_from k ports)
+    ≡ set ports i (change (get_or ports i p))
 one_changed port change k i [] p one here below = absurd (omega arith)
 one_changed port change k zero (q ∷ ps) p one here below =
     rw (own_named port k (omega arith)) (ap (λ (xs : List PortDataSet). change q ∷ xs) (none_changed port change (k + 1) ps one (omega arith)))
 one_changed port change k (suc i) (q ∷ ps) p one here below =
     rw (not_named port k one (λ e. omega arith)) (ap (λ (xs : List PortDataSet). q ∷ xs) (one_changed port change (k + 1) i ps p one (omega arith) (omega arith)))
 
-pub named_changed-one : (port : ℕ) (change : PortDataSet → PortDataSet) (ports : List PortDataSet) (p : PortDataSet) → (port ≡ 0xffff → ⊥) → IsTargetOf port (length ports) → named_changed port change ports ≡ set ports (port - 1) (change (get_or ports (port - 1) p))
+pub named_changed-one : (port : ℕ) (change : PortDataSet → PortDataSet) (ports : List PortDataSet)
+    (p : PortDataSet)
+    → (port ≡ 0xffff → ⊥)
+    → IsTargetOf port (length ports)
+    → named_changed port change ports ≡ set ports (port - 1) (change (get_or ports (port - 1) p))
 unfolding named_changed
 named_changed-one port change ports p other target =
     elim target [
@@ -109,5 +139,8 @@ named_changed-one port change ports p other target =
     ]
 
 -- a change in place has reached the end of the list
-pub map_over_all : (change : PortDataSet → PortDataSet) (old new : List PortDataSet) (i : ℕ) → length old ≤ i → new ≡ map change (take i old) ++ drop i old → new ≡ map change old
+pub map_over_all : (change : PortDataSet → PortDataSet) (old new : List PortDataSet) (i : ℕ)
+    → length old ≤ i
+    → new ≡ map change (take i old) ++ drop i old
+    → new ≡ map change old
 map_over_all change old new i past e = e ∙ rw (take_all i old past, drop_all i old past, append-nil) refl

@@ -19,7 +19,8 @@ use Rattle.ptpm_data.proofs.FieldSizes.{both_parts}
 -- ---- a text
 
 pub text_back : (octets : List ℕ) → is_ptp_text octets ≡ true
-    → text_data_field (ptp_text octets) ≡ take (1 + octet 0 octets) octets ++ replicate ((1 + octet 0 octets) % 2) 0
+    → text_data_field (ptp_text octets)
+    ≡ take (1 + octet 0 octets) octets ++ replicate ((1 + octet 0 octets) % 2) 0
 unfolding text_data_field
 text_back [] h = cc
 text_back (t ∷ xs) h =
@@ -37,7 +38,11 @@ are_three_bits c = (bit 0 (has_bit 0 c) + bit 1 (has_bit 1 c) + bit 2 (has_bit 2
 all_octets : list_all are_three_bits (range_with_len 0 256) ≡ true
 all_octets = refl
 
-in_range : (test : ℕ → Bool) (a n c : ℕ) → list_all test (range_with_len a n) ≡ true → a ≤ c → c < a + n → test c ≡ true
+in_range : (test : ℕ → Bool) (a n c : ℕ)
+    → list_all test (range_with_len a n) ≡ true
+    → a ≤ c
+    → c < a + n
+    → test c ≡ true
 in_range test a zero c all low high = absurd (omega arith)
 in_range test a (suc n) c all low high =
     let parts = both_parts (test a) (list_all test (range_with_len (a + 1) n)) all in
@@ -48,10 +53,15 @@ in_range test a (suc n) c all low high =
           rw e parts.0
     ]
 
-flags_back : (c : ℕ) → c < 256 → bit 0 (has_bit 0 c) + bit 1 (has_bit 1 c) + bit 2 (has_bit 2 c) ≡ c % 8
+flags_back : (c : ℕ)
+    → c < 256
+    → bit 0 (has_bit 0 c) + bit 1 (has_bit 1 c) + bit 2 (has_bit 2 c) ≡ c % 8
 flags_back c small = eqb-true _ _ (in_range are_three_bits 0 256 c all_octets (omega arith) (omega arith))
 
-offset_back : (a b : ℕ) (xs : List ℕ) → a < 256 → b < 256 → i16_octets (first_i16 (a ∷ b ∷ xs)) ≡ a ∷ b ∷ []
+offset_back : (a b : ℕ) (xs : List ℕ)
+    → a < 256
+    → b < 256
+    → i16_octets (first_i16 (a ∷ b ∷ xs)) ≡ a ∷ b ∷ []
 unfolding i16_octets first_i16
 offset_back a b xs small_a small_b =
     let n : big_number 2 (a ∷ b ∷ xs) ≡ 256 * a + b = omega arith in
@@ -62,7 +72,8 @@ offset_back a b xs small_a small_b =
     rw (n, back, high, low) refl
 
 pub utc_back : (octets : List ℕ) (t : TimePropertiesDataSet) → length octets ≡ 4 → AreOctets octets
-    → utc_properties_data_field (with_utc_properties t octets) ≡ take 2 octets ++ octet 2 octets % 8 ∷ 0 ∷ []
+    → utc_properties_data_field (with_utc_properties t octets)
+    ≡ take 2 octets ++ octet 2 octets % 8 ∷ 0 ∷ []
 unfolding utc_properties_data_field
 utc_back (a ∷ b ∷ c ∷ xs) t size range = rw (offset_back a b (c ∷ xs) (range 0) (range 1), flags_back c (range 2)) refl
 utc_back [] t size range = absurd (omega arith)
@@ -71,7 +82,8 @@ utc_back (a ∷ b ∷ []) t size range = absurd (omega arith)
 
 -- ---- NULL_PTP_MANAGEMENT
 
-pub nothing_held : (identity : ClockIdentity) (n : ℕ) (o : Option PortDataSet) → field_of_port (port_field_of layouts.NullPtpManagement identity n) o ≡ []
+pub nothing_held : (identity : ClockIdentity) (n : ℕ) (o : Option PortDataSet)
+    → field_of_port (port_field_of layouts.NullPtpManagement identity n) o ≡ []
 unfolding port_field_of
 nothing_held identity n None = refl
 nothing_held identity n (Some p) = refl

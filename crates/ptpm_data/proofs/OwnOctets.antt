@@ -40,7 +40,8 @@ use Rattle.ptpm_data.proofs.Setting.{accepted_by, permitted, set_changes, then_g
 -- ---- the port that is shown
 
 named_at : (port : ℕ) (change : PortDataSet → PortDataSet) (k i : ℕ) (ports : List PortDataSet)
-    → slice_get (map (λ e. changed_if (is_named port e.0) change e.1) (enumerate_from k ports)) i ≡ option_map (changed_if (is_named port (k + i)) change) (slice_get ports i)
+    → slice_get (map (λ e. changed_if (is_named port e.0) change e.1) (enumerate_from k ports)) i
+    ≡ option_map (changed_if (is_named port (k + i)) change) (slice_get ports i)
 named_at port change k i [] = refl
 named_at port change k zero (p ∷ ps) =
     let same : k + 0 ≡ k = omega arith in
@@ -49,7 +50,9 @@ named_at port change k (suc i) (p ∷ ps) =
     let same : k + suc i ≡ k + 1 + i = omega arith in
     rw same (named_at port change (k + 1) i ps)
 
-some_at : (ports : List PortDataSet) (i : ℕ) → i < length ports → (p : PortDataSet) × (slice_get ports i ≡ Some p)
+some_at : (ports : List PortDataSet) (i : ℕ)
+    → i < length ports
+    → (p : PortDataSet) × (slice_get ports i ≡ Some p)
 some_at [] i below = absurd (omega arith)
 some_at (p ∷ ps) zero below = (p, refl)
 some_at (p ∷ ps) (suc i) below = some_at ps i (omega arith)
@@ -104,7 +107,10 @@ sets_what_it_holds e = not (has_action actions.Set e.actions) || is_settable e.l
 table_sets : list_all sets_what_it_holds id_table ≡ true
 table_sets = refl
 
-settable : (id : ℕ) (e : Entry) → row_of id ≡ Some e → has_action actions.Set e.actions ≡ true → is_settable e.layout ≡ true
+settable : (id : ℕ) (e : Entry)
+    → row_of id ≡ Some e
+    → has_action actions.Set e.actions ≡ true
+    → is_settable e.layout ≡ true
 unfolding row_of
 settable id e is may = then_get _ _ (found (λ x. x.id == id) sets_what_it_holds id_table e table_sets is) may
 
@@ -115,7 +121,9 @@ module _ (octets : List ℕ) (range : AreOctets octets) where
   unfolding i8_octet first_i8
   back = of_z-to_z w8 (octet 0 octets) (range 0)
 
-mechanism_named : (n : ℕ) → is_some (mechanism_of n) ≡ true → (m : DelayMechanism) × (mechanism_of n ≡ Some m) × (mechanism_number m ≡ n)
+mechanism_named : (n : ℕ)
+    → is_some (mechanism_of n) ≡ true
+    → (m : DelayMechanism) × (mechanism_of n ≡ Some m) × (mechanism_number m ≡ n)
 mechanism_named n h =
     elim (cases_Bool (n == 1)) [
       | inl one ↦ let e = eqb-true n 1 one in rw e (mechanisms.EndToEnd, refl, refl)
@@ -133,8 +141,11 @@ mechanism_named n h =
     ]
 
 module _ (port n : ℕ) (octets : List ℕ) (d : DataSetsValue) (range : AreOctets octets) (s : IsShown port n (length d.ports)) where
-  shown_mechanism : (o : Option DelayMechanism) → ((m : DelayMechanism) × (o ≡ Some m) × (mechanism_number m ≡ octet 0 octets))
-      → field_of_port (port_field_of layouts.DelayMechanism (with_mechanism port d o).default.identity n) (port_of n (with_mechanism port d o)) ≡ octet_data_field (octet 0 octets)
+  shown_mechanism : (o : Option DelayMechanism)
+      → ((m : DelayMechanism) × (o ≡ Some m) × (mechanism_number m ≡ octet 0 octets))
+      → field_of_port
+      (port_field_of layouts.DelayMechanism (with_mechanism port d o).default.identity n)
+      (port_of n (with_mechanism port d o)) ≡ octet_data_field (octet 0 octets)
   unfolding port_field_of
   shown_mechanism None known = let wrong = known.1 in cc
   shown_mechanism (Some m) known =
@@ -143,8 +154,12 @@ module _ (port n : ℕ) (octets : List ℕ) (d : DataSetsValue) (range : AreOcte
       let number : mechanism_number m ≡ octet 0 octets = rw same known.2 in
       rw at.1 (ap octet_data_field number)
 
-  shown_field : (layout : Layout) → has_one_number layout ≡ true → is_port_layout layout ≡ true → is_set_value (set_of layout) octets ≡ true
-      → data_field_of layout (Some n) (set_members layout port octets d) ≡ octet_data_field (octet 0 octets)
+  shown_field : (layout : Layout)
+      → has_one_number layout ≡ true
+      → is_port_layout layout ≡ true
+      → is_set_value (set_of layout) octets ≡ true
+      → data_field_of layout (Some n) (set_members layout port octets d)
+      ≡ octet_data_field (octet 0 octets)
   unfolding set_members port_field_of is_port_layout is_set_value set_of
   shown_field layouts.LogAnnounceInterval one at good =
       rw (shown_port port n (changes.LogAnnounceInterval (first_i8 octets)) d s).1 (ap octet_data_field (back octets range))
@@ -159,7 +174,8 @@ module _ (port n : ℕ) (octets : List ℕ) (d : DataSetsValue) (range : AreOcte
 
 clock_field : (layout : Layout) (port : ℕ) (octets : List ℕ) (d : DataSetsValue)
     → has_one_number layout ≡ true → is_port_layout layout ≡ false
-    → data_field_of layout None (set_members layout port octets d) ≡ octet_data_field (octet 0 octets)
+    → data_field_of layout None (set_members layout port octets d)
+    ≡ octet_data_field (octet 0 octets)
 unfolding clock_field_of set_members is_port_layout
 clock_field layouts.Priority1 port octets d one clock = refl
 clock_field layouts.Priority2 port octets d one clock = refl
@@ -167,14 +183,19 @@ clock_field layouts.Domain port octets d one clock = refl
 clock_field layouts.ClockAccuracy port octets d one clock = refl
 clock_field _ port octets d one clock = cc
 
-number_field : (layout : Layout) → has_one_number layout ≡ true → (octets : List ℕ) → octet_data_field (octet 0 octets) ≡ standard_field layout octets
+number_field : (layout : Layout)
+    → has_one_number layout ≡ true
+    → (octets : List ℕ)
+    → octet_data_field (octet 0 octets) ≡ standard_field layout octets
 number_field layouts.NullPtpManagement one octets = cc
 number_field layouts.UserDescription one octets = cc
 number_field layouts.UtcProperties one octets = cc
 number_field _ one octets = refl
 
 module _ (port : ℕ) (octets : List ℕ) (d : DataSetsValue) (range : AreOctets octets) where
-  one_number : (layout : Layout) → has_one_number layout ≡ true → is_set_value (set_of layout) octets ≡ true
+  one_number : (layout : Layout)
+      → has_one_number layout ≡ true
+      → is_set_value (set_of layout) octets ≡ true
       → (b : Bool) (own : Option ℕ) → is_port_layout layout ≡ b
       → IsAnswerer b port (length d.ports) own
       → data_field_of layout own (set_members layout port octets d) ≡ standard_field layout octets
@@ -198,11 +219,16 @@ module _ (port : ℕ) (octets : List ℕ) (d : DataSetsValue) (range : AreOctets
 
 -- ---- every answer
 
-kept : (b : Bool) (P : ℕ → Type 0) (a : ℕ) (rest : List ℕ) → (b ≡ true → P a) → All P rest → All P (if b then a ∷ rest else rest)
+kept : (b : Bool) (P : ℕ → Type 0) (a : ℕ) (rest : List ℕ)
+    → (b ≡ true → P a)
+    → All P rest
+    → All P (if b then a ∷ rest else rest)
 kept true P a rest h all = All-cons P a rest (h refl) all
 kept false P a rest h all = all
 
-filtered : (P : ℕ → Type 0) (p : ℕ → Bool) (a n : ℕ) → ((k : ℕ) → a ≤ k → k < a + n → p k ≡ true → P k) → All P (filter p (range_with_len a n))
+filtered : (P : ℕ → Type 0) (p : ℕ → Bool) (a n : ℕ)
+    → ((k : ℕ) → a ≤ k → k < a + n → p k ≡ true → P k)
+    → All P (filter p (range_with_len a n))
 filtered P p a zero h = λ k x below. absurd (omega arith)
 filtered P p a (suc n) h =
     kept (p a) P a (filter p (range_with_len (a + 1) n)) (λ yes. h a (omega arith) (omega arith) yes)
@@ -217,7 +243,9 @@ said actions.Response field octets set is = cc
 said actions.Acknowledge field octets set is = cc
 
 each : (b : Bool) (q : RequestValue) (e : DataSetsValue) (octets : List ℕ) → q.action ≡ actions.Set
-    → ((own : Option ℕ) → IsAnswerer b q.port (length e.ports) own → data_field_at q.id own e ≡ octets)
+    → ((own : Option ℕ)
+    → IsAnswerer b q.port (length e.ports) own
+    → data_field_at q.id own e ≡ octets)
     → All (λ a. a.outcome ≡ Value octets) (answers_of b q None e)
 unfolding answer named_ports
 each true q e octets set field =
@@ -256,7 +284,8 @@ module _ (q : RequestValue) (rights : Rights) (d : DataSetsValue) (a : IsAccepte
       let B : Bool → Type 0 = λ b. IsAnswerer b q.port (length d.ports) own in
       field_after e own is (subst B (sym (layout_of q.id e is)) (subst O is (subst C (changed_by-ports q rights d) answerer)))
 
-  pub own_octets : All (λ x. x.outcome ≡ Value (standard_field_at (row_of q.id) q.octets)) (reply_to q rights d).answers
+  pub own_octets : All (λ x. x.outcome ≡ Value (standard_field_at (row_of q.id) q.octets))
+      (reply_to q rights d).answers
   unfolding reply_to reply_of
   own_octets =
       rw a.accepted (each (is_of_port q.id) q (changed_by q rights d) (standard_field_at (row_of q.id) q.octets) a.set (λ own. answered (row_of q.id) own refl))

@@ -12,7 +12,10 @@ use Rattle.ptpm_data.proofs.MapLemmas.{map_decides}
 
 -- ---- two lists of the same size in front
 
-same_front : (xs ys us vs : List ℕ) → length xs ≡ length ys → xs ++ us ≡ ys ++ vs → (xs ≡ ys) × (us ≡ vs)
+same_front : (xs ys us vs : List ℕ)
+    → length xs ≡ length ys
+    → xs ++ us ≡ ys ++ vs
+    → (xs ≡ ys) × (us ≡ vs)
 same_front [] [] us vs size e = (refl, e)
 same_front [] (y ∷ ys) us vs size e = absurd (omega arith)
 same_front (x ∷ xs) [] us vs size e = absurd (omega arith)
@@ -35,7 +38,11 @@ is_plain (Some (Number n)) = true
 is_plain (Some (Octets octets)) = true
 is_plain (Some (PortOf clock port)) = false
 
-plain_same : (o p : Option MemberValue) → is_plain o ≡ true → is_plain p ≡ true → option_map plain o ≡ option_map plain p → o ≡ p
+plain_same : (o p : Option MemberValue)
+    → is_plain o ≡ true
+    → is_plain p ≡ true
+    → option_map plain o ≡ option_map plain p
+    → o ≡ p
 plain_same None None a b e = refl
 plain_same None (Some (Number n)) a b e = cc
 plain_same None (Some (Octets ys)) a b e = cc
@@ -48,7 +55,8 @@ plain_same (Some (Octets xs)) None a b e = cc
 plain_same (Some (Octets xs)) (Some (Number n)) a b e = cc
 plain_same (Some (Octets xs)) (Some (Octets ys)) a b e = cc
 
-at_port : (m : Member) (o : Option PortDataSet) → is_plain (option_and_then (port_member m) o) ≡ true
+at_port : (m : Member) (o : Option PortDataSet)
+    → is_plain (option_and_then (port_member m) o) ≡ true
 at_port m None = refl
 at_port members.State (Some p) = refl
 at_port members.LogMinDelayReq (Some p) = refl
@@ -67,7 +75,9 @@ pub record IsReadable (d : DataSetsValue) : Type 0 where
   pub port : d.parent.parent_port.port < 2 ^ 16
 
 module _ (a b : DataSetsValue) (left : IsReadable a) (right : IsReadable b) where
-  at_clock : (m : Member) → option_map plain (clock_member m a) ≡ option_map plain (clock_member m b) → clock_member m a ≡ clock_member m b
+  at_clock : (m : Member)
+      → option_map plain (clock_member m a) ≡ option_map plain (clock_member m b)
+      → clock_member m a ≡ clock_member m b
   at_clock members.ParentPort e =
       let octets : a.parent.parent_port.clock.0 ++ big_bytes 2 a.parent.parent_port.port ≡ b.parent.parent_port.clock.0 ++ big_bytes 2 b.parent.parent_port.port = cc in
       let parts = same_front _ _ _ _ (left.clock ∙ sym right.clock) octets in
@@ -75,9 +85,13 @@ module _ (a b : DataSetsValue) (left : IsReadable a) (right : IsReadable b) wher
       λ i. Some (PortOf (parts.0 i) (port i))
   at_clock m e = plain_same (clock_member m a) (clock_member m b) refl refl e
 
-  at_place : (place : Place) → option_map plain (value_of place a) ≡ option_map plain (value_of place b) → value_of place a ≡ value_of place b
+  at_place : (place : Place)
+      → option_map plain (value_of place a) ≡ option_map plain (value_of place b)
+      → value_of place a ≡ value_of place b
   at_place (OfClock m) e = at_clock m e
   at_place (OfPort port m) e = plain_same _ _ (at_port m (port_of port a)) (at_port m (port_of port b)) e
 
-  pub plain_map_decides : ((place : Place) → option_map plain (value_of place a) ≡ option_map plain (value_of place b)) → a ≡ b
+  pub plain_map_decides : ((place : Place)
+      → option_map plain (value_of place a) ≡ option_map plain (value_of place b))
+      → a ≡ b
   plain_map_decides same = map_decides a b (λ place. at_place place (same place))

@@ -21,12 +21,14 @@ use Rattle.ptpm_data.proofs.NamedPorts.{named_ports-one, named_ports-every}
 
 -- ---- each answer
 
-pub reply_of-all : (P : Answer → Type 0) (q : RequestValue) (refusal : Option ErrorId) (d : DataSetsValue)
+pub reply_of-all : (P : Answer → Type 0) (q : RequestValue) (refusal : Option ErrorId)
+    (d : DataSetsValue)
     → ((port : Option ℕ) → P (answer q refusal d port)) → All P (reply_of q refusal d).answers
 unfolding reply_of
 reply_of-all P q refusal d h = All-map P (answer q refusal d) (answerers q d) (λ k x below. h _)
 
-outcome_is : (q : RequestValue) (action : Action) (refusal : Option ErrorId) (port : Option ℕ) (d : DataSetsValue)
+outcome_is : (q : RequestValue) (action : Action) (refusal : Option ErrorId) (port : Option ℕ)
+    (d : DataSetsValue)
     → q.action ≡ action → IsRequestAction action → IsSized d
     → IsOutcomeOf q (outcome refusal action (data_field_at q.id port d))
 outcome_is q action (Some error) port d is request s = tt
@@ -36,7 +38,10 @@ outcome_is q actions.Command None port d is request s = is
 outcome_is q actions.Response None port d is request s = cc
 outcome_is q actions.Acknowledge None port d is request s = cc
 
-pub reply_of-outcomes : (q : RequestValue) (refusal : Option ErrorId) (d : DataSetsValue) → IsRequestAction q.action → IsSized d → All (λ a. IsOutcomeOf q a.outcome) (reply_of q refusal d).answers
+pub reply_of-outcomes : (q : RequestValue) (refusal : Option ErrorId) (d : DataSetsValue)
+    → IsRequestAction q.action
+    → IsSized d
+    → All (λ a. IsOutcomeOf q a.outcome) (reply_of q refusal d).answers
 unfolding answer
 reply_of-outcomes q refusal d request s =
     reply_of-all (λ a. IsOutcomeOf q a.outcome) q refusal d (λ port. outcome_is q q.action refusal port d refl request s)
@@ -49,7 +54,9 @@ answers_of b q refusal d = map (answer q refusal d) (if b then map Some (named_p
 
 one_of : (b : Bool) (q : RequestValue) (refusal : Option ErrorId) (d : DataSetsValue)
     → (b ≡ true → HasPort q.port d) → length d.ports ≤ 8
-    → (o : Outcome) × (answers_of b q refusal d ≡ record { port = if b then Some q.port else None; outcome = o } ∷ [])
+    → (o : Outcome)
+    × (answers_of b q refusal d
+    ≡ record { port = if b then Some q.port else None; outcome = o } ∷ [])
 unfolding answer
 one_of true q refusal d has eight =
     let own = has refl in
@@ -60,13 +67,20 @@ one_of true q refusal d has eight =
     (outcome refusal q.action (data_field_at q.id (Some q.port) d), rw named refl)
 one_of false q refusal d has eight = (outcome refusal q.action (data_field_at q.id None d), refl)
 
-pub reply_of-one : (q : RequestValue) (refusal : Option ErrorId) (d : DataSetsValue) → IsForOne q d → length d.ports ≤ 8 → IsOneAnswer (answerer q) (reply_of q refusal d)
+pub reply_of-one : (q : RequestValue) (refusal : Option ErrorId) (d : DataSetsValue)
+    → IsForOne q d
+    → length d.ports ≤ 8
+    → IsOneAnswer (answerer q) (reply_of q refusal d)
 unfolding reply_of
 reply_of-one q refusal d has eight = one_of (is_of_port q.id) q refusal d has eight
 
 -- ---- how many answers
 
-named_count : (port n : ℕ) → IsTargetOf port n → 1 ≤ n → n ≤ 8 → (1 ≤ length (named_ports port n)) × (length (named_ports port n) ≤ 8)
+named_count : (port n : ℕ)
+    → IsTargetOf port n
+    → 1 ≤ n
+    → n ≤ 8
+    → (1 ≤ length (named_ports port n)) × (length (named_ports port n) ≤ 8)
 named_count port n (inl every) low high =
     rw (named_ports-every port n n every refl, length-range_with_len) (omega arith, omega arith)
 named_count port n (inr own) low high =
@@ -81,6 +95,9 @@ count_of true q refusal d target s =
     rw (length-map, length-map) (named_count q.port (length d.ports) target s.some_port s.at_most_eight)
 count_of false q refusal d target s = (omega arith, omega arith)
 
-pub reply_of-count : (q : RequestValue) (refusal : Option ErrorId) (d : DataSetsValue) → IsTargetPort q.port d → IsSized d → (1 ≤ length (reply_of q refusal d).answers) × (length (reply_of q refusal d).answers ≤ 8)
+pub reply_of-count : (q : RequestValue) (refusal : Option ErrorId) (d : DataSetsValue)
+    → IsTargetPort q.port d
+    → IsSized d
+    → (1 ≤ length (reply_of q refusal d).answers) × (length (reply_of q refusal d).answers ≤ 8)
 unfolding reply_of
 reply_of-count q refusal d target s = count_of (is_of_port q.id) q refusal d target s

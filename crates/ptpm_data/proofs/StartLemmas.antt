@@ -18,7 +18,8 @@ use Rattle.std.proofs.lemmas.Bool.{and_parts, eqb-true, not-false}
 use Rattle.std.proofs.lemmas.Bool.Decides.{nat_tests}
 
 pub ports_fault_step : (ps : List PortStart) (i : ℕ) (p : PortStart) → i < length ps
-    → ports_fault (drop i ps) ≡ option_or (port_fault (get_or ps i p)) (ports_fault (drop (i + 1) ps))
+    → ports_fault (drop i ps)
+    ≡ option_or (port_fault (get_or ps i p)) (ports_fault (drop (i + 1) ps))
 unfolding ports_fault
 ports_fault_step ps i p h = rw (drop-cons ps i p h, add-one i) refl
 
@@ -30,7 +31,9 @@ pub unless_err : {A E : Type 0} (o : Option E) (a : A) (e : E) → unless o a �
 unless_err None a e h = cc
 unless_err (Some d) a e h = cc
 
-pub started_ok : (p : PortStart) (s : PortDataSet) → port_start_of p ≡ Ok s → (port_fault p ≡ None) × (s ≡ port_data_set p)
+pub started_ok : (p : PortStart) (s : PortDataSet)
+    → port_start_of p ≡ Ok s
+    → (port_fault p ≡ None) × (s ≡ port_data_set p)
 unfolding port_start_of
 started_ok p s h = unless_ok _ _ _ h
 
@@ -39,35 +42,49 @@ unfolding port_start_of
 started_err p m h = unless_err _ _ _ h
 
 -- a port without a fault
-pub goes_on : (ps : List PortStart) (i : ℕ) (p : PortStart) (s : PortDataSet) → i < length ps → ports_fault ps ≡ ports_fault (drop i ps)
+pub goes_on : (ps : List PortStart) (i : ℕ) (p : PortStart) (s : PortDataSet)
+    → i < length ps
+    → ports_fault ps ≡ ports_fault (drop i ps)
     → port_start_of (get_or ps i p) ≡ Ok s → ports_fault ps ≡ ports_fault (drop (i + 1) ps)
 goes_on ps i p s below here ok =
     here ∙ ports_fault_step ps i p below ∙ ap (λ o. option_or o (ports_fault (drop (i + 1) ps))) (started_ok _ s ok).0
 
 -- a port with one
-pub stops : (ps : List PortStart) (i : ℕ) (p : PortStart) (m : StartError) → i < length ps → ports_fault ps ≡ ports_fault (drop i ps)
+pub stops : (ps : List PortStart) (i : ℕ) (p : PortStart) (m : StartError)
+    → i < length ps
+    → ports_fault ps ≡ ports_fault (drop i ps)
     → port_start_of (get_or ps i p) ≡ Err m → ports_fault ps ≡ Some m
 stops ps i p m below here err =
     here ∙ ports_fault_step ps i p below ∙ ap (λ o. option_or o (ports_fault (drop (i + 1) ps))) (started_err _ m err)
 
-pub no_more : (ps : List PortStart) (i : ℕ) → length ps ≤ i → ports_fault ps ≡ ports_fault (drop i ps) → ports_fault ps ≡ None
+pub no_more : (ps : List PortStart) (i : ℕ)
+    → length ps ≤ i
+    → ports_fault ps ≡ ports_fault (drop i ps)
+    → ports_fault ps ≡ None
 unfolding ports_fault
 no_more ps i past here = here ∙ ap ports_fault (drop_of_length-le ps past)
 
-pub made_on : (ps : List PortStart) (i : ℕ) (p : PortStart) (s : PortDataSet) (sets : List PortDataSet) → i < length ps
+pub made_on : (ps : List PortStart) (i : ℕ) (p : PortStart) (s : PortDataSet)
+    (sets : List PortDataSet)
+    → i < length ps
     → sets ≡ map port_data_set (take i ps) → port_start_of (get_or ps i p) ≡ Ok s
     → sets ++ s ∷ [] ≡ map port_data_set (take (i + 1) ps)
 made_on ps i p s sets below made ok =
     rw (take_more ps i p below, map-append port_data_set (take i ps) (get_or ps i p ∷ []), made, (started_ok _ s ok).1) refl
 
 -- an error that `?` hands on
-pub handed_on : {A E : Type 0} (r : Result A E) (e : E) (P : A → Type 0) (Q : E → Type 0) → IsErrAnd r (λ x. x ≡ e) → Q e → MatchResult r P Q
+pub handed_on : {A E : Type 0} (r : Result A E) (e : E) (P : A → Type 0) (Q : E → Type 0)
+    → IsErrAnd r (λ x. x ≡ e)
+    → Q e
+    → MatchResult r P Q
 handed_on (Ok a) e P Q h q = absurd h
 handed_on (Err x) e P Q h q = subst Q (sym h) q
 
 -- ---- what follows where there is no fault
 
-pub passes : {E : Type 0} (b : Bool) (e : E) (o : Option E) → (if b then Some e else o) ≡ None → (b ≡ false) × (o ≡ None)
+pub passes : {E : Type 0} (b : Bool) (e : E) (o : Option E)
+    → (if b then Some e else o) ≡ None
+    → (b ≡ false) × (o ≡ None)
 passes true e o h = cc
 passes false e o h = (refl, h)
 
@@ -80,7 +97,9 @@ count_sound n h =
     let b : nat_lt 8 n ≡ false = many.0 in
     (grind (arith, nat_tests), grind (arith, nat_tests))
 
-pub description_sound : (c : ClockStart) → clock_fault c ≡ None → is_description c.user_description.items ≡ true
+pub description_sound : (c : ClockStart)
+    → clock_fault c ≡ None
+    → is_description c.user_description.items ≡ true
 unfolding clock_fault
 description_sound c h =
     let identity = passes (bytes_eq c.identity.0 all_ones) _ _ h in
@@ -104,7 +123,8 @@ precedence_sound x y h =
     let priority2 = eqb-true _ _ s.1 in
     λ i. record { priority1 = priority1 i; class = class i; accuracy = accuracy i; variance = variance i; priority2 = priority2 i }
 
-pub grandmaster_sound : (default : DefaultDataSet) (parent : ParentDataSet) → grandmaster_fault default parent ≡ None
+pub grandmaster_sound : (default : DefaultDataSet) (parent : ParentDataSet)
+    → grandmaster_fault default parent ≡ None
     → is_grandmaster default parent ≡ true → parent.precedence ≡ default.precedence
 unfolding grandmaster_fault
 grandmaster_sound default parent h own =

@@ -41,6 +41,11 @@ standard_field_at (Some e) octets = standard_field e.layout octets
 -- grandmaster (9.3.5, table 30). Every other member stays, whatever the data sets are.
 pub record MovesWithGrandmaster (own grandmaster : Member) (number : ℕ) (before after : DataSetsValue) : Type 0 where
   pub moved : value_of (OfClock own) after ≡ natural number
-  pub followed : is_own_grandmaster before ≡ true → value_of (OfClock grandmaster) after ≡ natural number
-  pub left : is_own_grandmaster before ≡ false → value_of (OfClock grandmaster) after ≡ value_of (OfClock grandmaster) before
-  pub others : (place : Place) → place ≢ OfClock own → place ≢ OfClock grandmaster → value_of place after ≡ value_of place before
+  pub followed : is_own_grandmaster before ≡ true
+      → value_of (OfClock grandmaster) after ≡ natural number
+  pub left : is_own_grandmaster before ≡ false
+      → value_of (OfClock grandmaster) after ≡ value_of (OfClock grandmaster) before
+  pub others : (place : Place)
+      → place ≢ OfClock own
+      → place ≢ OfClock grandmaster
+      → value_of place after ≡ value_of place before

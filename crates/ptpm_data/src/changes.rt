@@ -34,7 +34,8 @@ impl DataSets {
         requires { IsTargetPort request.now.port self.old }
         ensures refusal { result ≡ entry_refusal (entry_of row.now) request.now rights }
         ensures changed { self.new
-            ≡ unless_refused result (carried_out row.now.layout request.now request.now.action self.old) self.old }
+            ≡ unless_refused result
+            (carried_out row.now.layout request.now request.now.action self.old) self.old }
         ensures ports { length self.new.ports ≡ length self.old.ports }
     {
         let refusal = refusal(row, request, rights);

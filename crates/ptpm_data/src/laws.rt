@@ -46,12 +46,17 @@ pub fn data_sets_law(sets: &DataSets)
 
 /// Data sets are no more than their map of members: two that have the same value at every place are equal.
 pub fn member_map_law()
-    ensures { (a : DataSetsValue) → (b : DataSetsValue) → ((place : Place) → value_of place a ≡ value_of place b) → a ≡ b }
+    ensures { (a : DataSetsValue)
+        → (b : DataSetsValue)
+        → ((place : Place) → value_of place a ≡ value_of place b)
+        → a ≡ b }
 {}
 
 /// The same of two clocks' data sets, whose members are whole numbers and lists of octets alone.
 pub fn plain_map_law(a: &DataSets, b: &DataSets)
-    ensures { ((place : Place) → option_map plain (value_of place a.now) ≡ option_map plain (value_of place b.now)) → a.now ≡ b.now }
+    ensures { ((place : Place)
+        → option_map plain (value_of place a.now) ≡ option_map plain (value_of place b.now))
+        → a.now ≡ b.now }
 {
     port_identity_law(&a.parent.parent_port);
     port_identity_law(&b.parent.parent_port);
@@ -76,7 +81,8 @@ fn port_identity_law(identity: &PortIdentity)
 
 /// What holds of the reply to a request that is not numbered. A GET is answered as a numbered one, whatever the rights.
 pub fn read_reply_law()
-    ensures action { (q : RequestValue) (d : DataSetsValue) → (read_reply_to q d).action ≡ reply_action q.action }
+    ensures action { (q : RequestValue) (d : DataSetsValue)
+        → (read_reply_to q d).action ≡ reply_action q.action }
     ensures id { (q : RequestValue) (d : DataSetsValue) → (read_reply_to q d).id ≡ q.id }
     ensures one_answer { (q : RequestValue) (d : DataSetsValue) → IsSized d → IsForOne q d
         → IsOneAnswer (answerer q) (read_reply_to q d) }
@@ -84,7 +90,9 @@ pub fn read_reply_law()
         → All (λ a. IsOutcomeOf q a.outcome) (read_reply_to q d).answers }
     ensures some_answer { (q : RequestValue) (d : DataSetsValue) → IsSized d → IsTargetPort q.port d
         → 1 ≤ length (read_reply_to q d).answers }
-    ensures at_most_eight_answers { (q : RequestValue) (d : DataSetsValue) → IsSized d → IsTargetPort q.port d
+    ensures at_most_eight_answers { (q : RequestValue) (d : DataSetsValue)
+        → IsSized d
+        → IsTargetPort q.port d
         → length (read_reply_to q d).answers ≤ 8 }
     ensures get { (q : RequestValue) (rights : Rights) (d : DataSetsValue) → q.action ≡ Get
         → read_reply_to q d ≡ reply_to q rights d }
@@ -92,15 +100,25 @@ pub fn read_reply_law()
 
 /// What holds of the reply to a numbered request.
 pub fn reply_law()
-    ensures action { (q : RequestValue) (rights : Rights) (d : DataSetsValue) → (reply_to q rights d).action ≡ reply_action q.action }
-    ensures id { (q : RequestValue) (rights : Rights) (d : DataSetsValue) → (reply_to q rights d).id ≡ q.id }
-    ensures one_answer { (q : RequestValue) (rights : Rights) (d : DataSetsValue) → IsSized d → IsForOne q d
+    ensures action { (q : RequestValue) (rights : Rights) (d : DataSetsValue)
+        → (reply_to q rights d).action ≡ reply_action q.action }
+    ensures id { (q : RequestValue) (rights : Rights) (d : DataSetsValue)
+        → (reply_to q rights d).id ≡ q.id }
+    ensures one_answer { (q : RequestValue) (rights : Rights) (d : DataSetsValue)
+        → IsSized d
+        → IsForOne q d
         → IsOneAnswer (answerer q) (reply_to q rights d) }
-    ensures outcomes { (q : RequestValue) (rights : Rights) (d : DataSetsValue) → IsSized d → IsRequestAction q.action
+    ensures outcomes { (q : RequestValue) (rights : Rights) (d : DataSetsValue)
+        → IsSized d
+        → IsRequestAction q.action
         → All (λ a. IsOutcomeOf q a.outcome) (reply_to q rights d).answers }
-    ensures some_answer { (q : RequestValue) (rights : Rights) (d : DataSetsValue) → IsSized d → IsTargetPort q.port d
+    ensures some_answer { (q : RequestValue) (rights : Rights) (d : DataSetsValue)
+        → IsSized d
+        → IsTargetPort q.port d
         → 1 ≤ length (reply_to q rights d).answers }
-    ensures at_most_eight_answers { (q : RequestValue) (rights : Rights) (d : DataSetsValue) → IsSized d → IsTargetPort q.port d
+    ensures at_most_eight_answers { (q : RequestValue) (rights : Rights) (d : DataSetsValue)
+        → IsSized d
+        → IsTargetPort q.port d
         → length (reply_to q rights d).answers ≤ 8 }
 {}
 
@@ -110,29 +128,49 @@ pub fn change_law()
         → (changed_by q rights d).default.identity ≡ d.default.identity }
     ensures ports { (q : RequestValue) (rights : Rights) (d : DataSetsValue)
         → length (changed_by q rights d).ports ≡ length d.ports }
-    ensures sized { (q : RequestValue) (rights : Rights) (d : DataSetsValue) → IsSized d → IsSized (changed_by q rights d) }
-    ensures get { (q : RequestValue) (rights : Rights) (d : DataSetsValue) → q.action ≡ Get → changed_by q rights d ≡ d }
-    ensures refused { (q : RequestValue) (rights : Rights) (d : DataSetsValue) (a : Answer) (error : ErrorId)
-        → Contains (reply_to q rights d).answers a → a.outcome ≡ Refused error → changed_by q rights d ≡ d }
+    ensures sized { (q : RequestValue) (rights : Rights) (d : DataSetsValue)
+        → IsSized d
+        → IsSized (changed_by q rights d) }
+    ensures get { (q : RequestValue) (rights : Rights) (d : DataSetsValue)
+        → q.action ≡ Get
+        → changed_by q rights d ≡ d }
+    ensures refused { (q : RequestValue) (rights : Rights) (d : DataSetsValue) (a : Answer)
+        (error : ErrorId)
+        → Contains (reply_to q rights d).answers a
+        → a.outcome ≡ Refused error
+        → changed_by q rights d ≡ d }
 {}
 
 /// An accepted SET is answered by the dataFields as they are after it: the reply is that to a GET of the same id and target
 /// port right after it. Each answer is the SET's own octets, with reserved octets, unused flags and a text's pad as the
 /// standard has them.
 pub fn set_law()
-    ensures read_back { (q : RequestValue) (rights : Rights) (d : DataSetsValue) → IsAcceptedSet q rights
+    ensures read_back { (q : RequestValue) (rights : Rights) (d : DataSetsValue)
+        → IsAcceptedSet q rights
         → reply_to q rights d ≡ read_reply_to (get_of q) (changed_by q rights d) }
-    ensures own_octets { (q : RequestValue) (rights : Rights) (d : DataSetsValue) → IsAcceptedSet q rights → AreOctets q.octets
-        → All (λ a. a.outcome ≡ Value (standard_field_at (row_of q.id) q.octets)) (reply_to q rights d).answers }
+    ensures own_octets { (q : RequestValue) (rights : Rights) (d : DataSetsValue)
+        → IsAcceptedSet q rights
+        → AreOctets q.octets
+        → All (λ a. a.outcome ≡ Value (standard_field_at (row_of q.id) q.octets))
+        (reply_to q rights d).answers }
 {}
 
 /// An accepted SET of PRIORITY1, PRIORITY2 or CLOCK_ACCURACY moves that member to its first octet; in a clock that is its own
 /// grandmaster the grandmaster's member of that name follows (9.3.5, table 30). No other member moves, whatever the data sets.
 pub fn grandmaster_law()
-    ensures priority1 { (q : RequestValue) (rights : Rights) (d : DataSetsValue) → IsAcceptedSet q rights → q.id ≡ 0x2005
-        → MovesWithGrandmaster Priority1 GrandmasterPriority1 (octet 0 q.octets) d (changed_by q rights d) }
-    ensures priority2 { (q : RequestValue) (rights : Rights) (d : DataSetsValue) → IsAcceptedSet q rights → q.id ≡ 0x2006
-        → MovesWithGrandmaster Priority2 GrandmasterPriority2 (octet 0 q.octets) d (changed_by q rights d) }
-    ensures accuracy { (q : RequestValue) (rights : Rights) (d : DataSetsValue) → IsAcceptedSet q rights → q.id ≡ 0x2010
-        → MovesWithGrandmaster ClockAccuracy GrandmasterAccuracy (octet 0 q.octets) d (changed_by q rights d) }
+    ensures priority1 { (q : RequestValue) (rights : Rights) (d : DataSetsValue)
+        → IsAcceptedSet q rights
+        → q.id ≡ 0x2005
+        → MovesWithGrandmaster Priority1 GrandmasterPriority1 (octet 0 q.octets) d
+        (changed_by q rights d) }
+    ensures priority2 { (q : RequestValue) (rights : Rights) (d : DataSetsValue)
+        → IsAcceptedSet q rights
+        → q.id ≡ 0x2006
+        → MovesWithGrandmaster Priority2 GrandmasterPriority2 (octet 0 q.octets) d
+        (changed_by q rights d) }
+    ensures accuracy { (q : RequestValue) (rights : Rights) (d : DataSetsValue)
+        → IsAcceptedSet q rights
+        → q.id ≡ 0x2010
+        → MovesWithGrandmaster ClockAccuracy GrandmasterAccuracy (octet 0 q.octets) d
+        (changed_by q rights d) }
 {}

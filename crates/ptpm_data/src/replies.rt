@@ -109,7 +109,8 @@ impl DataSets {
         requires port { IsTargetPort request.now.port self.now }
         requires empty { answers.old.items ≡ [] }
         ensures { map answer_of answers.new.items
-            ≡ map (answer request.now refusal self.now) (map Some (named_ports request.now.port (length self.now.ports))) }
+            ≡ map (answer request.now refusal self.now)
+            (map Some (named_ports request.now.port (length self.now.ports))) }
     {
         let (first, end) = self.named_ports(request.port);
         for port in first..end {
@@ -121,7 +122,8 @@ impl DataSets {
     #[tactic(auto, unfolding(crate::specs::Replies::named_ports))]
     fn named_ports(&self, port: u16) -> (u16, u16)
         requires { IsTargetPort port self.now }
-        ensures numbers { named_ports port (length self.now.ports) ≡ range_with_len result.0 (result.1 - result.0) }
+        ensures numbers { named_ports port (length self.now.ports)
+            ≡ range_with_len result.0 (result.1 - result.0) }
         ensures ordered { result.0 ≤ result.1 }
         ensures at_most_eight { result.1 ≤ result.0 + 8 }
     {
@@ -144,7 +146,8 @@ impl DataSets {
         requires row { row_of request.now.id ≡ Some (entry_of row.now) }
         requires room { array_vec_len answers.old < 8 }
         ensures items { map answer_of answers.new.items
-            ≡ map answer_of answers.old.items ++ answer request.now refusal self.now (Some port) ∷ [] }
+            ≡ map answer_of answers.old.items
+            ++ answer request.now refusal self.now (Some port) ∷ [] }
         ensures len { array_vec_len answers.new ≡ array_vec_len answers.old + 1 }
     {
         answers.push(PortAnswer {

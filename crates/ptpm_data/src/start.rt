@@ -293,7 +293,9 @@ impl PortStart {
 /// The data sets of ports that start, or the first fault.
 fn port_data_sets(ports: &[PortStart]) -> Result<ArrayVec<PortDataSet, 8>, StartError>
     requires { length ports.now ≤ 8 }
-    ensures { MatchResult result (λ sets. (ports_fault ports.now ≡ None) × (sets.items ≡ map port_data_set ports.now)) (λ fault. ports_fault ports.now ≡ Some fault) }
+    ensures { MatchResult result
+        (λ sets. (ports_fault ports.now ≡ None) × (sets.items ≡ map port_data_set ports.now))
+        (λ fault. ports_fault ports.now ≡ Some fault) }
 {
     let mut sets = ArrayVec::new();
     for port in ports {

@@ -41,7 +41,10 @@ refusal_by (Ok d) None = None
 abbrev pub start_by : ClockSettings → List PortSettings → Result DataSetsValue StartError
 start_by clock ports = start_of (settings.clock_start clock) (map settings.port_start ports)
 
-abbrev pub start_refusal : ClockSettings → List PortSettings → List ManagerSettings → Option StartRefusal
+abbrev pub start_refusal : ClockSettings
+    → List PortSettings
+    → List ManagerSettings
+    → Option StartRefusal
 start_refusal clock ports managers =
     refusal_by (start_by clock ports) (table_refusal (identities (settings.configured managers)))
 

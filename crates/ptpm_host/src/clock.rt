@@ -45,7 +45,9 @@ impl HostedClock {
         managers: &[ManagerSettings],
     ) -> Result<HostedClock, StartRefusal>
         ensures sets { IfOk result (λ c. start_by settings.now ports.now ≡ Ok c.agent.sets) }
-        ensures table { IfOk result (λ c. IsFresh (record { 0 = settings.now.identity }) (configured managers.now)
+        ensures table { IfOk result
+            (λ c.
+            IsFresh (record { 0 = settings.now.identity }) (configured managers.now)
             (⟦<BoundTable as ReplyTable>⟧.owner c.agent.table)
             (⟦<BoundTable as ReplyTable>⟧.entries c.agent.table)) }
         ensures permitted { OnOk result (start_refusal settings.now ports.now managers.now ≡ None) }
@@ -87,9 +89,12 @@ impl HostedClock {
         datagram: &[u8],
         room: &mut [Sent],
     ) -> Result<Handled, HandleRefusal>
-        ensures turned { IfOk result (λ h. IsTurned (turn (clock_in self.old) (state_in self.old) port datagram.now)
-            h.verdict self.new.outbox (state_in self.new)) }
-        ensures messages { IfOk result (λ h. messages_in (take h.count room.new) ≡ self.new.outbox) }
+        ensures turned { IfOk result
+            (λ h.
+            IsTurned (turn (clock_in self.old) (state_in self.old) port datagram.now) h.verdict
+            self.new.outbox (state_in self.new)) }
+        ensures messages { IfOk result
+            (λ h. messages_in (take h.count room.new) ≡ self.new.outbox) }
         ensures count { IfOk result (λ h. h.count ≤ length room.new) }
         ensures refusal { MatchResult result
             (λ _. handle_refusal (has_port port self.old.agent.sets) (length room.old) ≡ None)

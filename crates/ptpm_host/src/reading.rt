@@ -15,7 +15,8 @@ impl HostedClock {
     /// Leaves what a GET of this id is answered at the head of `octets`, and answers how many octets that is. The port
     /// matters for an id of a port alone. Where it is refused, nothing is written. Takes no memory.
     pub fn read(&self, id: u16, port: u16, octets: &mut [u8]) -> Result<usize, ReadRefusal>
-        ensures field { IfOk result (λ n. take n octets.new ≡ data_field_of_id id port self.now.agent.sets) }
+        ensures field { IfOk result
+            (λ n. take n octets.new ≡ data_field_of_id id port self.now.agent.sets) }
         ensures size { length octets.new ≡ length octets.old }
         ensures refusal { MatchResult result
             (λ _. read_refusal id port (length octets.old) self.now.agent.sets ≡ None)

@@ -99,9 +99,12 @@ impl HostedSession {
         port: u16,
         octets: &[u8],
     ) -> Result<(), BeginError>
-        ensures begun { OnOk result (self.new.session ≡ begun self.old.session (request_of (ask_of action id port octets.now))) }
+        ensures begun { OnOk result
+            (self.new.session
+            ≡ begun self.old.session (request_of (ask_of action id port octets.now))) }
         ensures report { OnOk result (self.new.report ≡ None) }
-        ensures permitted { OnOk result (begin_refusal self.old.session (ask_of action id port octets.now) ≡ None) }
+        ensures permitted { OnOk result
+            (begin_refusal self.old.session (ask_of action id port octets.now) ≡ None) }
         ensures refused { IfErr result (λ e. e ≢ BeginError.OutOfMemory →
             begin_refusal self.old.session (ask_of action id port octets.now) ≡ Some e) }
         ensures unchanged { OnErr result (self.new ≡ self.old) }
@@ -167,9 +170,14 @@ impl HostedSession {
     /// What the session makes of a datagram: where it answers the unanswered request, that answer is kept, and the next one
     /// can be begun. Memory is asked for the dataField of a RESPONSE alone; where it is refused, nothing changes.
     pub fn receive(&mut self, datagram: &[u8]) -> Result<Heard, OutOfMemory>
-        ensures heard { IfOk result (λ h. h ≡ heard_of (received_of self.old.session datagram.now)) }
-        ensures left { OnOk result (self.new.session ≡ left_by self.old.session (received_of self.old.session datagram.now)) }
-        ensures report { OnOk result (self.new.report ≡ report_after self.old.report (received_of self.old.session datagram.now)) }
+        ensures heard { IfOk result
+            (λ h. h ≡ heard_of (received_of self.old.session datagram.now)) }
+        ensures left { OnOk result
+            (self.new.session
+            ≡ left_by self.old.session (received_of self.old.session datagram.now)) }
+        ensures report { OnOk result
+            (self.new.report
+            ≡ report_after self.old.report (received_of self.old.session datagram.now)) }
         ensures memory { OnErr result (NeedsMemory (received_of self.old.session datagram.now)) }
         ensures unchanged { OnErr result (self.new ≡ self.old) }
     {
@@ -188,7 +196,9 @@ impl HostedSession {
         ensures refusal { MatchResult result
             (λ _. report_refusal (length octets.old) self.now.report ≡ None)
             (λ e. report_refusal (length octets.old) self.now.report ≡ Some e) }
-        ensures told { (r : Report) → self.now.report ≡ Some r → IfOk result (λ t. t ≡ told_of r.outcome) }
+        ensures told { (r : Report)
+            → self.now.report ≡ Some r
+            → IfOk result (λ t. t ≡ told_of r.outcome) }
         ensures octets { (r : Report) → self.now.report ≡ Some r →
             IfOk result (λ t. take (told_size t) octets.new ≡ told_octets r.outcome) }
         ensures size { length octets.new ≡ length octets.old }

@@ -57,7 +57,8 @@ impl HostedSurvey {
     pub fn start(alloc: Global, settings: &SurveySettings) -> Result<HostedSurvey, SessionRefusal>
         ensures enquiry { IfOk result (λ s. s.survey.enquiry ≡ enquiry_of settings.now) }
         ensures answers { IfOk result (λ s. s.survey.answers ≡ []) }
-        ensures first { IfOk result (λ s. s.survey.answers ≡ first_of_each_source s.survey.enquiry []) }
+        ensures first { IfOk result
+            (λ s. s.survey.answers ≡ first_of_each_source s.survey.enquiry []) }
         ensures refusal { MatchResult result (λ _. survey_refusal settings.now ≡ None)
             (λ e. survey_refusal settings.now ≡ Some e) }
     {
@@ -82,7 +83,8 @@ impl HostedSurvey {
     pub fn send(&self, octets: &mut [u8]) -> Result<usize, SendRefusal>
         ensures refusal { MatchResult result (λ _. message_refusal (length octets.old) ≡ None)
             (λ e. message_refusal (length octets.old) ≡ Some e) }
-        ensures octets { IfOk result (λ n. take n octets.new ≡ canonical (survey_message self.now.survey.enquiry)) }
+        ensures octets { IfOk result
+            (λ n. take n octets.new ≡ canonical (survey_message self.now.survey.enquiry)) }
         ensures size { length octets.new ≡ length octets.old }
         ensures untouched { OnErr result (octets.new ≡ octets.old) }
     {
@@ -99,17 +101,25 @@ impl HostedSurvey {
     /// What the survey makes of a datagram: an answer is kept where it is the first of its port and there is room. Memory is
     /// asked for that alone; where it is refused, nothing changes.
     pub fn receive(&mut self, datagram: &[u8]) -> Result<Surveyed, OutOfMemory>
-        ensures surveyed { IfOk result (λ surveyed.
-            surveyed ≡ surveyed_by self.old.survey.answers (heard self.old.survey.enquiry datagram.now)) }
+        ensures surveyed { IfOk result
+            (λ surveyed.
+            surveyed
+            ≡ surveyed_by self.old.survey.answers
+            (heard self.old.survey.enquiry datagram.now)) }
         ensures kept { OnOk result
-            (self.new.survey.answers ≡ kept_by self.old.survey.answers (heard self.old.survey.enquiry datagram.now)) }
+            (self.new.survey.answers
+            ≡ kept_by self.old.survey.answers (heard self.old.survey.enquiry datagram.now)) }
         // Answers that are the first of each source of some datagrams, are so with this one.
-        ensures first { (datagrams : List (List ℕ)) →
-            self.old.survey.answers ≡ first_of_each_source self.old.survey.enquiry datagrams → OnOk result
-            (self.new.survey.answers ≡ first_of_each_source self.old.survey.enquiry (datagrams ++ datagram.now ∷ [])) }
+        ensures first { (datagrams : List (List ℕ))
+            → self.old.survey.answers ≡ first_of_each_source self.old.survey.enquiry datagrams
+            → OnOk result
+            (self.new.survey.answers
+            ≡ first_of_each_source self.old.survey.enquiry
+            (datagrams ++ datagram.now ∷ [])) }
         ensures enquiry { self.new.survey.enquiry ≡ self.old.survey.enquiry }
         ensures memory { OnErr result
-            (surveyed_by self.old.survey.answers (heard self.old.survey.enquiry datagram.now) ≡ Surveyed.Taken) }
+            (surveyed_by self.old.survey.answers (heard self.old.survey.enquiry datagram.now)
+            ≡ Surveyed.Taken) }
         ensures unchanged { OnErr result (self.new ≡ self.old) }
     {
         self.survey.receive(datagram)
@@ -126,8 +136,11 @@ impl HostedSurvey {
     /// Where it is refused, nothing is written. Takes no memory.
     pub fn answer(&self, place: usize, octets: &mut [u8]) -> Result<SurveyAnswer, ReportRefusal>
         ensures refusal { MatchResult result
-            (λ _. answer_refusal (length octets.old) (slice_get self.now.survey.answers place) ≡ None)
-            (λ e. answer_refusal (length octets.old) (slice_get self.now.survey.answers place) ≡ Some e) }
+            (λ _.
+            answer_refusal (length octets.old) (slice_get self.now.survey.answers place) ≡ None)
+            (λ e.
+            answer_refusal (length octets.old) (slice_get self.now.survey.answers place)
+            ≡ Some e) }
         ensures source { (a : Answer) → slice_get self.now.survey.answers place ≡ Some a →
             IfOk result (λ t. t.source ≡ source_of a.0) }
         ensures told { (a : Answer) → slice_get self.now.survey.answers place ≡ Some a →

@@ -15,7 +15,8 @@ use Rattle.ptpm_manager.specs.declared.receiving.Reason.{Reason}
 use Rattle.ptpm_manager.specs.Answers.{Answer, answer_of_heard, firsts, first_of_each_source, has_answered, heard, kept_by}
 
 -- whether a look-up in a list of entries finds something
-pub is_some-lookup : {K X : Type 0} (test : K → Bool) (es : List (K × X)) → is_some (lookup test es) ≡ list_any (λ e. test e.0) es
+pub is_some-lookup : {K X : Type 0} (test : K → Bool) (es : List (K × X))
+    → is_some (lookup test es) ≡ list_any (λ e. test e.0) es
 is_some-lookup test [] = refl
 is_some-lookup test (e ∷ es) =
     elim (test e.0) as (λ b. is_some (cond b (Some e.1) (lookup test es)) ≡ (b || list_any (λ x. test x.0) es))
@@ -37,13 +38,15 @@ has_answered-further x a kept other =
     (λ b same. ap not (subst (λ (p : PortIdentity). same_identity p x.0 ≡ false) (same_identity-true a.0 b.0 same) other)) kept
 
 further-same : (x a : Answer) (kept : List Answer) → same_identity a.0 x.0 ≡ true
-    → filter (λ b. not (same_identity b.0 x.0)) (kept ++ a ∷ []) ≡ filter (λ b. not (same_identity b.0 x.0)) kept
+    → filter (λ b. not (same_identity b.0 x.0)) (kept ++ a ∷ [])
+    ≡ filter (λ b. not (same_identity b.0 x.0)) kept
 further-same x a kept h =
     let test : Answer → Bool = λ b. not (same_identity b.0 x.0) in
     filter-append test kept (a ∷ []) ∙ ap (λ l. filter test kept ++ l) (cond-false _ (a ∷ []) [] (ap not h)) ∙ append-nil _
 
 further-other : (x a : Answer) (kept : List Answer) → same_identity a.0 x.0 ≡ false
-    → filter (λ b. not (same_identity b.0 x.0)) (kept ++ a ∷ []) ≡ filter (λ b. not (same_identity b.0 x.0)) kept ++ a ∷ []
+    → filter (λ b. not (same_identity b.0 x.0)) (kept ++ a ∷ [])
+    ≡ filter (λ b. not (same_identity b.0 x.0)) kept ++ a ∷ []
 further-other x a kept h =
     let test : Answer → Bool = λ b. not (same_identity b.0 x.0) in
     filter-append test kept (a ∷ []) ∙ ap (λ l. filter test kept ++ l) (cond-true _ (a ∷ []) [] (ap not h))
@@ -83,7 +86,8 @@ firsts-step x a kept =
     ⊎_elim (λ (h : same_identity a.0 x.0 ≡ true). firsts-step-same x a kept h)
     (λ (h : same_identity a.0 x.0 ≡ false). firsts-step-other x a kept h) (cases_Bool (same_identity a.0 x.0))
 
-firsts-snoc : (xs : List Answer) (a : Answer) → firsts (xs ++ a ∷ []) ≡ cond (has_answered a.0 (firsts xs)) (firsts xs) (firsts xs ++ a ∷ [])
+firsts-snoc : (xs : List Answer) (a : Answer)
+    → firsts (xs ++ a ∷ []) ≡ cond (has_answered a.0 (firsts xs)) (firsts xs) (firsts xs ++ a ∷ [])
 firsts-snoc [] a = refl
 firsts-snoc (x ∷ xs) a = ap (λ kept. x ∷ filter (λ b. not (same_identity b.0 x.0)) kept) (firsts-snoc xs a) ∙ firsts-step x a (firsts xs)
 
@@ -99,12 +103,16 @@ kept-small kept a room =
           ∙ sym (take_all 512 (kept ++ a ∷ []) (omega (arith, length-append kept (a ∷ []))))
     ]
 
-kept-full : (answers : List Answer) (a : Answer) → 512 ≤ length answers → kept_by answers (Ok a) ≡ answers
+kept-full : (answers : List Answer) (a : Answer)
+    → 512 ≤ length answers
+    → kept_by answers (Ok a) ≡ answers
 kept-full answers a full =
     elim (has_answered a.0 answers) as (λ b. cond b answers (cond (nat_lt (length answers) 512) (answers ++ a ∷ []) answers) ≡ answers)
     [ true ↦ refl | false ↦ cond-false _ (answers ++ a ∷ []) answers (le-ltb (length answers) 512 full) ]
 
-taken-full : (kept : List Answer) (a : Answer) (b : Bool) → 512 ≤ length kept → take 512 (cond b kept (kept ++ a ∷ [])) ≡ take 512 kept
+taken-full : (kept : List Answer) (a : Answer) (b : Bool)
+    → 512 ≤ length kept
+    → take 512 (cond b kept (kept ++ a ∷ [])) ≡ take 512 kept
 taken-full kept a true full = refl
 taken-full kept a false full = take-append-le 512 kept (a ∷ []) full
 
@@ -123,7 +131,8 @@ kept-heard answers xs (Ok a) h = kept-firsts answers (firsts xs) a h ∙ sym (ap
 kept-heard answers xs (Err reason) h = h ∙ sym (ap (λ l. take 512 (firsts l)) (append-nil xs))
 
 -- one more datagram
-pub first_of_each_source-snoc : (e : Enquiry) (datagrams : List (List ℕ)) (d : List ℕ) (answers : List Answer)
+pub first_of_each_source-snoc : (e : Enquiry) (datagrams : List (List ℕ)) (d : List ℕ)
+    (answers : List Answer)
     → answers ≡ first_of_each_source e datagrams
     → kept_by answers (heard e d) ≡ first_of_each_source e (datagrams ++ d ∷ [])
 unfolding first_of_each_source
@@ -132,7 +141,8 @@ first_of_each_source-snoc e datagrams d answers h =
     ∙ sym (ap (λ l. take 512 (firsts l)) (filter_map-append (λ x. answer_of_heard (heard e x)) datagrams (d ∷ [])))
 
 -- the same, where the datagram was heard as r, and this is what is left of the answers
-pub first_of_each_source-left : (e : Enquiry) (datagrams : List (List ℕ)) (d : List ℕ) (r : Result Answer Reason) (answers left : List Answer)
+pub first_of_each_source-left : (e : Enquiry) (datagrams : List (List ℕ)) (d : List ℕ)
+    (r : Result Answer Reason) (answers left : List Answer)
     → heard e d ≡ r → left ≡ kept_by answers r → answers ≡ first_of_each_source e datagrams
     → left ≡ first_of_each_source e (datagrams ++ d ∷ [])
 first_of_each_source-left e datagrams d r answers left is kept h =

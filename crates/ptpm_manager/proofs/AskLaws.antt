@@ -9,7 +9,9 @@ use Rattle.ptpm_manager.specs.declared.ask.Ask.{Ask}
 use Rattle.ptpm_manager.specs.Ask.{IsRequestTo, ask_refusal, named_port, names_port, request_of, target_port}
 
 -- a test that lets pass is false
-passes : {A : Type 0} (t : Bool) (e : A) (o : Option A) → cond t (Some e) o ≡ None → (t ≡ false) × (o ≡ None)
+passes : {A : Type 0} (t : Bool) (e : A) (o : Option A)
+    → cond t (Some e) o ≡ None
+    → (t ≡ false) × (o ≡ None)
 passes true e o h = cc
 passes false e o h = (refl, h)
 
@@ -23,12 +25,16 @@ other-true p true h t = refl
 other-true true false h t = sym h
 other-true false false h t = t
 
-named : (ports : ℕ) (port : Option ℕ) → names_port ports port ≡ true → (1 ≤ named_port port) × (named_port port ≤ ports)
+named : (ports : ℕ) (port : Option ℕ)
+    → names_port ports port ≡ true
+    → (1 ≤ named_port port) × (named_port port ≤ ports)
 named ports None h = cc
 named ports (Some port) h = let parts = and_parts (nat_le 1 port) _ h in (leb-true 1 port parts.0, leb-true port ports parts.1)
 
 -- what is asked and not refused
-pub request_of-permitted : (ports : ℕ) (a : Ask) → ask_refusal ports a ≡ None → IsRequestTo ports (request_of a)
+pub request_of-permitted : (ports : ℕ) (a : Ask)
+    → ask_refusal ports a ≡ None
+    → IsRequestTo ports (request_of a)
 unfolding ask_refusal target_port
 request_of-permitted ports a h =
     let port = passes (is_of_port a.id && not (names_port ports a.port)) _ _ h in

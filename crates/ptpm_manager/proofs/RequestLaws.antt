@@ -10,7 +10,8 @@ some-some x y h = cc
 
 -- in another domain a request is the same message but for that
 pub in_domain : (setup : Setup) (domain other k : ℕ) (o : Option RequestValue) (v w : Message)
-    → option_map (request_message setup domain k) o ≡ Some v → option_map (request_message setup other k) o ≡ Some w
+    → option_map (request_message setup domain k) o ≡ Some v
+    → option_map (request_message setup other k) o ≡ Some w
     → w ≡ record v { domain = other }
 in_domain setup domain other k None v w p q = cc
 in_domain setup domain other k (Some r) v w p q =

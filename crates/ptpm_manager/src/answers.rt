@@ -20,9 +20,17 @@ pub(crate) fn keep(
     answers: &mut IndexMap<PortIdentity, Outcome>,
     message: &View<'_>,
 ) -> Result<Surveyed, OutOfMemory>
-    ensures exact { IfOk result (λ surveyed. surveyed ≡ surveyed_by answers.old.entries (Ok (message.now.source, outcome_of message.now.body))) }
-    ensures kept { OnOk result (answers.new.entries ≡ kept_by answers.old.entries (Ok (message.now.source, outcome_of message.now.body))) }
-    ensures memory { OnErr result (surveyed_by answers.old.entries (Ok (message.now.source, outcome_of message.now.body)) ≡ Surveyed.Taken) }
+    ensures exact { IfOk result
+        (λ surveyed.
+        surveyed
+        ≡ surveyed_by answers.old.entries
+        (Ok (message.now.source, outcome_of message.now.body))) }
+    ensures kept { OnOk result
+        (answers.new.entries
+        ≡ kept_by answers.old.entries (Ok (message.now.source, outcome_of message.now.body))) }
+    ensures memory { OnErr result
+        (surveyed_by answers.old.entries (Ok (message.now.source, outcome_of message.now.body))
+        ≡ Surveyed.Taken) }
     ensures unchanged { OnErr result (answers.new.entries ≡ answers.old.entries) }
 {
     let source = message.source();
@@ -49,7 +57,8 @@ fn add(
     outcome: Outcome,
 ) -> Result<(), OutOfMemory>
     requires { has_answered source answers.old.entries ≡ false }
-    ensures added { OnOk result (answers.new.entries ≡ answers.old.entries ++ (source, outcome) ∷ []) }
+    ensures added { OnOk result
+        (answers.new.entries ≡ answers.old.entries ++ (source, outcome) ∷ []) }
     ensures unchanged { OnErr result (answers.new.entries ≡ answers.old.entries) }
 {
     match answers.insert(source, outcome) {

@@ -40,7 +40,8 @@ impl Ask {
     /// Judges an ask by itself, at a clock of this many ports.
     #[tactic(auto, unfolding(crate::specs::Ask::ask_refusal))]
     pub(crate) fn judge(&self, ports: u16) -> Result<(), BeginError>
-        ensures refusal { MatchResult result (λ _. ask_refusal ports self.now ≡ None) (λ e. ask_refusal ports self.now ≡ Some e) }
+        ensures refusal { MatchResult result (λ _. ask_refusal ports self.now ≡ None)
+            (λ e. ask_refusal ports self.now ≡ Some e) }
         ensures not_busy { IfErr result (λ e. e ≢ BeginError.Busy) }
     {
         if is_of_port(self.id) && !names_port(ports, self.port) {

@@ -8,7 +8,8 @@ ghost use Rattle.ptpm_manager.specs.Session.{SessionValue, due_message, resumed,
 /// A request is sent with the same octets each time; after `retune` they differ in domainNumber, octet 4, alone.
 pub fn sent_again()
     ensures sent { (s : SessionValue) → due_message (sent s) ≡ due_message s }
-    ensures resumed { (s : SessionValue) (attempts : ℕ) → due_message (resumed s attempts) ≡ due_message s }
+    ensures resumed { (s : SessionValue) (attempts : ℕ)
+        → due_message (resumed s attempts) ≡ due_message s }
     ensures retuned { (s : SessionValue) (domain : ℕ) (v w : Message) → due_message s ≡ Some v →
         due_message (retuned s domain) ≡ Some w → canonical w ≡ slice_set (canonical v) 4 domain }
 {}

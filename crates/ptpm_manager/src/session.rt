@@ -115,8 +115,11 @@ impl Session {
         ensures request { OnOk result (IsRequestTo self.old.setup.ports (request_of ask.now)) }
         ensures counted { OnOk result (answered_count self.new ≡ answered_count self.old) }
         ensures busy { IsErrOf result BeginError.Busy ↔ (is_waiting self.old ≡ true) }
-        ensures refused { (e : BeginError) → begin_refusal self.old ask.now ≡ Some e → result ≡ Err e }
-        ensures no_other { IfErr result (λ e. e ≢ BeginError.OutOfMemory → begin_refusal self.old ask.now ≡ Some e) }
+        ensures refused { (e : BeginError)
+            → begin_refusal self.old ask.now ≡ Some e
+            → result ≡ Err e }
+        ensures no_other { IfErr result
+            (λ e. e ≢ BeginError.OutOfMemory → begin_refusal self.old ask.now ≡ Some e) }
         ensures unchanged { OnErr result (self.new ≡ self.old) }
     {
         if let State::Waiting(_) = &self.state {
@@ -141,10 +144,15 @@ impl Session {
     /// each time. Where it is refused, session and buffer stay as they were. Takes no memory.
     #[tactic(auto, unfolding(crate::specs::Session::send_refusal))]
     pub fn send(&mut self, buffer: &mut Buffer) -> Result<(), SendError>
-        ensures refusal { MatchResult result (λ _. send_refusal self.old ≡ None) (λ e. send_refusal self.old ≡ Some e) }
+        ensures refusal { MatchResult result (λ _. send_refusal self.old ≡ None)
+            (λ e. send_refusal self.old ≡ Some e) }
         ensures sent { OnOk result (self.new ≡ sent self.old) }
-        ensures octets { (v : Message) → due_message self.old ≡ Some v → OnOk result (buffer.new.items ≡ canonical v) }
-        ensures valid { (v : Message) → due_message self.old ≡ Some v → OnOk result (IsValid v × Fits v) }
+        ensures octets { (v : Message)
+            → due_message self.old ≡ Some v
+            → OnOk result (buffer.new.items ≡ canonical v) }
+        ensures valid { (v : Message)
+            → due_message self.old ≡ Some v
+            → OnOk result (IsValid v × Fits v) }
         ensures unchanged { OnErr result (self.new ≡ self.old) }
         ensures buffer { OnErr result (buffer.new.items ≡ buffer.old.items) }
     {
@@ -161,7 +169,8 @@ impl Session {
 
     /// Gives the unanswered request this many attempts, whatever was left. Takes no memory.
     pub fn resume(&mut self, attempts: u8) -> Result<(), SendError>
-        ensures refusal { MatchResult result (λ _. is_waiting self.old ≡ true) (λ e. (e ≡ SendError.Idle) × (is_waiting self.old ≡ false)) }
+        ensures refusal { MatchResult result (λ _. is_waiting self.old ≡ true)
+            (λ e. (e ≡ SendError.Idle) × (is_waiting self.old ≡ false)) }
         ensures resumed { OnOk result (self.new ≡ resumed self.old attempts) }
         ensures unchanged { OnErr result (self.new ≡ self.old) }
     {
@@ -186,9 +195,12 @@ impl Session {
     pub fn receive(&mut self, datagram: &[u8]) -> Result<Received, OutOfMemory>
         ensures exact { IfOk result (λ received. received ≡ received_of self.old datagram.now) }
         ensures left { IfOk result (λ received. self.new ≡ left_by self.old received) }
-        ensures counted { IfOk result (λ received. IsCounted received (answered_count self.old) (answered_count self.new)) }
+        ensures counted { IfOk result
+            (λ received. IsCounted received (answered_count self.old) (answered_count self.new)) }
         ensures memory { OnErr result (NeedsMemory (received_of self.old datagram.now)) }
-        ensures ignored { (r : Reason) → received_of self.old datagram.now ≡ Received.Ignored r → result ≡ Ok (Received.Ignored r) }
+        ensures ignored { (r : Reason)
+            → received_of self.old datagram.now ≡ Received.Ignored r
+            → result ≡ Ok (Received.Ignored r) }
         ensures unchanged { OnErr result (self.new ≡ self.old) }
     {
         let message = match view(datagram) {

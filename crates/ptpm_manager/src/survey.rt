@@ -44,7 +44,8 @@ impl Survey {
         hops: u8,
         id: u16,
     ) -> Survey
-        ensures enquiry { result.enquiry ≡ record { me = me; domain = domain; number = number; hops = hops; id = id } }
+        ensures enquiry { result.enquiry
+            ≡ record { me = me; domain = domain; number = number; hops = hops; id = id } }
         ensures answers { result.answers ≡ [] }
         ensures first { result.answers ≡ first_of_each_source result.enquiry [] }
     {
@@ -64,7 +65,8 @@ impl Survey {
     /// Leaves the GET in the buffer. Takes no memory.
     pub fn send(&self, buffer: &mut Buffer)
         ensures octets { buffer.new.items ≡ canonical (survey_message self.now.enquiry) }
-        ensures valid { IsValid (survey_message self.now.enquiry) × Fits (survey_message self.now.enquiry) }
+        ensures valid { IsValid (survey_message self.now.enquiry)
+            × Fits (survey_message self.now.enquiry) }
     {
         encode(&self.enquiry.draft(), buffer);
     }
@@ -79,13 +81,20 @@ impl Survey {
     /// Judges a datagram, and keeps its answer where it is the first of its port and there is room. Memory is asked for
     /// that alone; where it is refused, the survey stays as it was.
     pub fn receive(&mut self, datagram: &[u8]) -> Result<Surveyed, OutOfMemory>
-        ensures exact { IfOk result (λ surveyed. surveyed ≡ surveyed_by self.old.answers (heard self.old.enquiry datagram.now)) }
-        ensures kept { OnOk result (self.new.answers ≡ kept_by self.old.answers (heard self.old.enquiry datagram.now)) }
+        ensures exact { IfOk result
+            (λ surveyed.
+            surveyed ≡ surveyed_by self.old.answers (heard self.old.enquiry datagram.now)) }
+        ensures kept { OnOk result
+            (self.new.answers ≡ kept_by self.old.answers (heard self.old.enquiry datagram.now)) }
         // Answers that are the first of each source of some datagrams, are so with this one.
-        ensures first { (datagrams : List (List ℕ)) → self.old.answers ≡ first_of_each_source self.old.enquiry datagrams →
-            OnOk result (self.new.answers ≡ first_of_each_source self.old.enquiry (datagrams ++ datagram.now ∷ [])) }
+        ensures first { (datagrams : List (List ℕ))
+            → self.old.answers ≡ first_of_each_source self.old.enquiry datagrams
+            → OnOk result
+            (self.new.answers
+            ≡ first_of_each_source self.old.enquiry (datagrams ++ datagram.now ∷ [])) }
         ensures enquiry { self.new.enquiry ≡ self.old.enquiry }
-        ensures memory { OnErr result (surveyed_by self.old.answers (heard self.old.enquiry datagram.now) ≡ Surveyed.Taken) }
+        ensures memory { OnErr result
+            (surveyed_by self.old.answers (heard self.old.enquiry datagram.now) ≡ Surveyed.Taken) }
         ensures unchanged { OnErr result (self.new ≡ self.old) }
     {
         match self.enquiry.answer_in(datagram) {

@@ -17,26 +17,38 @@ use Rattle.ptpm_network.proofs.Lists.{get_append, get_appended}
 
 -- ---- one more accepted request
 
-greatest-same : (m : PortIdentity) (d : Accepted) (es : List Accepted) → same_identity m d.manager ≡ true → greatest m (d ∷ es) ≡ max d.index (greatest m es)
+greatest-same : (m : PortIdentity) (d : Accepted) (es : List Accepted)
+    → same_identity m d.manager ≡ true
+    → greatest m (d ∷ es) ≡ max d.index (greatest m es)
 greatest-same m d es t = cond-true _ _ _ t
 
-greatest-other : (m : PortIdentity) (d : Accepted) (es : List Accepted) → same_identity m d.manager ≡ false → greatest m (d ∷ es) ≡ greatest m es
+greatest-other : (m : PortIdentity) (d : Accepted) (es : List Accepted)
+    → same_identity m d.manager ≡ false
+    → greatest m (d ∷ es) ≡ greatest m es
 greatest-other m d es t = cond-false _ _ _ t
 
-pub greatest-grows : (m : PortIdentity) (d : Accepted) (es : List Accepted) → greatest m es ≤ greatest m (d ∷ es)
+pub greatest-grows : (m : PortIdentity) (d : Accepted) (es : List Accepted)
+    → greatest m es ≤ greatest m (d ∷ es)
 greatest-grows m d es = ⊎_elim
     (λ (t : same_identity m d.manager ≡ true). omega (arith, greatest-same m d es t))
     (λ (t : same_identity m d.manager ≡ false). omega (arith, greatest-other m d es t))
     (cases_Bool (same_identity m d.manager))
 
-kept-first : (m : PortIdentity) (k : ℕ) (d : Accepted) (es : List Accepted) → same_identity m d.manager ≡ true → d.index ≡ k → kept_reply m k (d ∷ es) ≡ Some d
+kept-first : (m : PortIdentity) (k : ℕ) (d : Accepted) (es : List Accepted)
+    → same_identity m d.manager ≡ true
+    → d.index ≡ k
+    → kept_reply m k (d ∷ es) ≡ Some d
 kept-first m k d es t i = cond-true _ _ _ (and_from _ _ t (eq-eqb d.index k i))
 
-kept-rest : (m : PortIdentity) (k : ℕ) (d : Accepted) (es : List Accepted) → (same_identity m d.manager && d.index == k) ≡ false → kept_reply m k (d ∷ es) ≡ kept_reply m k es
+kept-rest : (m : PortIdentity) (k : ℕ) (d : Accepted) (es : List Accepted)
+    → (same_identity m d.manager && d.index == k) ≡ false
+    → kept_reply m k (d ∷ es) ≡ kept_reply m k es
 kept-rest m k d es f = cond-false _ _ _ f
 
 -- what was accepted has an index up to the greatest
-pub kept-le : (m : PortIdentity) (k : ℕ) (es : List Accepted) (e : Accepted) → kept_reply m k es ≡ Some e → k ≤ greatest m es
+pub kept-le : (m : PortIdentity) (k : ℕ) (es : List Accepted) (e : Accepted)
+    → kept_reply m k es ≡ Some e
+    → k ≤ greatest m es
 kept-le m k [] e a = absurd (cc)
 kept-le m k (d ∷ es) e a = ⊎_elim
     (λ (t : (same_identity m d.manager && d.index == k) ≡ true).
@@ -52,19 +64,30 @@ abbrev pub IsAbove : PortIdentity → List Accepted → Accepted → Type 0
 IsAbove m es d = same_identity m d.manager ≡ true → greatest m es < d.index
 
 -- what is kept stays
-pub kept-joined : (m : PortIdentity) (es : List Accepted) (d : Accepted) (k : ℕ) → IsAbove m es d → k ≤ greatest m es → kept_reply m k (d ∷ es) ≡ kept_reply m k es
+pub kept-joined : (m : PortIdentity) (es : List Accepted) (d : Accepted) (k : ℕ)
+    → IsAbove m es d
+    → k ≤ greatest m es
+    → kept_reply m k (d ∷ es) ≡ kept_reply m k es
 kept-joined m es d k above le = kept-rest m k d es (⊎_elim
     (λ (y : same_identity m d.manager ≡ true). let lt : greatest m es < d.index = above y in and_right _ _ (ne_eqb d.index k (λ (q : d.index ≡ k). omega arith)))
     (λ (n : same_identity m d.manager ≡ false). and_left _ _ n)
     (cases_Bool (same_identity m d.manager)))
 
-outcomes_kept-joined : (m : PortIdentity) (es : List Accepted) (d : Accepted) (n : ℕ) → IsAbove m es d → n ≤ greatest m es → outcomes_kept m (d ∷ es) n ≡ outcomes_kept m es n
+outcomes_kept-joined : (m : PortIdentity) (es : List Accepted) (d : Accepted) (n : ℕ)
+    → IsAbove m es d
+    → n ≤ greatest m es
+    → outcomes_kept m (d ∷ es) n ≡ outcomes_kept m es n
 outcomes_kept-joined m es d zero above le = refl
 outcomes_kept-joined m es d (suc n) above le =
     ap (λ rs. rs ++ reports_of (suc n) (kept_reply m (suc n) (d ∷ es))) (outcomes_kept-joined m es d n above (omega arith))
     ∙ ap (λ o. outcomes_kept m es n ++ reports_of (suc n) o) (kept-joined m es d (suc n) above le)
 
-was_accepted-joined : (m : PortIdentity) (begun : List RequestValue) (es : List Accepted) (d : Accepted) (k : ℕ) → IsAbove m es d → k ≤ greatest m es → WasAccepted m begun es k → WasAccepted m begun (d ∷ es) k
+was_accepted-joined : (m : PortIdentity) (begun : List RequestValue) (es : List Accepted)
+    (d : Accepted) (k : ℕ)
+    → IsAbove m es d
+    → k ≤ greatest m es
+    → WasAccepted m begun es k
+    → WasAccepted m begun (d ∷ es) k
 was_accepted-joined m begun es d k above le old = record {
   entry = old.entry;
   is = kept-joined m es d k above le ∙ old.is;
@@ -81,10 +104,27 @@ pub record JoinsOwn (m : PortIdentity) (begun : List RequestValue) (d : Accepted
   pub one : HasOneAnswer d.request d.reply
 
 -- what joins is the next one
-next_only : (begun reports g index k new : ℕ) → begun ≤ reports + 1 → reports ≤ g → g < index → index ≤ begun → new ≡ max index g → k ≤ new → (index ≡ k → ⊥) → k ≤ g
+next_only : (begun reports g index k new : ℕ)
+    → begun ≤ reports + 1
+    → reports ≤ g
+    → g < index
+    → index ≤ begun
+    → new ≡ max index g
+    → k ≤ new
+    → (index ≡ k → ⊥)
+    → k ≤ g
 next_only begun reports g index k new a b c d e f ne = omega arith
 
-without_gap-own : (m : PortIdentity) (ports : ℕ) (es : List Accepted) (d : Accepted) (s : SessionState) → same_identity m d.manager ≡ true → IsAbove m es d → JoinsOwn m s.begun d → IsInStep m ports es s → (k : ℕ) → 0 < k → k ≤ greatest m (d ∷ es) → WasAccepted m s.begun (d ∷ es) k
+without_gap-own : (m : PortIdentity) (ports : ℕ) (es : List Accepted) (d : Accepted)
+    (s : SessionState)
+    → same_identity m d.manager ≡ true
+    → IsAbove m es d
+    → JoinsOwn m s.begun d
+    → IsInStep m ports es s
+    → (k : ℕ)
+    → 0 < k
+    → k ≤ greatest m (d ∷ es)
+    → WasAccepted m s.begun (d ∷ es) k
 without_gap-own m ports es d s y above own at k p le = ⊎_elim
     (λ (q : d.index ≡ k). record {
       entry = d;
@@ -99,14 +139,22 @@ without_gap-own m ports es d s y above own at k p le = ⊎_elim
     (cases_eq d.index k)
 
 -- indexes are from 1 on
-from_one-joined : (m : PortIdentity) (es : List Accepted) (d : Accepted) → IsAbove m es d → kept_reply m 0 es ≡ None → kept_reply m 0 (d ∷ es) ≡ None
+from_one-joined : (m : PortIdentity) (es : List Accepted) (d : Accepted)
+    → IsAbove m es d
+    → kept_reply m 0 es ≡ None
+    → kept_reply m 0 (d ∷ es) ≡ None
 from_one-joined m es d above none = kept-rest m 0 d es (⊎_elim
     (λ (y : same_identity m d.manager ≡ true). let lt : greatest m es < d.index = above y in and_right _ _ (ne_eqb d.index 0 (λ (q : d.index ≡ 0). omega arith)))
     (λ (n : same_identity m d.manager ≡ false). and_left _ _ n)
     (cases_Bool (same_identity m d.manager))) ∙ none
 
 -- a manager goes on where one of its requests joins, or one of another manager
-pub in_step-joined : (m : PortIdentity) (ports : ℕ) (es : List Accepted) (d : Accepted) (s : SessionState) → IsAbove m es d → (same_identity m d.manager ≡ true → JoinsOwn m s.begun d) → IsInStep m ports es s → IsInStep m ports (d ∷ es) s
+pub in_step-joined : (m : PortIdentity) (ports : ℕ) (es : List Accepted) (d : Accepted)
+    (s : SessionState)
+    → IsAbove m es d
+    → (same_identity m d.manager ≡ true → JoinsOwn m s.begun d)
+    → IsInStep m ports es s
+    → IsInStep m ports (d ∷ es) s
 in_step-joined m ports es d s above own at = record {
   asked = at.asked;
   one_at_a_time = at.one_at_a_time;
@@ -128,8 +176,19 @@ in_step-joined m ports es d s above own at = record {
 -- ---- what a session does
 
 -- it begins its next request, with each answer reported
-pub in_step-begun : (m : PortIdentity) (ports : ℕ) (es : List Accepted) (s : SessionState) (q : RequestValue) (n : ℕ) → IsAsked ports q → length s.reports ≡ length s.begun → IsInStep m ports es s
-    → IsInStep m ports es (record { domain = s.domain; attempts_left = n; begun = s.begun ++ q ∷ []; reports = s.reports })
+pub in_step-begun : (m : PortIdentity) (ports : ℕ) (es : List Accepted) (s : SessionState)
+    (q : RequestValue) (n : ℕ)
+    → IsAsked ports q
+    → length s.reports ≡ length s.begun
+    → IsInStep m ports es s
+    → IsInStep m ports es
+    (record {
+      domain = s.domain;
+      attempts_left = n;
+      begun = s.begun
+          ++ q ∷ [];
+      reports = s.reports;
+    })
 in_step-begun m ports es s q n asked idle at = record {
   asked = λ i p e. get_appended (IsAsked ports) s.begun q i p asked (at.asked i) e;
   one_at_a_time = omega (arith, length-append s.begun (q ∷ []));
@@ -147,8 +206,11 @@ in_step-begun m ports es s q n asked idle at = record {
 }
 
 -- domain and attempts are no part of it
-pub in_step-set : (m : PortIdentity) (ports : ℕ) (es : List Accepted) (s : SessionState) (domain attempts : ℕ) → IsInStep m ports es s
-    → IsInStep m ports es (record { domain = domain; attempts_left = attempts; begun = s.begun; reports = s.reports })
+pub in_step-set : (m : PortIdentity) (ports : ℕ) (es : List Accepted) (s : SessionState)
+    (domain attempts : ℕ)
+    → IsInStep m ports es s
+    → IsInStep m ports es
+    (record { domain = domain; attempts_left = attempts; begun = s.begun; reports = s.reports })
 in_step-set m ports es s domain attempts at = record {
   asked = at.asked;
   one_at_a_time = at.one_at_a_time;
@@ -163,17 +225,26 @@ in_step-set m ports es s domain attempts at = record {
 abbrev pub report_of : ℕ → Accepted → Answer → Report
 report_of k e a = record { index = k; outcome = outcome_of (answer_body e.reply.action e.reply.id a.outcome) }
 
-reports_of-one : (k : ℕ) (o : Option Accepted) (e : Accepted) (a : Answer) → o ≡ Some e → e.reply.answers ≡ a ∷ [] → reports_of k o ≡ report_of k e a ∷ []
+reports_of-one : (k : ℕ) (o : Option Accepted) (e : Accepted) (a : Answer)
+    → o ≡ Some e
+    → e.reply.answers ≡ a ∷ []
+    → reports_of k o ≡ report_of k e a ∷ []
 reports_of-one k o e a kept one = ap (reports_of k) kept ∙ ap (reports_by k e.reply) one
 
-outcomes_kept-more : (m : PortIdentity) (es : List Accepted) (n k : ℕ) (e : Accepted) (a : Answer) → k ≡ suc n → kept_reply m k es ≡ Some e → e.reply.answers ≡ a ∷ []
+outcomes_kept-more : (m : PortIdentity) (es : List Accepted) (n k : ℕ) (e : Accepted) (a : Answer)
+    → k ≡ suc n
+    → kept_reply m k es ≡ Some e
+    → e.reply.answers ≡ a ∷ []
     → outcomes_kept m es k ≡ outcomes_kept m es n ++ report_of k e a ∷ []
 outcomes_kept-more m es n k e a next kept one =
     subst (λ i. kept_reply m i es ≡ Some e → outcomes_kept m es i ≡ outcomes_kept m es n ++ report_of i e a ∷ []) (sym next)
     (λ h. ap (λ rs. outcomes_kept m es n ++ rs) (reports_of-one (suc n) (kept_reply m (suc n) es) e a h one)) kept
 
 -- it is told the answer to its last request, which was accepted
-pub in_step-reported : (m : PortIdentity) (ports : ℕ) (es : List Accepted) (s : SessionState) (k : ℕ) (e : Accepted) (a : Answer) → k ≡ length s.begun → (length s.reports ≡ length s.begun → ⊥)
+pub in_step-reported : (m : PortIdentity) (ports : ℕ) (es : List Accepted) (s : SessionState)
+    (k : ℕ) (e : Accepted) (a : Answer)
+    → k ≡ length s.begun
+    → (length s.reports ≡ length s.begun → ⊥)
     → kept_reply m k es ≡ Some e → e.reply.answers ≡ a ∷ [] → IsInStep m ports es s
     → IsInStep m ports es (record { domain = s.domain; attempts_left = s.attempts_left; begun = s.begun; reports = s.reports ++ report_of k e a ∷ [] })
 in_step-reported m ports es s k e a last busy kept one at =

@@ -35,11 +35,17 @@ use Rattle.ptpm_network.proofs.RoundTrip.{Comes, Trip, come_in-append, ends-appe
 -- the unanswered request, as it is sent
 record Sent (N : Network) (w : NetworkState) (s : ℕ) : Type 0 where
   pub octets : List ℕ
-  pub frames : (machine.sends N w s).frames ≡ w.frames ++ new_frames (peers N.links (AtSession s)) octets (RequestOf s (issued w s))
+  pub frames : (machine.sends N w s).frames
+      ≡ w.frames ++ new_frames (peers N.links (AtSession s)) octets (RequestOf s (issued w s))
   pub domain : domain_number octets ≡ (w.session s).domain
   pub hops : boundary_hops octets ≡ (N.session s).setup.hops
 
-send-frames : (N : Network) (w : NetworkState) (s : ℕ) (q : RequestValue) → IsNetwork N → IsReached N w → s < N.sessions → unanswered (w.session s) ≡ Some q → Sent N w s
+send-frames : (N : Network) (w : NetworkState) (s : ℕ) (q : RequestValue)
+    → IsNetwork N
+    → IsReached N w
+    → s < N.sessions
+    → unanswered (w.session s) ≡ Some q
+    → Sent N w s
 send-frames N w s q n r place e =
     let k = issued w s in
     let asked = (r.sessions s place).asked (length (w.session s).begun - 1) q (unanswered-last (w.session s) q e) in
@@ -54,20 +60,30 @@ send-frames N w s q n r place e =
       hops = said-hops v (N.session s).setup.hops valid fits refl;
     }
 
-send-not_refused : (v : SessionValue) → is_waiting v ≡ true → (v.attempts_left ≡ 0 → ⊥) → send_refusal v ≡ None
+send-not_refused : (v : SessionValue)
+    → is_waiting v ≡ true
+    → (v.attempts_left ≡ 0 → ⊥)
+    → send_refusal v ≡ None
 unfolding send_refusal
 send-not_refused v waits ne =
     ap (λ b. first_of ((not b, sends.Idle) ∷ (v.attempts_left == 0, sends.GaveUp) ∷ [])) waits
     ∙ ap (λ b. first_of ((b, sends.GaveUp) ∷ [])) (ne_eqb v.attempts_left 0 ne)
 
-send-taken : (N : Network) (w : NetworkState) (s : ℕ) (q : RequestValue) → s < N.sessions → HasRoom w → unanswered (w.session s) ≡ Some q → ((w.session s).attempts_left ≡ 0 → ⊥) → refusal N w (Send s) ≡ None
+send-taken : (N : Network) (w : NetworkState) (s : ℕ) (q : RequestValue)
+    → s < N.sessions
+    → HasRoom w
+    → unanswered (w.session s) ≡ Some q
+    → ((w.session s).attempts_left ≡ 0 → ⊥)
+    → refusal N w (Send s) ≡ None
 unfolding refusal
 send-taken N w s q place room e ne =
     ap (λ o. option_or o (option_or (no_room w.frames) (send_refused N w s))) (session-named N s place)
     ∙ ap (λ o. option_or o (send_refused N w s)) (is_room w room)
     ∙ ap (option_map SendRefused) (send-not_refused (session_value (N.session s) (w.session s)) (ap is_some e) ne)
 
-send-step : (N : Network) (w : NetworkState) (s : ℕ) → refusal N w (Send s) ≡ None → step N w (Send s) ≡ machine.sends N w s
+send-step : (N : Network) (w : NetworkState) (s : ℕ)
+    → refusal N w (Send s) ≡ None
+    → step N w (Send s) ≡ machine.sends N w s
 unfolding happens
 send-step N w s none = step-taken N w (Send s) none
 
@@ -92,7 +108,10 @@ same-sent N w s =
       idle = ap is_idle own;
     }
 
-same-moved : (w u z : NetworkState) (s : ℕ) → z.session ≡ u.session → IsSameSession w u s → IsSameSession w z s
+same-moved : (w u z : NetworkState) (s : ℕ)
+    → z.session ≡ u.session
+    → IsSameSession w u s
+    → IsSameSession w z s
 same-moved w u z s e same = record {
   counted = ap (λ (f : ℕ → SessionState). length (f s).begun) e ∙ same.counted;
   reports = ap (λ (f : ℕ → SessionState). (f s).reports) e ∙ same.reports;
@@ -100,7 +119,10 @@ same-moved w u z s e same = record {
   idle = ap (λ (f : ℕ → SessionState). is_idle (f s)) e ∙ same.idle;
 }
 
-reported-since : (w z x : NetworkState) (s : ℕ) → IsSameSession w z s → HasReported z x s → HasReported w x s
+reported-since : (w z x : NetworkState) (s : ℕ)
+    → IsSameSession w z s
+    → HasReported z x s
+    → HasReported w x s
 reported-since w z x s same h = record {
   report = h.report;
   index = h.index ∙ same.counted;
@@ -109,7 +131,11 @@ reported-since w z x s same h = record {
 }
 
 -- copies of it are on their way, and no more than this
-sent-comes : (N : Network) (w : NetworkState) (s : ℕ) (end : End) → Sent N w s → list_any (same_end end) (peers N.links (AtSession s)) ≡ true → Comes (machine.sends N w s) end (RequestOf s (issued w s)) (w.session s).domain (N.session s).setup.hops
+sent-comes : (N : Network) (w : NetworkState) (s : ℕ) (end : End)
+    → Sent N w s
+    → list_any (same_end end) (peers N.links (AtSession s)) ≡ true
+    → Comes (machine.sends N w s) end (RequestOf s (issued w s)) (w.session s).domain
+    (N.session s).setup.hops
 sent-comes N w s end sent link =
     let ends = peers N.links (AtSession s) in
     let make : End → Frame = λ e. record { end = e; octets = sent.octets; origin = RequestOf s (issued w s); first_hops = boundary_hops sent.octets; forwardings = 0 } in
@@ -122,7 +148,10 @@ sent-comes N w s end sent link =
       hops_are = sent.hops;
     }
 
-sent-few : (N : Network) (w : NetworkState) (s most : ℕ) → Sent N w s → MakesAtMost N most → length (machine.sends N w s).frames ≤ length w.frames + most
+sent-few : (N : Network) (w : NetworkState) (s most : ℕ)
+    → Sent N w s
+    → MakesAtMost N most
+    → length (machine.sends N w s).frames ≤ length w.frames + most
 sent-few N w s most sent few =
     let ends = peers N.links (AtSession s) in
     let made = new_frames ends sent.octets (RequestOf s (issued w s)) in
@@ -137,7 +166,16 @@ record Told (N : Network) (s : ℕ) (z : NetworkState) : Type 0 where
   pub comes_in : ComesIn N z number (AtSession s)
   pub reported : HasReported z (step N z (Deliver number)) s
 
-tell : (N : Network) (s : ℕ) (z : NetworkState) (k domain hops : ℕ) → IsNetwork N → s < N.sessions → IsReached N z → HasRoom z → issued z s ≡ k → is_idle (z.session s) ≡ false → (z.session s).domain ≡ domain → Comes z (AtSession s) (ReplyTo s k) domain hops → Told N s z
+tell : (N : Network) (s : ℕ) (z : NetworkState) (k domain hops : ℕ)
+    → IsNetwork N
+    → s < N.sessions
+    → IsReached N z
+    → HasRoom z
+    → issued z s ≡ k
+    → is_idle (z.session s) ≡ false
+    → (z.session s).domain ≡ domain
+    → Comes z (AtSession s) (ReplyTo s k) domain hops
+    → Told N s z
 tell N s z k domain hops n place r room is busy here comes =
     let f = comes.frame in
     let number = numbered z.frames f comes.held in
@@ -162,8 +200,14 @@ record AfterSend (N : Network) (w u : NetworkState) (s : ℕ) (hops : List Hop) 
   pub come_in : ComeIn N u deliveries
   pub reported : HasReported w (run N u (handed_in deliveries)) s
 
-after_trip : (N : Network) (w u : NetworkState) (s : ℕ) (hops : List Hop) (to : End) (most : ℕ) → IsNetwork N → s < N.sessions → is_idle (w.session s) ≡ false → IsSameSession w u s
-    → length u.frames + made_along most hops ≤ frames_limit → Trip N s u most (issued w s) (w.session s).domain 0 hops to (AtSession s) → AfterSend N w u s hops to
+after_trip : (N : Network) (w u : NetworkState) (s : ℕ) (hops : List Hop) (to : End) (most : ℕ)
+    → IsNetwork N
+    → s < N.sessions
+    → is_idle (w.session s) ≡ false
+    → IsSameSession w u s
+    → length u.frames + made_along most hops ≤ frames_limit
+    → Trip N s u most (issued w s) (w.session s).domain 0 hops to (AtSession s)
+    → AfterSend N w u s hops to
 after_trip N w u s hops to most n place busy same room trip =
     let z : NetworkState = run N u (handed_in trip.deliveries) in
     let same_z : IsSameSession w z s = same-moved w u z s trip.moved.sessions same in
@@ -178,8 +222,17 @@ after_trip N w u s hops to most n place busy same room trip =
       reported = subst (λ (x : NetworkState). HasReported w x s) (sym end) (reported-since w z (step N z (Deliver told.number)) s same_z told.reported);
     }
 
-after-send : (N : Network) (w : NetworkState) (s : ℕ) (hops : List Hop) (port most : ℕ) (q : RequestValue) → IsNetwork N → IsReached N w → s < N.sessions → MakesAtMost N most → unanswered (w.session s) ≡ Some q → is_idle (w.session s) ≡ false → IsWay N w s hops port
-    → length w.frames + (most + made_along most hops) ≤ frames_limit → AfterSend N w (machine.sends N w s) s hops (AtPort (N.session s).target port)
+after-send : (N : Network) (w : NetworkState) (s : ℕ) (hops : List Hop) (port most : ℕ)
+    (q : RequestValue)
+    → IsNetwork N
+    → IsReached N w
+    → s < N.sessions
+    → MakesAtMost N most
+    → unanswered (w.session s) ≡ Some q
+    → is_idle (w.session s) ≡ false
+    → IsWay N w s hops port
+    → length w.frames + (most + made_along most hops) ≤ frames_limit
+    → AfterSend N w (machine.sends N w s) s hops (AtPort (N.session s).target port)
 after-send N w s hops port most q n r place few e busy way room =
     let u : NetworkState = machine.sends N w s in
     let t = (N.session s).target in
@@ -203,7 +256,14 @@ not_zero n lt e = omega arith
 le_both : (a b c : ℕ) → a ≤ b → b ≤ c → a ≤ c
 le_both a b c x y = omega arith
 
-answerable-at : (N : Network) (w : NetworkState) (s : ℕ) (hops : List Hop) (port most : ℕ) → IsNetwork N → IsReached N w → s < N.sessions → MakesAtMost N most → is_idle (w.session s) ≡ false → 0 < (w.session s).attempts_left → IsWay N w s hops port
+answerable-at : (N : Network) (w : NetworkState) (s : ℕ) (hops : List Hop) (port most : ℕ)
+    → IsNetwork N
+    → IsReached N w
+    → s < N.sessions
+    → MakesAtMost N most
+    → is_idle (w.session s) ≡ false
+    → 0 < (w.session s).attempts_left
+    → IsWay N w s hops port
     → length w.frames + (most + made_along most hops) ≤ frames_limit → IsAnswerable N w s hops port
 answerable-at N w s hops port most n r place few busy attempts way room =
     let at = r.sessions s place in
@@ -212,8 +272,12 @@ answerable-at N w s hops port most n r place few busy attempts way room =
     let after = subst (λ (u : NetworkState). AfterSend N w u s hops (AtPort (N.session s).target port)) (sym (send-step N w s goes)) (after-send N w s hops port most waits.0 n r place few waits.1 busy way room) in
     record { sent = goes; deliveries = after.deliveries; along = after.along; come_in = after.come_in; reported = after.reported }
 
-pub answerable : (N : Network) (es : List Event) (s : ℕ) (hops : List Hop) (port ends : ℕ) → IsNetwork N → AllByRecursion IsInRange es → s < N.sessions
-    → is_idle ((run N (initial_state N) es).session s) ≡ false → 0 < ((run N (initial_state N) es).session s).attempts_left
+pub answerable : (N : Network) (es : List Event) (s : ℕ) (hops : List Hop) (port ends : ℕ)
+    → IsNetwork N
+    → AllByRecursion IsInRange es
+    → s < N.sessions
+    → is_idle ((run N (initial_state N) es).session s) ≡ false
+    → 0 < ((run N (initial_state N) es).session s).attempts_left
     → IsWay N (run N (initial_state N) es) s hops port → LinksHaveAtMost N ends
     → length (run N (initial_state N) es).frames + made_each_way ends hops ≤ frames_limit
     → IsAnswerable N (run N (initial_state N) es) s hops port
@@ -222,11 +286,15 @@ answerable N es s hops port ends n range place busy attempts way all room =
 
 -- ---- a network that runs goes through these events too
 
-come_in-taken : (N : Network) (w : NetworkState) (ds : List (ℕ × End)) → ComeIn N w ds → taken N w (handed_in ds) ≡ handed_in ds
+come_in-taken : (N : Network) (w : NetworkState) (ds : List (ℕ × End))
+    → ComeIn N w ds
+    → taken N w (handed_in ds) ≡ handed_in ds
 come_in-taken N w [] x = refl
 come_in-taken N w (d ∷ ds) x = cond-true _ _ _ (ap is_none (x.0).not_refused) ∙ ap (λ rest. Deliver d.0 ∷ rest) (come_in-taken N (step N w (Deliver d.0)) ds x.1)
 
-come_in-in_time : (N : Network) (w : NetworkState) (ds : List (ℕ × End)) → ComeIn N w ds → AreInTime N w (handed_in ds)
+come_in-in_time : (N : Network) (w : NetworkState) (ds : List (ℕ × End))
+    → ComeIn N w ds
+    → AreInTime N w (handed_in ds)
 come_in-in_time N w [] x = tt
 come_in-in_time N w (d ∷ ds) x = (λ none. ap (is_late_frame w) (x.0).is ∙ (x.0).in_time, come_in-in_time N (step N w (Deliver d.0)) ds x.1)
 
@@ -238,7 +306,11 @@ handed_in-in_range (d ∷ ds) = (tt, handed_in-in_range ds)
 abbrev pub answering : ℕ → List (ℕ × End) → List Event
 answering s ds = Send s ∷ handed_in ds
 
-pub answer-runs : (N : Network) (w : NetworkState) (s : ℕ) (hops : List Hop) (port : ℕ) (a : IsAnswerable N w s hops port) → AllByRecursion IsInRange (answering s a.deliveries) × (taken N w (answering s a.deliveries) ≡ answering s a.deliveries) × AreInTime N w (answering s a.deliveries)
+pub answer-runs : (N : Network) (w : NetworkState) (s : ℕ) (hops : List Hop) (port : ℕ)
+    (a : IsAnswerable N w s hops port)
+    → AllByRecursion IsInRange (answering s a.deliveries)
+    × (taken N w (answering s a.deliveries) ≡ answering s a.deliveries)
+    × AreInTime N w (answering s a.deliveries)
 answer-runs N w s hops port a = (
   (tt, handed_in-in_range a.deliveries),
   cond-true _ _ _ (ap is_none a.sent) ∙ ap (λ rest. Send s ∷ rest) (come_in-taken N (step N w (Send s)) a.deliveries a.come_in),

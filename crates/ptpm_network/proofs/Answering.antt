@@ -35,24 +35,34 @@ pub record IsDue (c : Clock) (h : History) (copy : RequestCopy) (r : ReplyValue)
 same_reply : (r u : ReplyValue) → Some r ≡ Some u → r ≡ u
 same_reply r u e = same_Some r u e
 
-kept_for-some : (copy : RequestCopy) (o : Option Accepted) (r : ReplyValue) → kept_for copy o ≡ Some r → (e : Accepted) × (o ≡ Some e) × (e.reply ≡ r)
+kept_for-some : (copy : RequestCopy) (o : Option Accepted) (r : ReplyValue)
+    → kept_for copy o ≡ Some r
+    → (e : Accepted) × (o ≡ Some e) × (e.reply ≡ r)
 kept_for-some copy None r e = absurd (cc)
 kept_for-some copy (Some a) r e = ⊎_elim
     (λ (y : same_request a.request copy.request ≡ true). (a, refl, same_reply a.reply r (sym (cond-true _ _ _ y) ∙ e)))
     (λ (n : same_request a.request copy.request ≡ false). let none : None ≡ Some r = sym (cond-false _ _ _ n) ∙ e in absurd (cc))
     (cases_Bool (same_request a.request copy.request))
 
-kept-accepted : (c : Clock) (h : History) (copy : RequestCopy) → kept_reply copy.heard.source copy.index (accepted_from c h copy ∷ h.accepted) ≡ Some (accepted_from c h copy)
+kept-accepted : (c : Clock) (h : History) (copy : RequestCopy)
+    → kept_reply copy.heard.source copy.index (accepted_from c h copy ∷ h.accepted)
+    ≡ Some (accepted_from c h copy)
 kept-accepted c h copy = cond-true _ _ _ (and_from _ _ (same_identity-refl copy.heard.source) (eq-eqb copy.index copy.index refl))
 
-due-joins : (c : Clock) (h : History) (copy : RequestCopy) (r : ReplyValue) → joins h copy ≡ true → due_reply c h copy ≡ Some r → IsDue c h copy r
+due-joins : (c : Clock) (h : History) (copy : RequestCopy) (r : ReplyValue)
+    → joins h copy ≡ true
+    → due_reply c h copy ≡ Some r
+    → IsDue c h copy r
 due-joins c h copy r y e = record {
   entry = accepted_from c h copy;
   kept = ap (λ (g : History). kept_reply copy.heard.source copy.index g.accepted) (cond-true _ _ _ y) ∙ kept-accepted c h copy;
   reply = same_reply (accepted_from c h copy).reply r (sym (cond-true _ _ _ y) ∙ e);
 }
 
-due-repeats : (c : Clock) (h : History) (copy : RequestCopy) (r : ReplyValue) → joins h copy ≡ false → due_reply c h copy ≡ Some r → IsDue c h copy r
+due-repeats : (c : Clock) (h : History) (copy : RequestCopy) (r : ReplyValue)
+    → joins h copy ≡ false
+    → due_reply c h copy ≡ Some r
+    → IsDue c h copy r
 due-repeats c h copy r j e = ⊎_elim
     (λ (y : greatest copy.heard.source h.accepted == copy.index ≡ true).
     let p = kept_for-some copy (kept_reply copy.heard.source copy.index h.accepted) r (sym (cond-true _ _ _ y) ∙ (sym (cond-false _ _ _ j) ∙ e)) in
@@ -61,7 +71,9 @@ due-repeats c h copy r j e = ⊎_elim
     let none : None ≡ Some r = sym (cond-false _ _ _ n) ∙ (sym (cond-false _ _ _ j) ∙ e) in absurd (cc))
     (cases_Bool (greatest copy.heard.source h.accepted == copy.index))
 
-pub is_due : (c : Clock) (h : History) (copy : RequestCopy) (r : ReplyValue) → due_reply c h copy ≡ Some r → IsDue c h copy r
+pub is_due : (c : Clock) (h : History) (copy : RequestCopy) (r : ReplyValue)
+    → due_reply c h copy ≡ Some r
+    → IsDue c h copy r
 is_due c h copy r e = ⊎_elim
     (λ (y : joins h copy ≡ true). due-joins c h copy r y e)
     (λ (n : joins h copy ≡ false). due-repeats c h copy r n e)
@@ -69,15 +81,25 @@ is_due c h copy r e = ⊎_elim
 
 -- ---- frames of new messages
 
-pub reply_frames-are : (N : Network) (w : NetworkState) (c : ℕ) (o : Origin) (sent : List (ℕ × List ℕ)) → IsNetwork N → AllByRecursion (λ m. IsOfOrigin N w m.1 o) sent → AllByRecursion (IsFrame N w) (reply_frames N c o sent)
+pub reply_frames-are : (N : Network) (w : NetworkState) (c : ℕ) (o : Origin)
+    (sent : List (ℕ × List ℕ))
+    → IsNetwork N
+    → AllByRecursion (λ m. IsOfOrigin N w m.1 o) sent
+    → AllByRecursion (IsFrame N w) (reply_frames N c o sent)
 reply_frames-are N w c o sent n a =
     all_flat (λ m. IsOfOrigin N w m.1 o) (IsFrame N w) _ (λ m p. new_frames-are N w (peers N.links (AtPort c m.0)) m.1 o (has_peers N (AtPort c m.0) n) p) sent a
 
-pub rendered-one : (me : ClockIdentity) (heard : Heard) (r : ReplyValue) (ingress : ℕ) (a : Answer) → r.answers ≡ a ∷ [] → rendered me heard r ingress ≡ (ingress, canonical (reply_message me heard r.action r.id ingress a)) ∷ []
+pub rendered-one : (me : ClockIdentity) (heard : Heard) (r : ReplyValue) (ingress : ℕ) (a : Answer)
+    → r.answers ≡ a ∷ []
+    → rendered me heard r ingress
+    ≡ (ingress, canonical (reply_message me heard r.action r.id ingress a)) ∷ []
 unfolding rendered
 rendered-one me heard r ingress a e = ap (map (λ (b : Answer). (ingress, canonical (reply_message me heard r.action r.id ingress b)))) e
 
-pub rendered-all : (P : List ℕ → Type 0) (me : ClockIdentity) (heard : Heard) (r : ReplyValue) (ingress : ℕ) → ((a : Answer) → IsSendable a → P (canonical (reply_message me heard r.action r.id ingress a))) → AllByRecursion IsSendable r.answers
+pub rendered-all : (P : List ℕ → Type 0) (me : ClockIdentity) (heard : Heard) (r : ReplyValue)
+    (ingress : ℕ)
+    → ((a : Answer) → IsSendable a → P (canonical (reply_message me heard r.action r.id ingress a)))
+    → AllByRecursion IsSendable r.answers
     → AllByRecursion (λ (m : ℕ × List ℕ). P m.1) (rendered me heard r ingress)
 unfolding rendered
 rendered-all P me heard r ingress each a = all_made IsSendable (λ (m : ℕ × List ℕ). P m.1) _ each r.answers a
@@ -94,8 +116,12 @@ pub record KeepsDue (N : Network) (u : NetworkState) (s k : ℕ) (r : ReplyValue
   pub says : SaysKept N u s k entry
   pub reply : entry.reply ≡ r
 
-pub keeps_due : (N : Network) (w : NetworkState) (c port : ℕ) (f : Frame) (copy : RequestCopy) (r : ReplyValue) → IsReached N (arrives w c (delivery port f))
-    → (of : IsCopyOf N w c port f copy) → copy_of (N.clock c) (ports N c) (delivery port f) ≡ Some copy → due_reply (N.clock c) (history N w c) copy ≡ Some r
+pub keeps_due : (N : Network) (w : NetworkState) (c port : ℕ) (f : Frame) (copy : RequestCopy)
+    (r : ReplyValue)
+    → IsReached N (arrives w c (delivery port f))
+    → (of : IsCopyOf N w c port f copy)
+    → copy_of (N.clock c) (ports N c) (delivery port f) ≡ Some copy
+    → due_reply (N.clock c) (history N w c) copy ≡ Some r
     → KeepsDue N (arrives w c (delivery port f)) of.session of.k r
 keeps_due N w c port f copy r reached of e d =
     let u = arrives w c (delivery port f) in
@@ -117,9 +143,17 @@ keeps_due N w c port f copy r reached of e d =
     }
 
 -- it is a frame of the reply that is kept for the copy's request
-due-origin : (N : Network) (w : NetworkState) (c port : ℕ) (f : Frame) (copy : RequestCopy) (r : ReplyValue) → IsNetwork N → IsReached N (arrives w c (delivery port f)) → HasEnd N (AtPort c port)
-    → (of : IsCopyOf N w c port f copy) → copy_of (N.clock c) (ports N c) (delivery port f) ≡ Some copy → due_reply (N.clock c) (history N w c) copy ≡ Some r
-    → AllByRecursion (λ m. IsOfOrigin N (arrives w c (delivery port f)) m.1 (ReplyTo of.session of.k)) (rendered (N.clock c).identity copy.heard r copy.ingress)
+due-origin : (N : Network) (w : NetworkState) (c port : ℕ) (f : Frame) (copy : RequestCopy)
+    (r : ReplyValue)
+    → IsNetwork N
+    → IsReached N (arrives w c (delivery port f))
+    → HasEnd N (AtPort c port)
+    → (of : IsCopyOf N w c port f copy)
+    → copy_of (N.clock c) (ports N c) (delivery port f) ≡ Some copy
+    → due_reply (N.clock c) (history N w c) copy ≡ Some r
+    → AllByRecursion
+    (λ m. IsOfOrigin N (arrives w c (delivery port f)) m.1 (ReplyTo of.session of.k))
+    (rendered (N.clock c).identity copy.heard r copy.ingress)
 due-origin N w c port f copy r n reached end of e d =
     let u = arrives w c (delivery port f) in
     let keeps = keeps_due N w c port f copy r reached of e d in
@@ -150,9 +184,16 @@ due-origin N w c port f copy r n reached end of e d =
       tt,
     )
 
-pub due-frames : (N : Network) (w : NetworkState) (c port : ℕ) (f : Frame) (copy : RequestCopy) (o : Option ReplyValue) → IsNetwork N → IsReached N (arrives w c (delivery port f)) → HasEnd N (AtPort c port)
-    → IsCopyOf N w c port f copy → copy_of (N.clock c) (ports N c) (delivery port f) ≡ Some copy → due_reply (N.clock c) (history N w c) copy ≡ o
-    → AllByRecursion (IsFrame N (arrives w c (delivery port f))) (reply_frames N c (reply_origin f.origin) (due_messages (N.clock c) copy o))
+pub due-frames : (N : Network) (w : NetworkState) (c port : ℕ) (f : Frame) (copy : RequestCopy)
+    (o : Option ReplyValue)
+    → IsNetwork N
+    → IsReached N (arrives w c (delivery port f))
+    → HasEnd N (AtPort c port)
+    → IsCopyOf N w c port f copy
+    → copy_of (N.clock c) (ports N c) (delivery port f) ≡ Some copy
+    → due_reply (N.clock c) (history N w c) copy ≡ o
+    → AllByRecursion (IsFrame N (arrives w c (delivery port f)))
+    (reply_frames N c (reply_origin f.origin) (due_messages (N.clock c) copy o))
 due-frames N w c port f copy None n reached end of e d = tt
 due-frames N w c port f copy (Some r) n reached end of e d =
     reply_frames-are N (arrives w c (delivery port f)) c (reply_origin f.origin) (rendered (N.clock c).identity copy.heard r copy.ingress) n

@@ -50,12 +50,19 @@ pub record IsCopyOf (N : Network) (w : NetworkState) (c port : ℕ) (f : Frame) 
   pub request : copy.request ≡ says.request
   pub read : (v : Message) → message_of f.octets ≡ Some v → is_copy (N.clock c) (ports N c) v ≡ true
 
-pub action_of-answer_body : (action : Action) (id : ℕ) (o : Outcome) → action_of (answer_body action id o) ≡ action
+pub action_of-answer_body : (action : Action) (id : ℕ) (o : Outcome)
+    → action_of (answer_body action id o) ≡ action
 action_of-answer_body action id (reply.Value octets) = refl
 action_of-answer_body action id reply.Done = refl
 action_of-answer_body action id (reply.Refused error) = refl
 
-copy_of-origin : (N : Network) (w : NetworkState) (c port : ℕ) (f : Frame) (o : Origin) (copy : RequestCopy) → f.origin ≡ o → IsNetwork N → IsReached N w → c < N.clocks → IsHeard N w f.octets o
+copy_of-origin : (N : Network) (w : NetworkState) (c port : ℕ) (f : Frame) (o : Origin)
+    (copy : RequestCopy)
+    → f.origin ≡ o
+    → IsNetwork N
+    → IsReached N w
+    → c < N.clocks
+    → IsHeard N w f.octets o
     → DeliversCopy (N.clock c) (ports N c) (delivery port f) copy → IsCopyOf N w c port f copy
 copy_of-origin N w c port f (RequestOf t k) copy e n r place i d =
     let says = says_request N w t k f.octets n r i in
@@ -93,19 +100,29 @@ copy_of-origin N w c port f Neither copy e n r place i d =
     let m = n.managers c d.message.source place parts.known in
     absurd ((i d.message d.read).1.no_request m.0 m.1 (sym m.2))
 
-pub is_copy_of : (N : Network) (w : NetworkState) (c port : ℕ) (f : Frame) (copy : RequestCopy) → IsNetwork N → IsReached N w → c < N.clocks → IsHeard N w f.octets f.origin → copy_of (N.clock c) (ports N c) (delivery port f) ≡ Some copy → IsCopyOf N w c port f copy
+pub is_copy_of : (N : Network) (w : NetworkState) (c port : ℕ) (f : Frame) (copy : RequestCopy)
+    → IsNetwork N
+    → IsReached N w
+    → c < N.clocks
+    → IsHeard N w f.octets f.origin
+    → copy_of (N.clock c) (ports N c) (delivery port f) ≡ Some copy
+    → IsCopyOf N w c port f copy
 is_copy_of N w c port f copy n r place i e =
     copy_of-origin N w c port f f.origin copy refl n r place i (delivers_copy (N.clock c) (ports N c) (delivery port f) copy e)
 
 -- ---- what a delivery leaves of a clock
 
 -- the copies of a list with one more delivery
-pub copies-here : (N : Network) (w : NetworkState) (c : ℕ) (x : Delivery) → copies_at N (arrives w c x) c ≡ copies_at N w c ++ cons_option (copy_of (N.clock c) (ports N c) x) []
+pub copies-here : (N : Network) (w : NetworkState) (c : ℕ) (x : Delivery)
+    → copies_at N (arrives w c x) c
+    ≡ copies_at N w c ++ cons_option (copy_of (N.clock c) (ports N c) x) []
 copies-here N w c x =
     ap (copies (N.clock c) (ports N c)) (with_place-same w.arrivals c (w.arrivals c ++ x ∷ []) c (eq-eqb c c refl))
     ∙ filter_map-append (copy_of (N.clock c) (ports N c)) (w.arrivals c) (x ∷ [])
 
-pub copies-elsewhere : (N : Network) (w : NetworkState) (c : ℕ) (x : Delivery) (d : ℕ) → d == c ≡ false → copies_at N (arrives w c x) d ≡ copies_at N w d
+pub copies-elsewhere : (N : Network) (w : NetworkState) (c : ℕ) (x : Delivery) (d : ℕ)
+    → d == c ≡ false
+    → copies_at N (arrives w c x) d ≡ copies_at N w d
 copies-elsewhere N w c x d n = ap (copies (N.clock d) (ports N d)) (with_place-other w.arrivals c (w.arrivals c ++ x ∷ []) d n)
 
 -- where a delivery leads, of which there is a copy or none
@@ -113,21 +130,27 @@ abbrev pub after_arrival : Clock → History → Option RequestCopy → History
 after_arrival c h None = h
 after_arrival c h (Some copy) = after_copy c h copy
 
-applied_once-arrival : (c : Clock) (h : History) (ks : List RequestCopy) (o : Option RequestCopy) → applied_once c h (ks ++ cons_option o []) ≡ after_arrival c (applied_once c h ks) o
+applied_once-arrival : (c : Clock) (h : History) (ks : List RequestCopy) (o : Option RequestCopy)
+    → applied_once c h (ks ++ cons_option o []) ≡ after_arrival c (applied_once c h ks) o
 applied_once-arrival c h [] None = refl
 applied_once-arrival c h [] (Some k) = refl
 applied_once-arrival c h (j ∷ js) o = applied_once-arrival c (after_copy c h j) js o
 
-pub history-here : (N : Network) (w : NetworkState) (c : ℕ) (x : Delivery) → history N (arrives w c x) c ≡ after_arrival (N.clock c) (history N w c) (copy_of (N.clock c) (ports N c) x)
+pub history-here : (N : Network) (w : NetworkState) (c : ℕ) (x : Delivery)
+    → history N (arrives w c x) c
+    ≡ after_arrival (N.clock c) (history N w c) (copy_of (N.clock c) (ports N c) x)
 history-here N w c x =
     ap (applied_once (N.clock c) (initial_history (N.start c))) (copies-here N w c x)
     ∙ applied_once-arrival (N.clock c) (initial_history (N.start c)) (copies_at N w c) (copy_of (N.clock c) (ports N c) x)
 
-pub history-elsewhere : (N : Network) (w : NetworkState) (c : ℕ) (x : Delivery) (d : ℕ) → d == c ≡ false → history N (arrives w c x) d ≡ history N w d
+pub history-elsewhere : (N : Network) (w : NetworkState) (c : ℕ) (x : Delivery) (d : ℕ)
+    → d == c ≡ false
+    → history N (arrives w c x) d ≡ history N w d
 history-elsewhere N w c x d n = ap (applied_once (N.clock d) (initial_history (N.start d))) (copies-elsewhere N w c x d n)
 
 -- a clock keeps its number of ports
-pub history-ports : (N : Network) (w : NetworkState) (c : ℕ) → length (history N w c).sets.ports ≡ ports N c
+pub history-ports : (N : Network) (w : NetworkState) (c : ℕ)
+    → length (history N w c).sets.ports ≡ ports N c
 history-ports N w c = applied_once-ports (N.clock c) (initial_history (N.start c)) (copies_at N w c)
 
 -- a copy joins
@@ -140,7 +163,13 @@ pub record JoinsAt (N : Network) (w : NetworkState) (c port : ℕ) (f : Frame) :
 abbrev HereAfter : Network → NetworkState → ℕ → ℕ → Frame → Type 0
 HereAfter N w c port f = (history N (arrives w c (delivery port f)) c ≡ history N w c) ⊎ JoinsAt N w c port f
 
-here_by : (N : Network) (w : NetworkState) (c port : ℕ) (f : Frame) (o : Option RequestCopy) → IsNetwork N → IsReached N w → c < N.clocks → IsHeard N w f.octets f.origin → copy_of (N.clock c) (ports N c) (delivery port f) ≡ o → HereAfter N w c port f
+here_by : (N : Network) (w : NetworkState) (c port : ℕ) (f : Frame) (o : Option RequestCopy)
+    → IsNetwork N
+    → IsReached N w
+    → c < N.clocks
+    → IsHeard N w f.octets f.origin
+    → copy_of (N.clock c) (ports N c) (delivery port f) ≡ o
+    → HereAfter N w c port f
 here_by N w c port f None n r place i e =
     inl (history-here N w c (delivery port f) ∙ ap (after_arrival (N.clock c) (history N w c)) e)
 here_by N w c port f (Some copy) n r place i e =
@@ -156,19 +185,36 @@ here_by N w c port f (Some copy) n r place i e =
     (λ (f : joins (history N w c) copy ≡ false). inl (is ∙ cond-false _ _ _ f))
     (cases_Bool (joins (history N w c) copy))
 
-pub here_after : (N : Network) (w : NetworkState) (c port : ℕ) (f : Frame) → IsNetwork N → IsReached N w → c < N.clocks → IsHeard N w f.octets f.origin → HereAfter N w c port f
+pub here_after : (N : Network) (w : NetworkState) (c port : ℕ) (f : Frame)
+    → IsNetwork N
+    → IsReached N w
+    → c < N.clocks
+    → IsHeard N w f.octets f.origin
+    → HereAfter N w c port f
 here_after N w c port f n r place i = here_by N w c port f (copy_of (N.clock c) (ports N c) (delivery port f)) n r place i refl
 
 -- ---- data sets stay data sets
 
-clock-after : (N : Network) (w : NetworkState) (c port : ℕ) (f : Frame) → IsNetwork N → IsReached N w → c < N.clocks → IsHeard N w f.octets f.origin → AreDataSets (ports N c) (history N (arrives w c (delivery port f)) c).sets
+clock-after : (N : Network) (w : NetworkState) (c port : ℕ) (f : Frame)
+    → IsNetwork N
+    → IsReached N w
+    → c < N.clocks
+    → IsHeard N w f.octets f.origin
+    → AreDataSets (ports N c) (history N (arrives w c (delivery port f)) c).sets
 clock-after N w c port f n r place i = ⊎_elim
     (λ (e : history N (arrives w c (delivery port f)) c ≡ history N w c). subst (λ (h : History). AreDataSets (ports N c) h.sets) (sym e) (r.clocks c place))
     (λ (j : JoinsAt N w c port f). subst (λ (h : History). AreDataSets (ports N c) h.sets) (sym j.is)
     (kept j.copy.request ((N.clock c).rights j.copy.heard.source) (ports N c) (history N w c).sets (r.clocks c place)))
     (here_after N w c port f n r place i)
 
-clocks-after : (N : Network) (w : NetworkState) (c port : ℕ) (f : Frame) → IsNetwork N → IsReached N w → c < N.clocks → IsHeard N w f.octets f.origin → (d : ℕ) → d < N.clocks → AreDataSets (ports N d) (history N (arrives w c (delivery port f)) d).sets
+clocks-after : (N : Network) (w : NetworkState) (c port : ℕ) (f : Frame)
+    → IsNetwork N
+    → IsReached N w
+    → c < N.clocks
+    → IsHeard N w f.octets f.origin
+    → (d : ℕ)
+    → d < N.clocks
+    → AreDataSets (ports N d) (history N (arrives w c (delivery port f)) d).sets
 clocks-after N w c port f n r place i d exists = ⊎_elim
     (λ (y : d == c ≡ true). subst (λ j. AreDataSets (ports N j) (history N (arrives w c (delivery port f)) j).sets) (sym (eqb-true d c y)) (clock-after N w c port f n r place i))
     (λ (o : d == c ≡ false). subst (λ (h : History). AreDataSets (ports N d) h.sets) (sym (history-elsewhere N w c (delivery port f) d o)) (r.clocks d exists))
@@ -185,7 +231,12 @@ pub record Gains (m : PortIdentity) (begun : List RequestValue) (new old : List 
 abbrev pub StaysOrGains : PortIdentity → List RequestValue → List Accepted → List Accepted → Type 0
 StaysOrGains m begun new old = (new ≡ old) ⊎ Gains m begun new old
 
-joins-own : (N : Network) (w : NetworkState) (c port : ℕ) (f : Frame) → IsReached N w → c < N.clocks → (j : JoinsAt N w c port f) → JoinsOwn (manager N j.of.session) (w.session j.of.session).begun (accepted_from (N.clock c) (history N w c) j.copy)
+joins-own : (N : Network) (w : NetworkState) (c port : ℕ) (f : Frame)
+    → IsReached N w
+    → c < N.clocks
+    → (j : JoinsAt N w c port f)
+    → JoinsOwn (manager N j.of.session) (w.session j.of.session).begun
+    (accepted_from (N.clock c) (history N w c) j.copy)
 joins-own N w c port f r place j =
     let says = j.of.says in
     let asked = says.asked in
@@ -200,8 +251,15 @@ joins-own N w c port f r place j =
           (subst (λ (q : RequestValue). IsForOne (ports N c) q) (sym j.of.request) (subst (λ p. IsForOne p says.request) of_ports asked.one));
     }
 
-gains-here : (N : Network) (w : NetworkState) (c port : ℕ) (f : Frame) → IsNetwork N → IsReached N w → c < N.clocks → IsHeard N w f.octets f.origin → (t : ℕ) → t < N.sessions
-    → StaysOrGains (manager N t) (w.session t).begun (history N (arrives w c (delivery port f)) c).accepted (history N w c).accepted
+gains-here : (N : Network) (w : NetworkState) (c port : ℕ) (f : Frame)
+    → IsNetwork N
+    → IsReached N w
+    → c < N.clocks
+    → IsHeard N w f.octets f.origin
+    → (t : ℕ)
+    → t < N.sessions
+    → StaysOrGains (manager N t) (w.session t).begun
+    (history N (arrives w c (delivery port f)) c).accepted (history N w c).accepted
 gains-here N w c port f n r place i t exists = ⊎_elim
     (λ (e : history N (arrives w c (delivery port f)) c ≡ history N w c). inl (ap (λ (h : History). h.accepted) e))
     (λ (j : JoinsAt N w c port f). inr (record {
@@ -214,8 +272,15 @@ gains-here N w c port f n r place i t exists = ⊎_elim
     }))
     (here_after N w c port f n r place i)
 
-pub gains : (N : Network) (w : NetworkState) (c port : ℕ) (f : Frame) → IsNetwork N → IsReached N w → c < N.clocks → IsHeard N w f.octets f.origin → (t : ℕ) → t < N.sessions
-    → StaysOrGains (manager N t) (w.session t).begun (accepted_at_target N (arrives w c (delivery port f)) t) (accepted_at_target N w t)
+pub gains : (N : Network) (w : NetworkState) (c port : ℕ) (f : Frame)
+    → IsNetwork N
+    → IsReached N w
+    → c < N.clocks
+    → IsHeard N w f.octets f.origin
+    → (t : ℕ)
+    → t < N.sessions
+    → StaysOrGains (manager N t) (w.session t).begun
+    (accepted_at_target N (arrives w c (delivery port f)) t) (accepted_at_target N w t)
 gains N w c port f n r place i t exists = ⊎_elim
     (λ (y : (N.session t).target == c ≡ true).
     subst (λ d. StaysOrGains (manager N t) (w.session t).begun (history N (arrives w c (delivery port f)) d).accepted (history N w d).accepted)
@@ -225,7 +290,12 @@ gains N w c port f n r place i t exists = ⊎_elim
 
 -- ---- the invariant, before the clock sends anything
 
-pub kept-stays : (N : Network) (w : NetworkState) (c port : ℕ) (f : Frame) → IsNetwork N → IsReached N w → c < N.clocks → IsHeard N w f.octets f.origin → KeptStays N w (arrives w c (delivery port f))
+pub kept-stays : (N : Network) (w : NetworkState) (c port : ℕ) (f : Frame)
+    → IsNetwork N
+    → IsReached N w
+    → c < N.clocks
+    → IsHeard N w f.octets f.origin
+    → KeptStays N w (arrives w c (delivery port f))
 kept-stays N w c port f n r place i t k e exists h = ⊎_elim
     (λ (q : accepted_at_target N (arrives w c (delivery port f)) t ≡ accepted_at_target N w t). ap (kept_reply (manager N t) k) q ∙ h)
     (λ (g : Gains (manager N t) (w.session t).begun (accepted_at_target N (arrives w c (delivery port f)) t) (accepted_at_target N w t)).
@@ -234,7 +304,12 @@ kept-stays N w c port f n r place i t k e exists h = ⊎_elim
     ∙ h)
     (gains N w c port f n r place i t exists)
 
-pub arrives-reached : (N : Network) (w : NetworkState) (c port : ℕ) (f : Frame) → IsNetwork N → IsReached N w → c < N.clocks → IsHeard N w f.octets f.origin → IsReached N (arrives w c (delivery port f))
+pub arrives-reached : (N : Network) (w : NetworkState) (c port : ℕ) (f : Frame)
+    → IsNetwork N
+    → IsReached N w
+    → c < N.clocks
+    → IsHeard N w f.octets f.origin
+    → IsReached N (arrives w c (delivery port f))
 arrives-reached N w c port f n r place i = record {
   sessions = λ t exists. ⊎_elim
       (λ (q : accepted_at_target N (arrives w c (delivery port f)) t ≡ accepted_at_target N w t).

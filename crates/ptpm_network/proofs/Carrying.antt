@@ -44,7 +44,9 @@ pub in_right : {X : Type 0} (xs ys : List X) (x : X) → IsIn ys x → IsIn (xs 
 in_right [] ys x p = p
 in_right (z ∷ xs) ys x p = let q = in_right xs ys x p in (suc q.0, q.1)
 
-in_map-at : {X Y : Type 0} (f : X → Y) (xs : List X) (i : ℕ) (x : X) → slice_get xs i ≡ Some x → slice_get (map f xs) i ≡ Some (f x)
+in_map-at : {X Y : Type 0} (f : X → Y) (xs : List X) (i : ℕ) (x : X)
+    → slice_get xs i ≡ Some x
+    → slice_get (map f xs) i ≡ Some (f x)
 in_map-at f [] i x e = absurd (cc)
 in_map-at f (y ∷ xs) zero x e = let q : y ≡ x = cc in ap (λ z. Some (f z)) q
 in_map-at f (y ∷ xs) (suc i) x e = in_map-at f xs i x e
@@ -52,15 +54,24 @@ in_map-at f (y ∷ xs) (suc i) x e = in_map-at f xs i x e
 pub in_map : {X Y : Type 0} (f : X → Y) (xs : List X) (x : X) → IsIn xs x → IsIn (map f xs) (f x)
 in_map f xs x p = (p.0, in_map-at f xs p.0 x p.1)
 
-in_flat-at : {X Y : Type 0} (f : X → List Y) (xs : List X) (i : ℕ) (x : X) (y : Y) → slice_get xs i ≡ Some x → IsIn (f x) y → IsIn (flat_map f xs) y
+in_flat-at : {X Y : Type 0} (f : X → List Y) (xs : List X) (i : ℕ) (x : X) (y : Y)
+    → slice_get xs i ≡ Some x
+    → IsIn (f x) y
+    → IsIn (flat_map f xs) y
 in_flat-at f [] i x y e p = absurd (cc)
 in_flat-at f (z ∷ xs) zero x y e p = let q : z ≡ x = cc in in_left (f z) (flat_map f xs) y (subst (λ a. IsIn (f a) y) (sym q) p)
 in_flat-at f (z ∷ xs) (suc i) x y e p = in_right (f z) (flat_map f xs) y (in_flat-at f xs i x y e p)
 
-pub in_flat : {X Y : Type 0} (f : X → List Y) (xs : List X) (x : X) (y : Y) → IsIn xs x → IsIn (f x) y → IsIn (flat_map f xs) y
+pub in_flat : {X Y : Type 0} (f : X → List Y) (xs : List X) (x : X) (y : Y)
+    → IsIn xs x
+    → IsIn (f x) y
+    → IsIn (flat_map f xs) y
 in_flat f xs x y p q = in_flat-at f xs p.0 x y p.1 q
 
-in_filter-at : {X : Type 0} (test : X → Bool) (xs : List X) (i : ℕ) (x : X) → slice_get xs i ≡ Some x → test x ≡ true → IsIn (filter test xs) x
+in_filter-at : {X : Type 0} (test : X → Bool) (xs : List X) (i : ℕ) (x : X)
+    → slice_get xs i ≡ Some x
+    → test x ≡ true
+    → IsIn (filter test xs) x
 in_filter-at test [] i x e t = absurd (cc)
 in_filter-at test (y ∷ xs) zero x e t =
     let q : y ≡ x = cc in
@@ -72,7 +83,10 @@ in_filter-at test (y ∷ xs) (suc i) x e t =
     (λ (h : test y ≡ false). subst (λ ys. IsIn ys x) (sym (cond-false _ _ _ h)) rest)
     (cases_Bool (test y))
 
-pub in_filter : {X : Type 0} (test : X → Bool) (xs : List X) (x : X) → IsIn xs x → test x ≡ true → IsIn (filter test xs) x
+pub in_filter : {X : Type 0} (test : X → Bool) (xs : List X) (x : X)
+    → IsIn xs x
+    → test x ≡ true
+    → IsIn (filter test xs) x
 in_filter test xs x p t = in_filter-at test xs p.0 x p.1 t
 
 in_range-at : (a n i : ℕ) → i < n → slice_get (range_with_len a n) i ≡ Some (a + i)
@@ -104,14 +118,18 @@ in_any e (d ∷ ends) y = ⊎_elim
 
 -- ---- the ports that a clock passes messages on at
 
-forwarding-at : (o : Option PortDataSet) → is_forwarding_port o ≡ true → (p : PortDataSet) × (o ≡ Some p)
+forwarding-at : (o : Option PortDataSet)
+    → is_forwarding_port o ≡ true
+    → (p : PortDataSet) × (o ≡ Some p)
 forwarding-at None y = absurd (false≢true y)
 forwarding-at (Some p) y = (p, refl)
 
 between : (q n : ℕ) → (q ≡ 0 → ⊥) → q - 1 < n → (1 ≤ q) × (q ≤ n)
 between q n a b = (omega arith, omega arith)
 
-forwarding-exists : (q : ℕ) (d : DataSetsValue) → may_forward q d ≡ true → (1 ≤ q) × (q ≤ length d.ports)
+forwarding-exists : (q : ℕ) (d : DataSetsValue)
+    → may_forward q d ≡ true
+    → (1 ≤ q) × (q ≤ length d.ports)
 forwarding-exists q d y = ⊎_elim
     (λ (z : q == 0 ≡ true). absurd (false≢true (sym (ap is_forwarding_port (cond-true _ _ _ z)) ∙ y)))
     (λ (n : q == 0 ≡ false).
@@ -119,7 +137,10 @@ forwarding-exists q d y = ⊎_elim
     between q (length d.ports) (eqb-false q 0 n) (slice_get_within d.ports (q - 1) some.0 some.1))
     (cases_Bool (q == 0))
 
-egress-in : (p q : ℕ) (d : DataSetsValue) → (q ≡ p → ⊥) → may_forward q d ≡ true → IsIn (egress_ports p d) q
+egress-in : (p q : ℕ) (d : DataSetsValue)
+    → (q ≡ p → ⊥)
+    → may_forward q d ≡ true
+    → IsIn (egress_ports p d) q
 egress-in p q d ne y =
     let exists = forwarding-exists q d y in
     in_filter (λ port. not (port == p) && may_forward port d) (range_with_len 1 (length d.ports)) q (in_range (length d.ports) q exists.0 exists.1)
@@ -127,7 +148,8 @@ egress-in p q d ne y =
 
 -- ---- how many frames a message makes at most
 
-length-filter_le : {X : Type 0} (test : X → Bool) (xs : List X) → length (filter test xs) ≤ length xs
+length-filter_le : {X : Type 0} (test : X → Bool) (xs : List X)
+    → length (filter test xs) ≤ length xs
 length-filter_le test [] = omega arith
 length-filter_le test (x ∷ xs) =
     let rest = length-filter_le test xs in
@@ -157,7 +179,9 @@ times-le zero k m le = omega arith
 times-le (suc n) zero m le = absurd (omega arith)
 times-le (suc n) (suc k) m le = omega (arith, times-le n k m (omega arith))
 
-flat-times : {X Y : Type 0} (f : X → List Y) (m : ℕ) (xs : List X) → ((x : X) → length (f x) ≤ m) → length (flat_map f xs) ≤ times (length xs) m
+flat-times : {X Y : Type 0} (f : X → List Y) (m : ℕ) (xs : List X)
+    → ((x : X) → length (f x) ≤ m)
+    → length (flat_map f xs) ≤ times (length xs) m
 flat-times f m [] each = omega arith
 flat-times f m (x ∷ xs) each = omega (arith, length-append (f x) (flat_map f xs), each x, flat-times f m xs each)
 
@@ -178,7 +202,9 @@ at_most-made made n most a le = omega (arith, a, times-le n 8 (most / 8) le, eig
 abbrev pub MakesAtMost : Network → ℕ → Type 0
 MakesAtMost N most = (e : End) → 8 * length (peers N.links e) ≤ most
 
-few-peers : (ends : ℕ) (links : List (List End)) (e : End) → AllByRecursion (λ link. length link ≤ ends) links → length (peers links e) ≤ ends
+few-peers : (ends : ℕ) (links : List (List End)) (e : End)
+    → AllByRecursion (λ link. length link ≤ ends) links
+    → length (peers links e) ≤ ends
 few-peers ends [] e all = omega arith
 few-peers ends (link ∷ links) e all = ⊎_elim
     (λ (y : list_any (same_end e) link ≡ true).
@@ -186,10 +212,15 @@ few-peers ends (link ∷ links) e all = ⊎_elim
     (λ (n : list_any (same_end e) link ≡ false). subst (λ es. length es ≤ ends) (sym (cond-false _ _ _ n)) (few-peers ends links e all.1))
     (cases_Bool (list_any (same_end e) link))
 
-pub few-made : (N : Network) (ends : ℕ) → LinksHaveAtMost N ends → MakesAtMost N (passed_at_most ends)
+pub few-made : (N : Network) (ends : ℕ)
+    → LinksHaveAtMost N ends
+    → MakesAtMost N (passed_at_most ends)
 few-made N ends all e = let few = few-peers ends N.links e all in omega (arith, few)
 
-pub few-forwarded : (N : Network) (most c : ℕ) (f : Frame) (sent : List (ℕ × List ℕ)) → MakesAtMost N most → length sent ≤ 8 → length (forwarded_frames N c f sent) ≤ most
+pub few-forwarded : (N : Network) (most c : ℕ) (f : Frame) (sent : List (ℕ × List ℕ))
+    → MakesAtMost N most
+    → length sent ≤ 8
+    → length (forwarded_frames N c f sent) ≤ most
 few-forwarded N most c f sent few le =
     at_most-made (length (forwarded_frames N c f sent)) (length sent) most
     (flat-times (λ (m : ℕ × List ℕ). frames_to (peers N.links (AtPort c m.0)) m.1 f.origin f.first_hops (f.forwardings + 1)) (most / 8) sent
@@ -207,7 +238,13 @@ pub record IsPassing (me : ClockIdentity) (octets : List ℕ) : Type 0 where
   pub target : message.target.clock ≡ me → ⊥
   pub every : message.target.clock ≡ every_clock → ⊥
 
-pub request-passing : (N : Network) (w : NetworkState) (s k c : ℕ) (octets : List ℕ) → IsNetwork N → IsReached N w → c < N.clocks → (c ≡ (N.session s).target → ⊥) → IsOfOrigin N w octets (RequestOf s k) → IsPassing (N.clock c).identity octets
+pub request-passing : (N : Network) (w : NetworkState) (s k c : ℕ) (octets : List ℕ)
+    → IsNetwork N
+    → IsReached N w
+    → c < N.clocks
+    → (c ≡ (N.session s).target → ⊥)
+    → IsOfOrigin N w octets (RequestOf s k)
+    → IsPassing (N.clock c).identity octets
 request-passing N w s k c octets n r exists ne i =
     let says = says_request N w s k octets n r i in
     let session = n.are_sessions s says.place in
@@ -221,7 +258,13 @@ request-passing N w s k c octets n r exists ne i =
       every = λ (h : (N.session s).setup.target ≡ every_clock). (n.are_clocks (N.session s).target session.exists).is_one (sym session.target ∙ h);
     }
 
-pub reply-passing : (N : Network) (w : NetworkState) (s k c : ℕ) (octets : List ℕ) → IsNetwork N → IsReached N w → c < N.clocks → (c ≡ (N.session s).target → ⊥) → IsOfOrigin N w octets (ReplyTo s k) → IsPassing (N.clock c).identity octets
+pub reply-passing : (N : Network) (w : NetworkState) (s k c : ℕ) (octets : List ℕ)
+    → IsNetwork N
+    → IsReached N w
+    → c < N.clocks
+    → (c ≡ (N.session s).target → ⊥)
+    → IsOfOrigin N w octets (ReplyTo s k)
+    → IsPassing (N.clock c).identity octets
 reply-passing N w s k c octets n r exists ne i =
     let says = says_reply N w s k octets n r i in
     let session = n.are_sessions s says.place in
@@ -246,7 +289,10 @@ pub record MayPass (d : DataSetsValue) (p q : ℕ) (octets : List ℕ) : Type 0 
   pub ingress : may_forward p d ≡ true
   pub egress : may_forward q d ≡ true
 
-passing-forwarded : (me : ClockIdentity) (p q : ℕ) (d : DataSetsValue) (octets : List ℕ) → IsPassing me octets → MayPass d p q octets → forwarded me p d octets ≡ map (λ port. (port, with_less_hop octets)) (egress_ports p d)
+passing-forwarded : (me : ClockIdentity) (p q : ℕ) (d : DataSetsValue) (octets : List ℕ)
+    → IsPassing me octets
+    → MayPass d p q octets
+    → forwarded me p d octets ≡ map (λ port. (port, with_less_hop octets)) (egress_ports p d)
 unfolding forwarded
 passing-forwarded me p q d octets v may =
     let m : Message = v.message in
@@ -259,13 +305,17 @@ passing-forwarded me p q d octets v may =
     (and_from (not (same_clock m.target.clock me)) _ (ap not (clocks_apart m.target.clock me v.target))
     (and_from (nat_lt 0 m.hops) (may_forward p d) (lt-ltb 0 m.hops hop) may.ingress)))))
 
-passing-no_copy : (c : Clock) (count p : ℕ) (f : Frame) → IsPassing c.identity f.octets → copy_of c count (delivery p f) ≡ None
+passing-no_copy : (c : Clock) (count p : ℕ) (f : Frame)
+    → IsPassing c.identity f.octets
+    → copy_of c count (delivery p f) ≡ None
 passing-no_copy c count p f v =
     let m : Message = v.message in
     ap (copy_by c count (delivery p f)) v.read
     ∙ cond-false _ _ _ (and_right (m.sdo == 0) _ (and_right (not (is_own c m)) _ (and_right (is_known m.source c.managers) _ (and_left (is_for_this_clock c m) _ (clocks_apart m.target.clock c.identity v.target)))))
 
-passing-not_read : (c : Clock) (d : DataSetsValue) (p : ℕ) (octets : List ℕ) → IsPassing c.identity octets → read_messages c d p (message_of octets) ≡ []
+passing-not_read : (c : Clock) (d : DataSetsValue) (p : ℕ) (octets : List ℕ)
+    → IsPassing c.identity octets
+    → read_messages c d p (message_of octets) ≡ []
 passing-not_read c d p octets v =
     let m : Message = v.message in
     ap (read_messages c d p) v.read
@@ -273,8 +323,12 @@ passing-not_read c d p octets v =
     (and_left (is_addressed c d m) _ (and_left (is_for_this_clock c m || same_clock m.target.clock every_clock) (names_port (length d.ports) m.target.port)
     (or_from (is_for_this_clock c m) (same_clock m.target.clock every_clock) (clocks_apart m.target.clock c.identity v.target) (clocks_apart m.target.clock every_clock v.every)))))))
 
-made-passing : (N : Network) (w : NetworkState) (c p q : ℕ) (f : Frame) → IsPassing (N.clock c).identity f.octets → MayPass (history N w c).sets p q f.octets
-    → made_frames N c (history N w c) p f ≡ forwarded_frames N c f (map (λ port. (port, with_less_hop f.octets)) (egress_ports p (history N w c).sets))
+made-passing : (N : Network) (w : NetworkState) (c p q : ℕ) (f : Frame)
+    → IsPassing (N.clock c).identity f.octets
+    → MayPass (history N w c).sets p q f.octets
+    → made_frames N c (history N w c) p f
+    ≡ forwarded_frames N c f
+    (map (λ port. (port, with_less_hop f.octets)) (egress_ports p (history N w c).sets))
 made-passing N w c p q f v may =
     let h : History = history N w c in
     let sent : List (ℕ × List ℕ) = map (λ port. (port, with_less_hop f.octets)) (egress_ports p h.sets) in
@@ -284,7 +338,9 @@ made-passing N w c p q f v may =
     ∙ append-nil (forwarded_frames N c f sent)
 
 -- no clock's history changes
-pub passing-history : (N : Network) (w : NetworkState) (c p : ℕ) (f : Frame) (d : ℕ) → IsPassing (N.clock c).identity f.octets → history N (delivered_at_clock N w c p f) d ≡ history N w d
+pub passing-history : (N : Network) (w : NetworkState) (c p : ℕ) (f : Frame) (d : ℕ)
+    → IsPassing (N.clock c).identity f.octets
+    → history N (delivered_at_clock N w c p f) d ≡ history N w d
 passing-history N w c p f d v = ⊎_elim
     (λ (y : d == c ≡ true).
     subst (λ j. history N (arrives w c (delivery p f)) j ≡ history N w j) (sym (eqb-true d c y))
@@ -296,7 +352,10 @@ passing-history N w c p f d v = ⊎_elim
 abbrev pub passed_copy : Frame → End → Frame
 passed_copy f e = record { end = e; octets = with_less_hop f.octets; origin = f.origin; first_hops = f.first_hops; forwardings = f.forwardings + 1 }
 
-pub passing-made : (N : Network) (w : NetworkState) (c p q : ℕ) (f : Frame) (e : End) → IsPassing (N.clock c).identity f.octets → MayPass (history N w c).sets p q f.octets → list_any (same_end e) (peers N.links (AtPort c q)) ≡ true
+pub passing-made : (N : Network) (w : NetworkState) (c p q : ℕ) (f : Frame) (e : End)
+    → IsPassing (N.clock c).identity f.octets
+    → MayPass (history N w c).sets p q f.octets
+    → list_any (same_end e) (peers N.links (AtPort c q)) ≡ true
     → IsIn (delivered_at_clock N w c p f).frames (passed_copy f e)
 passing-made N w c p q f e v may link =
     let d = (history N w c).sets in
@@ -313,7 +372,11 @@ add_most a b most le = omega arith
 few-ports : (n : ℕ) (d : DataSetsValue) → AreDataSets n d → length d.ports ≤ 8
 few-ports n d sets = let eight = sets.at_most_eight in let are = sets.ports_are in omega (arith, eight, are)
 
-pub passing-few : (N : Network) (w : NetworkState) (most c p q : ℕ) (f : Frame) → MakesAtMost N most → AreDataSets (ports N c) (history N w c).sets → IsPassing (N.clock c).identity f.octets → MayPass (history N w c).sets p q f.octets
+pub passing-few : (N : Network) (w : NetworkState) (most c p q : ℕ) (f : Frame)
+    → MakesAtMost N most
+    → AreDataSets (ports N c) (history N w c).sets
+    → IsPassing (N.clock c).identity f.octets
+    → MayPass (history N w c).sets p q f.octets
     → length (delivered_at_clock N w c p f).frames ≤ length w.frames + most
 passing-few N w most c p q f few sets v may =
     let d = (history N w c).sets in
@@ -324,10 +387,14 @@ passing-few N w most c p q f few sets v may =
     subst (λ n. n ≤ length w.frames + most) (sym all) (add_most (length w.frames) (length (made_frames N c (history N w c) p f)) most made)
 
 -- a hop less, in the same domain
-pub passed-hops : (me : ClockIdentity) (octets : List ℕ) → IsPassing me octets → boundary_hops (with_less_hop octets) ≡ boundary_hops octets - 1
+pub passed-hops : (me : ClockIdentity) (octets : List ℕ)
+    → IsPassing me octets
+    → boundary_hops (with_less_hop octets) ≡ boundary_hops octets - 1
 passed-hops me octets v = less_hop-hops v.message octets v.read
 
-pub passed-domain : (me : ClockIdentity) (octets : List ℕ) → IsPassing me octets → domain_number (with_less_hop octets) ≡ domain_number octets
+pub passed-domain : (me : ClockIdentity) (octets : List ℕ)
+    → IsPassing me octets
+    → domain_number (with_less_hop octets) ≡ domain_number octets
 passed-domain me octets v =
     let m : Message = v.message in
     let less = less_hop-message m octets v.read v.fits in

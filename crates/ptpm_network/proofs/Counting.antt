@@ -42,7 +42,9 @@ one_of_sixteen : (few all : ℕ) → few < all → all ≤ 16 → few ≤ 15
 one_of_sixteen few all a b = omega arith
 
 -- a link takes it to fifteen other ends at most
-peers-few : (N : Network) (links : List (List End)) (e : End) → AllByRecursion (IsLink N) links → length (peers links e) ≤ 15
+peers-few : (N : Network) (links : List (List End)) (e : End)
+    → AllByRecursion (IsLink N) links
+    → length (peers links e) ≤ 15
 peers-few N [] e a = omega arith
 peers-few N (link ∷ links) e a = ⊎_elim
     (λ (y : list_any (same_end e) link ≡ true).
@@ -50,24 +52,37 @@ peers-few N (link ∷ links) e a = ⊎_elim
     (λ (n : list_any (same_end e) link ≡ false). subst (λ (es : List End). length es ≤ 15) (sym (cond-false _ _ _ n)) (peers-few N links e a.1))
     (cases_Bool (list_any (same_end e) link))
 
-frames_to-few : (N : Network) (e : End) (octets : List ℕ) (o : Origin) (first_hops forwardings : ℕ) → IsNetwork N → length (frames_to (peers N.links e) octets o first_hops forwardings) ≤ 15
+frames_to-few : (N : Network) (e : End) (octets : List ℕ) (o : Origin) (first_hops forwardings : ℕ)
+    → IsNetwork N
+    → length (frames_to (peers N.links e) octets o first_hops forwardings) ≤ 15
 frames_to-few N e octets o first_hops forwardings n =
     subst (λ k. k ≤ 15) (sym (length-map (peers N.links e) _)) (peers-few N N.links e n.are_links)
 
-sent-few : (N : Network) (s k : ℕ) (o : Option Message) → IsNetwork N → length (sent_frames (peers N.links (AtSession s)) s k o) ≤ 15
+sent-few : (N : Network) (s k : ℕ) (o : Option Message)
+    → IsNetwork N
+    → length (sent_frames (peers N.links (AtSession s)) s k o) ≤ 15
 sent-few N s k None n = omega arith
 sent-few N s k (Some v) n = frames_to-few N (AtSession s) (canonical v) _ (boundary_hops (canonical v)) 0 n
 
-forwarded_frames-few : (N : Network) (c : ℕ) (f : Frame) (sent : List (ℕ × List ℕ)) → IsNetwork N → length (forwarded_frames N c f sent) ≤ 15 * length sent
+forwarded_frames-few : (N : Network) (c : ℕ) (f : Frame) (sent : List (ℕ × List ℕ))
+    → IsNetwork N
+    → length (forwarded_frames N c f sent) ≤ 15 * length sent
 forwarded_frames-few N c f sent n = flat-few _ (λ m. frames_to-few N (AtPort c m.0) m.1 f.origin f.first_hops (f.forwardings + 1) n) sent
 
-reply_frames-few : (N : Network) (c : ℕ) (o : Origin) (sent : List (ℕ × List ℕ)) → IsNetwork N → length (reply_frames N c o sent) ≤ 15 * length sent
+reply_frames-few : (N : Network) (c : ℕ) (o : Origin) (sent : List (ℕ × List ℕ))
+    → IsNetwork N
+    → length (reply_frames N c o sent) ≤ 15 * length sent
 reply_frames-few N c o sent n = flat-few _ (λ m. frames_to-few N (AtPort c m.0) m.1 o (boundary_hops m.1) 0 n) sent
 
 -- ---- one turn of a clock
 
 -- at most seven copies are passed on
-forwarded_by-few : (me : ClockIdentity) (port : ℕ) (d : DataSetsValue) (octets : List ℕ) (o : Option Message) → 1 ≤ port → port ≤ length d.ports → length d.ports ≤ 8 → length (forwarded_by me port d octets o) ≤ 7
+forwarded_by-few : (me : ClockIdentity) (port : ℕ) (d : DataSetsValue) (octets : List ℕ)
+    (o : Option Message)
+    → 1 ≤ port
+    → port ≤ length d.ports
+    → length d.ports ≤ 8
+    → length (forwarded_by me port d octets o) ≤ 7
 forwarded_by-few me port d octets None low high eight = omega arith
 forwarded_by-few me port d octets (Some v) low high eight = ⊎_elim
     (λ (y : is_forwarded me port d v ≡ true).
@@ -76,17 +91,27 @@ forwarded_by-few me port d octets (Some v) low high eight = ⊎_elim
     (λ (n : is_forwarded me port d v ≡ false). subst (λ (sent : List (ℕ × List ℕ)). length sent ≤ 7) (sym (cond-false _ _ _ n)) (omega arith))
     (cases_Bool (is_forwarded me port d v))
 
-forwarded-few : (me : ClockIdentity) (port : ℕ) (d : DataSetsValue) (octets : List ℕ) → 1 ≤ port → port ≤ length d.ports → length d.ports ≤ 8 → length (forwarded me port d octets) ≤ 7
+forwarded-few : (me : ClockIdentity) (port : ℕ) (d : DataSetsValue) (octets : List ℕ)
+    → 1 ≤ port
+    → port ≤ length d.ports
+    → length d.ports ≤ 8
+    → length (forwarded me port d octets) ≤ 7
 unfolding forwarded
 forwarded-few me port d octets low high eight = forwarded_by-few me port d octets (message_of octets) low high eight
 
-length-rendered : (me : ClockIdentity) (heard : Heard) (r : ReplyValue) (ingress : ℕ) → length (rendered me heard r ingress) ≡ length r.answers
+length-rendered : (me : ClockIdentity) (heard : Heard) (r : ReplyValue) (ingress : ℕ)
+    → length (rendered me heard r ingress) ≡ length r.answers
 unfolding rendered
 length-rendered me heard r ingress = length-map r.answers _
 
 -- the reply that is due to a numbered copy has one answer
-due-few : (N : Network) (w : NetworkState) (c port : ℕ) (f : Frame) (copy : RequestCopy) (o : Option ReplyValue) → IsReached N (arrives w c (delivery port f)) → IsCopyOf N w c port f copy
-    → copy_of (N.clock c) (ports N c) (delivery port f) ≡ Some copy → due_reply (N.clock c) (history N w c) copy ≡ o → length (due_messages (N.clock c) copy o) ≤ 8
+due-few : (N : Network) (w : NetworkState) (c port : ℕ) (f : Frame) (copy : RequestCopy)
+    (o : Option ReplyValue)
+    → IsReached N (arrives w c (delivery port f))
+    → IsCopyOf N w c port f copy
+    → copy_of (N.clock c) (ports N c) (delivery port f) ≡ Some copy
+    → due_reply (N.clock c) (history N w c) copy ≡ o
+    → length (due_messages (N.clock c) copy o) ≤ 8
 due-few N w c port f copy None reached of e d = omega arith
 due-few N w c port f copy (Some r) reached of e d =
     let keeps = keeps_due N w c port f copy r reached of e d in
@@ -94,7 +119,9 @@ due-few N w c port f copy (Some r) reached of e d =
     omega (arith, length-rendered (N.clock c).identity copy.heard r copy.ingress, one)
 
 -- and what is read has at most eight
-read-few : (c : Clock) (d : DataSetsValue) (port : ℕ) (o : Option Message) → length d.ports ≤ 8 → length (read_messages c d port o) ≤ 8
+read-few : (c : Clock) (d : DataSetsValue) (port : ℕ) (o : Option Message)
+    → length d.ports ≤ 8
+    → length (read_messages c d port o) ≤ 8
 read-few c d port None eight = omega arith
 read-few c d port (Some v) eight = ⊎_elim
     (λ (y : is_read c d v ≡ true).
@@ -103,16 +130,33 @@ read-few c d port (Some v) eight = ⊎_elim
     (λ (n : is_read c d v ≡ false). subst (λ (sent : List (ℕ × List ℕ)). length sent ≤ 8) (sym (cond-false _ _ _ n)) (omega arith))
     (cases_Bool (is_read c d v))
 
-answers-few : (N : Network) (w : NetworkState) (c port : ℕ) (f : Frame) (o : Option RequestCopy) → IsNetwork N → IsReached N w → c < N.clocks → IsHeard N w f.octets f.origin → length (history N w c).sets.ports ≤ 8
-    → copy_of (N.clock c) (ports N c) (delivery port f) ≡ o → length (answer_messages (N.clock c) (history N w c) port f.octets o) ≤ 8
+answers-few : (N : Network) (w : NetworkState) (c port : ℕ) (f : Frame) (o : Option RequestCopy)
+    → IsNetwork N
+    → IsReached N w
+    → c < N.clocks
+    → IsHeard N w f.octets f.origin
+    → length (history N w c).sets.ports ≤ 8
+    → copy_of (N.clock c) (ports N c) (delivery port f) ≡ o
+    → length (answer_messages (N.clock c) (history N w c) port f.octets o) ≤ 8
 answers-few N w c port f None n r place i eight e = read-few (N.clock c) (history N w c).sets port (message_of f.octets) eight
 answers-few N w c port f (Some copy) n r place i eight e =
     due-few N w c port f copy (due_reply (N.clock c) (history N w c) copy) (arrives-reached N w c port f n r place i) (is_copy_of N w c port f copy n r place i e) e refl
 
-all_few : (made a b sent told : ℕ) → made ≡ a + b → a ≤ 15 * sent → b ≤ 15 * told → sent ≤ 7 → told ≤ 8 → made ≤ 225
+all_few : (made a b sent told : ℕ)
+    → made ≡ a + b
+    → a ≤ 15 * sent
+    → b ≤ 15 * told
+    → sent ≤ 7
+    → told ≤ 8
+    → made ≤ 225
 all_few made a b sent told e x y p q = omega arith
 
-made-few : (N : Network) (w : NetworkState) (c port : ℕ) (f : Frame) → IsNetwork N → IsReached N w → HasEnd N (AtPort c port) → IsHeard N w f.octets f.origin → length (made_frames N c (history N w c) port f) ≤ 225
+made-few : (N : Network) (w : NetworkState) (c port : ℕ) (f : Frame)
+    → IsNetwork N
+    → IsReached N w
+    → HasEnd N (AtPort c port)
+    → IsHeard N w f.octets f.origin
+    → length (made_frames N c (history N w c) port f) ≤ 225
 made-few N w c port f n r end i =
     let h = history N w c in
     let sets = r.clocks c end.0 in
@@ -136,18 +180,32 @@ more xs ys few = omega (arith, length-append xs ys, few)
 no_more : (n : ℕ) → n ≤ n + 225
 no_more n = omega arith
 
-delivered_at-few : (N : Network) (w : NetworkState) (f : Frame) (e : End) → IsNetwork N → IsReached N w → IsFrame N w f → HasEnd N e → length (delivered_at N w f e).frames ≤ length w.frames + 225
+delivered_at-few : (N : Network) (w : NetworkState) (f : Frame) (e : End)
+    → IsNetwork N
+    → IsReached N w
+    → IsFrame N w f
+    → HasEnd N e
+    → length (delivered_at N w f e).frames ≤ length w.frames + 225
 delivered_at-few N w f (AtPort c port) n r i end = more w.frames _ (made-few N w c port f n r end (heard-frame N w f.octets f.origin i.origin))
 delivered_at-few N w f (AtSession s) n r i end = no_more (length w.frames)
 
-delivered-few : (N : Network) (w : NetworkState) (k : ℕ) (o : Option Frame) → IsNetwork N → IsReached N w → frame_at w.frames k ≡ o → length (delivered N w o).frames ≤ length w.frames + 225
+delivered-few : (N : Network) (w : NetworkState) (k : ℕ) (o : Option Frame)
+    → IsNetwork N
+    → IsReached N w
+    → frame_at w.frames k ≡ o
+    → length (delivered N w o).frames ≤ length w.frames + 225
 delivered-few N w k None n r e = no_more (length w.frames)
 delivered-few N w k (Some f) n r e = let i = frame_at-is N w k f r e in delivered_at-few N w f f.end n r i i.end
 
 at_most_fifteen : (n : ℕ) → n ≤ 15 → n ≤ 225
 at_most_fifteen n h = omega arith
 
-happens-few : (N : Network) (w : NetworkState) (e : Event) → IsNetwork N → IsReached N w → IsInRange e → refusal N w e ≡ None → length (happens N w e).frames ≤ length w.frames + 225
+happens-few : (N : Network) (w : NetworkState) (e : Event)
+    → IsNetwork N
+    → IsReached N w
+    → IsInRange e
+    → refusal N w e ≡ None
+    → length (happens N w e).frames ≤ length w.frames + 225
 unfolding refusal happens
 happens-few N w (Begin s a) n r i none = no_more (length w.frames)
 happens-few N w (Send s) n r i none =
@@ -170,7 +228,13 @@ filled : (old new : ℕ) → old ≤ 399775 → new ≤ old + 225 → new ≤ 40
 filled old new a b = omega arith
 
 -- an event that adds frames has room for them
-happens-within : (N : Network) (w : NetworkState) (e : Event) → IsNetwork N → IsReached N w → IsInRange e → refusal N w e ≡ None → length w.frames ≤ 400000 → length (happens N w e).frames ≤ 400000
+happens-within : (N : Network) (w : NetworkState) (e : Event)
+    → IsNetwork N
+    → IsReached N w
+    → IsInRange e
+    → refusal N w e ≡ None
+    → length w.frames ≤ 400000
+    → length (happens N w e).frames ≤ 400000
 unfolding refusal happens
 happens-within N w (Begin s a) n r i none within = within
 happens-within N w (Send s) n r i none within =
@@ -187,20 +251,39 @@ happens-within N w (Stranger c port datagram) n r i none within =
     let q = option_or-none (forged N datagram) (no_room w.frames) p.1 in
     filled (length w.frames) _ (room w.frames q.1) (happens-few N w (Stranger c port datagram) n r i none)
 
-step_by-within : (N : Network) (w : NetworkState) (e : Event) (o : Option Refusal) → refusal N w e ≡ o → IsNetwork N → IsReached N w → IsInRange e → length w.frames ≤ 400000 → length (step_by o N w e).frames ≤ 400000
+step_by-within : (N : Network) (w : NetworkState) (e : Event) (o : Option Refusal)
+    → refusal N w e ≡ o
+    → IsNetwork N
+    → IsReached N w
+    → IsInRange e
+    → length w.frames ≤ 400000
+    → length (step_by o N w e).frames ≤ 400000
 step_by-within N w e None h n r i within = happens-within N w e n r i h within
 step_by-within N w e (Some reason) h n r i within = within
 
-run-within : (N : Network) (w : NetworkState) (es : List Event) → IsNetwork N → IsReached N w → AllByRecursion IsInRange es → length w.frames ≤ 400000 → length (run N w es).frames ≤ 400000
+run-within : (N : Network) (w : NetworkState) (es : List Event)
+    → IsNetwork N
+    → IsReached N w
+    → AllByRecursion IsInRange es
+    → length w.frames ≤ 400000
+    → length (run N w es).frames ≤ 400000
 run-within N w [] n r i within = within
 run-within N w (e ∷ es) n r i within =
     run-within N (step N w e) es n (step-reached N w e n i.0 r) i.1 (step_by-within N w e (refusal N w e) refl n r i.0 within)
 
 -- ---- from where a list of events leads
 
-pub event-few : (N : Network) (es : List Event) (e : Event) → IsNetwork N → AllByRecursion IsInRange es → IsInRange e → refusal N (run N (initial_state N) es) e ≡ None
-    → length (happens N (run N (initial_state N) es) e).frames ≤ length (run N (initial_state N) es).frames + 225
+pub event-few : (N : Network) (es : List Event) (e : Event)
+    → IsNetwork N
+    → AllByRecursion IsInRange es
+    → IsInRange e
+    → refusal N (run N (initial_state N) es) e ≡ None
+    → length (happens N (run N (initial_state N) es) e).frames
+    ≤ length (run N (initial_state N) es).frames + 225
 event-few N es e n i range none = happens-few N (run N (initial_state N) es) e n (reached N es n i) range none
 
-pub ever-within : (N : Network) (es : List Event) → IsNetwork N → AllByRecursion IsInRange es → length (run N (initial_state N) es).frames ≤ 400000
+pub ever-within : (N : Network) (es : List Event)
+    → IsNetwork N
+    → AllByRecursion IsInRange es
+    → length (run N (initial_state N) es).frames ≤ 400000
 ever-within N es n i = run-within N (initial_state N) es n (first-reached N n) i (omega arith)

@@ -34,12 +34,18 @@ same_request-refl q =
     (and_from _ _ (eq-eqb q.port q.port refl) ((bytes_eq-Decides q.octets q.octets).1 refl)))
 
 -- the copy of a frame is of the session that the frame is of
-copy_at-of : (N : Network) (w : NetworkState) (n c port : ℕ) (f : Frame) (copy : RequestCopy) → IsNetwork N → IsReached N w → IsCopyAt N w n c port f copy → IsCopyOf N w c port f copy
+copy_at-of : (N : Network) (w : NetworkState) (n c port : ℕ) (f : Frame) (copy : RequestCopy)
+    → IsNetwork N
+    → IsReached N w
+    → IsCopyAt N w n c port f copy
+    → IsCopyOf N w c port f copy
 copy_at-of N w n c port f copy is r at =
     let frame = frame_at-is N w n f r at.frame in
     is_copy_of N w c port f copy is r (subst (HasEnd N) at.end frame.end).0 (heard-frame N w f.octets f.origin frame.origin) at.heard
 
-not_above : (c : Clock) (h : History) (copy : RequestCopy) → copy.index ≤ greatest copy.heard.source h.accepted → joins h copy ≡ false
+not_above : (c : Clock) (h : History) (copy : RequestCopy)
+    → copy.index ≤ greatest copy.heard.source h.accepted
+    → joins h copy ≡ false
 not_above c h copy le = and_right _ _ (le-ltb _ _ le)
 
 -- what the clock keeps as the request that a copy is of is that request
@@ -48,7 +54,10 @@ pub record KeepsLatest (c : Clock) (h : History) (copy : RequestCopy) : Type 0 w
   pub is : kept_reply copy.heard.source copy.index h.accepted ≡ Some kept
   pub request : kept.request ≡ copy.request
 
-keeps-latest : (N : Network) (w : NetworkState) (c port : ℕ) (f : Frame) (copy : RequestCopy) → IsReached N w → IsCopyOf N w c port f copy → greatest copy.heard.source (history N w c).accepted ≡ copy.index
+keeps-latest : (N : Network) (w : NetworkState) (c port : ℕ) (f : Frame) (copy : RequestCopy)
+    → IsReached N w
+    → IsCopyOf N w c port f copy
+    → greatest copy.heard.source (history N w c).accepted ≡ copy.index
     → KeepsLatest (N.clock c) (history N w c) copy
 keeps-latest N w c port f copy r of latest =
     let accepted : ℕ → List Accepted = λ d. (history N w d).accepted in
@@ -64,7 +73,10 @@ keeps-latest N w c port f copy r of latest =
       request = same_Some was.entry.request of.says.request (sym was.begun_as ∙ of.says.begun_as) ∙ sym of.request;
     }
 
-due-latest : (c : Clock) (h : History) (copy : RequestCopy) → greatest copy.heard.source h.accepted ≡ copy.index → (keeps : KeepsLatest c h copy) → due_reply c h copy ≡ Some keeps.kept.reply
+due-latest : (c : Clock) (h : History) (copy : RequestCopy)
+    → greatest copy.heard.source h.accepted ≡ copy.index
+    → (keeps : KeepsLatest c h copy)
+    → due_reply c h copy ≡ Some keeps.kept.reply
 due-latest c h copy latest keeps =
     let same : same_request keeps.kept.request copy.request ≡ true =
     ap (λ (q : RequestValue). same_request q copy.request) keeps.request ∙ same_request-refl copy.request in
@@ -73,9 +85,14 @@ due-latest c h copy latest keeps =
     ∙ ap (kept_for copy) keeps.is
     ∙ cond-true _ _ _ same
 
-pub latest-kept : (N : Network) (es : List Event) (n c port : ℕ) (f : Frame) (copy : RequestCopy) → IsNetwork N → AllByRecursion IsInRange es → IsCopyAt N (run N (initial_state N) es) n c port f copy
+pub latest-kept : (N : Network) (es : List Event) (n c port : ℕ) (f : Frame) (copy : RequestCopy)
+    → IsNetwork N
+    → AllByRecursion IsInRange es
+    → IsCopyAt N (run N (initial_state N) es) n c port f copy
     → greatest copy.heard.source (history N (run N (initial_state N) es) c).accepted ≡ copy.index
-    → (kept : Accepted) × (kept_reply copy.heard.source copy.index (history N (run N (initial_state N) es) c).accepted ≡ Some kept)
+    → (kept : Accepted)
+    × (kept_reply copy.heard.source copy.index
+    (history N (run N (initial_state N) es) c).accepted ≡ Some kept)
     × (due_reply (N.clock c) (history N (run N (initial_state N) es) c) copy ≡ Some kept.reply)
 latest-kept N es n c port f copy is i at latest =
     let w : NetworkState = run N (initial_state N) es in
@@ -88,7 +105,9 @@ latest-kept N es n c port f copy is i at latest =
 other_index : (index g : ℕ) → index < g → g ≡ index → ⊥
 other_index index g l e = omega arith
 
-pub older-none : (c : Clock) (h : History) (copy : RequestCopy) → copy.index < greatest copy.heard.source h.accepted → due_reply c h copy ≡ None
+pub older-none : (c : Clock) (h : History) (copy : RequestCopy)
+    → copy.index < greatest copy.heard.source h.accepted
+    → due_reply c h copy ≡ None
 older-none c h copy below =
     cond-false _ _ _ (not_above c h copy (omega (arith, below)))
     ∙ cond-false _ _ _ (ne_eqb _ _ (other_index copy.index (greatest copy.heard.source h.accepted) below))
@@ -96,8 +115,11 @@ older-none c h copy below =
 -- ---- the delivery of a copy
 
 -- it is passed on nowhere
-made-copy : (N : Network) (c port : ℕ) (h : History) (f : Frame) (copy : RequestCopy) → copy_of (N.clock c) (ports N c) (delivery port f) ≡ Some copy
-    → made_frames N c h port f ≡ reply_frames N c (reply_origin f.origin) (due_messages (N.clock c) copy (due_reply (N.clock c) h copy))
+made-copy : (N : Network) (c port : ℕ) (h : History) (f : Frame) (copy : RequestCopy)
+    → copy_of (N.clock c) (ports N c) (delivery port f) ≡ Some copy
+    → made_frames N c h port f
+    ≡ reply_frames N c (reply_origin f.origin)
+    (due_messages (N.clock c) copy (due_reply (N.clock c) h copy))
 made-copy N c port h f copy e =
     let d = delivers_copy (N.clock c) (ports N c) (delivery port f) copy e in
     let none : forwarded (N.clock c).identity port h.sets f.octets ≡ [] =
@@ -105,8 +127,13 @@ made-copy N c port h f copy e =
     ap (λ sent. forwarded_frames N c f sent ++ answering_frames N c h port f (copy_of (N.clock c) (ports N c) (delivery port f))) none
     ∙ ap (answering_frames N c h port f) e
 
-pub copy-delivered : (N : Network) (w : NetworkState) (n c port : ℕ) (f : Frame) (copy : RequestCopy) → IsCopyAt N w n c port f copy
-    → (happens N w (Deliver n)).frames ≡ w.frames ++ reply_frames N c (reply_origin f.origin) (due_messages (N.clock c) copy (due_reply (N.clock c) (history N w c) copy))
+pub copy-delivered : (N : Network) (w : NetworkState) (n c port : ℕ) (f : Frame)
+    (copy : RequestCopy)
+    → IsCopyAt N w n c port f copy
+    → (happens N w (Deliver n)).frames
+    ≡ w.frames
+    ++ reply_frames N c (reply_origin f.origin)
+    (due_messages (N.clock c) copy (due_reply (N.clock c) (history N w c) copy))
 unfolding happens
 copy-delivered N w n c port f copy at =
     ap (λ (o : Option Frame). (delivered N w o).frames) at.frame

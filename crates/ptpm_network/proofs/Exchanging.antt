@@ -54,18 +54,30 @@ use Rattle.ptpm_network.proofs.Schedule.{reached}
 pub is_room : (w : NetworkState) → HasRoom w → no_room w.frames ≡ None
 is_room w room = ap (λ b. first_of ((b, FramesAtMaximum) ∷ [])) (le-ltb frames_limit (length w.frames) room)
 
-pub delivery-taken : (N : Network) (w : NetworkState) (n : ℕ) (f : Frame) → frame_at w.frames n ≡ Some f → HasRoom w → refusal N w (Deliver n) ≡ None
+pub delivery-taken : (N : Network) (w : NetworkState) (n : ℕ) (f : Frame)
+    → frame_at w.frames n ≡ Some f
+    → HasRoom w
+    → refusal N w (Deliver n) ≡ None
 unfolding refusal
 delivery-taken N w n f e room = ap (λ o. option_or (no_frame o) (no_room w.frames)) e ∙ is_room w room
 
-happens-delivery : (N : Network) (w : NetworkState) (n : ℕ) (f : Frame) (end : End) → frame_at w.frames n ≡ Some f → f.end ≡ end → happens N w (Deliver n) ≡ delivered_at N w f end
+happens-delivery : (N : Network) (w : NetworkState) (n : ℕ) (f : Frame) (end : End)
+    → frame_at w.frames n ≡ Some f
+    → f.end ≡ end
+    → happens N w (Deliver n) ≡ delivered_at N w f end
 unfolding happens
 happens-delivery N w n f end e q = ap (delivered N w) e ∙ ap (delivered_at N w f) q
 
-pub step-taken : (N : Network) (w : NetworkState) (e : Event) → refusal N w e ≡ None → step N w e ≡ happens N w e
+pub step-taken : (N : Network) (w : NetworkState) (e : Event)
+    → refusal N w e ≡ None
+    → step N w e ≡ happens N w e
 step-taken N w e none = ap (λ o. step_by o N w e) none
 
-pub delivery-step : (N : Network) (w : NetworkState) (n : ℕ) (f : Frame) (end : End) → frame_at w.frames n ≡ Some f → f.end ≡ end → HasRoom w → step N w (Deliver n) ≡ delivered_at N w f end
+pub delivery-step : (N : Network) (w : NetworkState) (n : ℕ) (f : Frame) (end : End)
+    → frame_at w.frames n ≡ Some f
+    → f.end ≡ end
+    → HasRoom w
+    → step N w (Deliver n) ≡ delivered_at N w f end
 delivery-step N w n f end e q room = step-taken N w (Deliver n) (delivery-taken N w n f e room) ∙ happens-delivery N w n f end e q
 
 -- ---- fields of a message
@@ -92,8 +104,12 @@ port-named p q asked = ⊎_elim
     (λ (n : is_of_port q.id ≡ false). or_left _ _ (eq-eqb q.port every_port (asked.every n)))
     (cases_Bool (is_of_port q.id))
 
-request-is_copy : (N : Network) (s k domain hops : ℕ) (q : RequestValue) → IsNetwork N → s < N.sessions → IsAsked (ports N (N.session s).target) q
-    → is_copy (N.clock (N.session s).target) (ports N (N.session s).target) (request_at N s k domain hops q) ≡ true
+request-is_copy : (N : Network) (s k domain hops : ℕ) (q : RequestValue)
+    → IsNetwork N
+    → s < N.sessions
+    → IsAsked (ports N (N.session s).target) q
+    → is_copy (N.clock (N.session s).target) (ports N (N.session s).target)
+    (request_at N s k domain hops q) ≡ true
 request-is_copy N s k domain hops q n place asked =
     let session = n.are_sessions s place in
     let c : Clock = N.clock (N.session s).target in
@@ -109,13 +125,19 @@ request-is_copy N s k domain hops q n place asked =
     (and_from (is_for_this_clock c v) _ here
     (and_from (names_port p v.target.port) (is_request v) named asks))))
 
-copy-is : (N : Network) (s port : ℕ) (f : Frame) (v : Message) → message_of f.octets ≡ Some v → is_copy (N.clock (N.session s).target) (ports N (N.session s).target) v ≡ true
-    → copy_of (N.clock (N.session s).target) (ports N (N.session s).target) (delivery port f) ≡ Some (copy_from (delivery port f) v)
+copy-is : (N : Network) (s port : ℕ) (f : Frame) (v : Message)
+    → message_of f.octets ≡ Some v
+    → is_copy (N.clock (N.session s).target) (ports N (N.session s).target) v ≡ true
+    → copy_of (N.clock (N.session s).target) (ports N (N.session s).target) (delivery port f)
+    ≡ Some (copy_from (delivery port f) v)
 copy-is N s port f v e is =
     ap (copy_by (N.clock (N.session s).target) (ports N (N.session s).target) (delivery port f)) e ∙ cond-true _ _ _ is
 
 -- what is for exactly this clock is not passed on
-here-kept : (c : Clock) (port : ℕ) (d : DataSetsValue) (octets : List ℕ) (v : Message) → message_of octets ≡ Some v → is_for_this_clock c v ≡ true → forwarded c.identity port d octets ≡ []
+here-kept : (c : Clock) (port : ℕ) (d : DataSetsValue) (octets : List ℕ) (v : Message)
+    → message_of octets ≡ Some v
+    → is_for_this_clock c v ≡ true
+    → forwarded c.identity port d octets ≡ []
 unfolding forwarded
 here-kept c port d octets v e here =
     ap (forwarded_by c.identity port d octets) e
@@ -127,14 +149,21 @@ same_request-same : (a b : RequestValue) → a ≡ b → same_request a b ≡ tr
 same_request-same a b e = subst (λ (x : RequestValue). same_request a x ≡ true) e
     (and_from _ _ (eq-eqb _ _ refl) (and_from _ _ (eq-eqb a.id a.id refl) (and_from _ _ (eq-eqb a.port a.port refl) ((bytes_eq-Decides a.octets a.octets).1 refl))))
 
-due-latest : (c : Clock) (h : History) (x : RequestCopy) (e : Accepted) → greatest x.heard.source h.accepted ≡ x.index → kept_reply x.heard.source x.index h.accepted ≡ Some e → e.request ≡ x.request → due_reply c h x ≡ Some e.reply
+due-latest : (c : Clock) (h : History) (x : RequestCopy) (e : Accepted)
+    → greatest x.heard.source h.accepted ≡ x.index
+    → kept_reply x.heard.source x.index h.accepted ≡ Some e
+    → e.request ≡ x.request
+    → due_reply c h x ≡ Some e.reply
 due-latest c h x e g kept same =
     cond-false _ _ _ (and_right (x.heard.domain == h.sets.default.domain) (nat_lt (greatest x.heard.source h.accepted) x.index) (le-ltb (greatest x.heard.source h.accepted) x.index (omega (arith, g))))
     ∙ cond-true _ _ _ (eq-eqb (greatest x.heard.source h.accepted) x.index g)
     ∙ ap (kept_for x) kept
     ∙ cond-true _ _ _ (same_request-same e.request x.request same)
 
-due-new : (c : Clock) (h : History) (x : RequestCopy) → x.heard.domain ≡ h.sets.default.domain → greatest x.heard.source h.accepted < x.index → due_reply c h x ≡ Some (reply_to x.request (c.rights x.heard.source) h.sets)
+due-new : (c : Clock) (h : History) (x : RequestCopy)
+    → x.heard.domain ≡ h.sets.default.domain
+    → greatest x.heard.source h.accepted < x.index
+    → due_reply c h x ≡ Some (reply_to x.request (c.rights x.heard.source) h.sets)
 due-new c h x domain above = cond-true _ _ _ (and_from (x.heard.domain == h.sets.default.domain) (nat_lt (greatest x.heard.source h.accepted) x.index) (eq-eqb _ _ domain) (lt-ltb _ _ above))
 
 below : (g k begun : ℕ) → g ≤ begun → k ≡ begun → (g ≡ begun → ⊥) → g < k
@@ -154,7 +183,12 @@ pub record IsLatestCopy (N : Network) (w : NetworkState) (s : ℕ) (octets : Lis
   pub request : x.request ≡ says.request
   pub domain : x.heard.domain ≡ domain_number octets
 
-due-repeat : (N : Network) (w : NetworkState) (s : ℕ) (octets : List ℕ) (x : RequestCopy) → IsReached N w → s < N.sessions → IsLatestCopy N w s octets x → greatest_accepted N w s ≡ issued w s → IsDueTo (N.clock (N.session s).target) (history N w (N.session s).target) x
+due-repeat : (N : Network) (w : NetworkState) (s : ℕ) (octets : List ℕ) (x : RequestCopy)
+    → IsReached N w
+    → s < N.sessions
+    → IsLatestCopy N w s octets x
+    → greatest_accepted N w s ≡ issued w s
+    → IsDueTo (N.clock (N.session s).target) (history N w (N.session s).target) x
 due-repeat N w s octets x r place of g =
     let at = r.sessions s place in
     let was = at.without_gap (issued w s) of.says.positive (not_more (issued w s) (greatest_accepted N w s) (issued w s) refl g) in
@@ -164,13 +198,23 @@ due-repeat N w s octets x r place of g =
     let same : was.entry.request ≡ x.request = same_Some was.entry.request of.says.request (sym was.begun_as ∙ of.says.begun_as) ∙ sym of.request in
     (was.entry.reply, due-latest (N.clock (N.session s).target) (history N w (N.session s).target) x was.entry here kept same)
 
-due-first : (N : Network) (w : NetworkState) (s : ℕ) (octets : List ℕ) (x : RequestCopy) → IsReached N w → s < N.sessions → IsLatestCopy N w s octets x → domain_number octets ≡ (history N w (N.session s).target).sets.default.domain → (greatest_accepted N w s ≡ issued w s → ⊥)
+due-first : (N : Network) (w : NetworkState) (s : ℕ) (octets : List ℕ) (x : RequestCopy)
+    → IsReached N w
+    → s < N.sessions
+    → IsLatestCopy N w s octets x
+    → domain_number octets ≡ (history N w (N.session s).target).sets.default.domain
+    → (greatest_accepted N w s ≡ issued w s → ⊥)
     → IsDueTo (N.clock (N.session s).target) (history N w (N.session s).target) x
 due-first N w s octets x r place of domain ne =
     let above : greatest (manager N s) (accepted_at_target N w s) < x.index = below (greatest_accepted N w s) x.index (issued w s) (r.sessions s place).begun_before of.index ne in
     (_, due-new (N.clock (N.session s).target) (history N w (N.session s).target) x (of.domain ∙ domain) (subst (λ (m : PortIdentity). greatest m (accepted_at_target N w s) < x.index) (sym of.source) above))
 
-due-to : (N : Network) (w : NetworkState) (s : ℕ) (octets : List ℕ) (x : RequestCopy) → IsReached N w → s < N.sessions → IsLatestCopy N w s octets x → IsHeardBy N w s octets → IsDueTo (N.clock (N.session s).target) (history N w (N.session s).target) x
+due-to : (N : Network) (w : NetworkState) (s : ℕ) (octets : List ℕ) (x : RequestCopy)
+    → IsReached N w
+    → s < N.sessions
+    → IsLatestCopy N w s octets x
+    → IsHeardBy N w s octets
+    → IsDueTo (N.clock (N.session s).target) (history N w (N.session s).target) x
 due-to N w s octets x r place of heard = ⊎_elim
     (λ (g : greatest_accepted N w s ≡ issued w s). due-repeat N w s octets x r place of g)
     (λ (ne : greatest_accepted N w s ≡ issued w s → ⊥). ⊎_elim
@@ -188,9 +232,21 @@ pub record IsReplyMessage (me : ClockIdentity) (x : RequestCopy) (r : ReplyValue
   pub valid : IsValid (reply_message me x.heard r.action r.id x.ingress answer)
   pub fits : Fits (reply_message me x.heard r.action r.id x.ingress answer)
 
-reply-message : (N : Network) (w : NetworkState) (s port : ℕ) (f : Frame) (x : RequestCopy) (r : ReplyValue) → IsNetwork N → IsReached N w → s < N.sessions → HasEnd N (AtPort (N.session s).target port) → f.origin ≡ RequestOf s (issued w s)
-    → IsOfOrigin N w f.octets f.origin → IsLatestCopy N w s f.octets x → x.ingress ≡ port → x.heard.number < 2 ^ 16 → copy_of (N.clock (N.session s).target) (ports N (N.session s).target) (delivery port f) ≡ Some x
-    → due_reply (N.clock (N.session s).target) (history N w (N.session s).target) x ≡ Some r → IsReplyMessage (N.clock (N.session s).target).identity x r
+reply-message : (N : Network) (w : NetworkState) (s port : ℕ) (f : Frame) (x : RequestCopy)
+    (r : ReplyValue)
+    → IsNetwork N
+    → IsReached N w
+    → s < N.sessions
+    → HasEnd N (AtPort (N.session s).target port)
+    → f.origin ≡ RequestOf s (issued w s)
+    → IsOfOrigin N w f.octets f.origin
+    → IsLatestCopy N w s f.octets x
+    → x.ingress ≡ port
+    → x.heard.number < 2 ^ 16
+    → copy_of (N.clock (N.session s).target) (ports N (N.session s).target) (delivery port f)
+    ≡ Some x
+    → due_reply (N.clock (N.session s).target) (history N w (N.session s).target) x ≡ Some r
+    → IsReplyMessage (N.clock (N.session s).target).identity x r
 reply-message N w s port f x r n reached place end origin i of ingress number e d =
     let c = (N.session s).target in
     let session = n.are_sessions s place in
@@ -217,17 +273,32 @@ reply-message N w s port f x r n reached place end origin i of ingress number e 
     })
 
 -- what its canonical spelling says
-pub said-domain : (v : Message) (domain : ℕ) → IsValid v → Fits v → v.domain ≡ domain → domain_number (canonical v) ≡ domain
+pub said-domain : (v : Message) (domain : ℕ)
+    → IsValid v
+    → Fits v
+    → v.domain ≡ domain
+    → domain_number (canonical v) ≡ domain
 said-domain v domain valid fits e = sym (canonical_spells v valid fits).domain ∙ e
 
-pub said-hops : (v : Message) (hops : ℕ) → IsValid v → Fits v → v.hops ≡ hops → boundary_hops (canonical v) ≡ hops
+pub said-hops : (v : Message) (hops : ℕ)
+    → IsValid v
+    → Fits v
+    → v.hops ≡ hops
+    → boundary_hops (canonical v) ≡ hops
 said-hops v hops valid fits e = sym (canonical_spells v valid fits).hops ∙ e
 
 -- ---- the target replies
 
 -- all that the target makes of the copy is the reply
-made-reply : (N : Network) (w : NetworkState) (s port : ℕ) (f : Frame) (x : RequestCopy) (v : Message) (r : ReplyValue) → f.origin ≡ RequestOf s (issued w s) → message_of f.octets ≡ Some v → is_for_this_clock (N.clock (N.session s).target) v ≡ true
-    → copy_of (N.clock (N.session s).target) (ports N (N.session s).target) (delivery port f) ≡ Some x → due_reply (N.clock (N.session s).target) (history N w (N.session s).target) x ≡ Some r → x.ingress ≡ port
+made-reply : (N : Network) (w : NetworkState) (s port : ℕ) (f : Frame) (x : RequestCopy)
+    (v : Message) (r : ReplyValue)
+    → f.origin ≡ RequestOf s (issued w s)
+    → message_of f.octets ≡ Some v
+    → is_for_this_clock (N.clock (N.session s).target) v ≡ true
+    → copy_of (N.clock (N.session s).target) (ports N (N.session s).target) (delivery port f)
+    ≡ Some x
+    → due_reply (N.clock (N.session s).target) (history N w (N.session s).target) x ≡ Some r
+    → x.ingress ≡ port
     → (m : IsReplyMessage (N.clock (N.session s).target).identity x r)
     → made_frames N (N.session s).target (history N w (N.session s).target) port f
     ≡ new_frames (peers N.links (AtPort (N.session s).target port)) (canonical (reply_message (N.clock (N.session s).target).identity x.heard r.action r.id x.ingress m.answer)) (ReplyTo s (issued w s))
@@ -244,11 +315,22 @@ made-reply N w s port f x v r origin e here is due ingress m =
     ∙ append-nil (new_frames (peers N.links (AtPort c port)) octets (ReplyTo s (issued w s)))
 
 replied-by : (N : Network) (w : NetworkState) (s port : ℕ) (f : Frame) (reply : List ℕ)
-    → made_frames N (N.session s).target (history N w (N.session s).target) port f ≡ new_frames (peers N.links (AtPort (N.session s).target port)) reply (ReplyTo s (issued w s))
-    → domain_number reply ≡ domain_number f.octets → boundary_hops reply ≡ (N.session s).setup.hops - boundary_hops f.octets → HasReplied N w (delivered_at_clock N w (N.session s).target port f) s port f.octets
+    → made_frames N (N.session s).target (history N w (N.session s).target) port f
+    ≡ new_frames (peers N.links (AtPort (N.session s).target port)) reply
+    (ReplyTo s (issued w s))
+    → domain_number reply ≡ domain_number f.octets
+    → boundary_hops reply ≡ (N.session s).setup.hops - boundary_hops f.octets
+    → HasReplied N w (delivered_at_clock N w (N.session s).target port f) s port f.octets
 replied-by N w s port f reply made domain hops = record { reply = reply; frames = ap (λ fs. w.frames ++ fs) made; domain = domain; hops = hops }
 
-pub replied : (N : Network) (w : NetworkState) (s port : ℕ) (f : Frame) → IsNetwork N → IsReached N w → s < N.sessions → IsFrame N w f → f.end ≡ AtPort (N.session s).target port → f.origin ≡ RequestOf s (issued w s) → IsHeardBy N w s f.octets
+pub replied : (N : Network) (w : NetworkState) (s port : ℕ) (f : Frame)
+    → IsNetwork N
+    → IsReached N w
+    → s < N.sessions
+    → IsFrame N w f
+    → f.end ≡ AtPort (N.session s).target port
+    → f.origin ≡ RequestOf s (issued w s)
+    → IsHeardBy N w s f.octets
     → HasReplied N w (delivered_at_clock N w (N.session s).target port f) s port f.octets
 replied N w s port f n r place i end origin heard =
     let c = (N.session s).target in
@@ -269,19 +351,38 @@ replied N w s port f n r place i end origin heard =
 
 -- ---- the session reports
 
-told-in_domain : (state : SessionState) (octets : List ℕ) (v : Message) → message_of octets ≡ Some v → domain_number octets ≡ state.domain → told_by state (message_of octets) ≡ Some (record { index = length state.begun; outcome = outcome_of v.body })
+told-in_domain : (state : SessionState) (octets : List ℕ) (v : Message)
+    → message_of octets ≡ Some v
+    → domain_number octets ≡ state.domain
+    → told_by state (message_of octets)
+    ≡ Some (record { index = length state.begun; outcome = outcome_of v.body })
 told-in_domain state octets v e domain = ap (told_by state) e ∙ cond-true _ _ _ (eq-eqb v.domain state.domain (message-domain v octets e ∙ domain))
 
-answer-is : (s : ℕ) (state : SessionState) (o : Origin) → o ≡ ReplyTo s (length state.begun) → is_idle state ≡ false → is_answer s state o ≡ true
+answer-is : (s : ℕ) (state : SessionState) (o : Origin)
+    → o ≡ ReplyTo s (length state.begun)
+    → is_idle state ≡ false
+    → is_answer s state o ≡ true
 answer-is s state o origin busy = ap (is_answer s state) origin ∙ and_from _ _ (eq-eqb s s refl) (and_from _ _ (eq-eqb (length state.begun) (length state.begun) refl) (ap not busy))
 
-all_reported : (reports begun more : ℕ) → begun ≤ reports + 1 → reports ≤ begun → (reports ≡ begun → ⊥) → more ≡ reports + 1 → more ≡ begun
+all_reported : (reports begun more : ℕ)
+    → begun ≤ reports + 1
+    → reports ≤ begun
+    → (reports ≡ begun → ⊥)
+    → more ≡ reports + 1
+    → more ≡ begun
 all_reported reports begun more a b ne d = omega arith
 
 le_through : (a b c : ℕ) → a ≤ b → b ≤ c → a ≤ c
 le_through a b c x y = omega arith
 
-pub reports-answer : (N : Network) (w : NetworkState) (s : ℕ) (f : Frame) → IsNetwork N → IsReached N w → s < N.sessions → IsFrame N w f → f.origin ≡ ReplyTo s (issued w s) → is_idle (w.session s) ≡ false → domain_number f.octets ≡ (w.session s).domain
+pub reports-answer : (N : Network) (w : NetworkState) (s : ℕ) (f : Frame)
+    → IsNetwork N
+    → IsReached N w
+    → s < N.sessions
+    → IsFrame N w f
+    → f.origin ≡ ReplyTo s (issued w s)
+    → is_idle (w.session s) ≡ false
+    → domain_number f.octets ≡ (w.session s).domain
     → HasReported w (delivered_at N w f (AtSession s)) s
 reports-answer N w s f n r place i origin busy domain =
     let at = r.sessions s place in
@@ -305,25 +406,42 @@ reports-answer N w s f n r place i origin busy domain =
 
 -- ---- the laws
 
-pub never-late : (w : NetworkState) (s : ℕ) → (is_late w (RequestOf s (issued w s)) ≡ false) × (is_late w (ReplyTo s (issued w s)) ≡ false)
+pub never-late : (w : NetworkState) (s : ℕ)
+    → (is_late w (RequestOf s (issued w s)) ≡ false) × (is_late w (ReplyTo s (issued w s)) ≡ false)
 never-late w s = let now = le-ltb (issued w s + 32768) (issued w s) (omega arith) in (now, now)
 
-pub copy-taken : (N : Network) (w : NetworkState) (n : ℕ) (f : Frame) → frame_at w.frames n ≡ Some f → HasRoom w → refusal N w (Deliver n) ≡ None
+pub copy-taken : (N : Network) (w : NetworkState) (n : ℕ) (f : Frame)
+    → frame_at w.frames n ≡ Some f
+    → HasRoom w
+    → refusal N w (Deliver n) ≡ None
 copy-taken N w n f e room = delivery-taken N w n f e room
 
-pub copy-replied : (N : Network) (es : List Event) (n s port : ℕ) (f : Frame) → IsNetwork N → AllByRecursion IsInRange es → s < N.sessions
-    → frame_at (run N (initial_state N) es).frames n ≡ Some f → f.end ≡ AtPort (N.session s).target port → f.origin ≡ RequestOf s (issued (run N (initial_state N) es) s)
+pub copy-replied : (N : Network) (es : List Event) (n s port : ℕ) (f : Frame)
+    → IsNetwork N
+    → AllByRecursion IsInRange es
+    → s < N.sessions
+    → frame_at (run N (initial_state N) es).frames n ≡ Some f
+    → f.end ≡ AtPort (N.session s).target port
+    → f.origin ≡ RequestOf s (issued (run N (initial_state N) es) s)
     → IsHeardBy N (run N (initial_state N) es) s f.octets → HasRoom (run N (initial_state N) es)
-    → HasReplied N (run N (initial_state N) es) (step N (run N (initial_state N) es) (Deliver n)) s port f.octets
+    → HasReplied N (run N (initial_state N) es) (step N (run N (initial_state N) es) (Deliver n)) s
+    port f.octets
 copy-replied N es n s port f net range place e end origin heard room =
     let w : NetworkState = run N (initial_state N) es in
     let r = reached N es net range in
     subst (λ (u : NetworkState). HasReplied N w u s port f.octets) (sym (delivery-step N w n f (AtPort (N.session s).target port) e end room))
     (replied N w s port f net r place (frame_at-is N w n f r e) end origin heard)
 
-pub reply-reported : (N : Network) (es : List Event) (n s : ℕ) (f : Frame) → IsNetwork N → AllByRecursion IsInRange es → s < N.sessions
-    → frame_at (run N (initial_state N) es).frames n ≡ Some f → f.end ≡ AtSession s → f.origin ≡ ReplyTo s (issued (run N (initial_state N) es) s)
-    → is_idle ((run N (initial_state N) es).session s) ≡ false → domain_number f.octets ≡ ((run N (initial_state N) es).session s).domain → HasRoom (run N (initial_state N) es)
+pub reply-reported : (N : Network) (es : List Event) (n s : ℕ) (f : Frame)
+    → IsNetwork N
+    → AllByRecursion IsInRange es
+    → s < N.sessions
+    → frame_at (run N (initial_state N) es).frames n ≡ Some f
+    → f.end ≡ AtSession s
+    → f.origin ≡ ReplyTo s (issued (run N (initial_state N) es) s)
+    → is_idle ((run N (initial_state N) es).session s) ≡ false
+    → domain_number f.octets ≡ ((run N (initial_state N) es).session s).domain
+    → HasRoom (run N (initial_state N) es)
     → HasReported (run N (initial_state N) es) (step N (run N (initial_state N) es) (Deliver n)) s
 reply-reported N es n s f net range place e end origin busy domain room =
     let w : NetworkState = run N (initial_state N) es in

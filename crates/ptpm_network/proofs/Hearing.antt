@@ -31,11 +31,18 @@ one_less m n e = omega arith
 too_few : (reports begun more : ℕ) → more ≡ begun + 1 → reports ≤ begun → reports ≡ more → ⊥
 too_few reports begun more e le h = omega arith
 
-all_told : (reports begun more : ℕ) → more ≡ reports + 1 → (reports ≡ begun → ⊥) → begun ≤ reports + 1 → reports ≤ begun → more ≡ begun
+all_told : (reports begun more : ℕ)
+    → more ≡ reports + 1
+    → (reports ≡ begun → ⊥)
+    → begun ≤ reports + 1
+    → reports ≤ begun
+    → more ≡ begun
 all_told reports begun more e busy one le = omega arith
 
 -- one that reported each request begins its next
-pub begun-value : (start : SessionStart) (s : SessionState) (q : RequestValue) → length s.reports ≤ length s.begun → begun (session_value start s) q ≡ session_value start (begun_in start s q)
+pub begun-value : (start : SessionStart) (s : SessionState) (q : RequestValue)
+    → length s.reports ≤ length s.begun
+    → begun (session_value start s) q ≡ session_value start (begun_in start s q)
 begun-value start s q le =
     let more : length (s.begun ++ q ∷ []) ≡ length s.begun + 1 = length-append s.begun (q ∷ []) in
     let last : slice_get (s.begun ++ q ∷ []) (length (s.begun ++ q ∷ []) - 1) ≡ Some q =
@@ -51,7 +58,10 @@ begun-value start s q le =
     }
 
 -- one that was told the answer to its last request waits for none
-answered-value : (start : SessionStart) (s : SessionState) (report : Report) → (length s.reports ≡ length s.begun → ⊥) → length s.begun ≤ length s.reports + 1 → length s.reports ≤ length s.begun
+answered-value : (start : SessionStart) (s : SessionState) (report : Report)
+    → (length s.reports ≡ length s.begun → ⊥)
+    → length s.begun ≤ length s.reports + 1
+    → length s.reports ≤ length s.begun
     → answered (session_value start s) ≡ session_value start (reported s (Some report))
 answered-value start s report busy one le =
     let more : length (s.reports ++ report ∷ []) ≡ length s.reports + 1 = length-append s.reports (report ∷ []) in
@@ -68,8 +78,13 @@ answered-value start s report busy one le =
 -- ---- the network
 
 -- a session that reports nothing has another value
-pub session-stands : (N : Network) (first : PortIdentity → ℕ) (r : RunningNetwork) (w : NetworkState) (s : ℕ) (v : SessionValue) (state : SessionState) → Stands N first r w → s < N.sessions
-    → v ≡ session_value (N.session s) state → state.reports ≡ (w.session s).reports → Stands N first (with_session_value r s v) (with_session w s state)
+pub session-stands : (N : Network) (first : PortIdentity → ℕ) (r : RunningNetwork)
+    (w : NetworkState) (s : ℕ) (v : SessionValue) (state : SessionState)
+    → Stands N first r w
+    → s < N.sessions
+    → v ≡ session_value (N.session s) state
+    → state.reports ≡ (w.session s).reports
+    → Stands N first (with_session_value r s v) (with_session w s state)
 session-stands N first r w s v state at place value reports = record {
   clocks = at.clocks;
   sessions = λ t there. at_places (λ j (x : SessionValue) (y : SessionState). x ≡ session_value (N.session j) y) r.session w.session s v state t value (at.sessions t there);
@@ -77,7 +92,11 @@ session-stands N first r w s v state at place value reports = record {
   frames = at.frames;
 }
 
-pub sends-stand : (N : Network) (first : PortIdentity → ℕ) (r : RunningNetwork) (w : NetworkState) (s : ℕ) → Stands N first r w → s < N.sessions → Stands N first (sends_in N r s) (sends N w s)
+pub sends-stand : (N : Network) (first : PortIdentity → ℕ) (r : RunningNetwork) (w : NetworkState)
+    (s : ℕ)
+    → Stands N first r w
+    → s < N.sessions
+    → Stands N first (sends_in N r s) (sends N w s)
 sends-stand N first r w s at place =
     let ends = peers N.links (AtSession s) in
     let value : SessionValue = session_value (N.session s) (w.session s) in
@@ -94,7 +113,11 @@ sends-stand N first r w s at place =
 
 -- ---- a frame comes in at a session
 
-ignored-stands : (N : Network) (first : PortIdentity → ℕ) (r : RunningNetwork) (w : NetworkState) (s : ℕ) → Stands N first r w → s < N.sessions → Stands N first r (with_session w s (w.session s))
+ignored-stands : (N : Network) (first : PortIdentity → ℕ) (r : RunningNetwork) (w : NetworkState)
+    (s : ℕ)
+    → Stands N first r w
+    → s < N.sessions
+    → Stands N first r (with_session w s (w.session s))
 ignored-stands N first r w s at place = record {
   clocks = at.clocks;
   sessions = λ t there. at_place (λ j (y : SessionState). r.session j ≡ session_value (N.session j) y) w.session s (w.session s) t (at.sessions s place) (at.sessions t there);
@@ -102,8 +125,14 @@ ignored-stands N first r w s at place = record {
   frames = at.frames;
 }
 
-answered-stands : (N : Network) (first : PortIdentity → ℕ) (r : RunningNetwork) (w : NetworkState) (s : ℕ) (report : Report) → Stands N first r w → s < N.sessions
-    → InStep N w s (w.session s) → (length (w.session s).reports ≡ length (w.session s).begun → ⊥) → Stands N first (hears r s (received.Answered report)) (with_session w s (reported (w.session s) (Some report)))
+answered-stands : (N : Network) (first : PortIdentity → ℕ) (r : RunningNetwork) (w : NetworkState)
+    (s : ℕ) (report : Report)
+    → Stands N first r w
+    → s < N.sessions
+    → InStep N w s (w.session s)
+    → (length (w.session s).reports ≡ length (w.session s).begun → ⊥)
+    → Stands N first (hears r s (received.Answered report))
+    (with_session w s (reported (w.session s) (Some report)))
 answered-stands N first r w s report at place step busy =
     let le = le_le (length (w.session s).reports) _ (length (w.session s).begun) step.accepted_before step.begun_before in
     let value = ap answered (at.sessions s place) ∙ answered-value (N.session s) (w.session s) report busy step.one_at_a_time le in
@@ -116,8 +145,16 @@ answered-stands N first r w s report at place step busy =
     }
 
 -- what the session hears of the frame is what the machine reports of it
-pub hears-stands : (N : Network) (first : PortIdentity → ℕ) (r : RunningNetwork) (w : NetworkState) (s : ℕ) (f : Frame) (x : Received) (o : Option Report) → IsNetwork N → IsReached N w → Stands N first r w → s < N.sessions
-    → IsOfOrigin N w f.octets f.origin → is_late w f.origin ≡ false → received_of (session_value (N.session s) (w.session s)) f.octets ≡ x → report_from s (w.session s) f ≡ o
+pub hears-stands : (N : Network) (first : PortIdentity → ℕ) (r : RunningNetwork) (w : NetworkState)
+    (s : ℕ) (f : Frame) (x : Received) (o : Option Report)
+    → IsNetwork N
+    → IsReached N w
+    → Stands N first r w
+    → s < N.sessions
+    → IsOfOrigin N w f.octets f.origin
+    → is_late w f.origin ≡ false
+    → received_of (session_value (N.session s) (w.session s)) f.octets ≡ x
+    → report_from s (w.session s) f ≡ o
     → Stands N first (hears r s x) (with_session w s (reported (w.session s) o))
 hears-stands N first r w s f x (Some report) n reached at place i late h e =
     subst (λ (y : Received). Stands N first (hears r s y) (with_session w s (reported (w.session s) (Some report))))

@@ -16,7 +16,8 @@ use Rattle.ptpm_network.specs.Network.{AtPort, End, Network, peers}
 use Rattle.ptpm_network.specs.State.{Frame, Origin, RequestOf, frames_to}
 
 -- a frame by its number
-pub frame_at-map : (fs : List Frame) (n : ℕ) → frame_at (map held fs) n ≡ option_map held (frame_at fs n)
+pub frame_at-map : (fs : List Frame) (n : ℕ)
+    → frame_at (map held fs) n ≡ option_map held (frame_at fs n)
 frame_at-map fs n = ⊎_elim
     (λ (y : n == 0 ≡ true).
     let none : frame_at fs n ≡ None = cond-true _ _ _ y in
@@ -28,17 +29,21 @@ frame_at-map fs n = ⊎_elim
 
 -- ---- frames that are made
 
-pub held-frames_to : (ends : List End) (octets : List ℕ) (o : Origin) (first_hops forwardings : ℕ) → map held (frames_to ends octets o first_hops forwardings) ≡ posted ends octets o
+pub held-frames_to : (ends : List End) (octets : List ℕ) (o : Origin) (first_hops forwardings : ℕ)
+    → map held (frames_to ends octets o first_hops forwardings) ≡ posted ends octets o
 held-frames_to [] octets o first_hops forwardings = refl
 held-frames_to (e ∷ ends) octets o first_hops forwardings =
     let h : Held = record { end = e; octets = octets; origin = o } in
     ap (λ (hs : List Held). h ∷ hs) (held-frames_to ends octets o first_hops forwardings)
 
-pub held-sent_frames : (ends : List End) (s k : ℕ) (o : Option Message) → map held (sent_frames ends s k o) ≡ sent_posted ends s k o
+pub held-sent_frames : (ends : List End) (s k : ℕ) (o : Option Message)
+    → map held (sent_frames ends s k o) ≡ sent_posted ends s k o
 held-sent_frames ends s k None = refl
 held-sent_frames ends s k (Some v) = held-frames_to ends (canonical v) (RequestOf s k) (boundary_hops (canonical v)) 0
 
-pub held-forwarded : (N : Network) (c : ℕ) (f : Frame) (sent : List (ℕ × List ℕ)) → map held (forwarded_frames N c f sent) ≡ flat_map (λ m. posted (peers N.links (AtPort c m.0)) m.1 f.origin) sent
+pub held-forwarded : (N : Network) (c : ℕ) (f : Frame) (sent : List (ℕ × List ℕ))
+    → map held (forwarded_frames N c f sent)
+    ≡ flat_map (λ m. posted (peers N.links (AtPort c m.0)) m.1 f.origin) sent
 held-forwarded N c f [] = refl
 held-forwarded N c f (m ∷ ms) =
     let fs : List Frame = frames_to (peers N.links (AtPort c m.0)) m.1 f.origin f.first_hops (f.forwardings + 1) in
@@ -47,7 +52,8 @@ held-forwarded N c f (m ∷ ms) =
     ∙ ap (λ (hs : List Held). posted (peers N.links (AtPort c m.0)) m.1 f.origin ++ hs) (held-forwarded N c f ms)
 
 -- a clock that hears a frame sends the same, whatever the frame's first hops and forwardings
-pub turned-seen : (N : Network) (r : RunningNetwork) (c port : ℕ) (f : Frame) → after_turn N r c port (seen (held f)) ≡ after_turn N r c port f
+pub turned-seen : (N : Network) (r : RunningNetwork) (c port : ℕ) (f : Frame)
+    → after_turn N r c port (seen (held f)) ≡ after_turn N r c port f
 turned-seen N r c port f =
     let sent = turn (N.clock c) (r.clock c) port f.octets in
     let replies : List Frame = reply_frames N c (answer_origin f.origin (copy_of (N.clock c) (length (r.clock c).sets.ports) (delivery port f))) sent.replies in

@@ -52,7 +52,10 @@ message-hops v d e =
     let low = size.0 in
     (message_of-spells v d e).hops ∙ octet-take 45 (message_length d) d (omega arith)
 
-pub less_hop-canonical : (v : Message) → IsValid v → Fits v → with_less_hop (canonical v) ≡ canonical (record v { hops = v.hops - 1 })
+pub less_hop-canonical : (v : Message)
+    → IsValid v
+    → Fits v
+    → with_less_hop (canonical v) ≡ canonical (record v { hops = v.hops - 1 })
 less_hop-canonical v valid fits =
     ap (λ m. slice_set m 45 (boundary_hops (canonical v) - 1)) (canonical-message v valid fits).whole
     ∙ ap (λ n. slice_set (canonical v) 45 (n - 1)) (sym (canonical_spells v valid fits).hops)
@@ -64,7 +67,10 @@ message_length-set m n =
     let low = get_or-set_other m 45 3 n 0 (λ e. omega arith) in
     omega (arith, number_at-octets 2 m, number_at-octets 2 (slice_set m 45 n), high, low)
 
-pub less_hop-message : (v : Message) (d : List ℕ) → message_of d ≡ Some v → Fits v → IsMessage (with_less_hop d) (record v { hops = v.hops - 1 })
+pub less_hop-message : (v : Message) (d : List ℕ)
+    → message_of d ≡ Some v
+    → Fits v
+    → IsMessage (with_less_hop d) (record v { hops = v.hops - 1 })
 less_hop-message v d e fits =
     let m = message_octets d in
     let n = boundary_hops d - 1 in
@@ -76,7 +82,9 @@ less_hop-message v d e fits =
       fits = record { source = fits.source; number = fits.number; target = fits.target; body = fits.body };
     }
 
-pub less_hop-hops : (v : Message) (d : List ℕ) → message_of d ≡ Some v → boundary_hops (with_less_hop d) ≡ boundary_hops d - 1
+pub less_hop-hops : (v : Message) (d : List ℕ)
+    → message_of d ≡ Some v
+    → boundary_hops (with_less_hop d) ≡ boundary_hops d - 1
 less_hop-hops v d e =
     let low = (message_of-spells v d e).at_least in
     get_or-set_same (message_octets d) 45 (boundary_hops d - 1) 0 (omega arith)
@@ -88,14 +96,20 @@ pub record IsPassedOn (d : List ℕ) (sent : ℕ × List ℕ) : Type 0 where
   pub hop : 0 < message.hops
   pub octets : sent.1 ≡ with_less_hop d
 
-all_pairs : {X Y : Type 0} (P : X × Y → Type 0) (y : Y) → ((x : X) → P (x, y)) → (xs : List X) → AllByRecursion P (map (λ x. (x, y)) xs)
+all_pairs : {X Y : Type 0} (P : X × Y → Type 0) (y : Y)
+    → ((x : X) → P (x, y))
+    → (xs : List X)
+    → AllByRecursion P (map (λ x. (x, y)) xs)
 all_pairs P y f [] = tt
 all_pairs P y f (x ∷ xs) = (f x, all_pairs P y f xs)
 
 has_hop : (a b c d e f : Bool) → (a && (b && (c && (d && (e && f))))) ≡ true → e ≡ true
 has_hop a b c d e f y = (and_parts e f (and_parts d (e && f) (and_parts c (d && (e && f)) (and_parts b (c && (d && (e && f))) (and_parts a (b && (c && (d && (e && f)))) y).1).1).1).1).0
 
-passed_on-by : (me : ClockIdentity) (port : ℕ) (sets : DataSetsValue) (d : List ℕ) (o : Option Message) → message_of d ≡ o → AllByRecursion (IsPassedOn d) (forwarded_by me port sets d o)
+passed_on-by : (me : ClockIdentity) (port : ℕ) (sets : DataSetsValue) (d : List ℕ)
+    (o : Option Message)
+    → message_of d ≡ o
+    → AllByRecursion (IsPassedOn d) (forwarded_by me port sets d o)
 passed_on-by me port sets d None e = tt
 passed_on-by me port sets d (Some v) e = ⊎_elim
     (λ (y : is_forwarded me port sets v ≡ true).
@@ -105,7 +119,8 @@ passed_on-by me port sets d (Some v) e = ⊎_elim
     (λ (n : is_forwarded me port sets v ≡ false). subst (AllByRecursion (IsPassedOn d)) (sym (cond-false _ _ _ n)) tt)
     (cases_Bool (is_forwarded me port sets v))
 
-pub passed_on : (me : ClockIdentity) (port : ℕ) (sets : DataSetsValue) (d : List ℕ) → AllByRecursion (IsPassedOn d) (forwarded me port sets d)
+pub passed_on : (me : ClockIdentity) (port : ℕ) (sets : DataSetsValue) (d : List ℕ)
+    → AllByRecursion (IsPassedOn d) (forwarded me port sets d)
 unfolding forwarded
 passed_on me port sets d = passed_on-by me port sets d (message_of d) refl
 
@@ -115,10 +130,16 @@ passed_on me port sets d = passed_on-by me port sets d (message_of d) refl
 abbrev pub request_at : Network → ℕ → ℕ → ℕ → ℕ → RequestValue → Message
 request_at N s k domain hops q = record (request_message (N.session s).setup domain k q) { hops = hops }
 
-pub request-valid : (N : Network) (s k domain hops ports : ℕ) (q : RequestValue) → IsAsked ports q → IsValid (request_at N s k domain hops q)
+pub request-valid : (N : Network) (s k domain hops ports : ℕ) (q : RequestValue)
+    → IsAsked ports q
+    → IsValid (request_at N s k domain hops q)
 request-valid N s k domain hops ports q asked = record { sdo = omega arith; body = (asked.action, asked.octets) }
 
-pub request-fits : (N : Network) (s k domain hops ports : ℕ) (q : RequestValue) → IsNetwork N → s < N.sessions → IsAsked ports q → Fits (request_at N s k domain hops q)
+pub request-fits : (N : Network) (s k domain hops ports : ℕ) (q : RequestValue)
+    → IsNetwork N
+    → s < N.sessions
+    → IsAsked ports q
+    → Fits (request_at N s k domain hops q)
 request-fits N s k domain hops ports q n place asked =
     let session = n.are_sessions s place in
     let clock = n.are_clocks (N.session s).target session.exists in
@@ -140,17 +161,25 @@ error_number-fits errors.NotSetable = omega arith
 error_number-fits errors.NotSupported = omega arith
 error_number-fits errors.GeneralError = omega arith
 
-answer_body-valid : (action : Action) (id : ℕ) (o : Outcome) → IsReplyAction action → IsSendableOutcome o → IsValidBody (answer_body action id o)
+answer_body-valid : (action : Action) (id : ℕ) (o : Outcome)
+    → IsReplyAction action
+    → IsSendableOutcome o
+    → IsValidBody (answer_body action id o)
 answer_body-valid action id (reply.Value octets) a s = (a, s)
 answer_body-valid action id reply.Done a s = (a, record { even = refl; small = omega arith })
 answer_body-valid action id (reply.Refused error) a s = (a, omega arith)
 
-answer_body-fits : (action : Action) (id : ℕ) (o : Outcome) → id < 2 ^ 16 → BodyFits (answer_body action id o)
+answer_body-fits : (action : Action) (id : ℕ) (o : Outcome)
+    → id < 2 ^ 16
+    → BodyFits (answer_body action id o)
 answer_body-fits action id (reply.Value octets) h = h
 answer_body-fits action id reply.Done h = h
 answer_body-fits action id (reply.Refused error) h = (error_number-fits error, h)
 
-port-fits : (o : Option ℕ) (ingress : ℕ) → IsPort o → ingress < 2 ^ 16 → unwrap_or o ingress < 2 ^ 16
+port-fits : (o : Option ℕ) (ingress : ℕ)
+    → IsPort o
+    → ingress < 2 ^ 16
+    → unwrap_or o ingress < 2 ^ 16
 port-fits None ingress o h = h
 port-fits (Some port) ingress o h = o
 
@@ -158,13 +187,26 @@ port-fits (Some port) ingress o h = o
 abbrev pub reply_at : ClockIdentity → Heard → ReplyValue → ℕ → ℕ → Answer → Message
 reply_at me heard r ingress hops a = record (reply_message me heard r.action r.id ingress a) { hops = hops }
 
-pub reply-valid : (me : ClockIdentity) (heard : Heard) (q : RequestValue) (r : ReplyValue) (ingress hops : ℕ) (a : Answer) → Answers q r → IsSendable a → IsValid (reply_at me heard r ingress hops a)
+pub reply-valid : (me : ClockIdentity) (heard : Heard) (q : RequestValue) (r : ReplyValue)
+    (ingress hops : ℕ) (a : Answer)
+    → Answers q r
+    → IsSendable a
+    → IsValid (reply_at me heard r ingress hops a)
 reply-valid me heard q r ingress hops a answers sendable = record {
   sdo = omega arith;
   body = answer_body-valid r.action r.id a.outcome (ap is_reply answers.action ∙ reply_action-is_reply q.action) sendable.outcome;
 }
 
-pub reply-fits : (me : ClockIdentity) (heard : Heard) (q : RequestValue) (r : ReplyValue) (ingress hops : ℕ) (a : Answer) → length me.0 ≡ 8 → length heard.source.clock.0 ≡ 8 → heard.source.port < 2 ^ 16 → heard.number < 2 ^ 16 → ingress < 2 ^ 16 → q.id < 2 ^ 16 → Answers q r → IsSendable a
+pub reply-fits : (me : ClockIdentity) (heard : Heard) (q : RequestValue) (r : ReplyValue)
+    (ingress hops : ℕ) (a : Answer)
+    → length me.0 ≡ 8
+    → length heard.source.clock.0 ≡ 8
+    → heard.source.port < 2 ^ 16
+    → heard.number < 2 ^ 16
+    → ingress < 2 ^ 16
+    → q.id < 2 ^ 16
+    → Answers q r
+    → IsSendable a
     → Fits (reply_at me heard r ingress hops a)
 reply-fits me heard q r ingress hops a identity source port number in' id answers sendable = record {
   source = record { clock = identity; port = port-fits a.port ingress sendable.port in' };

@@ -17,7 +17,9 @@ use Rattle.ptpm_network.proofs.Held.{held-forwarded, held-frames_to}
 use Rattle.ptpm_network.proofs.TurnSends.{IsAt, IsAway, forwards-away, replies-at, reply-origin}
 
 -- replies, as they are held
-held-replied : (N : Network) (c : ℕ) (origin : Origin) (sent : List (ℕ × List ℕ)) → map held (reply_frames N c origin sent) ≡ flat_map (λ m. posted (peers N.links (AtPort c m.0)) m.1 origin) sent
+held-replied : (N : Network) (c : ℕ) (origin : Origin) (sent : List (ℕ × List ℕ))
+    → map held (reply_frames N c origin sent)
+    ≡ flat_map (λ m. posted (peers N.links (AtPort c m.0)) m.1 origin) sent
 held-replied N c origin [] = refl
 held-replied N c origin (m ∷ ms) =
     map-append held (frames_to (peers N.links (AtPort c m.0)) m.1 origin (boundary_hops m.1) 0) (reply_frames N c origin ms)
@@ -25,24 +27,32 @@ held-replied N c origin (m ∷ ms) =
     ∙ ap (λ hs. posted (peers N.links (AtPort c m.0)) m.1 origin ++ hs) (held-replied N c origin ms)
 
 -- what leaves at other ports belongs to what came in
-posted-away : (links : List (List End)) (c ingress : ℕ) (passed reply : Origin) (sent : List (ℕ × List ℕ)) → AllByRecursion (IsAway ingress) sent
-    → flat_map (λ m. posted (peers links (AtPort c m.0)) m.1 passed) sent ≡ flat_map (posted_by links c ingress passed reply) sent
+posted-away : (links : List (List End)) (c ingress : ℕ) (passed reply : Origin)
+    (sent : List (ℕ × List ℕ))
+    → AllByRecursion (IsAway ingress) sent
+    → flat_map (λ m. posted (peers links (AtPort c m.0)) m.1 passed) sent
+    ≡ flat_map (posted_by links c ingress passed reply) sent
 posted-away links c ingress passed reply [] away = refl
 posted-away links c ingress passed reply (m ∷ ms) away =
     ap (λ (o : Origin). posted (peers links (AtPort c m.0)) m.1 o ++ flat_map (λ m. posted (peers links (AtPort c m.0)) m.1 passed) ms) (sym (cond-false (m.0 == ingress) reply passed away.0))
     ∙ ap (λ hs. posted_by links c ingress passed reply m ++ hs) (posted-away links c ingress passed reply ms away.1)
 
 -- what leaves at that port is the reply
-posted-at : (links : List (List End)) (c ingress : ℕ) (passed reply : Origin) (sent : List (ℕ × List ℕ)) → AllByRecursion (IsAt ingress) sent
-    → flat_map (λ m. posted (peers links (AtPort c m.0)) m.1 reply) sent ≡ flat_map (posted_by links c ingress passed reply) sent
+posted-at : (links : List (List End)) (c ingress : ℕ) (passed reply : Origin)
+    (sent : List (ℕ × List ℕ))
+    → AllByRecursion (IsAt ingress) sent
+    → flat_map (λ m. posted (peers links (AtPort c m.0)) m.1 reply) sent
+    ≡ flat_map (posted_by links c ingress passed reply) sent
 posted-at links c ingress passed reply [] at = refl
 posted-at links c ingress passed reply (m ∷ ms) at =
     ap (λ (o : Origin). posted (peers links (AtPort c m.0)) m.1 o ++ flat_map (λ m. posted (peers links (AtPort c m.0)) m.1 reply) ms) (sym (cond-true (m.0 == ingress) reply passed at.0))
     ∙ ap (λ hs. posted_by links c ingress passed reply m ++ hs) (posted-at links c ingress passed reply ms at.1)
 
 -- replies belong to what the verdict says, or there are none
-reply_origins : (N : Network) (c : ℕ) (due told : Origin) (replies : List (ℕ × List ℕ)) → (replies ≡ []) ⊎ (told ≡ due)
-    → flat_map (λ m. posted (peers N.links (AtPort c m.0)) m.1 due) replies ≡ flat_map (λ m. posted (peers N.links (AtPort c m.0)) m.1 told) replies
+reply_origins : (N : Network) (c : ℕ) (due told : Origin) (replies : List (ℕ × List ℕ))
+    → (replies ≡ []) ⊎ (told ≡ due)
+    → flat_map (λ m. posted (peers N.links (AtPort c m.0)) m.1 due) replies
+    ≡ flat_map (λ m. posted (peers N.links (AtPort c m.0)) m.1 told) replies
 reply_origins N c due told replies cases = ⊎_elim
     (λ (none : replies ≡ []). ap (flat_map (λ m. posted (peers N.links (AtPort c m.0)) m.1 due)) none ∙ sym (ap (flat_map (λ m. posted (peers N.links (AtPort c m.0)) m.1 told)) none))
     (λ (same : told ≡ due). ap (λ (o : Origin). flat_map (λ m. posted (peers N.links (AtPort c m.0)) m.1 o) replies) (sym same))

@@ -33,7 +33,11 @@ first_of_sessions N (suc n) m = if same_identity m (manager N n) then (N.session
 none_below : {X : Type 0} (s : ℕ) → s < 0 → X
 none_below s h = absurd (omega arith)
 
-first_of-session : (N : Network) (n s : ℕ) → IsNetwork N → n ≤ N.sessions → s < n → first_of_sessions N n (manager N s) ≡ (N.session s).setup.first
+first_of-session : (N : Network) (n s : ℕ)
+    → IsNetwork N
+    → n ≤ N.sessions
+    → s < n
+    → first_of_sessions N n (manager N s) ≡ (N.session s).setup.first
 unfolding first_of_sessions
 first_of-session N zero s is le below = none_below s below
 first_of-session N (suc n) s is le below = ⊎_elim
@@ -53,7 +57,9 @@ firsts N is s place = first_of-session N N.sessions s is (omega arith) place
 -- ---- the promise
 
 -- what a manager is to be told begins with what it is to be told of its first requests
-told-begins : (m : PortIdentity) (accepted : List Accepted) (g n : ℕ) → n ≤ g → (rest : List Report) × (outcomes_kept m accepted g ≡ outcomes_kept m accepted n ++ rest)
+told-begins : (m : PortIdentity) (accepted : List Accepted) (g n : ℕ)
+    → n ≤ g
+    → (rest : List Report) × (outcomes_kept m accepted g ≡ outcomes_kept m accepted n ++ rest)
 told-begins m accepted zero n le =
     let none : n ≡ 0 = omega arith in
     ([], sym (append-nil (outcomes_kept m accepted n) ∙ ap (outcomes_kept m accepted) none))
@@ -65,7 +71,10 @@ told-begins m accepted (suc g) n le = ⊎_elim
     (p.0 ++ last, ap (λ (rs : List Report). rs ++ last) p.1 ∙ append_assoc (outcomes_kept m accepted n) p.0 last))
     (cases_eq n (suc g))
 
-reached-headline : (N : Network) (first : PortIdentity → ℕ) (w : NetworkState) (r : RunningNetwork) → IsReached N w → Stands N first r w → Headline N w r
+reached-headline : (N : Network) (first : PortIdentity → ℕ) (w : NetworkState) (r : RunningNetwork)
+    → IsReached N w
+    → Stands N first r w
+    → Headline N w r
 reached-headline N first w r reached at = record {
   sets = λ c place. (at.clocks c place).sets;
   frames = at.frames;
@@ -84,7 +93,9 @@ reached-headline N first w r reached at = record {
       omega (arith, ap length (at.reports s place), session.accepted_before);
 }
 
-pub stands-headline : (N : Network) (events : List Event) (r : RunningNetwork) → StandsAfter N events r → Headline N (run N (initial_state N) events) r
+pub stands-headline : (N : Network) (events : List Event) (r : RunningNetwork)
+    → StandsAfter N events r
+    → Headline N (run N (initial_state N) events) r
 stands-headline N events r at =
     let p = at.promised in
     reached-headline N (first_of_sessions N N.sessions) (run N (initial_state N) events) r (reached N events p.network p.in_range)
@@ -99,14 +110,22 @@ stands-first N n = record {
 }
 
 -- the premises hold of more events
-promised-more : (N : Network) (past es : List Event) → IsPromised N past → AllByRecursion IsInRange es → AreInTime N (run N (initial_state N) past) es → IsPromised N (past ++ es)
+promised-more : (N : Network) (past es : List Event)
+    → IsPromised N past
+    → AllByRecursion IsInRange es
+    → AreInTime N (run N (initial_state N) past) es
+    → IsPromised N (past ++ es)
 promised-more N past es p range time = record {
   network = p.network;
   in_range = all_append IsInRange past es p.in_range range;
   in_time = in_time-append N (initial_state N) past es p.in_time time;
 }
 
-pub stands-network_step : (N : Network) (past : List Event) (r : RunningNetwork) (e : Event) → StandsAfter N past r → IsInRange e → refusal N (run N (initial_state N) past) e ≡ None → is_late_delivery (run N (initial_state N) past) e ≡ false
+pub stands-network_step : (N : Network) (past : List Event) (r : RunningNetwork) (e : Event)
+    → StandsAfter N past r
+    → IsInRange e
+    → refusal N (run N (initial_state N) past) e ≡ None
+    → is_late_delivery (run N (initial_state N) past) e ≡ false
     → StandsAfter N (past ++ e ∷ []) (network_step N r e)
 stands-network_step N past r e at range none late =
     let p = at.promised in
@@ -122,7 +141,11 @@ stands-network_step N past r e at range none late =
 some_none : {X : Type 0} (reason : Refusal) → Some reason ≡ None → X
 some_none reason h = absurd (cc)
 
-pub stands-refused : (N : Network) (past : List Event) (r : RunningNetwork) (e : Event) (reason : Refusal) → StandsAfter N past r → IsInRange e → refusal N (run N (initial_state N) past) e ≡ Some reason
+pub stands-refused : (N : Network) (past : List Event) (r : RunningNetwork) (e : Event)
+    (reason : Refusal)
+    → StandsAfter N past r
+    → IsInRange e
+    → refusal N (run N (initial_state N) past) e ≡ Some reason
     → StandsAfter N (past ++ e ∷ []) r
 stands-refused N past r e reason at range some =
     let p = at.promised in
@@ -134,7 +157,10 @@ stands-refused N past r e reason at range some =
       stands = λ first firsts. subst (Stands N first r) (sym stays) (at.stands first firsts);
     }
 
-pub stands-network_run : (N : Network) (past : List Event) (r : RunningNetwork) (es : List Event) → StandsAfter N past r → AllByRecursion IsInRange es → AreInTime N (run N (initial_state N) past) (taken N (run N (initial_state N) past) es)
+pub stands-network_run : (N : Network) (past : List Event) (r : RunningNetwork) (es : List Event)
+    → StandsAfter N past r
+    → AllByRecursion IsInRange es
+    → AreInTime N (run N (initial_state N) past) (taken N (run N (initial_state N) past) es)
     → StandsAfter N (past ++ taken N (run N (initial_state N) past) es) (network_run N r es)
 stands-network_run N past r es at range time =
     let p = at.promised in
@@ -144,7 +170,9 @@ stands-network_run N past r es at range time =
       stands = λ first firsts. network_run-running N past es first r p.network p.in_range firsts (at.stands first firsts) range time;
     }
 
-pub stands-judged : (N : Network) (past : List Event) (r : RunningNetwork) (e : Event) → StandsAfter N past r → network_refusal N r e ≡ refusal N (run N (initial_state N) past) e
+pub stands-judged : (N : Network) (past : List Event) (r : RunningNetwork) (e : Event)
+    → StandsAfter N past r
+    → network_refusal N r e ≡ refusal N (run N (initial_state N) past) e
 stands-judged N past r e at =
     let p = at.promised in
     let first : PortIdentity → ℕ = first_of_sessions N N.sessions in

@@ -53,7 +53,13 @@ told-by state v r e = ⊎_elim
 pub told-message : (state : SessionState) (o : Option Message) (v : Message) (r : Report) → o ≡ Some v → told_by state o ≡ Some r → r ≡ record { index = length state.begun; outcome = outcome_of v.body }
 told-message state o v r e h = told-by state v r (ap (told_by state) (sym e) ∙ h)
 
-reports-by : (N : Network) (w : NetworkState) (s : ℕ) (octets : List ℕ) (o : Origin) (r : Report) → IsNetwork N → IsReached N w → IsOfOrigin N w octets o → is_answer s (w.session s) o ≡ true → told_by (w.session s) (message_of octets) ≡ Some r → Reports N w s r
+reports-by : (N : Network) (w : NetworkState) (s : ℕ) (octets : List ℕ) (o : Origin) (r : Report)
+    → IsNetwork N
+    → IsReached N w
+    → IsOfOrigin N w octets o
+    → is_answer s (w.session s) o ≡ true
+    → told_by (w.session s) (message_of octets) ≡ Some r
+    → Reports N w s r
 reports-by N w s octets (RequestOf t k) r n reached i y e = absurd (cc)
 reports-by N w s octets Neither r n reached i y e = absurd (cc)
 reports-by N w s octets (ReplyTo t k) r n reached i y e =
@@ -74,13 +80,24 @@ reports-by N w s octets (ReplyTo t k) r n reached i y e =
       is = told;
     }
 
-pub reports_of_frame : (N : Network) (w : NetworkState) (s : ℕ) (f : Frame) (r : Report) → IsNetwork N → IsReached N w → IsOfOrigin N w f.octets f.origin → report_from s (w.session s) f ≡ Some r → Reports N w s r
+pub reports_of_frame : (N : Network) (w : NetworkState) (s : ℕ) (f : Frame) (r : Report)
+    → IsNetwork N
+    → IsReached N w
+    → IsOfOrigin N w f.octets f.origin
+    → report_from s (w.session s) f ≡ Some r
+    → Reports N w s r
 reports_of_frame N w s f r n reached i e = ⊎_elim
     (λ (y : is_answer s (w.session s) f.origin ≡ true). reports-by N w s f.octets f.origin r n reached i y (sym (cond-true _ _ _ y) ∙ e))
     (λ (no' : is_answer s (w.session s) f.origin ≡ false). no_report r (sym (cond-false _ _ _ no') ∙ e))
     (cases_Bool (is_answer s (w.session s) f.origin))
 
-reported-reached : (N : Network) (w : NetworkState) (s : ℕ) (f : Frame) (o : Option Report) → IsNetwork N → IsReached N w → s < N.sessions → IsOfOrigin N w f.octets f.origin → report_from s (w.session s) f ≡ o → IsReached N (with_session w s (reported (w.session s) o))
+reported-reached : (N : Network) (w : NetworkState) (s : ℕ) (f : Frame) (o : Option Report)
+    → IsNetwork N
+    → IsReached N w
+    → s < N.sessions
+    → IsOfOrigin N w f.octets f.origin
+    → report_from s (w.session s) f ≡ o
+    → IsReached N (with_session w s (reported (w.session s) o))
 reported-reached N w s f None n r place i e = session-changes N w s (w.session s) (λ j q h. h) (r.sessions s place) r
 reported-reached N w s f (Some report) n r place i e =
     let p = reports_of_frame N w s f report n r i e in
@@ -90,17 +107,30 @@ reported-reached N w s f (Some report) n r place i e =
 
 -- ---- a frame comes in
 
-delivered_at-reached : (N : Network) (w : NetworkState) (f : Frame) (e : End) → f.end ≡ e → IsNetwork N → IsReached N w → IsFrame N w f → HasEnd N e → IsReached N (delivered_at N w f e)
+delivered_at-reached : (N : Network) (w : NetworkState) (f : Frame) (e : End)
+    → f.end ≡ e
+    → IsNetwork N
+    → IsReached N w
+    → IsFrame N w f
+    → HasEnd N e
+    → IsReached N (delivered_at N w f e)
 delivered_at-reached N w f (AtPort c port) q n r i h = delivered_at_clock-reached N w c port f n r h (heard-frame N w f.octets f.origin i.origin) i.hops
 delivered_at-reached N w f (AtSession s) q n r i h = reported-reached N w s f (report_from s (w.session s) f) n r h i.origin refl
 
-pub frame_at-is : (N : Network) (w : NetworkState) (k : ℕ) (f : Frame) → IsReached N w → frame_at w.frames k ≡ Some f → IsFrame N w f
+pub frame_at-is : (N : Network) (w : NetworkState) (k : ℕ) (f : Frame)
+    → IsReached N w
+    → frame_at w.frames k ≡ Some f
+    → IsFrame N w f
 frame_at-is N w k f r e = ⊎_elim
     (λ (y : k == 0 ≡ true). let none : None ≡ Some f = sym (cond-true _ _ _ y) ∙ e in absurd (cc))
     (λ (n : k == 0 ≡ false). all_get (IsFrame N w) w.frames (k - 1) f r.frames (sym (cond-false _ _ _ n) ∙ e))
     (cases_Bool (k == 0))
 
-delivered-reached : (N : Network) (w : NetworkState) (k : ℕ) (o : Option Frame) → IsNetwork N → IsReached N w → frame_at w.frames k ≡ o → IsReached N (delivered N w o)
+delivered-reached : (N : Network) (w : NetworkState) (k : ℕ) (o : Option Frame)
+    → IsNetwork N
+    → IsReached N w
+    → frame_at w.frames k ≡ o
+    → IsReached N (delivered N w o)
 delivered-reached N w k None n r e = r
 delivered-reached N w k (Some f) n r e =
     let i = frame_at-is N w k f r e in
@@ -117,7 +147,13 @@ port-exists N c port e =
     let inner = and_parts (nat_le 1 port) (nat_le port (ports N c)) outer.1 in
     (ltb-true c N.clocks outer.0, leb-true 1 port inner.0, leb-true port (ports N c) inner.1)
 
-begins-reached : (N : Network) (w : NetworkState) (s : ℕ) (a : Ask) → IsNetwork N → IsReached N w → s < N.sessions → a.id < 2 ^ 16 → begin_refused N w s a ≡ None → IsReached N (happens N w (Begin s a))
+begins-reached : (N : Network) (w : NetworkState) (s : ℕ) (a : Ask)
+    → IsNetwork N
+    → IsReached N w
+    → s < N.sessions
+    → a.id < 2 ^ 16
+    → begin_refused N w s a ≡ None
+    → IsReached N (happens N w (Begin s a))
 unfolding happens
 begins-reached N w s a n r place id e =
     let session = n.are_sessions s place in
@@ -130,14 +166,25 @@ begins-reached N w s a n r place id e =
     session-changes N w s _ (λ i q h. get_append (w.session s).begun (ask.request_of a ∷ []) i q h)
     (in_step-begun (manager N s) (ports N (N.session s).target) (accepted_at_target N w s) (w.session s) (ask.request_of a) (N.session s).setup.attempts asked (eqb-true _ _ idle) at) r
 
-strange-reached : (N : Network) (w : NetworkState) (c port : ℕ) (datagram : List ℕ) → IsNetwork N → IsReached N w → IsInRange (Stranger c port datagram) → no_port N c port ≡ None → forged N datagram ≡ None → IsReached N (happens N w (Stranger c port datagram))
+strange-reached : (N : Network) (w : NetworkState) (c port : ℕ) (datagram : List ℕ)
+    → IsNetwork N
+    → IsReached N w
+    → IsInRange (Stranger c port datagram)
+    → no_port N c port ≡ None
+    → forged N datagram ≡ None
+    → IsReached N (happens N w (Stranger c port datagram))
 unfolding happens
 strange-reached N w c port datagram n r octets p e =
     let honest = (first_of-none (is_forged N datagram) Forged [] e).0 in
     delivered_at_clock-reached N w c port (strange_frame c port datagram) n r (port-exists N c port p)
     (λ v h. strange-message N datagram v octets honest h) (omega arith)
 
-happens-reached : (N : Network) (w : NetworkState) (e : Event) → IsNetwork N → IsReached N w → IsInRange e → refusal N w e ≡ None → IsReached N (happens N w e)
+happens-reached : (N : Network) (w : NetworkState) (e : Event)
+    → IsNetwork N
+    → IsReached N w
+    → IsInRange e
+    → refusal N w e ≡ None
+    → IsReached N (happens N w e)
 unfolding refusal happens
 happens-reached N w (Begin s q) n r i e =
     let p = option_or-none (no_session N s) (begin_refused N w s q) e in
@@ -151,14 +198,27 @@ happens-reached N w (Stranger c port datagram) n r i e =
     let q = option_or-none (forged N datagram) (no_room w.frames) p.1 in
     strange-reached N w c port datagram n r i p.0 q.0
 
-step_by-reached : (N : Network) (w : NetworkState) (e : Event) (o : Option Refusal) → refusal N w e ≡ o → IsNetwork N → IsReached N w → IsInRange e → IsReached N (step_by o N w e)
+step_by-reached : (N : Network) (w : NetworkState) (e : Event) (o : Option Refusal)
+    → refusal N w e ≡ o
+    → IsNetwork N
+    → IsReached N w
+    → IsInRange e
+    → IsReached N (step_by o N w e)
 step_by-reached N w e None h n r i = happens-reached N w e n r i h
 step_by-reached N w e (Some refused) h n r i = r
 
-pub step-reached : (N : Network) (w : NetworkState) (e : Event) → IsNetwork N → IsInRange e → IsReached N w → IsReached N (step N w e)
+pub step-reached : (N : Network) (w : NetworkState) (e : Event)
+    → IsNetwork N
+    → IsInRange e
+    → IsReached N w
+    → IsReached N (step N w e)
 step-reached N w e n i r = step_by-reached N w e (refusal N w e) refl n r i
 
-pub run-reached : (N : Network) (w : NetworkState) (es : List Event) → IsNetwork N → AllByRecursion IsInRange es → IsReached N w → IsReached N (run N w es)
+pub run-reached : (N : Network) (w : NetworkState) (es : List Event)
+    → IsNetwork N
+    → AllByRecursion IsInRange es
+    → IsReached N w
+    → IsReached N (run N w es)
 run-reached N w [] n i r = r
 run-reached N w (e ∷ es) n i r = run-reached N (step N w e) es n i.1 (step-reached N w e n i.0 r)
 

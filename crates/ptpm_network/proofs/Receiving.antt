@@ -54,12 +54,23 @@ pub record IsAccepted (s : SessionValue) (v : Message) : Type 0 where
   pub number : v.number == number_of s.setup.first s.issued ≡ true
   pub content : is_content s.unanswered (action_of v.body) (id_of v.body) ≡ true
 
-all_pass : {A : Type 0} (a b c d e f g : Bool) (p q r s t u v : A) → a ≡ true → b ≡ true → c ≡ true → d ≡ true → e ≡ true → f ≡ true → g ≡ true
-    → first_of ((not a, p) ∷ (not b, q) ∷ (not c, r) ∷ (not d, s) ∷ (not e, t) ∷ (not f, u) ∷ (not g, v) ∷ []) ≡ None
+all_pass : {A : Type 0} (a b c d e f g : Bool) (p q r s t u v : A)
+    → a ≡ true
+    → b ≡ true
+    → c ≡ true
+    → d ≡ true
+    → e ≡ true
+    → f ≡ true
+    → g ≡ true
+    → first_of
+    ((not a, p) ∷ (not b, q) ∷ (not c, r) ∷ (not d, s) ∷ (not e, t) ∷ (not f, u)
+    ∷ (not g, v) ∷ []) ≡ None
 all_pass a b c d e f g p q r s t u v h1 h2 h3 h4 h5 h6 h7 = rw (h1, h2, h3, h4, h5, h6, h7) refl
 
 each_passes : {A : Type 0} (a b c d e f g : Bool) (p q r s t u v : A)
-    → first_of ((not a, p) ∷ (not b, q) ∷ (not c, r) ∷ (not d, s) ∷ (not e, t) ∷ (not f, u) ∷ (not g, v) ∷ []) ≡ None
+    → first_of
+    ((not a, p) ∷ (not b, q) ∷ (not c, r) ∷ (not d, s) ∷ (not e, t) ∷ (not f, u)
+    ∷ (not g, v) ∷ []) ≡ None
     → (a ≡ true) × (b ≡ true) × (c ≡ true) × (d ≡ true) × (e ≡ true) × (f ≡ true) × (g ≡ true)
 each_passes a b c d e f g p q r s t u v h =
     let h1 = first_of-none (not a) p ((not b, q) ∷ (not c, r) ∷ (not d, s) ∷ (not e, t) ∷ (not f, u) ∷ (not g, v) ∷ []) h in
@@ -86,7 +97,9 @@ is_accepted s v e =
 
 -- ---- the reply to the unanswered request passes them
 
-answered_by-reply_action : (a : Action) → is_reply a ≡ false → is_answered_by a (reply_action a) ≡ true
+answered_by-reply_action : (a : Action)
+    → is_reply a ≡ false
+    → is_answered_by a (reply_action a) ≡ true
 answered_by-reply_action actions.Get h = refl
 answered_by-reply_action actions.Set h = refl
 answered_by-reply_action actions.Response h = absurd (true≢false h)
@@ -101,10 +114,15 @@ id_of-answer_body action id (reply.Refused error) = refl
 same_answer : (a b : Answer) → a ∷ [] ≡ b ∷ [] → a ≡ b
 same_answer a b e = cc
 
-abbrev message_said : (N : Network) (w : NetworkState) (s k : ℕ) (octets : List ℕ) → SaysReply N w s k octets → Message
+abbrev message_said : (N : Network) (w : NetworkState) (s k : ℕ) (octets : List ℕ)
+    → SaysReply N w s k octets
+    → Message
 message_said N w s k octets says = reply_at (N.session s).setup.target says.heard says.entry.reply says.ingress says.hops says.answer
 
-asked-port : (N : Network) (w : NetworkState) (s k : ℕ) (octets : List ℕ) (says : SaysReply N w s k octets) → is_from_asked_port (Some says.entry.request) (message_said N w s k octets says).source.port ≡ true
+asked-port : (N : Network) (w : NetworkState) (s k : ℕ) (octets : List ℕ)
+    (says : SaysReply N w s k octets)
+    → is_from_asked_port (Some says.entry.request) (message_said N w s k octets says).source.port
+    ≡ true
 asked-port N w s k octets says = ⊎_elim
     (λ (y : is_of_port says.entry.request.id ≡ true).
     let same : says.answer ≡ says.says.one.answer = same_answer says.answer says.says.one.answer (sym says.one ∙ says.says.one.is) in
@@ -114,7 +132,10 @@ asked-port N w s k octets says = ⊎_elim
     (λ (n : is_of_port says.entry.request.id ≡ false). or_left _ _ (eq-eqb says.entry.request.port every_port (says.says.asked.every n)))
     (cases_Bool (is_of_port says.entry.request.id))
 
-content-said : (N : Network) (w : NetworkState) (s k : ℕ) (octets : List ℕ) (says : SaysReply N w s k octets) → is_content (Some says.entry.request) (action_of (message_said N w s k octets says).body) (id_of (message_said N w s k octets says).body) ≡ true
+content-said : (N : Network) (w : NetworkState) (s k : ℕ) (octets : List ℕ)
+    (says : SaysReply N w s k octets)
+    → is_content (Some says.entry.request) (action_of (message_said N w s k octets says).body)
+    (id_of (message_said N w s k octets says).body) ≡ true
 content-said N w s k octets says =
     let q = says.entry.request in
     let r = says.entry.reply in
@@ -125,11 +146,18 @@ content-said N w s k octets says =
     (eq-eqb q.id _ (sym id))
 
 -- what is unanswered is the request that the reply is to
-unanswered-said : (N : Network) (w : NetworkState) (s : ℕ) (octets : List ℕ) (says : SaysReply N w s (issued w s) octets) → is_idle (w.session s) ≡ false → unanswered (w.session s) ≡ Some says.entry.request
+unanswered-said : (N : Network) (w : NetworkState) (s : ℕ) (octets : List ℕ)
+    (says : SaysReply N w s (issued w s) octets)
+    → is_idle (w.session s) ≡ false
+    → unanswered (w.session s) ≡ Some says.entry.request
 unanswered-said N w s octets says busy = cond-false _ _ _ busy ∙ says.says.begun_as
 
-answer-accepted : (N : Network) (w : NetworkState) (s : ℕ) (octets : List ℕ) (says : SaysReply N w s (issued w s) octets) → is_idle (w.session s) ≡ false → says.heard.domain == (w.session s).domain ≡ true
-    → IsAccepted (session_value (N.session s) (w.session s)) (message_said N w s (issued w s) octets says)
+answer-accepted : (N : Network) (w : NetworkState) (s : ℕ) (octets : List ℕ)
+    (says : SaysReply N w s (issued w s) octets)
+    → is_idle (w.session s) ≡ false
+    → says.heard.domain == (w.session s).domain ≡ true
+    → IsAccepted (session_value (N.session s) (w.session s))
+    (message_said N w s (issued w s) octets says)
 answer-accepted N w s octets says busy domain =
     let asked = unanswered-said N w s octets says busy in
     let r = says.entry.reply in
@@ -146,17 +174,29 @@ answer-accepted N w s octets says busy domain =
     }
 
 -- what is received of a message that passes
-received-message : (s : SessionValue) (octets : List ℕ) (v : Message) → message_of octets ≡ Some v → reason_of s v ≡ None → received_of s octets ≡ received.Answered (record { index = s.issued; outcome = outcome_of v.body })
+received-message : (s : SessionValue) (octets : List ℕ) (v : Message)
+    → message_of octets ≡ Some v
+    → reason_of s v ≡ None
+    → received_of s octets
+    ≡ received.Answered (record { index = s.issued; outcome = outcome_of v.body })
 received-message s octets v e none =
     ap (answer_to s) (reading-message_of octets v e) ∙ ap (λ (o : Option Reason). answer_by o s v) none
 
-told-domain : (state : SessionState) (o : Option Message) (v : Message) (r : Report) → o ≡ Some v → told_by state o ≡ Some r → v.domain == state.domain ≡ true
+told-domain : (state : SessionState) (o : Option Message) (v : Message) (r : Report)
+    → o ≡ Some v
+    → told_by state o ≡ Some r
+    → v.domain == state.domain ≡ true
 told-domain state o v r e h = ⊎_elim
     (λ (y : v.domain == state.domain ≡ true). y)
     (λ (n : v.domain == state.domain ≡ false). no_report r (sym (ap (told_by state) e ∙ cond-false _ _ _ n) ∙ h))
     (cases_Bool (v.domain == state.domain))
 
-received-by : (N : Network) (w : NetworkState) (s : ℕ) (octets : List ℕ) (o : Origin) (r : Report) → IsNetwork N → IsReached N w → IsOfOrigin N w octets o → is_answer s (w.session s) o ≡ true → told_by (w.session s) (message_of octets) ≡ Some r
+received-by : (N : Network) (w : NetworkState) (s : ℕ) (octets : List ℕ) (o : Origin) (r : Report)
+    → IsNetwork N
+    → IsReached N w
+    → IsOfOrigin N w octets o
+    → is_answer s (w.session s) o ≡ true
+    → told_by (w.session s) (message_of octets) ≡ Some r
     → received_of (session_value (N.session s) (w.session s)) octets ≡ received.Answered r
 received-by N w s octets (RequestOf t k) r n reached i y e = absurd (false≢true y)
 received-by N w s octets Neither r n reached i y e = absurd (false≢true y)
@@ -174,7 +214,9 @@ received-by N w s octets (ReplyTo t k) r n reached i y e =
 
 -- ---- and nothing else does
 
-no_answer : {X : Type 0} (reason : Reason) (r : Report) → received.Ignored reason ≡ received.Answered r → X
+no_answer : {X : Type 0} (reason : Reason) (r : Report)
+    → received.Ignored reason ≡ received.Answered r
+    → X
 no_answer reason r e = absurd (cc)
 
 same_reports : (p r : Report) → received.Answered p ≡ received.Answered r → p ≡ r
@@ -187,24 +229,45 @@ pub record Takes (s : SessionValue) (octets : List ℕ) (r : Report) : Type 0 wh
   pub accepted : IsAccepted s message
   pub is : record { index = s.issued; outcome = outcome_of message.body } ≡ r
 
-takes-message : (s : SessionValue) (octets : List ℕ) (v : Message) (r : Report) (o : Option Reason) → reason_of s v ≡ o → message_of octets ≡ Some v → answer_by o s v ≡ received.Answered r → Takes s octets r
+takes-message : (s : SessionValue) (octets : List ℕ) (v : Message) (r : Report) (o : Option Reason)
+    → reason_of s v ≡ o
+    → message_of octets ≡ Some v
+    → answer_by o s v ≡ received.Answered r
+    → Takes s octets r
 takes-message s octets v r (Some reason) h e a = no_answer reason r a
 takes-message s octets v r None h e a = record { message = v; read = e; accepted = is_accepted s v h; is = same_reports _ r a }
 
-takes-by : (s : SessionValue) (octets : List ℕ) (r : Report) (o : Result Message DecodeError) → reading octets ≡ o → answer_to s o ≡ received.Answered r → Takes s octets r
+takes-by : (s : SessionValue) (octets : List ℕ) (r : Report) (o : Result Message DecodeError)
+    → reading octets ≡ o
+    → answer_to s o ≡ received.Answered r
+    → Takes s octets r
 takes-by s octets r (Err cause) h a = no_answer (reasons.Malformed cause) r a
 takes-by s octets r (Ok v) h a = takes-message s octets v r (reason_of s v) refl (message_of-reading octets v h) a
 
-same_number : (first k n : ℕ) → 0 < k → k ≤ n → n ≤ k + 32768 → number_of first k ≡ number_of first n → k ≡ n
+same_number : (first k n : ℕ)
+    → 0 < k
+    → k ≤ n
+    → n ≤ k + 32768
+    → number_of first k ≡ number_of first n
+    → k ≡ n
 same_number first k n p le late e = omega arith
 
-pub not_idle : (start : SessionStart) (s : SessionState) → is_waiting (session_value start s) ≡ true → is_idle s ≡ false
+pub not_idle : (start : SessionStart) (s : SessionState)
+    → is_waiting (session_value start s) ≡ true
+    → is_idle s ≡ false
 not_idle start s h = ⊎_elim
     (λ (y : is_idle s ≡ true). absurd (false≢true (sym (ap is_some (cond-true _ _ _ y)) ∙ h)))
     (λ (n : is_idle s ≡ false). n)
     (cases_Bool (is_idle s))
 
-takes-answer : (N : Network) (w : NetworkState) (s : ℕ) (octets : List ℕ) (o : Origin) (r : Report) → IsNetwork N → IsReached N w → s < N.sessions → IsOfOrigin N w octets o → is_late w o ≡ false → Takes (session_value (N.session s) (w.session s)) octets r → is_answer s (w.session s) o ≡ true
+takes-answer : (N : Network) (w : NetworkState) (s : ℕ) (octets : List ℕ) (o : Origin) (r : Report)
+    → IsNetwork N
+    → IsReached N w
+    → s < N.sessions
+    → IsOfOrigin N w octets o
+    → is_late w o ≡ false
+    → Takes (session_value (N.session s) (w.session s)) octets r
+    → is_answer s (w.session s) o ≡ true
 takes-answer N w s octets (RequestOf t k) r n reached place i late takes =
     let says = says_request N w t k octets n reached i in
     let same = same_read octets takes.message (request_at N t k says.domain says.hops says.request) says.message takes.read in
@@ -230,7 +293,9 @@ takes-answer N w s octets (ReplyTo t k) r n reached place i late takes =
     let last : k ≡ issued w s = same_number (N.session s).setup.first k (issued w s) says.positive within now number in
     and_from _ _ (eq-eqb t s ts) (and_from _ _ (eq-eqb k (issued w s) last) (ap not (not_idle (N.session s) (w.session s) takes.accepted.waiting)))
 
-takes-told : (start : SessionStart) (state : SessionState) (octets : List ℕ) (r : Report) → Takes (session_value start state) octets r → told_by state (message_of octets) ≡ Some r
+takes-told : (start : SessionStart) (state : SessionState) (octets : List ℕ) (r : Report)
+    → Takes (session_value start state) octets r
+    → told_by state (message_of octets) ≡ Some r
 takes-told start state octets r takes =
     ap (told_by state) takes.read
     ∙ cond-true _ _ _ (and_parts (takes.message.sdo == 0) (takes.message.domain == state.domain) takes.accepted.domain).1
@@ -238,8 +303,14 @@ takes-told start state octets r takes =
 
 -- ---- both
 
-pub received-as_reported : (N : Network) (w : NetworkState) (s : ℕ) (f : Frame) (r : Report) → IsNetwork N → IsReached N w → s < N.sessions → IsOfOrigin N w f.octets f.origin → is_late w f.origin ≡ false
-    → (report_from s (w.session s) f ≡ Some r → received_of (session_value (N.session s) (w.session s)) f.octets ≡ received.Answered r)
+pub received-as_reported : (N : Network) (w : NetworkState) (s : ℕ) (f : Frame) (r : Report)
+    → IsNetwork N
+    → IsReached N w
+    → s < N.sessions
+    → IsOfOrigin N w f.octets f.origin
+    → is_late w f.origin ≡ false
+    → (report_from s (w.session s) f ≡ Some r
+    → received_of (session_value (N.session s) (w.session s)) f.octets ≡ received.Answered r)
     × (received_of (session_value (N.session s) (w.session s)) f.octets ≡ received.Answered r → report_from s (w.session s) f ≡ Some r)
 received-as_reported N w s f r n reached place i late = (
   λ e. ⊎_elim
@@ -251,9 +322,15 @@ received-as_reported N w s f r n reached place i late = (
       cond-true _ _ _ (takes-answer N w s f.octets f.origin r n reached place i late takes) ∙ takes-told (N.session s) (w.session s) f.octets r takes,
 )
 
-pub frame-as_reported : (N : Network) (es : List Event) (k s : ℕ) (f : Frame) (r : Report) → IsNetwork N → AllByRecursion IsInRange es
-    → frame_at (run N (initial_state N) es).frames k ≡ Some f → f.end ≡ AtSession s → is_late (run N (initial_state N) es) f.origin ≡ false
-    → (report_from s ((run N (initial_state N) es).session s) f ≡ Some r → received_of (session_value (N.session s) ((run N (initial_state N) es).session s)) f.octets ≡ received.Answered r)
+pub frame-as_reported : (N : Network) (es : List Event) (k s : ℕ) (f : Frame) (r : Report)
+    → IsNetwork N
+    → AllByRecursion IsInRange es
+    → frame_at (run N (initial_state N) es).frames k ≡ Some f
+    → f.end ≡ AtSession s
+    → is_late (run N (initial_state N) es) f.origin ≡ false
+    → (report_from s ((run N (initial_state N) es).session s) f ≡ Some r
+    → received_of (session_value (N.session s) ((run N (initial_state N) es).session s))
+    f.octets ≡ received.Answered r)
     × (received_of (session_value (N.session s) ((run N (initial_state N) es).session s)) f.octets ≡ received.Answered r → report_from s ((run N (initial_state N) es).session s) f ≡ Some r)
 frame-as_reported N es k s f r n i e end late =
     let w : NetworkState = run N (initial_state N) es in

@@ -28,7 +28,10 @@ port_fits p ports a b = omega arith
 every_port_fits : (p : ℕ) → p ≡ every_port → p < 2 ^ 16
 every_port_fits p e = omega arith
 
-pub asked-not_refused : (ports : ℕ) (a : Ask) → ports ≤ 8 → a.id < 2 ^ 16 → ask_refusal ports a ≡ None
+pub asked-not_refused : (ports : ℕ) (a : Ask)
+    → ports ≤ 8
+    → a.id < 2 ^ 16
+    → ask_refusal ports a ≡ None
     → IsAsked ports (request_of a)
 asked-not_refused ports a few id e =
     let asked = request_of-permitted ports a e in
@@ -46,14 +49,18 @@ asked-not_refused ports a few id e =
 
 -- ---- a session that begins
 
-pub begin-not_refused : (s : SessionValue) (a : Ask) → begin_refusal s a ≡ None → (is_waiting s ≡ false) × (ask_refusal s.setup.ports a ≡ None)
+pub begin-not_refused : (s : SessionValue) (a : Ask)
+    → begin_refusal s a ≡ None
+    → (is_waiting s ≡ false) × (ask_refusal s.setup.ports a ≡ None)
 unfolding begin_refusal
 begin-not_refused s a e =
     let last = first_of ((not (nat_lt s.issued count_limit), begins.CountAtMaximum) ∷ []) in
     let p = option_or-none (first_of ((is_waiting s, begins.Busy) ∷ [])) (option_or (ask_refusal s.setup.ports a) last) e in
     ((first_of-none (is_waiting s) begins.Busy [] p.0).0, (option_or-none (ask_refusal s.setup.ports a) last p.1).0)
 
-pub get-below : {X : Type 0} (xs : List X) (i : ℕ) → i < length xs → (x : X) × (slice_get xs i ≡ Some x)
+pub get-below : {X : Type 0} (xs : List X) (i : ℕ)
+    → i < length xs
+    → (x : X) × (slice_get xs i ≡ Some x)
 get-below [] i h = absurd (omega arith)
 get-below (x ∷ xs) zero h = (x, refl)
 get-below (x ∷ xs) (suc i) h = get-below xs i (omega arith)
@@ -62,7 +69,10 @@ last_below : (reports begun : ℕ) → reports ≤ begun → (reports ≡ begun 
 last_below reports begun a b = omega arith
 
 -- a session that does not wait has each request reported
-pub idle-not_waiting : (start : SessionStart) (s : SessionState) → length s.reports ≤ length s.begun → is_waiting (session_value start s) ≡ false → is_idle s ≡ true
+pub idle-not_waiting : (start : SessionStart) (s : SessionState)
+    → length s.reports ≤ length s.begun
+    → is_waiting (session_value start s) ≡ false
+    → is_idle s ≡ true
 idle-not_waiting start s le w = ⊎_elim
     (λ (y : is_idle s ≡ true). y)
     (λ (n : is_idle s ≡ false).

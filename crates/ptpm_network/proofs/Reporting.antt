@@ -25,24 +25,43 @@ use Rattle.ptpm_network.proofs.Worth.{report-index, report-worth}
 -- ---- what reports are worth
 
 -- the reports of a session are those of the machine
-reports-after : (N : Network) (past : List Event) (r : RunningNetwork) (s : ℕ) → StandsAfter N past r → s < N.sessions → r.reports s ≡ ((run N (initial_state N) past).session s).reports
+reports-after : (N : Network) (past : List Event) (r : RunningNetwork) (s : ℕ)
+    → StandsAfter N past r
+    → s < N.sessions
+    → r.reports s ≡ ((run N (initial_state N) past).session s).reports
 reports-after N past r s at place = (at.stands (first_of_sessions N N.sessions) (firsts N at.promised.network)).reports s place
 
-pub index-after : (N : Network) (past : List Event) (r : RunningNetwork) (s i : ℕ) (report : Report) → StandsAfter N past r → s < N.sessions → slice_get (r.reports s) i ≡ Some report → report.index ≡ i + 1
+pub index-after : (N : Network) (past : List Event) (r : RunningNetwork) (s i : ℕ) (report : Report)
+    → StandsAfter N past r
+    → s < N.sessions
+    → slice_get (r.reports s) i ≡ Some report
+    → report.index ≡ i + 1
 index-after N past r s i report at place e =
     report-index N past s i report at.promised.network at.promised.in_range place (subst (λ rs. slice_get rs i ≡ Some report) (reports-after N past r s at place) e)
 
-pub worth-after : (N : Network) (past : List Event) (r : RunningNetwork) (s i : ℕ) (report : Report) → StandsAfter N past r → s < N.sessions → slice_get (r.reports s) i ≡ Some report → IsWorth N (run N (initial_state N) past) s report
+pub worth-after : (N : Network) (past : List Event) (r : RunningNetwork) (s i : ℕ) (report : Report)
+    → StandsAfter N past r
+    → s < N.sessions
+    → slice_get (r.reports s) i ≡ Some report
+    → IsWorth N (run N (initial_state N) past) s report
 worth-after N past r s i report at place e =
     report-worth N past s i report at.promised.network at.promised.in_range place (subst (λ rs. slice_get rs i ≡ Some report) (reports-after N past r s at place) e)
 
 -- ---- running to the report
 
-idle-not_waiting : (N : Network) (s : ℕ) (x : SessionState) → is_idle x ≡ true → is_waiting (session_value (N.session s) x) ≡ false
+idle-not_waiting : (N : Network) (s : ℕ) (x : SessionState)
+    → is_idle x ≡ true
+    → is_waiting (session_value (N.session s) x) ≡ false
 idle-not_waiting N s x idle = ap is_some (cond-true _ _ _ idle)
 
-runs-to_report : (N : Network) (first : PortIdentity → ℕ) (r : RunningNetwork) (w : NetworkState) (s : ℕ) (hops : List Hop) (port : ℕ) → s < N.sessions → Stands N first r w → (a : IsAnswerable N w s hops port)
-    → Stands N first (network_run N r (answering s a.deliveries)) (run N w (answering s a.deliveries)) → RunsToReport N r s hops port
+runs-to_report : (N : Network) (first : PortIdentity → ℕ) (r : RunningNetwork) (w : NetworkState)
+    (s : ℕ) (hops : List Hop) (port : ℕ)
+    → s < N.sessions
+    → Stands N first r w
+    → (a : IsAnswerable N w s hops port)
+    → Stands N first (network_run N r (answering s a.deliveries))
+    (run N w (answering s a.deliveries))
+    → RunsToReport N r s hops port
 runs-to_report N first r w s hops port place at a next = record {
   deliveries = a.deliveries;
   along = a.along;
@@ -51,9 +70,18 @@ runs-to_report N first r w s hops port place at a next = record {
   idle = ap is_waiting (next.sessions s place) ∙ idle-not_waiting N s ((run N w (answering s a.deliveries)).session s) a.reported.idle;
 }
 
-pub running-answered : (N : Network) (es : List Event) (first : PortIdentity → ℕ) (r : RunningNetwork) (s : ℕ) (hops : List Hop) (port ends : ℕ) → IsNetwork N → AllByRecursion IsInRange es → AreFirsts N first → Stands N first r (run N (initial_state N) es) → s < N.sessions
-    → is_idle ((run N (initial_state N) es).session s) ≡ false → 0 < ((run N (initial_state N) es).session s).attempts_left
-    → IsWay N (run N (initial_state N) es) s hops port → LinksHaveAtMost N ends → length (run N (initial_state N) es).frames + made_each_way ends hops ≤ frames_limit
+pub running-answered : (N : Network) (es : List Event) (first : PortIdentity → ℕ)
+    (r : RunningNetwork) (s : ℕ) (hops : List Hop) (port ends : ℕ)
+    → IsNetwork N
+    → AllByRecursion IsInRange es
+    → AreFirsts N first
+    → Stands N first r (run N (initial_state N) es)
+    → s < N.sessions
+    → is_idle ((run N (initial_state N) es).session s) ≡ false
+    → 0 < ((run N (initial_state N) es).session s).attempts_left
+    → IsWay N (run N (initial_state N) es) s hops port
+    → LinksHaveAtMost N ends
+    → length (run N (initial_state N) es).frames + made_each_way ends hops ≤ frames_limit
     → RunsToReport N r s hops port
 running-answered N es first r s hops port ends n range firsts at place busy attempts way all room =
     let w : NetworkState = run N (initial_state N) es in
@@ -63,9 +91,15 @@ running-answered N es first r s hops port ends n range firsts at place busy atte
     let next = network_run-stands N first r w more firsts n (reached N es n range) at runs.0 (taken-in_time N w more runs.2) in
     runs-to_report N first r w s hops port place at a (subst (λ ts. Stands N first (network_run N r more) (run N w ts)) runs.1 next)
 
-pub answered-after : (N : Network) (past : List Event) (r : RunningNetwork) (s : ℕ) (hops : List Hop) (port ends : ℕ) → StandsAfter N past r → s < N.sessions
-    → is_idle ((run N (initial_state N) past).session s) ≡ false → 0 < ((run N (initial_state N) past).session s).attempts_left
-    → IsWay N (run N (initial_state N) past) s hops port → LinksHaveAtMost N ends → length (run N (initial_state N) past).frames + made_each_way ends hops ≤ frames_limit
+pub answered-after : (N : Network) (past : List Event) (r : RunningNetwork) (s : ℕ)
+    (hops : List Hop) (port ends : ℕ)
+    → StandsAfter N past r
+    → s < N.sessions
+    → is_idle ((run N (initial_state N) past).session s) ≡ false
+    → 0 < ((run N (initial_state N) past).session s).attempts_left
+    → IsWay N (run N (initial_state N) past) s hops port
+    → LinksHaveAtMost N ends
+    → length (run N (initial_state N) past).frames + made_each_way ends hops ≤ frames_limit
     → RunsToReport N r s hops port
 answered-after N past r s hops port ends at place busy attempts way all room =
     let first : PortIdentity → ℕ = first_of_sessions N N.sessions in

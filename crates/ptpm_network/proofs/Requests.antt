@@ -40,7 +40,9 @@ sized ports d s =
       grandmaster = s.grandmaster;
     }
 
-pub kept : (q : RequestValue) (r : Rights) (ports : ℕ) (d : DataSetsValue) → AreDataSets ports d → AreDataSets ports (changed_by q r d)
+pub kept : (q : RequestValue) (r : Rights) (ports : ℕ) (d : DataSetsValue)
+    → AreDataSets ports d
+    → AreDataSets ports (changed_by q r d)
 kept q r ports d s =
     let after = changed_by-sized q r d (sized ports d s) in
     record {
@@ -55,7 +57,9 @@ kept q r ports d s =
 
 -- ---- what an answer says
 
-field_fits : (b : Bool) (octets : List ℕ) → IsFieldWithin (field_limit b) octets → IsDataField octets
+field_fits : (b : Bool) (octets : List ℕ)
+    → IsFieldWithin (field_limit b) octets
+    → IsDataField octets
 field_fits true octets f = let small : length octets ≤ 26 = f.small in record { even = f.even; small = omega arith }
 field_fits false octets f = let small : length octets ≤ 130 = f.small in record { even = f.even; small = omega arith }
 
@@ -74,7 +78,9 @@ outcome-sendable None actions.Acknowledge octets fits = fits
 
 -- ---- whose it is
 
-named-small : (port a n : ℕ) → a + n < 2 ^ 16 → AllByRecursion (λ k. k < 2 ^ 16) (filter (is_named port) (range_with_len a n))
+named-small : (port a n : ℕ)
+    → a + n < 2 ^ 16
+    → AllByRecursion (λ k. k < 2 ^ 16) (filter (is_named port) (range_with_len a n))
 named-small port a zero below = tt
 named-small port a (suc n) below =
     let first : a < 2 ^ 16 = omega arith in
@@ -102,15 +108,21 @@ answers-sendable true q refusal d s =
     named (named_ports-small q.port (length d.ports) s.at_most_eight))
 answers-sendable false q refusal d s = (record { port = tt; outcome = outcome-sendable refusal q.action _ (shown q.id None d s) }, tt)
 
-reply_of-answers : (q : RequestValue) (refusal : Option ErrorId) (d : DataSetsValue) → IsSized d → Answers q (reply_of q refusal d)
+reply_of-answers : (q : RequestValue) (refusal : Option ErrorId) (d : DataSetsValue)
+    → IsSized d
+    → Answers q (reply_of q refusal d)
 unfolding reply_of
 reply_of-answers q refusal d s = record { action = refl; id = refl; sendable = answers-sendable (is_of_port q.id) q refusal d s }
 
-pub answered : (q : RequestValue) (r : Rights) (ports : ℕ) (d : DataSetsValue) → AreDataSets ports d → Answers q (reply_to q r d)
+pub answered : (q : RequestValue) (r : Rights) (ports : ℕ) (d : DataSetsValue)
+    → AreDataSets ports d
+    → Answers q (reply_to q r d)
 unfolding reply_to
 answered q r ports d s = reply_of-answers q (refusal_of q r) (changed_by q r d) (changed_by-sized q r d (sized ports d s))
 
-pub read_answered : (q : RequestValue) (ports : ℕ) (d : DataSetsValue) → AreDataSets ports d → Answers q (read_reply_to q d)
+pub read_answered : (q : RequestValue) (ports : ℕ) (d : DataSetsValue)
+    → AreDataSets ports d
+    → Answers q (read_reply_to q d)
 unfolding read_reply_to
 read_answered q ports d s = reply_of-answers q (read_refusal q) d (sized ports d s)
 
@@ -119,14 +131,19 @@ read_answered q ports d s = reply_of-answers q (read_refusal q) d (sized ports d
 own_answerer : (q : RequestValue) → is_of_port q.id ≡ true → answerer q ≡ Some q.port
 own_answerer q e = rw e refl
 
-one_answer : (q : RequestValue) (reply : ReplyValue) → IsOneAnswer (answerer q) reply → HasOneAnswer q reply
+one_answer : (q : RequestValue) (reply : ReplyValue)
+    → IsOneAnswer (answerer q) reply
+    → HasOneAnswer q reply
 one_answer q reply one = record {
   answer = record { port = answerer q; outcome = one.0 };
   is = one.1;
   port = own_answerer q;
 }
 
-pub once : (q : RequestValue) (r : Rights) (ports : ℕ) (d : DataSetsValue) → AreDataSets ports d → IsForOne ports q → HasOneAnswer q (reply_to q r d)
+pub once : (q : RequestValue) (r : Rights) (ports : ℕ) (d : DataSetsValue)
+    → AreDataSets ports d
+    → IsForOne ports q
+    → HasOneAnswer q (reply_to q r d)
 unfolding reply_to
 once q r ports d s one =
     let after = kept q r ports d s in
@@ -147,6 +164,8 @@ few_answers true q refusal d eight =
     let made : length (map (answer q refusal d) (map Some named)) ≡ length (map Some named) = length-map (map Some named) _ in
     omega (arith, made, ports, filter-few (is_named q.port) (range_with_len 1 (length d.ports)), length-range_with_len 1 (length d.ports), eight)
 
-pub read_few : (q : RequestValue) (d : DataSetsValue) → length d.ports ≤ 8 → length (read_reply_to q d).answers ≤ 8
+pub read_few : (q : RequestValue) (d : DataSetsValue)
+    → length d.ports ≤ 8
+    → length (read_reply_to q d).answers ≤ 8
 unfolding read_reply_to reply_of
 read_few q d eight = few_answers (is_of_port q.id) q (read_refusal q) d eight

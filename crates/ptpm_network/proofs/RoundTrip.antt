@@ -22,11 +22,15 @@ use Rattle.ptpm_network.proofs.Reaching.{frame_at-is, step-reached}
 
 -- ---- one event after another
 
-pub run-append : (N : Network) (w : NetworkState) (xs ys : List (ℕ × End)) → run N w (handed_in (xs ++ ys)) ≡ run N (run N w (handed_in xs)) (handed_in ys)
+pub run-append : (N : Network) (w : NetworkState) (xs ys : List (ℕ × End))
+    → run N w (handed_in (xs ++ ys)) ≡ run N (run N w (handed_in xs)) (handed_in ys)
 run-append N w [] ys = refl
 run-append N w (d ∷ ds) ys = run-append N (step N w (Deliver d.0)) ds ys
 
-pub come_in-append : (N : Network) (w : NetworkState) (xs ys : List (ℕ × End)) → ComeIn N w xs → ComeIn N (run N w (handed_in xs)) ys → ComeIn N w (xs ++ ys)
+pub come_in-append : (N : Network) (w : NetworkState) (xs ys : List (ℕ × End))
+    → ComeIn N w xs
+    → ComeIn N (run N w (handed_in xs)) ys
+    → ComeIn N w (xs ++ ys)
 come_in-append N w [] ys a b = b
 come_in-append N w (d ∷ ds) ys a b = (a.0, come_in-append N (step N w (Deliver d.0)) ds ys a.1 b)
 
@@ -44,7 +48,10 @@ pub record Moved (N : Network) (s : ℕ) (w u : NetworkState) (made : ℕ) : Typ
 add_both : (a b c x y : ℕ) → b ≤ a + x → c ≤ b + y → c ≤ a + (x + y)
 add_both a b c x y p q = omega arith
 
-moved-then : (N : Network) (s : ℕ) (w u z : NetworkState) (a b : ℕ) → Moved N s w u a → Moved N s u z b → Moved N s w z (a + b)
+moved-then : (N : Network) (s : ℕ) (w u z : NetworkState) (a b : ℕ)
+    → Moved N s w u a
+    → Moved N s u z b
+    → Moved N s w z (a + b)
 moved-then N s w u z a b p q = record {
   reached = q.reached;
   sessions = q.sessions ∙ p.sessions;
@@ -52,7 +59,10 @@ moved-then N s w u z a b p q = record {
   frames = add_both (length w.frames) (length u.frames) (length z.frames) a b p.frames q.frames;
 }
 
-pub issued-moved : (N : Network) (s : ℕ) (w u : NetworkState) (made k : ℕ) → Moved N s w u made → issued w s ≡ k → issued u s ≡ k
+pub issued-moved : (N : Network) (s : ℕ) (w u : NetworkState) (made k : ℕ)
+    → Moved N s w u made
+    → issued w s ≡ k
+    → issued u s ≡ k
 issued-moved N s w u made k p e = ap (λ (f : ℕ → SessionState). length (f s).begun) p.sessions ∙ e
 
 -- ---- a frame on its way to an end
@@ -65,7 +75,9 @@ pub record Comes (w : NetworkState) (end : End) (o : Origin) (domain hops : ℕ)
   pub domain_is : domain_number frame.octets ≡ domain
   pub hops_are : boundary_hops frame.octets ≡ hops
 
-pub numbered : (frames : List Frame) (f : Frame) → IsIn frames f → (n : ℕ) × (frame_at frames n ≡ Some f)
+pub numbered : (frames : List Frame) (f : Frame)
+    → IsIn frames f
+    → (n : ℕ) × (frame_at frames n ≡ Some f)
 numbered frames f p =
     let back : (p.0 + 1) - 1 ≡ p.0 = omega arith in
     (p.0 + 1, cond-false _ _ _ (ne_eqb (p.0 + 1) 0 (λ (h : p.0 + 1 ≡ 0). omega arith)) ∙ ap (slice_get frames) back ∙ p.1)
@@ -73,7 +85,12 @@ numbered frames f p =
 pub in_time : (w : NetworkState) (s k : ℕ) → issued w s ≡ k → is_late w (RequestOf s k) ≡ false
 in_time w s k e = le-ltb (k + 32768) (issued w s) (omega (arith, e))
 
-pub one-delivery : (N : Network) (w : NetworkState) (n : ℕ) (f : Frame) (end : End) → frame_at w.frames n ≡ Some f → f.end ≡ end → HasRoom w → is_late w f.origin ≡ false → ComesIn N w n end
+pub one-delivery : (N : Network) (w : NetworkState) (n : ℕ) (f : Frame) (end : End)
+    → frame_at w.frames n ≡ Some f
+    → f.end ≡ end
+    → HasRoom w
+    → is_late w f.origin ≡ false
+    → ComesIn N w n end
 one-delivery N w n f end e q room late = record { frame = f; is = e; at_end = q; not_refused = delivery-taken N w n f e room; in_time = late }
 
 -- ---- a clock passes it on
@@ -93,8 +110,20 @@ record CanPass (N : Network) (w : NetworkState) (c p q : ℕ) (e : End) (domain 
   pub egress : may_forward q (history N w c).sets ≡ true
   pub link : list_any (same_end e) (peers N.links (AtPort c q)) ≡ true
 
-pass : (N : Network) (s : ℕ) (w : NetworkState) (most c p q : ℕ) (e : End) (o : Origin) (domain hops : ℕ) → IsNetwork N → MakesAtMost N most → IsReached N w → HasRoom w → is_late w o ≡ false
-    → ((octets : List ℕ) → c < N.clocks → IsOfOrigin N w octets o → IsPassing (N.clock c).identity octets) → CanPass N w c p q e domain → 0 < hops → Comes w (AtPort c p) o domain hops
+pass : (N : Network) (s : ℕ) (w : NetworkState) (most c p q : ℕ) (e : End) (o : Origin)
+    (domain hops : ℕ)
+    → IsNetwork N
+    → MakesAtMost N most
+    → IsReached N w
+    → HasRoom w
+    → is_late w o ≡ false
+    → ((octets : List ℕ)
+    → c < N.clocks
+    → IsOfOrigin N w octets o
+    → IsPassing (N.clock c).identity octets)
+    → CanPass N w c p q e domain
+    → 0 < hops
+    → Comes w (AtPort c p) o domain hops
     → Passed N s w most (AtPort c p) e o domain (hops - 1)
 pass N s w most c p q e o domain hops n few r room late passing can hop comes =
     let f = comes.frame in
@@ -148,7 +177,11 @@ pub record Trip (N : Network) (s : ℕ) (w : NetworkState) (most k domain lost :
 abbrev pub Hears : Network → NetworkState → ℕ → ℕ → ℕ → Type 0
 Hears N w s k domain = ((history N w (N.session s).target).sets.default.domain ≡ domain) ⊎ (greatest_accepted N w s ≡ k)
 
-heard-by : (N : Network) (w : NetworkState) (s k domain : ℕ) (octets : List ℕ) → issued w s ≡ k → domain_number octets ≡ domain → Hears N w s k domain → IsHeardBy N w s octets
+heard-by : (N : Network) (w : NetworkState) (s k domain : ℕ) (octets : List ℕ)
+    → issued w s ≡ k
+    → domain_number octets ≡ domain
+    → Hears N w s k domain
+    → IsHeardBy N w s octets
 heard-by N w s k domain octets e d h = ⊎_elim
     (λ (same : (history N w (N.session s).target).sets.default.domain ≡ domain). inl (d ∙ sym same))
     (λ (g : greatest_accepted N w s ≡ k). inr (g ∙ sym e))
@@ -161,8 +194,18 @@ pub within : (x most : ℕ) → 8 * x ≤ most → x ≤ most
 within x most le = omega arith
 
 -- at the target
-turn_back : (N : Network) (s : ℕ) (w : NetworkState) (most k domain hops lost port : ℕ) (from : End) → IsNetwork N → s < N.sessions → MakesAtMost N most → IsReached N w → HasRoom w → issued w s ≡ k → lost + hops ≡ (N.session s).setup.hops
-    → AreLinked N from (AtPort (N.session s).target port) → Hears N w s k domain → Comes w (AtPort (N.session s).target port) (RequestOf s k) domain hops → Trip N s w most k domain lost [] (AtPort (N.session s).target port) from
+turn_back : (N : Network) (s : ℕ) (w : NetworkState) (most k domain hops lost port : ℕ) (from : End)
+    → IsNetwork N
+    → s < N.sessions
+    → MakesAtMost N most
+    → IsReached N w
+    → HasRoom w
+    → issued w s ≡ k
+    → lost + hops ≡ (N.session s).setup.hops
+    → AreLinked N from (AtPort (N.session s).target port)
+    → Hears N w s k domain
+    → Comes w (AtPort (N.session s).target port) (RequestOf s k) domain hops
+    → Trip N s w most k domain lost [] (AtPort (N.session s).target port) from
 turn_back N s w most k domain hops lost port from n place few r room e sum link hears comes =
     let f = comes.frame in
     let t = (N.session s).target in
@@ -205,11 +248,16 @@ abbrev pub first_end : List Hop → End → End
 first_end [] to = to
 first_end (h ∷ hops) to = AtPort h.clock h.near
 
-pub leads-first : (N : Network) (hops : List Hop) (from to : End) → Leads N from hops to → AreLinked N from (first_end hops to)
+pub leads-first : (N : Network) (hops : List Hop) (from to : End)
+    → Leads N from hops to
+    → AreLinked N from (first_end hops to)
 leads-first N [] from to leads = leads
 leads-first N (h ∷ hops) from to leads = leads.0
 
-pub passes-stays : (N : Network) (w u : NetworkState) (target domain : ℕ) (h : Hop) → history N u h.clock ≡ history N w h.clock → PassesOn N w target domain h → PassesOn N u target domain h
+pub passes-stays : (N : Network) (w u : NetworkState) (target domain : ℕ) (h : Hop)
+    → history N u h.clock ≡ history N w h.clock
+    → PassesOn N w target domain h
+    → PassesOn N u target domain h
 passes-stays N w u target domain h same p = record {
   other = p.other;
   two_ports = p.two_ports;
@@ -218,22 +266,43 @@ passes-stays N w u target domain h same p = record {
   far = ap (λ (x : History). may_forward h.far x.sets) same ∙ p.far;
 }
 
-hears-stays : (N : Network) (w u : NetworkState) (s k domain : ℕ) → history N u (N.session s).target ≡ history N w (N.session s).target → Hears N w s k domain → Hears N u s k domain
+hears-stays : (N : Network) (w u : NetworkState) (s k domain : ℕ)
+    → history N u (N.session s).target ≡ history N w (N.session s).target
+    → Hears N w s k domain
+    → Hears N u s k domain
 hears-stays N w u s k domain same h = ⊎_elim
     (λ (d : (history N w (N.session s).target).sets.default.domain ≡ domain). inl (ap (λ (x : History). x.sets.default.domain) same ∙ d))
     (λ (g : greatest_accepted N w s ≡ k). inr (ap (λ (x : History). greatest (manager N s) x.accepted) same ∙ g))
     h
 
 -- a clock passes a request on to the far side, and the reply back to the near one
-pass_there : (N : Network) (s : ℕ) (w : NetworkState) (most k domain hops : ℕ) (h : Hop) (e : End) → IsNetwork N → MakesAtMost N most → IsReached N w → HasRoom w → issued w s ≡ k → PassesOn N w (N.session s).target domain h → list_any (same_end e) (peers N.links (AtPort h.clock h.far)) ≡ true → 0 < hops
-    → Comes w (AtPort h.clock h.near) (RequestOf s k) domain hops → Passed N s w most (AtPort h.clock h.near) e (RequestOf s k) domain (hops - 1)
+pass_there : (N : Network) (s : ℕ) (w : NetworkState) (most k domain hops : ℕ) (h : Hop) (e : End)
+    → IsNetwork N
+    → MakesAtMost N most
+    → IsReached N w
+    → HasRoom w
+    → issued w s ≡ k
+    → PassesOn N w (N.session s).target domain h
+    → list_any (same_end e) (peers N.links (AtPort h.clock h.far)) ≡ true
+    → 0 < hops
+    → Comes w (AtPort h.clock h.near) (RequestOf s k) domain hops
+    → Passed N s w most (AtPort h.clock h.near) e (RequestOf s k) domain (hops - 1)
 pass_there N s w most k domain hops h e n few r room is p link hop comes =
     pass N s w most h.clock h.near h.far e (RequestOf s k) domain hops n few r room (in_time w s k is)
     (λ octets exists i. request-passing N w s k h.clock octets n r exists p.other i)
     (record { two_ports = λ q. p.two_ports (sym q); domain_is = p.in_domain; ingress = p.near; egress = p.far; link = link }) hop comes
 
-pass_back : (N : Network) (s : ℕ) (w : NetworkState) (most k domain hops : ℕ) (h : Hop) (e : End) → IsNetwork N → MakesAtMost N most → IsReached N w → HasRoom w → issued w s ≡ k → PassesOn N w (N.session s).target domain h → list_any (same_end e) (peers N.links (AtPort h.clock h.near)) ≡ true → 0 < hops
-    → Comes w (AtPort h.clock h.far) (ReplyTo s k) domain hops → Passed N s w most (AtPort h.clock h.far) e (ReplyTo s k) domain (hops - 1)
+pass_back : (N : Network) (s : ℕ) (w : NetworkState) (most k domain hops : ℕ) (h : Hop) (e : End)
+    → IsNetwork N
+    → MakesAtMost N most
+    → IsReached N w
+    → HasRoom w
+    → issued w s ≡ k
+    → PassesOn N w (N.session s).target domain h
+    → list_any (same_end e) (peers N.links (AtPort h.clock h.near)) ≡ true
+    → 0 < hops
+    → Comes w (AtPort h.clock h.far) (ReplyTo s k) domain hops
+    → Passed N s w most (AtPort h.clock h.far) e (ReplyTo s k) domain (hops - 1)
 pass_back N s w most k domain hops h e n few r room is p link hop comes =
     pass N s w most h.clock h.far h.near e (ReplyTo s k) domain hops n few r room (in_time w s k is)
     (λ octets exists i. reply-passing N w s k h.clock octets n r exists p.other i)
@@ -251,7 +320,10 @@ room-now a m limit le = omega arith
 room-next : (a b most m limit : ℕ) → b ≤ a + most → a + (most + (m + most)) ≤ limit → b + m ≤ limit
 room-next a b most m limit p le = omega arith
 
-room-last : (a b most m limit : ℕ) → b ≤ a + (most + m) → a + (most + (m + most)) ≤ limit → b ≤ limit
+room-last : (a b most m limit : ℕ)
+    → b ≤ a + (most + m)
+    → a + (most + (m + most)) ≤ limit
+    → b ≤ limit
 room-last a b most m limit p le = omega arith
 
 plus_one : (lost : ℕ) → (lost + 1) - 1 ≡ lost
@@ -268,10 +340,19 @@ record Behind (N : Network) (s : ℕ) (w : NetworkState) (most k domain lost : �
   pub number : ℕ
   pub comes_in : ComesIn N w number (AtPort h.clock h.near)
   pub first : Moved N s w (step N w (Deliver number)) most
-  pub trip : Trip N s (step N w (Deliver number)) most k domain (lost + 1) hops to (AtPort h.clock h.far)
+  pub trip : Trip N s (step N w (Deliver number)) most k domain (lost + 1) hops to
+      (AtPort h.clock h.far)
 
-come_back : (N : Network) (s : ℕ) (w : NetworkState) (most k domain lost : ℕ) (h : Hop) (hops : List Hop) (to from : End) → IsNetwork N → MakesAtMost N most → issued w s ≡ k → PassesOn N w (N.session s).target domain h
-    → AreLinked N from (AtPort h.clock h.near) → length w.frames + made_along most (h ∷ hops) ≤ frames_limit → Behind N s w most k domain lost h hops to → Trip N s w most k domain lost (h ∷ hops) to from
+come_back : (N : Network) (s : ℕ) (w : NetworkState) (most k domain lost : ℕ) (h : Hop)
+    (hops : List Hop) (to from : End)
+    → IsNetwork N
+    → MakesAtMost N most
+    → issued w s ≡ k
+    → PassesOn N w (N.session s).target domain h
+    → AreLinked N from (AtPort h.clock h.near)
+    → length w.frames + made_along most (h ∷ hops) ≤ frames_limit
+    → Behind N s w most k domain lost h hops to
+    → Trip N s w most k domain lost (h ∷ hops) to from
 come_back N s w most k domain lost h hops to from n few is p link room b =
     let u : NetworkState = step N w (Deliver b.number) in
     let trip = b.trip in
@@ -294,10 +375,21 @@ come_back N s w most k domain lost h hops to from n few is p link room b =
           (subst (Comes (step N z (Deliver passed.number)) from (ReplyTo s k) domain) (plus_one lost) passed.comes);
     }
 
-pub round_trip : (N : Network) (s : ℕ) (hops : List Hop) (w : NetworkState) (most k domain left lost port : ℕ) (from : End) → IsNetwork N → s < N.sessions → MakesAtMost N most → IsReached N w → issued w s ≡ k
-    → length w.frames + made_along most hops ≤ frames_limit → lost + left ≡ (N.session s).setup.hops → length hops ≤ left
-    → Leads N from hops (AtPort (N.session s).target port) → AllByRecursion (PassesOn N w (N.session s).target domain) hops → Hears N w s k domain
-    → Comes w (first_end hops (AtPort (N.session s).target port)) (RequestOf s k) domain left → Trip N s w most k domain lost hops (AtPort (N.session s).target port) from
+pub round_trip : (N : Network) (s : ℕ) (hops : List Hop) (w : NetworkState)
+    (most k domain left lost port : ℕ) (from : End)
+    → IsNetwork N
+    → s < N.sessions
+    → MakesAtMost N most
+    → IsReached N w
+    → issued w s ≡ k
+    → length w.frames + made_along most hops ≤ frames_limit
+    → lost + left ≡ (N.session s).setup.hops
+    → length hops ≤ left
+    → Leads N from hops (AtPort (N.session s).target port)
+    → AllByRecursion (PassesOn N w (N.session s).target domain) hops
+    → Hears N w s k domain
+    → Comes w (first_end hops (AtPort (N.session s).target port)) (RequestOf s k) domain left
+    → Trip N s w most k domain lost hops (AtPort (N.session s).target port) from
 round_trip N s [] w most k domain left lost port from n place few r is room sum le leads passes hears comes =
     turn_back N s w most k domain left lost port from n place few r (room-now (length w.frames) most frames_limit room) is sum leads hears comes
 round_trip N s (h ∷ hops) w most k domain left lost port from n place few r is room sum le leads passes hears comes =

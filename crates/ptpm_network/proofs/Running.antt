@@ -29,7 +29,15 @@ use Rattle.ptpm_network.proofs.Taking.{is_none-none, run-append}
 
 -- ---- a frame comes in
 
-reaches-stands : (N : Network) (first : PortIdentity → ℕ) (r : RunningNetwork) (w : NetworkState) (f : Frame) (e : End) → AreFirsts N first → IsNetwork N → IsReached N w → Stands N first r w → IsFrame N w f → HasEnd N e → is_late w f.origin ≡ false
+reaches-stands : (N : Network) (first : PortIdentity → ℕ) (r : RunningNetwork) (w : NetworkState)
+    (f : Frame) (e : End)
+    → AreFirsts N first
+    → IsNetwork N
+    → IsReached N w
+    → Stands N first r w
+    → IsFrame N w f
+    → HasEnd N e
+    → is_late w f.origin ≡ false
     → Stands N first (reaches N r (held f) e) (delivered_at N w f e)
 reaches-stands N first r w f (AtPort c port) firsts n reached at i end late =
     subst (λ (x : RunningNetwork). Stands N first x (delivered_at_clock N w c port f)) (sym (turned-seen N r c port f))
@@ -38,7 +46,14 @@ reaches-stands N first r w f (AtSession s) firsts n reached at i end late =
     hears-stands N first r w s f (received_of (r.session s) f.octets) (report_from s (w.session s) f) n reached at end i.origin late
     (ap (λ (v : SessionValue). received_of v f.octets) (sym (at.sessions s end))) refl
 
-reaches_end-stands : (N : Network) (first : PortIdentity → ℕ) (r : RunningNetwork) (w : NetworkState) (k : ℕ) (o : Option Frame) → AreFirsts N first → IsNetwork N → IsReached N w → Stands N first r w → frame_at w.frames k ≡ o → is_late_frame w o ≡ false
+reaches_end-stands : (N : Network) (first : PortIdentity → ℕ) (r : RunningNetwork)
+    (w : NetworkState) (k : ℕ) (o : Option Frame)
+    → AreFirsts N first
+    → IsNetwork N
+    → IsReached N w
+    → Stands N first r w
+    → frame_at w.frames k ≡ o
+    → is_late_frame w o ≡ false
     → Stands N first (reaches_end N r (option_map held o)) (delivered N w o)
 reaches_end-stands N first r w k None firsts n reached at e late = at
 reaches_end-stands N first r w k (Some f) firsts n reached at e late =
@@ -47,7 +62,13 @@ reaches_end-stands N first r w k (Some f) firsts n reached at e late =
 
 -- ---- any event
 
-begins-stand : (N : Network) (first : PortIdentity → ℕ) (r : RunningNetwork) (w : NetworkState) (s : ℕ) (a : Ask) → IsReached N w → Stands N first r w → s < N.sessions → begin_refused N w s a ≡ None → Stands N first (network_step N r (Begin s a)) (happens N w (Begin s a))
+begins-stand : (N : Network) (first : PortIdentity → ℕ) (r : RunningNetwork) (w : NetworkState)
+    (s : ℕ) (a : Ask)
+    → IsReached N w
+    → Stands N first r w
+    → s < N.sessions
+    → begin_refused N w s a ≡ None
+    → Stands N first (network_step N r (Begin s a)) (happens N w (Begin s a))
 unfolding network_step happens
 begins-stand N first r w s a reached at place e =
     let step = reached.sessions s place in
@@ -55,8 +76,17 @@ begins-stand N first r w s a reached at place e =
     session-stands N first r w s (begun (r.session s) (ask.request_of a)) (begun_in (N.session s) (w.session s) (ask.request_of a)) at place
     (ap (λ (v : SessionValue). begun v (ask.request_of a)) (at.sessions s place) ∙ begun-value (N.session s) (w.session s) (ask.request_of a) le) refl
 
-strange-stands : (N : Network) (first : PortIdentity → ℕ) (r : RunningNetwork) (w : NetworkState) (c port : ℕ) (datagram : List ℕ) → AreFirsts N first → IsNetwork N → IsReached N w → Stands N first r w → IsInRange (Stranger c port datagram) → no_port N c port ≡ None → forged N datagram ≡ None
-    → Stands N first (network_step N r (Stranger c port datagram)) (happens N w (Stranger c port datagram))
+strange-stands : (N : Network) (first : PortIdentity → ℕ) (r : RunningNetwork) (w : NetworkState)
+    (c port : ℕ) (datagram : List ℕ)
+    → AreFirsts N first
+    → IsNetwork N
+    → IsReached N w
+    → Stands N first r w
+    → IsInRange (Stranger c port datagram)
+    → no_port N c port ≡ None
+    → forged N datagram ≡ None
+    → Stands N first (network_step N r (Stranger c port datagram))
+    (happens N w (Stranger c port datagram))
 unfolding network_step happens
 strange-stands N first r w c port datagram firsts n reached at octets p e =
     let honest = (first_of-none (is_forged N datagram) Forged [] e).0 in
@@ -64,7 +94,15 @@ strange-stands N first r w c port datagram firsts n reached at octets p e =
     stands-turned N first r w c port (strange_frame c port datagram) at place
     (λ copy is. in_window first N w c port (strange_frame c port datagram) copy firsts n reached place (λ v h. strange-message N datagram v octets honest h) refl is)
 
-network_step-stands : (N : Network) (first : PortIdentity → ℕ) (r : RunningNetwork) (w : NetworkState) (e : Event) → AreFirsts N first → IsNetwork N → IsReached N w → Stands N first r w → IsInRange e → refusal N w e ≡ None → is_late_delivery w e ≡ false
+network_step-stands : (N : Network) (first : PortIdentity → ℕ) (r : RunningNetwork)
+    (w : NetworkState) (e : Event)
+    → AreFirsts N first
+    → IsNetwork N
+    → IsReached N w
+    → Stands N first r w
+    → IsInRange e
+    → refusal N w e ≡ None
+    → is_late_delivery w e ≡ false
     → Stands N first (network_step N r e) (happens N w e)
 unfolding refusal network_step happens
 network_step-stands N first r w (Begin s a) firsts n reached at i e late =
@@ -90,7 +128,14 @@ network_step-stands N first r w (Stranger c port datagram) firsts n reached at i
 
 -- ---- a list of events
 
-pub network_run-stands : (N : Network) (first : PortIdentity → ℕ) (r : RunningNetwork) (w : NetworkState) (es : List Event) → AreFirsts N first → IsNetwork N → IsReached N w → Stands N first r w → AllByRecursion IsInRange es → AreInTime N w (taken N w es)
+pub network_run-stands : (N : Network) (first : PortIdentity → ℕ) (r : RunningNetwork)
+    (w : NetworkState) (es : List Event)
+    → AreFirsts N first
+    → IsNetwork N
+    → IsReached N w
+    → Stands N first r w
+    → AllByRecursion IsInRange es
+    → AreInTime N w (taken N w es)
     → Stands N first (network_run N r es) (run N w (taken N w es))
 network_run-stands N first r w [] firsts n reached at i time = at
 network_run-stands N first r w (e ∷ es) firsts n reached at i time = ⊎_elim
@@ -113,16 +158,36 @@ network_run-stands N first r w (e ∷ es) firsts n reached at i time = ⊎_elim
 
 -- ---- from where a list of events leads
 
-pub network_refusal-running : (N : Network) (es : List Event) (first : PortIdentity → ℕ) (r : RunningNetwork) (e : Event) → IsNetwork N → AllByRecursion IsInRange es → Stands N first r (run N (initial_state N) es) → network_refusal N r e ≡ refusal N (run N (initial_state N) es) e
+pub network_refusal-running : (N : Network) (es : List Event) (first : PortIdentity → ℕ)
+    (r : RunningNetwork) (e : Event)
+    → IsNetwork N
+    → AllByRecursion IsInRange es
+    → Stands N first r (run N (initial_state N) es)
+    → network_refusal N r e ≡ refusal N (run N (initial_state N) es) e
 network_refusal-running N es first r e n i at = network_refusal-as N first r (run N (initial_state N) es) e (reached N es n i) at
 
-pub network_step-running : (N : Network) (es : List Event) (first : PortIdentity → ℕ) (r : RunningNetwork) (e : Event) → IsNetwork N → AllByRecursion IsInRange es → AreFirsts N first → Stands N first r (run N (initial_state N) es)
-    → IsInRange e → refusal N (run N (initial_state N) es) e ≡ None → is_late_delivery (run N (initial_state N) es) e ≡ false → Stands N first (network_step N r e) (happens N (run N (initial_state N) es) e)
+pub network_step-running : (N : Network) (es : List Event) (first : PortIdentity → ℕ)
+    (r : RunningNetwork) (e : Event)
+    → IsNetwork N
+    → AllByRecursion IsInRange es
+    → AreFirsts N first
+    → Stands N first r (run N (initial_state N) es)
+    → IsInRange e
+    → refusal N (run N (initial_state N) es) e ≡ None
+    → is_late_delivery (run N (initial_state N) es) e ≡ false
+    → Stands N first (network_step N r e) (happens N (run N (initial_state N) es) e)
 network_step-running N es first r e n i firsts at range none late = network_step-stands N first r (run N (initial_state N) es) e firsts n (reached N es n i) at range none late
 
-pub network_run-running : (N : Network) (past es : List Event) (first : PortIdentity → ℕ) (r : RunningNetwork) → IsNetwork N → AllByRecursion IsInRange past → AreFirsts N first → Stands N first r (run N (initial_state N) past)
-    → AllByRecursion IsInRange es → AreInTime N (run N (initial_state N) past) (taken N (run N (initial_state N) past) es)
-    → Stands N first (network_run N r es) (run N (initial_state N) (past ++ taken N (run N (initial_state N) past) es))
+pub network_run-running : (N : Network) (past es : List Event) (first : PortIdentity → ℕ)
+    (r : RunningNetwork)
+    → IsNetwork N
+    → AllByRecursion IsInRange past
+    → AreFirsts N first
+    → Stands N first r (run N (initial_state N) past)
+    → AllByRecursion IsInRange es
+    → AreInTime N (run N (initial_state N) past) (taken N (run N (initial_state N) past) es)
+    → Stands N first (network_run N r es)
+    (run N (initial_state N) (past ++ taken N (run N (initial_state N) past) es))
 network_run-running N past es first r n i firsts at range time =
     let w : NetworkState = run N (initial_state N) past in
     subst (Stands N first (network_run N r es)) (sym (run-append N (initial_state N) past (taken N w es)))

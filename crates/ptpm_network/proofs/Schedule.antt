@@ -13,28 +13,52 @@ use Rattle.ptpm_network.proofs.Frames.{le_le}
 use Rattle.ptpm_network.proofs.Reaching.{first-reached, frame_at-is, run-reached}
 use Rattle.ptpm_network.proofs.Steps.{InStep}
 
-pub reached : (N : Network) (es : List Event) → IsNetwork N → AllByRecursion IsInRange es → IsReached N (run N (initial_state N) es)
+pub reached : (N : Network) (es : List Event)
+    → IsNetwork N
+    → AllByRecursion IsInRange es
+    → IsReached N (run N (initial_state N) es)
 reached N es n i = run-reached N (initial_state N) es n i (first-reached N n)
 
-at : (N : Network) (es : List Event) (s : ℕ) → IsNetwork N → AllByRecursion IsInRange es → s < N.sessions → InStep N (run N (initial_state N) es) s ((run N (initial_state N) es).session s)
+at : (N : Network) (es : List Event) (s : ℕ)
+    → IsNetwork N
+    → AllByRecursion IsInRange es
+    → s < N.sessions
+    → InStep N (run N (initial_state N) es) s ((run N (initial_state N) es).session s)
 at N es s n i place = (reached N es n i).sessions s place
 
 one_more : (begun reports g : ℕ) → begun ≤ reports + 1 → reports ≤ g → begun ≤ g + 1
 one_more begun reports g a b = omega arith
 
-pub accepted_begun : (N : Network) (es : List Event) (s : ℕ) → IsNetwork N → AllByRecursion IsInRange es → s < N.sessions → greatest_accepted N (run N (initial_state N) es) s ≤ issued (run N (initial_state N) es) s
+pub accepted_begun : (N : Network) (es : List Event) (s : ℕ)
+    → IsNetwork N
+    → AllByRecursion IsInRange es
+    → s < N.sessions
+    → greatest_accepted N (run N (initial_state N) es) s ≤ issued (run N (initial_state N) es) s
 accepted_begun N es s n i place = (at N es s n i place).begun_before
 
-pub begun_accepted : (N : Network) (es : List Event) (s : ℕ) → IsNetwork N → AllByRecursion IsInRange es → s < N.sessions → issued (run N (initial_state N) es) s ≤ greatest_accepted N (run N (initial_state N) es) s + 1
+pub begun_accepted : (N : Network) (es : List Event) (s : ℕ)
+    → IsNetwork N
+    → AllByRecursion IsInRange es
+    → s < N.sessions
+    → issued (run N (initial_state N) es) s ≤ greatest_accepted N (run N (initial_state N) es) s + 1
 begun_accepted N es s n i place = let p = at N es s n i place in one_more _ _ _ p.one_at_a_time p.accepted_before
 
 -- an index from 1 on
-positive-kept : (k : ℕ) (N : Network) (w : NetworkState) (s : ℕ) (e : Accepted) → kept_reply (manager N s) 0 (accepted_at_target N w s) ≡ None → kept_reply (manager N s) k (accepted_at_target N w s) ≡ Some e → 0 < k
+positive-kept : (k : ℕ) (N : Network) (w : NetworkState) (s : ℕ) (e : Accepted)
+    → kept_reply (manager N s) 0 (accepted_at_target N w s) ≡ None
+    → kept_reply (manager N s) k (accepted_at_target N w s) ≡ Some e
+    → 0 < k
 positive-kept zero N w s e none some = let absurd_path : None ≡ Some e = sym none ∙ some in absurd (cc)
 positive-kept (suc k) N w s e none some = omega arith
 
-pub accepted_exactly : (N : Network) (es : List Event) (s k : ℕ) → IsNetwork N → AllByRecursion IsInRange es → s < N.sessions
-    → (((0 < k) × (k ≤ greatest_accepted N (run N (initial_state N) es) s)) → (e : Accepted) × (kept_reply (manager N s) k (accepted_at_target N (run N (initial_state N) es) s) ≡ Some e))
+pub accepted_exactly : (N : Network) (es : List Event) (s k : ℕ)
+    → IsNetwork N
+    → AllByRecursion IsInRange es
+    → s < N.sessions
+    → (((0 < k) × (k ≤ greatest_accepted N (run N (initial_state N) es) s))
+    → (e : Accepted)
+    × (kept_reply (manager N s) k (accepted_at_target N (run N (initial_state N) es) s)
+    ≡ Some e))
     × (((e : Accepted) × (kept_reply (manager N s) k (accepted_at_target N (run N (initial_state N) es) s) ≡ Some e)) → (0 < k) × (k ≤ greatest_accepted N (run N (initial_state N) es) s))
 accepted_exactly N es s k n i place =
     let p = at N es s n i place in
@@ -43,24 +67,53 @@ accepted_exactly N es s k n i place =
       λ h. (positive-kept k N w s h.0 p.from_one h.1, kept-le (manager N s) k (accepted_at_target N w s) h.0 h.1),
     )
 
-pub reported_begun : (N : Network) (es : List Event) (s : ℕ) → IsNetwork N → AllByRecursion IsInRange es → s < N.sessions → length ((run N (initial_state N) es).session s).reports ≤ issued (run N (initial_state N) es) s
+pub reported_begun : (N : Network) (es : List Event) (s : ℕ)
+    → IsNetwork N
+    → AllByRecursion IsInRange es
+    → s < N.sessions
+    → length ((run N (initial_state N) es).session s).reports
+    ≤ issued (run N (initial_state N) es) s
 reported_begun N es s n i place = let p = at N es s n i place in le_le _ _ _ p.accepted_before p.begun_before
 
-pub begun_reported : (N : Network) (es : List Event) (s : ℕ) → IsNetwork N → AllByRecursion IsInRange es → s < N.sessions → issued (run N (initial_state N) es) s ≤ length ((run N (initial_state N) es).session s).reports + 1
+pub begun_reported : (N : Network) (es : List Event) (s : ℕ)
+    → IsNetwork N
+    → AllByRecursion IsInRange es
+    → s < N.sessions
+    → issued (run N (initial_state N) es) s
+    ≤ length ((run N (initial_state N) es).session s).reports + 1
 begun_reported N es s n i place = (at N es s n i place).one_at_a_time
 
-pub reports : (N : Network) (es : List Event) (s : ℕ) → IsNetwork N → AllByRecursion IsInRange es → s < N.sessions
-    → ((run N (initial_state N) es).session s).reports ≡ outcomes_kept (manager N s) (accepted_at_target N (run N (initial_state N) es) s) (length ((run N (initial_state N) es).session s).reports)
+pub reports : (N : Network) (es : List Event) (s : ℕ)
+    → IsNetwork N
+    → AllByRecursion IsInRange es
+    → s < N.sessions
+    → ((run N (initial_state N) es).session s).reports
+    ≡ outcomes_kept (manager N s) (accepted_at_target N (run N (initial_state N) es) s)
+    (length ((run N (initial_state N) es).session s).reports)
 reports N es s n i place = (at N es s n i place).reports
 
-hops_and_forwardings : (N : Network) (es : List Event) (k : ℕ) (f : Frame) → IsNetwork N → AllByRecursion IsInRange es → frame_at (run N (initial_state N) es).frames k ≡ Some f → boundary_hops f.octets + f.forwardings ≡ f.first_hops
+hops_and_forwardings : (N : Network) (es : List Event) (k : ℕ) (f : Frame)
+    → IsNetwork N
+    → AllByRecursion IsInRange es
+    → frame_at (run N (initial_state N) es).frames k ≡ Some f
+    → boundary_hops f.octets + f.forwardings ≡ f.first_hops
 hops_and_forwardings N es k f n i e = (frame_at-is N (run N (initial_state N) es) k f (reached N es n i) e).hops
 
-left_of : (hops forwardings first : ℕ) → hops + forwardings ≡ first → (hops ≡ first - forwardings) × (forwardings ≤ first)
+left_of : (hops forwardings first : ℕ)
+    → hops + forwardings ≡ first
+    → (hops ≡ first - forwardings) × (forwardings ≤ first)
 left_of hops forwardings first e = (omega arith, omega arith)
 
-pub hops_lost : (N : Network) (es : List Event) (k : ℕ) (f : Frame) → IsNetwork N → AllByRecursion IsInRange es → frame_at (run N (initial_state N) es).frames k ≡ Some f → boundary_hops f.octets ≡ f.first_hops - f.forwardings
+pub hops_lost : (N : Network) (es : List Event) (k : ℕ) (f : Frame)
+    → IsNetwork N
+    → AllByRecursion IsInRange es
+    → frame_at (run N (initial_state N) es).frames k ≡ Some f
+    → boundary_hops f.octets ≡ f.first_hops - f.forwardings
 hops_lost N es k f n i e = (left_of (boundary_hops f.octets) f.forwardings f.first_hops (hops_and_forwardings N es k f n i e)).0
 
-pub forwardings_few : (N : Network) (es : List Event) (k : ℕ) (f : Frame) → IsNetwork N → AllByRecursion IsInRange es → frame_at (run N (initial_state N) es).frames k ≡ Some f → f.forwardings ≤ f.first_hops
+pub forwardings_few : (N : Network) (es : List Event) (k : ℕ) (f : Frame)
+    → IsNetwork N
+    → AllByRecursion IsInRange es
+    → frame_at (run N (initial_state N) es).frames k ≡ Some f
+    → f.forwardings ≤ f.first_hops
 forwardings_few N es k f n i e = (left_of (boundary_hops f.octets) f.forwardings f.first_hops (hops_and_forwardings N es k f n i e)).1

@@ -87,7 +87,9 @@ abbrev by_whom : Accepted → PortIdentity × ℕ
 by_whom a = (a.manager, a.index)
 
 -- a copy of it joins at the clock once, however often it is delivered
-first_script-accepted : map by_whom (history one_clock (run one_clock sent_once (Deliver 1 ∷ Deliver 1 ∷ [])) 0).accepted ≡ (manager_m, 1) ∷ []
+first_script-accepted : map by_whom
+    (history one_clock (run one_clock sent_once (Deliver 1 ∷ Deliver 1 ∷ [])) 0).accepted
+    ≡ (manager_m, 1) ∷ []
 unfolding refusal happens begin_refusal send_refusal ask_refusal target_port row_of port_identity_octets tlv_octets message_of frame_refusal tlv_refusal text_refusal body_at number_at port_identity_at changed_by entry_refusal forwarded answer clock_field_of reply_of reply_to read_reply_to rendered
 first_script-accepted = refl
 
@@ -103,7 +105,8 @@ abbrev whole_script : NetworkState
 whole_script = run one_clock sent_once (Deliver 1 ∷ Deliver 2 ∷ Deliver 1 ∷ Deliver 3 ∷ [])
 
 -- the request, the reply to it, and the same reply to its repeat
-first_script-frames : map (λ f. f.octets) whole_script.frames ≡ get_octets ∷ reply_octets ∷ reply_octets ∷ []
+first_script-frames : map (λ f. f.octets) whole_script.frames
+    ≡ get_octets ∷ reply_octets ∷ reply_octets ∷ []
 unfolding refusal happens begin_refusal send_refusal ask_refusal target_port row_of port_identity_octets tlv_octets message_of frame_refusal tlv_refusal text_refusal body_at number_at port_identity_at changed_by entry_refusal forwarded answer clock_field_of reply_of reply_to read_reply_to rendered
 first_script-frames = refl
 
@@ -170,13 +173,16 @@ refused before e = refusal one_clock (run one_clock (initial_state one_clock) be
 abbrev get_log_sync_interval : Ask
 get_log_sync_interval = record { action = actions.Get; id = 0x200b; port = None; octets = [] }
 
-refused_events : map (refused []) (Send 0 ∷ Send 1 ∷ Deliver 1 ∷ Stranger 0 1 get_octets ∷ Stranger 0 2 (0 ∷ []) ∷ Begin 0 get_log_sync_interval ∷ Retune 1 0 ∷ Stranger 0 3 [] ∷ Stranger 1 1 [] ∷ [])
+refused_events : map (refused [])
+    (Send 0 ∷ Send 1 ∷ Deliver 1 ∷ Stranger 0 1 get_octets ∷ Stranger 0 2 (0 ∷ [])
+    ∷ Begin 0 get_log_sync_interval ∷ Retune 1 0 ∷ Stranger 0 3 [] ∷ Stranger 1 1 [] ∷ [])
     ≡ Some (SendRefused sends.Idle) ∷ Some NoSuchName ∷ Some NoSuchFrame ∷ Some Forged ∷ None ∷ Some (BeginRefused begins.NeedsPort) ∷ Some NoSuchName ∷ Some NoSuchName ∷ Some NoSuchName ∷ []
 unfolding refusal begin_refusal send_refusal ask_refusal row_of number_at port_identity_at
 refused_events = refl
 
 -- no second request while the first is unanswered, and no third sending of it
-refused_after : map (refused (Begin 0 get_priority1 ∷ Send 0 ∷ Send 0 ∷ [])) (Begin 0 get_priority1 ∷ Send 0 ∷ Resume 0 1 ∷ Deliver 0 ∷ Deliver 2 ∷ Deliver 3 ∷ [])
+refused_after : map (refused (Begin 0 get_priority1 ∷ Send 0 ∷ Send 0 ∷ []))
+    (Begin 0 get_priority1 ∷ Send 0 ∷ Resume 0 1 ∷ Deliver 0 ∷ Deliver 2 ∷ Deliver 3 ∷ [])
     ≡ Some (BeginRefused begins.Busy) ∷ Some (SendRefused sends.GaveUp) ∷ None ∷ Some NoSuchFrame ∷ None ∷ Some NoSuchFrame ∷ []
 unfolding refusal happens begin_refusal send_refusal ask_refusal target_port row_of
 refused_after = refl
@@ -184,7 +190,8 @@ refused_after = refl
 -- ---- another domain
 
 -- between two sendings of a request its domain changes, and no other octet
-retune-sent : map (λ f. f.octets) (run one_clock (initial_state one_clock) (Begin 0 get_priority1 ∷ Send 0 ∷ Retune 0 5 ∷ Send 0 ∷ [])).frames
+retune-sent : map (λ f. f.octets)
+    (run one_clock (initial_state one_clock) (Begin 0 get_priority1 ∷ Send 0 ∷ Retune 0 5 ∷ Send 0 ∷ [])).frames
     ≡ get_octets ∷ slice_set get_octets 4 5 ∷ []
 unfolding refusal happens begin_refusal send_refusal ask_refusal target_port row_of port_identity_octets tlv_octets
 retune-sent = refl
@@ -235,13 +242,16 @@ seen f = (f.end, octet 45 f.octets, f.forwardings, f.origin)
 
 -- clock 0 passes the request on at ports 2 and 3; clock 2 passes its copy on at port 2, with no hop left; clock 1 replies at
 -- its port 2, where the copy came in, with as many hops as the copy had lost
-ring_of_three_clocks-frames : map seen (in_ring (Begin 0 get_priority1 ∷ Send 0 ∷ Deliver 1 ∷ Deliver 3 ∷ Deliver 4 ∷ [])).frames
+ring_of_three_clocks-frames : map seen
+    (in_ring (Begin 0 get_priority1 ∷ Send 0 ∷ Deliver 1 ∷ Deliver 3 ∷ Deliver 4 ∷ [])).frames
     ≡ (AtPort 0 1, 2, 0, RequestOf 0 1) ∷ (AtPort 1 1, 1, 1, RequestOf 0 1) ∷ (AtPort 2 1, 1, 1, RequestOf 0 1) ∷ (AtPort 1 2, 0, 2, RequestOf 0 1) ∷ (AtPort 2 2, 2, 0, ReplyTo 0 1) ∷ []
 unfolding refusal happens begin_refusal send_refusal ask_refusal target_port row_of port_identity_octets tlv_octets message_of frame_refusal tlv_refusal text_refusal body_at number_at port_identity_at changed_by entry_refusal forwarded answer clock_field_of reply_of reply_to read_reply_to rendered
 ring_of_three_clocks-frames = refl
 
 -- both ways it comes to clock 1, which accepts it once
-ring_of_three_clocks-accepted : map by_whom (history ring_of_three_clocks (in_ring (Begin 0 get_priority1 ∷ Send 0 ∷ Deliver 1 ∷ Deliver 2 ∷ Deliver 3 ∷ Deliver 4 ∷ [])) 1).accepted ≡ (manager_m, 1) ∷ []
+ring_of_three_clocks-accepted : map by_whom
+    (history ring_of_three_clocks (in_ring (Begin 0 get_priority1 ∷ Send 0 ∷ Deliver 1 ∷ Deliver 2 ∷ Deliver 3 ∷ Deliver 4 ∷ [])) 1).accepted
+    ≡ (manager_m, 1) ∷ []
 unfolding refusal happens begin_refusal send_refusal ask_refusal target_port row_of port_identity_octets tlv_octets message_of frame_refusal tlv_refusal text_refusal body_at number_at port_identity_at changed_by entry_refusal forwarded answer clock_field_of reply_of reply_to read_reply_to rendered
 ring_of_three_clocks-accepted = refl
 

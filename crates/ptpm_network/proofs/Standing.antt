@@ -27,14 +27,25 @@ use Rattle.ptpm_network.proofs.Schedule.{reached}
 use Rattle.ptpm_network.proofs.Turning.{turn-answers, turn-passes_on}
 
 -- a clock after a delivery, of which there is a copy in time or none
-stands_by : (first : PortIdentity → ℕ) (c : Clock) (ports : ℕ) (s : State) (h : History) (x : Delivery) (o : Option RequestCopy) → length h.sets.ports ≡ ports → copy_of c ports x ≡ o → StandsAt first s h
-    → ((k : RequestCopy) → copy_of c ports x ≡ Some k → IsInTime first h k) → StandsAt first (turn c s x.ingress x.datagram).next (after_arrival c h o)
+stands_by : (first : PortIdentity → ℕ) (c : Clock) (ports : ℕ) (s : State) (h : History)
+    (x : Delivery) (o : Option RequestCopy)
+    → length h.sets.ports ≡ ports
+    → copy_of c ports x ≡ o
+    → StandsAt first s h
+    → ((k : RequestCopy) → copy_of c ports x ≡ Some k → IsInTime first h k)
+    → StandsAt first (turn c s x.ingress x.datagram).next (after_arrival c h o)
 stands_by first c ports s h x None many e at time = stands-other first c ports s h x many e at
 stands_by first c ports s h x (Some k) many e at time = stands-copy first c ports s h x k many e at (time k e)
 
 -- they are the frames that the machine makes
-turn_frames-made : (N : Network) (first : PortIdentity → ℕ) (s : State) (h : History) (c port : ℕ) (f : Frame) → StandsAt first s h → length h.sets.ports ≡ ports N c
-    → ((k : RequestCopy) → copy_of (N.clock c) (ports N c) (delivery port f) ≡ Some k → IsInTime first h k) → turn_frames N s c port f ≡ made_frames N c h port f
+turn_frames-made : (N : Network) (first : PortIdentity → ℕ) (s : State) (h : History) (c port : ℕ)
+    (f : Frame)
+    → StandsAt first s h
+    → length h.sets.ports ≡ ports N c
+    → ((k : RequestCopy)
+    → copy_of (N.clock c) (ports N c) (delivery port f) ≡ Some k
+    → IsInTime first h k)
+    → turn_frames N s c port f ≡ made_frames N c h port f
 turn_frames-made N first s h c port f at many time =
     ap (λ sent. forwarded_frames N c f sent ++ reply_frames N c (answer_origin f.origin (copy_of (N.clock c) (length s.sets.ports) (delivery port f))) (turn (N.clock c) s port f.octets).replies) (turn-passes_on (N.clock c) first s h port f at)
     ∙ ap (λ sent. forwarded_frames N c f (forwarded (N.clock c).identity port h.sets f.octets) ++ reply_frames N c (answer_origin f.origin (copy_of (N.clock c) (length s.sets.ports) (delivery port f))) sent) (turn-answers (N.clock c) first s h port f at (λ k e. time k (ap (λ p. copy_of (N.clock c) p (delivery port f)) (sym many) ∙ e)))
@@ -43,8 +54,17 @@ turn_frames-made N first s h c port f at many time =
     ∙ ap (λ p. forwarded_frames N c f (forwarded (N.clock c).identity port h.sets f.octets)
     ++ reply_frames N c (answer_origin f.origin (copy_of (N.clock c) p (delivery port f))) (answer_messages (N.clock c) h port f.octets (copy_of (N.clock c) p (delivery port f)))) many
 
-clock-stands : (N : Network) (first : PortIdentity → ℕ) (r : RunningNetwork) (w : NetworkState) (c port : ℕ) (f : Frame) → Stands N first r w → c < N.clocks → ((k : RequestCopy) → copy_of (N.clock c) (ports N c) (delivery port f) ≡ Some k → IsInTime first (history N w c) k)
-    → (d : ℕ) → d < N.clocks → StandsAt first (with_place r.clock c (turn (N.clock c) (r.clock c) port f.octets).next d) (history N (arrives w c (delivery port f)) d)
+clock-stands : (N : Network) (first : PortIdentity → ℕ) (r : RunningNetwork) (w : NetworkState)
+    (c port : ℕ) (f : Frame)
+    → Stands N first r w
+    → c < N.clocks
+    → ((k : RequestCopy)
+    → copy_of (N.clock c) (ports N c) (delivery port f) ≡ Some k
+    → IsInTime first (history N w c) k)
+    → (d : ℕ)
+    → d < N.clocks
+    → StandsAt first (with_place r.clock c (turn (N.clock c) (r.clock c) port f.octets).next d)
+    (history N (arrives w c (delivery port f)) d)
 clock-stands N first r w c port f at place time d there = ⊎_elim
     (λ (y : d == c ≡ true).
     subst (λ (s : State). StandsAt first s (history N (arrives w c (delivery port f)) d)) (sym (with_place-same r.clock c (turn (N.clock c) (r.clock c) port f.octets).next d y))
@@ -56,7 +76,13 @@ clock-stands N first r w c port f at place time d there = ⊎_elim
     (subst (StandsAt first (r.clock d)) (sym (history-elsewhere N w c (delivery port f) d n)) (at.clocks d there)))
     (cases_Bool (d == c))
 
-pub stands-turned : (N : Network) (first : PortIdentity → ℕ) (r : RunningNetwork) (w : NetworkState) (c port : ℕ) (f : Frame) → Stands N first r w → c < N.clocks → ((k : RequestCopy) → copy_of (N.clock c) (ports N c) (delivery port f) ≡ Some k → IsInTime first (history N w c) k)
+pub stands-turned : (N : Network) (first : PortIdentity → ℕ) (r : RunningNetwork) (w : NetworkState)
+    (c port : ℕ) (f : Frame)
+    → Stands N first r w
+    → c < N.clocks
+    → ((k : RequestCopy)
+    → copy_of (N.clock c) (ports N c) (delivery port f) ≡ Some k
+    → IsInTime first (history N w c) k)
     → Stands N first (after_turn N r c port f) (delivered_at_clock N w c port f)
 stands-turned N first r w c port f at place time = record {
   clocks = clock-stands N first r w c port f at place time;
@@ -68,9 +94,17 @@ stands-turned N first r w c port f at place time = record {
 }
 
 -- a running network that stands where a schedule leads stands there after a turn, too
-pub stands-delivered : (N : Network) (es : List Event) (first : PortIdentity → ℕ) (r : RunningNetwork) (k c port : ℕ) (f : Frame) → IsNetwork N → AllByRecursion IsInRange es → AreFirsts N first → Stands N first r (run N (initial_state N) es)
-    → frame_at (run N (initial_state N) es).frames k ≡ Some f → f.end ≡ AtPort c port → is_late (run N (initial_state N) es) f.origin ≡ false
-    → Stands N first (after_turn N r c port f) (delivered_at_clock N (run N (initial_state N) es) c port f)
+pub stands-delivered : (N : Network) (es : List Event) (first : PortIdentity → ℕ)
+    (r : RunningNetwork) (k c port : ℕ) (f : Frame)
+    → IsNetwork N
+    → AllByRecursion IsInRange es
+    → AreFirsts N first
+    → Stands N first r (run N (initial_state N) es)
+    → frame_at (run N (initial_state N) es).frames k ≡ Some f
+    → f.end ≡ AtPort c port
+    → is_late (run N (initial_state N) es) f.origin ≡ false
+    → Stands N first (after_turn N r c port f)
+    (delivered_at_clock N (run N (initial_state N) es) c port f)
 stands-delivered N es first r k c port f n i firsts at e end late =
     let w : NetworkState = run N (initial_state N) es in
     let reached' = reached N es n i in
@@ -80,7 +114,8 @@ stands-delivered N es first r k c port f n i firsts at e end late =
     (λ copy is. in_window first N w c port f copy firsts n reached' place (heard-frame N w f.octets f.origin frame.origin) late is)
 
 -- and it stands so as it starts
-pub stands-initial_state : (N : Network) (first : PortIdentity → ℕ) → Stands N first (initial_network N) (initial_state N)
+pub stands-initial_state : (N : Network) (first : PortIdentity → ℕ)
+    → Stands N first (initial_network N) (initial_state N)
 stands-initial_state N first = record {
   clocks = λ c place. stands-initial_history first (N.start c);
   sessions = λ s place. refl;

@@ -16,7 +16,9 @@ use Rattle.ptpm_network.proofs.Lists.{all_append, all_made, all_weaker, with_pla
 
 -- ---- ends
 
-all_filter : {X : Type 0} (P : X → Type 0) (test : X → Bool) (xs : List X) → AllByRecursion P xs → AllByRecursion P (filter test xs)
+all_filter : {X : Type 0} (P : X → Type 0) (test : X → Bool) (xs : List X)
+    → AllByRecursion P xs
+    → AllByRecursion P (filter test xs)
 all_filter P test [] a = tt
 all_filter P test (x ∷ xs) a = ⊎_elim
     (λ (y : test x ≡ true). subst (AllByRecursion P) (sym (cond-true _ _ _ y)) (a.0, all_filter P test xs a.1))
@@ -24,7 +26,9 @@ all_filter P test (x ∷ xs) a = ⊎_elim
     (cases_Bool (test x))
 
 -- the ends that a message goes to exist
-peers_exist : (N : Network) (links : List (List End)) (e : End) → AllByRecursion (IsLink N) links → AllByRecursion (HasEnd N) (peers links e)
+peers_exist : (N : Network) (links : List (List End)) (e : End)
+    → AllByRecursion (IsLink N) links
+    → AllByRecursion (HasEnd N) (peers links e)
 peers_exist N [] e a = tt
 peers_exist N (link ∷ links) e a = ⊎_elim
     (λ (y : list_any (same_end e) link ≡ true). subst (AllByRecursion (HasEnd N)) (sym (cond-true _ _ _ y)) (all_filter (HasEnd N) _ link a.0.ends))
@@ -44,7 +48,12 @@ BegunStays w u = (s i : ℕ) (q : RequestValue) → slice_get (w.session s).begu
 abbrev pub KeptStays : Network → NetworkState → NetworkState → Type 0
 KeptStays N w u = (s k : ℕ) (e : Accepted) → s < N.sessions → kept_reply (manager N s) k (accepted_at_target N w s) ≡ Some e → kept_reply (manager N s) k (accepted_at_target N u s) ≡ Some e
 
-pub origin-stays : (N : Network) (w u : NetworkState) → BegunStays w u → KeptStays N w u → (octets : List ℕ) (o : Origin) → IsOfOrigin N w octets o → IsOfOrigin N u octets o
+pub origin-stays : (N : Network) (w u : NetworkState)
+    → BegunStays w u
+    → KeptStays N w u
+    → (octets : List ℕ) (o : Origin)
+    → IsOfOrigin N w octets o
+    → IsOfOrigin N u octets o
 origin-stays N w u begun kept octets (RequestOf s k) (place, r) = (
   place,
   record {
@@ -75,15 +84,29 @@ origin-stays N w u begun kept octets (ReplyTo s k) (place, r) = (
 )
 origin-stays N w u begun kept octets Neither r = r
 
-pub frame-stays : (N : Network) (w u : NetworkState) → BegunStays w u → KeptStays N w u → (f : Frame) → IsFrame N w f → IsFrame N u f
+pub frame-stays : (N : Network) (w u : NetworkState)
+    → BegunStays w u
+    → KeptStays N w u
+    → (f : Frame)
+    → IsFrame N w f
+    → IsFrame N u f
 frame-stays N w u begun kept f i = record { end = i.end; origin = origin-stays N w u begun kept f.octets f.origin i.origin; hops = i.hops }
 
-pub frames-stay : (N : Network) (w u : NetworkState) → BegunStays w u → KeptStays N w u → (fs : List Frame) → AllByRecursion (IsFrame N w) fs → AllByRecursion (IsFrame N u) fs
+pub frames-stay : (N : Network) (w u : NetworkState)
+    → BegunStays w u
+    → KeptStays N w u
+    → (fs : List Frame)
+    → AllByRecursion (IsFrame N w) fs
+    → AllByRecursion (IsFrame N u) fs
 frames-stay N w u begun kept fs a = all_weaker (IsFrame N w) (IsFrame N u) (λ f i. frame-stays N w u begun kept f i) fs a
 
 -- ---- one session changes
 
-begun-stays : (w : NetworkState) (s : ℕ) (v : SessionState) → ((i : ℕ) (q : RequestValue) → slice_get (w.session s).begun i ≡ Some q → slice_get v.begun i ≡ Some q) → BegunStays w (with_session w s v)
+begun-stays : (w : NetworkState) (s : ℕ) (v : SessionState)
+    → ((i : ℕ) (q : RequestValue)
+    → slice_get (w.session s).begun i ≡ Some q
+    → slice_get v.begun i ≡ Some q)
+    → BegunStays w (with_session w s v)
 begun-stays w s v g t i q e = ⊎_elim
     (λ (y : t == s ≡ true).
     subst (λ (x : SessionState). slice_get x.begun i ≡ Some q) (sym (with_place-same w.session s v t y))
@@ -94,7 +117,13 @@ begun-stays w s v g t i q e = ⊎_elim
 abbrev pub InStep : Network → NetworkState → ℕ → SessionState → Type 0
 InStep N w s v = IsInStep (manager N s) (ports N (N.session s).target) (accepted_at_target N w s) v
 
-pub session-changes : (N : Network) (w : NetworkState) (s : ℕ) (v : SessionState) → ((i : ℕ) (q : RequestValue) → slice_get (w.session s).begun i ≡ Some q → slice_get v.begun i ≡ Some q) → InStep N w s v → IsReached N w → IsReached N (with_session w s v)
+pub session-changes : (N : Network) (w : NetworkState) (s : ℕ) (v : SessionState)
+    → ((i : ℕ) (q : RequestValue)
+    → slice_get (w.session s).begun i ≡ Some q
+    → slice_get v.begun i ≡ Some q)
+    → InStep N w s v
+    → IsReached N w
+    → IsReached N (with_session w s v)
 session-changes N w s v g at r = record {
   sessions = λ t place. ⊎_elim
       (λ (y : t == s ≡ true). subst (InStep N w t) (sym (with_place-same w.session s v t y)) (subst (λ j. InStep N w j v) (sym (eqb-true t s y)) at))
@@ -112,7 +141,10 @@ session-set N w s domain attempts place r =
 
 -- ---- more frames
 
-pub more-frames : (N : Network) (w : NetworkState) (fs : List Frame) → AllByRecursion (IsFrame N w) fs → IsReached N w → IsReached N (with_frames w fs)
+pub more-frames : (N : Network) (w : NetworkState) (fs : List Frame)
+    → AllByRecursion (IsFrame N w) fs
+    → IsReached N w
+    → IsReached N (with_frames w fs)
 more-frames N w fs a r = record {
   sessions = r.sessions;
   clocks = r.clocks;
@@ -120,11 +152,17 @@ more-frames N w fs a r = record {
 }
 
 -- the frames of a message that is sent for the first time
-pub new_frames-are : (N : Network) (w : NetworkState) (ends : List End) (octets : List ℕ) (o : Origin) → AllByRecursion (HasEnd N) ends → IsOfOrigin N w octets o → AllByRecursion (IsFrame N w) (new_frames ends octets o)
+pub new_frames-are : (N : Network) (w : NetworkState) (ends : List End) (octets : List ℕ)
+    (o : Origin)
+    → AllByRecursion (HasEnd N) ends
+    → IsOfOrigin N w octets o
+    → AllByRecursion (IsFrame N w) (new_frames ends octets o)
 new_frames-are N w ends octets o a i = all_made (HasEnd N) (IsFrame N w) _ (λ e h. record { end = h; origin = i; hops = omega arith }) ends a
 
 -- what is not answered yet was begun last
-pub unanswered-last : (s : SessionState) (q : RequestValue) → unanswered s ≡ Some q → slice_get s.begun (length s.begun - 1) ≡ Some q
+pub unanswered-last : (s : SessionState) (q : RequestValue)
+    → unanswered s ≡ Some q
+    → slice_get s.begun (length s.begun - 1) ≡ Some q
 unanswered-last s q e = ⊎_elim
     (λ (y : is_idle s ≡ true). let none : None ≡ Some q = sym (cond-true _ _ _ y) ∙ e in absurd (cc))
     (λ (n : is_idle s ≡ false). sym (cond-false _ _ _ n) ∙ e)
@@ -133,8 +171,15 @@ unanswered-last s q e = ⊎_elim
 positive : (n : ℕ) → n - 1 < n → 0 < n
 positive n h = omega arith
 
-sent_frames-are : (N : Network) (w : NetworkState) (s : ℕ) (o : Option RequestValue) → s < N.sessions → AllByRecursion (HasEnd N) (peers N.links (AtSession s)) → unanswered (w.session s) ≡ o
-    → AllByRecursion (IsFrame N w) (sent_frames (peers N.links (AtSession s)) s (length (w.session s).begun) (option_map (request_message (N.session s).setup (w.session s).domain (length (w.session s).begun)) o))
+sent_frames-are : (N : Network) (w : NetworkState) (s : ℕ) (o : Option RequestValue)
+    → s < N.sessions
+    → AllByRecursion (HasEnd N) (peers N.links (AtSession s))
+    → unanswered (w.session s) ≡ o
+    → AllByRecursion (IsFrame N w)
+    (sent_frames (peers N.links (AtSession s)) s (length (w.session s).begun)
+    (option_map
+    (request_message (N.session s).setup (w.session s).domain
+    (length (w.session s).begun)) o))
 sent_frames-are N w s None place ends e = tt
 sent_frames-are N w s (Some q) place ends e =
     let last = unanswered-last (w.session s) q e in
@@ -150,7 +195,11 @@ sent_frames-are N w s (Some q) place ends e =
       },
     )
 
-pub sends-reached : (N : Network) (w : NetworkState) (s : ℕ) → IsNetwork N → s < N.sessions → IsReached N w → IsReached N (sends N w s)
+pub sends-reached : (N : Network) (w : NetworkState) (s : ℕ)
+    → IsNetwork N
+    → s < N.sessions
+    → IsReached N w
+    → IsReached N (sends N w s)
 sends-reached N w s n place r =
     let v : SessionState = record (w.session s) { attempts_left = (w.session s).attempts_left - 1 } in
     more-frames N (with_session w s v) _

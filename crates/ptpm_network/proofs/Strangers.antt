@@ -27,7 +27,10 @@ use Rattle.ptpm_network.specs.Network.{Network, manager}
 number-fits : (place : ℕ) (m : List ℕ) → IsOctets m → number_at place m < 2 ^ 16
 number-fits place m h = let high = h place in let low = h (place + 1) in omega (arith, number_at-octets place m, high, low)
 
-identity-fits : (place : ℕ) (m : List ℕ) → IsOctets m → place + 10 ≤ length m → PortIdentityFits (port_identity_at place m)
+identity-fits : (place : ℕ) (m : List ℕ)
+    → IsOctets m
+    → place + 10 ≤ length m
+    → PortIdentityFits (port_identity_at place m)
 unfolding port_identity_at
 identity-fits place m h long = record {
   clock = length-take-le 8 (drop place m) (omega (arith, length-drop place m));
@@ -52,7 +55,11 @@ spelled-fits v m h s =
 
 -- ---- identities
 
-none_of_range : (test : ℕ → Bool) (n a i : ℕ) → list_any test (range_with_len a n) ≡ false → a ≤ i → i < a + n → test i ≡ false
+none_of_range : (test : ℕ → Bool) (n a i : ℕ)
+    → list_any test (range_with_len a n) ≡ false
+    → a ≤ i
+    → i < a + n
+    → test i ≡ false
 none_of_range test zero a i e le lt = absurd (omega arith)
 none_of_range test (suc n) a i e le lt =
     let p = or_parts (test a) (list_any test (range_with_len (a + 1) n)) e in
@@ -61,7 +68,10 @@ none_of_range test (suc n) a i e le lt =
     (λ (ne : a ≡ i → ⊥). none_of_range test n (a + 1) i p.1 (omega arith) (omega arith))
     (cases_eq a i)
 
-not_taken-clock : (who : PortIdentity) (clock : ClockIdentity) → same_clock who.clock clock ≡ false → who.clock ≡ clock → ⊥
+not_taken-clock : (who : PortIdentity) (clock : ClockIdentity)
+    → same_clock who.clock clock ≡ false
+    → who.clock ≡ clock
+    → ⊥
 not_taken-clock who clock n h = true≢false (sym (same_clock-refl who.clock) ∙ (ap (same_clock who.clock) h ∙ n))
 
 not_taken-session : (who m : PortIdentity) → same_identity who m ≡ false → who ≡ m → ⊥
@@ -70,7 +80,10 @@ not_taken-session who m n h = true≢false (sym (same_identity-refl who) ∙ (ap
 below : (i n : ℕ) → i < n → i < 0 + n
 below i n h = omega arith
 
-untaken : (N : Network) (v : Message) (who : PortIdentity) → v.source ≡ who → is_taken N who ≡ false → IsForeign N v
+untaken : (N : Network) (v : Message) (who : PortIdentity)
+    → v.source ≡ who
+    → is_taken N who ≡ false
+    → IsForeign N v
 untaken N v who e none =
     let parts = or_parts (list_any (λ c. same_clock who.clock (N.clock c).identity) (range_with_len 0 N.clocks)) (list_any (λ s. same_identity who (manager N s)) (range_with_len 0 N.sessions)) none in
     record {
@@ -83,7 +96,9 @@ untaken N v who e none =
 
 -- ---- the source of a message stands within it
 
-port_identity-take : (n : ℕ) (m : List ℕ) → 30 ≤ n → port_identity_at 20 (take n m) ≡ port_identity_at 20 m
+port_identity-take : (n : ℕ) (m : List ℕ)
+    → 30 ≤ n
+    → port_identity_at 20 (take n m) ≡ port_identity_at 20 m
 unfolding port_identity_at
 port_identity-take n m long =
     let size : n ≡ 20 + (n - 20) = omega arith in
@@ -92,13 +107,19 @@ port_identity-take n m long =
     let port : number_at 28 (take n m) ≡ number_at 28 m = number-take 28 n m (omega arith) in
     rw (clock, port) refl
 
-message-source : (v : Message) (d : List ℕ) → message_of d ≡ Some v → v.source ≡ source_port_identity d
+message-source : (v : Message) (d : List ℕ)
+    → message_of d ≡ Some v
+    → v.source ≡ source_port_identity d
 message-source v d e =
     let size = message_size d (message_of-some d v e).0 in
     let low = size.0 in
     (message_of-spells v d e).source ∙ port_identity-take (message_length d) d (omega arith)
 
-pub strange-message : (N : Network) (d : List ℕ) (v : Message) → IsOctets d → is_forged N d ≡ false → message_of d ≡ Some v → Fits v × IsForeign N v
+pub strange-message : (N : Network) (d : List ℕ) (v : Message)
+    → IsOctets d
+    → is_forged N d ≡ false
+    → message_of d ≡ Some v
+    → Fits v × IsForeign N v
 strange-message N d v octets honest e =
     let size = message_size d (message_of-some d v e).0 in
     let low = size.0 in

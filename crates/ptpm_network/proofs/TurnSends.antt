@@ -39,7 +39,9 @@ IsAt port m = m.0 == port ≡ true
 abbrev pub IsAway : ℕ → ℕ × List ℕ → Type 0
 IsAway port m = m.0 == port ≡ false
 
-passed-away : (ingress : ℕ) (may : ℕ → Bool) (octets : List ℕ) (ports : List ℕ) → AllByRecursion (IsAway ingress) (map (λ port. (port, octets)) (filter (λ port. not (port == ingress) && may port) ports))
+passed-away : (ingress : ℕ) (may : ℕ → Bool) (octets : List ℕ) (ports : List ℕ)
+    → AllByRecursion (IsAway ingress)
+    (map (λ port. (port, octets)) (filter (λ port. not (port == ingress) && may port) ports))
 passed-away ingress may octets [] = tt
 passed-away ingress may octets (p ∷ ps) = ⊎_elim
     (λ (y : (not (p == ingress) && may p) ≡ true).
@@ -49,7 +51,9 @@ passed-away ingress may octets (p ∷ ps) = ⊎_elim
     subst (λ xs. AllByRecursion (IsAway ingress) (map (λ port. (port, octets)) xs)) (sym (cond-false _ _ _ n)) (passed-away ingress may octets ps))
     (cases_Bool (not (p == ingress) && may p))
 
-forwarded_by-away : (me : ClockIdentity) (ingress : ℕ) (d : DataSetsValue) (datagram : List ℕ) (o : Option Message) → AllByRecursion (IsAway ingress) (forwarded_by me ingress d datagram o)
+forwarded_by-away : (me : ClockIdentity) (ingress : ℕ) (d : DataSetsValue) (datagram : List ℕ)
+    (o : Option Message)
+    → AllByRecursion (IsAway ingress) (forwarded_by me ingress d datagram o)
 forwarded_by-away me ingress d datagram None = tt
 forwarded_by-away me ingress d datagram (Some v) = ⊎_elim
     (λ (y : is_forwarded me ingress d v ≡ true). subst (AllByRecursion (IsAway ingress)) (sym (cond-true _ _ _ y))
@@ -57,37 +61,47 @@ forwarded_by-away me ingress d datagram (Some v) = ⊎_elim
     (λ (n : is_forwarded me ingress d v ≡ false). subst (AllByRecursion (IsAway ingress)) (sym (cond-false _ _ _ n)) tt)
     (cases_Bool (is_forwarded me ingress d v))
 
-forwarded-away : (me : ClockIdentity) (ingress : ℕ) (d : DataSetsValue) (datagram : List ℕ) → AllByRecursion (IsAway ingress) (forwarded me ingress d datagram)
+forwarded-away : (me : ClockIdentity) (ingress : ℕ) (d : DataSetsValue) (datagram : List ℕ)
+    → AllByRecursion (IsAway ingress) (forwarded me ingress d datagram)
 unfolding forwarded
 forwarded-away me ingress d datagram = forwarded_by-away me ingress d datagram (message_of datagram)
 
-turn_by-away : (c : Clock) (s : State) (ingress : ℕ) (datagram : List ℕ) (r : Result Message DecodeError) → AllByRecursion (IsAway ingress) (turn_by c s ingress datagram r).forwards
+turn_by-away : (c : Clock) (s : State) (ingress : ℕ) (datagram : List ℕ)
+    (r : Result Message DecodeError)
+    → AllByRecursion (IsAway ingress) (turn_by c s ingress datagram r).forwards
 turn_by-away c s ingress datagram (Err cause) = forwarded-away c.identity ingress s.sets datagram
 turn_by-away c s ingress datagram (Ok v) = forwarded-away c.identity ingress s.sets datagram
 
 -- what is passed on leaves at other ports
-pub forwards-away : (c : Clock) (s : State) (ingress : ℕ) (datagram : List ℕ) → AllByRecursion (IsAway ingress) (turn c s ingress datagram).forwards
+pub forwards-away : (c : Clock) (s : State) (ingress : ℕ) (datagram : List ℕ)
+    → AllByRecursion (IsAway ingress) (turn c s ingress datagram).forwards
 unfolding turn
 forwards-away c s ingress datagram = turn_by-away c s ingress datagram (reading datagram)
 
-made-at : {A : Type 0} (ingress : ℕ) (octets : A → List ℕ) (xs : List A) → AllByRecursion (IsAt ingress) (map (λ a. (ingress, octets a)) xs)
+made-at : {A : Type 0} (ingress : ℕ) (octets : A → List ℕ) (xs : List A)
+    → AllByRecursion (IsAt ingress) (map (λ a. (ingress, octets a)) xs)
 made-at ingress octets [] = tt
 made-at ingress octets (x ∷ xs) = (eq-eqb ingress ingress refl, made-at ingress octets xs)
 
-rendered-at : (me : ClockIdentity) (heard : Heard) (r : ReplyValue) (ingress : ℕ) → AllByRecursion (IsAt ingress) (rendered me heard r ingress)
+rendered-at : (me : ClockIdentity) (heard : Heard) (r : ReplyValue) (ingress : ℕ)
+    → AllByRecursion (IsAt ingress) (rendered me heard r ingress)
 unfolding rendered
 rendered-at me heard r ingress = made-at ingress (λ a. canonical (reply_message me heard r.action r.id ingress a)) r.answers
 
-reply_messages-at : (c : Clock) (ingress : ℕ) (heard : Heard) (r : Option ReplyValue) → AllByRecursion (IsAt ingress) (reply_messages c ingress heard r)
+reply_messages-at : (c : Clock) (ingress : ℕ) (heard : Heard) (r : Option ReplyValue)
+    → AllByRecursion (IsAt ingress) (reply_messages c ingress heard r)
 reply_messages-at c ingress heard None = tt
 reply_messages-at c ingress heard (Some r) = rendered-at c.identity heard r ingress
 
-turn_by-at : (c : Clock) (s : State) (ingress : ℕ) (datagram : List ℕ) (r : Result Message DecodeError) → AllByRecursion (IsAt ingress) (turn_by c s ingress datagram r).replies
+turn_by-at : (c : Clock) (s : State) (ingress : ℕ) (datagram : List ℕ)
+    (r : Result Message DecodeError)
+    → AllByRecursion (IsAt ingress) (turn_by c s ingress datagram r).replies
 turn_by-at c s ingress datagram (Err cause) = tt
 turn_by-at c s ingress datagram (Ok v) = reply_messages-at c ingress (heard_of v) (reply_by (judged c s v) c s v)
 
 -- replies leave at the port that the datagram came in at
-pub replies-at : (c : Clock) (s : State) (ingress : ℕ) (datagram : List ℕ) → AllByRecursion (IsAt ingress) (turn c s ingress datagram).replies
+pub replies-at : (c : Clock) (s : State) (ingress : ℕ) (datagram : List ℕ)
+    → AllByRecursion (IsAt ingress) (turn c s ingress datagram).replies
 unfolding turn
 replies-at c s ingress datagram = turn_by-at c s ingress datagram (reading datagram)
 
@@ -97,35 +111,46 @@ replies-at c s ingress datagram = turn_by-at c s ingress datagram (reading datag
 abbrev IsToCopy : Verdict → List (ℕ × List ℕ) → Option RequestCopy → Type 0
 IsToCopy w replies copy = (replies ≡ []) ⊎ ((o : Origin) → origin_by w o ≡ answer_origin o copy)
 
-copy_by-copy : (c : Clock) (s : State) (x : Delivery) (v : Message) → is_copy c (length s.sets.ports) v ≡ true → copy_by c (length s.sets.ports) x (Some v) ≡ Some (copy_from x v)
+copy_by-copy : (c : Clock) (s : State) (x : Delivery) (v : Message)
+    → is_copy c (length s.sets.ports) v ≡ true
+    → copy_by c (length s.sets.ports) x (Some v) ≡ Some (copy_from x v)
 copy_by-copy c s x v y = cond-true _ _ _ y
 
-copy_by-none : (c : Clock) (s : State) (x : Delivery) (v : Message) → is_copy c (length s.sets.ports) v ≡ false → copy_by c (length s.sets.ports) x (Some v) ≡ None
+copy_by-none : (c : Clock) (s : State) (x : Delivery) (v : Message)
+    → is_copy c (length s.sets.ports) v ≡ false
+    → copy_by c (length s.sets.ports) x (Some v) ≡ None
 copy_by-none c s x v n = cond-false _ _ _ n
 
 -- what is not numbered is no copy
-not_copy : (a o k t p q : Bool) → (k && t) ≡ false → (a && (not o && (k && (t && (p && q))))) ≡ false
+not_copy : (a o k t p q : Bool)
+    → (k && t) ≡ false
+    → (a && (not o && (k && (t && (p && q))))) ≡ false
 not_copy a o true true p q e = absurd (cc)
 not_copy a o true false p q e = and_right a _ (and_right (not o) _ refl)
 not_copy a o false t p q e = and_right a _ (and_right (not o) _ refl)
 
-is_copy-unnumbered : (c : Clock) (s : State) (v : Message) → is_numbered c v ≡ false → is_copy c (length s.sets.ports) v ≡ false
+is_copy-unnumbered : (c : Clock) (s : State) (v : Message)
+    → is_numbered c v ≡ false
+    → is_copy c (length s.sets.ports) v ≡ false
 is_copy-unnumbered c s v n = not_copy (v.sdo == 0) (is_own c v) (is_known v.source c.managers) (is_for_this_clock c v) (names_port (length s.sets.ports) v.target.port) (is_request v) n
 
 -- what is told to a numbered request, by what it is
-look_by-copy : (c : Clock) (s : State) (ingress : ℕ) (v : Message) (k : RequestCopy) (z : Serial) (same : Bool) →
+look_by-copy : (c : Clock) (s : State) (ingress : ℕ) (v : Message) (k : RequestCopy) (z : Serial)
+    (same : Bool) →
     IsToCopy (verdict_at (look_by z same)) (reply_messages c ingress (heard_of v) (reply_by (verdict_at (look_by z same)) c s v)) (Some k)
 look_by-copy c s ingress v k serials.Same true = inr (λ o. refl)
 look_by-copy c s ingress v k serials.Same false = inl refl
 look_by-copy c s ingress v k serials.Newer same = inr (λ o. refl)
 look_by-copy c s ingress v k serials.Older same = inl refl
 
-look_at-copy : (c : Clock) (s : State) (ingress : ℕ) (v : Message) (k : RequestCopy) (e : Option Entry) →
+look_at-copy : (c : Clock) (s : State) (ingress : ℕ) (v : Message) (k : RequestCopy)
+    (e : Option Entry) →
     IsToCopy (verdict_at (look_at e v.number (request_of v))) (reply_messages c ingress (heard_of v) (reply_by (verdict_at (look_at e v.number (request_of v))) c s v)) (Some k)
 look_at-copy c s ingress v k None = inr (λ o. refl)
 look_at-copy c s ingress v k (Some e) = look_by-copy c s ingress v k (serial_of e.number v.number) (same_request e.request (request_of v))
 
-numbered-copy : (c : Clock) (s : State) (ingress : ℕ) (v : Message) (k : RequestCopy) → is_numbered c v ≡ true →
+numbered-copy : (c : Clock) (s : State) (ingress : ℕ) (v : Message) (k : RequestCopy)
+    → is_numbered c v ≡ true →
     IsToCopy (verdict_at (look c s v)) (reply_messages c ingress (heard_of v) (reply_by (verdict_at (look c s v)) c s v)) (Some k)
 numbered-copy c s ingress v k n =
     subst (λ (l : Look). IsToCopy (verdict_at l) (reply_messages c ingress (heard_of v) (reply_by (verdict_at l) c s v)) (Some k)) (sym (cond-true _ _ _ n))
@@ -146,7 +171,8 @@ message-copy c s x v =
     ∙ sym (ap (answer_origin origin) (copy_by-none c s x v (is_copy-unnumbered c s v n)))))
     (cases_Bool (is_numbered c v)))
 
-turn_by-copy : (c : Clock) (s : State) (x : Delivery) (r : Result Message DecodeError) → reading x.datagram ≡ r →
+turn_by-copy : (c : Clock) (s : State) (x : Delivery) (r : Result Message DecodeError)
+    → reading x.datagram ≡ r →
     IsToCopy (turn_by c s x.ingress x.datagram r).verdict (turn_by c s x.ingress x.datagram r).replies (copy_of c (length s.sets.ports) x)
 turn_by-copy c s x (Err cause) e = inl refl
 turn_by-copy c s x (Ok v) e =

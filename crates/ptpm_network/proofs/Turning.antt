@@ -24,21 +24,37 @@ use Rattle.ptpm_network.specs.State.{Frame}
 
 -- ---- a message that is no numbered copy
 
-judged-own : (c : Clock) (s : State) (v : Message) → is_in_domain c s v ≡ true → is_own c v ≡ true → judged c s v ≡ verdicts.OwnMessage
+judged-own : (c : Clock) (s : State) (v : Message)
+    → is_in_domain c s v ≡ true
+    → is_own c v ≡ true
+    → judged c s v ≡ verdicts.OwnMessage
 unfolding judged
 judged-own c s v d o = cond-false _ _ _ (ap not d) ∙ cond-true _ _ _ o
 
-judged-away : (c : Clock) (s : State) (v : Message) → is_in_domain c s v ≡ true → is_own c v ≡ false → is_addressed c s.sets v ≡ false → judged c s v ≡ verdicts.NotAddressed
+judged-away : (c : Clock) (s : State) (v : Message)
+    → is_in_domain c s v ≡ true
+    → is_own c v ≡ false
+    → is_addressed c s.sets v ≡ false
+    → judged c s v ≡ verdicts.NotAddressed
 unfolding judged
 judged-away c s v d o a = cond-false _ _ _ (ap not d) ∙ (cond-false _ _ _ o ∙ cond-true _ _ _ (ap not a))
 
-judged-reply : (c : Clock) (s : State) (v : Message) → is_in_domain c s v ≡ true → is_own c v ≡ false → is_addressed c s.sets v ≡ true → is_request v ≡ false → judged c s v ≡ verdicts.NotARequest
+judged-reply : (c : Clock) (s : State) (v : Message)
+    → is_in_domain c s v ≡ true
+    → is_own c v ≡ false
+    → is_addressed c s.sets v ≡ true
+    → is_request v ≡ false
+    → judged c s v ≡ verdicts.NotARequest
 unfolding judged
 judged-reply c s v d o a q = cond-false _ _ _ (ap not d) ∙ (cond-false _ _ _ o ∙ (cond-false _ _ _ (ap not a) ∙ cond-true _ _ _ (ap not q)))
 
 -- where the verdict sends nothing, nothing is read
-says_nothing : (c : Clock) (s : State) (ingress : ℕ) (v : Message) (w : Verdict) → judged c s v ≡ w → reply_by w c s v ≡ None → is_read c s.sets v ≡ false
-    → reply_messages c ingress (heard_of v) (reply_by (judged c s v) c s v) ≡ read_messages c s.sets ingress (Some v)
+says_nothing : (c : Clock) (s : State) (ingress : ℕ) (v : Message) (w : Verdict)
+    → judged c s v ≡ w
+    → reply_by w c s v ≡ None
+    → is_read c s.sets v ≡ false
+    → reply_messages c ingress (heard_of v) (reply_by (judged c s v) c s v)
+    ≡ read_messages c s.sets ingress (Some v)
 says_nothing c s ingress v w j e n =
     ap (λ (u : Verdict). reply_messages c ingress (heard_of v) (reply_by u c s v)) j
     ∙ ap (reply_messages c ingress (heard_of v)) e
@@ -60,7 +76,13 @@ is_read-reply : (a b o d q x : Bool) → q ≡ false → (a && (b && (not o && (
 is_read-reply a b o d q x e = and_right a _ (and_right b _ (and_right (not o) _ (and_right d _ (and_left q x e))))
 
 -- known, for this clock and at a port that it has, such a request is a copy
-is_copy-bits : (a o k t p q e : Bool) → a ≡ true → o ≡ false → (k && t) ≡ true → ((t || e) && p) ≡ true → q ≡ true → (a && (not o && (k && (t && (p && q))))) ≡ true
+is_copy-bits : (a o k t p q e : Bool)
+    → a ≡ true
+    → o ≡ false
+    → (k && t) ≡ true
+    → ((t || e) && p) ≡ true
+    → q ≡ true
+    → (a && (not o && (k && (t && (p && q))))) ≡ true
 is_copy-bits a o k t p q e h1 h2 h3 h4 h5 =
     let kt = and_parts k t h3 in
     let named = and_parts (t || e) p h4 in
@@ -75,8 +97,14 @@ in_domain true false r y e = absurd (true≢false (sym y ∙ e))
 in_domain false b r y e = absurd (true≢false (sym y))
 
 -- a request that is not numbered is read
-says_read : (c : Clock) (s : State) (ingress : ℕ) (v : Message) → is_in_domain c s v ≡ true → is_own c v ≡ false → is_addressed c s.sets v ≡ true → is_request v ≡ true → is_numbered c v ≡ false
-    → reply_messages c ingress (heard_of v) (reply_by (judged c s v) c s v) ≡ read_messages c s.sets ingress (Some v)
+says_read : (c : Clock) (s : State) (ingress : ℕ) (v : Message)
+    → is_in_domain c s v ≡ true
+    → is_own c v ≡ false
+    → is_addressed c s.sets v ≡ true
+    → is_request v ≡ true
+    → is_numbered c v ≡ false
+    → reply_messages c ingress (heard_of v) (reply_by (judged c s v) c s v)
+    ≡ read_messages c s.sets ingress (Some v)
 says_read c s ingress v d o a q n =
     let looked : look c s v ≡ looks.Unknown = cond-false _ _ _ n in
     let verdict : judged c s v ≡ verdicts.AnsweredUnnumbered = judged-request c s v d o a q ∙ ap verdict_at looked in
@@ -85,8 +113,13 @@ says_read c s ingress v d o a q n =
     let read : is_read c s.sets v ≡ true = and_from _ _ home.0 (and_from _ _ home.1 (and_from _ _ (ap not o) (and_from _ _ a (and_from _ _ q (ap not n))))) in
     ap (λ (u : Verdict). reply_messages c ingress (heard_of v) (reply_by u c s v)) verdict ∙ sym (cond-true _ _ _ read)
 
-says_request_or_nothing : (c : Clock) (s : State) (ingress : ℕ) (v : Message) → is_copy c (length s.sets.ports) v ≡ false → is_in_domain c s v ≡ true → is_own c v ≡ false → is_addressed c s.sets v ≡ true
-    → reply_messages c ingress (heard_of v) (reply_by (judged c s v) c s v) ≡ read_messages c s.sets ingress (Some v)
+says_request_or_nothing : (c : Clock) (s : State) (ingress : ℕ) (v : Message)
+    → is_copy c (length s.sets.ports) v ≡ false
+    → is_in_domain c s v ≡ true
+    → is_own c v ≡ false
+    → is_addressed c s.sets v ≡ true
+    → reply_messages c ingress (heard_of v) (reply_by (judged c s v) c s v)
+    ≡ read_messages c s.sets ingress (Some v)
 says_request_or_nothing c s ingress v n d o a = ⊎_elim
     (λ (q : is_request v ≡ true). ⊎_elim
     (λ (y : is_numbered c v ≡ true). absurd (true≢false (sym
@@ -98,8 +131,10 @@ says_request_or_nothing c s ingress v n d o a = ⊎_elim
     (is_read-reply (v.sdo == 0) (v.domain == s.sets.default.domain) (is_own c v) (is_addressed c s.sets v) (is_request v) (not (is_numbered c v)) q))
     (cases_Bool (is_request v))
 
-says_as_read : (c : Clock) (s : State) (ingress : ℕ) (v : Message) → is_copy c (length s.sets.ports) v ≡ false
-    → reply_messages c ingress (heard_of v) (reply_by (judged c s v) c s v) ≡ read_messages c s.sets ingress (Some v)
+says_as_read : (c : Clock) (s : State) (ingress : ℕ) (v : Message)
+    → is_copy c (length s.sets.ports) v ≡ false
+    → reply_messages c ingress (heard_of v) (reply_by (judged c s v) c s v)
+    ≡ read_messages c s.sets ingress (Some v)
 says_as_read c s ingress v n = ⊎_elim
     (λ (d : is_in_domain c s v ≡ true). ⊎_elim
     (λ (o : is_own c v ≡ true). says_nothing c s ingress v verdicts.OwnMessage (judged-own c s v d o) refl
@@ -116,26 +151,41 @@ says_as_read c s ingress v n = ⊎_elim
 
 -- ---- a turn
 
-turn-refused : (c : Clock) (s : State) (ingress : ℕ) (d : List ℕ) (cause : DecodeError) → reading d ≡ Err cause → turn c s ingress d ≡ turn_by c s ingress d (Err cause)
+turn-refused : (c : Clock) (s : State) (ingress : ℕ) (d : List ℕ) (cause : DecodeError)
+    → reading d ≡ Err cause
+    → turn c s ingress d ≡ turn_by c s ingress d (Err cause)
 unfolding turn
 turn-refused c s ingress d cause e = ap (λ (r : Result Message DecodeError). turn_by c s ingress d r) e
 
-not_both : {X : Type 0} (cause : DecodeError) (v : Message) (r : Result Message DecodeError) → r ≡ Err cause → r ≡ Ok v → X
+not_both : {X : Type 0} (cause : DecodeError) (v : Message) (r : Result Message DecodeError)
+    → r ≡ Err cause
+    → r ≡ Ok v
+    → X
 not_both cause v r e h = let q : Err cause ≡ Ok v = sym e ∙ h in absurd (cc)
 
-no_message : (d : List ℕ) (cause : DecodeError) (o : Option Message) → message_of d ≡ o → reading d ≡ Err cause → o ≡ None
+no_message : (d : List ℕ) (cause : DecodeError) (o : Option Message)
+    → message_of d ≡ o
+    → reading d ≡ Err cause
+    → o ≡ None
 no_message d cause None m e = refl
 no_message d cause (Some v) m e = not_both cause v (reading d) e (reading-message_of d v m)
 
-turn_by-forwards : (c : Clock) (s : State) (ingress : ℕ) (d : List ℕ) (r : Result Message DecodeError) → (turn_by c s ingress d r).forwards ≡ forwarded c.identity ingress s.sets d
+turn_by-forwards : (c : Clock) (s : State) (ingress : ℕ) (d : List ℕ)
+    (r : Result Message DecodeError)
+    → (turn_by c s ingress d r).forwards ≡ forwarded c.identity ingress s.sets d
 turn_by-forwards c s ingress d (Err cause) = refl
 turn_by-forwards c s ingress d (Ok v) = refl
 
-turn-forwards : (c : Clock) (s : State) (ingress : ℕ) (d : List ℕ) → (turn c s ingress d).forwards ≡ forwarded c.identity ingress s.sets d
+turn-forwards : (c : Clock) (s : State) (ingress : ℕ) (d : List ℕ)
+    → (turn c s ingress d).forwards ≡ forwarded c.identity ingress s.sets d
 unfolding turn
 turn-forwards c s ingress d = turn_by-forwards c s ingress d (reading d)
 
-turn-reads : (c : Clock) (s : State) (x : Delivery) (r : Result Message DecodeError) → reading x.datagram ≡ r → copy_of c (length s.sets.ports) x ≡ None → (turn c s x.ingress x.datagram).replies ≡ read_messages c s.sets x.ingress (message_of x.datagram)
+turn-reads : (c : Clock) (s : State) (x : Delivery) (r : Result Message DecodeError)
+    → reading x.datagram ≡ r
+    → copy_of c (length s.sets.ports) x ≡ None
+    → (turn c s x.ingress x.datagram).replies
+    ≡ read_messages c s.sets x.ingress (message_of x.datagram)
 turn-reads c s x (Err cause) e none =
     ap (λ (t : Turned). t.replies) (turn-refused c s x.ingress x.datagram cause e)
     ∙ sym (ap (read_messages c s.sets x.ingress) (no_message x.datagram cause (message_of x.datagram) refl e))
@@ -147,16 +197,32 @@ turn-reads c s x (Ok v) e none =
 
 -- ---- both are the machine's
 
-pub turn-passes_on : (c : Clock) (first : PortIdentity → ℕ) (s : State) (h : History) (ingress : ℕ) (f : Frame) → StandsAt first s h → (turn c s ingress f.octets).forwards ≡ forwarded c.identity ingress h.sets f.octets
+pub turn-passes_on : (c : Clock) (first : PortIdentity → ℕ) (s : State) (h : History) (ingress : ℕ)
+    (f : Frame)
+    → StandsAt first s h
+    → (turn c s ingress f.octets).forwards ≡ forwarded c.identity ingress h.sets f.octets
 turn-passes_on c first s h ingress f at = turn-forwards c s ingress f.octets ∙ ap (λ (d : DataSetsValue). forwarded c.identity ingress d f.octets) at.sets
 
-answers-by : (c : Clock) (first : PortIdentity → ℕ) (s : State) (h : History) (ingress : ℕ) (f : Frame) (o : Option RequestCopy) → StandsAt first s h → ((k : RequestCopy) → copy_of c (length h.sets.ports) (delivery ingress f) ≡ Some k → IsInTime first h k)
-    → copy_of c (length h.sets.ports) (delivery ingress f) ≡ o → (turn c s ingress f.octets).replies ≡ answer_messages c h ingress f.octets o
+answers-by : (c : Clock) (first : PortIdentity → ℕ) (s : State) (h : History) (ingress : ℕ)
+    (f : Frame) (o : Option RequestCopy)
+    → StandsAt first s h
+    → ((k : RequestCopy)
+    → copy_of c (length h.sets.ports) (delivery ingress f) ≡ Some k
+    → IsInTime first h k)
+    → copy_of c (length h.sets.ports) (delivery ingress f) ≡ o
+    → (turn c s ingress f.octets).replies ≡ answer_messages c h ingress f.octets o
 answers-by c first s h ingress f None at time e =
     turn-reads c s (delivery ingress f) (reading f.octets) refl (ap (λ (d : DataSetsValue). copy_of c (length d.ports) (delivery ingress f)) at.sets ∙ e)
     ∙ ap (λ (d : DataSetsValue). read_messages c d ingress (message_of f.octets)) at.sets
 answers-by c first s h ingress f (Some k) at time e = (turns_as first c s h (delivery ingress f) k at e (time k e)).replies
 
-pub turn-answers : (c : Clock) (first : PortIdentity → ℕ) (s : State) (h : History) (ingress : ℕ) (f : Frame) → StandsAt first s h → ((k : RequestCopy) → copy_of c (length h.sets.ports) (delivery ingress f) ≡ Some k → IsInTime first h k)
-    → (turn c s ingress f.octets).replies ≡ answer_messages c h ingress f.octets (copy_of c (length h.sets.ports) (delivery ingress f))
+pub turn-answers : (c : Clock) (first : PortIdentity → ℕ) (s : State) (h : History) (ingress : ℕ)
+    (f : Frame)
+    → StandsAt first s h
+    → ((k : RequestCopy)
+    → copy_of c (length h.sets.ports) (delivery ingress f) ≡ Some k
+    → IsInTime first h k)
+    → (turn c s ingress f.octets).replies
+    ≡ answer_messages c h ingress f.octets
+    (copy_of c (length h.sets.ports) (delivery ingress f))
 turn-answers c first s h ingress f at time = answers-by c first s h ingress f (copy_of c (length h.sets.ports) (delivery ingress f)) at time refl

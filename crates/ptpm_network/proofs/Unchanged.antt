@@ -26,14 +26,23 @@ of_nothing : {X : Type 0} (s k : ℕ) → Neither ≡ RequestOf s k → X
 of_nothing s k e = absurd (cc)
 
 -- what belongs to nothing is no copy
-strange-no_copy : (N : Network) (w : NetworkState) (c port : ℕ) (datagram : List ℕ) (o : Option RequestCopy) → IsNetwork N → IsReached N w → c < N.clocks → IsHeard N w datagram Neither
+strange-no_copy : (N : Network) (w : NetworkState) (c port : ℕ) (datagram : List ℕ)
+    (o : Option RequestCopy)
+    → IsNetwork N
+    → IsReached N w
+    → c < N.clocks
+    → IsHeard N w datagram Neither
     → copy_of (N.clock c) (ports N c) (delivery port (strange_frame c port datagram)) ≡ o → o ≡ None
 strange-no_copy N w c port datagram None n r place i e = refl
 strange-no_copy N w c port datagram (Some copy) n r place i e =
     let of = is_copy_of N w c port (strange_frame c port datagram) copy n r place i e in
     of_nothing of.session of.k of.origin
 
-strange-history : (N : Network) (w : NetworkState) (c port : ℕ) (datagram : List ℕ) (d : ℕ) → IsNetwork N → IsReached N w → c < N.clocks → IsHeard N w datagram Neither
+strange-history : (N : Network) (w : NetworkState) (c port : ℕ) (datagram : List ℕ) (d : ℕ)
+    → IsNetwork N
+    → IsReached N w
+    → c < N.clocks
+    → IsHeard N w datagram Neither
     → history N (arrives w c (delivery port (strange_frame c port datagram))) d ≡ history N w d
 strange-history N w c port datagram d n r place i =
     let x : Delivery = delivery port (strange_frame c port datagram) in
@@ -44,7 +53,11 @@ strange-history N w c port datagram d n r place i =
     (λ (o : d == c ≡ false). history-elsewhere N w c x d o)
     (cases_Bool (d == c))
 
-strange-happens : (N : Network) (w : NetworkState) (c port : ℕ) (datagram : List ℕ) (d : ℕ) → IsNetwork N → IsReached N w → IsInRange (Stranger c port datagram) → refusal N w (Stranger c port datagram) ≡ None
+strange-happens : (N : Network) (w : NetworkState) (c port : ℕ) (datagram : List ℕ) (d : ℕ)
+    → IsNetwork N
+    → IsReached N w
+    → IsInRange (Stranger c port datagram)
+    → refusal N w (Stranger c port datagram) ≡ None
     → history N (happens N w (Stranger c port datagram)) d ≡ history N w d
 unfolding refusal happens
 strange-happens N w c port datagram d n r octets none =
@@ -53,23 +66,39 @@ strange-happens N w c port datagram d n r octets none =
     let honest = (first_of-none (is_forged N datagram) Forged [] q.0).0 in
     strange-history N w c port datagram d n r (port-exists N c port p.0).0 (λ v h. strange-message N datagram v octets honest h)
 
-strange-step_by : (N : Network) (w : NetworkState) (c port : ℕ) (datagram : List ℕ) (d : ℕ) (o : Option Refusal) → refusal N w (Stranger c port datagram) ≡ o → IsNetwork N → IsReached N w → IsInRange (Stranger c port datagram)
+strange-step_by : (N : Network) (w : NetworkState) (c port : ℕ) (datagram : List ℕ) (d : ℕ)
+    (o : Option Refusal)
+    → refusal N w (Stranger c port datagram) ≡ o
+    → IsNetwork N
+    → IsReached N w
+    → IsInRange (Stranger c port datagram)
     → history N (step_by o N w (Stranger c port datagram)) d ≡ history N w d
 strange-step_by N w c port datagram d None e n r octets = strange-happens N w c port datagram d n r octets e
 strange-step_by N w c port datagram d (Some reason) e n r octets = refl
 
-pub strangers-leave : (N : Network) (es : List Event) (c port : ℕ) (datagram : List ℕ) (d : ℕ) → IsNetwork N → AllByRecursion IsInRange es → IsInRange (Stranger c port datagram)
-    → history N (step N (run N (initial_state N) es) (Stranger c port datagram)) d ≡ history N (run N (initial_state N) es) d
+pub strangers-leave : (N : Network) (es : List Event) (c port : ℕ) (datagram : List ℕ) (d : ℕ)
+    → IsNetwork N
+    → AllByRecursion IsInRange es
+    → IsInRange (Stranger c port datagram)
+    → history N (step N (run N (initial_state N) es) (Stranger c port datagram)) d
+    ≡ history N (run N (initial_state N) es) d
 strangers-leave N es c port datagram d n i octets =
     let w : NetworkState = run N (initial_state N) es in
     strange-step_by N w c port datagram d (refusal N w (Stranger c port datagram)) refl n (reached N es n i) octets
 
 -- ---- refused requests
 
-pub no_copy-leaves : (N : Network) (w : NetworkState) (c : ℕ) (x : Delivery) → copy_of (N.clock c) (ports N c) x ≡ None → history N (arrives w c x) c ≡ history N w c
+pub no_copy-leaves : (N : Network) (w : NetworkState) (c : ℕ) (x : Delivery)
+    → copy_of (N.clock c) (ports N c) x ≡ None
+    → history N (arrives w c x) c ≡ history N w c
 no_copy-leaves N w c x none = history-here N w c x ∙ ap (after_arrival (N.clock c) (history N w c)) none
 
-pub refused-copy : (c : Clock) (h : History) (copy : RequestCopy) (r : ReplyValue) (a : Answer) (error : ErrorId) → due_reply c h copy ≡ Some r → Contains r.answers a → a.outcome ≡ Refused error → (after_copy c h copy).sets ≡ h.sets
+pub refused-copy : (c : Clock) (h : History) (copy : RequestCopy) (r : ReplyValue) (a : Answer)
+    (error : ErrorId)
+    → due_reply c h copy ≡ Some r
+    → Contains r.answers a
+    → a.outcome ≡ Refused error
+    → (after_copy c h copy).sets ≡ h.sets
 refused-copy c h copy r a error due has refused = ⊎_elim
     (λ (y : joins h copy ≡ true).
     let same : (accepted_from c h copy).reply ≡ r = same_Some _ r (sym (cond-true _ _ _ y) ∙ due) in
@@ -79,8 +108,13 @@ refused-copy c h copy r a error due has refused = ⊎_elim
     (λ (n : joins h copy ≡ false). ap (λ (g : History). g.sets) (cond-false _ _ _ n))
     (cases_Bool (joins h copy))
 
-pub refused-leaves : (N : Network) (w : NetworkState) (c : ℕ) (x : Delivery) (copy : RequestCopy) (r : ReplyValue) (a : Answer) (error : ErrorId) → copy_of (N.clock c) (ports N c) x ≡ Some copy
-    → due_reply (N.clock c) (history N w c) copy ≡ Some r → Contains r.answers a → a.outcome ≡ Refused error → (history N (arrives w c x) c).sets ≡ (history N w c).sets
+pub refused-leaves : (N : Network) (w : NetworkState) (c : ℕ) (x : Delivery) (copy : RequestCopy)
+    (r : ReplyValue) (a : Answer) (error : ErrorId)
+    → copy_of (N.clock c) (ports N c) x ≡ Some copy
+    → due_reply (N.clock c) (history N w c) copy ≡ Some r
+    → Contains r.answers a
+    → a.outcome ≡ Refused error
+    → (history N (arrives w c x) c).sets ≡ (history N w c).sets
 refused-leaves N w c x copy r a error is due has refused =
     ap (λ (h : History). h.sets) (history-here N w c x ∙ ap (after_arrival (N.clock c) (history N w c)) is)
     ∙ refused-copy (N.clock c) (history N w c) copy r a error due has refused

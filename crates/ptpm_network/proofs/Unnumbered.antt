@@ -37,7 +37,12 @@ use Rattle.ptpm_network.proofs.Steps.{KeptStays, more-frames, origin-stays}
 -- ---- a message that comes in
 
 -- its fields are in their ranges
-message-fits : (N : Network) (w : NetworkState) (octets : List ℕ) (o : Origin) (v : Message) → IsNetwork N → IsReached N w → IsHeard N w octets o → message_of octets ≡ Some v → Fits v
+message-fits : (N : Network) (w : NetworkState) (octets : List ℕ) (o : Origin) (v : Message)
+    → IsNetwork N
+    → IsReached N w
+    → IsHeard N w octets o
+    → message_of octets ≡ Some v
+    → Fits v
 message-fits N w octets (RequestOf s k) v n r i e = let says = says_request N w s k octets n r i in subst Fits (sym (same_read octets v _ says.message e)) says.message.fits
 message-fits N w octets (ReplyTo s k) v n r i e = let says = says_reply N w s k octets n r i in subst Fits (sym (same_read octets v _ says.message e)) says.message.fits
 message-fits N w octets Neither v n r i e = (i v e).0
@@ -53,7 +58,10 @@ pub record ReadParts (c : Clock) (ports : Bool) (v : Message) : Type 0 where
   pub request : is_request v ≡ true
   pub not_numbered : is_numbered c v ≡ false
 
-read_parts : (c : Clock) (a b d p e f g : Bool) → f ≡ f → (a && (b && (d && ((g && p) && (e && not f))))) ≡ true → ((g && p) ≡ true) × (e ≡ true) × (f ≡ false)
+read_parts : (c : Clock) (a b d p e f g : Bool)
+    → f ≡ f
+    → (a && (b && (d && ((g && p) && (e && not f))))) ≡ true
+    → ((g && p) ≡ true) × (e ≡ true) × (f ≡ false)
 read_parts c a b d p e f g _ y =
     let one = and_parts a (b && (d && ((g && p) && (e && not f)))) y in
     let two = and_parts b (d && ((g && p) && (e && not f))) one.1 in
@@ -67,8 +75,14 @@ or_cases_ true b y = inl refl
 or_cases_ false b y = inr y
 
 -- a session's own request is numbered at its target, and goes nowhere else
-request-numbered : (N : Network) (c : ℕ) (t : ℕ) (v : Message) (named : Bool) → IsNetwork N → c < N.clocks → t < N.sessions → v.source ≡ manager N t → v.target.clock ≡ (N.session t).setup.target
-    → ((is_for_this_clock (N.clock c) v || same_clock v.target.clock every_clock) && named) ≡ true → is_numbered (N.clock c) v ≡ true
+request-numbered : (N : Network) (c : ℕ) (t : ℕ) (v : Message) (named : Bool)
+    → IsNetwork N
+    → c < N.clocks
+    → t < N.sessions
+    → v.source ≡ manager N t
+    → v.target.clock ≡ (N.session t).setup.target
+    → ((is_for_this_clock (N.clock c) v || same_clock v.target.clock every_clock) && named) ≡ true
+    → is_numbered (N.clock c) v ≡ true
 request-numbered N c t v named n place exists source target addressed =
     let session = n.are_sessions t exists in
     let clock = n.are_clocks (N.session t).target session.exists in
@@ -84,7 +98,14 @@ request-numbered N c t v named n place exists source target addressed =
     (or_cases_ (is_for_this_clock (N.clock c) v) (same_clock v.target.clock every_clock) (and_parts (is_for_this_clock (N.clock c) v || same_clock v.target.clock every_clock) named addressed).0)
 
 -- what is not numbered is of no session
-no_session : (N : Network) (w : NetworkState) (c : ℕ) (octets : List ℕ) (o : Origin) (v : Message) (named : Bool) → IsNetwork N → IsReached N w → c < N.clocks → IsHeard N w octets o → message_of octets ≡ Some v → ReadParts (N.clock c) named v
+no_session : (N : Network) (w : NetworkState) (c : ℕ) (octets : List ℕ) (o : Origin) (v : Message)
+    (named : Bool)
+    → IsNetwork N
+    → IsReached N w
+    → c < N.clocks
+    → IsHeard N w octets o
+    → message_of octets ≡ Some v
+    → ReadParts (N.clock c) named v
     → (s : ℕ) → s < N.sessions → v.source ≡ manager N s → ⊥
 no_session N w c octets (RequestOf t k) v named n r place i e p s exists h =
     let says = says_request N w t k octets n r i in
@@ -103,14 +124,29 @@ no_session N w c octets Neither v named n r place i e p s exists h = (i v e).1.n
 
 -- ---- the reply to it
 
-foreign-reply : (N : Network) (c : ℕ) (v u : Message) → IsNetwork N → c < N.clocks → ((s : ℕ) → s < N.sessions → v.source ≡ manager N s → ⊥) → u.source.clock ≡ (N.clock c).identity → u.target ≡ v.source → IsForeign N u
+foreign-reply : (N : Network) (c : ℕ) (v u : Message)
+    → IsNetwork N
+    → c < N.clocks
+    → ((s : ℕ) → s < N.sessions → v.source ≡ manager N s → ⊥)
+    → u.source.clock ≡ (N.clock c).identity
+    → u.target ≡ v.source
+    → IsForeign N u
 foreign-reply N c v u n place none source target = record {
   no_request = λ s exists h. n.no_clock s c exists place (sym (ap (λ (m : PortIdentity). m.clock) h) ∙ source);
   no_reply = λ d s there exists from' h. none s exists (sym target ∙ h);
 }
 
-read-origin : (N : Network) (w : NetworkState) (c port : ℕ) (octets : List ℕ) (o : Origin) (v : Message) (named : Bool) → IsNetwork N → IsReached N w → HasEnd N (AtPort c port) → IsHeard N w octets o → message_of octets ≡ Some v → ReadParts (N.clock c) named v
-    → (r : ReplyValue) → Answers (request_of v) r → AllByRecursion (λ m. IsForeignFrame N m.1) (rendered (N.clock c).identity (heard_of v) r port)
+read-origin : (N : Network) (w : NetworkState) (c port : ℕ) (octets : List ℕ) (o : Origin)
+    (v : Message) (named : Bool)
+    → IsNetwork N
+    → IsReached N w
+    → HasEnd N (AtPort c port)
+    → IsHeard N w octets o
+    → message_of octets ≡ Some v
+    → ReadParts (N.clock c) named v
+    → (r : ReplyValue)
+    → Answers (request_of v) r
+    → AllByRecursion (λ m. IsForeignFrame N m.1) (rendered (N.clock c).identity (heard_of v) r port)
 read-origin N w c port octets o v named n reached end i e p r answers =
     let fits = message-fits N w octets o v n reached i e in
     let clock = n.are_clocks c end.0 in
@@ -127,8 +163,15 @@ read-origin N w c port octets o v named n reached end i e p r answers =
     })
     answers.sendable
 
-read-by : (N : Network) (w : NetworkState) (c port : ℕ) (octets : List ℕ) (o : Origin) (q : Option Message) → IsNetwork N → IsReached N w → HasEnd N (AtPort c port) → IsHeard N w octets o → message_of octets ≡ q
-    → AllByRecursion (λ m. IsForeignFrame N m.1) (read_messages (N.clock c) (history N w c).sets port q)
+read-by : (N : Network) (w : NetworkState) (c port : ℕ) (octets : List ℕ) (o : Origin)
+    (q : Option Message)
+    → IsNetwork N
+    → IsReached N w
+    → HasEnd N (AtPort c port)
+    → IsHeard N w octets o
+    → message_of octets ≡ q
+    → AllByRecursion (λ m. IsForeignFrame N m.1)
+    (read_messages (N.clock c) (history N w c).sets port q)
 read-by N w c port octets o None n r end i e = tt
 read-by N w c port octets o (Some v) n r end i e =
     let d = (history N w c).sets in
@@ -143,20 +186,37 @@ read-by N w c port octets o (Some v) n r end i e =
 
 -- ---- all frames that a clock makes
 
-heard-stays : (N : Network) (w u : NetworkState) (octets : List ℕ) (o : Origin) → ((s i : ℕ) → (w.session s).begun ≡ (u.session s).begun) → KeptStays N w u → IsHeard N w octets o → IsHeard N u octets o
+heard-stays : (N : Network) (w u : NetworkState) (octets : List ℕ) (o : Origin)
+    → ((s i : ℕ) → (w.session s).begun ≡ (u.session s).begun)
+    → KeptStays N w u
+    → IsHeard N w octets o
+    → IsHeard N u octets o
 heard-stays N w u octets (RequestOf s k) same kept i = origin-stays N w u (λ t j q e. subst (λ b. slice_get b j ≡ Some q) (same t j) e) kept octets (RequestOf s k) i
 heard-stays N w u octets (ReplyTo s k) same kept i = origin-stays N w u (λ t j q e. subst (λ b. slice_get b j ≡ Some q) (same t j) e) kept octets (ReplyTo s k) i
 heard-stays N w u octets Neither same kept i = i
 
-answering-frames : (N : Network) (w : NetworkState) (c port : ℕ) (f : Frame) (o : Option RequestCopy) → IsNetwork N → IsReached N w → IsReached N (arrives w c (delivery port f)) → HasEnd N (AtPort c port) → IsHeard N w f.octets f.origin
-    → copy_of (N.clock c) (ports N c) (delivery port f) ≡ o → AllByRecursion (IsFrame N (arrives w c (delivery port f))) (answering_frames N c (history N w c) port f o)
+answering-frames : (N : Network) (w : NetworkState) (c port : ℕ) (f : Frame)
+    (o : Option RequestCopy)
+    → IsNetwork N
+    → IsReached N w
+    → IsReached N (arrives w c (delivery port f))
+    → HasEnd N (AtPort c port)
+    → IsHeard N w f.octets f.origin
+    → copy_of (N.clock c) (ports N c) (delivery port f) ≡ o
+    → AllByRecursion (IsFrame N (arrives w c (delivery port f)))
+    (answering_frames N c (history N w c) port f o)
 answering-frames N w c port f (Some copy) n r reached end i e =
     due-frames N w c port f copy (due_reply (N.clock c) (history N w c) copy) n reached end (is_copy_of N w c port f copy n r end.0 i e) e refl
 answering-frames N w c port f None n r reached end i e =
     reply_frames-are N (arrives w c (delivery port f)) c Neither (read_messages (N.clock c) (history N w c).sets port (message_of f.octets)) n
     (read-by N w c port f.octets f.origin (message_of f.octets) n r end i refl)
 
-pub delivered_at_clock-reached : (N : Network) (w : NetworkState) (c port : ℕ) (f : Frame) → IsNetwork N → IsReached N w → HasEnd N (AtPort c port) → IsHeard N w f.octets f.origin → boundary_hops f.octets + f.forwardings ≡ f.first_hops
+pub delivered_at_clock-reached : (N : Network) (w : NetworkState) (c port : ℕ) (f : Frame)
+    → IsNetwork N
+    → IsReached N w
+    → HasEnd N (AtPort c port)
+    → IsHeard N w f.octets f.origin
+    → boundary_hops f.octets + f.forwardings ≡ f.first_hops
     → IsReached N (delivered_at_clock N w c port f)
 delivered_at_clock-reached N w c port f n r end i hops =
     let u : NetworkState = arrives w c (delivery port f) in

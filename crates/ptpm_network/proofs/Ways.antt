@@ -22,7 +22,8 @@ use Rattle.ptpm_network.proofs.Answerable.{answerable}
 use Rattle.ptpm_network.proofs.Schedules.{get_priority1, in_ring, one_clock, one_clock-IsNetwork, ring_of_three_clocks}
 
 -- the session on the link of its clock's port 1 has begun a GET, and can be answered with no clock between
-one_clock-answerable : IsAnswerable one_clock (run one_clock (initial_state one_clock) (Begin 0 get_priority1 ∷ [])) 0 [] 1
+one_clock-answerable : IsAnswerable one_clock
+    (run one_clock (initial_state one_clock) (Begin 0 get_priority1 ∷ [])) 0 [] 1
 unfolding refusal happens begin_refusal ask_refusal target_port row_of
 one_clock-answerable =
     answerable one_clock (Begin 0 get_priority1 ∷ []) 0 [] 1 2 one_clock-IsNetwork (omega arith, tt) (omega arith) refl (omega arith)

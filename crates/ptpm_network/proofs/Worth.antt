@@ -36,7 +36,9 @@ above-same : (g h index k : ℕ) → g ≡ max index h → g < k → (h < k) × 
 above-same g h index k e lt = (omega arith, λ q. omega arith)
 
 -- above the greatest index of a manager nothing was accepted
-none_above : (m : PortIdentity) (k : ℕ) (es : List Accepted) → greatest m es < k → entries_of m k es ≡ []
+none_above : (m : PortIdentity) (k : ℕ) (es : List Accepted)
+    → greatest m es < k
+    → entries_of m k es ≡ []
 none_above m k [] above = refl
 none_above m k (d ∷ es) above = ⊎_elim
     (λ (y : same_identity m d.manager ≡ true).
@@ -50,7 +52,10 @@ none_above m k (d ∷ es) above = ⊎_elim
 abbrev pub AreOnce : List Accepted → Type 0
 AreOnce es = (m : PortIdentity) (k : ℕ) → length (entries_of m k es) ≤ 1
 
-once-joined : (es : List Accepted) (d : Accepted) → greatest d.manager es < d.index → AreOnce es → AreOnce (d ∷ es)
+once-joined : (es : List Accepted) (d : Accepted)
+    → greatest d.manager es < d.index
+    → AreOnce es
+    → AreOnce (d ∷ es)
 once-joined es d above once m k = ⊎_elim
     (λ (y : (same_identity m d.manager && d.index == k) ≡ true).
     let parts = and_parts (same_identity m d.manager) (d.index == k) y in
@@ -61,7 +66,9 @@ once-joined es d above once m k = ⊎_elim
     (λ (n : (same_identity m d.manager && d.index == k) ≡ false). subst (λ (rest : List Accepted). length rest ≤ 1) (sym (cond-false _ _ _ n)) (once m k))
     (cases_Bool (same_identity m d.manager && d.index == k))
 
-once-copy : (c : Clock) (h : History) (x : RequestCopy) → AreOnce h.accepted → AreOnce (after_copy c h x).accepted
+once-copy : (c : Clock) (h : History) (x : RequestCopy)
+    → AreOnce h.accepted
+    → AreOnce (after_copy c h x).accepted
 once-copy c h x once = ⊎_elim
     (λ (y : joins h x ≡ true).
     let above : greatest x.heard.source h.accepted < x.index = ltb-true _ _ (and_parts (x.heard.domain == h.sets.default.domain) (nat_lt (greatest x.heard.source h.accepted) x.index) y).1 in
@@ -69,7 +76,9 @@ once-copy c h x once = ⊎_elim
     (λ (n : joins h x ≡ false). subst (λ (g : History). AreOnce g.accepted) (sym (cond-false _ _ _ n)) once)
     (cases_Bool (joins h x))
 
-once-applied : (c : Clock) (h : History) (xs : List RequestCopy) → AreOnce h.accepted → AreOnce (applied_once c h xs).accepted
+once-applied : (c : Clock) (h : History) (xs : List RequestCopy)
+    → AreOnce h.accepted
+    → AreOnce (applied_once c h xs).accepted
 once-applied c h [] once = once
 once-applied c h (x ∷ xs) once = once-applied c (after_copy c h x) xs (once-copy c h x once)
 
@@ -77,7 +86,9 @@ pub at_most_once : (N : Network) (w : NetworkState) (c : ℕ) → AreOnce (histo
 at_most_once N w c = once-applied (N.clock c) (initial_history (N.start c)) (copies_at N w c) (λ m k. omega arith)
 
 -- what is kept is the only entry
-first-entry : (m : PortIdentity) (k : ℕ) (es : List Accepted) (e : Accepted) → kept_reply m k es ≡ Some e → (rest : List Accepted) × (entries_of m k es ≡ e ∷ rest)
+first-entry : (m : PortIdentity) (k : ℕ) (es : List Accepted) (e : Accepted)
+    → kept_reply m k es ≡ Some e
+    → (rest : List Accepted) × (entries_of m k es ≡ e ∷ rest)
 first-entry m k [] e kept = absurd (cc)
 first-entry m k (d ∷ es) e kept = ⊎_elim
     (λ (y : (same_identity m d.manager && d.index == k) ≡ true).
@@ -93,12 +104,18 @@ alone : (e : Accepted) (rest es : List Accepted) → es ≡ e ∷ rest → lengt
 alone e [] es is few = is
 alone e (d ∷ rest) es is few = let size : length es ≡ suc (suc (length rest)) = ap length is in absurd (omega arith)
 
-only-entry : (m : PortIdentity) (k : ℕ) (es : List Accepted) (e : Accepted) → AreOnce es → kept_reply m k es ≡ Some e → entries_of m k es ≡ e ∷ []
+only-entry : (m : PortIdentity) (k : ℕ) (es : List Accepted) (e : Accepted)
+    → AreOnce es
+    → kept_reply m k es ≡ Some e
+    → entries_of m k es ≡ e ∷ []
 only-entry m k es e once kept = let first = first-entry m k es e kept in alone e first.0 (entries_of m k es) first.1 (once m k)
 
 -- ---- the moment at which a request was carried out
 
-carried_out-before : (c : Clock) (start : DataSetsValue) (xs : List RequestCopy) (x : RequestCopy) (e : Accepted) → WasCarriedOut c start xs e → WasCarriedOut c start (xs ++ x ∷ []) e
+carried_out-before : (c : Clock) (start : DataSetsValue) (xs : List RequestCopy) (x : RequestCopy)
+    (e : Accepted)
+    → WasCarriedOut c start xs e
+    → WasCarriedOut c start (xs ++ x ∷ []) e
 carried_out-before c start xs x e was = record {
   before = was.before;
   copy = was.copy;
@@ -111,8 +128,10 @@ carried_out-before c start xs x e was = record {
 abbrev AreCarriedOut : Clock → DataSetsValue → List RequestCopy → List Accepted → Type 0
 AreCarriedOut c start xs es = AllByRecursion (WasCarriedOut c start xs) es
 
-carried_out-copy : (c : Clock) (start : DataSetsValue) (xs : List RequestCopy) (x : RequestCopy) → AreCarriedOut c start (xs ++ x ∷ []) (applied_once c (initial_history start) xs).accepted
-    → AreCarriedOut c start (xs ++ x ∷ []) (after_copy c (applied_once c (initial_history start) xs) x).accepted
+carried_out-copy : (c : Clock) (start : DataSetsValue) (xs : List RequestCopy) (x : RequestCopy)
+    → AreCarriedOut c start (xs ++ x ∷ []) (applied_once c (initial_history start) xs).accepted
+    → AreCarriedOut c start (xs ++ x ∷ [])
+    (after_copy c (applied_once c (initial_history start) xs) x).accepted
 carried_out-copy c start xs x all =
     let h : History = applied_once c (initial_history start) xs in
     ⊎_elim
@@ -126,21 +145,29 @@ carried_out-copy c start xs x all =
 abbrev AllCarriedOut : Clock → DataSetsValue → List RequestCopy → Type 0
 AllCarriedOut c start xs = AreCarriedOut c start xs (applied_once c (initial_history start) xs).accepted
 
-applied_once-append : (c : Clock) (h : History) (xs : List RequestCopy) (x : RequestCopy) → applied_once c h (xs ++ x ∷ []) ≡ after_copy c (applied_once c h xs) x
+applied_once-append : (c : Clock) (h : History) (xs : List RequestCopy) (x : RequestCopy)
+    → applied_once c h (xs ++ x ∷ []) ≡ after_copy c (applied_once c h xs) x
 applied_once-append c h [] x = refl
 applied_once-append c h (y ∷ ys) x = applied_once-append c (after_copy c h y) ys x
 
-carried_out-next : (c : Clock) (start : DataSetsValue) (xs : List RequestCopy) (x : RequestCopy) → AllCarriedOut c start xs → AllCarriedOut c start (xs ++ x ∷ [])
+carried_out-next : (c : Clock) (start : DataSetsValue) (xs : List RequestCopy) (x : RequestCopy)
+    → AllCarriedOut c start xs
+    → AllCarriedOut c start (xs ++ x ∷ [])
 carried_out-next c start xs x all =
     let h : History = applied_once c (initial_history start) xs in
     subst (λ (g : History). AreCarriedOut c start (xs ++ x ∷ []) g.accepted) (sym (applied_once-append c (initial_history start) xs x))
     (carried_out-copy c start xs x (all_weaker (WasCarriedOut c start xs) (WasCarriedOut c start (xs ++ x ∷ [])) (carried_out-before c start xs x) h.accepted all))
 
-carried_out-from : (c : Clock) (start : DataSetsValue) (xs ys : List RequestCopy) → AllCarriedOut c start xs → AllCarriedOut c start (xs ++ ys)
+carried_out-from : (c : Clock) (start : DataSetsValue) (xs ys : List RequestCopy)
+    → AllCarriedOut c start xs
+    → AllCarriedOut c start (xs ++ ys)
 carried_out-from c start xs [] all = subst (AllCarriedOut c start) (sym (append-nil xs)) all
 carried_out-from c start xs (y ∷ ys) all = subst (AllCarriedOut c start) (append_assoc xs (y ∷ []) ys) (carried_out-from c start (xs ++ y ∷ []) ys (carried_out-next c start xs y all))
 
-found : (P : Accepted → Type 0) (test : Accepted → Bool) (es : List Accepted) (e : Accepted) → AllByRecursion P es → find test es ≡ Some e → P e
+found : (P : Accepted → Type 0) (test : Accepted → Bool) (es : List Accepted) (e : Accepted)
+    → AllByRecursion P es
+    → find test es ≡ Some e
+    → P e
 found P test [] e all is = absurd (cc)
 found P test (d ∷ es) e all is = ⊎_elim
     (λ (y : test d ≡ true).
@@ -149,7 +176,9 @@ found P test (d ∷ es) e all is = ⊎_elim
     (λ (n : test d ≡ false). found P test es e all.1 (sym (cond-false _ _ _ n) ∙ is))
     (cases_Bool (test d))
 
-carried_out : (N : Network) (w : NetworkState) (c : ℕ) (m : PortIdentity) (k : ℕ) (e : Accepted) → kept_reply m k (history N w c).accepted ≡ Some e → WasCarriedOut (N.clock c) (N.start c) (copies_at N w c) e
+carried_out : (N : Network) (w : NetworkState) (c : ℕ) (m : PortIdentity) (k : ℕ) (e : Accepted)
+    → kept_reply m k (history N w c).accepted ≡ Some e
+    → WasCarriedOut (N.clock c) (N.start c) (copies_at N w c) e
 carried_out N w c m k e kept =
     found (WasCarriedOut (N.clock c) (N.start c) (copies_at N w c)) _ (history N w c).accepted e (carried_out-from (N.clock c) (N.start c) [] (copies_at N w c) tt) kept
 
@@ -164,7 +193,9 @@ record IsTold (m : PortIdentity) (begun : List RequestValue) (es : List Accepted
   pub one : entry.reply.answers ≡ answer ∷ []
   pub is : report ≡ report_of k entry answer
 
-get_appended-cases : {X : Type 0} (xs : List X) (y : X) (i : ℕ) (x : X) → slice_get (xs ++ y ∷ []) i ≡ Some x → (slice_get xs i ≡ Some x) ⊎ ((i ≡ length xs) × (y ≡ x))
+get_appended-cases : {X : Type 0} (xs : List X) (y : X) (i : ℕ) (x : X)
+    → slice_get (xs ++ y ∷ []) i ≡ Some x
+    → (slice_get xs i ≡ Some x) ⊎ ((i ≡ length xs) × (y ≡ x))
 get_appended-cases [] y zero x e = inr (refl, cc)
 get_appended-cases [] y (suc i) x e = absurd (cc)
 get_appended-cases (z ∷ xs) y zero x e = inl e
@@ -176,10 +207,15 @@ get_appended-cases (z ∷ xs) y (suc i) x e = ⊎_elim
 abbrev AreAccepted : PortIdentity → List RequestValue → List Accepted → Type 0
 AreAccepted m begun es = (k : ℕ) → 0 < k → k ≤ greatest m es → WasAccepted m begun es k
 
-reports_of-was : (m : PortIdentity) (begun : List RequestValue) (es : List Accepted) (k : ℕ) (was : WasAccepted m begun es k) → reports_of k (kept_reply m k es) ≡ report_of k was.entry was.one.answer ∷ []
+reports_of-was : (m : PortIdentity) (begun : List RequestValue) (es : List Accepted) (k : ℕ)
+    (was : WasAccepted m begun es k)
+    → reports_of k (kept_reply m k es) ≡ report_of k was.entry was.one.answer ∷ []
 reports_of-was m begun es k was = ap (reports_of k) was.is ∙ ap (reports_by k was.entry.reply) was.one.is
 
-outcomes-length : (m : PortIdentity) (begun : List RequestValue) (es : List Accepted) (n : ℕ) → AreAccepted m begun es → n ≤ greatest m es → length (outcomes_kept m es n) ≡ n
+outcomes-length : (m : PortIdentity) (begun : List RequestValue) (es : List Accepted) (n : ℕ)
+    → AreAccepted m begun es
+    → n ≤ greatest m es
+    → length (outcomes_kept m es n) ≡ n
 outcomes-length m begun es zero all le = refl
 outcomes-length m begun es (suc n) all le =
     let was = all (suc n) (omega arith) le in
@@ -187,7 +223,11 @@ outcomes-length m begun es (suc n) all le =
     ap (λ rs. length (outcomes_kept m es n ++ rs)) (reports_of-was m begun es (suc n) was) ∙ length-append (outcomes_kept m es n) (report_of (suc n) was.entry was.one.answer ∷ []) in
     omega (arith, more, outcomes-length m begun es n all (omega arith))
 
-told_at : (m : PortIdentity) (begun : List RequestValue) (es : List Accepted) (n i : ℕ) (r : Report) → AreAccepted m begun es → n ≤ greatest m es → slice_get (outcomes_kept m es n) i ≡ Some r → IsTold m begun es (suc i) r
+told_at : (m : PortIdentity) (begun : List RequestValue) (es : List Accepted) (n i : ℕ) (r : Report)
+    → AreAccepted m begun es
+    → n ≤ greatest m es
+    → slice_get (outcomes_kept m es n) i ≡ Some r
+    → IsTold m begun es (suc i) r
 told_at m begun es zero i r all le e = absurd (cc)
 told_at m begun es (suc n) i r all le e =
     let was = all (suc n) (omega arith) le in
@@ -200,7 +240,11 @@ told_at m begun es (suc n) i r all le e =
     (record { entry = was.entry; kept = was.is; begun_as = was.begun_as; answer = was.one.answer; one = was.one.is; is = sym new.1 }))
     (get_appended-cases (outcomes_kept m es n) (report_of (suc n) was.entry was.one.answer) i r last)
 
-told : (N : Network) (w : NetworkState) (s i : ℕ) (r : Report) → IsReached N w → s < N.sessions → slice_get (w.session s).reports i ≡ Some r → IsTold (manager N s) (w.session s).begun (accepted_at_target N w s) (suc i) r
+told : (N : Network) (w : NetworkState) (s i : ℕ) (r : Report)
+    → IsReached N w
+    → s < N.sessions
+    → slice_get (w.session s).reports i ≡ Some r
+    → IsTold (manager N s) (w.session s).begun (accepted_at_target N w s) (suc i) r
 told N w s i r reached place e =
     let at = reached.sessions s place in
     told_at (manager N s) (w.session s).begun (accepted_at_target N w s) (length (w.session s).reports) i r at.without_gap at.accepted_before
@@ -208,12 +252,22 @@ told N w s i r reached place e =
 
 -- ---- the law
 
-pub report-index : (N : Network) (es : List Event) (s i : ℕ) (r : Report) → IsNetwork N → AllByRecursion IsInRange es → s < N.sessions → slice_get ((run N (initial_state N) es).session s).reports i ≡ Some r → r.index ≡ i + 1
+pub report-index : (N : Network) (es : List Event) (s i : ℕ) (r : Report)
+    → IsNetwork N
+    → AllByRecursion IsInRange es
+    → s < N.sessions
+    → slice_get ((run N (initial_state N) es).session s).reports i ≡ Some r
+    → r.index ≡ i + 1
 report-index N es s i r n range place e =
     let index : r.index ≡ suc i = ap (λ (p : Report). p.index) (told N (run N (initial_state N) es) s i r (reached N es n range) place e).is in
     omega arith
 
-pub report-worth : (N : Network) (es : List Event) (s i : ℕ) (r : Report) → IsNetwork N → AllByRecursion IsInRange es → s < N.sessions → slice_get ((run N (initial_state N) es).session s).reports i ≡ Some r → IsWorth N (run N (initial_state N) es) s r
+pub report-worth : (N : Network) (es : List Event) (s i : ℕ) (r : Report)
+    → IsNetwork N
+    → AllByRecursion IsInRange es
+    → s < N.sessions
+    → slice_get ((run N (initial_state N) es).session s).reports i ≡ Some r
+    → IsWorth N (run N (initial_state N) es) s r
 report-worth N es s i r n range place e =
     let w : NetworkState = run N (initial_state N) es in
     let is = told N w s i r (reached N es n range) place e in
@@ -229,12 +283,15 @@ report-worth N es s i r n range place e =
       outcome = ap (λ (p : Report). p.outcome) is.is;
     }
 
-pub once : (N : Network) (es : List Event) (c : ℕ) (m : PortIdentity) (k : ℕ) → length (entries_of m k (history N (run N (initial_state N) es) c).accepted) ≤ 1
+pub once : (N : Network) (es : List Event) (c : ℕ) (m : PortIdentity) (k : ℕ)
+    → length (entries_of m k (history N (run N (initial_state N) es) c).accepted) ≤ 1
 once N es c m k = at_most_once N (run N (initial_state N) es) c m k
 
 -- ---- a session waits for its report
 
-begin-busy : (s : SessionValue) (a : Ask) → is_waiting s ≡ true → begin_refusal s a ≡ Some begins.Busy
+begin-busy : (s : SessionValue) (a : Ask)
+    → is_waiting s ≡ true
+    → begin_refusal s a ≡ Some begins.Busy
 unfolding begin_refusal
 begin-busy s a waits = ap (λ b. option_or (first_of ((b, begins.Busy) ∷ [])) (option_or (ask_refusal s.setup.ports a) (first_of ((not (nat_lt s.issued count_limit), begins.CountAtMaximum) ∷ [])))) waits
 
@@ -248,12 +305,17 @@ not_equal : (a b : ℕ) → a < b → a ≡ b → ⊥
 not_equal a b lt e = omega arith
 
 -- the request that is not answered, where fewer were reported than begun
-pub unanswered-some : (s : SessionState) → length s.reports < length s.begun → (q : RequestValue) × (unanswered s ≡ Some q)
+pub unanswered-some : (s : SessionState)
+    → length s.reports < length s.begun
+    → (q : RequestValue) × (unanswered s ≡ Some q)
 unanswered-some s lt =
     let last = get-below s.begun (length s.begun - 1) (below_some (length s.reports) (length s.begun) lt) in
     (last.0, cond-false _ _ _ (ne_eqb (length s.reports) (length s.begun) (not_equal (length s.reports) (length s.begun) lt)) ∙ last.1)
 
-pub begins-busy : (N : Network) (w : NetworkState) (s : ℕ) (a : Ask) → s < N.sessions → length (w.session s).reports < issued w s → refusal N w (Begin s a) ≡ Some (BeginRefused begins.Busy)
+pub begins-busy : (N : Network) (w : NetworkState) (s : ℕ) (a : Ask)
+    → s < N.sessions
+    → length (w.session s).reports < issued w s
+    → refusal N w (Begin s a) ≡ Some (BeginRefused begins.Busy)
 unfolding refusal
 begins-busy N w s a place lt =
     let waits : is_waiting (session_value (N.session s) (w.session s)) ≡ true = ap is_some (unanswered-some (w.session s) lt).1 in
@@ -263,8 +325,18 @@ begins-busy N w s a place lt =
 last_one : (reports begun k : ℕ) → begun ≤ reports + 1 → reports < k → k ≤ begun → k ≡ begun
 last_one reports begun k a b c = omega arith
 
-pub unreported-last : (N : Network) (es : List Event) (s k : ℕ) → IsNetwork N → AllByRecursion IsInRange es → s < N.sessions → length ((run N (initial_state N) es).session s).reports < k → k ≤ issued (run N (initial_state N) es) s → k ≡ issued (run N (initial_state N) es) s
+pub unreported-last : (N : Network) (es : List Event) (s k : ℕ)
+    → IsNetwork N
+    → AllByRecursion IsInRange es
+    → s < N.sessions
+    → length ((run N (initial_state N) es).session s).reports < k
+    → k ≤ issued (run N (initial_state N) es) s
+    → k ≡ issued (run N (initial_state N) es) s
 unreported-last N es s k n range place lt le = last_one (length ((run N (initial_state N) es).session s).reports) (issued (run N (initial_state N) es) s) k ((reached N es n range).sessions s place).one_at_a_time lt le
 
-pub waits-for_report : (N : Network) (es : List Event) (s : ℕ) (a : Ask) → s < N.sessions → length ((run N (initial_state N) es).session s).reports < issued (run N (initial_state N) es) s → refusal N (run N (initial_state N) es) (Begin s a) ≡ Some (BeginRefused begins.Busy)
+pub waits-for_report : (N : Network) (es : List Event) (s : ℕ) (a : Ask)
+    → s < N.sessions
+    → length ((run N (initial_state N) es).session s).reports
+    < issued (run N (initial_state N) es) s
+    → refusal N (run N (initial_state N) es) (Begin s a) ≡ Some (BeginRefused begins.Busy)
 waits-for_report N es s a place lt = begins-busy N (run N (initial_state N) es) s a place lt

@@ -59,23 +59,33 @@ or_lead : (a b : Bool) → a ≡ true → (a || b) ≡ true
 or_lead true b h = refl
 or_lead false b h = cc
 
-pub opt_inv : {A B : Type 0} (f : A → Option B) (o : Option A) (b : B) → option_and_then f o ≡ Some b → (a : A) × (o ≡ Some a) × (f a ≡ Some b)
+pub opt_inv : {A B : Type 0} (f : A → Option B) (o : Option A) (b : B)
+    → option_and_then f o ≡ Some b
+    → (a : A) × (o ≡ Some a) × (f a ≡ Some b)
 opt_inv f (Some a) b h = (a, refl, h)
 opt_inv f None b h = cc
 
-pub map_inv : {A B : Type 0} (f : A → B) (o : Option A) (b : B) → option_map f o ≡ Some b → (a : A) × (o ≡ Some a) × (f a ≡ b)
+pub map_inv : {A B : Type 0} (f : A → B) (o : Option A) (b : B)
+    → option_map f o ≡ Some b
+    → (a : A) × (o ≡ Some a) × (f a ≡ b)
 map_inv f (Some a) b h = (a, refl, cc)
 map_inv f None b h = cc
 
-pub else_some : {A : Type 0} (b : Bool) (x y : A) → cond b None (Some x) ≡ Some y → (b ≡ false) × (x ≡ y)
+pub else_some : {A : Type 0} (b : Bool) (x y : A)
+    → cond b None (Some x) ≡ Some y
+    → (b ≡ false) × (x ≡ y)
 else_some true x y h = cc
 else_some false x y h = (refl, cc)
 
-pub else_ok : {A : Type 0} (b : Bool) (e : NetError) (r : Result A NetError) (a : A) → cond b (Err e) r ≡ Ok a → (b ≡ false) × (r ≡ Ok a)
+pub else_ok : {A : Type 0} (b : Bool) (e : NetError) (r : Result A NetError) (a : A)
+    → cond b (Err e) r ≡ Ok a
+    → (b ≡ false) × (r ≡ Ok a)
 else_ok true e r a h = cc
 else_ok false e r a h = (refl, h)
 
-pub then_ok : {A : Type 0} (b : Bool) (e : NetError) (r : Result A NetError) (a : A) → cond b r (Err e) ≡ Ok a → r ≡ Ok a
+pub then_ok : {A : Type 0} (b : Bool) (e : NetError) (r : Result A NetError) (a : A)
+    → cond b r (Err e) ≡ Ok a
+    → r ≡ Ok a
 then_ok true e r a h = h
 then_ok false e r a h = cc
 
@@ -101,40 +111,54 @@ clock_is_one text c h every =
     let p = else_some (same_clock (record { 0 = o.0 }) every_clock) _ c o.2 in
     different _ p.0 (same_clocks (record { 0 = o.0 }) every_clock (p.1 ∙ every))
 
-pub clock_part : (a : Option ClockIdentity) (b : Option ℕ) (p : PortIdentity) → port_of a b ≡ Some p → a ≡ Some p.clock
+pub clock_part : (a : Option ClockIdentity) (b : Option ℕ) (p : PortIdentity)
+    → port_of a b ≡ Some p
+    → a ≡ Some p.clock
 clock_part (Some clock) (Some port) p h = let q : record { clock = clock; port = port } ≡ p = cc in ap (λ r. Some r.clock) q
 clock_part (Some clock) None p h = cc
 clock_part None b p h = cc
 
-port_is_one : (text : List ℕ) (p : PortIdentity) → port_identity text ≡ Some p → p.clock ≢ every_clock
+port_is_one : (text : List ℕ) (p : PortIdentity)
+    → port_identity text ≡ Some p
+    → p.clock ≢ every_clock
 unfolding port_identity
 port_is_one text p h =
     let parts = opt_inv {A = List ℕ × List ℕ} _ (cut_at 47 text) p h in
     clock_is_one parts.0.0 p.clock (clock_part _ _ p parts.2)
 
-session_part : (ms : Members) (i : Option PortIdentity) (f h a : Option ℕ) (r : Option (Option Rights)) (s : SessionEntry)
+session_part : (ms : Members) (i : Option PortIdentity) (f h a : Option ℕ)
+    (r : Option (Option Rights)) (s : SessionEntry)
     → session_with ms i f h a r ≡ Some s → i ≡ Some s.identity
 session_part ms (Some i) (Some f) (Some h) (Some a) (Some r) s e = let q = some_same _ _ e in ap (λ t. Some t.identity) q
 session_part ms _ _ _ _ _ s e = cc
 
-pub identity_part : (ms : Members) (s : SessionEntry) → session_of_table ms ≡ Some s → port_at (codes "identity") ms ≡ Some s.identity
+pub identity_part : (ms : Members) (s : SessionEntry)
+    → session_of_table ms ≡ Some s
+    → port_at (codes "identity") ms ≡ Some s.identity
 identity_part ms s h =
     session_part ms (port_at (codes "identity") ms) (natural_at 65535 (codes "first") ms) (natural_at 255 (codes "hops") ms)
     (natural_at 255 (codes "attempts") ms) (rights_of (get_member (codes "rights") ms)) s h
 
-session_is_one : (d : Data) (s : SessionEntry) → session_entry d ≡ Some s → s.identity.clock ≢ every_clock
+session_is_one : (d : Data) (s : SessionEntry)
+    → session_entry d ≡ Some s
+    → s.identity.clock ≢ every_clock
 unfolding session_entry
 session_is_one d s h =
     let ms = opt_inv {A = Members} session_of_table (table_of session_rules d) s h in
     let at = opt_inv {A = List ℕ} port_identity (text_at (codes "identity") ms.0) s.identity (identity_part ms.0 s ms.2) in
     port_is_one at.0 s.identity at.2
 
-read_next : {A : Type 0} (of : Data → Option A) (d : Data) (a : A) (others : List A) (i : ℕ) (x : A) → of d ≡ Some a
-    → slice_get (a ∷ others) i ≡ Some x → ((j : ℕ) → slice_get others j ≡ Some x → (c : Data) × (of c ≡ Some x)) → (c : Data) × (of c ≡ Some x)
+read_next : {A : Type 0} (of : Data → Option A) (d : Data) (a : A) (others : List A) (i : ℕ) (x : A)
+    → of d ≡ Some a
+    → slice_get (a ∷ others) i ≡ Some x
+    → ((j : ℕ) → slice_get others j ≡ Some x → (c : Data) × (of c ≡ Some x))
+    → (c : Data) × (of c ≡ Some x)
 read_next of d a others zero x h e more = (d, h ∙ e)
 read_next of d a others (suc i) x h e more = more i e
 
-read_at : {A : Type 0} (of : Data → Option A) (ds : Items) (xs : List A) (i : ℕ) (x : A) → read_all of ds ≡ Some xs → slice_get xs i ≡ Some x
+read_at : {A : Type 0} (of : Data → Option A) (ds : Items) (xs : List A) (i : ℕ) (x : A)
+    → read_all of ds ≡ Some xs
+    → slice_get xs i ≡ Some x
     → (d : Data) × (of d ≡ Some x)
 read_at of no_items xs i x h e =
     let q = some_same [] xs h in
@@ -145,17 +169,22 @@ read_at of (item d ds) xs i x h e =
     let a_is = a.1 in
     read_next of d a.0 more.0 i x a_is (subst (λ l. slice_get l i ≡ Some x) (sym more.2) e) (λ j. read_at of ds more.0 j x more.1)
 
-array_at : {A : Type 0} (of : Data → Option A) (o : Option Data) (xs : List A) (i : ℕ) (x : A) → array_of of o ≡ Some xs → slice_get xs i ≡ Some x
+array_at : {A : Type 0} (of : Data → Option A) (o : Option Data) (xs : List A) (i : ℕ) (x : A)
+    → array_of of o ≡ Some xs
+    → slice_get xs i ≡ Some x
     → (d : Data) × (of d ≡ Some x)
 array_at of None xs i x h e = read_at of no_items xs i x h e
 array_at of (Some v) xs i x h e = let ds = opt_inv (read_all of) _ xs h in read_at of ds.0 xs i x ds.2 e
 
-pub entry_at : {A : Type 0} (of : Data → Option A) (key : List ℕ) (ms : Members) (xs : List A) (i : ℕ) (x : A) → entries_at of key ms ≡ Some xs
+pub entry_at : {A : Type 0} (of : Data → Option A) (key : List ℕ) (ms : Members) (xs : List A)
+    (i : ℕ) (x : A)
+    → entries_at of key ms ≡ Some xs
     → slice_get xs i ≡ Some x → (d : Data) × (of d ≡ Some x)
 unfolding entries_at
 entry_at of key ms xs i x h e = array_at of _ xs i x h e
 
-file_part : (v : Option ℕ) (c : Option (List ClockEntryValue)) (s : Option (List SessionEntry)) (l : Option (List (List EndEntry))) (f : FileValue)
+file_part : (v : Option ℕ) (c : Option (List ClockEntryValue)) (s : Option (List SessionEntry))
+    (l : Option (List (List EndEntry))) (f : FileValue)
     → file_with v c s l ≡ Some f → s ≡ Some f.sessions
 file_part (Some v) (Some c) (Some s) (Some l) f h = let q = (cond_some _ _ f h).1 in ap (λ g. Some g.sessions) q
 file_part _ _ _ _ f h = cc
@@ -191,12 +220,18 @@ record Sound (f : FileValue) : Type 0 where
   clock_count : length f.clocks ≤ 64
   session_count : length f.sessions ≤ 256
   link_count : length f.links ≤ 256
-  sizes : (i : ℕ) (l : List EndEntry) → slice_get f.links i ≡ Some l → (2 ≤ length l) × (length l ≤ 16)
+  sizes : (i : ℕ) (l : List EndEntry)
+      → slice_get f.links i ≡ Some l
+      → (2 ≤ length l) × (length l ≤ 16)
   clocks : has_like same_name_or_clock f.clocks ≡ false
-  no_clock : (i : ℕ) (s : SessionEntry) → slice_get f.sessions i ≡ Some s → list_any (is_clock s) f.clocks ≡ false
+  no_clock : (i : ℕ) (s : SessionEntry)
+      → slice_get f.sessions i ≡ Some s
+      → list_any (is_clock s) f.clocks ≡ false
   sessions : has_like same_name_or_identity f.sessions ≡ false
   ends : has_like same_end (flat_map (λ link. link) f.links) ≡ false
-  managers : (i : ℕ) (s : SessionEntry) → slice_get f.sessions i ≡ Some s → managers_of s.target f.sessions ≤ 16
+  managers : (i : ℕ) (s : SessionEntry)
+      → slice_get f.sessions i ≡ Some s
+      → managers_of s.target f.sessions ≤ 16
 
 not_more : (most n : ℕ) → nat_lt most n ≡ false → n ≤ most
 not_more most n h = grind (arith, nat_tests)
@@ -228,7 +263,9 @@ is_sound f many twice =
 
 -- ---- clocks
 
-started : (r : Result DataSetsValue StartError) (v y : ClockValue) → if_started r v ≡ Ok y → (v ≡ y) × IsOk r
+started : (r : Result DataSetsValue StartError) (v y : ClockValue)
+    → if_started r v ≡ Ok y
+    → (v ≡ y) × IsOk r
 started (Ok sets) v y h = (ok_same v y h, refl)
 started (Err e) v y h = cc
 
@@ -236,7 +273,9 @@ fault_free : {A : Type 0} (o : Option StartError) (a : A) → IsOk (unless o a) 
 fault_free None a h = refl
 fault_free (Some e) a h = cc
 
-pub starts_well : (c : ClockStart) (ports : List PortStart) → IsOk (start_of c ports) → (count_fault (length ports) ≡ None) × (clock_fault c ≡ None)
+pub starts_well : (c : ClockStart) (ports : List PortStart)
+    → IsOk (start_of c ports)
+    → (count_fault (length ports) ≡ None) × (clock_fault c ≡ None)
 unfolding start_of
 starts_well c ports h =
     let all = option_or-none _ _ (fault_free (start_fault c ports) _ h) in
@@ -249,7 +288,8 @@ not_every c h every =
     different (bytes_eq c.identity.0 all_ones) fails (bytes_same _ _ (ap (λ k. k.0) every))
 
 pub clock_made : (c : ClockEntryValue) (y : ClockValue) → clock_of c ≡ Ok y
-    → (record { name = c.name; start = c.start; ports = all_ports c } ≡ y) × IsOk (start_of c.start (all_ports c))
+    → (record { name = c.name; start = c.start; ports = all_ports c } ≡ y)
+    × IsOk (start_of c.start (all_ports c))
 unfolding clock_of
 clock_made c y h = started _ _ y h
 
@@ -264,7 +304,10 @@ port_count : (c : ClockEntryValue) → length (all_ports c) ≡ min c.count 9
 unfolding all_ports
 port_count c = length-map-range_with_len _ 1 (min c.count 9)
 
-port_is_there : (c : ClockEntryValue) (y : ClockValue) (port : ℕ) → clock_of c ≡ Ok y → has_port c port ≡ true → (1 ≤ port) × (port ≤ length y.ports)
+port_is_there : (c : ClockEntryValue) (y : ClockValue) (port : ℕ)
+    → clock_of c ≡ Ok y
+    → has_port c port ≡ true
+    → (1 ≤ port) × (port ≤ length y.ports)
 port_is_there c y port h there =
     let m = clock_made c y h in
     let n = count_sound _ (starts_well c.start (all_ports c) m.1).0 in
@@ -274,12 +317,17 @@ port_is_there c y port h there =
 
 -- ---- sessions
 
-pub session_made : (cs : List ClockEntryValue) (s : SessionEntry) (t : NetworkSession) → session_of cs s ≡ Ok t
+pub session_made : (cs : List ClockEntryValue) (s : SessionEntry) (t : NetworkSession)
+    → session_of cs s ≡ Ok t
     → (place : ℕ) × (clock_place cs s.target ≡ Some place) × (session_at s place ≡ t)
 unfolding session_of
 session_made cs s t h = map_inv (session_at s) _ t (given_ok _ _ t h)
 
-is_session : (f : FileValue) (n : NetworkValue) → Placed f n → Sound f → AreOne f → (i : ℕ) (s : SessionEntry) (t : NetworkSession)
+is_session : (f : FileValue) (n : NetworkValue)
+    → Placed f n
+    → Sound f
+    → AreOne f
+    → (i : ℕ) (s : SessionEntry) (t : NetworkSession)
     → slice_get f.sessions i ≡ Some s → session_of f.clocks s ≡ Ok t → IsSessionOf n t
 is_session f n p w one i s t at h =
     let m = session_made f.clocks s t h in
@@ -300,7 +348,9 @@ is_session f n p w one i s t at h =
       target = omega arith;
     })
 
-same_target : (cs : List ClockEntryValue) (x s : SessionEntry) (y t : NetworkSession) (place : ℕ) → session_of cs x ≡ Ok y → session_of cs s ≡ Ok t
+same_target : (cs : List ClockEntryValue) (x s : SessionEntry) (y t : NetworkSession) (place : ℕ)
+    → session_of cs x ≡ Ok y
+    → session_of cs s ≡ Ok t
     → (y.target == place) ≡ true → (t.target == place) ≡ true → x.target ≡ s.target
 same_target cs x s y t place h k ey et =
     let a = session_made cs x y h in
@@ -313,7 +363,8 @@ same_target cs x s y t place h k ey et =
     let clock : c.0 ≡ d.0 = some_same _ _ (sym c.1 ∙ there) in
     sym (same_bytes _ _ c.2) ∙ ap (λ k. k.name) clock ∙ same_bytes _ _ d.2
 
-managers_is : (target : List ℕ) (ss : List SessionEntry) → managers_of target ss ≡ count_by (λ s. bytes_eq s.target target) ss
+managers_is : (target : List ℕ) (ss : List SessionEntry)
+    → managers_of target ss ≡ count_by (λ s. bytes_eq s.target target) ss
 unfolding managers_of
 managers_is target ss = refl
 
@@ -336,17 +387,20 @@ few_managers f n p w place (inr t) =
 abbrev place_of : List ClockEntryValue → List SessionEntry → EndEntry → Result End NetError
 place_of cs ss e = given (end_by_place cs ss e) NoSuchName
 
-links_made : (cs : List ClockEntryValue) (ss : List SessionEntry) (links : List (List EndEntry)) (r : Result (List (List End)) NetError)
+links_made : (cs : List ClockEntryValue) (ss : List SessionEntry) (links : List (List EndEntry))
+    (r : Result (List (List End)) NetError)
     → map_all (link_of cs ss) links ≡ r → map_all (map_all (place_of cs ss)) links ≡ r
 unfolding link_of
 links_made cs ss links r h = h
 
-link_made : (cs : List ClockEntryValue) (ss : List SessionEntry) (link : List EndEntry) (r : Result (List End) NetError)
+link_made : (cs : List ClockEntryValue) (ss : List SessionEntry) (link : List EndEntry)
+    (r : Result (List End) NetError)
     → link_of cs ss link ≡ r → map_all (place_of cs ss) link ≡ r
 unfolding link_of
 link_made cs ss link r h = h
 
-end_made : (cs : List ClockEntryValue) (ss : List SessionEntry) (e : EndEntry) (x : End) → place_of cs ss e ≡ Ok x
+end_made : (cs : List ClockEntryValue) (ss : List SessionEntry) (e : EndEntry) (x : End)
+    → place_of cs ss e ≡ Ok x
     → end_by_name cs ss e.name e.port ≡ Some x
 unfolding end_by_place
 end_made cs ss e x h = given_ok _ _ x h
@@ -367,7 +421,8 @@ record AtSession (ss : List SessionEntry) (name : List ℕ) (x : End) : Type 0 w
   named : session.name ≡ name
   is : ends.Session place ≡ x
 
-at_clock : (cs : List ClockEntryValue) (ss : List SessionEntry) (name : List ℕ) (port : ℕ) (x : End) → end_by_name cs ss name (Some port) ≡ Some x
+at_clock : (cs : List ClockEntryValue) (ss : List SessionEntry) (name : List ℕ) (port : ℕ) (x : End)
+    → end_by_name cs ss name (Some port) ≡ Some x
     → AtClock cs name port x
 at_clock cs ss name port x h =
     let at = opt_inv _ _ x h in
@@ -376,7 +431,8 @@ at_clock cs ss name port x h =
     let is = cond_some (has_port c.0 port) _ x made in
     record { place = at.0; clock = c.0; there = c.1; named = same_bytes _ _ c.2; has = is.0; is = is.1 }
 
-at_session : (cs : List ClockEntryValue) (ss : List SessionEntry) (name : List ℕ) (x : End) → end_by_name cs ss name None ≡ Some x
+at_session : (cs : List ClockEntryValue) (ss : List SessionEntry) (name : List ℕ) (x : End)
+    → end_by_name cs ss name None ≡ Some x
     → AtSession ss name x
 at_session cs ss name x h =
     let at = map_inv ends.Session _ x h in
@@ -396,7 +452,11 @@ is_end f n p name (Some port) x h =
     let ports = port_is_there c.clock y.0 port y.2 c.has in
     subst (IsEndOf n) c.is (y.0, y.1, ports.0, ports.1)
 
-same_clock_end : (cs : List ClockEntryValue) (an bn : List ℕ) (ap bp : ℕ) (u v : End) → AtClock cs an ap u → AtClock cs bn bp v → u ≡ v → (bn ≡ an) × (bp ≡ ap)
+same_clock_end : (cs : List ClockEntryValue) (an bn : List ℕ) (ap bp : ℕ) (u v : End)
+    → AtClock cs an ap u
+    → AtClock cs bn bp v
+    → u ≡ v
+    → (bn ≡ an) × (bp ≡ ap)
 same_clock_end cs an bn p q u v a b e =
     let both : ends.Clock a.place p ≡ ends.Clock b.place q = a.is ∙ e ∙ sym b.is in
     let place : a.place ≡ b.place = cc in
@@ -405,7 +465,11 @@ same_clock_end cs an bn p q u v a b e =
     let clock : a.clock ≡ b.clock = some_same _ _ (sym a.there ∙ there) in
     (sym b.named ∙ ap (λ c. c.name) (sym clock) ∙ a.named, sym port)
 
-same_session_end : (ss : List SessionEntry) (an bn : List ℕ) (u v : End) → AtSession ss an u → AtSession ss bn v → u ≡ v → bn ≡ an
+same_session_end : (ss : List SessionEntry) (an bn : List ℕ) (u v : End)
+    → AtSession ss an u
+    → AtSession ss bn v
+    → u ≡ v
+    → bn ≡ an
 same_session_end ss an bn u v a b e =
     let both : ends.Session a.place ≡ ends.Session b.place = a.is ∙ e ∙ sym b.is in
     let place : a.place ≡ b.place = cc in
@@ -414,8 +478,12 @@ same_session_end ss an bn u v a b e =
     sym b.named ∙ ap (λ s. s.name) (sym session) ∙ a.named
 
 -- ends at one place are one end
-one_place : (cs : List ClockEntryValue) (ss : List SessionEntry) (an bn : List ℕ) (p q : Option ℕ) (u v : End)
-    → end_by_name cs ss an p ≡ Some u → end_by_name cs ss bn q ≡ Some v → u ≡ v → (bytes_eq bn an && same_port q p) ≡ true
+one_place : (cs : List ClockEntryValue) (ss : List SessionEntry) (an bn : List ℕ) (p q : Option ℕ)
+    (u v : End)
+    → end_by_name cs ss an p ≡ Some u
+    → end_by_name cs ss bn q ≡ Some v
+    → u ≡ v
+    → (bytes_eq bn an && same_port q p) ≡ true
 one_place cs ss an bn None None u v a b e =
     and_both _ _ (bytes_same _ _ (same_session_end ss an bn u v (at_session cs ss an u a) (at_session cs ss bn v b) e)) refl
 one_place cs ss an bn None (Some q) u v a b e =
@@ -432,7 +500,10 @@ one_place cs ss an bn (Some p) (Some q) u v a b e =
     let same = same_clock_end cs an bn p q u v (at_clock cs ss an p u a) (at_clock cs ss bn q v b) e in
     and_both _ _ (bytes_same _ _ same.0) ((Decides-eqb q p).1 same.1)
 
-is_link : (f : FileValue) (n : NetworkValue) → Placed f n → Sound f → (i : ℕ) (l : List EndEntry) (y : List End)
+is_link : (f : FileValue) (n : NetworkValue)
+    → Placed f n
+    → Sound f
+    → (i : ℕ) (l : List EndEntry) (y : List End)
     → slice_get f.links i ≡ Some l → link_of f.clocks f.sessions l ≡ Ok y → IsLinkOf n y
 is_link f n p w i l y at h =
     let made = link_made f.clocks f.sessions l (Ok y) h in
@@ -494,7 +565,10 @@ is_accepted f n p w one =
           (made_flat (place_of f.clocks f.sessions) f.links n.links (links_made f.clocks f.sessions f.links (Ok n.links) p.links)) w.ends;
     }
 
-accepted_file : (f : FileValue) (n : NetworkValue) → AreOne f → network_of_file f ≡ Ok n → IsAccepted n
+accepted_file : (f : FileValue) (n : NetworkValue)
+    → AreOne f
+    → network_of_file f ≡ Ok n
+    → IsAccepted n
 unfolding network_of_file
 accepted_file f n one h =
     let many = else_ok (has_too_many f) _ _ n h in

@@ -16,18 +16,26 @@ pub or_second : (a b : Bool) → b ≡ true → (a || b) ≡ true
 or_second true b h = refl
 or_second false b h = h
 
-pub any_at : {A : Type 0} (p : A → Bool) (xs : List A) (i : ℕ) (x : A) → slice_get xs i ≡ Some x → p x ≡ true → list_any p xs ≡ true
+pub any_at : {A : Type 0} (p : A → Bool) (xs : List A) (i : ℕ) (x : A)
+    → slice_get xs i ≡ Some x
+    → p x ≡ true
+    → list_any p xs ≡ true
 any_at p [] i x e h = absurd (cc)
 any_at p (y ∷ ys) zero x e h = let q : y ≡ x = cc in rw (q, h) refl
 any_at p (y ∷ ys) (suc i) x e h = or_second (p y) (list_any p ys) (any_at p ys i x e h)
 
-pub none_at : {A : Type 0} (p : A → Bool) (xs : List A) (i : ℕ) (x : A) → list_any p xs ≡ false → slice_get xs i ≡ Some x → p x ≡ false
+pub none_at : {A : Type 0} (p : A → Bool) (xs : List A) (i : ℕ) (x : A)
+    → list_any p xs ≡ false
+    → slice_get xs i ≡ Some x
+    → p x ≡ false
 none_at p [] i x h e = absurd (cc)
 none_at p (y ∷ ys) zero x h e = let q : y ≡ x = cc in ap p (sym q) ∙ (or_none (p y) _ h).0
 none_at p (y ∷ ys) (suc i) x h e = none_at p ys i x (or_none (p y) _ h).1 e
 
 -- two elements that are alike either way stand at one place
-pub apart : {A : Type 0} (like : A → A → Bool) (xs : List A) → has_like like xs ≡ false → (i j : ℕ) (x y : A)
+pub apart : {A : Type 0} (like : A → A → Bool) (xs : List A)
+    → has_like like xs ≡ false
+    → (i j : ℕ) (x y : A)
     → slice_get xs i ≡ Some x → slice_get xs j ≡ Some y → like x y ≡ true → like y x ≡ true → i ≡ j
 apart like [] h i j x y ei ej l r = absurd (cc)
 apart like (z ∷ zs) h zero zero x y ei ej l r = refl
@@ -46,7 +54,8 @@ apart like (z ∷ zs) h (suc i) (suc j) x y ei ej l r =
 
 -- ---- answers
 
-pub and_then_ok : {A B : Type 0} (r : Result A NetError) (next : A → Result B NetError) (b : B) → and_then r next ≡ Ok b
+pub and_then_ok : {A B : Type 0} (r : Result A NetError) (next : A → Result B NetError) (b : B)
+    → and_then r next ≡ Ok b
     → (a : A) × (r ≡ Ok a) × (next a ≡ Ok b)
 and_then_ok (Ok a) next b h = (a, refl, h)
 and_then_ok (Err e) next b h = cc
@@ -56,7 +65,8 @@ given_ok (Some x) e a h = cc
 given_ok None e a h = cc
 
 -- what was made of a list that begins with this element
-pub made_cons : {A B : Type 0} (make : A → Result B NetError) (x : A) (xs : List A) (ys : List B) → map_all make (x ∷ xs) ≡ Ok ys
+pub made_cons : {A B : Type 0} (make : A → Result B NetError) (x : A) (xs : List A) (ys : List B)
+    → map_all make (x ∷ xs) ≡ Ok ys
     → (b : B) × (bs : List B) × (make x ≡ Ok b) × (map_all make xs ≡ Ok bs) × (ys ≡ b ∷ bs)
 made_cons {A} {B} make x xs ys h =
     let p = and_then_ok (make x) (λ b. and_then (map_all make xs) (λ found. Ok (b ∷ found))) ys h in
@@ -64,7 +74,9 @@ made_cons {A} {B} make x xs ys h =
     let same : p.0 ∷ q.0 ≡ ys = cc in
     (p.0, q.0, p.1, q.1, sym same)
 
-pub made_length : {A B : Type 0} (make : A → Result B NetError) (xs : List A) (ys : List B) → map_all make xs ≡ Ok ys → length ys ≡ length xs
+pub made_length : {A B : Type 0} (make : A → Result B NetError) (xs : List A) (ys : List B)
+    → map_all make xs ≡ Ok ys
+    → length ys ≡ length xs
 made_length make [] ys h = let q : [] ≡ ys = cc in ap length (sym q)
 made_length make (x ∷ xs) ys h =
     let m = made_cons make x xs ys h in
@@ -74,7 +86,9 @@ nothing_at : {A : Type 0} (i : ℕ) (x : A) → slice_get [] i ≡ Some x → �
 nothing_at i x e = cc
 
 -- of what an element was made
-pub made_of : {A B : Type 0} (make : A → Result B NetError) (xs : List A) (ys : List B) (i : ℕ) (y : B) → map_all make xs ≡ Ok ys
+pub made_of : {A B : Type 0} (make : A → Result B NetError) (xs : List A) (ys : List B) (i : ℕ)
+    (y : B)
+    → map_all make xs ≡ Ok ys
     → slice_get ys i ≡ Some y → (x : A) × (slice_get xs i ≡ Some x) × (make x ≡ Ok y)
 made_of make [] ys i y h e =
     let q : [] ≡ ys = cc in
@@ -89,7 +103,9 @@ made_of make (x ∷ xs) ys (suc i) y h e =
     made_of make xs m.1 i y m.3 (subst (λ l. slice_get l (suc i) ≡ Some y) m.4 e)
 
 -- what was made of an element
-pub made_from : {A B : Type 0} (make : A → Result B NetError) (xs : List A) (ys : List B) (i : ℕ) (x : A) → map_all make xs ≡ Ok ys
+pub made_from : {A B : Type 0} (make : A → Result B NetError) (xs : List A) (ys : List B) (i : ℕ)
+    (x : A)
+    → map_all make xs ≡ Ok ys
     → slice_get xs i ≡ Some x → (y : B) × (slice_get ys i ≡ Some y) × (make x ≡ Ok y)
 made_from make [] ys i x h e = absurd (nothing_at i x e)
 made_from make (z ∷ zs) ys zero x h e =
@@ -102,24 +118,33 @@ made_from make (z ∷ zs) ys (suc i) x h e =
     (r.0, subst (λ l. slice_get l (suc i) ≡ Some r.0) (sym m.4) r.1, r.2)
 
 -- what holds of all that was made
-pub all_made : {A B : Type 0} (make : A → Result B NetError) (P : B → Type 0) (xs : List A) (ys : List B) → map_all make xs ≡ Ok ys
-    → ((i : ℕ) (x : A) (y : B) → slice_get xs i ≡ Some x → make x ≡ Ok y → P y) → AllByRecursion P ys
+pub all_made : {A B : Type 0} (make : A → Result B NetError) (P : B → Type 0) (xs : List A)
+    (ys : List B)
+    → map_all make xs ≡ Ok ys
+    → ((i : ℕ) (x : A) (y : B) → slice_get xs i ≡ Some x → make x ≡ Ok y → P y)
+    → AllByRecursion P ys
 all_made make P [] ys h f = let q : [] ≡ ys = cc in subst (AllByRecursion P) q tt
 all_made make P (x ∷ xs) ys h f =
     let m = made_cons make x xs ys h in
     subst (AllByRecursion P) (sym m.4) (f zero x m.0 refl m.2, all_made make P xs m.1 m.3 (λ i. f (suc i)))
 
 -- what was made of elements that are not alike
-pub made_apart : {A B C : Type 0} (make : A → Result B NetError) (like : A → A → Bool) (part : B → C)
+pub made_apart : {A B C : Type 0} (make : A → Result B NetError) (like : A → A → Bool)
+    (part : B → C)
     → ((x y : A) (u v : B) → make x ≡ Ok u → make y ≡ Ok v → part u ≡ part v → like x y ≡ true)
     → (xs : List A) (ys : List B) → map_all make xs ≡ Ok ys → has_like like xs ≡ false
-    → (i j : ℕ) (u v : B) → slice_get ys i ≡ Some u → slice_get ys j ≡ Some v → part u ≡ part v → i ≡ j
+    → (i j : ℕ) (u v : B)
+    → slice_get ys i ≡ Some u
+    → slice_get ys j ≡ Some v
+    → part u ≡ part v
+    → i ≡ j
 made_apart make like part alike xs ys h none i j u v ei ej e =
     let x = made_of make xs ys i u h ei in
     let y = made_of make xs ys j v h ej in
     apart like xs none i j x.0 y.0 x.1 y.1 (alike x.0 y.0 u v x.2 y.2 e) (alike y.0 x.0 v u y.2 x.2 (sym e))
 
-pub made_append : {A B : Type 0} (make : A → Result B NetError) (xs ys : List A) (us vs : List B) → map_all make xs ≡ Ok us
+pub made_append : {A B : Type 0} (make : A → Result B NetError) (xs ys : List A) (us vs : List B)
+    → map_all make xs ≡ Ok us
     → map_all make ys ≡ Ok vs → map_all make (xs ++ ys) ≡ Ok (us ++ vs)
 made_append make [] ys us vs h k = let q : [] ≡ us = cc in k ∙ ap (λ l. Ok (l ++ vs)) q
 made_append make (x ∷ xs) ys us vs h k =
@@ -128,7 +153,9 @@ made_append make (x ∷ xs) ys us vs h k =
     rw (m.2, rest) (ap (λ l. Ok (l ++ vs)) (sym m.4))
 
 -- lists of lists, end to end
-pub made_flat : {A B : Type 0} (make : A → Result B NetError) (xs : List (List A)) (ys : List (List B)) → map_all (map_all make) xs ≡ Ok ys
+pub made_flat : {A B : Type 0} (make : A → Result B NetError) (xs : List (List A))
+    (ys : List (List B))
+    → map_all (map_all make) xs ≡ Ok ys
     → map_all make (flat_map (λ l. l) xs) ≡ Ok (flat_map (λ l. l) ys)
 made_flat make [] ys h = let q : [] ≡ ys = cc in ap (λ l. Ok (flat_map (λ k. k) l)) q
 made_flat make (x ∷ xs) ys h =
@@ -149,7 +176,10 @@ tally_is q xs = is_count_by (tally q) q refl (λ _ _. refl) xs
 not_both : false ≡ true → ⊥
 not_both h = cc
 
-counted : (a b : Bool) (n k : ℕ) → (b ≡ true → a ≡ true) → k ≤ n → cond b (1 + k) k ≤ cond a (1 + n) n
+counted : (a b : Bool) (n k : ℕ)
+    → (b ≡ true → a ≡ true)
+    → k ≤ n
+    → cond b (1 + k) k ≤ cond a (1 + n) n
 counted true true n k h le = omega arith
 counted true false n k h le = omega arith
 counted false true n k h le = absurd (not_both (h refl))
@@ -173,7 +203,9 @@ made_count make p q f xs ys h = rw (← tally_is q ys, ← tally_is p xs) (made_
 abbrev NoneOrOne : {A : Type 0} → (A → Bool) → List A → ℕ → Type 0
 NoneOrOne {A} q ys count = (count ≡ 0) ⊎ ((i : ℕ) × (x : A) × (slice_get ys i ≡ Some x) × (q x ≡ true))
 
-first_or_later : {A : Type 0} (q : A → Bool) (y : A) (ys : List A) (b : Bool) → q y ≡ b → NoneOrOne q ys (tally q ys)
+first_or_later : {A : Type 0} (q : A → Bool) (y : A) (ys : List A) (b : Bool)
+    → q y ≡ b
+    → NoneOrOne q ys (tally q ys)
     → NoneOrOne q (y ∷ ys) (cond b (1 + tally q ys) (tally q ys))
 first_or_later q y ys true e r = inr (zero, y, refl, e)
 first_or_later q y ys false e (inl z) = inl z
@@ -192,7 +224,8 @@ none_or_one q ys = subst (NoneOrOne q ys) (tally_is q ys) (none_or_first q ys)
 
 found_head : {K : Type 0} (t : K → Bool) (k : ℕ) (x : K) (xs : List K) (i : ℕ) (b : Bool) → t x ≡ b
     → cond b (Some k) (position_from t (k + 1) xs) ≡ Some i
-    → (position_from t (k + 1) xs ≡ Some i → (j : ℕ) × (y : K) × (i ≡ k + 1 + j) × (slice_get xs j ≡ Some y) × (t y ≡ true))
+    → (position_from t (k + 1) xs ≡ Some i
+    → (j : ℕ) × (y : K) × (i ≡ k + 1 + j) × (slice_get xs j ≡ Some y) × (t y ≡ true))
     → (j : ℕ) × (y : K) × (i ≡ k + j) × (slice_get (x ∷ xs) j ≡ Some y) × (t y ≡ true)
 found_head t k x xs i true e h more =
     let q : k ≡ i = cc in
@@ -201,7 +234,8 @@ found_head t k x xs i false e h more =
     let f = more h in
     (suc f.0, f.1, omega arith, f.3, f.4)
 
-pub found_from : {K : Type 0} (t : K → Bool) (k : ℕ) (xs : List K) (i : ℕ) → position_from t k xs ≡ Some i
+pub found_from : {K : Type 0} (t : K → Bool) (k : ℕ) (xs : List K) (i : ℕ)
+    → position_from t k xs ≡ Some i
     → (j : ℕ) × (x : K) × (i ≡ k + j) × (slice_get xs j ≡ Some x) × (t x ≡ true)
 found_from t k [] i h = cc
 found_from t k (x ∷ xs) i h = found_head t k x xs i (t x) refl h (found_from t (k + 1) xs i)

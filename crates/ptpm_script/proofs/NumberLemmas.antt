@@ -8,7 +8,10 @@ use Rattle.ptpm_script.specs.Numbers.{decimal}
 pub numerals : IsNumeralModel (λ ds. all_ascii_digits ds ≡ true) (digits_value 10)
 numerals = numerals_by_value _ tells_all_ascii_digits
 
-pub decimal_of_digits : (text : List ℕ) → all_ascii_digits text ≡ true → 0 < length text → length text ≤ 10
+pub decimal_of_digits : (text : List ℕ)
+    → all_ascii_digits text ≡ true
+    → 0 < length text
+    → length text ≤ 10
     → decimal text ≡ Some (digits_value 10 text)
 unfolding decimal
 decimal_of_digits text digits some few =

@@ -9,7 +9,9 @@ unfolding text_of_octets
 text_of_none [] h = refl
 text_of_none (x ∷ xs) h = absurd (omega arith)
 
-pub text_of_some : (octets : List ℕ) → 0 < length octets → flat_map octet_text octets ≡ text_of_octets octets
+pub text_of_some : (octets : List ℕ)
+    → 0 < length octets
+    → flat_map octet_text octets ≡ text_of_octets octets
 unfolding text_of_octets
 text_of_some [] h = absurd (omega arith)
 text_of_some (x ∷ xs) h = refl

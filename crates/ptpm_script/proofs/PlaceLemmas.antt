@@ -20,24 +20,34 @@ after_one : {A : Type 0} (done : List A) (a : A) (more : Result (List A) NetErro
 after_one done a (Ok more) = ap Ok (sym (append_assoc done (a ∷ []) more))
 after_one done a (Err e) = refl
 
-pub made_one : {A B : Type 0} (make : A → Result B NetError) (done : List B) (xs : List A) (x : A) (y : B) → make x ≡ Ok y
+pub made_one : {A B : Type 0} (make : A → Result B NetError) (done : List B) (xs : List A) (x : A)
+    (y : B)
+    → make x ≡ Ok y
     → after done (map_all make (x ∷ xs)) ≡ after (done ++ y ∷ []) (map_all make xs)
 made_one make done xs x y h = rw h (after_one done y (map_all make xs))
 
-pub made_none : {A B : Type 0} (make : A → Result B NetError) (done : List B) (xs : List A) (x : A) (e : NetError) → make x ≡ Err e
+pub made_none : {A B : Type 0} (make : A → Result B NetError) (done : List B) (xs : List A) (x : A)
+    (e : NetError)
+    → make x ≡ Err e
     → after done (map_all make (x ∷ xs)) ≡ Err e
 made_none make done xs x e h = rw h refl
 
-pub made_all : {A B : Type 0} (make : A → Result B NetError) (done : List B) → after done (map_all make []) ≡ Ok done
+pub made_all : {A B : Type 0} (make : A → Result B NetError) (done : List B)
+    → after done (map_all make []) ≡ Ok done
 made_all make done = ap Ok (append-nil done)
 
 -- the same in a loop over a slice
-pub goes_on : {A B : Type 0} (make : A → Result B NetError) (done : List B) (xs : List A) (i : ℕ) (x : A) (y : B) → i < length xs
+pub goes_on : {A B : Type 0} (make : A → Result B NetError) (done : List B) (xs : List A) (i : ℕ)
+    (x : A) (y : B)
+    → i < length xs
     → make (get_or xs i x) ≡ Ok y
-    → after done (map_all make (drop i xs)) ≡ after (done ++ y ∷ []) (map_all make (drop (i + 1) xs))
+    → after done (map_all make (drop i xs))
+    ≡ after (done ++ y ∷ []) (map_all make (drop (i + 1) xs))
 goes_on make done xs i x y below h = rw (drop_more xs i x below) (made_one make done _ _ y h)
 
-pub stops : {A B : Type 0} (make : A → Result B NetError) (done : List B) (xs : List A) (i : ℕ) (x : A) (e : NetError) → i < length xs
+pub stops : {A B : Type 0} (make : A → Result B NetError) (done : List B) (xs : List A) (i : ℕ)
+    (x : A) (e : NetError)
+    → i < length xs
     → make (get_or xs i x) ≡ Err e
     → after done (map_all make (drop i xs)) ≡ Err e
 stops make done xs i x e below h = rw (drop_more xs i x below) (made_none make done _ _ e h)

@@ -29,8 +29,13 @@ or_settles false b h = cc
 abbrev pub later : List (List EndEntry) → List (List EndEntry)
 later links = take (length links - 1) (drop 1 links)
 
-pub first_link : (links : List (List EndEntry)) (link item : List EndEntry) → 1 ≤ length links → item ≡ get_or links 0 item → link ≡ item
-    → has_like same_end (all_ends links) ≡ has_early_like same_end link (all_ends (later links)) || has_like same_end (all_ends (later links))
+pub first_link : (links : List (List EndEntry)) (link item : List EndEntry)
+    → 1 ≤ length links
+    → item ≡ get_or links 0 item
+    → link ≡ item
+    → has_like same_end (all_ends links)
+    ≡ has_early_like same_end link (all_ends (later links))
+    || has_like same_end (all_ends (later links))
 first_link [] link item some is same = absurd (omega arith)
 first_link (l ∷ ls) link item some is same =
     let rest : later (l ∷ ls) ≡ ls = take_rest (l ∷ ls) 1 in

@@ -34,7 +34,9 @@ use Rattle.ptpm_script.specs.Values.{clock_at, natural_at, port_at, text_at}
 use Rattle.ptpm_script.proofs.NetworkLemmas.{all_made, and_then_ok, given_ok}
 use Rattle.ptpm_script.proofs.NetworkLaw.{Placed, clock_made, clock_part, else_ok, else_some, entry_at, identity_part, is_placed, opt_inv, session_made, some_same, starts_well, then_ok}
 
-then_some : {A : Type 0} (b : Bool) (x y : A) → (if b then Some x else None) ≡ Some y → (b ≡ true) × (x ≡ y)
+then_some : {A : Type 0} (b : Bool) (x y : A)
+    → (if b then Some x else None) ≡ Some y
+    → (b ≡ true) × (x ≡ y)
 then_some true x y h = (refl, cc)
 then_some false x y h = cc
 
@@ -47,7 +49,9 @@ decoded_size text octets h =
     let twice = (decode_pairs-ok 0 text octets pairs).1 in
     omega (arith, digits, twice)
 
-ok_of : {E : Type 0} (r : Result (List ℕ) E) (octets : List ℕ) → result_ok r ≡ Some octets → r ≡ Ok octets
+ok_of : {E : Type 0} (r : Result (List ℕ) E) (octets : List ℕ)
+    → result_ok r ≡ Some octets
+    → r ≡ Ok octets
 ok_of (Ok xs) octets h = let q : xs ≡ octets = cc in ap Ok q
 ok_of (Err e) octets h = cc
 
@@ -58,7 +62,9 @@ clock_size text c h =
     let p = else_some (same_clock (record { 0 = o.0 }) every_clock) _ c o.2 in
     subst (λ k. length k.0 ≡ 8) p.1 (decoded_size text o.0 (ok_of _ o.0 o.1))
 
-port_part : (a : Option ClockIdentity) (b : Option ℕ) (p : PortIdentity) → port_of a b ≡ Some p → b ≡ Some p.port
+port_part : (a : Option ClockIdentity) (b : Option ℕ) (p : PortIdentity)
+    → port_of a b ≡ Some p
+    → b ≡ Some p.port
 port_part (Some clock) (Some port) p h = let q : record { clock = clock; port = port } ≡ p = cc in ap (λ r. Some r.port) q
 port_part (Some clock) None p h = cc
 port_part None b p h = cc
@@ -86,13 +92,19 @@ record IsStartSized (c : ClockStart) : Type 0 where
   parent : (p : PortIdentity) → c.parent_port ≡ Some p → length p.clock.0 ≡ 8
   grandmaster : (g : ClockIdentity) → c.grandmaster ≡ Some g → length g.0 ≡ 8
 
-clock_at_size : (key : List ℕ) (ms : Members) (c : ClockIdentity) → clock_at key ms ≡ Some c → length c.0 ≡ 8
+clock_at_size : (key : List ℕ) (ms : Members) (c : ClockIdentity)
+    → clock_at key ms ≡ Some c
+    → length c.0 ≡ 8
 clock_at_size key ms c h = let o = opt_inv {A = List ℕ} clock_identity (text_at key ms) c h in clock_size o.0 c o.2
 
-port_at_size : (key : List ℕ) (ms : Members) (p : PortIdentity) → port_at key ms ≡ Some p → PortIdentityFits p
+port_at_size : (key : List ℕ) (ms : Members) (p : PortIdentity)
+    → port_at key ms ≡ Some p
+    → PortIdentityFits p
 port_at_size key ms p h = let o = opt_inv {A = List ℕ} port_identity (text_at key ms) p h in port_size o.0 p o.2
 
-start_size : (identity : ClockIdentity) (domain : ℕ) (ms : Members) → length identity.0 ≡ 8 → IsStartSized (clock_start identity domain ms)
+start_size : (identity : ClockIdentity) (domain : ℕ) (ms : Members)
+    → length identity.0 ≡ 8
+    → IsStartSized (clock_start identity domain ms)
 unfolding clock_start
 start_size identity domain ms h = record {
   identity = h;
@@ -100,14 +112,19 @@ start_size identity domain ms h = record {
   grandmaster = λ g e. clock_at_size (codes "grandmaster") ms g e;
 }
 
-with_size : (ms : Members) (i : Option ClockIdentity) (d n : Option ℕ) (ports : Option (List PortEntry)) (c : ClockEntryValue)
-    → clock_with ms i d n ports ≡ Some c → ((k : ClockIdentity) → i ≡ Some k → length k.0 ≡ 8) → IsStartSized c.start
+with_size : (ms : Members) (i : Option ClockIdentity) (d n : Option ℕ)
+    (ports : Option (List PortEntry)) (c : ClockEntryValue)
+    → clock_with ms i d n ports ≡ Some c
+    → ((k : ClockIdentity) → i ≡ Some k → length k.0 ≡ 8)
+    → IsStartSized c.start
 with_size ms (Some i) (Some d) (Some n) (Some ports) c h size =
     let q = some_same _ _ h in
     subst (λ k. IsStartSized k.start) q (start_size i d ms (size i refl))
 with_size ms _ _ _ _ c h size = cc
 
-table_size : (ms : Members) (c : ClockEntryValue) → clock_of_table ms ≡ Some c → IsStartSized c.start
+table_size : (ms : Members) (c : ClockEntryValue)
+    → clock_of_table ms ≡ Some c
+    → IsStartSized c.start
 table_size ms c h =
     with_size ms (clock_at (codes "identity") ms) (natural_at 255 (codes "domain") ms) (natural_at 65535 (codes "ports") ms)
     (entries_at port_entry (codes "port") ms) c h (λ k e. clock_at_size (codes "identity") ms k e)
@@ -118,11 +135,17 @@ entry_size d c h = let ms = opt_inv {A = Members} clock_of_table (table_of clock
 
 -- ---- clocks of a network
 
-unwrapped : {A : Type 0} (P : A → Type 0) (o : Option A) (d : A) → ((a : A) → o ≡ Some a → P a) → P d → P (unwrap_or o d)
+unwrapped : {A : Type 0} (P : A → Type 0) (o : Option A) (d : A)
+    → ((a : A) → o ≡ Some a → P a)
+    → P d
+    → P (unwrap_or o d)
 unwrapped P None d given default = default
 unwrapped P (Some a) d given default = given a refl
 
-sets_size : (c : ClockStart) (ports : List PortStart) → IsStartSized c → IsOk (start_of c ports) → IsSized (started c ports)
+sets_size : (c : ClockStart) (ports : List PortStart)
+    → IsStartSized c
+    → IsOk (start_of c ports)
+    → IsSized (started c ports)
 sets_size c ports size ok =
     let free = starts_well c ports ok in
     let count = count_sound (length ports) free.0 in
@@ -136,20 +159,28 @@ sets_size c ports size ok =
       grandmaster = unwrapped (λ (g : ClockIdentity). length g.0 ≡ 8) c.grandmaster _ size.grandmaster size.identity;
     }
 
-made_size : (c : ClockEntryValue) (y : ClockValue) → IsStartSized c.start → clock_of c ≡ Ok y → IsSized (first_sets y)
+made_size : (c : ClockEntryValue) (y : ClockValue)
+    → IsStartSized c.start
+    → clock_of c ≡ Ok y
+    → IsSized (first_sets y)
 made_size c y size h =
     let m = clock_made c y h in
     subst (λ k. IsSized (first_sets k)) m.0 (sets_size c.start (all_ports c) size m.1)
 
 -- ---- sessions
 
-session_size : (d : Data) (s : SessionEntry) → session_entry d ≡ Some s → PortIdentityFits s.identity
+session_size : (d : Data) (s : SessionEntry)
+    → session_entry d ≡ Some s
+    → PortIdentityFits s.identity
 unfolding session_entry
 session_size d s h =
     let ms = opt_inv {A = Members} session_of_table (table_of session_rules d) s h in
     port_at_size (codes "identity") ms.0 s.identity (identity_part ms.0 s ms.2)
 
-placed_size : (cs : List ClockEntryValue) (s : SessionEntry) (t : NetworkSession) → PortIdentityFits s.identity → session_of cs s ≡ Ok t → PortIdentityFits t.identity
+placed_size : (cs : List ClockEntryValue) (s : SessionEntry) (t : NetworkSession)
+    → PortIdentityFits s.identity
+    → session_of cs s ≡ Ok t
+    → PortIdentityFits t.identity
 placed_size cs s t size h = subst (λ k. PortIdentityFits k.identity) (session_made cs s t h).2 size
 
 -- ---- the whole
@@ -159,7 +190,8 @@ AreEntriesSized f =
     ((i : ℕ) (c : ClockEntryValue) → slice_get f.clocks i ≡ Some c → IsStartSized c.start)
     × ((i : ℕ) (s : SessionEntry) → slice_get f.sessions i ≡ Some s → PortIdentityFits s.identity)
 
-file_parts : (v : Option ℕ) (c : Option (List ClockEntryValue)) (s : Option (List SessionEntry)) (l : Option (List (List EndEntry))) (f : FileValue)
+file_parts : (v : Option ℕ) (c : Option (List ClockEntryValue)) (s : Option (List SessionEntry))
+    (l : Option (List (List EndEntry))) (f : FileValue)
     → file_with v c s l ≡ Some f → (c ≡ Some f.clocks) × (s ≡ Some f.sessions)
 file_parts (Some v) (Some c) (Some s) (Some l) f h = let q = (then_some _ _ f h).1 in (ap (λ g. Some g.clocks) q, ap (λ g. Some g.sessions) q)
 file_parts _ _ _ _ f h = cc
@@ -180,7 +212,10 @@ is_sized f n entries p = record {
       (λ i s t e h. placed_size f.clocks s t (entries.1 i s e) h);
 }
 
-sized_file : (f : FileValue) (n : NetworkValue) → AreEntriesSized f → network_of_file f ≡ Ok n → AreSized n
+sized_file : (f : FileValue) (n : NetworkValue)
+    → AreEntriesSized f
+    → network_of_file f ≡ Ok n
+    → AreSized n
 unfolding network_of_file
 sized_file f n entries h =
     let many = else_ok (has_too_many f) _ _ n h in

@@ -21,12 +21,17 @@ pieces_without_space [] h = refl
 pieces_without_space (octet ∷ text) h =
     rw (is_other octet (h 0 (omega arith)), pieces_without_space text (tail_has_none octet text h)) refl
 
-pub pieces_at_space : (text rest : List ℕ) → HasNoSpace text → pieces (text ++ space ∷ rest) ≡ text ∷ pieces rest
+pub pieces_at_space : (text rest : List ℕ)
+    → HasNoSpace text
+    → pieces (text ++ space ∷ rest) ≡ text ∷ pieces rest
 pieces_at_space [] rest h = refl
 pieces_at_space (octet ∷ text) rest h =
     rw (is_other octet (h 0 (omega arith)), pieces_at_space text rest (tail_has_none octet text h)) refl
 
-pub words_of_last : (text : List ℕ) → HasNoSpace text → 0 < length text → words text ≡ text ∷ words []
+pub words_of_last : (text : List ℕ)
+    → HasNoSpace text
+    → 0 < length text
+    → words text ≡ text ∷ words []
 unfolding words
 words_of_last [] h some = absurd (omega arith)
 words_of_last (octet ∷ text) h some = rw (pieces_without_space (octet ∷ text) h) refl
@@ -35,7 +40,10 @@ pub words_of_none : words [] ≡ []
 unfolding words
 words_of_none = refl
 
-pub words_after_word : (text rest : List ℕ) → HasNoSpace text → 0 < length text → words (text ++ space ∷ rest) ≡ text ∷ words rest
+pub words_after_word : (text rest : List ℕ)
+    → HasNoSpace text
+    → 0 < length text
+    → words (text ++ space ∷ rest) ≡ text ∷ words rest
 unfolding words
 words_after_word [] rest h some = absurd (omega arith)
 words_after_word (octet ∷ text) rest h some = rw (pieces_at_space (octet ∷ text) rest h) refl
@@ -44,7 +52,9 @@ pub words_after_space : (rest : List ℕ) → words (space ∷ rest) ≡ words r
 unfolding words
 words_after_space rest = refl
 
-pub words_after_nothing : (text rest : List ℕ) → length text ≡ 0 → words (text ++ space ∷ rest) ≡ words rest
+pub words_after_nothing : (text rest : List ℕ)
+    → length text ≡ 0
+    → words (text ++ space ∷ rest) ≡ words rest
 words_after_nothing [] rest none = words_after_space rest
 words_after_nothing (octet ∷ text) rest none = absurd (omega arith)
 

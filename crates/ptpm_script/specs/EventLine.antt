@@ -29,7 +29,11 @@ octets_of word = if bytes_eq word dash then Some [] else result_ok (decode_of wo
 -- ---- lines, without their verb
 
 -- what is made of a value, if it is there
-abbrev pub given : {A : Type 0} → Option A → EventError → (A → Result Event EventError) → Result Event EventError
+abbrev pub given : {A : Type 0}
+    → Option A
+    → EventError
+    → (A → Result Event EventError)
+    → Result Event EventError
 given None e make = Err e
 given (Some a) e make = make a
 

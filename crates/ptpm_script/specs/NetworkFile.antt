@@ -174,7 +174,12 @@ clock_start identity domain ms = record {
 abbrev pub name_at : List ℕ → Members → List ℕ
 name_at key ms = unwrap_or (text_at key ms) []
 
-abbrev pub clock_with : Members → Option ClockIdentity → Option ℕ → Option ℕ → Option (List PortEntry) → Option ClockEntryValue
+abbrev pub clock_with : Members
+    → Option ClockIdentity
+    → Option ℕ
+    → Option ℕ
+    → Option (List PortEntry)
+    → Option ClockEntryValue
 clock_with ms (Some identity) (Some domain) (Some count) (Some ports) =
     Some (record { name = name_at (codes "name") ms; start = clock_start identity domain ms; count = count; ports = ports })
 clock_with ms _ _ _ _ = None
@@ -208,7 +213,13 @@ abbrev pub rights_of : Option Data → Option (Option Rights)
 rights_of None = Some None
 rights_of (Some d) = option_map (λ set. Some (record { 0 = set })) (option_and_then (rights_from 0) (as_array d))
 
-abbrev pub session_with : Members → Option PortIdentity → Option ℕ → Option ℕ → Option ℕ → Option (Option Rights) → Option SessionEntry
+abbrev pub session_with : Members
+    → Option PortIdentity
+    → Option ℕ
+    → Option ℕ
+    → Option ℕ
+    → Option (Option Rights)
+    → Option SessionEntry
 session_with ms (Some identity) (Some first) (Some hops) (Some attempts) (Some rights) = Some (record {
   name = name_at (codes "name") ms;
   identity = identity;
@@ -255,7 +266,11 @@ pub record FileValue : Type 0 where
 abbrev pub if_rights : ℕ → FileValue → Option FileValue
 if_rights version f = if give_rights version f.sessions then Some f else None
 
-abbrev pub file_with : Option ℕ → Option (List ClockEntryValue) → Option (List SessionEntry) → Option (List (List EndEntry)) → Option FileValue
+abbrev pub file_with : Option ℕ
+    → Option (List ClockEntryValue)
+    → Option (List SessionEntry)
+    → Option (List (List EndEntry))
+    → Option FileValue
 file_with (Some version) (Some clocks) (Some sessions) (Some links) =
     if_rights version (record { clocks = clocks; sessions = sessions; links = links })
 file_with _ _ _ _ = None

@@ -103,7 +103,10 @@ has_own_ports c = list_all (λ p. has_port c p.number) c.ports
 
 -- ---- answers, of which the first fault is kept
 
-abbrev pub and_then : {A B : Type 0} → Result A NetError → (A → Result B NetError) → Result B NetError
+abbrev pub and_then : {A B : Type 0}
+    → Result A NetError
+    → (A → Result B NetError)
+    → Result B NetError
 and_then (Ok a) next = next a
 and_then (Err e) next = Err e
 
@@ -137,7 +140,10 @@ end_by_name clocks sessions name (Some port) =
 unfoldable pub end_by_place : List ClockEntryValue → List SessionEntry → EndEntry → Option End
 end_by_place clocks sessions e = end_by_name clocks sessions e.name e.port
 
-unfoldable pub link_of : List ClockEntryValue → List SessionEntry → List EndEntry → Result (List End) NetError
+unfoldable pub link_of : List ClockEntryValue
+    → List SessionEntry
+    → List EndEntry
+    → Result (List End) NetError
 link_of clocks sessions link = map_all (λ e. given (end_by_place clocks sessions e) NoSuchName) link
 
 -- ---- sessions by places

@@ -118,7 +118,10 @@ fn port_named(word: &str) -> Option<Option<u16>>
 #[tactic(auto, unfolding(crate::specs::EventLine::octets_of))]
 fn octets_of(alloc: Global, word: &str) -> Result<Octets, EventError>
     ensures octets { IfOk result (λ octets. octets_of word.now ≡ Some octets) }
-    ensures refused { IfErr result (λ e. (e ≡ EventError.OutOfMemory) ⊎ ((e ≡ EventError.BadHex) × (octets_of word.now ≡ None))) }
+    ensures refused { IfErr result
+        (λ e.
+        (e ≡ EventError.OutOfMemory)
+        ⊎ ((e ≡ EventError.BadHex) × (octets_of word.now ≡ None))) }
 {
     if word == NONE {
         return Ok(Octets::copy_of(alloc, &[])?);

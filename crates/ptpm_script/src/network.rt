@@ -122,7 +122,8 @@ impl Parts {
     /// The parts of the network of a TOML document.
     #[tactic(auto, unfolding(crate::specs::NetworkText::network_of))]
     fn from_toml(alloc: Global, text: &str) -> Result<Parts, NetError>
-        ensures { IsAnswerAs (λ p. value_of p.clocks.items p.sessions.items p.links.items) result (network_of text.now) }
+        ensures { IsAnswerAs (λ p. value_of p.clocks.items p.sessions.items p.links.items) result
+            (network_of text.now) }
     {
         if text.len() > TEXT_OCTETS {
             return Err(NetError::TooLong);
@@ -139,7 +140,8 @@ impl Parts {
     /// The parts of the network of a file.
     #[tactic(auto, unfolding(crate::specs::NetworkText::network_of_file))]
     fn of_file(alloc: Global, file: NetworkFile) -> Result<Parts, NetError>
-        ensures { IsAnswerAs (λ p. value_of p.clocks.items p.sessions.items p.links.items) result (network_of_file file) }
+        ensures { IsAnswerAs (λ p. value_of p.clocks.items p.sessions.items p.links.items) result
+            (network_of_file file) }
     {
         if has_too_many(&file) {
             return Err(NetError::TooMany);
@@ -157,7 +159,8 @@ impl Parts {
     #[tactic(auto, unfolding(crate::specs::NetworkText::placed))]
     fn placed(alloc: Global, file: NetworkFile) -> Result<Parts, NetError>
         requires { has_too_many file ≡ false }
-        ensures { IsAnswerAs (λ p. value_of p.clocks.items p.sessions.items p.links.items) result (placed file) }
+        ensures { IsAnswerAs (λ p. value_of p.clocks.items p.sessions.items p.links.items) result
+            (placed file) }
     {
         let NetworkFile {
             clocks,
@@ -230,7 +233,8 @@ fn place_links(
 ) -> Result<Vec<NetworkLink>, NetError>
     requires clocks { length clocks.now ≤ 64 }
     requires sessions { length sessions.now ≤ 256 }
-    ensures { IsAnswerAs (λ v. map link_value v.items) result (map_all (link_of clocks.now sessions.now) entries.now) }
+    ensures { IsAnswerAs (λ v. map link_value v.items) result
+        (map_all (link_of clocks.now sessions.now) entries.now) }
 {
     let mut links = Vec::new(alloc);
     for entry in entries {

@@ -141,7 +141,8 @@ pub(crate) fn is_shaped(table: &Table, rules: &[Rule]) -> bool
 /// The table that a value is, if it is one that keeps to the rules.
 #[tactic(auto, unfolding(crate::specs::Document::table_of))]
 pub(crate) fn shaped_table<'a>(value: &'a Value, rules: &[Rule]) -> Option<&'a Table>
-    ensures { option_map (λ t. table_view t.now) result ≡ table_of (map key_rule rules.now) (view value.now) }
+    ensures { option_map (λ t. table_view t.now) result
+        ≡ table_of (map key_rule rules.now) (view value.now) }
 {
     match value.as_table() {
         Some(table) if is_shaped(table, rules) => Some(table),

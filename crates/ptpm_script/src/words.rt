@@ -5,7 +5,8 @@ ghost use Rattle.ptpm_script.specs.Words.{words, one_word, two_words, three_word
 
 /// The first word of a text and what follows it; `None` where it has no words.
 pub(crate) fn split_word<'a>(text: &'a str) -> Option<(&'a str, &'a str)>
-    ensures { MatchOption result (words text.now ≡ []) (λ r. words text.now ≡ r.0.now ∷ words r.1.now) }
+    ensures { MatchOption result (words text.now ≡ [])
+        (λ r. words text.now ≡ r.0.now ∷ words r.1.now) }
 {
     let mut rest = text;
     while let Some((piece, after)) = rest.split_once(' ') {
@@ -53,7 +54,8 @@ pub(crate) fn three_words(text: &str) -> Option<(&str, &str, &str)>
 /// The first two words of a text that has two or more, and what follows them.
 pub(crate) fn split_two_words(text: &str) -> Option<(&str, &str, &str)>
     ensures words { option_map (λ w. (w.0.now, w.1.now)) result ≡ first_words (words text.now) }
-    ensures rest { MatchOption result (first_words (words text.now) ≡ None) (λ w. words w.2.now ≡ drop 2 (words text.now)) }
+    ensures rest { MatchOption result (first_words (words text.now) ≡ None)
+        (λ w. words w.2.now ≡ drop 2 (words text.now)) }
 {
     let (first, rest) = split_word(text)?;
     let (second, rest) = split_word(rest)?;

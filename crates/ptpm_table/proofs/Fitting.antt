@@ -13,16 +13,22 @@ use Rattle.ptpm_table.specs.Rendering.{IsEvenOutcome, IsSendable}
 pub fitting_action : (q : RequestValue) (r : ReplyValue) → FitsRequest q r → IsReplyAction r.action
 fitting_action q r fits = ap is_reply fits.action ∙ reply_action-is_reply q.action
 
-outcome_even : (action : Action) (most : ℕ) (o : Outcome) → FitsOutcome action most o → IsEvenOutcome o
+outcome_even : (action : Action) (most : ℕ) (o : Outcome)
+    → FitsOutcome action most o
+    → IsEvenOutcome o
 outcome_even action most (reply.Value octets) fits = fits.1
 outcome_even action most reply.Done fits = tt
 outcome_even action most (reply.Refused error) fits = tt
 
-answer_even : (of_port : Bool) (action : Action) (a : Answer) → FitsAnswer of_port action a → IsEvenOutcome a.outcome
+answer_even : (of_port : Bool) (action : Action) (a : Answer)
+    → FitsAnswer of_port action a
+    → IsEvenOutcome a.outcome
 answer_even false action a fits = outcome_even action 130 a.outcome fits.1
 answer_even true action a fits = outcome_even action 26 a.outcome fits.1
 
-pub fitting_even : (q : RequestValue) (r : ReplyValue) → FitsRequest q r → All (λ a. IsEvenOutcome a.outcome) r.answers
+pub fitting_even : (q : RequestValue) (r : ReplyValue)
+    → FitsRequest q r
+    → All (λ a. IsEvenOutcome a.outcome) r.answers
 fitting_even q r fits = λ k d inside. answer_even (is_of_port q.id) q.action _ (fits.answers k d inside)
 
 few : (of_port : Bool) (count : ℕ) → FitsCount of_port count → count ≤ 8

@@ -34,9 +34,12 @@ pub record IsCopyOf (e : Envelope) (heard : Heard) : Type 0 where
 
 -- ---- written over
 
-renewed_of_clock : (e : Envelope) (heard : Heard) (ingress : ℕ) (o : Outcome) → IsCopyOf e heard → ingress < 2 ^ 16
+renewed_of_clock : (e : Envelope) (heard : Heard) (ingress : ℕ) (o : Outcome)
+    → IsCopyOf e heard
+    → ingress < 2 ^ 16
     → Fits (kept_message e (record { port = None; outcome = o }))
-    → renewed heard.domain (Some ingress) (hops_passed heard) (canonical (kept_message e (record { port = None; outcome = o })))
+    → renewed heard.domain (Some ingress) (hops_passed heard)
+    (canonical (kept_message e (record { port = None; outcome = o })))
     ≡ canonical (reply_message e.clock heard e.action e.id ingress (record { port = None; outcome = o }))
 renewed_of_clock e heard ingress o copy low fits =
     set_all (kept_message e (record { port = None; outcome = o })) heard.domain ingress (hops_passed heard) (hops_passed heard) fits low
@@ -53,7 +56,8 @@ renewed_of_clock e heard ingress o copy low fits =
 
 renewed_of_port : (e : Envelope) (heard : Heard) (ingress port : ℕ) (o : Outcome) → IsCopyOf e heard
     → Fits (kept_message e (record { port = Some port; outcome = o }))
-    → renewed heard.domain None (hops_passed heard) (canonical (kept_message e (record { port = Some port; outcome = o })))
+    → renewed heard.domain None (hops_passed heard)
+    (canonical (kept_message e (record { port = Some port; outcome = o })))
     ≡ canonical (reply_message e.clock heard e.action e.id ingress (record { port = Some port; outcome = o }))
 renewed_of_port e heard ingress port o copy fits =
     let h : ℕ = hops_passed heard in
@@ -76,7 +80,9 @@ renewed_of_port e heard ingress port o copy fits =
       body = answer_body e.action e.id o;
     }))
 
-renewed_one : (of_port : Bool) (e : Envelope) (heard : Heard) (ingress : ℕ) (m : List ℕ) → IsCopyOf e heard → ingress < 2 ^ 16
+renewed_one : (of_port : Bool) (e : Envelope) (heard : Heard) (ingress : ℕ) (m : List ℕ)
+    → IsCopyOf e heard
+    → ingress < 2 ^ 16
     → IsKept e of_port m
     → renewed heard.domain (port_for of_port ingress) (hops_passed heard) m
     ≡ canonical (reply_message e.clock heard e.action e.id ingress (answer_in of_port m))
@@ -88,7 +94,10 @@ renewed_one true e heard ingress m copy low kept =
     ∙ renewed_of_port e heard ingress (source_port (message_of m)) (outcome_in (message_of m)) copy kept.fits
 
 -- the kept messages written over are the reply, rendered for the copy
-pub renewed_reply : (of_port : Bool) (e : Envelope) (heard : Heard) (ingress : ℕ) (ms : List (List ℕ)) → IsCopyOf e heard → ingress < 2 ^ 16
+pub renewed_reply : (of_port : Bool) (e : Envelope) (heard : Heard) (ingress : ℕ)
+    (ms : List (List ℕ))
+    → IsCopyOf e heard
+    → ingress < 2 ^ 16
     → EachKept e of_port ms
     → map (λ m. (ingress, renewed heard.domain (port_for of_port ingress) (hops_passed heard) m)) ms
     ≡ rendered e.clock heard (record { action = e.action; id = e.id; answers = map (answer_in of_port) ms }) ingress
@@ -108,7 +117,9 @@ error_back errors.NotSetable = refl
 error_back errors.NotSupported = refl
 error_back errors.GeneralError = refl
 
-outcome_back : (request : Action) (id most : ℕ) (o : Outcome) → IsRequestAction request → FitsOutcome request most o
+outcome_back : (request : Action) (id most : ℕ) (o : Outcome)
+    → IsRequestAction request
+    → FitsOutcome request most o
     → outcome_of_body (answer_body (reply_action request) id o) ≡ o
 outcome_back actions.Get id most (reply.Value octets) asks fits = refl
 outcome_back actions.Set id most (reply.Value octets) asks fits = refl
@@ -129,7 +140,9 @@ message_back v valid fits =
     spells-message_of v (canonical v) (subst (λ (m : List ℕ). Spells v m) (sym alone) (canonical_spells v valid fits))
 
 -- the answer of a kept message
-pub answer_back : (of_port : Bool) (e : Envelope) (request : Action) (a : Answer) → e.action ≡ reply_action request → IsRequestAction request
+pub answer_back : (of_port : Bool) (e : Envelope) (request : Action) (a : Answer)
+    → e.action ≡ reply_action request
+    → IsRequestAction request
     → FitsAnswer of_port request a → IsValid (kept_message e a) → Fits (kept_message e a)
     → answer_in of_port (canonical (kept_message e a)) ≡ a
 answer_back false e request a action asks suits valid fits =
@@ -146,7 +159,9 @@ answer_back true e request a action asks suits valid fits =
     (λ i. record { port = port i; outcome = outcome i })
 
 -- a message that was encoded is kept
-pub kept_back : (of_port : Bool) (e : Envelope) (request : Action) (a : Answer) → e.action ≡ reply_action request → IsRequestAction request
+pub kept_back : (of_port : Bool) (e : Envelope) (request : Action) (a : Answer)
+    → e.action ≡ reply_action request
+    → IsRequestAction request
     → FitsAnswer of_port request a → IsValid (kept_message e a) → Fits (kept_message e a)
     → IsKept e of_port (canonical (kept_message e a))
 kept_back of_port e request a action asks suits valid fits =
@@ -159,7 +174,10 @@ kept_back of_port e request a action asks suits valid fits =
 -- ---- cutting
 
 -- one more message
-pub sizes_more : (sizes : List ℕ) (n k : ℕ) → AreSizes sizes n → 54 ≤ k → AreSizes (sizes ++ k ∷ []) (n + k)
+pub sizes_more : (sizes : List ℕ) (n k : ℕ)
+    → AreSizes sizes n
+    → 54 ≤ k
+    → AreSizes (sizes ++ k ∷ []) (n + k)
 sizes_more [] n k cut least = (least, omega arith, omega (arith, cut))
 sizes_more (s ∷ ss) n k cut least =
     let room : s ≤ n = cut.1 in
@@ -177,12 +195,16 @@ pieces_more (s ∷ ss) octets m cut =
     let behind : drop s (octets ++ m) ≡ drop s octets ++ m = drop-append-le s octets m room in
     (λ i. first i ∷ (ap (pieces (ss ++ length m ∷ [])) behind ∙ pieces_more ss (drop s octets) m rest) i)
 
-each_more : (e : Envelope) (of_port : Bool) (ms : List (List ℕ)) (m : List ℕ) → EachKept e of_port ms → IsKept e of_port m
+each_more : (e : Envelope) (of_port : Bool) (ms : List (List ℕ)) (m : List ℕ)
+    → EachKept e of_port ms
+    → IsKept e of_port m
     → EachKept e of_port (ms ++ m ∷ [])
 each_more e of_port [] m each kept = (kept, tt)
 each_more e of_port (x ∷ ms) m each kept = (each.0, each_more e of_port ms m each.1 kept)
 
-pub kept_more : (e : Envelope) (of_port : Bool) (sizes octets m : List ℕ) → IsKeptReply e of_port sizes octets → IsKept e of_port m
+pub kept_more : (e : Envelope) (of_port : Bool) (sizes octets m : List ℕ)
+    → IsKeptReply e of_port sizes octets
+    → IsKept e of_port m
     → 54 ≤ length m → IsKeptReply e of_port (sizes ++ length m ∷ []) (octets ++ m)
 kept_more e of_port sizes octets m kept one least = record {
   cut = subst (AreSizes (sizes ++ length m ∷ [])) (sym (length-append octets m)) (sizes_more sizes (length octets) (length m) kept.cut least);
@@ -191,13 +213,17 @@ kept_more e of_port sizes octets m kept one least = record {
 
 -- ---- sizes
 
-pub canonical_length : (v : Message) → Fits v → length (canonical v) ≡ 48 + length (tlv_octets v.body)
+pub canonical_length : (v : Message)
+    → Fits v
+    → length (canonical v) ≡ 48 + length (tlv_octets v.body)
 unfolding port_identity_octets
 canonical_length v fits =
     by_clocks (λ w. length (canonical w) ≡ 48 + length (tlv_octets w.body)) v fits
     (λ a b c d e f g h a' b' c' d' e' f' g' h'. omega arith)
 
-body_length : (request action : Action) (id most : ℕ) (o : Outcome) → 6 ≤ most → FitsOutcome request most o
+body_length : (request action : Action) (id most : ℕ) (o : Outcome)
+    → 6 ≤ most
+    → FitsOutcome request most o
     → length (tlv_octets (answer_body action id o)) ≤ 6 + most
 unfolding tlv_octets text_octets
 body_length request action id most (reply.Value octets) least fits = let small : length octets ≤ most = fits.2 in omega arith
@@ -209,28 +235,39 @@ abbrev pub most_octets : Bool → ℕ
 most_octets false = 184
 most_octets true = 80
 
-tlv_small : (of_port : Bool) (request action : Action) (id : ℕ) (a : Answer) → FitsAnswer of_port request a
+tlv_small : (of_port : Bool) (request action : Action) (id : ℕ) (a : Answer)
+    → FitsAnswer of_port request a
     → 48 + length (tlv_octets (answer_body action id a.outcome)) ≤ most_octets of_port
 tlv_small false request action id a suits = omega (arith, body_length request action id 130 a.outcome (omega arith) suits.1)
 tlv_small true request action id a suits = omega (arith, body_length request action id 26 a.outcome (omega arith) suits.1)
 
-pub kept_length : (of_port : Bool) (e : Envelope) (request : Action) (a : Answer) → FitsAnswer of_port request a → Fits (kept_message e a)
+pub kept_length : (of_port : Bool) (e : Envelope) (request : Action) (a : Answer)
+    → FitsAnswer of_port request a
+    → Fits (kept_message e a)
     → length (canonical (kept_message e a)) ≤ most_octets of_port
 kept_length false e request a suits fits =
     omega (arith, canonical_length (kept_message e a) fits, body_length request e.action e.id 130 a.outcome (omega arith) suits.1)
 kept_length true e request a suits fits =
     omega (arith, canonical_length (kept_message e a) fits, body_length request e.action e.id 26 a.outcome (omega arith) suits.1)
 
-pub kept_least : (e : Envelope) (a : Answer) → IsValid (kept_message e a) → Fits (kept_message e a) → 54 ≤ length (canonical (kept_message e a))
+pub kept_least : (e : Envelope) (a : Answer)
+    → IsValid (kept_message e a)
+    → Fits (kept_message e a)
+    → 54 ≤ length (canonical (kept_message e a))
 kept_least e a valid fits = (canonical_size (kept_message e a) valid fits).at_least
 
 -- there is room for one more
-pub has_room : (of_port : Bool) (count done filled size : ℕ) → FitsCount of_port count → done < count → filled ≤ done * most_octets of_port
+pub has_room : (of_port : Bool) (count done filled size : ℕ)
+    → FitsCount of_port count
+    → done < count
+    → filled ≤ done * most_octets of_port
     → size ≤ most_octets of_port → filled + size ≤ 640
 has_room false count done filled size fits more full small = omega (arith, fits)
 has_room true count done filled size fits more full small = let few : count ≤ 8 = fits.1 in omega arith
 
-pub filled_more : (of_port : Bool) (done filled size : ℕ) → filled ≤ done * most_octets of_port → size ≤ most_octets of_port
+pub filled_more : (of_port : Bool) (done filled size : ℕ)
+    → filled ≤ done * most_octets of_port
+    → size ≤ most_octets of_port
     → filled + size ≤ (done + 1) * most_octets of_port
 filled_more false done filled size full small = omega arith
 filled_more true done filled size full small = omega arith
@@ -246,8 +283,14 @@ pub record IsEncoded (of_port : Bool) (e : Envelope) (a : Answer) (v : Message) 
   pub small : length (canonical v) ≤ most_octets of_port
   pub least : 54 ≤ length (canonical v)
 
-pub encoded : (of_port : Bool) (e : Envelope) (request : Action) (a : Answer) (v : Message) → kept_message e a ≡ v → e.action ≡ reply_action request
-    → IsRequestAction request → FitsAnswer of_port request a → IsValid v → Fits v → IsEncoded of_port e a v
+pub encoded : (of_port : Bool) (e : Envelope) (request : Action) (a : Answer) (v : Message)
+    → kept_message e a ≡ v
+    → e.action ≡ reply_action request
+    → IsRequestAction request
+    → FitsAnswer of_port request a
+    → IsValid v
+    → Fits v
+    → IsEncoded of_port e a v
 encoded of_port e request a v message action asks suits =
     subst (λ (w : Message). IsValid w → Fits w → IsEncoded of_port e a w) message (λ valid fits. record {
       kept = kept_back of_port e request a action asks suits valid fits;
@@ -256,8 +299,11 @@ encoded of_port e request a v message action asks suits =
       least = kept_least e a valid fits;
     })
 
-pub answers_more : (of_port : Bool) (ms : List (List ℕ)) (m : List ℕ) (xs : List PortAnswer) (i : ℕ) (d : PortAnswer) → i < length xs
-    → map (answer_in of_port) ms ≡ map answer_of (take i xs) → answer_in of_port m ≡ answer_of (get_or xs i d)
+pub answers_more : (of_port : Bool) (ms : List (List ℕ)) (m : List ℕ) (xs : List PortAnswer) (i : ℕ)
+    (d : PortAnswer)
+    → i < length xs
+    → map (answer_in of_port) ms ≡ map answer_of (take i xs)
+    → answer_in of_port m ≡ answer_of (get_or xs i d)
     → map (answer_in of_port) (ms ++ m ∷ []) ≡ map answer_of (take (i + 1) xs)
 answers_more of_port ms m xs i d inside before one =
     map-append (answer_in of_port) ms (m ∷ [])
@@ -265,23 +311,36 @@ answers_more of_port ms m xs i d inside before one =
     ∙ sym (map-append answer_of (take i xs) (get_or xs i d ∷ []))
     ∙ ap (map answer_of) (sym (take_more xs i d inside))
 
-suit_at : (of_port : Bool) (request : Action) (answers : List PortAnswer) (i : ℕ) (item : PortAnswer) → item ≡ get_or answers i item
-    → i < length answers → All (λ a. FitsAnswer of_port request (answer_of a)) answers → FitsAnswer of_port request (answer_of item)
+suit_at : (of_port : Bool) (request : Action) (answers : List PortAnswer) (i : ℕ)
+    (item : PortAnswer)
+    → item ≡ get_or answers i item
+    → i < length answers
+    → All (λ a. FitsAnswer of_port request (answer_of a)) answers
+    → FitsAnswer of_port request (answer_of item)
 suit_at of_port request answers i item is inside suit =
     subst (λ (x : PortAnswer). FitsAnswer of_port request (answer_of x)) (sym is) (suit i item inside)
 
 -- the message of an answer has room
-pub made_small : (of_port : Bool) (e : Envelope) (request action : Action) (answers : List PortAnswer) (i : ℕ) (item : PortAnswer) (v : Message)
-    → item ≡ get_or answers i item → i < length answers → All (λ a. FitsAnswer of_port request (answer_of a)) answers
-    → v ≡ reply_message e.clock (first_copy e) action e.id 0 (answer_of item) → 48 + length (tlv_octets v.body) ≤ most_octets of_port
+pub made_small : (of_port : Bool) (e : Envelope) (request action : Action)
+    (answers : List PortAnswer) (i : ℕ) (item : PortAnswer) (v : Message)
+    → item ≡ get_or answers i item
+    → i < length answers
+    → All (λ a. FitsAnswer of_port request (answer_of a)) answers
+    → v ≡ reply_message e.clock (first_copy e) action e.id 0 (answer_of item)
+    → 48 + length (tlv_octets v.body) ≤ most_octets of_port
 made_small of_port e request action answers i item v is inside suit message =
     subst (λ (w : Message). 48 + length (tlv_octets w.body) ≤ most_octets of_port) (sym message)
     (tlv_small of_port request action e.id (answer_of item) (suit_at of_port request answers i item is inside suit))
 
 -- the message of an answer, as it is encoded
-pub made : (of_port : Bool) (e : Envelope) (request action : Action) (answers : List PortAnswer) (i : ℕ) (item : PortAnswer) (v : Message)
-    → item ≡ get_or answers i item → i < length answers → All (λ a. FitsAnswer of_port request (answer_of a)) answers
-    → v ≡ reply_message e.clock (first_copy e) action e.id 0 (answer_of item) → action ≡ reply_action request → e.action ≡ reply_action request
+pub made : (of_port : Bool) (e : Envelope) (request action : Action) (answers : List PortAnswer)
+    (i : ℕ) (item : PortAnswer) (v : Message)
+    → item ≡ get_or answers i item
+    → i < length answers
+    → All (λ a. FitsAnswer of_port request (answer_of a)) answers
+    → v ≡ reply_message e.clock (first_copy e) action e.id 0 (answer_of item)
+    → action ≡ reply_action request
+    → e.action ≡ reply_action request
     → IsRequestAction request → IsValid v → Fits v → IsEncoded of_port e (answer_of item) v
 made of_port e request action answers i item v is inside suit message chosen own asks valid fits =
     let suits = suit_at of_port request answers i item is inside suit in
@@ -296,9 +355,14 @@ pub record IsFilled (of_port : Bool) (e : Envelope) (answers : List PortAnswer) 
   pub count : length sizes ≡ i
   pub room : length octets ≤ i * most_octets of_port
 
-filled_next : (of_port : Bool) (e : Envelope) (answers : List PortAnswer) (sizes octets : List ℕ) (i : ℕ) (item : PortAnswer) (v : Message)
-    → IsFilled of_port e answers sizes octets i → item ≡ get_or answers i item → i < length answers → IsEncoded of_port e (answer_of item) v
-    → IsFilled of_port e answers (sizes ++ length (canonical v) ∷ []) (octets ++ canonical v) (i + 1)
+filled_next : (of_port : Bool) (e : Envelope) (answers : List PortAnswer) (sizes octets : List ℕ)
+    (i : ℕ) (item : PortAnswer) (v : Message)
+    → IsFilled of_port e answers sizes octets i
+    → item ≡ get_or answers i item
+    → i < length answers
+    → IsEncoded of_port e (answer_of item) v
+    → IsFilled of_port e answers (sizes ++ length (canonical v) ∷ []) (octets ++ canonical v)
+    (i + 1)
 filled_next of_port e answers sizes octets i item v filled is inside made = record {
   kept = kept_more e of_port sizes octets (canonical v) filled.kept made.kept made.least;
   answers_are = ap (map (answer_in of_port)) (pieces_more sizes octets (canonical v) filled.kept.cut)
@@ -308,8 +372,12 @@ filled_next of_port e answers sizes octets i item v filled is inside made = reco
       (filled_more of_port i (length octets) (length (canonical v)) filled.room made.small);
 }
 
-pub filled_after : (of_port : Bool) (e : Envelope) (answers : List PortAnswer) (sizes octets sizes' octets' : List ℕ) (i : ℕ) (item : PortAnswer) (v : Message)
-    → IsFilled of_port e answers sizes octets i → item ≡ get_or answers i item → i < length answers → IsEncoded of_port e (answer_of item) v
+pub filled_after : (of_port : Bool) (e : Envelope) (answers : List PortAnswer)
+    (sizes octets sizes' octets' : List ℕ) (i : ℕ) (item : PortAnswer) (v : Message)
+    → IsFilled of_port e answers sizes octets i
+    → item ≡ get_or answers i item
+    → i < length answers
+    → IsEncoded of_port e (answer_of item) v
     → sizes' ≡ sizes ++ length (canonical v) ∷ [] → octets' ≡ octets ++ canonical v
     → IsFilled of_port e answers sizes' octets' (i + 1)
 filled_after of_port e answers sizes octets sizes' octets' i item v filled is inside made s o =
@@ -317,9 +385,12 @@ filled_after of_port e answers sizes octets sizes' octets' i item v filled is in
     (filled_next of_port e answers sizes octets i item v filled is inside made)
 
 -- what is kept of an only answer
-pub filled_one : (of_port : Bool) (e : Envelope) (answers : List PortAnswer) (sizes octets : List ℕ) (item : PortAnswer) (v : Message)
+pub filled_one : (of_port : Bool) (e : Envelope) (answers : List PortAnswer) (sizes octets : List ℕ)
+    (item : PortAnswer) (v : Message)
     → item ≡ get_or answers 0 item → 0 < length answers → IsEncoded of_port e (answer_of item) v
-    → sizes ≡ length (canonical v) ∷ [] → octets ≡ canonical v → IsFilled of_port e answers sizes octets 1
+    → sizes ≡ length (canonical v) ∷ []
+    → octets ≡ canonical v
+    → IsFilled of_port e answers sizes octets 1
 filled_one of_port e answers sizes octets item v is inside made s o =
     filled_after of_port e answers [] [] sizes octets 0 item v
     (record { kept = record { cut = refl; each = tt }; answers_are = refl; count = refl; room = omega arith }) is inside made s o
@@ -330,13 +401,17 @@ pub record SuitsReply (of_port : Bool) (request : Action) (answers : List PortAn
   pub count : FitsCount of_port (length answers)
   pub suits : All (λ a. FitsAnswer of_port request (answer_of a)) answers
 
-port_told : (of_port : Bool) (request : Action) (answers : List PortAnswer) → SuitsReply of_port request answers → of_port ≡ has_port answers
+port_told : (of_port : Bool) (request : Action) (answers : List PortAnswer)
+    → SuitsReply of_port request answers
+    → of_port ≡ has_port answers
 port_told false request [] s = refl
 port_told true request [] s = let some : 1 ≤ 0 = s.count.0 in absurd (omega arith)
 port_told false request (a ∷ rest) s = ap is_some (sym (s.suits 0 a (omega arith)).0)
 port_told true request (a ∷ rest) s = ap is_some (sym (s.suits 0 a (omega arith)).0.1)
 
-pub fitting_slots : (q : RequestValue) (r : ReplyValue) (answers : List PortAnswer) → FitsRequest q r → map answer_of answers ≡ r.answers
+pub fitting_slots : (q : RequestValue) (r : ReplyValue) (answers : List PortAnswer)
+    → FitsRequest q r
+    → map answer_of answers ≡ r.answers
     → SuitsReply (has_port answers) q.action answers
 fitting_slots q r answers fits are =
     let s : SuitsReply (is_of_port q.id) q.action answers = record {

@@ -8,7 +8,8 @@ use Rattle.ptpm_codec.specs.declared.identity.PortIdentity.{PortIdentity}
 use Rattle.ptpm_table.specs.Entries.{Entry}
 use Rattle.ptpm_table.proofs.Identities.{identities_total, exact_identities, tied_identities, same_identity-comm}
 
-find_entry : (es : List (PortIdentity × Entry)) (q : PortIdentity) → find identity_cmp q es ≡ lookup (same_identity q) es
+find_entry : (es : List (PortIdentity × Entry)) (q : PortIdentity)
+    → find identity_cmp q es ≡ lookup (same_identity q) es
 find_entry [] q = refl
 find_entry (e ∷ es) q =
     ap (λ b. cond b (Some e.1) (find identity_cmp q es)) (tied_identities q e.0)

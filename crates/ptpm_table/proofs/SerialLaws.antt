@@ -7,13 +7,20 @@ use Rattle.ptpm_table.specs.Serial.{serial_of, order_of, class_of, ahead, InWind
 ahead_of_later : (i j : ℕ) → i ≤ j → j ≤ i + 32767 → ahead (i % 65536) (j % 65536) ≡ j - i
 ahead_of_later i j below near = omega arith
 
-ahead_of_earlier : (i j : ℕ) → j < i → i ≤ j + 32768 → ahead (i % 65536) (j % 65536) ≡ 65536 - (i - j)
+ahead_of_earlier : (i j : ℕ)
+    → j < i
+    → i ≤ j + 32768
+    → ahead (i % 65536) (j % 65536) ≡ 65536 - (i - j)
 ahead_of_earlier i j above near = omega arith
 
 class_of_later : (i j d : ℕ) → i ≤ j → j ≤ i + 32767 → d ≡ j - i → class_of d ≡ order_of i j
 class_of_later i j d below near distance = grind (arith, nat_tests)
 
-class_of_earlier : (i j d : ℕ) → j < i → i ≤ j + 32768 → d ≡ 65536 - (i - j) → class_of d ≡ order_of i j
+class_of_earlier : (i j d : ℕ)
+    → j < i
+    → i ≤ j + 32768
+    → d ≡ 65536 - (i - j)
+    → class_of d ≡ order_of i j
 class_of_earlier i j d above near distance = grind (arith, nat_tests)
 
 -- in the window, the class of the numbers is the order of the indexes

@@ -25,7 +25,9 @@ managers slots = identities (configured slots)
 
 -- ---- looking up
 
-none_used : (q : PortIdentity) (ss : List Slot) → is_known q (managers ss) ≡ false → lookup (same_identity q) (used ss) ≡ None
+none_used : (q : PortIdentity) (ss : List Slot)
+    → is_known q (managers ss) ≡ false
+    → lookup (same_identity q) (used ss) ≡ None
 none_used q [] h = refl
 none_used q (s ∷ ss) h =
     let parts = or_parts (same_identity q s.kept.manager) (is_known q (managers ss)) h in
@@ -35,7 +37,9 @@ none_used q (s ∷ ss) h =
     (λ (t : s.taken ≡ false). ap (lookup (same_identity q)) (cond-false s.taken _ _ t) ∙ rest)
     (cases_Bool s.taken)
 
-lookup_used : (q : PortIdentity) (ss : List Slot) → has_twice (managers ss) ≡ false → lookup (same_identity q) (used ss) ≡ entry_in (slot_of q ss)
+lookup_used : (q : PortIdentity) (ss : List Slot)
+    → has_twice (managers ss) ≡ false
+    → lookup (same_identity q) (used ss) ≡ entry_in (slot_of q ss)
 lookup_used q [] h = refl
 lookup_used q (s ∷ ss) h =
     let parts = or_parts (is_known s.kept.manager (managers ss)) (has_twice (managers ss)) h in
@@ -66,7 +70,8 @@ pub get_used : (q : PortIdentity) (ss : List Slot) → has_twice (managers ss) �
 get_used q ss distinct = get_entry (used ss) q ∙ lookup_used q ss distinct
 
 -- a manager is configured where it has a slot
-pub known_slot : (q : PortIdentity) (ss : List Slot) → is_known q (managers ss) ≡ is_some (slot_of q ss)
+pub known_slot : (q : PortIdentity) (ss : List Slot)
+    → is_known q (managers ss) ≡ is_some (slot_of q ss)
 known_slot q [] = refl
 known_slot q (s ∷ ss) = ⊎_elim
     (λ (y : same_identity q s.kept.manager ≡ true). or_left _ _ y ∙ sym (ap is_some (cond-true _ (Some s) (slot_of q ss) y)))
@@ -75,7 +80,8 @@ known_slot q (s ∷ ss) = ⊎_elim
     (cases_Bool (same_identity q s.kept.manager))
 
 -- the rights of a manager are those of its slot
-pub rights_slot : (q : PortIdentity) (ss : List Slot) → rights_in (configured ss) q ≡ rights_at (slot_of q ss)
+pub rights_slot : (q : PortIdentity) (ss : List Slot)
+    → rights_in (configured ss) q ≡ rights_at (slot_of q ss)
 rights_slot q [] = refl
 rights_slot q (s ∷ ss) = ⊎_elim
     (λ (y : same_identity q s.kept.manager ≡ true). cond-true _ _ _ y ∙ sym (ap rights_at (cond-true _ (Some s) (slot_of q ss) y)))
@@ -85,7 +91,9 @@ rights_slot q (s ∷ ss) = ⊎_elim
 
 -- ---- writing
 
-swapped : {X : Type 0} (a b : Bool) (x y z : X) → (a ≡ true → b ≡ true → ⊥) → cond a x (cond b y z) ≡ cond b y (cond a x z)
+swapped : {X : Type 0} (a b : Bool) (x y z : X)
+    → (a ≡ true → b ≡ true → ⊥)
+    → cond a x (cond b y z) ≡ cond b y (cond a x z)
 swapped true true x y z h = absurd (h refl refl)
 swapped true false x y z h = refl
 swapped false true x y z h = refl
@@ -97,7 +105,9 @@ same_twice true false x y z h = absurd (false≢true (sym h))
 same_twice false true x y z h = absurd (false≢true h)
 same_twice false false x y z h = refl
 
-other_manager : (p : PortIdentity) (ss : List Slot) (i : ℕ) (d : Slot) → i < length ss → is_known p (managers ss) ≡ false →
+other_manager : (p : PortIdentity) (ss : List Slot) (i : ℕ) (d : Slot)
+    → i < length ss
+    → is_known p (managers ss) ≡ false →
     same_identity p (get_or ss i d).kept.manager ≡ false
 other_manager p [] i d inside h = absurd (omega arith)
 other_manager p (s ∷ ss) zero d inside h = (or_parts (same_identity p s.kept.manager) (is_known p (managers ss)) h).0
@@ -105,7 +115,9 @@ other_manager p (s ∷ ss) (suc i) d inside h =
     other_manager p ss i d (omega arith) (or_parts (same_identity p s.kept.manager) (is_known p (managers ss)) h).1
 
 -- a new slot in a manager's place
-slot_set : (who q : PortIdentity) (ss : List Slot) (i : ℕ) (d new : Slot) → has_twice (managers ss) ≡ false → i < length ss →
+slot_set : (who q : PortIdentity) (ss : List Slot) (i : ℕ) (d new : Slot)
+    → has_twice (managers ss) ≡ false
+    → i < length ss →
     same_identity who (get_or ss i d).kept.manager ≡ true → new.kept.manager ≡ who →
     slot_of q (set ss i new) ≡ cond (same_identity who q) (Some new) (slot_of q ss)
 slot_set who q [] i d new distinct inside y e = absurd (omega arith)
@@ -126,14 +138,18 @@ slot_set who q (s ∷ ss) (suc i) d new distinct inside y e =
     false≢true (sym other ∙ (ap (λ p. same_identity s.kept.manager p) (who_q ∙ same) ∙ same_identity-refl s.kept.manager)))
 
 -- a slot written for the same manager, with the same rights, leaves the managers as they were
-pub configured_set : (ss : List Slot) (i : ℕ) (d new : Slot) → i < length ss → new.kept.manager ≡ (get_or ss i d).kept.manager →
+pub configured_set : (ss : List Slot) (i : ℕ) (d new : Slot)
+    → i < length ss
+    → new.kept.manager ≡ (get_or ss i d).kept.manager →
     new.rights ≡ (get_or ss i d).rights → configured (set ss i new) ≡ configured ss
 configured_set [] i d new inside e f = absurd (omega arith)
 configured_set (s ∷ ss) zero d new inside e f = (λ j. (e j, f j) ∷ configured ss)
 configured_set (s ∷ ss) (suc i) d new inside e f = ap (λ ms. (s.kept.manager, s.rights) ∷ ms) (configured_set ss i d new (omega arith) e f)
 
 -- the entries after a manager's slot is written
-pub entries_set : (who : PortIdentity) (ss : List Slot) (i : ℕ) (d new : Slot) → has_twice (managers ss) ≡ false → i < length ss →
+pub entries_set : (who : PortIdentity) (ss : List Slot) (i : ℕ) (d new : Slot)
+    → has_twice (managers ss) ≡ false
+    → i < length ss →
     same_identity who (get_or ss i d).kept.manager ≡ true → new.kept.manager ≡ (get_or ss i d).kept.manager → new.rights ≡ (get_or ss i d).rights →
     new.taken ≡ true →
     from_entries {R = identity_cmp} (used (set ss i new)) ≡ insert (from_entries (used ss)) who new.kept.entry
@@ -149,7 +165,10 @@ entries_set who ss i d new distinct inside y e f t =
     (cases_Bool (same_identity who q))))
 
 -- a slot written for the same clock leaves the clocks as they were
-pub clocks_set : (ss : List Slot) (i : ℕ) (d new : Slot) → i < length ss → new.kept.clock ≡ (get_or ss i d).kept.clock → clocks (set ss i new) ≡ clocks ss
+pub clocks_set : (ss : List Slot) (i : ℕ) (d new : Slot)
+    → i < length ss
+    → new.kept.clock ≡ (get_or ss i d).kept.clock
+    → clocks (set ss i new) ≡ clocks ss
 clocks_set [] i d new inside e = absurd (omega arith)
 clocks_set (s ∷ ss) zero d new inside e = ap (λ c. c ∷ clocks ss) e
 clocks_set (s ∷ ss) (suc i) d new inside e = ap (λ cs. s.kept.clock ∷ cs) (clocks_set ss i d new (omega arith) e)
@@ -172,7 +191,10 @@ has_place who ss known none =
     (cases_Bool (nat_lt at (length ss)))
 
 -- every slot is of the clock that all are of
-pub clock_at : (clock : ClockIdentity) (ss : List Slot) (i : ℕ) (d : Slot) → i < length ss → All (λ c. c ≡ clock) (clocks ss) → (get_or ss i d).kept.clock ≡ clock
+pub clock_at : (clock : ClockIdentity) (ss : List Slot) (i : ℕ) (d : Slot)
+    → i < length ss
+    → All (λ c. c ≡ clock) (clocks ss)
+    → (get_or ss i d).kept.clock ≡ clock
 clock_at clock [] i d inside own = absurd (omega arith)
 clock_at clock (s ∷ ss) zero d inside own = own 0 clock (omega arith)
 clock_at clock (s ∷ ss) (suc i) d inside own = clock_at clock ss i d (omega arith) (λ k e within. own (suc k) e (omega arith))
@@ -185,7 +207,10 @@ none_configured [] none = refl
 none_configured (s ∷ ss) none = absurd (cc)
 
 -- one more slot without an entry
-pub used_more : (ss : List Slot) (s : Slot) → s.taken ≡ false → used ss ≡ [] → used (ss ++ s ∷ []) ≡ []
+pub used_more : (ss : List Slot) (s : Slot)
+    → s.taken ≡ false
+    → used ss ≡ []
+    → used (ss ++ s ∷ []) ≡ []
 used_more [] s free none = cond-false s.taken _ _ free
 used_more (x ∷ ss) s free none = ⊎_elim
     (λ (t : x.taken ≡ true).
@@ -195,7 +220,8 @@ used_more (x ∷ ss) s free none = ⊎_elim
     (cases_Bool x.taken)
 
 -- what is known of the slot that was found
-pub found_manager : (q : PortIdentity) (ss : List Slot) → MatchOption (slot_of q ss) ⊤ (λ s. s.kept.manager ≡ q)
+pub found_manager : (q : PortIdentity) (ss : List Slot)
+    → MatchOption (slot_of q ss) ⊤ (λ s. s.kept.manager ≡ q)
 found_manager q [] = tt
 found_manager q (s ∷ ss) = ⊎_elim
     (λ (y : same_identity q s.kept.manager ≡ true).
@@ -204,7 +230,9 @@ found_manager q (s ∷ ss) = ⊎_elim
     subst (λ (o : Option Slot). MatchOption o ⊤ (λ s. s.kept.manager ≡ q)) (sym (cond-false _ (Some s) (slot_of q ss) n)) (found_manager q ss))
     (cases_Bool (same_identity q s.kept.manager))
 
-pub found_clock : (q : PortIdentity) (clock : ClockIdentity) (ss : List Slot) → All (λ c. c ≡ clock) (clocks ss) → MatchOption (slot_of q ss) ⊤ (λ s. s.kept.clock ≡ clock)
+pub found_clock : (q : PortIdentity) (clock : ClockIdentity) (ss : List Slot)
+    → All (λ c. c ≡ clock) (clocks ss)
+    → MatchOption (slot_of q ss) ⊤ (λ s. s.kept.clock ≡ clock)
 found_clock q clock [] own = tt
 found_clock q clock (s ∷ ss) own = ⊎_elim
     (λ (y : same_identity q s.kept.manager ≡ true).
@@ -214,18 +242,27 @@ found_clock q clock (s ∷ ss) own = ⊎_elim
     (found_clock q clock ss (λ k d inside. own (suc k) d (omega arith))))
     (cases_Bool (same_identity q s.kept.manager))
 
-pub copied_Some : (r : Option (Bor Slot)) (P : Slot → Type 0) → MatchOption (option_copied r) ⊤ P → IfSome r (λ s. P s.now)
+pub copied_Some : (r : Option (Bor Slot)) (P : Slot → Type 0)
+    → MatchOption (option_copied r) ⊤ P
+    → IfSome r (λ s. P s.now)
 copied_Some None P h = tt
 copied_Some (Some s) P h = h
 
-pub own_more : (clock : ClockIdentity) (ss : List Slot) (s : Slot) → All (λ c. c ≡ clock) (clocks ss) → s.kept.clock ≡ clock
+pub own_more : (clock : ClockIdentity) (ss : List Slot) (s : Slot)
+    → All (λ c. c ≡ clock) (clocks ss)
+    → s.kept.clock ≡ clock
     → All (λ c. c ≡ clock) (clocks (ss ++ s ∷ []))
 own_more clock ss s own one =
     subst (λ (cs : List ClockIdentity). All (λ c. c ≡ clock) cs) (sym (map-append (λ (t : Slot). t.kept.clock) ss (s ∷ [])))
     (All-push (λ c. c ≡ clock) (clocks ss) s.kept.clock own one)
 
-pub configured_more : (ss ss' : List Slot) (s : Slot) (ms : List (PortIdentity × Rights)) (i : ℕ) (d : PortIdentity × Rights) → ss' ≡ ss ++ s ∷ []
-    → i < length ms → configured ss ≡ take i ms → s.kept.manager ≡ (get_or ms i d).0 → s.rights ≡ (get_or ms i d).1
+pub configured_more : (ss ss' : List Slot) (s : Slot) (ms : List (PortIdentity × Rights)) (i : ℕ)
+    (d : PortIdentity × Rights)
+    → ss' ≡ ss ++ s ∷ []
+    → i < length ms
+    → configured ss ≡ take i ms
+    → s.kept.manager ≡ (get_or ms i d).0
+    → s.rights ≡ (get_or ms i d).1
     → configured ss' ≡ take (i + 1) ms
 configured_more ss ss' s ms i d more inside before manager rights =
     ap configured more

@@ -60,8 +60,8 @@ impl BoundTable {
     /// A table of this clock that has no managers yet.
     #[inline(always)]
     pub fn without_managers(clock: ClockIdentity) -> BoundTable
-        ensures { IsFresh clock []
-            (⟦<BoundTable as ReplyTable>⟧.owner result) (⟦<BoundTable as ReplyTable>⟧.entries result) }
+        ensures { IsFresh clock [] (⟦<BoundTable as ReplyTable>⟧.owner result)
+            (⟦<BoundTable as ReplyTable>⟧.entries result) }
     {
         BoundTable {
             clock,
@@ -75,7 +75,8 @@ impl BoundTable {
         requires few { length managers.now ≤ 16 }
         requires distinct { has_twice (identities managers.now) ≡ false }
         ensures { IsFresh (⟦<BoundTable as ReplyTable>⟧.owner self.old).identity managers.now
-            (⟦<BoundTable as ReplyTable>⟧.owner self.new) (⟦<BoundTable as ReplyTable>⟧.entries self.new) }
+            (⟦<BoundTable as ReplyTable>⟧.owner self.new)
+            (⟦<BoundTable as ReplyTable>⟧.entries self.new) }
     {
         let clock = self.clock;
         assign(&mut self.slots, &clock, managers);
@@ -106,11 +107,15 @@ fn assign(
 /// A manager's slot.
 fn slot_at<'a>(slots: &'a [Slot], who: &PortIdentity) -> Option<&'a Slot>
     requires { has_twice (identities (configured slots.now)) ≡ false }
-    ensures known { is_known who.now (identities (configured slots.now)) ≡ is_some (option_copied result) }
+    ensures known { is_known who.now (identities (configured slots.now))
+        ≡ is_some (option_copied result) }
     ensures rights { rights_in (configured slots.now) who.now ≡ rights_at (option_copied result) }
-    ensures kept { fin.get (fin.from_entries {R = identity_cmp} (used slots.now)) who.now ≡ entry_in (option_copied result) }
+    ensures kept { fin.get (fin.from_entries {R = identity_cmp} (used slots.now)) who.now
+        ≡ entry_in (option_copied result) }
     ensures manager { IfSome result (λ s. s.now.kept.manager ≡ who.now) }
-    ensures own { (clock : ClockIdentity) → All (λ c. c ≡ clock) (clocks slots.now) → IfSome result (λ s. s.now.kept.clock ≡ clock) }
+    ensures own { (clock : ClockIdentity)
+        → All (λ c. c ≡ clock) (clocks slots.now)
+        → IfSome result (λ s. s.now.kept.clock ≡ clock) }
 {
     find_slot(slots, who)
 }
@@ -134,7 +139,8 @@ fn put(slots: &mut [Slot], who: &PortIdentity, number: u16, request: &Request<'_
     requires distinct { has_twice (identities (configured slots.old)) ≡ false }
     requires octets { IsDataField request.now.octets }
     requires fits { FitsRequest request.now reply.now }
-    ensures entries { fin.from_entries {R = identity_cmp} (used slots.new) ≡ fin.insert (fin.from_entries (used slots.old)) who.now
+    ensures entries { fin.from_entries {R = identity_cmp} (used slots.new)
+        ≡ fin.insert (fin.from_entries (used slots.old)) who.now
         (record { number = number; request = request.now; reply = reply.now }) }
     ensures configured { configured slots.new ≡ configured slots.old }
     ensures clocks { clocks slots.new ≡ clocks slots.old }
@@ -162,7 +168,8 @@ fn put_and_send(
     requires octets { IsDataField request.now.octets }
     requires fits { FitsRequest request.now reply.now }
     requires room { length out.old ≤ 7 }
-    ensures entries { fin.from_entries {R = identity_cmp} (used slots.new) ≡ fin.insert (fin.from_entries (used slots.old)) heard.now.source
+    ensures entries { fin.from_entries {R = identity_cmp} (used slots.new)
+        ≡ fin.insert (fin.from_entries (used slots.old)) heard.now.source
         (record { number = heard.now.number; request = request.now; reply = reply.now }) }
     ensures configured { configured slots.new ≡ configured slots.old }
     ensures clocks { clocks slots.new ≡ clocks slots.old }
@@ -228,9 +235,13 @@ impl ReplyTable for BoundTable {
         requires octets { IsDataField request.now.octets }
         requires fits { FitsRequest request.now reply.now }
         ensures never_refused { IsOk result }
-        ensures ok { OnOk result (⟦<BoundTable as ReplyTable>⟧.entries self.new ≡ fin.insert (⟦<BoundTable as ReplyTable>⟧.entries self.old) who.now
+        ensures ok { OnOk result
+            (⟦<BoundTable as ReplyTable>⟧.entries self.new
+            ≡ fin.insert (⟦<BoundTable as ReplyTable>⟧.entries self.old) who.now
             (record { number = number; request = request.now; reply = reply.now })) }
-        ensures err { OnErr result (⟦<BoundTable as ReplyTable>⟧.entries self.new ≡ ⟦<BoundTable as ReplyTable>⟧.entries self.old) }
+        ensures err { OnErr result
+            (⟦<BoundTable as ReplyTable>⟧.entries self.new
+            ≡ ⟦<BoundTable as ReplyTable>⟧.entries self.old) }
         ensures owner { ⟦<BoundTable as ReplyTable>⟧.owner self.new
             ≡ ⟦<BoundTable as ReplyTable>⟧.owner self.old }
     {

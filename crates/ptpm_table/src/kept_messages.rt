@@ -43,8 +43,10 @@ pub(crate) fn resend_each(
 )
     requires cut { AreSizes sizes.now (length messages.now) }
     requires room { length out.old + length sizes.now ≤ 15 }
-    ensures { out.new ≡ out.old
-        ++ map (λ m. (port, renewed renewal.now.domain renewal.now.port renewal.now.hops m)) (pieces sizes.now messages.now) }
+    ensures { out.new
+        ≡ out.old
+        ++ map (λ m. (port, renewed renewal.now.domain renewal.now.port renewal.now.hops m))
+        (pieces sizes.now messages.now) }
 {
     if let [size, sizes @ ..] = sizes {
         let (message, messages) = messages.split_at(*size as usize);
@@ -92,8 +94,10 @@ pub(crate) fn encode_each(
     requires asks { IsRequestAction exchange.now.action }
     requires count { FitsCount of_port (length answers.now) }
     requires suits { All (λ a. FitsAnswer of_port exchange.now.action (answer_of a)) answers.now }
-    ensures kept { IsKeptReply (envelope_of exchange.now) of_port sizes.new.items messages.new.items }
-    ensures answers { map (answer_in of_port) (pieces sizes.new.items messages.new.items) ≡ map answer_of answers.now }
+    ensures kept { IsKeptReply (envelope_of exchange.now) of_port sizes.new.items
+        messages.new.items }
+    ensures answers { map (answer_in of_port) (pieces sizes.new.items messages.new.items)
+        ≡ map answer_of answers.now }
 {
     let action = exchange.action.reply();
     let copy = Heard {

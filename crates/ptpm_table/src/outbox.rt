@@ -90,8 +90,13 @@ impl Outbox {
         requires room { length self.old < 15 }
         requires well_formed { IsWellFormed datagram.now }
         requires hops { 0 < boundary_hops datagram.now }
-        ensures { self.new ≡ self.old
-            ++ (port, slice_set (message_octets datagram.now) 45 (boundary_hops datagram.now - 1)) ∷ [] }
+        ensures { self.new
+            ≡ self.old
+            ++ (
+              port,
+              slice_set (message_octets datagram.now) 45
+                  (boundary_hops datagram.now - 1),
+            ) ∷ [] }
     {
         let place = &mut self.places[self.count];
         place.0 = port;
@@ -104,8 +109,10 @@ impl Outbox {
         requires room { length self.old < 15 }
         requires long { 54 ≤ length message.now }
         requires small { length message.now ≤ MESSAGE_OCTETS }
-        ensures { self.new ≡ self.old
-            ++ (port, renewed renewal.now.domain renewal.now.port renewal.now.hops message.now) ∷ [] }
+        ensures { self.new
+            ≡ self.old
+            ++ (port, renewed renewal.now.domain renewal.now.port renewal.now.hops message.now)
+            ∷ [] }
     {
         let place = &mut self.places[self.count];
         place.0 = port;

@@ -77,8 +77,11 @@ impl PlainTable {
     ) -> Result<PlainTable, TableError>
         ensures fresh { IfOk result (λ t. IsFresh clock managers.now
             (⟦<PlainTable as ReplyTable>⟧.owner t) (⟦<PlainTable as ReplyTable>⟧.entries t)) }
-        ensures refused { (e : TableError) → table_refusal (identities managers.now) ≡ Some e → result ≡ Err e }
-        ensures no_other { IfErr result (λ e. e ≢ TableError.OutOfMemory → table_refusal (identities managers.now) ≡ Some e) }
+        ensures refused { (e : TableError)
+            → table_refusal (identities managers.now) ≡ Some e
+            → result ≡ Err e }
+        ensures no_other { IfErr result
+            (λ e. e ≢ TableError.OutOfMemory → table_refusal (identities managers.now) ≡ Some e) }
     {
         if let Some(error) = refusal(managers) {
             return Err(error);
@@ -95,7 +98,8 @@ impl PlainTable {
     }
 
     fn find(&self, who: &PortIdentity) -> Option<&Kept>
-        ensures { option_copied result ≡ fin.get (fin.from_entries {R = identity_cmp} self.now.kept.entries) who.now }
+        ensures { option_copied result
+            ≡ fin.get (fin.from_entries {R = identity_cmp} self.now.kept.entries) who.now }
     {
         self.kept.get(who)
     }

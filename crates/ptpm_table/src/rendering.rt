@@ -38,8 +38,10 @@ fn render_answers(
     requires action { IsReplyAction action }
     requires even { All (λ a. IsEvenOutcome (outcome_of a.what)) answers.now }
     requires room { length out.old + length answers.now ≤ 15 }
-    ensures { out.new ≡ out.old
-        ++ rendered me.now heard.now (record { action = action; id = id; answers = map answer_of answers.now }) ingress }
+    ensures { out.new
+        ≡ out.old
+        ++ rendered me.now heard.now
+        (record { action = action; id = id; answers = map answer_of answers.now }) ingress }
 {
     for answer in answers {
         let draft = draft_of(me, heard, action, id, answer, ingress);
@@ -58,7 +60,8 @@ pub(crate) fn draft_of<'a>(
 ) -> Draft<'a>
     requires action { IsReplyAction action }
     requires even { IsEvenOutcome (outcome_of answer.now.what) }
-    ensures message { result ≡ reply_message me.now heard.now action id ingress (answer_of answer.now) }
+    ensures message { result
+        ≡ reply_message me.now heard.now action id ingress (answer_of answer.now) }
     ensures valid { IsValid result }
 {
     let hops = heard.starting_hops.saturating_sub(heard.hops);

@@ -16,7 +16,8 @@ pub(crate) struct Renewal {
 /// Writes over what depends on the copy, in a message.
 pub(crate) fn renew(message: &mut [u8], renewal: &Renewal)
     requires { 54 ≤ length message.old }
-    ensures { message.new ≡ renewed renewal.now.domain renewal.now.port renewal.now.hops message.old }
+    ensures { message.new
+        ≡ renewed renewal.now.domain renewal.now.port renewal.now.hops message.old }
 {
     message[4] = renewal.domain;
     if let Some(port) = renewal.port {

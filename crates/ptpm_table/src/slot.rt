@@ -160,7 +160,8 @@ impl Kept {
         requires manager { heard.now.source ≡ self.now.manager }
         requires number { heard.now.number ≡ self.now.entry.number }
         requires room { length out.old ≤ 7 }
-        ensures { out.new ≡ out.old ++ rendered self.now.clock heard.now self.now.entry.reply ingress }
+        ensures { out.new
+            ≡ out.old ++ rendered self.now.clock heard.now self.now.entry.reply ingress }
     {
         let renewal = Renewal {
             domain: heard.domain,

@@ -628,7 +628,8 @@ fn set_port(octets: &[u8]) -> Request<'_>
 /// A RESPONSE of one answer.
 fn reply_to(request: &Request<'_>, port: Option<u16>, what: What) -> Reply
     requires action { reply_action request.now.action ≡ Action.Response }
-    requires fits { FitsAnswer (is_of_port request.now.id) request.now.action (record { port = port; outcome = outcome_of what }) }
+    requires fits { FitsAnswer (is_of_port request.now.id) request.now.action
+        (record { port = port; outcome = outcome_of what }) }
     ensures { FitsRequest request.now result }
 {
     let mut answers = ArrayVec::new();

@@ -21,14 +21,19 @@ some_is : (a b : StepError) → Some a ≡ Some b → b ≡ a
 some_is a b h = cc
 
 -- a refusal that is there, and its name
-named : (N : Network) (r : RunningNetwork) (e : Event) (why : Option Refusal) (x : StepError) → option_map error_of why ≡ Some x
+named : (N : Network) (r : RunningNetwork) (e : Event) (why : Option Refusal) (x : StepError)
+    → option_map error_of why ≡ Some x
     → (Err x ≡ answer_by why N r e) × (r ≡ after_by why N r e)
 named N r e None x h = absurd (cc)
 named N r e (Some y) x h = (ap Err (some_is (error_of y) x h), refl)
 
-pub answered : (N : Network) (r next : RunningNetwork) (e : Event) (result : Result Took StepError) → is_out_of_memory result ≡ false
-    → OnOk result (next ≡ network_step N r e) → IfOk result (λ t. t ≡ took N r e) → OnOk result (network_refusal N r e ≡ None)
-    → IfErr result (λ x. x ≢ OutOfMemory → option_map error_of (network_refusal N r e) ≡ Some x) → OnErr result (next ≡ r)
+pub answered : (N : Network) (r next : RunningNetwork) (e : Event) (result : Result Took StepError)
+    → is_out_of_memory result ≡ false
+    → OnOk result (next ≡ network_step N r e)
+    → IfOk result (λ t. t ≡ took N r e)
+    → OnOk result (network_refusal N r e ≡ None)
+    → IfErr result (λ x. x ≢ OutOfMemory → option_map error_of (network_refusal N r e) ≡ Some x)
+    → OnErr result (next ≡ r)
     → (result ≡ answer N r e) × (next ≡ after N r e)
 answered N r next e (Ok t) memory goes is permitted why same =
     (ap Ok is ∙ ap (λ w. answer_by w N r e) (sym permitted), goes ∙ ap (λ w. after_by w N r e) (sym permitted))
@@ -51,7 +56,9 @@ name_of_number errors.GeneralError = refl
 pub named_text : (e : ErrorId) (n : ℕ) → error_number e ≡ n → error_name e ≡ error_text n
 named_text e n h = name_of_number e ∙ ap error_text h
 
-pub unnamed_text : (n : ℕ) → ((e : ErrorId) → error_number e ≡ n → ⊥) → text_of_octets (to_be_bytes w16 n) ≡ error_text n
+pub unnamed_text : (n : ℕ)
+    → ((e : ErrorId) → error_number e ≡ n → ⊥)
+    → text_of_octets (to_be_bytes w16 n) ≡ error_text n
 unfolding error_text
 unnamed_text n unnamed =
     let a : (n == 0x0001) ≡ false = ne_eqb n 0x0001 (λ h. unnamed errors.ResponseTooBig (sym h)) in

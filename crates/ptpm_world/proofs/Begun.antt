@@ -21,24 +21,44 @@ use Rattle.ptpm_world.proofs.FaultLemmas.{err-on}
 use Rattle.ptpm_world.proofs.Playing.{skipped, taken}
 
 -- what was written, and the lines of the events that are left, are those of all events
-abbrev pub Begun : Network → Names → RunningNetwork → RunningNetwork → Option (List ℕ) → Option (List ℕ) → List (List ℕ) → ℕ → List (List ℕ) → Type 0
+abbrev pub Begun : Network
+    → Names
+    → RunningNetwork
+    → RunningNetwork
+    → Option (List ℕ)
+    → Option (List ℕ)
+    → List (List ℕ)
+    → ℕ
+    → List (List ℕ)
+    → Type 0
 Begun N names start now first written all n left =
     (text : List ℕ) × ((text ++ event_lines N names now (events_from n left) ≡ event_lines N names start (events_from 1 all)) × Appends first written text)
 
-pub begun-first : (N : Network) (names : Names) (start : RunningNetwork) (first : Option (List ℕ)) (a : Option (List ℕ)) (n : ℕ) → n ≡ 1
+pub begun-first : (N : Network) (names : Names) (start : RunningNetwork) (first : Option (List ℕ))
+    (a : Option (List ℕ)) (n : ℕ)
+    → n ≡ 1
     → BothKnown a a (λ xs ys. Begun N names start start first first (lines xs) n (lines ys))
 begun-first N names start first None n e = tt
 begun-first N names start first (Some xs) n e = ([], (ap (λ k. event_lines N names start (events_from k (lines xs))) e, Appends-nil first))
 
-pub begun-skip : (N : Network) (names : Names) (start now : RunningNetwork) (first written : Option (List ℕ)) (all : List (List ℕ)) (n : ℕ) (before after : List (List ℕ)) (line : List ℕ)
-    → before ≡ line ∷ after → is_skipped line ≡ true → Begun N names start now first written all n before → Begun N names start now first written all (n + 1) after
+pub begun-skip : (N : Network) (names : Names) (start now : RunningNetwork)
+    (first written : Option (List ℕ)) (all : List (List ℕ)) (n : ℕ) (before after : List (List ℕ))
+    (line : List ℕ)
+    → before ≡ line ∷ after
+    → is_skipped line ≡ true
+    → Begun N names start now first written all n before
+    → Begun N names start now first written all (n + 1) after
 begun-skip N names start now first written all n before after line e s h =
     (h.0, (ap (λ es. h.0 ++ event_lines N names now es) (sym (ap (events_from n) e ∙ skipped n line after s)) ∙ h.1.0, h.1.1))
 
-pub begun-take : (N : Network) (names : Names) (start now next : RunningNetwork) (first written more : Option (List ℕ)) (all : List (List ℕ)) (n : ℕ) (before later : List (List ℕ))
+pub begun-take : (N : Network) (names : Names) (start now next : RunningNetwork)
+    (first written more : Option (List ℕ)) (all : List (List ℕ)) (n : ℕ)
+    (before later : List (List ℕ))
     (line : List ℕ) (event : Event) → before ≡ line ∷ later → is_skipped line ≡ false → reading line ≡ Ok event
-    → next ≡ after N now (placed names event) → Appends written more (event_line N names now n event)
-    → Begun N names start now first written all n before → Begun N names start next first more all (n + 1) later
+    → next ≡ after N now (placed names event)
+    → Appends written more (event_line N names now n event)
+    → Begun N names start now first written all n before
+    → Begun N names start next first more all (n + 1) later
 begun-take N names start now next first written more all n before later line event e s r went line_written h =
     let one = event_line N names now n event in
     let rest = event_lines N names next (events_from (n + 1) later) in
@@ -48,7 +68,8 @@ begun-take N names start now next first written more all n before later line eve
       (append_assoc h.0 one rest ∙ ap (λ l. h.0 ++ l) lines_now ∙ h.1.0, Appends-trans first written more h.0 one h.1.1 line_written),
     )
 
-pub begun-fault : (N : Network) (names : Names) (start now : RunningNetwork) (first written : Option (List ℕ)) (a b : Option (List ℕ)) (n : ℕ)
+pub begun-fault : (N : Network) (names : Names) (start now : RunningNetwork)
+    (first written : Option (List ℕ)) (a b : Option (List ℕ)) (n : ℕ)
     → BothKnown a b (λ xs ys. Begun N names start now first written (lines xs) n (lines ys))
     → IfSome a (λ xs. TakesFirst N names start (events_from 1 (lines xs)) first written)
 begun-fault N names start now first written None b n h = tt
@@ -56,10 +77,14 @@ begun-fault N names start now first written (Some xs) None n h = absurd h
 begun-fault N names start now first written (Some xs) (Some ys) n h = (h.0, (event_lines N names now (events_from n (lines ys)), (h.1.0, h.1.1)))
 
 -- the same at an error that `?` hands on, and that left the writer as it was
-pub begun-err : {A : Type 0} (r : Result A ScriptError) (e : ScriptError) (N : Network) (names : Names) (start now : RunningNetwork) (first written last : Option (List ℕ))
+pub begun-err : {A : Type 0} (r : Result A ScriptError) (e : ScriptError) (N : Network)
+    (names : Names) (start now : RunningNetwork) (first written last : Option (List ℕ))
     (a b : Option (List ℕ)) (n : ℕ) → IsErrAnd r (λ x. x ≡ e) → (e ≢ faults.WriteFault → last ≡ written)
     → BothKnown a b (λ xs ys. Begun N names start now first written (lines xs) n (lines ys))
-    → IfErr r (λ x. x ≢ faults.WriteFault → IfSome a (λ xs. TakesFirst N names start (events_from 1 (lines xs)) first last))
+    → IfErr r
+    (λ x.
+    x ≢ faults.WriteFault
+    → IfSome a (λ xs. TakesFirst N names start (events_from 1 (lines xs)) first last))
 begun-err r e N names start now first written last a b n given kept h =
     err-on r e (λ x. x ≢ faults.WriteFault → IfSome a (λ xs. TakesFirst N names start (events_from 1 (lines xs)) first last)) given
     (λ other. subst (λ w. IfSome a (λ xs. TakesFirst N names start (events_from 1 (lines xs)) first w)) (sym (kept other))
@@ -81,15 +106,23 @@ pub begins-nothing : (all before : Option (List ℕ)) → BeginsAt all before be
 begins-nothing None before = tt
 begins-nothing (Some input) before = ([], (inl refl, Appends-nil before))
 
-pub begins-err : {A : Type 0} (r : Result A ScriptError) (e : ScriptError) (all before after : Option (List ℕ)) → IsErrAnd r (λ x. x ≡ e)
-    → (e ≢ faults.WriteFault → BeginsAt all before after) → IfErr r (λ x. x ≢ faults.WriteFault → BeginsAt all before after)
+pub begins-err : {A : Type 0} (r : Result A ScriptError) (e : ScriptError)
+    (all before after : Option (List ℕ))
+    → IsErrAnd r (λ x. x ≡ e)
+    → (e ≢ faults.WriteFault → BeginsAt all before after)
+    → IfErr r (λ x. x ≢ faults.WriteFault → BeginsAt all before after)
 begins-err r e all before after given begun = err-on r e (λ x. x ≢ faults.WriteFault → BeginsAt all before after) given begun
 
-pub begins-script : (all first second before after : Option (List ℕ)) (n : NetworkValue) (names : Names) (start : RunningNetwork)
+pub begins-script : (all first second before after : Option (List ℕ)) (n : NetworkValue)
+    (names : Names) (start : RunningNetwork)
     → IfSome all (λ octets. first ≡ Some octets)
-    → BothKnown first second (λ xs ys. (network_of (network_text (lines xs)) ≡ Ok n) × (lines ys ≡ event_part (lines xs)))
+    → BothKnown first second
+    (λ xs ys.
+    (network_of (network_text (lines xs)) ≡ Ok n) × (lines ys ≡ event_part (lines xs)))
     → names ≡ names_of n → start ≡ started n
-    → IfSome second (λ ys. TakesFirst (described n) names start (events_from 1 (lines ys)) before after) → BeginsAt all before after
+    → IfSome second
+    (λ ys. TakesFirst (described n) names start (events_from 1 (lines ys)) before after)
+    → BeginsAt all before after
 begins-script None first second before after n names start a b nm s h = tt
 begins-script (Some input) None second before after n names start a b nm s h = absurd (none_some input a)
 begins-script (Some input) (Some xs) None before after n names start a b nm s h = absurd b

@@ -16,8 +16,12 @@ use Rattle.ptpm_world.specs.Running.{IsClockOf, IsOf, IsSessionOf, agent_clock, 
 use Rattle.ptpm_world.proofs.Places.{each-set, map-set_same, read-kept, read-set}
 
 -- a world is a running network where each part is
-pub seen_as : (w : World) (r : RunningNetwork) → ((c : ℕ) → state_of (slice_get w.clocks.items c) ≡ r.clock c) → ((s : ℕ) → session_of (slice_get w.sessions.items s) ≡ r.session s)
-    → ((s : ℕ) → reports_of (slice_get w.sessions.items s) ≡ r.reports s) → held_in w.frames ≡ r.frames → running w ≡ r
+pub seen_as : (w : World) (r : RunningNetwork)
+    → ((c : ℕ) → state_of (slice_get w.clocks.items c) ≡ r.clock c)
+    → ((s : ℕ) → session_of (slice_get w.sessions.items s) ≡ r.session s)
+    → ((s : ℕ) → reports_of (slice_get w.sessions.items s) ≡ r.reports s)
+    → held_in w.frames ≡ r.frames
+    → running w ≡ r
 seen_as w r clocks sessions reports frames = λ i. record { clock = λ c. clocks c i; session = λ s. sessions s i; reports = λ s. reports s i; frames = frames i }
 
 -- what is seen of these clocks, sessions and frames
@@ -47,7 +51,9 @@ pub record SessionChange (old new : World) (place : ℕ) (x y : RunningSession) 
   pub name : y.name ≡ x.name
   pub identity : y.identity ≡ x.identity
 
-pub session_change-running : (old new : World) (place : ℕ) (x y : RunningSession) (value : SessionValue) (reports : List Report) (frames : List Held) → SessionChange old new place x y
+pub session_change-running : (old new : World) (place : ℕ) (x y : RunningSession)
+    (value : SessionValue) (reports : List Report) (frames : List Held)
+    → SessionChange old new place x y
     → y.session ≡ value → y.reports.items ≡ reports → held_in new.frames ≡ frames
     → running new ≡ record { clock = (running old).clock; session = with_place (running old).session place value; reports = with_place (running old).reports place reports; frames = frames }
 session_change-running old new place x y value reports frames c v r f = seen_as new _
@@ -59,7 +65,9 @@ session_change-running old new place x y value reports frames c v r f = seen_as 
     f
 
 -- a session that reports nothing more
-pub session_change-quiet : (old new : World) (place : ℕ) (x y : RunningSession) (value : SessionValue) (frames : List Held) → SessionChange old new place x y
+pub session_change-quiet : (old new : World) (place : ℕ) (x y : RunningSession)
+    (value : SessionValue) (frames : List Held)
+    → SessionChange old new place x y
     → y.session ≡ value → y.reports.items ≡ x.reports.items → held_in new.frames ≡ frames
     → running new ≡ record { clock = (running old).clock; session = with_place (running old).session place value; reports = (running old).reports; frames = frames }
 session_change-quiet old new place x y value frames c v r f = seen_as new _
@@ -70,7 +78,12 @@ session_change-quiet old new place x y value frames c v r f = seen_as new _
     f
 
 -- a session that stayed what it was
-pub session_change-none : (old new : World) (place : ℕ) (x y : RunningSession) → SessionChange old new place x y → y.session ≡ x.session → y.reports.items ≡ x.reports.items → held_in new.frames ≡ held_in old.frames → running new ≡ running old
+pub session_change-none : (old new : World) (place : ℕ) (x y : RunningSession)
+    → SessionChange old new place x y
+    → y.session ≡ x.session
+    → y.reports.items ≡ x.reports.items
+    → held_in new.frames ≡ held_in old.frames
+    → running new ≡ running old
 session_change-none old new place x y c v r f = seen_as new (running old)
     (λ d. ap (λ (xs : List RunningClock). state_of (slice_get xs d)) c.clocks)
     (λ s. ap (λ (xs : List RunningSession). session_of (slice_get xs s)) c.sessions ∙ read-kept session_of old.sessions.items place x y c.at v s)
@@ -78,10 +91,16 @@ session_change-none old new place x y c v r f = seen_as new (running old)
     f
 
 -- the names of a world of which one session is another
-pub names-session : (w : World) (place : ℕ) (x y : RunningSession) → slice_get w.sessions.items place ≡ Some x → y.name ≡ x.name → names_by w.clocks.items (slice_set w.sessions.items place y) ≡ names_in w
+pub names-session : (w : World) (place : ℕ) (x y : RunningSession)
+    → slice_get w.sessions.items place ≡ Some x
+    → y.name ≡ x.name
+    → names_by w.clocks.items (slice_set w.sessions.items place y) ≡ names_in w
 names-session w place x y at name = ap (λ names. names_with (map (λ k. k.name) w.clocks.items) names) (map-set_same (λ k. k.name) w.sessions.items place x y at name)
 
-pub session_change-network : (N : Network) (old new : World) (place : ℕ) (x y : RunningSession) → SessionChange old new place x y → IsOf N old → IsOf N new
+pub session_change-network : (N : Network) (old new : World) (place : ℕ) (x y : RunningSession)
+    → SessionChange old new place x y
+    → IsOf N old
+    → IsOf N new
 session_change-network N old new place x y c is = record {
   clock_count = ap length c.clocks ∙ is.clock_count;
   clocks = λ d k at. is.clocks d k (sym (ap (λ (xs : List RunningClock). slice_get xs d) c.clocks) ∙ at);
@@ -103,7 +122,9 @@ pub record ClockChange (old new : World) (place : ℕ) (x y : RunningClock) : Ty
   pub clock : agent_clock y.agent ≡ agent_clock x.agent
   pub ports : length y.agent.sets.ports ≡ length x.agent.sets.ports
 
-pub clock_change-running : (old new : World) (place : ℕ) (x y : RunningClock) (state : State) (frames : List Held) → ClockChange old new place x y
+pub clock_change-running : (old new : World) (place : ℕ) (x y : RunningClock) (state : State)
+    (frames : List Held)
+    → ClockChange old new place x y
     → agent_state y.agent ≡ state → held_in new.frames ≡ frames
     → running new ≡ record { clock = with_place (running old).clock place state; session = (running old).session; reports = (running old).reports; frames = frames }
 clock_change-running old new place x y state frames c v f = seen_as new _
@@ -113,10 +134,16 @@ clock_change-running old new place x y state frames c v f = seen_as new _
     (λ s. ap (λ (xs : List RunningSession). reports_of (slice_get xs s)) c.sessions)
     f
 
-pub names-clock : (w : World) (place : ℕ) (x y : RunningClock) → slice_get w.clocks.items place ≡ Some x → y.name ≡ x.name → names_by (slice_set w.clocks.items place y) w.sessions.items ≡ names_in w
+pub names-clock : (w : World) (place : ℕ) (x y : RunningClock)
+    → slice_get w.clocks.items place ≡ Some x
+    → y.name ≡ x.name
+    → names_by (slice_set w.clocks.items place y) w.sessions.items ≡ names_in w
 names-clock w place x y at name = ap (λ names. names_with names (map (λ k. k.name) w.sessions.items)) (map-set_same (λ k. k.name) w.clocks.items place x y at name)
 
-pub clock_change-network : (N : Network) (old new : World) (place : ℕ) (x y : RunningClock) → ClockChange old new place x y → IsOf N old → IsOf N new
+pub clock_change-network : (N : Network) (old new : World) (place : ℕ) (x y : RunningClock)
+    → ClockChange old new place x y
+    → IsOf N old
+    → IsOf N new
 clock_change-network N old new place x y c is = record {
   clock_count = ap length c.clocks ∙ length-set old.clocks.items place y ∙ is.clock_count;
   clocks = λ d k at. each-set (IsClockOf N) old.clocks.items place x y c.at is.clocks

@@ -24,17 +24,27 @@ use Rattle.ptpm_script.specs.NetworkValue.{AreSized, CanStart, IsAccepted, IsEnd
 
 -- ---- what stands at a place
 
-pub there : {X : Type 0} (xs : List X) (i : ℕ) (d : X) → i < length xs → slice_get xs i ≡ Some (slice_index_or xs i d)
+pub there : {X : Type 0} (xs : List X) (i : ℕ) (d : X)
+    → i < length xs
+    → slice_get xs i ≡ Some (slice_index_or xs i d)
 there [] i d h = absurd (omega (arith, h))
 there (x ∷ xs) zero d h = refl
 there (x ∷ xs) (suc i) d h = there xs i d (omega (arith, h))
 
-pub of_place : {X : Type 0} (P : X → Type 0) (xs : List X) (i : ℕ) (d : X) → AllByRecursion P xs → i < length xs → P (slice_index_or xs i d)
+pub of_place : {X : Type 0} (P : X → Type 0) (xs : List X) (i : ℕ) (d : X)
+    → AllByRecursion P xs
+    → i < length xs
+    → P (slice_index_or xs i d)
 of_place P xs i d all h = all_get P xs i (slice_index_or xs i d) all (there xs i d h)
 
 -- ---- clocks
 
-described-clock : (n : NetworkValue) → IsAccepted n → AreSized n → (c : ℕ) → c < length n.clocks → IsClock (described n) c
+described-clock : (n : NetworkValue)
+    → IsAccepted n
+    → AreSized n
+    → (c : ℕ)
+    → c < length n.clocks
+    → IsClock (described n) c
 described-clock n facts sized c h =
     let size = of_place (λ k. IsSized (first_sets k)) n.clocks c no_clock sized.clocks h in
     record {
@@ -62,7 +72,9 @@ known-more : (here : Bool) (m : PortIdentity) (s : NetworkSession) (ss : List Ne
 known-more true m s ss = refl
 known-more false m s ss = refl
 
-known-first : (here : Bool) (m : PortIdentity) (s : NetworkSession) (ss : List NetworkSession) → here ≡ true → m ≡ s.identity
+known-first : (here : Bool) (m : PortIdentity) (s : NetworkSession) (ss : List NetworkSession)
+    → here ≡ true
+    → m ≡ s.identity
     → is_known m (identities (map with_rights (if here then s ∷ ss else ss))) ≡ true
 known-first here m s ss h e =
     let same = subst (λ x. same_identity m x ≡ true) e (same_identity-refl m) in
@@ -74,7 +86,9 @@ known-later : (here : Bool) (m : PortIdentity) (s : NetworkSession) (ss : List N
     → is_known m (identities (map with_rights (if here then s ∷ ss else ss))) ≡ true
 known-later here m s ss k = known-more here m s ss ∙ or_right _ _ k
 
-known-configured : (ss : List NetworkSession) (s c : ℕ) → s < length ss → (slice_index_or ss s no_session).target ≡ c
+known-configured : (ss : List NetworkSession) (s c : ℕ)
+    → s < length ss
+    → (slice_index_or ss s no_session).target ≡ c
     → is_known (slice_index_or ss s no_session).identity (identities (configured ss c)) ≡ true
 known-configured [] s c h t = absurd (omega (arith, h))
 known-configured (x ∷ xs) zero c h t = known-first (x.target == c) x.identity x _ (eq-eqb x.target c t) refl
@@ -86,15 +100,21 @@ abbrev PlaceOf : List NetworkSession → PortIdentity → ℕ → Type 0
 PlaceOf ss m c =
     (s : ℕ) × (s < length ss) × ((slice_index_or ss s no_session).identity ≡ m) × ((slice_index_or ss s no_session).target ≡ c)
 
-place-later : (x : NetworkSession) (xs : List NetworkSession) (m : PortIdentity) (c : ℕ) → PlaceOf xs m c → PlaceOf (x ∷ xs) m c
+place-later : (x : NetworkSession) (xs : List NetworkSession) (m : PortIdentity) (c : ℕ)
+    → PlaceOf xs m c
+    → PlaceOf (x ∷ xs) m c
 place-later x xs m c p = (suc p.0, omega (arith, p.1), p.2, p.3)
 
-place-first : (x : NetworkSession) (xs : List NetworkSession) (m : PortIdentity) (c : ℕ) → ((x.target == c) && same_identity m x.identity) ≡ true → PlaceOf (x ∷ xs) m c
+place-first : (x : NetworkSession) (xs : List NetworkSession) (m : PortIdentity) (c : ℕ)
+    → ((x.target == c) && same_identity m x.identity) ≡ true
+    → PlaceOf (x ∷ xs) m c
 place-first x xs m c h =
     let p = and_parts (x.target == c) (same_identity m x.identity) h in
     (zero, omega (arith), sym (same_identity-true m x.identity p.1), eqb-true x.target c p.0)
 
-pub known-place : (ss : List NetworkSession) (m : PortIdentity) (c : ℕ) → is_known m (identities (configured ss c)) ≡ true → PlaceOf ss m c
+pub known-place : (ss : List NetworkSession) (m : PortIdentity) (c : ℕ)
+    → is_known m (identities (configured ss c)) ≡ true
+    → PlaceOf ss m c
 known-place [] m c k = absurd (cc)
 known-place (x ∷ xs) m c k =
     let parts = sym (known-more (x.target == c) m x (filter (λ s. s.target == c) xs)) ∙ k in
@@ -103,7 +123,12 @@ known-place (x ∷ xs) m c k =
 
 -- ---- sessions
 
-described-session : (n : NetworkValue) → IsAccepted n → AreSized n → (s : ℕ) → s < length n.sessions → IsSession (described n) s
+described-session : (n : NetworkValue)
+    → IsAccepted n
+    → AreSized n
+    → (s : ℕ)
+    → s < length n.sessions
+    → IsSession (described n) s
 described-session n facts sized s h = record {
   identity = of_place (λ t. PortIdentityFits t.identity) n.sessions s no_session sized.sessions h;
   is_one = (of_place (IsSessionOf n) n.sessions s no_session facts.sessions h).is_one;
@@ -114,17 +139,23 @@ described-session n facts sized s h = record {
 
 -- ---- links
 
-pub at_place : {X : Type 0} (xs : List X) (i : ℕ) (x d : X) → slice_get xs i ≡ Some x → slice_index_or xs i d ≡ x
+pub at_place : {X : Type 0} (xs : List X) (i : ℕ) (x d : X)
+    → slice_get xs i ≡ Some x
+    → slice_index_or xs i d ≡ x
 at_place xs i x d e = let here : Some (slice_index_or xs i d) ≡ Some x = sym (there xs i d (slice_get_within xs i x e)) ∙ e in cc
 
-described-has_end : (n : NetworkValue) (e : End) → IsEndOf n e → HasEnd (described n) (described_end e)
+described-has_end : (n : NetworkValue) (e : End)
+    → IsEndOf n e
+    → HasEnd (described n) (described_end e)
 described-has_end n (ends.Clock place port) is =
     let c = sym (at_place n.clocks place is.0 no_clock is.1) in
     let most = subst (λ k. port ≤ length k.ports) c is.3 in
     (slice_get_within n.clocks place is.0 is.1, is.2, subst (λ count. port ≤ count) (sym (length-map (clock_at n place).ports port_data_set)) most)
 described-has_end n (ends.Session place) is = is
 
-described-links : (n : NetworkValue) → IsAccepted n → AllByRecursion (IsLink (described n)) (map (map described_end) n.links)
+described-links : (n : NetworkValue)
+    → IsAccepted n
+    → AllByRecursion (IsLink (described n)) (map (map described_end) n.links)
 described-links n facts =
     all_made (IsLinkOf n) (IsLink (described n)) (map described_end)
     (λ link is. record {
@@ -136,7 +167,10 @@ described-links n facts =
 
 -- ---- the network
 
-pub described-network : (n : NetworkValue) → IsAccepted n → AreSized n → machine.IsNetwork (described n)
+pub described-network : (n : NetworkValue)
+    → IsAccepted n
+    → AreSized n
+    → machine.IsNetwork (described n)
 described-network n facts sized = record {
   are_clocks = described-clock n facts sized;
   are_sessions = described-session n facts sized;

@@ -11,15 +11,28 @@ use Rattle.ptpm_world.specs.Running.{IsOf, running}
 use Rattle.ptpm_world.specs.Stepping.{IsStep}
 use Rattle.ptpm_world.specs.Took.{error_of, took}
 
-pub step_fine : (N : Network) (old new : World) (e : Event) (t : Took) → running new ≡ network_step N (running old) e → t ≡ took N (running old) e → network_refusal N (running old) e ≡ None → IsOf N new → IsStep N old new e (Ok t)
+pub step_fine : (N : Network) (old new : World) (e : Event) (t : Took)
+    → running new ≡ network_step N (running old) e
+    → t ≡ took N (running old) e
+    → network_refusal N (running old) e ≡ None
+    → IsOf N new
+    → IsStep N old new e (Ok t)
 step_fine N old new e t goes answers permitted network = record { goes = goes; answers = answers; permitted = permitted; refuses = tt; network = network }
 
-pub step_refused : (N : Network) (old new : World) (e : Event) (why : Refusal) → network_refusal N (running old) e ≡ Some why → IsOf N new → IsStep N old new e (Err (error_of why))
+pub step_refused : (N : Network) (old new : World) (e : Event) (why : Refusal)
+    → network_refusal N (running old) e ≡ Some why
+    → IsOf N new
+    → IsStep N old new e (Err (error_of why))
 step_refused N old new e why refuses network = record { goes = tt; answers = tt; permitted = tt; refuses = λ other. ap (option_map error_of) refuses; network = network }
 
-pub step_memory : (N : Network) (old new : World) (e : Event) → IsOf N new → IsStep N old new e (Err errors.OutOfMemory)
+pub step_memory : (N : Network) (old new : World) (e : Event)
+    → IsOf N new
+    → IsStep N old new e (Err errors.OutOfMemory)
 step_memory N old new e network = record { goes = tt; answers = tt; permitted = tt; refuses = λ other. absurd (other refl); network = network }
 
 -- the same event, said otherwise
-pub step_at : (N : Network) (old new : World) (e f : Event) (result : Result Took StepError) → e ≡ f → IsStep N old new f result → IsStep N old new e result
+pub step_at : (N : Network) (old new : World) (e f : Event) (result : Result Took StepError)
+    → e ≡ f
+    → IsStep N old new f result
+    → IsStep N old new e result
 step_at N old new e f result same step = subst (λ (x : Event). IsStep N old new x result) (sym same) step

@@ -34,24 +34,38 @@ nothing_kept None e = refl
 nothing_kept (Some s) e = absurd (cc)
 
 -- a table has entries of the managers of its slots alone
-table-of_managers : (t : BoundTable) (m : PortIdentity) → is_known m (identities (configured t.slots.items)) ≡ false → get (table_entries t) m ≡ None
+table-of_managers : (t : BoundTable) (m : PortIdentity)
+    → is_known m (identities (configured t.slots.items)) ≡ false
+    → get (table_entries t) m ≡ None
 table-of_managers t m e =
     get_used m t.slots.items t.distinct ∙ nothing_kept (slot_of m t.slots.items) (sym (known_slot m t.slots.items) ∙ e)
 
-pub of_managers : (N : Network) (w : World) → IsOf N w → (c : ℕ) → c < N.clocks → AreOfManagers (N.clock c) ((running w).clock c).entries
+pub of_managers : (N : Network) (w : World)
+    → IsOf N w
+    → (c : ℕ)
+    → c < N.clocks
+    → AreOfManagers (N.clock c) ((running w).clock c).entries
 of_managers N w is c below m e =
     let x = some_at w.clocks.items c (omega (arith, below, is.clock_count)) in
     ap (λ o. get (state_of o).entries m) x.1
     ∙ table-of_managers x.0.agent.table m (ap (λ (k : Clock). is_known m k.managers) (is.clocks c x.0 x.1).clock ∙ e)
 
-pub has_ports : (N : Network) (w : World) → IsOf N w → (c : ℕ) → c < N.clocks → length ((running w).clock c).sets.ports ≡ ports N c
+pub has_ports : (N : Network) (w : World)
+    → IsOf N w
+    → (c : ℕ)
+    → c < N.clocks
+    → length ((running w).clock c).sets.ports ≡ ports N c
 has_ports N w is c below =
     let x = some_at w.clocks.items c (omega (arith, below, is.clock_count)) in
     ap (λ o. length (state_of o).sets.ports) x.1 ∙ (is.clocks c x.0 x.1).ports
 
 -- ---- frames
 
-has_end : (N : Network) (w : World) → IsOf N w → (e : End) → IsThere (port_counts w.clocks.items) (length w.sessions.items) e → HasEnd N (described_end e)
+has_end : (N : Network) (w : World)
+    → IsOf N w
+    → (e : End)
+    → IsThere (port_counts w.clocks.items) (length w.sessions.items) e
+    → HasEnd N (described_end e)
 has_end N w is (ends.Clock place port) there =
     let x = made_at (λ (k : RunningClock). length k.agent.sets.ports) w.clocks.items place there.0 there.1.0 in (
       omega (arith, slice_get_within w.clocks.items place x.0 x.1, is.clock_count),
@@ -60,11 +74,15 @@ has_end N w is (ends.Clock place port) there =
     )
 has_end N w is (ends.Session place) there = omega (arith, there, is.session_count)
 
-pub has_ends : (N : Network) (w : World) → IsOf N w → All (λ (f : Held). HasEnd N f.end) (running w).frames
+pub has_ends : (N : Network) (w : World)
+    → IsOf N w
+    → All (λ (f : Held). HasEnd N f.end) (running w).frames
 has_ends N w is = All-map (λ (f : Held). HasEnd N f.end) (frame_in w.frames.octets.items) w.frames.stored.items
     (λ k d below. has_end N w is (slice_index_or w.frames.stored.items k d).end (w.frames_there k d below).end)
 
-short_part : (start size : ℕ) (store : List ℕ) → size ≤ 1472 → length (take size (drop start store)) ≤ 1472
+short_part : (start size : ℕ) (store : List ℕ)
+    → size ≤ 1472
+    → length (take size (drop start store)) ≤ 1472
 short_part start size store short = omega (arith, length-take size (drop start store), short)
 
 pub short_frames : (w : World) → All (λ (f : Held). length f.octets ≤ 1472) (running w).frames

@@ -21,22 +21,34 @@ use Rattle.ptpm_world.specs.Took.{error_of}
 
 -- ---- a step
 
-pub step-stands : (N : Network) (past : List Event) (old new : World) (e : Event) (result : Result Took StepError) → IsStep N old new e result
-    → StandsAfter N past (running old) → IsInRange e → is_late_delivery (run N (initial_state N) past) e ≡ false
+pub step-stands : (N : Network) (past : List Event) (old new : World) (e : Event)
+    (result : Result Took StepError)
+    → IsStep N old new e result
+    → StandsAfter N past (running old)
+    → IsInRange e
+    → is_late_delivery (run N (initial_state N) past) e ≡ false
     → OnOk result (StandsAfter N (past ++ e ∷ []) (running new))
 step-stands N past old new e (Ok t) step at range prompt =
     subst (λ (r : RunningNetwork). StandsAfter N (past ++ e ∷ []) r) (sym step.goes)
     (stands-network_step N past (running old) e at range (sym (stands-judged N past (running old) e at) ∙ step.permitted) prompt)
 step-stands N past old new e (Err why) step at range prompt = tt
 
-pub step-taken : (N : Network) (past : List Event) (old new : World) (e : Event) (result : Result Took StepError) → IsStep N old new e result
-    → StandsAfter N past (running old) → OnOk result (refusal N (run N (initial_state N) past) e ≡ None)
+pub step-taken : (N : Network) (past : List Event) (old new : World) (e : Event)
+    (result : Result Took StepError)
+    → IsStep N old new e result
+    → StandsAfter N past (running old)
+    → OnOk result (refusal N (run N (initial_state N) past) e ≡ None)
 step-taken N past old new e (Ok t) step at = sym (stands-judged N past (running old) e at) ∙ step.permitted
 step-taken N past old new e (Err why) step at = tt
 
-pub step-reason : (N : Network) (past : List Event) (old new : World) (e : Event) (result : Result Took StepError) → IsStep N old new e result
+pub step-reason : (N : Network) (past : List Event) (old new : World) (e : Event)
+    (result : Result Took StepError)
+    → IsStep N old new e result
     → StandsAfter N past (running old)
-    → IfErr result (λ x. x ≢ errors.OutOfMemory → option_map error_of (refusal N (run N (initial_state N) past) e) ≡ Some x)
+    → IfErr result
+    (λ x.
+    x ≢ errors.OutOfMemory
+    → option_map error_of (refusal N (run N (initial_state N) past) e) ≡ Some x)
 step-reason N past old new e (Ok t) step at = tt
 step-reason N past old new e (Err why) step at = λ other.
     ap (option_map error_of) (sym (stands-judged N past (running old) e at)) ∙ step.refuses other
@@ -48,21 +60,32 @@ pub record HasGoneOn (N : Network) (past es : List Event) (r : RunningNetwork) :
   pub stands : StandsAfter N (past ++ es) r
   pub whole : taken N (run N (initial_state N) past) es ≡ es
 
-pub gone_on-none : (N : Network) (past : List Event) (r : RunningNetwork) → StandsAfter N past r → HasGoneOn N past [] r
+pub gone_on-none : (N : Network) (past : List Event) (r : RunningNetwork)
+    → StandsAfter N past r
+    → HasGoneOn N past [] r
 gone_on-none N past r at = record {
   stands = subst (λ (es : List Event). StandsAfter N es r) (sym (append-nil past)) at;
   whole = refl;
 }
 
-taken-fine : (N : Network) (w : NetworkState) (e : Event) → refusal N w e ≡ None → taken N w (e ∷ []) ≡ e ∷ []
+taken-fine : (N : Network) (w : NetworkState) (e : Event)
+    → refusal N w e ≡ None
+    → taken N w (e ∷ []) ≡ e ∷ []
 taken-fine N w e none = cond-true _ _ _ (ap is_none none)
 
 -- and one event more, said by names that stayed the same
-pub gone_on-more : (N : Network) (past es : List Event) (now new : RunningNetwork) (e f : Event) → f ≡ e
+pub gone_on-more : (N : Network) (past es : List Event) (now new : RunningNetwork) (e f : Event)
+    → f ≡ e
     → (AreInTime N (run N (initial_state N) past) es → HasGoneOn N past es now)
-    → ((events : List Event) → StandsAfter N events now → refusal N (run N (initial_state N) events) f ≡ None)
-    → ((events : List Event) → StandsAfter N events now → is_late_delivery (run N (initial_state N) events) f ≡ false → StandsAfter N (events ++ f ∷ []) new)
-    → AreInTime N (run N (initial_state N) past) (es ++ e ∷ []) → HasGoneOn N past (es ++ e ∷ []) new
+    → ((events : List Event)
+    → StandsAfter N events now
+    → refusal N (run N (initial_state N) events) f ≡ None)
+    → ((events : List Event)
+    → StandsAfter N events now
+    → is_late_delivery (run N (initial_state N) events) f ≡ false
+    → StandsAfter N (events ++ f ∷ []) new)
+    → AreInTime N (run N (initial_state N) past) (es ++ e ∷ [])
+    → HasGoneOn N past (es ++ e ∷ []) new
 gone_on-more N past es now new e f same before permitted goes time =
     let w : NetworkState = run N (initial_state N) past in
     let both = in_time-parts N w es (e ∷ []) time in
@@ -80,13 +103,18 @@ gone_on-more N past es now new e f same before permitted goes time =
       whole = taken-append N w es (e ∷ []) so_far.whole ∙ ap (λ (ts : List Event). es ++ ts) (taken-fine N (run N w es) e none);
     }
 
-is_none-mapped : {A B : Type 0} (f : A → B) (o : Option A) (y : B) → option_map f o ≡ Some y → is_none o ≡ false
+is_none-mapped : {A B : Type 0} (f : A → B) (o : Option A) (y : B)
+    → option_map f o ≡ Some y
+    → is_none o ≡ false
 is_none-mapped f None y e = absurd (cc)
 is_none-mapped f (Some x) y e = refl
 
 -- where the next is refused, no more is taken
-pub taken-stops : {B : Type 0} (f : Refusal → B) (y : B) (N : Network) (past es rest : List Event) (e : Event) (r : RunningNetwork) → HasGoneOn N past es r
-    → option_map f (refusal N (run N (initial_state N) (past ++ es)) e) ≡ Some y → taken N (run N (initial_state N) past) (es ++ e ∷ rest) ≡ es
+pub taken-stops : {B : Type 0} (f : Refusal → B) (y : B) (N : Network) (past es rest : List Event)
+    (e : Event) (r : RunningNetwork)
+    → HasGoneOn N past es r
+    → option_map f (refusal N (run N (initial_state N) (past ++ es)) e) ≡ Some y
+    → taken N (run N (initial_state N) past) (es ++ e ∷ rest) ≡ es
 taken-stops f y N past es rest e r gone why =
     let w : NetworkState = run N (initial_state N) past in
     let there : option_map f (refusal N (run N w es) e) ≡ Some y =

@@ -19,21 +19,26 @@ use Rattle.ptpm_world.specs.Stored.{IsShort, IsWithin, at_end, is_same, others}
 
 -- ---- lists
 
-cond-map : {A B : Type 0} (f : A → B) (b : Bool) (x : A) (xs : List A) → cond b (f x ∷ map f xs) (map f xs) ≡ map f (cond b (x ∷ xs) xs)
+cond-map : {A B : Type 0} (f : A → B) (b : Bool) (x : A) (xs : List A)
+    → cond b (f x ∷ map f xs) (map f xs) ≡ map f (cond b (x ∷ xs) xs)
 cond-map f true x xs = refl
 cond-map f false x xs = refl
 
-filter-map : {A B : Type 0} (p : B → Bool) (f : A → B) (xs : List A) → filter p (map f xs) ≡ map f (filter (λ x. p (f x)) xs)
+filter-map : {A B : Type 0} (p : B → Bool) (f : A → B) (xs : List A)
+    → filter p (map f xs) ≡ map f (filter (λ x. p (f x)) xs)
 filter-map p f [] = refl
 filter-map p f (x ∷ xs) =
     ap (λ l. cond (p (f x)) (f x ∷ l) l) (filter-map p f xs) ∙ cond-map f (p (f x)) x (filter (λ y. p (f y)) xs)
 
-list_any-map : {A B : Type 0} (p : B → Bool) (f : A → B) (xs : List A) → list_any p (map f xs) ≡ list_any (λ x. p (f x)) xs
+list_any-map : {A B : Type 0} (p : B → Bool) (f : A → B) (xs : List A)
+    → list_any p (map f xs) ≡ list_any (λ x. p (f x)) xs
 list_any-map p f [] = refl
 list_any-map p f (x ∷ xs) = ap (λ b. p (f x) || b) (list_any-map p f xs)
 
 -- where an element passes, more pass in the whole list than before it
-pub filter_room : {A : Type 0} (p : A → Bool) (xs : List A) (i : ℕ) (d : A) → i < length xs → p (get_or xs i d) ≡ true
+pub filter_room : {A : Type 0} (p : A → Bool) (xs : List A) (i : ℕ) (d : A)
+    → i < length xs
+    → p (get_or xs i d) ≡ true
     → length (filter p (take i xs)) + 1 ≤ length (filter p xs)
 filter_room p xs i d inside passes =
     let here : length (filter p (take (i + 1) xs)) ≡ length (filter p (take i xs)) + cond (p (get_or xs i d)) 1 0 = length-filter_more p xs i d inside in
@@ -42,27 +47,42 @@ filter_room p xs i d inside passes =
     sym (filter-append p (take (i + 1) xs) (drop (i + 1) xs)) ∙ ap (filter p) (take-append-drop (i + 1) xs) in
     omega (arith, length-append (filter p (take (i + 1) xs)) (filter p (drop (i + 1) xs)), ap length parts)
 
-found_all : {A : Type 0} (P : A → Type 0) (b : Bool) (y : A) (rest : Option A) (x : A) → P y → (rest ≡ Some x → P x) → cond b (Some y) rest ≡ Some x → P x
+found_all : {A : Type 0} (P : A → Type 0) (b : Bool) (y : A) (rest : Option A) (x : A)
+    → P y
+    → (rest ≡ Some x → P x)
+    → cond b (Some y) rest ≡ Some x
+    → P x
 found_all P true y rest x here behind h = let same : y ≡ x = cc in subst P same here
 found_all P false y rest x here behind h = behind h
 
 -- what holds of each element holds of the one that is found, which passes
-pub find-all : {A : Type 0} (P : A → Type 0) (p : A → Bool) (xs : List A) (x : A) → All P xs → find p xs ≡ Some x → P x
+pub find-all : {A : Type 0} (P : A → Type 0) (p : A → Bool) (xs : List A) (x : A)
+    → All P xs
+    → find p xs ≡ Some x
+    → P x
 find-all P p [] x all h = absurd (cc)
 find-all P p (y ∷ ys) x all h =
     found_all P (p y) y (find p ys) x (All-head P y ys all) (find-all P p ys x (All-tail P y ys all)) h
 
-found_passes : {A : Type 0} (p : A → Bool) (b : Bool) (y : A) (rest : Option A) (x : A) → p y ≡ b → (rest ≡ Some x → p x ≡ true) → cond b (Some y) rest ≡ Some x → p x ≡ true
+found_passes : {A : Type 0} (p : A → Bool) (b : Bool) (y : A) (rest : Option A) (x : A)
+    → p y ≡ b
+    → (rest ≡ Some x → p x ≡ true)
+    → cond b (Some y) rest ≡ Some x
+    → p x ≡ true
 found_passes p true y rest x here behind h = let same : y ≡ x = cc in subst (λ z. p z ≡ true) same here
 found_passes p false y rest x here behind h = behind h
 
-pub find-passes : {A : Type 0} (p : A → Bool) (xs : List A) (x : A) → find p xs ≡ Some x → p x ≡ true
+pub find-passes : {A : Type 0} (p : A → Bool) (xs : List A) (x : A)
+    → find p xs ≡ Some x
+    → p x ≡ true
 find-passes p [] x h = absurd (cc)
 find-passes p (y ∷ ys) x h = found_passes p (p y) y (find p ys) x refl (find-passes p ys x) h
 
 -- ---- ends
 
-fewer : (b any : Bool) (x : End) (xs kept : List End) → length kept ≤ length xs → (any ≡ true → length kept + 1 ≤ length xs)
+fewer : (b any : Bool) (x : End) (xs kept : List End)
+    → length kept ≤ length xs
+    → (any ≡ true → length kept + 1 ≤ length xs)
     → (b || any) ≡ true → length (cond (not b) (x ∷ kept) kept) + 1 ≤ length (x ∷ xs)
 fewer true any x xs kept at_most behind h = omega arith
 fewer false any x xs kept at_most behind h = omega (arith, behind h)
@@ -73,7 +93,9 @@ length-others e ends =
     omega (arith, length-filter test ends, count_by-le-length test ends)
 
 -- one is left out, where it is there
-pub others-fewer : (e : End) (ends : List End) → list_any (is_same e) ends ≡ true → length (others e ends) + 1 ≤ length ends
+pub others-fewer : (e : End) (ends : List End)
+    → list_any (is_same e) ends ≡ true
+    → length (others e ends) + 1 ≤ length ends
 others-fewer e [] h = absurd (cc)
 others-fewer e (x ∷ xs) h =
     fewer (is_same e x) (list_any (is_same e) xs) x xs (others e xs) (length-others e xs) (others-fewer e xs) h
@@ -82,12 +104,15 @@ abbrev pub found_peers : End → Option NetworkLink → List machine.End
 found_peers e None = []
 found_peers e (Some l) = map described_end (others e l.ends.items)
 
-found_cases : (e : End) (b : Bool) (l : NetworkLink) (o : Option NetworkLink) → cond b (found_peers e (Some l)) (found_peers e o) ≡ found_peers e (cond b (Some l) o)
+found_cases : (e : End) (b : Bool) (l : NetworkLink) (o : Option NetworkLink)
+    → cond b (found_peers e (Some l)) (found_peers e o) ≡ found_peers e (cond b (Some l) o)
 found_cases e true l o = refl
 found_cases e false l o = refl
 
 -- the other ends of the link that an end is on, as the machine has them
-pub peers_found : (e : End) (links : List NetworkLink) → peers (link_ends links) (described_end e) ≡ found_peers e (find (λ l. list_any (is_same e) l.ends.items) links)
+pub peers_found : (e : End) (links : List NetworkLink)
+    → peers (link_ends links) (described_end e)
+    ≡ found_peers e (find (λ l. list_any (is_same e) l.ends.items) links)
 peers_found e [] = refl
 peers_found e (l ∷ ls) =
     let d : machine.End = described_end e in
@@ -103,7 +128,9 @@ peers_found e (l ∷ ls) =
 -- ---- octets
 
 -- what is put behind a store hides none of its frames
-frame_before : (store more : List ℕ) (s : Stored) → IsWithin store s → frame_in (store ++ more) s ≡ frame_in store s
+frame_before : (store more : List ℕ) (s : Stored)
+    → IsWithin store s
+    → frame_in (store ++ more) s ≡ frame_in store s
 frame_before store more s within =
     let behind : drop s.start (store ++ more) ≡ drop s.start store ++ more = drop-append-le s.start store more (omega arith) in
     let short : s.size ≤ length (drop s.start store) = omega (arith, length-drop s.start store) in
@@ -111,7 +138,9 @@ frame_before store more s within =
     ap (take s.size) behind ∙ take-append-le s.size (drop s.start store) more short in
     λ i. record { end = described_end s.end; octets = octets i; origin = origin_of s.origin }
 
-frames_before : (store more : List ℕ) (xs : List Stored) → All (IsWithin store) xs → map (frame_in (store ++ more)) xs ≡ map (frame_in store) xs
+frames_before : (store more : List ℕ) (xs : List Stored)
+    → All (IsWithin store) xs
+    → map (frame_in (store ++ more)) xs ≡ map (frame_in store) xs
 frames_before store more [] all = refl
 frames_before store more (x ∷ xs) all =
     let here = frame_before store more x (All-head (IsWithin store) x xs all) in
@@ -123,12 +152,15 @@ pub record IsBehind (store octets : List ℕ) (s : Stored) : Type 0 where
   pub start : s.start ≡ length store
   pub size : s.size ≡ length octets
 
-octets_behind : (store octets : List ℕ) (s : Stored) → IsBehind store octets s → take s.size (drop s.start (store ++ octets)) ≡ octets
+octets_behind : (store octets : List ℕ) (s : Stored)
+    → IsBehind store octets s
+    → take s.size (drop s.start (store ++ octets)) ≡ octets
 octets_behind store octets s b =
     ap (take s.size) (drop_at store octets s.start (sym b.start)) ∙ take_all s.size octets (omega (arith, b.size))
 
 frames_behind : (store octets : List ℕ) (s : Stored) (ends : List End) → IsBehind store octets s
-    → map (frame_in (store ++ octets)) (map (at_end s) ends) ≡ posted (map described_end ends) octets (origin_of s.origin)
+    → map (frame_in (store ++ octets)) (map (at_end s) ends)
+    ≡ posted (map described_end ends) octets (origin_of s.origin)
 frames_behind store octets s [] b = refl
 frames_behind store octets s (e ∷ es) b =
     let here = octets_behind store octets s b in
@@ -136,13 +168,18 @@ frames_behind store octets s (e ∷ es) b =
     λ i. record { end = described_end e; octets = here i; origin = origin_of s.origin } ∷ rest i
 
 -- a message is posted: all frames before it stay, and behind them is one for each end
-pub frames_posted : (store octets : List ℕ) (xs : List Stored) (s : Stored) (ends : List End) → All (IsWithin store) xs → IsBehind store octets s
-    → map (frame_in (store ++ octets)) (xs ++ map (at_end s) ends) ≡ map (frame_in store) xs ++ posted (map described_end ends) octets (origin_of s.origin)
+pub frames_posted : (store octets : List ℕ) (xs : List Stored) (s : Stored) (ends : List End)
+    → All (IsWithin store) xs
+    → IsBehind store octets s
+    → map (frame_in (store ++ octets)) (xs ++ map (at_end s) ends)
+    ≡ map (frame_in store) xs ++ posted (map described_end ends) octets (origin_of s.origin)
 frames_posted store octets xs s ends all b =
     map-append (frame_in (store ++ octets)) xs (map (at_end s) ends)
     ∙ (λ i. frames_before store octets xs all i ++ frames_behind store octets s ends b i)
 
-pub within_posted : (store octets : List ℕ) (xs : List Stored) (s : Stored) (ends : List End) → All (IsWithin store) xs → IsBehind store octets s
+pub within_posted : (store octets : List ℕ) (xs : List Stored) (s : Stored) (ends : List End)
+    → All (IsWithin store) xs
+    → IsBehind store octets s
     → All (IsWithin (store ++ octets)) (xs ++ map (at_end s) ends)
 within_posted store octets xs s ends all b =
     let P : Stored → Type 0 = IsWithin (store ++ octets) in
@@ -157,15 +194,21 @@ within_posted store octets xs s ends all b =
 abbrev pub link_of : End → List NetworkLink → Option NetworkLink
 link_of e links = find (λ l. list_any (is_same e) l.ends.items) links
 
-pub few_others : (counts : List ℕ) (sessions : ℕ) (e : End) (links : List NetworkLink) (l : NetworkLink) → AreLinks counts sessions links
+pub few_others : (counts : List ℕ) (sessions : ℕ) (e : End) (links : List NetworkLink)
+    (l : NetworkLink)
+    → AreLinks counts sessions links
     → link_of e links ≡ Some l → length (others e l.ends.items) ≤ 15
 few_others counts sessions e links l all found =
     let test : NetworkLink → Bool = λ m. list_any (is_same e) m.ends.items in
     let few = find-all (λ m. (length m.ends.items ≤ 16) × All (IsThere counts sessions) m.ends.items) test links l all found in
     omega (arith, few.0, others-fewer e l.ends.items (find-passes test links l found))
 
-pub stored_posted : (counts : List ℕ) (sessions : ℕ) (e : End) (links : List NetworkLink) (l : NetworkLink) (xs : List Stored) (s : Stored)
-    → All (IsStoredFrame counts sessions) xs → AreLinks counts sessions links → IsOfSession sessions s.origin → link_of e links ≡ Some l
+pub stored_posted : (counts : List ℕ) (sessions : ℕ) (e : End) (links : List NetworkLink)
+    (l : NetworkLink) (xs : List Stored) (s : Stored)
+    → All (IsStoredFrame counts sessions) xs
+    → AreLinks counts sessions links
+    → IsOfSession sessions s.origin
+    → link_of e links ≡ Some l
     → All (IsStoredFrame counts sessions) (xs ++ map (at_end s) (others e l.ends.items))
 stored_posted counts sessions e links l xs s before all origin found =
     let test : NetworkLink → Bool = λ m. list_any (is_same e) m.ends.items in
@@ -187,9 +230,12 @@ pub record Posting (links : List NetworkLink) (l : NetworkLink) (s : Stored) (st
   pub grown : next ≡ store ++ octets
   pub longer : ys ≡ xs ++ map (at_end s) (others s.end l.ends.items)
 
-pub posting-frames : {links : List NetworkLink} {l : NetworkLink} {s : Stored} {store octets next : List ℕ} {xs ys : List Stored}
+pub posting-frames : {links : List NetworkLink} {l : NetworkLink} {s : Stored}
+    {store octets next : List ℕ} {xs ys : List Stored}
     → Posting links l s store octets next xs ys
-    → map (frame_in next) ys ≡ map (frame_in store) xs ++ posted (peers (link_ends links) (described_end s.end)) octets (origin_of s.origin)
+    → map (frame_in next) ys
+    ≡ map (frame_in store) xs
+    ++ posted (peers (link_ends links) (described_end s.end)) octets (origin_of s.origin)
 posting-frames {links} {l} {s} {store} {octets} {next} {xs} {ys} p =
     let ends : List End = others s.end l.ends.items in
     let met : peers (link_ends links) (described_end s.end) ≡ map described_end ends = peers_found s.end links ∙ ap (found_peers s.end) p.found in
@@ -197,7 +243,8 @@ posting-frames {links} {l} {s} {store} {octets} {next} {xs} {ys} p =
     ∙ (frames_posted store octets xs s ends p.within p.behind
     ∙ ap (λ (es : List machine.End). map (frame_in store) xs ++ posted es octets (origin_of s.origin)) (sym met))
 
-pub posting-within : {links : List NetworkLink} {l : NetworkLink} {s : Stored} {store octets next : List ℕ} {xs ys : List Stored}
+pub posting-within : {links : List NetworkLink} {l : NetworkLink} {s : Stored}
+    {store octets next : List ℕ} {xs ys : List Stored}
     → Posting links l s store octets next xs ys → All (IsWithin next) ys
 posting-within {links} {l} {s} {store} {octets} {next} {xs} {ys} p =
     subst (λ (o : List ℕ). All (IsWithin o) ys) (sym p.grown)
@@ -208,21 +255,29 @@ posting-within {links} {l} {s} {store} {octets} {next} {xs} {ys} p =
 short_ends : (s : Stored) (ends : List End) → IsShort s → All IsShort (map (at_end s) ends)
 short_ends s ends short = All-map IsShort (at_end s) ends (λ k d below. short)
 
-pub posting-short : {links : List NetworkLink} {l : NetworkLink} {s : Stored} {store octets next : List ℕ} {xs ys : List Stored}
+pub posting-short : {links : List NetworkLink} {l : NetworkLink} {s : Stored}
+    {store octets next : List ℕ} {xs ys : List Stored}
     → Posting links l s store octets next xs ys → All IsShort xs → IsShort s → All IsShort ys
 posting-short {links} {l} {s} {store} {octets} {next} {xs} {ys} p before short =
     subst (λ (fs : List Stored). All IsShort fs) (sym p.longer)
     (All-append IsShort xs (map (at_end s) (others s.end l.ends.items)) before (short_ends s (others s.end l.ends.items) short))
 
-pub posting-count : {links : List NetworkLink} {l : NetworkLink} {s : Stored} {store octets next : List ℕ} {xs ys : List Stored}
-    → Posting links l s store octets next xs ys → length ys ≡ length xs + length (others s.end l.ends.items)
+pub posting-count : {links : List NetworkLink} {l : NetworkLink} {s : Stored}
+    {store octets next : List ℕ} {xs ys : List Stored}
+    → Posting links l s store octets next xs ys
+    → length ys ≡ length xs + length (others s.end l.ends.items)
 posting-count {links} {l} {s} {store} {octets} {next} {xs} {ys} p =
     let ends : List End = others s.end l.ends.items in
     ap length p.longer ∙ (length-append xs (map (at_end s) ends) ∙ ap (λ n. length xs + n) (length-map ends (at_end s)))
 
-pub posting-there : {links : List NetworkLink} {l : NetworkLink} {s : Stored} {store octets next : List ℕ} {xs ys : List Stored}
-    → Posting links l s store octets next xs ys → (counts : List ℕ) (sessions : ℕ) → All (IsStoredFrame counts sessions) xs
-    → AreLinks counts sessions links → IsOfSession sessions s.origin → All (IsStoredFrame counts sessions) ys
+pub posting-there : {links : List NetworkLink} {l : NetworkLink} {s : Stored}
+    {store octets next : List ℕ} {xs ys : List Stored}
+    → Posting links l s store octets next xs ys
+    → (counts : List ℕ) (sessions : ℕ)
+    → All (IsStoredFrame counts sessions) xs
+    → AreLinks counts sessions links
+    → IsOfSession sessions s.origin
+    → All (IsStoredFrame counts sessions) ys
 posting-there {links} {l} {s} {store} {octets} {next} {xs} {ys} p counts sessions before all origin =
     subst (λ (fs : List Stored). All (IsStoredFrame counts sessions) fs) (sym p.longer)
     (stored_posted counts sessions s.end links l xs s before all origin p.found)

@@ -16,7 +16,9 @@ pub record AreParts (clocks : List RunningClock) (sessions : List RunningSession
   pub links_there : AreLinks (port_counts clocks) (length sessions) links
   pub frames_there : All (IsStoredFrame (port_counts clocks) (length sessions)) stored
 
-pub kept-session : (w : World) (place : ℕ) (y : RunningSession) (stored : List Stored) → All (IsStoredFrame (port_counts w.clocks.items) (length w.sessions.items)) stored → AreParts w.clocks.items (slice_set w.sessions.items place y) w.links.items stored
+pub kept-session : (w : World) (place : ℕ) (y : RunningSession) (stored : List Stored)
+    → All (IsStoredFrame (port_counts w.clocks.items) (length w.sessions.items)) stored
+    → AreParts w.clocks.items (slice_set w.sessions.items place y) w.links.items stored
 kept-session w place y stored all =
     let same : length w.sessions.items ≡ length (slice_set w.sessions.items place y) = sym (length-set w.sessions.items place y) in
     record {
@@ -26,7 +28,10 @@ kept-session w place y stored all =
       frames_there = subst (λ n. All (IsStoredFrame (port_counts w.clocks.items) n) stored) same all;
     }
 
-pub kept-clock : (w : World) (place : ℕ) (x y : RunningClock) (stored : List Stored) → slice_get w.clocks.items place ≡ Some x → length y.agent.sets.ports ≡ length x.agent.sets.ports → All (IsStoredFrame (port_counts w.clocks.items) (length w.sessions.items)) stored
+pub kept-clock : (w : World) (place : ℕ) (x y : RunningClock) (stored : List Stored)
+    → slice_get w.clocks.items place ≡ Some x
+    → length y.agent.sets.ports ≡ length x.agent.sets.ports
+    → All (IsStoredFrame (port_counts w.clocks.items) (length w.sessions.items)) stored
     → AreParts (slice_set w.clocks.items place y) w.sessions.items w.links.items stored
 kept-clock w place x y stored at ports all =
     let counts : port_counts w.clocks.items ≡ port_counts (slice_set w.clocks.items place y) = sym (map-set_same (λ c. length c.agent.sets.ports) w.clocks.items place x y at ports) in

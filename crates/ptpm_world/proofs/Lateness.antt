@@ -16,19 +16,28 @@ use Rattle.ptpm_network.proofs.Reaching.{frame_at-is}
 use Rattle.ptpm_network.proofs.Schedule.{reached}
 use Rattle.ptpm_world.specs.Running.{is_late_held, is_late_of}
 
-late-origin : (N : Network) (first : PortIdentity → ℕ) (r : RunningNetwork) (w : NetworkState) (octets : List ℕ) (o : Origin) → Stands N first r w → IsOfOrigin N w octets o
+late-origin : (N : Network) (first : PortIdentity → ℕ) (r : RunningNetwork) (w : NetworkState)
+    (octets : List ℕ) (o : Origin)
+    → Stands N first r w
+    → IsOfOrigin N w octets o
     → is_late_of r o ≡ is_late w o
 late-origin N first r w octets (RequestOf s k) at i = ap (λ (v : SessionValue). is_late_at k v.issued) (at.sessions s i.0)
 late-origin N first r w octets (ReplyTo s k) at i = ap (λ (v : SessionValue). is_late_at k v.issued) (at.sessions s i.0)
 late-origin N first r w octets Neither at i = refl
 
-late-frame : (N : Network) (first : PortIdentity → ℕ) (r : RunningNetwork) (w : NetworkState) (n : ℕ) (o : Option Frame) → IsReached N w → Stands N first r w
+late-frame : (N : Network) (first : PortIdentity → ℕ) (r : RunningNetwork) (w : NetworkState)
+    (n : ℕ) (o : Option Frame)
+    → IsReached N w
+    → Stands N first r w
     → frame_at w.frames n ≡ o → is_late_held r (option_map held o) ≡ is_late_frame w o
 late-frame N first r w n None reached at e = refl
 late-frame N first r w n (Some f) reached at e = late-origin N first r w f.octets f.origin at (frame_at-is N w n f reached e).origin
 
-pub late-after : (N : Network) (past : List Event) (r : RunningNetwork) (n : ℕ) → StandsAfter N past r
-    → is_late_held r (frame_at r.frames n) ≡ is_late_frame (run N (initial_state N) past) (frame_at (run N (initial_state N) past).frames n)
+pub late-after : (N : Network) (past : List Event) (r : RunningNetwork) (n : ℕ)
+    → StandsAfter N past r
+    → is_late_held r (frame_at r.frames n)
+    ≡ is_late_frame (run N (initial_state N) past)
+    (frame_at (run N (initial_state N) past).frames n)
 late-after N past r n at =
     let p = at.promised in
     let w : NetworkState = run N (initial_state N) past in

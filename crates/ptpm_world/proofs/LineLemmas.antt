@@ -27,7 +27,8 @@ no_feed-more (y ∷ ys) x h e = (h.0, no_feed-more ys x h.1 e)
 abbrev pub parts : List ℕ → List (List ℕ)
 parts bs = slice_split (λ b. b == 10) bs
 
-cut_some : (b : Bool) (x : ℕ) (ps : List (List ℕ)) → ((y : List ℕ) × ((ys : List (List ℕ)) × (ps ≡ y ∷ ys)))
+cut_some : (b : Bool) (x : ℕ) (ps : List (List ℕ))
+    → ((y : List ℕ) × ((ys : List (List ℕ)) × (ps ≡ y ∷ ys)))
     → (y : List ℕ) × ((ys : List (List ℕ)) × (cond b ([] ∷ ps) (onto_first x ps) ≡ y ∷ ys))
 cut_some true x ps h = ([], (ps, refl))
 cut_some false x ps h = (x ∷ h.0, (h.1.0, ap (onto_first x) h.1.1))
@@ -46,7 +47,9 @@ one_part (x ∷ xs) h = rw h.0 (ap (onto_first x) (one_part xs h.1))
 
 -- ---- lines
 
-pub line_ends : (l bs : List ℕ) → NoFeed l → lines (l ++ 10 ∷ bs) ≡ strip_carriage_return l ∷ lines bs
+pub line_ends : (l bs : List ℕ)
+    → NoFeed l
+    → lines (l ++ 10 ∷ bs) ≡ strip_carriage_return l ∷ lines bs
 line_ends l bs h =
     let some = some_part bs in
     let e : parts bs ≡ some.0 ∷ some.1.0 = some.1.1 in
@@ -66,11 +69,14 @@ last_line l h some = ap lines_of_parts (one_part l h) ∙ not_empty l some
 abbrev pub IsRead : Option (List ℕ) → Option (List ℕ) → ℕ → List ℕ → Option ℕ → Type 0
 IsRead before now first line next = BothKnown before now (λ xs ys. first ∷ xs ≡ line ++ (given next ++ ys))
 
-pub read-first : (a : Option (List ℕ)) (first : ℕ) (line : List ℕ) → line ≡ [] → IsRead a a first line (Some first)
+pub read-first : (a : Option (List ℕ)) (first : ℕ) (line : List ℕ)
+    → line ≡ []
+    → IsRead a a first line (Some first)
 read-first None first line e = tt
 read-first (Some xs) first line e = ap (λ l. l ++ (first ∷ xs)) (sym e)
 
-pub read-more : (a b c : Option (List ℕ)) (first octet : ℕ) (line : List ℕ) (next : Option ℕ) → IsRead a b first line (Some octet)
+pub read-more : (a b c : Option (List ℕ)) (first octet : ℕ) (line : List ℕ) (next : Option ℕ)
+    → IsRead a b first line (Some octet)
     → Consumes b c (given next) → IsRead a c first (line ++ octet ∷ []) next
 read-more None b c first octet line next h k = tt
 read-more (Some xs) None c first octet line next h k = absurd h
@@ -78,14 +84,22 @@ read-more (Some xs) (Some ys) None first octet line next h k = absurd k
 read-more (Some xs) (Some ys) (Some zs) first octet line next h k =
     h ∙ ap (λ l. line ++ (octet ∷ l)) k ∙ sym (append_assoc line (octet ∷ []) (given next ++ zs))
 
-pub read-feed : (a b : Option (List ℕ)) (first octet : ℕ) (line stripped : List ℕ) → IsRead a b first line (Some octet) → octet ≡ 10 → NoFeed line
-    → stripped ≡ strip_carriage_return line → ReadsLine (option_map (λ octets. first ∷ octets) a) true stripped b
+pub read-feed : (a b : Option (List ℕ)) (first octet : ℕ) (line stripped : List ℕ)
+    → IsRead a b first line (Some octet)
+    → octet ≡ 10
+    → NoFeed line
+    → stripped ≡ strip_carriage_return line
+    → ReadsLine (option_map (λ octets. first ∷ octets) a) true stripped b
 read-feed None b first octet line stripped h e n s = tt
 read-feed (Some xs) None first octet line stripped h e n s = absurd h
 read-feed (Some xs) (Some ys) first octet line stripped h e n s =
     ap lines (h ∙ ap (λ o. line ++ (o ∷ ys)) e) ∙ line_ends line ys n ∙ ap (λ l. l ∷ lines ys) (sym s)
 
-pub read-end : (a b : Option (List ℕ)) (first : ℕ) (line : List ℕ) → IsRead a b first line None → OnSome a (IsAtEnd b) → NoFeed line → 0 < length line
+pub read-end : (a b : Option (List ℕ)) (first : ℕ) (line : List ℕ)
+    → IsRead a b first line None
+    → OnSome a (IsAtEnd b)
+    → NoFeed line
+    → 0 < length line
     → ReadsLine (option_map (λ octets. first ∷ octets) a) true line b
 read-end None b first line h e n some = tt
 read-end (Some xs) None first line h e n some = absurd h
@@ -93,7 +107,8 @@ read-end (Some xs) (Some ys) first line h e n some =
     ap lines (h ∙ ap (λ l. line ++ l) e ∙ append-nil line) ∙ last_line line n some ∙ ap (λ l. line ∷ lines l) (sym e)
 
 -- the reader's end, as the first octet's reader knew it
-pub end-on : (a b c : Option (List ℕ)) (first octet : ℕ) (line : List ℕ) (next : Option ℕ) → IsRead a b first line (Some octet)
+pub end-on : (a b c : Option (List ℕ)) (first octet : ℕ) (line : List ℕ) (next : Option ℕ)
+    → IsRead a b first line (Some octet)
     → IfNone next (OnSome b (IsAtEnd c)) → IfNone next (OnSome a (IsAtEnd c))
 end-on a b c first octet line (Some x) h e = tt
 end-on None b c first octet line None h e = tt
@@ -102,7 +117,9 @@ end-on (Some xs) (Some ys) c first octet line None h e = e
 
 -- ---- an octet of what a reader shows
 
-shown_some : (shown : List ℕ) (octet : ℕ) → slice_get shown 0 ≡ Some octet → (1 ≤ length shown) × (take 1 shown ≡ octet ∷ [])
+shown_some : (shown : List ℕ) (octet : ℕ)
+    → slice_get shown 0 ≡ Some octet
+    → (1 ≤ length shown) × (take 1 shown ≡ octet ∷ [])
 shown_some [] octet h = absurd (some_there octet (sym h))
 shown_some (x ∷ xs) octet h = (omega arith, ap (λ o. o ∷ []) (same_Some x octet h))
 
@@ -110,14 +127,21 @@ shown_none : (shown : List ℕ) → slice_get shown 0 ≡ None → length shown 
 shown_none [] h = refl
 shown_none (x ∷ xs) h = absurd (some_there x h)
 
-pub octet-some : (a b c : Option (List ℕ)) (limit : Option ℕ) (shown : List ℕ) (octet : ℕ) → slice_get shown 0 ≡ Some octet
+pub octet-some : (a b c : Option (List ℕ)) (limit : Option ℕ) (shown : List ℕ) (octet : ℕ)
+    → slice_get shown 0 ≡ Some octet
     → IfSome a (λ xs. StartsWith xs shown) → IfSome a (λ xs. length shown ≡ 0 → xs ≡ []) → Keeps a b
-    → IfSome a (λ _. IfSome limit (λ n. length shown ≤ n)) → DropsConsumable b c limit 1 → Consumes a c (octet ∷ [])
+    → IfSome a (λ _. IfSome limit (λ n. length shown ≤ n))
+    → DropsConsumable b c limit 1
+    → Consumes a c (octet ∷ [])
 octet-some a b c limit shown octet h front end kept fits drops =
     let s = shown_some shown octet h in
     subst (Consumes a c) s.1 (Consumes_shown a b c limit shown 1 s.0 front end kept fits drops).0
 
-pub octet-none : (a b : Option (List ℕ)) (shown : List ℕ) → slice_get shown 0 ≡ None → IfSome a (λ xs. length shown ≡ 0 → xs ≡ []) → Keeps a b → OnSome a (IsAtEnd b)
+pub octet-none : (a b : Option (List ℕ)) (shown : List ℕ)
+    → slice_get shown 0 ≡ None
+    → IfSome a (λ xs. length shown ≡ 0 → xs ≡ [])
+    → Keeps a b
+    → OnSome a (IsAtEnd b)
 octet-none None b shown h end kept = tt
 octet-none (Some xs) None shown h end kept = absurd kept
 octet-none (Some xs) (Some ys) shown h end kept = kept ∙ end (shown_none shown h)
@@ -131,7 +155,10 @@ read-line (Some xs) None c first line h k = absurd h
 read-line (Some xs) (Some ys) None first line h k = absurd k
 read-line (Some xs) (Some ys) (Some zs) first line h k = ap lines h ∙ k
 
-pub read-none : (a b : Option (List ℕ)) (line : List ℕ) → Consumes a b [] → OnSome a (IsAtEnd b) → ReadsLine a false line b
+pub read-none : (a b : Option (List ℕ)) (line : List ℕ)
+    → Consumes a b []
+    → OnSome a (IsAtEnd b)
+    → ReadsLine a false line b
 read-none None b line h e = tt
 read-none (Some xs) None line h e = absurd h
 read-none (Some xs) (Some ys) line h e = (ap lines (h ∙ e), ap lines e)

@@ -11,13 +11,19 @@ use Rattle.ptpm_world.specs.Running.{is_late_held}
 
 -- ---- names
 
-place-here : (n : List ℕ) (ns : List (List ℕ)) (name : List ℕ) → bytes_eq n name ≡ true → place_in (n ∷ ns) name ≡ 0
+place-here : (n : List ℕ) (ns : List (List ℕ)) (name : List ℕ)
+    → bytes_eq n name ≡ true
+    → place_in (n ∷ ns) name ≡ 0
 place-here n ns name e = ap (λ b. if not b then 1 + place_in ns name else 0) e
 
-place-later : (n : List ℕ) (ns : List (List ℕ)) (name : List ℕ) → bytes_eq n name ≡ false → place_in (n ∷ ns) name ≡ 1 + place_in ns name
+place-later : (n : List ℕ) (ns : List (List ℕ)) (name : List ℕ)
+    → bytes_eq n name ≡ false
+    → place_in (n ∷ ns) name ≡ 1 + place_in ns name
 place-later n ns name e = ap (λ b. if not b then 1 + place_in ns name else 0) e
 
-pub contains-place : (names : List (List ℕ)) (name : List ℕ) → place_in names name < length names → Contains names name
+pub contains-place : (names : List (List ℕ)) (name : List ℕ)
+    → place_in names name < length names
+    → Contains names name
 contains-place [] name h = absurd (omega (arith, h))
 contains-place (n ∷ ns) name h = ⊎_elim
     (λ (y : bytes_eq n name ≡ true). (0, omega arith, (bytes_eq-Decides n name).0 y))
@@ -26,7 +32,9 @@ contains-place (n ∷ ns) name h = ⊎_elim
     (suc rest.0, omega (arith, rest.1), rest.2))
     (cases_Bool (bytes_eq n name))
 
-pub place-contained : (names : List (List ℕ)) (name : List ℕ) (k : ℕ) → k < length names → slice_index_or names k name ≡ name
+pub place-contained : (names : List (List ℕ)) (name : List ℕ) (k : ℕ)
+    → k < length names
+    → slice_index_or names k name ≡ name
     → place_in names name < length names
 place-contained [] name k h e = absurd (omega (arith, h))
 place-contained (n ∷ ns) name zero h e = omega (arith, place-here n ns name ((bytes_eq-Decides n name).1 e))
@@ -35,14 +43,17 @@ place-contained (n ∷ ns) name (suc k) h e = ⊎_elim
     (λ (o : bytes_eq n name ≡ false). omega (arith, place-later n ns name o, place-contained ns name k (omega (arith, h)) e))
     (cases_Bool (bytes_eq n name))
 
-pub known-found : {X : Type 0} (name_of : X → List ℕ) (xs : List X) (name : List ℕ) (i : ℕ) → i ≡ place_in (map name_of xs) name → i < length xs
+pub known-found : {X : Type 0} (name_of : X → List ℕ) (xs : List X) (name : List ℕ) (i : ℕ)
+    → i ≡ place_in (map name_of xs) name
+    → i < length xs
     → (true ≡ true) ↔ Contains (map name_of xs) name
 known-found name_of xs name i e within = (
   λ some. contains-place (map name_of xs) name (omega (arith, e, within, length-map xs name_of)),
   λ found. refl,
 )
 
-pub unknown-name : {X : Type 0} (name_of : X → List ℕ) (xs : List X) (name : List ℕ) → place_in (map name_of xs) name ≡ length xs
+pub unknown-name : {X : Type 0} (name_of : X → List ℕ) (xs : List X) (name : List ℕ)
+    → place_in (map name_of xs) name ≡ length xs
     → (false ≡ true) ↔ Contains (map name_of xs) name
 unknown-name name_of xs name e = (
   λ none. absurd (false≢true none),
@@ -61,7 +72,9 @@ within-some [] i h = absurd (omega (arith, h))
 within-some (x ∷ xs) zero h = refl
 within-some (x ∷ xs) (suc i) h = within-some xs i (omega (arith, h))
 
-some-held : (frames : List Held) (n : ℕ) → is_some (frame_at frames n) ≡ true → (1 ≤ n) × (n ≤ length frames)
+some-held : (frames : List Held) (n : ℕ)
+    → is_some (frame_at frames n) ≡ true
+    → (1 ≤ n) × (n ≤ length frames)
 some-held frames n e = ⊎_elim
     (λ (y : n == 0 ≡ true). absurd (false≢true (ap is_some (sym (cond-true _ _ _ y)) ∙ e)))
     (λ (o : n == 0 ≡ false).
@@ -70,17 +83,22 @@ some-held frames n e = ⊎_elim
     (omega (arith, positive), omega (arith, positive, within)))
     (cases_Bool (n == 0))
 
-held-some : (frames : List Held) (n : ℕ) → 1 ≤ n → n ≤ length frames → is_some (frame_at frames n) ≡ true
+held-some : (frames : List Held) (n : ℕ)
+    → 1 ≤ n
+    → n ≤ length frames
+    → is_some (frame_at frames n) ≡ true
 held-some frames n positive within = ⊎_elim
     (λ (y : n == 0 ≡ true). absurd (omega (arith, positive, eqb-true n 0 y)))
     (λ (o : n == 0 ≡ false). ap is_some (cond-false _ _ _ o) ∙ within-some frames (n - 1) (omega (arith, positive, within)))
     (cases_Bool (n == 0))
 
-some-mapped : {T : Type 0} (view : T → Held) (o : Option T) → is_some (option_map view o) ≡ is_some o
+some-mapped : {T : Type 0} (view : T → Held) (o : Option T)
+    → is_some (option_map view o) ≡ is_some o
 some-mapped view None = refl
 some-mapped view (Some t) = refl
 
-pub known-frame : {T : Type 0} (view : T → Held) (o : Option T) (frames : List Held) (n : ℕ) → option_map view o ≡ frame_at frames n
+pub known-frame : {T : Type 0} (view : T → Held) (o : Option T) (frames : List Held) (n : ℕ)
+    → option_map view o ≡ frame_at frames n
     → IsSome o ↔ ((1 ≤ n) × (n ≤ length frames))
 known-frame view o frames n e =
     let same = sym (some-mapped view o) ∙ ap is_some e in
@@ -91,5 +109,7 @@ late-some : (r : RunningNetwork) (o : Option Held) → is_late_held r o ≡ true
 late-some r None e = absurd (false≢true e)
 late-some r (Some h) e = refl
 
-pub late-there : (r : RunningNetwork) (n : ℕ) → is_late_held r (frame_at r.frames n) ≡ true → (1 ≤ n) × (n ≤ length r.frames)
+pub late-there : (r : RunningNetwork) (n : ℕ)
+    → is_late_held r (frame_at r.frames n) ≡ true
+    → (1 ≤ n) × (n ≤ length r.frames)
 late-there r n e = some-held r.frames n (late-some r (frame_at r.frames n) e)

@@ -9,9 +9,18 @@ use Rattle.ptpm_network.specs.State.{Origin}
 use Rattle.ptpm_world.proofs.Places.{map_more}
 
 -- what was posted of the messages so far, and the frames of one more
-pub posted-more : {X : Type 0} (entries : List X) (view : X → ℕ × List ℕ) (links : List (List End)) (c ingress : ℕ) (passed reply : Origin) (i : ℕ) (e : X) (start now new : List Held) (octets : List ℕ) (origin : Origin) → i < length entries → e ≡ get_or entries i e
-    → now ≡ start ++ flat_map (posted_by links c ingress passed reply) (map view (take i entries)) → new ≡ now ++ posted (peers links (AtPort c (view e).0)) octets origin → octets ≡ (view e).1 → origin ≡ (if (view e).0 == ingress then reply else passed)
-    → new ≡ start ++ flat_map (posted_by links c ingress passed reply) (map view (take (i + 1) entries))
+pub posted-more : {X : Type 0} (entries : List X) (view : X → ℕ × List ℕ) (links : List (List End))
+    (c ingress : ℕ) (passed reply : Origin) (i : ℕ) (e : X) (start now new : List Held)
+    (octets : List ℕ) (origin : Origin)
+    → i < length entries
+    → e ≡ get_or entries i e
+    → now ≡ start ++ flat_map (posted_by links c ingress passed reply) (map view (take i entries))
+    → new ≡ now ++ posted (peers links (AtPort c (view e).0)) octets origin
+    → octets ≡ (view e).1
+    → origin ≡ (if (view e).0 == ingress then reply else passed)
+    → new
+    ≡ start
+    ++ flat_map (posted_by links c ingress passed reply) (map view (take (i + 1) entries))
 posted-more entries view links c ingress passed reply i e start now new octets origin h is before more same belongs =
     more
     ∙ ap (λ hs. hs ++ posted (peers links (AtPort c (view e).0)) octets origin) before

@@ -15,8 +15,12 @@ use Rattle.ptpm_world.specs.declared.world.World.{World}
 use Rattle.ptpm_world.specs.Running.{IsOf, reports_of, running}
 
 -- a report of the session at a place
-pub worth-shown : (N : Network) (past : List machine.Event) (w : World) (s : ℕ) (x : RunningSession) → IsOf N w → StandsAfter N past (running w)
-    → slice_get w.sessions.items s ≡ Some x → (i : ℕ) (report : Report) → slice_get x.reports.items i ≡ Some report
+pub worth-shown : (N : Network) (past : List machine.Event) (w : World) (s : ℕ) (x : RunningSession)
+    → IsOf N w
+    → StandsAfter N past (running w)
+    → slice_get w.sessions.items s ≡ Some x
+    → (i : ℕ) (report : Report)
+    → slice_get x.reports.items i ≡ Some report
     → (report.index ≡ i + 1) × IsWorth N (run N (initial_state N) past) s report
 worth-shown N past w s x is at there i report e =
     let place : s < N.sessions = subst (λ n. s < n) is.session_count (slice_get_within w.sessions.items s x there) in

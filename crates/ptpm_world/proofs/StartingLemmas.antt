@@ -50,7 +50,11 @@ use Rattle.ptpm_world.proofs.DescribedLaws.{at_place, known-place, of_place, the
 -- ---- lists
 
 -- an element that was read by its index
-pub read_at : {X : Type 0} (xs ys : List X) (i : ℕ) (x : X) → ys ≡ xs → i < length xs → x ≡ get_or ys i x → slice_get xs i ≡ Some x
+pub read_at : {X : Type 0} (xs ys : List X) (i : ℕ) (x : X)
+    → ys ≡ xs
+    → i < length xs
+    → x ≡ get_or ys i x
+    → slice_get xs i ≡ Some x
 read_at xs ys i x same h e = slice_get_read xs (length xs) i x refl h (e ∙ ap (λ zs. get_or zs i x) same)
 
 -- what holds of each element at its place, with one more
@@ -63,7 +67,9 @@ made_more P (z ∷ xs) y new old zero x e = old zero x e
 made_more P (z ∷ xs) y new old (suc i) x e = made_more (λ k. P (suc k)) xs y new (λ k w h. old (suc k) w h) i x e
 
 -- a list that is grown by what belongs to its next place
-pub grown : {X : Type 0} (P : ℕ → X → Type 0) (xs ys : List X) (place : ℕ) (y : X) → ys ≡ xs ++ y ∷ [] → length xs ≡ place
+pub grown : {X : Type 0} (P : ℕ → X → Type 0) (xs ys : List X) (place : ℕ) (y : X)
+    → ys ≡ xs ++ y ∷ []
+    → length xs ≡ place
     → ((i : ℕ) (x : X) → slice_get xs i ≡ Some x → P i x) → P place y
     → (length ys ≡ place + 1) × ((i : ℕ) (x : X) → slice_get ys i ≡ Some x → P i x)
 grown P xs ys place y e count old new =
@@ -73,8 +79,10 @@ grown P xs ys place y e count old new =
     )
 
 -- two lists of which the same is seen, place by place
-same_maps : {X Y A : Type 0} (f : X → A) (g : Y → A) (xs : List X) (ys : List Y) → length xs ≡ length ys
-    → ((i : ℕ) (x : X) (y : Y) → slice_get xs i ≡ Some x → slice_get ys i ≡ Some y → f x ≡ g y) → map f xs ≡ map g ys
+same_maps : {X Y A : Type 0} (f : X → A) (g : Y → A) (xs : List X) (ys : List Y)
+    → length xs ≡ length ys
+    → ((i : ℕ) (x : X) (y : Y) → slice_get xs i ≡ Some x → slice_get ys i ≡ Some y → f x ≡ g y)
+    → map f xs ≡ map g ys
 same_maps f g [] [] n h = refl
 same_maps f g [] (y ∷ ys) n h = absurd (omega (arith, n))
 same_maps f g (x ∷ xs) [] n h = absurd (omega (arith, n))
@@ -82,21 +90,31 @@ same_maps f g (x ∷ xs) (y ∷ ys) n h =
     ap (λ a. a ∷ map f xs) (h zero x y refl refl)
     ∙ ap (λ more. g y ∷ more) (same_maps f g xs ys (omega (arith, n)) (λ i a b p q. h (suc i) a b p q))
 
-pub some_at : {X : Type 0} (xs : List X) (i : ℕ) → i < length xs → (x : X) × (slice_get xs i ≡ Some x)
+pub some_at : {X : Type 0} (xs : List X) (i : ℕ)
+    → i < length xs
+    → (x : X) × (slice_get xs i ≡ Some x)
 some_at [] i h = absurd (omega (arith, h))
 some_at (x ∷ xs) zero h = (x, refl)
 some_at (x ∷ xs) (suc i) h = some_at xs i (omega (arith, h))
 
-pub get_map : {X Y : Type 0} (f : X → Y) (xs : List X) (i : ℕ) (x : X) → slice_get xs i ≡ Some x → slice_get (map f xs) i ≡ Some (f x)
+pub get_map : {X Y : Type 0} (f : X → Y) (xs : List X) (i : ℕ) (x : X)
+    → slice_get xs i ≡ Some x
+    → slice_get (map f xs) i ≡ Some (f x)
 get_map f [] i x e = absurd (cc)
 get_map f (y ∷ ys) zero x e = let q : y ≡ x = cc in ap (λ z. Some (f z)) q
 get_map f (y ∷ ys) (suc i) x e = get_map f ys i x e
 
-all_unmade : {X Y : Type 0} (P : Y → Type 0) (f : X → Y) (xs : List X) → AllByRecursion P (map f xs) → AllByRecursion (λ x. P (f x)) xs
+all_unmade : {X Y : Type 0} (P : Y → Type 0) (f : X → Y) (xs : List X)
+    → AllByRecursion P (map f xs)
+    → AllByRecursion (λ x. P (f x)) xs
 all_unmade P f [] a = tt
 all_unmade P f (x ∷ xs) a = (a.0, all_unmade P f xs a.1)
 
-all_places : {X : Type 0} (P Q : X → Type 0) → ((x : X) → P x → Q x) → (xs : List X) → AllByRecursion P xs → All Q xs
+all_places : {X : Type 0} (P Q : X → Type 0)
+    → ((x : X) → P x → Q x)
+    → (xs : List X)
+    → AllByRecursion P xs
+    → All Q xs
 all_places P Q weaker xs all = λ k d h. weaker _ (of_place P xs k d all h)
 
 -- ---- what a file says of a place
@@ -109,22 +127,37 @@ pub clock_is : (clocks : List NetworkClock) (c : ℕ) (k : NetworkClock) → sli
     → slice_index_or (map clock_value clocks) c no_clock ≡ clock_value k
 clock_is clocks c k e = at_place (map clock_value clocks) c (clock_value k) no_clock (get_map clock_value clocks c k e)
 
-pub session_is : (n : NetworkValue) (s : ℕ) (t : NetworkSession) → slice_get n.sessions s ≡ Some t → session_at n s ≡ t
+pub session_is : (n : NetworkValue) (s : ℕ) (t : NetworkSession)
+    → slice_get n.sessions s ≡ Some t
+    → session_at n s ≡ t
 session_is n s t e = at_place n.sessions s t no_session e
 
-pub target_below : (clocks : List NetworkClock) (target : ℕ) → target < length (map clock_value clocks) → target < length clocks
+pub target_below : (clocks : List NetworkClock) (target : ℕ)
+    → target < length (map clock_value clocks)
+    → target < length clocks
 target_below clocks target h = let same = length-map clocks clock_value in omega (arith, h, same)
 
 apart : (a b : ClockIdentity) → a ≢ b → same_clock a b ≡ false
 apart a b differ = not_true (same_clock a b) (λ same. differ (same_clock-true a b same))
 
-pub starts_at : (n : NetworkValue) → IsAccepted n → (c : ℕ) (k : ClockValue) → slice_get n.clocks c ≡ Some k → CanStart k
+pub starts_at : (n : NetworkValue)
+    → IsAccepted n
+    → (c : ℕ) (k : ClockValue)
+    → slice_get n.clocks c ≡ Some k
+    → CanStart k
 starts_at n facts c k e = all_get CanStart n.clocks c k facts.clocks e
 
-pub session_at_clock : (n : NetworkValue) → IsAccepted n → (s : ℕ) (t : NetworkSession) → slice_get n.sessions s ≡ Some t → IsSessionOf n t
+pub session_at_clock : (n : NetworkValue)
+    → IsAccepted n
+    → (s : ℕ) (t : NetworkSession)
+    → slice_get n.sessions s ≡ Some t
+    → IsSessionOf n t
 session_at_clock n facts s t e = all_get (IsSessionOf n) n.sessions s t facts.sessions e
 
-pub two_clocks : (n : NetworkValue) → IsAccepted n → (t : NetworkSession) (k : ClockValue) → IsSessionOf n t
+pub two_clocks : (n : NetworkValue)
+    → IsAccepted n
+    → (t : NetworkSession) (k : ClockValue)
+    → IsSessionOf n t
     → slice_get n.clocks t.target ≡ Some k → AreTwoClocks t.identity.clock k.start.identity
 two_clocks n facts t k is e = record {
   me_is_one = apart t.identity.clock every_clock is.is_one;
@@ -135,15 +168,19 @@ two_clocks n facts t k is e = record {
 
 -- ---- the managers of a clock
 
-counted : (ss : List NetworkSession) (c : ℕ) → length (identities (configured ss c)) ≡ count_by (λ s. s.target == c) ss
+counted : (ss : List NetworkSession) (c : ℕ)
+    → length (identities (configured ss c)) ≡ count_by (λ s. s.target == c) ss
 counted ss c =
     length-map (configured ss c) (λ m. m.0) ∙ length-map (filter (λ s. s.target == c) ss) with_rights
     ∙ length-filter (λ s. s.target == c) ss
 
-tail_distinct : (s : NetworkSession) (ss : List NetworkSession) → AreDistinct (λ t. t.identity) (s ∷ ss) → AreDistinct (λ t. t.identity) ss
+tail_distinct : (s : NetworkSession) (ss : List NetworkSession)
+    → AreDistinct (λ t. t.identity) (s ∷ ss)
+    → AreDistinct (λ t. t.identity) ss
 tail_distinct s ss d i j x y p q e = let same = d (suc i) (suc j) x y p q e in omega (arith, same)
 
-stands_once : (s : NetworkSession) (ss : List NetworkSession) (c : ℕ) → AreDistinct (λ t. t.identity) (s ∷ ss)
+stands_once : (s : NetworkSession) (ss : List NetworkSession) (c : ℕ)
+    → AreDistinct (λ t. t.identity) (s ∷ ss)
     → is_known s.identity (identities (configured ss c)) ≡ false
 stands_once s ss c d = not_true _ (λ k.
     let place = known-place ss s.identity c k in
@@ -151,12 +188,15 @@ stands_once s ss c d = not_true _ (λ k.
     omega (arith, same))
 
 twice-more : (here : Bool) (s : NetworkSession) (ss : List NetworkSession)
-    → is_known s.identity (identities (map with_rights ss)) ≡ false → has_twice (identities (map with_rights ss)) ≡ false
+    → is_known s.identity (identities (map with_rights ss)) ≡ false
+    → has_twice (identities (map with_rights ss)) ≡ false
     → has_twice (identities (map with_rights (if here then s ∷ ss else ss))) ≡ false
 twice-more true s ss once rest = rw (once, rest) refl
 twice-more false s ss once rest = rest
 
-none_twice : (ss : List NetworkSession) (c : ℕ) → AreDistinct (λ s. s.identity) ss → has_twice (identities (configured ss c)) ≡ false
+none_twice : (ss : List NetworkSession) (c : ℕ)
+    → AreDistinct (λ s. s.identity) ss
+    → has_twice (identities (configured ss c)) ≡ false
 none_twice [] c d = refl
 none_twice (s ∷ ss) c d =
     twice-more (s.target == c) s (filter (λ t. t.target == c) ss) (stands_once s ss c d) (none_twice ss c (tail_distinct s ss d))
@@ -164,7 +204,10 @@ none_twice (s ∷ ss) c d =
 not_over : (n : ℕ) → n ≤ 16 → nat_lt 16 n ≡ false
 not_over n h = grind (arith, nat_tests)
 
-pub no_refusal : (n : NetworkValue) → IsAccepted n → (c : ℕ) → table_refusal (identities (configured n.sessions c)) ≡ None
+pub no_refusal : (n : NetworkValue)
+    → IsAccepted n
+    → (c : ℕ)
+    → table_refusal (identities (configured n.sessions c)) ≡ None
 no_refusal n facts c =
     let few : length (identities (configured n.sessions c)) ≤ 16 = subst (λ k. k ≤ 16) (sym (counted n.sessions c)) (facts.managers c) in
     cond-false _ _ _ (not_over _ few) ∙ cond-false _ _ _ (none_twice n.sessions c facts.session_identities)
@@ -175,7 +218,9 @@ unless_ok : {A E : Type 0} (fault : Option E) (a b : A) → ◌≡◌ {A = Resul
 unless_ok None a b h = cc
 unless_ok (Some e) a b h = absurd (cc)
 
-pub sets_start : (c : ClockStart) (ports : List PortStart) (sets : DataSetsValue) → Ok sets ≡ start_of c ports → sets ≡ started c ports
+pub sets_start : (c : ClockStart) (ports : List PortStart) (sets : DataSetsValue)
+    → Ok sets ≡ start_of c ports
+    → sets ≡ started c ports
 unfolding start_of
 sets_start c ports sets h = unless_ok (start_fault c ports) (started c ports) sets h
 
@@ -184,19 +229,26 @@ abbrev IsFreshTable : ClockIdentity → List (PortIdentity × Rights) → BoundT
 IsFreshTable clock managers t =
     IsFresh clock managers (clock_with t.clock (slots.configured t.slots.items)) (table_entries t)
 
-pub clock_starts : (a : Agent BoundTable) (t : BoundTable) (clock : ClockIdentity) (managers : List (PortIdentity × Rights)) → a.table ≡ t
+pub clock_starts : (a : Agent BoundTable) (t : BoundTable) (clock : ClockIdentity)
+    (managers : List (PortIdentity × Rights))
+    → a.table ≡ t
     → IsFreshTable clock managers t → agent_clock a ≡ clock_with clock managers
 clock_starts a t clock managers same f =
     ap (λ (b : BoundTable). clock_with b.clock (slots.configured b.slots.items)) same ∙ f.owner_is
 
-pub state_starts : (a : Agent BoundTable) (t : BoundTable) (sets : DataSetsValue) (clock : ClockIdentity) (managers : List (PortIdentity × Rights))
-    → a.table ≡ t → a.sets ≡ sets → IsFreshTable clock managers t → agent_state a ≡ initial_clock_state sets
+pub state_starts : (a : Agent BoundTable) (t : BoundTable) (sets : DataSetsValue)
+    (clock : ClockIdentity) (managers : List (PortIdentity × Rights))
+    → a.table ≡ t
+    → a.sets ≡ sets
+    → IsFreshTable clock managers t
+    → agent_state a ≡ initial_clock_state sets
 state_starts a t sets clock managers same sets_are f = λ i. record {
   sets = sets_are i;
   entries = (ap table_entries same ∙ f.nothing_kept) i;
 }
 
-pub started_clock : (n : NetworkValue) (c : ℕ) (k : ClockValue) (managers : List (PortIdentity × Rights)) (x : RunningClock)
+pub started_clock : (n : NetworkValue) (c : ℕ) (k : ClockValue)
+    (managers : List (PortIdentity × Rights)) (x : RunningClock)
     → clock_at n c ≡ k → managers ≡ configured n.sessions c → x.name ≡ k.name
     → agent_clock x.agent ≡ clock_with k.start.identity managers
     → agent_state x.agent ≡ initial_clock_state (first_sets k) → IsStartedClock n c x
@@ -206,7 +258,8 @@ started_clock n c k managers x at same name clock state = record {
   state = state ∙ ap (λ (v : ClockValue). initial_clock_state (first_sets v)) (sym at);
 }
 
-pub started_session : (n : NetworkValue) (s : ℕ) (t : NetworkSession) (k : ClockValue) (x : RunningSession)
+pub started_session : (n : NetworkValue) (s : ℕ) (t : NetworkSession) (k : ClockValue)
+    (x : RunningSession)
     → session_at n s ≡ t → clock_at n t.target ≡ k → x.name ≡ t.name → x.identity ≡ t.identity
     → x.session ≡ manager.fresh
     (record { me = t.identity; target = k.start.identity; ports = length k.ports; first = t.first; hops = t.hops; attempts = t.attempts })
@@ -231,49 +284,64 @@ started_session n s t k x here target name identity session reports = record {
 
 -- ---- ends and links
 
-counts_are : (n : NetworkValue) (clocks : List RunningClock) → AreStartedClocks n clocks → port_counts clocks ≡ map (λ c. length c.ports) n.clocks
+counts_are : (n : NetworkValue) (clocks : List RunningClock)
+    → AreStartedClocks n clocks
+    → port_counts clocks ≡ map (λ c. length c.ports) n.clocks
 counts_are n clocks s = same_maps (λ (x : RunningClock). length x.agent.sets.ports) (λ (c : ClockValue). length c.ports) clocks n.clocks s.count
     (λ i x y p q.
     ap (λ t. length t.sets.ports) (s.each i x p).state
     ∙ length-map (clock_at n i).ports port_data_set
     ∙ ap (λ (c : ClockValue). length c.ports) (at_place n.clocks i y no_clock q))
 
-end_there : (n : NetworkValue) (e : End) → IsEndOf n e → IsThere (map (λ c. length c.ports) n.clocks) (length n.sessions) e
+end_there : (n : NetworkValue) (e : End)
+    → IsEndOf n e
+    → IsThere (map (λ c. length c.ports) n.clocks) (length n.sessions) e
 end_there n (ends.Clock place port) is = (length is.0.ports, (get_map (λ (c : ClockValue). length c.ports) n.clocks place is.0 is.1, (is.2, is.3)))
 end_there n (ends.Session place) is = is
 
-link_there : (n : NetworkValue) (l : NetworkLink) → IsLinkOf n l.ends.items → IsLink (map (λ c. length c.ports) n.clocks) (length n.sessions) l
+link_there : (n : NetworkValue) (l : NetworkLink)
+    → IsLinkOf n l.ends.items
+    → IsLink (map (λ c. length c.ports) n.clocks) (length n.sessions) l
 link_there n l is = (
   is.at_most_sixteen,
   all_places (IsEndOf n) (IsThere (map (λ c. length c.ports) n.clocks) (length n.sessions)) (end_there n) l.ends.items is.ends,
 )
 
-links_there : (n : NetworkValue) (links : List NetworkLink) → IsAccepted n → map link_value links ≡ n.links
+links_there : (n : NetworkValue) (links : List NetworkLink)
+    → IsAccepted n
+    → map link_value links ≡ n.links
     → AreLinks (map (λ c. length c.ports) n.clocks) (length n.sessions) links
 links_there n links facts same =
     all_places (λ (l : NetworkLink). IsLinkOf n l.ends.items) (IsLink (map (λ c. length c.ports) n.clocks) (length n.sessions))
     (λ l is. link_there n l is) links
     (all_unmade (IsLinkOf n) link_value links (subst (AllByRecursion (IsLinkOf n)) (sym same) facts.links))
 
-pub are_links : (n : NetworkValue) (clocks : List RunningClock) (sessions : List RunningSession) (links : List NetworkLink) → IsAccepted n
+pub are_links : (n : NetworkValue) (clocks : List RunningClock) (sessions : List RunningSession)
+    (links : List NetworkLink)
+    → IsAccepted n
     → AreStartedClocks n clocks → AreStartedSessions n sessions → map link_value links ≡ n.links
     → AreLinks (port_counts clocks) (length sessions) links
 are_links n clocks sessions links facts c s same =
     subst (λ counts. AreLinks counts (length sessions) links) (sym (counts_are n clocks c))
     (subst (λ count. AreLinks (map (λ k. length k.ports) n.clocks) count links) (sym s.count) (links_there n links facts same))
 
-ends_are : (links : List NetworkLink) → link_ends links ≡ map (map described_end) (map link_value links)
+ends_are : (links : List NetworkLink)
+    → link_ends links ≡ map (map described_end) (map link_value links)
 ends_are [] = refl
 ends_are (l ∷ ls) = ap (λ ends. map described_end l.ends.items ∷ ends) (ends_are ls)
 
-pub none_stored : (counts : List ℕ) (sessions : ℕ) (f : Frames) → held_in f ≡ [] → All (IsStoredFrame counts sessions) f.stored.items
+pub none_stored : (counts : List ℕ) (sessions : ℕ) (f : Frames)
+    → held_in f ≡ []
+    → All (IsStoredFrame counts sessions) f.stored.items
 none_stored counts sessions f e = λ k d h. (
     let none : length f.stored.items ≡ 0 = sym (length-map f.stored.items (frame_in f.octets.items)) ∙ ap length e in
     absurd (omega (arith, h, none)))
 
 -- ---- the whole
 
-pub is_of : (n : NetworkValue) (w : World) → AreStartedClocks n w.clocks.items → AreStartedSessions n w.sessions.items
+pub is_of : (n : NetworkValue) (w : World)
+    → AreStartedClocks n w.clocks.items
+    → AreStartedSessions n w.sessions.items
     → map link_value w.links.items ≡ n.links → IsOf (described n) w
 is_of n w clocks sessions links = record {
   clock_count = clocks.count;
@@ -283,7 +351,9 @@ is_of n w clocks sessions links = record {
   links = ends_are w.links.items ∙ ap (map (map described_end)) links;
 }
 
-pub are_names : (n : NetworkValue) (cs : List RunningClock) (ss : List RunningSession) → AreStartedClocks n cs → AreStartedSessions n ss
+pub are_names : (n : NetworkValue) (cs : List RunningClock) (ss : List RunningSession)
+    → AreStartedClocks n cs
+    → AreStartedSessions n ss
     → ◌≡◌ {A = Names} (record { clocks = map (λ (x : RunningClock). x.name) cs; sessions = map (λ (x : RunningSession). x.name) ss }) (names_of n)
 are_names n cs ss clocks sessions =
     let of_clocks = same_maps (λ (x : RunningClock). x.name) (λ (c : ClockValue). c.name) cs n.clocks clocks.count
@@ -301,8 +371,12 @@ running_of clocks sessions frames = record {
   frames = held_in frames;
 }
 
-pub stands : (n : NetworkValue) (cs : List RunningClock) (ss : List RunningSession) (frames_sent : Frames) (first : PortIdentity → ℕ) → AreStartedClocks n cs
-    → AreStartedSessions n ss → held_in frames_sent ≡ [] → Stands (described n) first (running_of cs ss frames_sent) (initial_state (described n))
+pub stands : (n : NetworkValue) (cs : List RunningClock) (ss : List RunningSession)
+    (frames_sent : Frames) (first : PortIdentity → ℕ)
+    → AreStartedClocks n cs
+    → AreStartedSessions n ss
+    → held_in frames_sent ≡ []
+    → Stands (described n) first (running_of cs ss frames_sent) (initial_state (described n))
 stands n cs ss frames_sent first clocks sessions frames =
     let start = stands-initial_state (described n) first in
     record {

@@ -25,7 +25,12 @@ pub record IsStoredAs (counts : List ℕ) (sessions : ℕ) (h : Held) : Type 0 w
   pub end : described_end stored.end ≡ h.end
   pub origin : origin_of stored.origin ≡ h.origin
 
-from_map : (octets : List ℕ) (counts : List ℕ) (sessions : ℕ) (h : Held) (stored : List Stored) (k : ℕ) (o : Option Stored) → All (IsStoredFrame counts sessions) stored → slice_get stored k ≡ o → option_map (frame_in octets) o ≡ Some h → IsStoredAs counts sessions h
+from_map : (octets : List ℕ) (counts : List ℕ) (sessions : ℕ) (h : Held) (stored : List Stored)
+    (k : ℕ) (o : Option Stored)
+    → All (IsStoredFrame counts sessions) stored
+    → slice_get stored k ≡ o
+    → option_map (frame_in octets) o ≡ Some h
+    → IsStoredAs counts sessions h
 from_map octets counts sessions h stored k None all at e = absurd (cc)
 from_map octets counts sessions h stored k (Some s) all at e =
     let same : frame_in octets s ≡ h = same_Some (frame_in octets s) h e in
@@ -36,12 +41,19 @@ from_map octets counts sessions h stored k (Some s) all at e =
       origin = ap (λ (x : Held). x.origin) same;
     }
 
-from_number : (octets : List ℕ) (counts : List ℕ) (sessions : ℕ) (h : Held) (stored : List Stored) (n : ℕ) (b : Bool) → All (IsStoredFrame counts sessions) stored → (if b then None else slice_get (map (frame_in octets) stored) (n - 1)) ≡ Some h → IsStoredAs counts sessions h
+from_number : (octets : List ℕ) (counts : List ℕ) (sessions : ℕ) (h : Held) (stored : List Stored)
+    (n : ℕ) (b : Bool)
+    → All (IsStoredFrame counts sessions) stored
+    → (if b then None else slice_get (map (frame_in octets) stored) (n - 1)) ≡ Some h
+    → IsStoredAs counts sessions h
 from_number octets counts sessions h stored n true all e = absurd (cc)
 from_number octets counts sessions h stored n false all e =
     from_map octets counts sessions h stored (n - 1) (slice_get stored (n - 1)) all refl (sym (slice_get-map (frame_in octets) stored (n - 1)) ∙ e)
 
-pub stored_as : (f : Frames) (counts : List ℕ) (sessions : ℕ) (n : ℕ) (h : Held) → All (IsStoredFrame counts sessions) f.stored.items → frame_at (held_in f) n ≡ Some h → IsStoredAs counts sessions h
+pub stored_as : (f : Frames) (counts : List ℕ) (sessions : ℕ) (n : ℕ) (h : Held)
+    → All (IsStoredFrame counts sessions) f.stored.items
+    → frame_at (held_in f) n ≡ Some h
+    → IsStoredAs counts sessions h
 stored_as f counts sessions n h all e = from_number f.octets.items counts sessions h f.stored.items n (n == 0) all e
 
 -- ---- at a clock
@@ -51,18 +63,27 @@ pub record IsPort (clocks : List RunningClock) (place port : ℕ) : Type 0 where
   pub within : place < length clocks
   pub has : (x : RunningClock) → slice_get clocks place ≡ Some x → HasPort port x.agent.sets
 
-there_at : (counts : List ℕ) (sessions : ℕ) (e : End) (place port : ℕ) → described_end e ≡ machine.AtPort place port → IsThere counts sessions e → IsThere counts sessions (ends.Clock place port)
+there_at : (counts : List ℕ) (sessions : ℕ) (e : End) (place port : ℕ)
+    → described_end e ≡ machine.AtPort place port
+    → IsThere counts sessions e
+    → IsThere counts sessions (ends.Clock place port)
 there_at counts sessions (ends.Clock c p) place port e there =
     let place_is : c ≡ place = cc in
     let port_is : p ≡ port = cc in
     subst (λ k. IsThere counts sessions (ends.Clock k port)) place_is (subst (λ k. IsThere counts sessions (ends.Clock c k)) port_is there)
 there_at counts sessions (ends.Session s) place port e there = absurd (cc)
 
-within_clocks : (clocks : List RunningClock) (place n : ℕ) (o : Option RunningClock) → slice_get clocks place ≡ o → option_map (λ c. length c.agent.sets.ports) o ≡ Some n → place < length clocks
+within_clocks : (clocks : List RunningClock) (place n : ℕ) (o : Option RunningClock)
+    → slice_get clocks place ≡ o
+    → option_map (λ c. length c.agent.sets.ports) o ≡ Some n
+    → place < length clocks
 within_clocks clocks place n None at e = absurd (cc)
 within_clocks clocks place n (Some x) at e = slice_get_within clocks place x at
 
-pub port_there : (clocks : List RunningClock) (sessions place port : ℕ) (h : Held) → IsStoredAs (port_counts clocks) sessions h → h.end ≡ machine.AtPort place port → IsPort clocks place port
+pub port_there : (clocks : List RunningClock) (sessions place port : ℕ) (h : Held)
+    → IsStoredAs (port_counts clocks) sessions h
+    → h.end ≡ machine.AtPort place port
+    → IsPort clocks place port
 port_there clocks sessions place port h is end =
     let there = there_at (port_counts clocks) sessions is.stored.end place port (is.end ∙ end) is.is.end in
     let counted = sym (slice_get-map (λ c. length c.agent.sets.ports) clocks place) ∙ there.1.0 in
@@ -75,16 +96,25 @@ port_there clocks sessions place port h is end =
 
 -- ---- at a session
 
-session_at : (counts : List ℕ) (sessions : ℕ) (e : End) (place : ℕ) → described_end e ≡ machine.AtSession place → IsThere counts sessions e → place < sessions
+session_at : (counts : List ℕ) (sessions : ℕ) (e : End) (place : ℕ)
+    → described_end e ≡ machine.AtSession place
+    → IsThere counts sessions e
+    → place < sessions
 session_at counts sessions (ends.Clock c p) place e there = absurd (cc)
 session_at counts sessions (ends.Session s) place e there = let place_is : s ≡ place = cc in subst (λ k. k < sessions) place_is there
 
-pub session_there : (counts : List ℕ) (sessions place : ℕ) (h : Held) → IsStoredAs counts sessions h → h.end ≡ machine.AtSession place → place < sessions
+pub session_there : (counts : List ℕ) (sessions place : ℕ) (h : Held)
+    → IsStoredAs counts sessions h
+    → h.end ≡ machine.AtSession place
+    → place < sessions
 session_there counts sessions place h is end = session_at counts sessions is.stored.end place (is.end ∙ end) is.is.end
 
 -- ---- what it belongs to
 
-of_session : (sessions : ℕ) (a b : Origin) → origin_of a ≡ origin_of b → IsOfSession sessions a → IsOfSession sessions b
+of_session : (sessions : ℕ) (a b : Origin)
+    → origin_of a ≡ origin_of b
+    → IsOfSession sessions a
+    → IsOfSession sessions b
 of_session sessions (origins.Request s k) (origins.Request t j) e of =
     let same : s ≡ t = cc in
     let index : k ≡ j = cc in
@@ -101,7 +131,10 @@ of_session sessions origins.Other (origins.Request t j) e of = absurd (cc)
 of_session sessions origins.Other (origins.Reply t j) e of = absurd (cc)
 of_session sessions origins.Other origins.Other e of = tt
 
-pub origin_there : (counts : List ℕ) (sessions : ℕ) (h : Held) (origin : Origin) → IsStoredAs counts sessions h → h.origin ≡ origin_of origin → IsOfSession sessions origin
+pub origin_there : (counts : List ℕ) (sessions : ℕ) (h : Held) (origin : Origin)
+    → IsStoredAs counts sessions h
+    → h.origin ≡ origin_of origin
+    → IsOfSession sessions origin
 origin_there counts sessions h origin is same = of_session sessions is.stored.origin origin (is.origin ∙ same) is.is.origin
 
 -- ---- a frame of a world
@@ -116,7 +149,11 @@ pub record IsAtClock (w : World) (place port : ℕ) (origin : Origin) (h : Held)
 some_and : {X : Type 0} (P : X → Type 0) (o : Option X) (x : X) → IsSomeAnd o P → o ≡ Some x → P x
 some_and P o x h e = subst (λ (u : Option _). IsSomeAnd u P) e h
 
-pub at_clock : (w : World) (n place port : ℕ) (origin : Origin) (h : Held) → IsSomeAnd (frame_at (held_in w.frames) n) (λ x. (x.end ≡ machine.AtPort place port) × (x.origin ≡ origin_of origin)) → frame_at (held_in w.frames) n ≡ Some h → IsAtClock w place port origin h
+pub at_clock : (w : World) (n place port : ℕ) (origin : Origin) (h : Held)
+    → IsSomeAnd (frame_at (held_in w.frames) n)
+    (λ x. (x.end ≡ machine.AtPort place port) × (x.origin ≡ origin_of origin))
+    → frame_at (held_in w.frames) n ≡ Some h
+    → IsAtClock w place port origin h
 at_clock w n place port origin h some e =
     let both = some_and (λ x. (x.end ≡ machine.AtPort place port) × (x.origin ≡ origin_of origin)) (frame_at (held_in w.frames) n) h some e in
     let as' = stored_as w.frames (port_counts w.clocks.items) (length w.sessions.items) n h w.frames_there e in
@@ -127,7 +164,10 @@ at_clock w n place port origin h some e =
       session = origin_there (port_counts w.clocks.items) (length w.sessions.items) h origin as' both.1;
     }
 
-pub at_session : (w : World) (n place : ℕ) (h : Held) → IsSomeAnd (frame_at (held_in w.frames) n) (λ x. x.end ≡ machine.AtSession place) → frame_at (held_in w.frames) n ≡ Some h → (h.end ≡ machine.AtSession place) × (place < length w.sessions.items)
+pub at_session : (w : World) (n place : ℕ) (h : Held)
+    → IsSomeAnd (frame_at (held_in w.frames) n) (λ x. x.end ≡ machine.AtSession place)
+    → frame_at (held_in w.frames) n ≡ Some h
+    → (h.end ≡ machine.AtSession place) × (place < length w.sessions.items)
 at_session w n place h some e =
     let end = some_and (λ x. x.end ≡ machine.AtSession place) (frame_at (held_in w.frames) n) h some e in
     (end, session_there (port_counts w.clocks.items) (length w.sessions.items) place h (stored_as w.frames (port_counts w.clocks.items) (length w.sessions.items) n h w.frames_there e) end)
@@ -137,5 +177,8 @@ at_session w n place h some e =
 abbrev pub with_octets : Held → List ℕ → Held
 with_octets h octets = record h { octets = octets }
 
-pub lent_octets : (o : Option Held) (h : Held) (octets : List ℕ) → Some h ≡ o → octets ≡ h.octets → o ≡ Some (with_octets h octets)
+pub lent_octets : (o : Option Held) (h : Held) (octets : List ℕ)
+    → Some h ≡ o
+    → octets ≡ h.octets
+    → o ≡ Some (with_octets h octets)
 lent_octets o h octets e same = sym e ∙ ap (λ (os : List ℕ). Some (with_octets h os)) (sym same)

@@ -20,7 +20,8 @@ use Rattle.ptpm_world.specs.Placed.{place_in}
 
 -- ---- by names
 
-prefix_len-map : {X Y : Type 0} (p : Y → Bool) (f : X → Y) (xs : List X) → prefix_len p (map f xs) ≡ prefix_len (λ x. p (f x)) xs
+prefix_len-map : {X Y : Type 0} (p : Y → Bool) (f : X → Y) (xs : List X)
+    → prefix_len p (map f xs) ≡ prefix_len (λ x. p (f x)) xs
 prefix_len-map p f [] = refl
 prefix_len-map p f (x ∷ xs) = ap (λ n. if p (f x) then 1 + n else 0) (prefix_len-map p f xs)
 
@@ -45,30 +46,36 @@ cut_none n m most e = ⊎_elim
     (cases_Bool (nat_lt n m))
 
 pub found_place : {X : Type 0} (name_of : X → List ℕ) (xs : List X) (name : List ℕ) (i : ℕ)
-    → Some i ≡ position (λ x. bytes_eq (name_of x) name) xs → (i ≡ place_in (map name_of xs) name) × (i < length xs)
+    → Some i ≡ position (λ x. bytes_eq (name_of x) name) xs
+    → (i ≡ place_in (map name_of xs) name) × (i < length xs)
 found_place name_of xs name i e =
     let p = cut_some (position_or_len (λ x. bytes_eq (name_of x) name) xs) (length xs) i e in
     (p.0 ∙ sym (place-map name_of xs name), p.1)
 
 pub no_place : {X : Type 0} (name_of : X → List ℕ) (xs : List X) (name : List ℕ)
-    → None ≡ position (λ x. bytes_eq (name_of x) name) xs → place_in (map name_of xs) name ≡ length xs
+    → None ≡ position (λ x. bytes_eq (name_of x) name) xs
+    → place_in (map name_of xs) name ≡ length xs
 no_place name_of xs name e =
     place-map name_of xs name
     ∙ cut_none (position_or_len (λ x. bytes_eq (name_of x) name) xs) (length xs) (prefix_len-le-length _ xs) e
 
 pub found_clause : {X : Type 0} (name_of : X → List ℕ) (xs : List X) (name : List ℕ) (r : Option ℕ)
-    → r ≡ position (λ x. bytes_eq (name_of x) name) xs → IfSome r (λ i. (i ≡ place_in (map name_of xs) name) × (i < length xs))
+    → r ≡ position (λ x. bytes_eq (name_of x) name) xs
+    → IfSome r (λ i. (i ≡ place_in (map name_of xs) name) × (i < length xs))
 found_clause name_of xs name (Some i) e = found_place name_of xs name i e
 found_clause name_of xs name None e = tt
 
 pub none_clause : {X : Type 0} (name_of : X → List ℕ) (xs : List X) (name : List ℕ) (r : Option ℕ)
-    → r ≡ position (λ x. bytes_eq (name_of x) name) xs → IfNone r (place_in (map name_of xs) name ≡ length xs)
+    → r ≡ position (λ x. bytes_eq (name_of x) name) xs
+    → IfNone r (place_in (map name_of xs) name ≡ length xs)
 none_clause name_of xs name (Some i) e = tt
 none_clause name_of xs name None e = no_place name_of xs name e
 
 -- what stands at the place of a name is the first that has it
 pub at_name : {X : Type 0} (name_of : X → List ℕ) (xs : List X) (name : List ℕ) (i : ℕ) (x : X)
-    → i ≡ place_in (map name_of xs) name → slice_get xs i ≡ Some x → find (λ y. bytes_eq (name_of y) name) xs ≡ Some x
+    → i ≡ place_in (map name_of xs) name
+    → slice_get xs i ≡ Some x
+    → find (λ y. bytes_eq (name_of y) name) xs ≡ Some x
 at_name name_of xs name i x e at =
     find_at (λ y. bytes_eq (name_of y) name) xs ∙ ap (slice_get xs) (sym (e ∙ place-map name_of xs name)) ∙ at
 
@@ -86,31 +93,41 @@ IsOfOrigin sessions (state.RequestOf s k) = (s < sessions) × (k ≤ count_limit
 IsOfOrigin sessions (state.ReplyTo s k) = (s < sessions) × (k ≤ count_limit)
 IsOfOrigin sessions state.Neither = Unit {0}
 
-seen_origin : (sessions : ℕ) (o : Origin) → IsOfSession sessions o → IsOfOrigin sessions (origin_of o)
+seen_origin : (sessions : ℕ) (o : Origin)
+    → IsOfSession sessions o
+    → IsOfOrigin sessions (origin_of o)
 seen_origin sessions (origins.Request s k) is = is
 seen_origin sessions (origins.Reply s k) is = is
 seen_origin sessions origins.Other is = is
 
-own_origin : (sessions : ℕ) (o : Origin) → IsOfOrigin sessions (origin_of o) → IsOfSession sessions o
+own_origin : (sessions : ℕ) (o : Origin)
+    → IsOfOrigin sessions (origin_of o)
+    → IsOfSession sessions o
 own_origin sessions (origins.Request s k) is = is
 own_origin sessions (origins.Reply s k) is = is
 own_origin sessions origins.Other is = is
 
-pub made_at : {X Y : Type 0} (make : X → Y) (xs : List X) (i : ℕ) (y : Y) → slice_get (map make xs) i ≡ Some y
+pub made_at : {X Y : Type 0} (make : X → Y) (xs : List X) (i : ℕ) (y : Y)
+    → slice_get (map make xs) i ≡ Some y
     → (x : X) × (slice_get xs i ≡ Some x) × (make x ≡ y)
 made_at make [] i y e = absurd (cc)
 made_at make (x ∷ xs) zero y e = (x, refl, same_Some (make x) y e)
 made_at make (x ∷ xs) (suc i) y e = made_at make xs i y e
 
-held_there : (frames : List Held) (n : ℕ) (h : Held) → frame_at frames n ≡ Some h → slice_get frames (n - 1) ≡ Some h
+held_there : (frames : List Held) (n : ℕ) (h : Held)
+    → frame_at frames n ≡ Some h
+    → slice_get frames (n - 1) ≡ Some h
 held_there frames n h e = ⊎_elim
     (λ (b : n == 0 ≡ true). let none : None ≡ Some h = sym (cond-true _ _ _ b) ∙ e in absurd (cc))
     (λ (b : n == 0 ≡ false). sym (cond-false _ _ _ b) ∙ e)
     (cases_Bool (n == 0))
 
 -- what a frame of the store belongs to
-pub origin_there : (counts : List ℕ) (sessions : ℕ) (frames : Frames) (n : ℕ) (h : Held) (o : Origin)
-    → All (IsStoredFrame counts sessions) frames.stored.items → frame_at (held_in frames) n ≡ Some h → h.origin ≡ origin_of o
+pub origin_there : (counts : List ℕ) (sessions : ℕ) (frames : Frames) (n : ℕ) (h : Held)
+    (o : Origin)
+    → All (IsStoredFrame counts sessions) frames.stored.items
+    → frame_at (held_in frames) n ≡ Some h
+    → h.origin ≡ origin_of o
     → IsOfSession sessions o
 origin_there counts sessions frames n h o all e same =
     let found = made_at (frame_in frames.octets.items) frames.stored.items (n - 1) h (held_there (held_in frames) n h e) in
@@ -124,8 +141,14 @@ origin_there counts sessions frames n h o all e same =
 abbrev pub IsRequest : ℕ → ℕ → ℕ → Type 0
 IsRequest sessions s k = (s < sessions) × (k ≤ count_limit)
 
-pub request_there : (sessions s k : ℕ) (o : Origin) → o ≡ origins.Request s k → IsOfSession sessions o → IsRequest sessions s k
+pub request_there : (sessions s k : ℕ) (o : Origin)
+    → o ≡ origins.Request s k
+    → IsOfSession sessions o
+    → IsRequest sessions s k
 request_there sessions s k o same is = subst (IsOfSession sessions) same is
 
-pub reply_there : (sessions s k : ℕ) (o : Origin) → o ≡ origins.Reply s k → IsOfSession sessions o → IsRequest sessions s k
+pub reply_there : (sessions s k : ℕ) (o : Origin)
+    → o ≡ origins.Reply s k
+    → IsOfSession sessions o
+    → IsRequest sessions s k
 reply_there sessions s k o same is = subst (IsOfSession sessions) same is

@@ -51,20 +51,27 @@ IsOfSession-prop sessions (origins.Request session index) = ×_prop le_prop le_p
 IsOfSession-prop sessions (origins.Reply session index) = ×_prop le_prop le_prop
 IsOfSession-prop sessions origins.Other = Unit-prop
 
-pub IsStoredFrame-prop : (counts : List ℕ) (sessions : ℕ) (s : Stored) → IsProp (IsStoredFrame counts sessions s)
+pub IsStoredFrame-prop : (counts : List ℕ) (sessions : ℕ) (s : Stored)
+    → IsProp (IsStoredFrame counts sessions s)
 IsStoredFrame-prop counts sessions s = λ x y i. record {
   end = IsThere-prop counts sessions s.end x.end y.end i;
   origin = IsOfSession-prop sessions s.origin x.origin y.origin i;
 }
 
-pub All-prop : {X : Type 0} (P : X → Type 0) → ((x : X) → IsProp (P x)) → (xs : List X) → IsProp (All P xs)
+pub All-prop : {X : Type 0} (P : X → Type 0)
+    → ((x : X) → IsProp (P x))
+    → (xs : List X)
+    → IsProp (All P xs)
 All-prop P each xs = Π_prop (λ k. Π_prop (λ d. →_prop (each _)))
 
-pub IsLink-prop : (counts : List ℕ) (sessions : ℕ) (l : NetworkLink) → IsProp (IsLink counts sessions l)
+pub IsLink-prop : (counts : List ℕ) (sessions : ℕ) (l : NetworkLink)
+    → IsProp (IsLink counts sessions l)
 IsLink-prop counts sessions l = ×_prop le_prop (All-prop (IsThere counts sessions) (IsThere-prop counts sessions) l.ends.items)
 
-pub AreLinks-prop : (counts : List ℕ) (sessions : ℕ) (links : List NetworkLink) → IsProp (AreLinks counts sessions links)
+pub AreLinks-prop : (counts : List ℕ) (sessions : ℕ) (links : List NetworkLink)
+    → IsProp (AreLinks counts sessions links)
 AreLinks-prop counts sessions links = All-prop (IsLink counts sessions) (IsLink-prop counts sessions) links
 
-pub AreStored-prop : (counts : List ℕ) (sessions : ℕ) (frames : List Stored) → IsProp (All (IsStoredFrame counts sessions) frames)
+pub AreStored-prop : (counts : List ℕ) (sessions : ℕ) (frames : List Stored)
+    → IsProp (All (IsStoredFrame counts sessions) frames)
 AreStored-prop counts sessions frames = All-prop (IsStoredFrame counts sessions) (IsStoredFrame-prop counts sessions) frames

@@ -76,7 +76,9 @@ pub record IsOf (N : Network) (w : World) : Type 0 where
   pub clock_count : length w.clocks.items ≡ N.clocks
   pub clocks : (c : ℕ) (x : RunningClock) → slice_get w.clocks.items c ≡ Some x → IsClockOf N c x
   pub session_count : length w.sessions.items ≡ N.sessions
-  pub sessions : (s : ℕ) (x : RunningSession) → slice_get w.sessions.items s ≡ Some x → IsSessionOf N s x
+  pub sessions : (s : ℕ) (x : RunningSession)
+      → slice_get w.sessions.items s ≡ Some x
+      → IsSessionOf N s x
   pub links : link_ends w.links.items ≡ N.links
 
 -- ---- by names

@@ -91,16 +91,26 @@ pub record Prints (script : List (List ℕ)) (text : List ℕ) : Type 0 where
   pub network : NetworkValue
   pub is_network : network_of (network_text script) ≡ Ok network
   pub are_events : bad_line_from 1 (event_part script) ≡ None
-  pub is_trace : text ≡ trace (described network) (names_of network) (started network) (events_from 1 (event_part script))
+  pub is_trace : text
+      ≡ trace (described network) (names_of network) (started network)
+      (events_from 1 (event_part script))
 
 -- Lines have a network file, and this text is the beginning of the lines of their events.
 pub record Begins (script : List (List ℕ)) (text : List ℕ) : Type 0 where
   pub network : NetworkValue
   pub rest : List ℕ
   pub is_network : network_of (network_text script) ≡ Ok network
-  pub is_begun : text ++ rest ≡ event_lines (described network) (names_of network) (started network) (events_from 1 (event_part script))
+  pub is_begun : text ++ rest
+      ≡ event_lines (described network) (names_of network) (started network)
+      (events_from 1 (event_part script))
 
 -- a writer took the beginning of the lines of these events
-abbrev pub TakesFirst : Network → Names → RunningNetwork → List (ℕ × Event) → Option (List ℕ) → Option (List ℕ) → Type 0
+abbrev pub TakesFirst : Network
+    → Names
+    → RunningNetwork
+    → List (ℕ × Event)
+    → Option (List ℕ)
+    → Option (List ℕ)
+    → Type 0
 TakesFirst N names r events before after =
     (text : List ℕ) × ((rest : List ℕ) × ((text ++ rest ≡ event_lines N names r events) × Appends before after text))

@@ -22,7 +22,8 @@ pub record AreStartedClocks (n : NetworkValue) (clocks : List RunningClock) : Ty
 pub record IsStartedSession (n : NetworkValue) (s : ℕ) (x : RunningSession) : Type 0 where
   pub name : x.name ≡ (session_at n s).name
   pub identity : x.identity ≡ (session_at n s).identity
-  pub session : x.session ≡ manager.fresh (described_session n (session_at n s)).setup (session_at n s).domain
+  pub session : x.session
+      ≡ manager.fresh (described_session n (session_at n s)).setup (session_at n s).domain
   pub reports : x.reports.items ≡ []
 
 pub record AreStartedSessions (n : NetworkValue) (sessions : List RunningSession) : Type 0 where

@@ -15,7 +15,9 @@ pub record IsStep (N : Network) (old new : World) (e : Event) (result : Result T
   pub goes : OnOk result (running new ≡ network_step N (running old) e)
   pub answers : IfOk result (λ t. t ≡ took N (running old) e)
   pub permitted : OnOk result (network_refusal N (running old) e ≡ None)
-  pub refuses : IfErr result (λ x. x ≢ errors.OutOfMemory → option_map error_of (network_refusal N (running old) e) ≡ Some x)
+  pub refuses : IfErr result
+      (λ x.
+      x ≢ errors.OutOfMemory → option_map error_of (network_refusal N (running old) e) ≡ Some x)
   pub network : IsOf N new
 
 -- every event of a list happens: none is refused in its turn

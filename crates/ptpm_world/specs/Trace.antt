@@ -47,7 +47,11 @@ event_text number verb answer late before after =
 
 -- ---- what an event does, by its place in the run
 
-abbrev pub answer_by : Option Refusal → Network → RunningNetwork → machine.Event → Result Took StepError
+abbrev pub answer_by : Option Refusal
+    → Network
+    → RunningNetwork
+    → machine.Event
+    → Result Took StepError
 answer_by None N r e = Ok (took N r e)
 answer_by (Some refusal) N r e = Err (error_of refusal)
 

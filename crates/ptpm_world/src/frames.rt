@@ -147,10 +147,15 @@ impl Frames {
         requires room { HasRoom 1 self.old }
         requires small { length octets.now ≤ MESSAGE_OCTETS }
         requires few { (counts : List ℕ) × (sessions : ℕ) × AreLinks counts sessions links.now }
-        ensures frames { held_in self.new ≡ held_in self.old ++ posted (peers (link_ends links.now) (described_end from)) octets.now (origin_of origin) }
+        ensures frames { held_in self.new
+            ≡ held_in self.old
+            ++ posted (peers (link_ends links.now) (described_end from)) octets.now
+            (origin_of origin) }
         ensures room { (n : ℕ) → HasRoom (n + 1) self.old → HasRoom n self.new }
-        ensures stored { (counts : List ℕ) (sessions : ℕ) → All (IsStoredFrame counts sessions) self.old.stored.items
-            → AreLinks counts sessions links.now → IsOfSession sessions origin
+        ensures stored { (counts : List ℕ) (sessions : ℕ)
+            → All (IsStoredFrame counts sessions) self.old.stored.items
+            → AreLinks counts sessions links.now
+            → IsOfSession sessions origin
             → All (IsStoredFrame counts sessions) self.new.stored.items }
     {
         let Some(link) = link_at(links, from) else {
@@ -179,8 +184,10 @@ fn link_at(links: &[NetworkLink], end: End) -> Option<&NetworkLink>
 
 /// Stores a frame once for each of these ends but its own, in their order. There is room for them.
 fn push_others(stored: &mut Vec<Stored>, ends: &[End], frame: Stored)
-    requires { length stored.old.items + length (others frame.end ends.now) ≤ vec_capacity stored.old }
-    ensures items { stored.new.items ≡ stored.old.items ++ map (at_end frame) (others frame.end ends.now) }
+    requires { length stored.old.items + length (others frame.end ends.now)
+        ≤ vec_capacity stored.old }
+    ensures items { stored.new.items
+        ≡ stored.old.items ++ map (at_end frame) (others frame.end ends.now) }
     ensures capacity { vec_capacity stored.new ≡ vec_capacity stored.old }
 {
     for end in ends {

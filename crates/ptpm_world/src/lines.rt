@@ -33,7 +33,8 @@ impl<R: Read + Drop> Lines<R> {
 
     /// The lines of a reader. Takes the memory for one line and for the reader's buffer.
     pub(crate) fn new(alloc: Global, reader: R) -> Result<Lines<R>, ScriptError>
-        ensures octets { IfOk result (λ l. IfSome (R.remaining reader) (λ octets. left_in R.remaining l ≡ Some octets)) }
+        ensures octets { IfOk result
+            (λ l. IfSome (R.remaining reader) (λ octets. left_in R.remaining l ≡ Some octets)) }
         ensures count { IfOk result (λ l. l.count ≡ 0) }
         ensures fault { IfErr result (λ e. is_outside e ≡ true) }
     {
@@ -51,11 +52,19 @@ impl<R: Read + Drop> Lines<R> {
     /// A line ends with a line feed, or with a carriage return and a line feed. The last may lack its end, and then a carriage
     /// return stays.
     pub(crate) fn read(&mut self) -> Result<bool, ScriptError>
-        ensures line { IfOk result (λ more. ReadsLine (left_in R.remaining self.old) more self.new.line.items (left_in R.remaining self.new)) }
+        ensures line { IfOk result
+            (λ more.
+            ReadsLine (left_in R.remaining self.old) more self.new.line.items
+            (left_in R.remaining self.new)) }
         ensures count { result ≡ Ok true → self.new.count ≡ self.old.count + 1 }
-        ensures whole { IfOk result (λ more.
-            ReadsWhole (self.old.count + 1) (left_in R.remaining self.old) more self.new.line.items (left_in R.remaining self.new)) }
-        ensures fault { IfErr result (λ e. is_outside e ≡ false → HasNextFault (self.old.count + 1) (left_in R.remaining self.old) e) }
+        ensures whole { IfOk result
+            (λ more.
+            ReadsWhole (self.old.count + 1) (left_in R.remaining self.old) more
+            self.new.line.items (left_in R.remaining self.new)) }
+        ensures fault { IfErr result
+            (λ e.
+            is_outside e ≡ false
+            → HasNextFault (self.old.count + 1) (left_in R.remaining self.old) e) }
     {
         self.line.clear();
         match self.read_octet()? {
@@ -74,13 +83,19 @@ impl<R: Read + Drop> Lines<R> {
     /// Reads the rest of a line, after its first octet.
     fn read_rest(&mut self, first: u8) -> Result<(), ScriptError>
         requires { length self.old.line.items ≡ 0 }
-        ensures line { OnOk result (ReadsLine (option_map (λ octets. first ∷ octets) (left_in R.remaining self.old)) true
+        ensures line { OnOk result
+            (ReadsLine (option_map (λ octets. first ∷ octets) (left_in R.remaining self.old)) true
             self.new.line.items (left_in R.remaining self.new)) }
         ensures count { self.new.count ≡ self.old.count }
-        ensures whole { OnOk result (ReadsWhole self.old.count (option_map (λ octets. first ∷ octets) (left_in R.remaining self.old)) true
+        ensures whole { OnOk result
+            (ReadsWhole self.old.count
+            (option_map (λ octets. first ∷ octets) (left_in R.remaining self.old)) true
             self.new.line.items (left_in R.remaining self.new)) }
-        ensures fault { IfErr result (λ e. is_outside e ≡ false
-            → HasNextFault self.old.count (option_map (λ octets. first ∷ octets) (left_in R.remaining self.old)) e) }
+        ensures fault { IfErr result
+            (λ e.
+            is_outside e ≡ false
+            → HasNextFault self.old.count
+            (option_map (λ octets. first ∷ octets) (left_in R.remaining self.old)) e) }
     {
         let mut next = Some(first);
         while let Some(octet) = next {
@@ -119,8 +134,14 @@ impl<R: Read + Drop> Lines<R> {
 
     /// The next octet of the reader; none at its end.
     fn read_octet(&mut self) -> Result<Option<u8>, ScriptError>
-        ensures octet { IfOk result (λ o. Consumes (left_in R.remaining self.old) (left_in R.remaining self.new) (given o)) }
-        ensures end { IfOk result (λ o. IfNone o (OnSome (left_in R.remaining self.old) (IsAtEnd (left_in R.remaining self.new)))) }
+        ensures octet { IfOk result
+            (λ o.
+            Consumes (left_in R.remaining self.old) (left_in R.remaining self.new) (given o)) }
+        ensures end { IfOk result
+            (λ o.
+            IfNone o
+            (OnSome (left_in R.remaining self.old)
+            (IsAtEnd (left_in R.remaining self.new)))) }
         ensures line { self.new.line.items ≡ self.old.line.items }
         ensures count { self.new.count ≡ self.old.count }
         ensures fault { IfErr result (λ e. is_outside e ≡ true) }

@@ -19,7 +19,9 @@ use ptpm_script::{Event, Network};
 
 /// The network that a text is, with clocks and sessions by their places, is one that the laws of networks speak of.
 pub fn described_networks()
-    ensures { (text : List ℕ) (n : NetworkValue) → network_of text ≡ Ok n → IsNetwork (described n) }
+    ensures { (text : List ℕ) (n : NetworkValue)
+        → network_of text ≡ Ok n
+        → IsNetwork (described n) }
 {}
 
 /// So is every `Network`.
@@ -61,7 +63,9 @@ pub fn every_world(world: &World)
         → AreOfManagers (N.clock c) ((running world.now).clock c).entries }
     ensures ports { (N : machine.Network) → IsOf N world.now → (c : ℕ) → c < N.clocks
         → length ((running world.now).clock c).sets.ports ≡ ports N c }
-    ensures ends { (N : machine.Network) → IsOf N world.now → All (λ f. HasEnd N f.end) (running world.now).frames }
+    ensures ends { (N : machine.Network)
+        → IsOf N world.now
+        → All (λ f. HasEnd N f.end) (running world.now).frames }
     ensures octets { All (λ f. length f.octets ≤ 1472) (running world.now).frames }
     ensures frames { length (running world.now).frames ≤ 400000 }
 {

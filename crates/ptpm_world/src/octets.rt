@@ -10,8 +10,10 @@ use std::io::BufRead;
 
 /// The next octet of a reader that shows what it has read ahead; none at its end. What fails is not tried again.
 pub(crate) fn next_octet<B: BufRead>(reader: &mut B) -> Result<Option<u8>, ScriptError>
-    ensures octet { IfOk result (λ o. Consumes (B.remaining reader.old) (B.remaining reader.new) (given o)) }
-    ensures end { IfOk result (λ o. IfNone o (OnSome (B.remaining reader.old) (IsAtEnd (B.remaining reader.new)))) }
+    ensures octet { IfOk result
+        (λ o. Consumes (B.remaining reader.old) (B.remaining reader.new) (given o)) }
+    ensures end { IfOk result
+        (λ o. IfNone o (OnSome (B.remaining reader.old) (IsAtEnd (B.remaining reader.new)))) }
     ensures fault { IfErr result (λ e. is_outside e ≡ true) }
 {
     let ahead = match reader.fill_buf() {

@@ -32,7 +32,10 @@ const DIVIDER: &str = "%%";
 
 /// The lines of a script print one text at most.
 pub fn one_trace()
-    ensures { (script : List (List ℕ)) (first second : List ℕ) → Prints script first → Prints script second → first ≡ second }
+    ensures { (script : List (List ℕ)) (first second : List ℕ)
+        → Prints script first
+        → Prints script second
+        → first ≡ second }
 {}
 
 /// Reads a network file, the line `%%` and events from a reader, lets the events happen one after another, and writes the
@@ -48,12 +51,24 @@ pub fn run_script<R: Read + Drop, W: Write>(
     reader: R,
     out: &mut W,
 ) -> Result<(), ScriptError>
-    ensures trace { OnOk result (IfSome (R.remaining reader) (λ input.
-        (text : List ℕ) × Prints (lines input) text × Appends (W.contents out.old) (W.contents out.new) text)) }
+    ensures trace { OnOk result
+        (IfSome (R.remaining reader)
+        (λ input.
+        (text : List ℕ) × Prints (lines input) text
+        × Appends (W.contents out.old) (W.contents out.new) text)) }
     ensures none { OnOk result (IfSome (R.remaining reader) (λ input. script_fault input ≡ None)) }
-    ensures fault { IfErr result (λ e. is_outside e ≡ false → IfSome (R.remaining reader) (λ input. script_fault input ≡ Some e)) }
-    ensures begun { IfErr result (λ e. e ≢ faults.WriteFault → IfSome (R.remaining reader) (λ input.
-        (text : List ℕ) × (((text ≡ []) ⊎ Begins (lines input) text) × Appends (W.contents out.old) (W.contents out.new) text))) }
+    ensures fault { IfErr result
+        (λ e.
+        is_outside e ≡ false
+        → IfSome (R.remaining reader) (λ input. script_fault input ≡ Some e)) }
+    ensures begun { IfErr result
+        (λ e.
+        e ≢ faults.WriteFault
+        → IfSome (R.remaining reader)
+        (λ input.
+        (text : List ℕ)
+        × (((text ≡ []) ⊎ Begins (lines input) text)
+        × Appends (W.contents out.old) (W.contents out.new) text))) }
 {
     let mut script = Lines::new(alloc, reader)?;
     let network = read_network(alloc, &mut script)?;
@@ -70,12 +85,24 @@ fn read_network<R: Read + Drop>(
     alloc: Global,
     script: &mut Lines<R>,
 ) -> Result<Network, ScriptError>
-    ensures network { IfOk result (λ network. BothKnown (left_in R.remaining script.old) (left_in R.remaining script.new) (λ before after.
-        (network_of (network_text (lines before)) ≡ Ok (network_value network)) × (lines after ≡ event_part (lines before)))) }
-    ensures none { OnOk result (BothKnown (left_in R.remaining script.old) (left_in R.remaining script.new) (λ before after.
-        file_fault None (script.old.count + 1) (whole_lines before) ≡ events_fault (script.new.count + 1) 1 (whole_lines after))) }
-    ensures fault { IfErr result (λ e. is_outside e ≡ false → IfSome (left_in R.remaining script.old) (λ octets.
-        file_fault (network_fault (network_of (network_text (lines octets)))) (script.old.count + 1) (whole_lines octets) ≡ Some e)) }
+    ensures network { IfOk result
+        (λ network.
+        BothKnown (left_in R.remaining script.old) (left_in R.remaining script.new)
+        (λ before after.
+        (network_of (network_text (lines before)) ≡ Ok (network_value network))
+        × (lines after ≡ event_part (lines before)))) }
+    ensures none { OnOk result
+        (BothKnown (left_in R.remaining script.old) (left_in R.remaining script.new)
+        (λ before after.
+        file_fault None (script.old.count + 1) (whole_lines before)
+        ≡ events_fault (script.new.count + 1) 1 (whole_lines after))) }
+    ensures fault { IfErr result
+        (λ e.
+        is_outside e ≡ false
+        → IfSome (left_in R.remaining script.old)
+        (λ octets.
+        file_fault (network_fault (network_of (network_text (lines octets))))
+        (script.old.count + 1) (whole_lines octets) ≡ Some e)) }
 {
     let text = read_text(alloc, script)?;
     network_of_text(alloc, text.as_str())
@@ -84,7 +111,8 @@ fn read_network<R: Read + Drop>(
 /// The network of a text.
 fn network_of_text(alloc: Global, text: &str) -> Result<Network, ScriptError>
     ensures network { IfOk result (λ network. network_of text.now ≡ Ok (network_value network)) }
-    ensures fault { IfErr result (λ e. is_outside e ≡ false → network_fault (network_of text.now) ≡ Some e) }
+    ensures fault { IfErr result
+        (λ e. is_outside e ≡ false → network_fault (network_of text.now) ≡ Some e) }
 {
     match Network::from_toml(alloc, text) {
         Ok(network) => Ok(network),
@@ -96,13 +124,27 @@ fn network_of_text(alloc: Global, text: &str) -> Result<Network, ScriptError>
 /// The lines up to the divider, each followed by a line feed. Of a text over the limit only so much is kept that it is
 /// still over it.
 fn read_text<R: Read + Drop>(alloc: Global, script: &mut Lines<R>) -> Result<String, ScriptError>
-    ensures text { IfOk result (λ text. BothKnown (left_in R.remaining script.old) (left_in R.remaining script.new) (λ before after.
-        StandsFor (string_bytes text) (network_text (lines before)) × (lines after ≡ event_part (lines before)))) }
-    ensures none { OnOk result (BothKnown (left_in R.remaining script.old) (left_in R.remaining script.new) (λ before after.
-        (network : Option ScriptError) → file_fault network (script.old.count + 1) (whole_lines before)
-        ≡ option_or network (events_fault (script.new.count + 1) 1 (whole_lines after)))) }
-    ensures fault { IfErr result (λ e. is_outside e ≡ false → IfSome (left_in R.remaining script.old) (λ octets.
-        (network : Option ScriptError) → file_fault network (script.old.count + 1) (whole_lines octets) ≡ Some e)) }
+    ensures text { IfOk result
+        (λ text.
+        BothKnown (left_in R.remaining script.old) (left_in R.remaining script.new)
+        (λ before after.
+        StandsFor (string_bytes text) (network_text (lines before))
+        × (lines after ≡ event_part (lines before)))) }
+    ensures none { OnOk result
+        (BothKnown (left_in R.remaining script.old) (left_in R.remaining script.new)
+        (λ before after.
+        (network : Option ScriptError)
+        → file_fault network (script.old.count + 1) (whole_lines before)
+        ≡ option_or network
+        (events_fault (script.new.count + 1) 1 (whole_lines after)))) }
+    ensures fault { IfErr result
+        (λ e.
+        is_outside e ≡ false
+        → IfSome (left_in R.remaining script.old)
+        (λ octets.
+        (network : Option ScriptError)
+        → file_fault network (script.old.count + 1) (whole_lines octets)
+        ≡ Some e)) }
 {
     let mut text = String::new(alloc);
     while script.read()? {
@@ -123,7 +165,8 @@ fn is_divider(line: &str) -> bool
 
 /// Puts a line and a line feed at the end of a text that is not over the limit.
 fn keep_line(text: &mut String, line: &str) -> Result<(), OutOfMemory>
-    ensures long { OnOk result (262144 < length (string_bytes text.old) → string_bytes text.new ≡ string_bytes text.old) }
+    ensures long { OnOk result
+        (262144 < length (string_bytes text.old) → string_bytes text.new ≡ string_bytes text.old) }
     ensures short { OnOk result (length (string_bytes text.old) ≤ 262144
         → string_bytes text.new ≡ (string_bytes text.old ++ line.now) ++ line_feed) }
 {
@@ -142,20 +185,44 @@ fn play<R: Read + Drop, W: Write>(
     world: &mut World,
     out: &mut W,
 ) -> Result<(), ScriptError>
-    ensures events { OnOk result (IfSome (left_in R.remaining script.old) (λ octets. bad_line_from 1 (lines octets) ≡ None)) }
-    ensures text { (N : machine.Network) → IsOf N world.old → OnOk result (IfSome (left_in R.remaining script.old) (λ octets.
+    ensures events { OnOk result
+        (IfSome (left_in R.remaining script.old)
+        (λ octets. bad_line_from 1 (lines octets) ≡ None)) }
+    ensures text { (N : machine.Network)
+        → IsOf N world.old
+        → OnOk result
+        (IfSome (left_in R.remaining script.old)
+        (λ octets.
         Appends (W.contents out.old) (W.contents out.new)
-        (event_lines N (names_in world.old) (running world.old) (events_from 1 (lines octets))))) }
-    ensures last { (N : machine.Network) → IsOf N world.old → OnOk result (IfSome (left_in R.remaining script.old) (λ octets.
-        running world.new ≡ after_all N (names_in world.old) (running world.old) (events_from 1 (lines octets)))) }
+        (event_lines N (names_in world.old) (running world.old)
+        (events_from 1 (lines octets))))) }
+    ensures last { (N : machine.Network)
+        → IsOf N world.old
+        → OnOk result
+        (IfSome (left_in R.remaining script.old)
+        (λ octets.
+        running world.new
+        ≡ after_all N (names_in world.old) (running world.old)
+        (events_from 1 (lines octets)))) }
     ensures names { OnOk result (names_in world.new ≡ names_in world.old) }
     ensures none { OnOk result (IfSome (left_in R.remaining script.old) (λ octets.
         events_fault (script.old.count + 1) 1 (whole_lines octets) ≡ None)) }
-    ensures fault { IfErr result (λ e. is_outside e ≡ false → IfSome (left_in R.remaining script.old) (λ octets.
+    ensures fault { IfErr result
+        (λ e.
+        is_outside e ≡ false
+        → IfSome (left_in R.remaining script.old)
+        (λ octets.
         events_fault (script.old.count + 1) 1 (whole_lines octets) ≡ Some e)) }
-    ensures begun { (N : machine.Network) → IsOf N world.old → IfErr result (λ e. e ≢ faults.WriteFault
-        → IfSome (left_in R.remaining script.old) (λ octets. TakesFirst N (names_in world.old) (running world.old)
-        (events_from 1 (lines octets)) (W.contents out.old) (W.contents out.new))) }
+    ensures begun { (N : machine.Network)
+        → IsOf N world.old
+        → IfErr result
+        (λ e.
+        e ≢ faults.WriteFault
+        → IfSome (left_in R.remaining script.old)
+        (λ octets.
+        TakesFirst N (names_in world.old) (running world.old)
+        (events_from 1 (lines octets)) (W.contents out.old)
+        (W.contents out.new))) }
 {
     let mut number = 0;
     while script.read()? {
@@ -180,12 +247,15 @@ fn play_event<W: Write>(
     ensures line { (N : machine.Network) → IsOf N world.old
         → OnOk result (Appends (W.contents out.old) (W.contents out.new)
         (event_line N (names_in world.old) (running world.old) number event)) }
-    ensures after { (N : machine.Network) → IsOf N world.old
-        → OnOk result (running world.new ≡ after N (running world.old) (placed (names_in world.old) event)) }
+    ensures after { (N : machine.Network)
+        → IsOf N world.old
+        → OnOk result
+        (running world.new ≡ after N (running world.old) (placed (names_in world.old) event)) }
     ensures names { names_in world.new ≡ names_in world.old }
     ensures network { (N : machine.Network) → IsOf N world.old → IsOf N world.new }
     ensures fault { IfErr result (λ e. is_outside e ≡ true) }
-    ensures kept { IfErr result (λ e. e ≢ faults.WriteFault → W.contents out.new ≡ W.contents out.old) }
+    ensures kept { IfErr result
+        (λ e. e ≢ faults.WriteFault → W.contents out.new ≡ W.contents out.old) }
 {
     write_event(world, number, &event, out)
 }
@@ -193,7 +263,8 @@ fn play_event<W: Write>(
 /// The event of a line.
 fn event_of(alloc: Global, number: u32, line: &str) -> Result<Event, ScriptError>
     ensures event { IfOk result (λ event. reading line.now ≡ Ok event) }
-    ensures fault { IfErr result (λ e. is_outside e ≡ false → reading_fault number (reading line.now) ≡ Some e) }
+    ensures fault { IfErr result
+        (λ e. is_outside e ≡ false → reading_fault number (reading line.now) ≡ Some e) }
 {
     match read_event(alloc, line) {
         Ok(event) => Ok(event),

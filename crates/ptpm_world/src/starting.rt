@@ -29,9 +29,13 @@ impl World {
     /// rights that the file gives it, in the file's order. Nothing is made where memory is refused.
     pub fn new(alloc: Global, network: &Network) -> Result<World, OutOfMemory>
         ensures network { IfOk result (λ w. IsOf (described (network_value network.now)) w) }
-        ensures stands { IfOk result (λ w. (first : PortIdentity → ℕ) →
-            Stands (described (network_value network.now)) first (running w) (initial_state (described (network_value network.now)))) }
-        ensures after { IfOk result (λ w. StandsAfter (described (network_value network.now)) [] (running w)) }
+        ensures stands { IfOk result
+            (λ w.
+            (first : PortIdentity → ℕ)
+            → Stands (described (network_value network.now)) first (running w)
+            (initial_state (described (network_value network.now)))) }
+        ensures after { IfOk result
+            (λ w. StandsAfter (described (network_value network.now)) [] (running w)) }
         ensures names { IfOk result (λ w. names_in w ≡ names_of (network_value network.now)) }
     {
         Ok(World {

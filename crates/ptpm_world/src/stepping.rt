@@ -43,23 +43,51 @@ impl World {
     /// Where no frame was delivered late before, and none is now, it stands where the event leads the network machine, and
     /// refuses what that refuses, for the same reason.
     pub fn step(&mut self, event: &Event) -> Result<Took, StepError>
-        ensures happened { (N : Network) → IsOf N self.old
-            → OnOk result (running self.new ≡ network_step N (running self.old) (placed (names_in self.old) event.now)) }
-        ensures took { (N : Network) → IsOf N self.old
-            → IfOk result (λ t. t ≡ took N (running self.old) (placed (names_in self.old) event.now)) }
-        ensures permitted { (N : Network) → IsOf N self.old
-            → OnOk result (network_refusal N (running self.old) (placed (names_in self.old) event.now) ≡ None) }
-        ensures refused { (N : Network) → IsOf N self.old
-            → IfErr result (λ e. e ≢ StepError.OutOfMemory
-            → option_map error_of (network_refusal N (running self.old) (placed (names_in self.old) event.now)) ≡ Some e) }
-        ensures stands { (N : Network) (past : List machine.Event) → IsOf N self.old → StandsAfter N past (running self.old)
-            → is_late_delivery (run N (initial_state N) past) (placed (names_in self.old) event.now) ≡ false
-            → OnOk result (StandsAfter N (past ++ placed (names_in self.old) event.now ∷ []) (running self.new)) }
-        ensures taken { (N : Network) (past : List machine.Event) → IsOf N self.old → StandsAfter N past (running self.old)
-            → OnOk result (refusal N (run N (initial_state N) past) (placed (names_in self.old) event.now) ≡ None) }
-        ensures reason { (N : Network) (past : List machine.Event) → IsOf N self.old → StandsAfter N past (running self.old)
-            → IfErr result (λ e. e ≢ StepError.OutOfMemory
-            → option_map error_of (refusal N (run N (initial_state N) past) (placed (names_in self.old) event.now)) ≡ Some e) }
+        ensures happened { (N : Network)
+            → IsOf N self.old
+            → OnOk result
+            (running self.new
+            ≡ network_step N (running self.old) (placed (names_in self.old) event.now)) }
+        ensures took { (N : Network)
+            → IsOf N self.old
+            → IfOk result
+            (λ t. t ≡ took N (running self.old) (placed (names_in self.old) event.now)) }
+        ensures permitted { (N : Network)
+            → IsOf N self.old
+            → OnOk result
+            (network_refusal N (running self.old) (placed (names_in self.old) event.now)
+            ≡ None) }
+        ensures refused { (N : Network)
+            → IsOf N self.old
+            → IfErr result
+            (λ e.
+            e ≢ StepError.OutOfMemory
+            → option_map error_of
+            (network_refusal N (running self.old)
+            (placed (names_in self.old) event.now)) ≡ Some e) }
+        ensures stands { (N : Network) (past : List machine.Event)
+            → IsOf N self.old
+            → StandsAfter N past (running self.old)
+            → is_late_delivery (run N (initial_state N) past) (placed (names_in self.old) event.now)
+            ≡ false
+            → OnOk result
+            (StandsAfter N (past ++ placed (names_in self.old) event.now ∷ [])
+            (running self.new)) }
+        ensures taken { (N : Network) (past : List machine.Event)
+            → IsOf N self.old
+            → StandsAfter N past (running self.old)
+            → OnOk result
+            (refusal N (run N (initial_state N) past) (placed (names_in self.old) event.now)
+            ≡ None) }
+        ensures reason { (N : Network) (past : List machine.Event)
+            → IsOf N self.old
+            → StandsAfter N past (running self.old)
+            → IfErr result
+            (λ e.
+            e ≢ StepError.OutOfMemory
+            → option_map error_of
+            (refusal N (run N (initial_state N) past)
+            (placed (names_in self.old) event.now)) ≡ Some e) }
         ensures unchanged { OnErr result (running self.new ≡ running self.old) }
         ensures names { names_in self.new ≡ names_in self.old }
         ensures network { (N : Network) → IsOf N self.old → IsOf N self.new }
@@ -77,33 +105,73 @@ impl World {
     /// first acceptance; repeats of the latest get the one reply kept, older ones none; each manager reports those replies;
     /// strangers and refused SETs change no data set (`Headline`).
     pub fn run(&mut self, events: &[Event]) -> Result<(), (usize, StepError)>
-        ensures ran { (N : Network) → IsOf N self.old
-            → OnOk result (running self.new ≡ network_run N (running self.old) (map (placed (names_in self.old)) events.now)) }
-        ensures happened { (N : Network) → IsOf N self.old
-            → OnOk result (AllHappen N (running self.old) (map (placed (names_in self.old)) events.now)) }
+        ensures ran { (N : Network)
+            → IsOf N self.old
+            → OnOk result
+            (running self.new
+            ≡ network_run N (running self.old)
+            (map (placed (names_in self.old)) events.now)) }
+        ensures happened { (N : Network)
+            → IsOf N self.old
+            → OnOk result
+            (AllHappen N (running self.old) (map (placed (names_in self.old)) events.now)) }
         ensures place { IfErr result (λ e. e.0 < length events.now) }
-        ensures stopped { (N : Network) → IsOf N self.old
-            → IfErr result (λ e. running self.new ≡ network_run N (running self.old) (map (placed (names_in self.old)) (take e.0 events.now))) }
-        ensures before { (N : Network) → IsOf N self.old
-            → IfErr result (λ e. AllHappen N (running self.old) (map (placed (names_in self.old)) (take e.0 events.now))) }
-        ensures refused { (N : Network) → IsOf N self.old
-            → IfErr result (λ e. e.1 ≢ StepError.OutOfMemory → (event : Event) → slice_get events.now e.0 ≡ Some event
-            → option_map error_of (network_refusal N (running self.new) (placed (names_in self.old) event)) ≡ Some e.1) }
-        ensures stands { (N : Network) (past : List machine.Event) → IsOf N self.old → StandsAfter N past (running self.old)
-            → let es = map (placed (names_in self.old)) (carried_out result events.now) in
-            AreInTime N (run N (initial_state N) past) es → StandsAfter N (past ++ es) (running self.new) }
-        ensures headline { (N : Network) (past : List machine.Event) → IsOf N self.old → StandsAfter N past (running self.old)
-            → let es = map (placed (names_in self.old)) (carried_out result events.now) in
-            AreInTime N (run N (initial_state N) past) es → Headline N (run N (initial_state N) (past ++ es)) (running self.new) }
-        ensures taken { (N : Network) (past : List machine.Event) → IsOf N self.old → StandsAfter N past (running self.old)
-            → let es = map (placed (names_in self.old)) (carried_out result events.now) in
-            AreInTime N (run N (initial_state N) past) es → IfErr result (λ e. e.1 ≢ StepError.OutOfMemory)
-            → taken N (run N (initial_state N) past) (map (placed (names_in self.old)) events.now) ≡ es }
-        ensures reason { (N : Network) (past : List machine.Event) → IsOf N self.old → StandsAfter N past (running self.old)
-            → let es = map (placed (names_in self.old)) (carried_out result events.now) in
-            AreInTime N (run N (initial_state N) past) es
-            → IfErr result (λ e. e.1 ≢ StepError.OutOfMemory → (event : Event) → slice_get events.now e.0 ≡ Some event
-            → option_map error_of (refusal N (run N (initial_state N) (past ++ es)) (placed (names_in self.old) event)) ≡ Some e.1) }
+        ensures stopped { (N : Network)
+            → IsOf N self.old
+            → IfErr result
+            (λ e.
+            running self.new
+            ≡ network_run N (running self.old)
+            (map (placed (names_in self.old)) (take e.0 events.now))) }
+        ensures before { (N : Network)
+            → IsOf N self.old
+            → IfErr result
+            (λ e.
+            AllHappen N (running self.old)
+            (map (placed (names_in self.old)) (take e.0 events.now))) }
+        ensures refused { (N : Network)
+            → IsOf N self.old
+            → IfErr result
+            (λ e.
+            e.1 ≢ StepError.OutOfMemory
+            → (event : Event)
+            → slice_get events.now e.0 ≡ Some event
+            → option_map error_of
+            (network_refusal N (running self.new)
+            (placed (names_in self.old) event)) ≡ Some e.1) }
+        ensures stands { (N : Network) (past : List machine.Event)
+            → IsOf N self.old
+            → StandsAfter N past (running self.old)
+            → let es = map (placed (names_in self.old)) (carried_out result events.now) in AreInTime
+            N (run N (initial_state N) past) es
+            → StandsAfter N (past ++ es) (running self.new) }
+        ensures headline { (N : Network) (past : List machine.Event)
+            → IsOf N self.old
+            → StandsAfter N past (running self.old)
+            → let es = map (placed (names_in self.old)) (carried_out result events.now) in AreInTime
+            N (run N (initial_state N) past) es
+            → Headline N (run N (initial_state N) (past ++ es)) (running self.new) }
+        ensures taken { (N : Network) (past : List machine.Event)
+            → IsOf N self.old
+            → StandsAfter N past (running self.old)
+            → let es = map (placed (names_in self.old)) (carried_out result events.now) in AreInTime
+            N (run N (initial_state N) past) es
+            → IfErr result (λ e. e.1 ≢ StepError.OutOfMemory)
+            → taken N (run N (initial_state N) past) (map (placed (names_in self.old)) events.now)
+            ≡ es }
+        ensures reason { (N : Network) (past : List machine.Event)
+            → IsOf N self.old
+            → StandsAfter N past (running self.old)
+            → let es = map (placed (names_in self.old)) (carried_out result events.now) in AreInTime
+            N (run N (initial_state N) past) es
+            → IfErr result
+            (λ e.
+            e.1 ≢ StepError.OutOfMemory
+            → (event : Event)
+            → slice_get events.now e.0 ≡ Some event
+            → option_map error_of
+            (refusal N (run N (initial_state N) (past ++ es))
+            (placed (names_in self.old) event)) ≡ Some e.1) }
         ensures names { names_in self.new ≡ names_in self.old }
         ensures network { (N : Network) → IsOf N self.old → IsOf N self.new }
     {
@@ -135,8 +203,10 @@ impl World {
     }
 
     fn begin(&mut self, name: &str, ask: &Ask) -> Result<Took, StepError>
-        ensures step { (N : Network) → IsOf N self.old
-            → IsStep N self.old self.new (machine.Begin (place_in (names_in self.old).sessions name.now) ask.now) result }
+        ensures step { (N : Network)
+            → IsOf N self.old
+            → IsStep N self.old self.new
+            (machine.Begin (place_in (names_in self.old).sessions name.now) ask.now) result }
         ensures unchanged { OnErr result (running self.new ≡ running self.old) }
         ensures names { names_in self.new ≡ names_in self.old }
     {
@@ -148,8 +218,10 @@ impl World {
     }
 
     fn send(&mut self, name: &str) -> Result<Took, StepError>
-        ensures step { (N : Network) → IsOf N self.old
-            → IsStep N self.old self.new (machine.Send (place_in (names_in self.old).sessions name.now)) result }
+        ensures step { (N : Network)
+            → IsOf N self.old
+            → IsStep N self.old self.new
+            (machine.Send (place_in (names_in self.old).sessions name.now)) result }
         ensures unchanged { OnErr result (running self.new ≡ running self.old) }
         ensures names { names_in self.new ≡ names_in self.old }
     {
@@ -177,8 +249,10 @@ impl World {
     }
 
     fn resume(&mut self, name: &str, attempts: u8) -> Result<Took, StepError>
-        ensures step { (N : Network) → IsOf N self.old
-            → IsStep N self.old self.new (machine.Resume (place_in (names_in self.old).sessions name.now) attempts) result }
+        ensures step { (N : Network)
+            → IsOf N self.old
+            → IsStep N self.old self.new
+            (machine.Resume (place_in (names_in self.old).sessions name.now) attempts) result }
         ensures unchanged { OnErr result (running self.new ≡ running self.old) }
         ensures names { names_in self.new ≡ names_in self.old }
     {
@@ -190,8 +264,10 @@ impl World {
     }
 
     fn retune(&mut self, name: &str, domain: u8) -> Result<Took, StepError>
-        ensures step { (N : Network) → IsOf N self.old
-            → IsStep N self.old self.new (machine.Retune (place_in (names_in self.old).sessions name.now) domain) result }
+        ensures step { (N : Network)
+            → IsOf N self.old
+            → IsStep N self.old self.new
+            (machine.Retune (place_in (names_in self.old).sessions name.now) domain) result }
         ensures unchanged { OnErr result (running self.new ≡ running self.old) }
         ensures names { names_in self.new ≡ names_in self.old }
     {
@@ -204,7 +280,9 @@ impl World {
 
     /// A frame reaches its end.
     fn deliver(&mut self, number: u32) -> Result<Took, StepError>
-        ensures step { (N : Network) → IsOf N self.old → IsStep N self.old self.new (machine.Deliver number) result }
+        ensures step { (N : Network)
+            → IsOf N self.old
+            → IsStep N self.old self.new (machine.Deliver number) result }
         ensures unchanged { OnErr result (running self.new ≡ running self.old) }
         ensures names { names_in self.new ≡ names_in self.old }
     {
@@ -228,9 +306,12 @@ impl World {
         port: u16,
         origin: Origin,
     ) -> Result<Took, StepError>
-        requires frame { IsSomeAnd (frame_at (held_in self.old.frames) number) (λ h. (h.end ≡ net.AtPort place port) × (h.origin ≡ origin_of origin)) }
+        requires frame { IsSomeAnd (frame_at (held_in self.old.frames) number)
+            (λ h. (h.end ≡ net.AtPort place port) × (h.origin ≡ origin_of origin)) }
         requires room { nat_lt FRAMES_LIMIT (length (held_in self.old.frames)) ≡ false }
-        ensures step { (N : Network) → IsOf N self.old → IsStep N self.old self.new (machine.Deliver number) result }
+        ensures step { (N : Network)
+            → IsOf N self.old
+            → IsStep N self.old self.new (machine.Deliver number) result }
         ensures unchanged { OnErr result (running self.new ≡ running self.old) }
         ensures names { names_in self.new ≡ names_in self.old }
     {
@@ -253,9 +334,12 @@ impl World {
     }
 
     fn deliver_at_session(&mut self, number: u32, place: u16) -> Result<Took, StepError>
-        requires frame { IsSomeAnd (frame_at (held_in self.old.frames) number) (λ h. h.end ≡ net.AtSession place) }
+        requires frame { IsSomeAnd (frame_at (held_in self.old.frames) number)
+            (λ h. h.end ≡ net.AtSession place) }
         requires room { nat_lt FRAMES_LIMIT (length (held_in self.old.frames)) ≡ false }
-        ensures step { (N : Network) → IsOf N self.old → IsStep N self.old self.new (machine.Deliver number) result }
+        ensures step { (N : Network)
+            → IsOf N self.old
+            → IsStep N self.old self.new (machine.Deliver number) result }
         ensures unchanged { OnErr result (running self.new ≡ running self.old) }
         ensures names { names_in self.new ≡ names_in self.old }
     {
@@ -267,8 +351,11 @@ impl World {
 
     /// A stranger's datagram comes in at a port of a clock.
     fn intrude(&mut self, name: &str, port: u16, datagram: &[u8]) -> Result<Took, StepError>
-        ensures step { (N : Network) → IsOf N self.old
-            → IsStep N self.old self.new (machine.Stranger (place_in (names_in self.old).clocks name.now) port datagram.now) result }
+        ensures step { (N : Network)
+            → IsOf N self.old
+            → IsStep N self.old self.new
+            (machine.Stranger (place_in (names_in self.old).clocks name.now) port datagram.now)
+            result }
         ensures unchanged { OnErr result (running self.new ≡ running self.old) }
         ensures names { names_in self.new ≡ names_in self.old }
     {
@@ -331,7 +418,8 @@ impl RunningClock {
     /// The clock takes its turn at a datagram. The outbox then holds what it sends, and nothing else.
     fn take_turn(&mut self, ingress: u16, datagram: &[u8], outbox: &mut Outbox) -> Verdict
         requires port { HasPort ingress self.old.agent.sets }
-        ensures turned { IsTurned (turn (agent_clock self.old.agent) (agent_state self.old.agent) ingress datagram.now)
+        ensures turned { IsTurned
+            (turn (agent_clock self.old.agent) (agent_state self.old.agent) ingress datagram.now)
             result outbox.new (agent_state self.new.agent) }
         ensures clock { agent_clock self.new.agent ≡ agent_clock self.old.agent }
         ensures name { self.new.name ≡ self.old.name }
@@ -345,10 +433,17 @@ impl RunningSession {
     /// session stays as it was.
     fn hear(&mut self, datagram: &[u8]) -> Result<Took, StepError>
         ensures answers { IfOk result (λ t. t ≡ heard (received_of self.old.session datagram.now)) }
-        ensures session { OnOk result (self.new.session ≡ left_by self.old.session (received_of self.old.session datagram.now)) }
-        ensures reports { OnOk result (self.new.reports.items ≡ self.old.reports.items ++ reports_in (received_of self.old.session datagram.now)) }
+        ensures session { OnOk result
+            (self.new.session
+            ≡ left_by self.old.session (received_of self.old.session datagram.now)) }
+        ensures reports { OnOk result
+            (self.new.reports.items
+            ≡ self.old.reports.items
+            ++ reports_in (received_of self.old.session datagram.now)) }
         ensures refused { IfErr result (λ e. e ≡ StepError.OutOfMemory) }
-        ensures unchanged { OnErr result ((self.new.session ≡ self.old.session) × (self.new.reports.items ≡ self.old.reports.items)) }
+        ensures unchanged { OnErr result
+            ((self.new.session ≡ self.old.session)
+            × (self.new.reports.items ≡ self.old.reports.items)) }
         ensures name { self.new.name ≡ self.old.name }
         ensures identity { self.new.identity ≡ self.old.identity }
     {
@@ -379,10 +474,15 @@ fn post_turn(
     requires room { HasRoom 15 frames.old }
     requires few { length entries.now ≤ 15 }
     requires links { (counts : List ℕ) × (sessions : ℕ) × AreLinks counts sessions links.now }
-    ensures frames { held_in frames.new ≡ held_in frames.old
-        ++ flat_map (posted_by (link_ends links.now) place ingress (origin_of origin) (origin_by verdict (origin_of origin))) (sent entries.now) }
-    ensures stored { (counts : List ℕ) (sessions : ℕ) → All (IsStoredFrame counts sessions) frames.old.stored.items
-        → AreLinks counts sessions links.now → IsOfSession sessions origin
+    ensures frames { held_in frames.new
+        ≡ held_in frames.old
+        ++ flat_map
+        (posted_by (link_ends links.now) place ingress (origin_of origin)
+        (origin_by verdict (origin_of origin))) (sent entries.now) }
+    ensures stored { (counts : List ℕ) (sessions : ℕ)
+        → All (IsStoredFrame counts sessions) frames.old.stored.items
+        → AreLinks counts sessions links.now
+        → IsOfSession sessions origin
         → All (IsStoredFrame counts sessions) frames.new.stored.items }
 {
     let reply = reply_origin(origin, verdict);

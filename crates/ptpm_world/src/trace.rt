@@ -32,12 +32,16 @@ pub(crate) fn write_event<W: Write>(
     ensures line { (N : Network) → IsOf N world.old
         → OnOk result (Appends (W.contents out.old) (W.contents out.new)
         (event_line N (names_in world.old) (running world.old) number event.now)) }
-    ensures after { (N : Network) → IsOf N world.old
-        → OnOk result (running world.new ≡ after N (running world.old) (placed (names_in world.old) event.now)) }
+    ensures after { (N : Network)
+        → IsOf N world.old
+        → OnOk result
+        (running world.new
+        ≡ after N (running world.old) (placed (names_in world.old) event.now)) }
     ensures names { names_in world.new ≡ names_in world.old }
     ensures network { (N : Network) → IsOf N world.old → IsOf N world.new }
     ensures fault { IfErr result (λ e. is_outside e ≡ true) }
-    ensures kept { IfErr result (λ e. e ≢ faults.WriteFault → W.contents out.new ≡ W.contents out.old) }
+    ensures kept { IfErr result
+        (λ e. e ≢ faults.WriteFault → W.contents out.new ≡ W.contents out.old) }
 {
     let is_late = is_late_delivery(world, event);
     let before = world.frames();

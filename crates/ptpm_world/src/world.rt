@@ -75,10 +75,16 @@ impl World {
     pub fn reports(&self, session: &str) -> Option<&[Report]>
         ensures reports { option_map (λ r. r.now) result ≡ reports_named self.now session.now }
         ensures known { IsSome result ↔ Contains (names_in self.now).sessions session.now }
-        ensures worth { (N : Network) (past : List machine.Event) → IsOf N self.now → StandsAfter N past (running self.now)
-            → IfSome result (λ reports. (i : ℕ) (report : Report) → slice_get reports.now i ≡ Some report
+        ensures worth { (N : Network) (past : List machine.Event)
+            → IsOf N self.now
+            → StandsAfter N past (running self.now)
+            → IfSome result
+            (λ reports.
+            (i : ℕ) (report : Report)
+            → slice_get reports.now i ≡ Some report
             → (report.index ≡ i + 1)
-            × IsWorth N (run N (initial_state N) past) (place_in (names_in self.now).sessions session.now) report) }
+            × IsWorth N (run N (initial_state N) past)
+            (place_in (names_in self.now).sessions session.now) report) }
     {
         match self.session_place(session) {
             Some(place) => Some(self.sessions[place].reports.as_slice()),
@@ -97,7 +103,8 @@ impl World {
     /// The frame of a number, counted from 1.
     pub fn frame(&self, number: u32) -> Option<Frame<'_>>
         ensures frame { option_map frame_value result ≡ frame_at (running self.now).frames number }
-        ensures known { IsSome result ↔ ((1 ≤ number) × (number ≤ length (running self.now).frames)) }
+        ensures known { IsSome result ↔
+            ((1 ≤ number) × (number ≤ length (running self.now).frames)) }
     {
         self.frames.get(number)
     }
@@ -105,17 +112,21 @@ impl World {
     /// Whether delivering a frame is late: it is a copy of a request, or of a reply to one, and its session has begun over
     /// 32,768 requests since. No frame that is not there is late.
     pub fn is_late(&self, number: u32) -> bool
-        ensures late { result ≡ is_late_held (running self.now) (frame_at (running self.now).frames number) }
-        ensures late_after { (N : Network) (past : List machine.Event) → StandsAfter N past (running self.now)
+        ensures late { result
+            ≡ is_late_held (running self.now) (frame_at (running self.now).frames number) }
+        ensures late_after { (N : Network) (past : List machine.Event)
+            → StandsAfter N past (running self.now)
             → result ≡ is_late_delivery (run N (initial_state N) past) (machine.Deliver number) }
-        ensures there { IsTrue result → ((1 ≤ number) × (number ≤ length (running self.now).frames)) }
+        ensures there { IsTrue result
+            → ((1 ≤ number) × (number ≤ length (running self.now).frames)) }
     {
         self.is_overtaken(number)
     }
 
     /// Whether it belongs to a request that its session has left behind.
     fn is_overtaken(&self, number: u32) -> bool
-        ensures { result ≡ is_late_held (running self.now) (frame_at (running self.now).frames number) }
+        ensures { result
+            ≡ is_late_held (running self.now) (frame_at (running self.now).frames number) }
     {
         let Some(frame) = self.frames.get(number) else {
             return false;
@@ -138,16 +149,24 @@ impl World {
 
     /// The place of a clock's name.
     pub(crate) fn clock_place(&self, name: &str) -> Option<usize>
-        ensures found { IfSome result (λ place. (place ≡ place_in (names_in self.now).clocks name.now) × (place < length self.now.clocks.items)) }
-        ensures none { IfNone result (place_in (names_in self.now).clocks name.now ≡ length self.now.clocks.items) }
+        ensures found { IfSome result
+            (λ place.
+            (place ≡ place_in (names_in self.now).clocks name.now)
+            × (place < length self.now.clocks.items)) }
+        ensures none { IfNone result
+            (place_in (names_in self.now).clocks name.now ≡ length self.now.clocks.items) }
     {
         place_of_clock(self.clocks.as_slice(), name)
     }
 
     /// The place of a session's name.
     pub(crate) fn session_place(&self, name: &str) -> Option<usize>
-        ensures found { IfSome result (λ place. (place ≡ place_in (names_in self.now).sessions name.now) × (place < length self.now.sessions.items)) }
-        ensures none { IfNone result (place_in (names_in self.now).sessions name.now ≡ length self.now.sessions.items) }
+        ensures found { IfSome result
+            (λ place.
+            (place ≡ place_in (names_in self.now).sessions name.now)
+            × (place < length self.now.sessions.items)) }
+        ensures none { IfNone result
+            (place_in (names_in self.now).sessions name.now ≡ length self.now.sessions.items) }
     {
         place_of_session(self.sessions.as_slice(), name)
     }

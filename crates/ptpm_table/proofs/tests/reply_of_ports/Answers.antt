@@ -10,8 +10,13 @@ use Rattle.ptpm_data.specs.Request.{RequestValue}
 use Rattle.ptpm_table.specs.Entries.{FitsAnswer, FitsCount, FitsOutcome, FitsRequest}
 use Rattle.ptpm_table.proofs.tests.reply_of_ports.Goals as goal
 
-of_ports : (q : RequestValue) (r : ReplyValue) (answers : List PortAnswer) → r.action ≡ reply_action q.action → r.id ≡ q.id
-    → r.answers ≡ map answer_of answers → is_of_port q.id ≡ true → 1 ≤ length answers → length answers ≤ 8
+of_ports : (q : RequestValue) (r : ReplyValue) (answers : List PortAnswer)
+    → r.action ≡ reply_action q.action
+    → r.id ≡ q.id
+    → r.answers ≡ map answer_of answers
+    → is_of_port q.id ≡ true
+    → 1 ≤ length answers
+    → length answers ≤ 8
     → All (λ a. FitsAnswer true q.action (answer_of a)) answers → FitsRequest q r
 of_ports q r answers action id are of_port some few fits = record {
   action = action;

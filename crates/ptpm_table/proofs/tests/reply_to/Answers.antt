@@ -16,7 +16,9 @@ lone : (P : Answer → Type 0) (a : Answer) → P a → All P (a ∷ [])
 lone P a holds zero d inside = holds
 lone P a holds (suc k) d inside = absurd (omega arith)
 
-one_answer : (q : RequestValue) (r : ReplyValue) (a : Answer) → r.action ≡ reply_action q.action → r.id ≡ q.id →
+one_answer : (q : RequestValue) (r : ReplyValue) (a : Answer)
+    → r.action ≡ reply_action q.action
+    → r.id ≡ q.id →
     r.answers ≡ a ∷ [] → FitsAnswer (is_of_port q.id) q.action a → FitsRequest q r
 one_answer q r a action id answers fits = record {
   action = action;

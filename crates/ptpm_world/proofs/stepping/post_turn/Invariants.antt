@@ -12,6 +12,9 @@ invariant-loop-port l = record {
   room : HasRoom (15 - l.port-index) l.frames;
   frames : held_in l.frames ≡ held_in l.fn.frames
       ++ flat_map (posted_by (link_ends l.links) l.place l.ingress (origin_of l.origin) (origin_of l.reply)) (sent (take l.port-index l.entries));
-  stored : (counts : List ℕ) (sessions : ℕ) → All (IsStoredFrame counts sessions) l.fn.frames.stored.items → AreLinks counts sessions l.links → IsOfSession sessions l.origin
+  stored : (counts : List ℕ) (sessions : ℕ)
+      → All (IsStoredFrame counts sessions) l.fn.frames.stored.items
+      → AreLinks counts sessions l.links
+      → IsOfSession sessions l.origin
       → All (IsStoredFrame counts sessions) l.frames.stored.items;
 }

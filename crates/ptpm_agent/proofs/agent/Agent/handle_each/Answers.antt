@@ -55,7 +55,9 @@ loop-place-preserved g c =
     }
 
 -- a clock has as many ports as where it stands
-as_many : (first : PortIdentity → ℕ) (s : State) (h : History) → StandsAt first s h → length h.sets.ports ≡ length s.sets.ports
+as_many : (first : PortIdentity → ℕ) (s : State) (h : History)
+    → StandsAt first s h
+    → length h.sets.ports ≡ length s.sets.ports
 as_many first s h at = ap (λ (d : DataSetsValue). length d.ports) (sym at.sets)
 
 pub returns-clause-turned : goal.returns-clause-turned

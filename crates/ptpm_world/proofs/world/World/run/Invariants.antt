@@ -16,9 +16,19 @@ abbrev pub invariant-loop-place : goal.invariant-loop-place
 invariant-loop-place l = record {
   names : names_in l.self ≡ names_in l.fn.self;
   network : (N : Network) → IsOf N l.fn.self → IsOf N l.self;
-  ran : (N : Network) → IsOf N l.fn.self → running l.self ≡ network_run N (running l.fn.self) (map (placed (names_in l.fn.self)) (take l.place l.events));
-  stands : (N : Network) (past : List machine.Event) → IsOf N l.fn.self → StandsAfter N past (running l.fn.self)
-      → AreInTime N (run N (initial_state N) past) (map (placed (names_in l.fn.self)) (take l.place l.events))
-      → HasGoneOn N past (map (placed (names_in l.fn.self)) (take l.place l.events)) (running l.self);
-  happened : (N : Network) → IsOf N l.fn.self → AllHappen N (running l.fn.self) (map (placed (names_in l.fn.self)) (take l.place l.events));
+  ran : (N : Network)
+      → IsOf N l.fn.self
+      → running l.self
+      ≡ network_run N (running l.fn.self)
+      (map (placed (names_in l.fn.self)) (take l.place l.events));
+  stands : (N : Network) (past : List machine.Event)
+      → IsOf N l.fn.self
+      → StandsAfter N past (running l.fn.self)
+      → AreInTime N (run N (initial_state N) past)
+      (map (placed (names_in l.fn.self)) (take l.place l.events))
+      → HasGoneOn N past (map (placed (names_in l.fn.self)) (take l.place l.events))
+      (running l.self);
+  happened : (N : Network)
+      → IsOf N l.fn.self
+      → AllHappen N (running l.fn.self) (map (placed (names_in l.fn.self)) (take l.place l.events));
 }
