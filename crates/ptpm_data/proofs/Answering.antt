@@ -6,22 +6,22 @@ use Rattle.ptpm_codec.specs.declared.error.ErrorId.TheVariants.{NoSuchId, NotSup
 use Rattle.ptpm_codec.specs.Message.{reply_action}
 use Rattle.ptpm_data.specs.declared.management_id.Row.{Row}
 use Rattle.ptpm_data.specs.declared.rights.Rights.{Rights}
-use Rattle.ptpm_data.specs.ManagementId.{Entry, entry_of, row_of}
+use Rattle.ptpm_data.specs.ManagementId.{RowValue, row_value, row_of}
 use Rattle.ptpm_data.specs.Members.{DataSetsValue}
 use Rattle.ptpm_data.specs.Request.{RequestValue}
 use Rattle.ptpm_data.specs.Reply.{Refused, ReplyValue}
-use Rattle.ptpm_data.specs.Refusals.{entry_refusal, refusal_at}
-use Rattle.ptpm_data.specs.Changes.{carried_out, changed_at, changed_by, unless_refused}
+use Rattle.ptpm_data.specs.Refusals.{row_refusal, refusal_at}
+use Rattle.ptpm_data.specs.Changes.{applied, changed_at, changed_by, unless_refused}
 use Rattle.ptpm_data.specs.Replies.{answer, reply_of, reply_to, is_get, no_rights, read_reply_to}
 
-pub no_entry : {r : Option Row} {e : Option Entry} → option_map entry_of r ≡ e → r ≡ None → e ≡ None
+pub no_entry : {r : Option Row} {e : Option RowValue} → option_map row_value r ≡ e → r ≡ None → e ≡ None
 no_entry {r = None} is gone = sym is
 no_entry {r = Some row} is gone = cc
 
-pub entry_is : {r : Option Row} {e : Option Entry} {row : Row}
-    → option_map entry_of r ≡ e
+pub entry_is : {r : Option Row} {e : Option RowValue} {row : Row}
+    → option_map row_value r ≡ e
     → r ≡ Some row
-    → e ≡ Some (entry_of row)
+    → e ≡ Some (row_value row)
 entry_is {r = None} is here = cc
 entry_is {r = Some row} is here = cc
 
@@ -45,7 +45,7 @@ pub reply_to-unlisted : (q : RequestValue) (rights : Rights) (d : DataSetsValue)
     → row_of q.id ≡ None
     → refused_by_clock q NoSuchId ≡ reply_to q rights d
 unfolding reply_to
-reply_to-unlisted q rights d e = reply_of-unlisted q NoSuchId _ e ∙ ap (λ (o : Option Entry). reply_of q (refusal_at o q rights) (changed_by q rights d)) (sym e)
+reply_to-unlisted q rights d e = reply_of-unlisted q NoSuchId _ e ∙ ap (λ (o : Option RowValue). reply_of q (refusal_at o q rights) (changed_by q rights d)) (sym e)
 
 pub changed_by-unlisted : (q : RequestValue) (rights : Rights) (d : DataSetsValue)
     → row_of q.id ≡ None
@@ -55,18 +55,18 @@ changed_by-unlisted q rights d e = rw e refl
 
 -- ---- an id of the table
 
-pub reply_to-listed : (q : RequestValue) (rights : Rights) (d : DataSetsValue) (e : Entry)
+pub reply_to-listed : (q : RequestValue) (rights : Rights) (d : DataSetsValue) (e : RowValue)
     → row_of q.id ≡ Some e
-    → reply_of q (entry_refusal e q rights) (changed_by q rights d) ≡ reply_to q rights d
+    → reply_of q (row_refusal e q rights) (changed_by q rights d) ≡ reply_to q rights d
 unfolding reply_to
-reply_to-listed q rights d e is = ap (λ (o : Option Entry). reply_of q (refusal_at o q rights) (changed_by q rights d)) (sym is)
+reply_to-listed q rights d e is = ap (λ (o : Option RowValue). reply_of q (refusal_at o q rights) (changed_by q rights d)) (sym is)
 
-pub changed_by-listed : (q : RequestValue) (rights : Rights) (d : DataSetsValue) (e : Entry)
+pub changed_by-listed : (q : RequestValue) (rights : Rights) (d : DataSetsValue) (e : RowValue)
     → row_of q.id ≡ Some e
-    → unless_refused (entry_refusal e q rights) (carried_out e.layout q q.action d) d
+    → unless_refused (row_refusal e q rights) (applied e.layout q q.action d) d
     ≡ changed_by q rights d
 unfolding changed_by
-changed_by-listed q rights d e is = ap (λ (o : Option Entry). changed_at o q rights d) (sym is)
+changed_by-listed q rights d e is = ap (λ (o : Option RowValue). changed_at o q rights d) (sym is)
 
 -- ---- requests that are not numbered
 
@@ -77,11 +77,11 @@ module _ (q : RequestValue) (d : DataSetsValue) where
   unfolding read_reply_to
   read-unlisted e get = rw (get, e) (reply_of-unlisted q NoSuchId d e)
 
-  pub read-listed : (e : Entry) (rights : Rights)
+  pub read-listed : (e : RowValue) (rights : Rights)
       → rights.0 ≡ 0
       → row_of q.id ≡ Some e
       → is_get q.action ≡ true
-      → reply_of q (entry_refusal e q rights) d ≡ read_reply_to q d
+      → reply_of q (row_refusal e q rights) d ≡ read_reply_to q d
   unfolding read_reply_to
   read-listed e rights none is get =
       let same : rights ≡ no_rights = ap (λ (n : ℕ). let r : Rights = record { 0 = n } in r) none in

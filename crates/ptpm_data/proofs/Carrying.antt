@@ -14,13 +14,13 @@ use Rattle.ptpm_data.specs.declared.management_id.Layout.{Layout}
 use Rattle.ptpm_data.specs.declared.management_id.Layout.TheVariants as layouts
 use Rattle.ptpm_data.specs.declared.data_sets.PortDataSet.{PortDataSet}
 use Rattle.ptpm_data.specs.declared.port_state.DelayMechanism.{DelayMechanism}
-use Rattle.ptpm_data.specs.ManagementId.{Entry, has_action, set_of}
+use Rattle.ptpm_data.specs.ManagementId.{RowValue, has_action, set_of}
 use Rattle.ptpm_data.specs.Members.{DataSetsValue}
 use Rattle.ptpm_data.specs.PortState.{mechanism_of}
 use Rattle.ptpm_data.specs.Request.{RequestValue}
 use Rattle.ptpm_data.specs.SetField.{octet}
-use Rattle.ptpm_data.specs.Refusals.{entry_refusal, has_right, is_length, is_value, needed_right, refusals, unpermitted}
-use Rattle.ptpm_data.specs.Changes.{carried_out, commanded, named_changed, set_members, with_mechanism}
+use Rattle.ptpm_data.specs.Refusals.{row_refusal, has_right, is_length, is_value, needed_right, refusals, unpermitted}
+use Rattle.ptpm_data.specs.Changes.{applied, commanded, named_changed, set_members, with_mechanism}
 
 -- ---- the tests of a request that is not refused
 
@@ -35,10 +35,10 @@ pub record Suits (layout : Layout) (q : RequestValue) : Type 0 where
   pub size : is_length q.action (set_of layout) q.octets ≡ true
   pub value : is_value q.action (set_of layout) q.octets ≡ true
 
-pub suits_from : (e : Entry) (q : RequestValue) (rights : Rights)
-    → entry_refusal e q rights ≡ None
+pub suits_from : (e : RowValue) (q : RequestValue) (rights : Rights)
+    → row_refusal e q rights ≡ None
     → Suits e.layout q
-unfolding entry_refusal
+unfolding row_refusal
 suits_from e q rights none =
     let action = first_of-none (not (has_action q.action e.actions)) (unpermitted q.action) (drop 1 (refusals e q rights)) none in
     let right = first_of-none (not (has_right (needed_right q.action e.scope e.layout) rights)) NotSupported (drop 2 (refusals e q rights)) action.1 in
@@ -75,11 +75,11 @@ commanded-ports layouts.EnablePort port d = length-named_changed port _ d.ports
 commanded-ports layouts.DisablePort port d = length-named_changed port _ d.ports
 commanded-ports _ port d = refl
 
-pub carried_out-ports : (layout : Layout) (q : RequestValue) (action : Action) (d : DataSetsValue)
-    → length (carried_out layout q action d).ports ≡ length d.ports
-carried_out-ports layout q actions.Set d = set_members-ports layout q.port q.octets d
-carried_out-ports layout q actions.Command d = commanded-ports layout q.port d
-carried_out-ports layout q _ d = refl
+pub applied-ports : (layout : Layout) (q : RequestValue) (action : Action) (d : DataSetsValue)
+    → length (applied layout q action d).ports ≡ length d.ports
+applied-ports layout q actions.Set d = set_members-ports layout q.port q.octets d
+applied-ports layout q actions.Command d = commanded-ports layout q.port d
+applied-ports layout q _ d = refl
 
 -- ---- a refusal that was found to be none
 

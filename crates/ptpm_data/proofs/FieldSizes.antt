@@ -10,9 +10,9 @@ use Rattle.ptpm_data.specs.declared.data_sets.TimePropertiesDataSet.{TimePropert
 use Rattle.ptpm_data.specs.declared.data_sets.PortDataSet.{PortDataSet}
 use Rattle.ptpm_data.specs.declared.management_id.Layout.{Layout}
 use Rattle.ptpm_data.specs.declared.management_id.Layout.TheVariants as layouts
-use Rattle.ptpm_data.specs.ManagementId.{Entry, id_table, row_of, is_port_scope, is_port_entry, is_of_port}
+use Rattle.ptpm_data.specs.ManagementId.{RowValue, id_table, row_of, is_port_scope, is_port_row, is_of_port}
 use Rattle.ptpm_data.specs.Members.{DataSetsValue, port_of}
-use Rattle.ptpm_data.specs.DataField.{i16_octets, i32_octets, i64_octets, precedence_octets, default_data_field, current_data_field, parent_data_field, time_properties_data_field, utc_properties_data_field, text_data_field, port_settings_octets, port_data_field, clock_field_of, port_field_of, field_of_port, data_field_of, field_of_entry, data_field_at}
+use Rattle.ptpm_data.specs.DataField.{i16_octets, i32_octets, i64_octets, precedence_octets, default_data_field, current_data_field, parent_data_field, time_properties_data_field, utc_properties_data_field, text_data_field, port_settings_octets, port_data_field, clock_field_of, port_field_of, field_of_port, data_field_of, field_of_row, data_field_at}
 use Rattle.ptpm_data.specs.RequestLaws.{IsSized, IsFieldWithin, field_limit}
 
 -- ---- each data set
@@ -152,7 +152,7 @@ module _ {X : Type 0} (test good : X → Bool) where
       let parts = both_parts (good y) (list_all good ys) all in
       found_first (test y) y x (find test ys) e parts.0 (found ys x parts.1)
 
-abbrev scope_agrees : Entry → Bool
+abbrev scope_agrees : RowValue → Bool
 scope_agrees e = if is_port_scope e.scope then is_port_layout e.layout else not (is_port_layout e.layout)
 
 table_agrees : list_all scope_agrees id_table ≡ true
@@ -164,14 +164,14 @@ agree true l e = e
 agree false true e = cc
 agree false false e = refl
 
-pub layout_of : (id : ℕ) (e : Entry)
+pub layout_of : (id : ℕ) (e : RowValue)
     → row_of id ≡ Some e
     → is_port_layout e.layout ≡ is_port_scope e.scope
 unfolding row_of
 layout_of id e is = agree (is_port_scope e.scope) (is_port_layout e.layout) (found (λ x. x.id == id) scope_agrees id_table e table_agrees is)
 
-of_entry : (id : ℕ) (port : Option ℕ) (d : DataSetsValue) (entry : Option Entry) → row_of id ≡ entry
-    → IsSized d → IsFieldWithin (field_limit (is_port_entry entry)) (field_of_entry entry port d)
+of_entry : (id : ℕ) (port : Option ℕ) (d : DataSetsValue) (entry : Option RowValue) → row_of id ≡ entry
+    → IsSized d → IsFieldWithin (field_limit (is_port_row entry)) (field_of_row entry port d)
 of_entry id port d None is s = within 130 0 refl refl (omega arith)
 of_entry id port d (Some e) is s =
     let field = of_layout e.layout port d s in

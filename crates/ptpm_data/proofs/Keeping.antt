@@ -11,18 +11,18 @@ use Rattle.ptpm_data.specs.declared.management_id.Layout.TheVariants as layouts
 use Rattle.ptpm_data.specs.declared.precedence_change.PrecedenceChange.{PrecedenceChange}
 use Rattle.ptpm_data.specs.declared.data_sets.ParentDataSet.{ParentDataSet}
 use Rattle.ptpm_data.specs.declared.port_state.DelayMechanism.{DelayMechanism}
-use Rattle.ptpm_data.specs.ManagementId.{Entry, row_of, set_of}
+use Rattle.ptpm_data.specs.ManagementId.{RowValue, row_of, set_of}
 use Rattle.ptpm_data.specs.Ranges.{is_description}
 use Rattle.ptpm_data.specs.PortState.{mechanism_of}
 use Rattle.ptpm_data.specs.Request.{RequestValue}
 use Rattle.ptpm_data.specs.Reply.{Refused, Answer}
 use Rattle.ptpm_data.specs.Members.{DataSetsValue, is_own_grandmaster}
 use Rattle.ptpm_data.specs.SetField.{octet, ptp_text}
-use Rattle.ptpm_data.specs.Refusals.{entry_refusal, refusal_at, refusal_of, is_set_value, is_value}
-use Rattle.ptpm_data.specs.Changes.{carried_out, changed_at, changed_by, commanded, grandmaster_changed, set_members, unless_refused, with_mechanism}
+use Rattle.ptpm_data.specs.Refusals.{row_refusal, refusal_at, refusal_of, is_set_value, is_value}
+use Rattle.ptpm_data.specs.Changes.{applied, changed_at, changed_by, commanded, grandmaster_changed, set_members, unless_refused, with_mechanism}
 use Rattle.ptpm_data.specs.Replies.{answer, outcome, reply_of, reply_to}
 use Rattle.ptpm_data.specs.RequestLaws.{IsSized}
-use Rattle.ptpm_data.proofs.Carrying.{Suits, suits_from, carried_out-ports}
+use Rattle.ptpm_data.proofs.Carrying.{Suits, suits_from, applied-ports}
 use Rattle.ptpm_data.proofs.FieldSizes.{both_parts}
 use Rattle.ptpm_data.proofs.ReplyLemmas.{reply_of-all}
 
@@ -66,11 +66,11 @@ unfolding commanded
 commanded-keeps layouts.EnablePort port d = record { identity = refl; parent_port = refl; grandmaster = refl }
 commanded-keeps _ port d = record { identity = refl; parent_port = refl; grandmaster = refl }
 
-carried_out-keeps : (layout : Layout) (q : RequestValue) (action : Action) (d : DataSetsValue)
-    → Keeps d (carried_out layout q action d)
-carried_out-keeps layout q actions.Set d = set_members-keeps layout q.port q.octets d
-carried_out-keeps layout q actions.Command d = commanded-keeps layout q.port d
-carried_out-keeps layout q _ d = same d
+applied-keeps : (layout : Layout) (q : RequestValue) (action : Action) (d : DataSetsValue)
+    → Keeps d (applied layout q action d)
+applied-keeps layout q actions.Set d = set_members-keeps layout q.port q.octets d
+applied-keeps layout q actions.Command d = commanded-keeps layout q.port d
+applied-keeps layout q _ d = same d
 
 -- ---- the text
 
@@ -98,25 +98,25 @@ unfolding commanded
 commanded-text layouts.EnablePort port d = refl
 commanded-text _ port d = refl
 
-carried_out-text : (layout : Layout) (q : RequestValue) (action : Action) (d : DataSetsValue)
+applied-text : (layout : Layout) (q : RequestValue) (action : Action) (d : DataSetsValue)
     → is_value action (set_of layout) q.octets ≡ true
     → length d.description ≤ 128
-    → length (carried_out layout q action d).description ≤ 128
-carried_out-text layout q actions.Set d good small = set_members-text layout q.port q.octets d good small
-carried_out-text layout q actions.Command d good small = rw (commanded-text layout q.port d) small
-carried_out-text layout q _ d good small = small
+    → length (applied layout q action d).description ≤ 128
+applied-text layout q actions.Set d good small = set_members-text layout q.port q.octets d good small
+applied-text layout q actions.Command d good small = rw (commanded-text layout q.port d) small
+applied-text layout q _ d good small = small
 
-carried_out-sized : (layout : Layout) (q : RequestValue) (d : DataSetsValue)
+applied-sized : (layout : Layout) (q : RequestValue) (d : DataSetsValue)
     → Suits layout q
     → IsSized d
-    → IsSized (carried_out layout q q.action d)
-carried_out-sized layout q d suits s =
-    let keeps = carried_out-keeps layout q q.action d in
-    let ports = carried_out-ports layout q q.action d in
+    → IsSized (applied layout q q.action d)
+applied-sized layout q d suits s =
+    let keeps = applied-keeps layout q q.action d in
+    let ports = applied-ports layout q q.action d in
     record {
       some_port = rw ports s.some_port;
       at_most_eight = rw ports s.at_most_eight;
-      text = carried_out-text layout q q.action d suits.value s.text;
+      text = applied-text layout q q.action d suits.value s.text;
       identity = rw keeps.identity s.identity;
       parent = rw keeps.parent_port s.parent;
       grandmaster = rw keeps.grandmaster s.grandmaster;
@@ -125,23 +125,23 @@ carried_out-sized layout q d suits s =
 -- ---- the data sets after a request
 
 module _ (P : DataSetsValue → Type 0) (q : RequestValue) (rights : Rights) (d : DataSetsValue) where
-  unless : (e : Entry) (r : Option ErrorId)
-      → entry_refusal e q rights ≡ r
+  unless : (e : RowValue) (r : Option ErrorId)
+      → row_refusal e q rights ≡ r
       → P d
-      → ((e : Entry) → Suits e.layout q → P (carried_out e.layout q q.action d))
-      → P (unless_refused r (carried_out e.layout q q.action d) d)
+      → ((e : RowValue) → Suits e.layout q → P (applied e.layout q q.action d))
+      → P (unless_refused r (applied e.layout q q.action d) d)
   unless e None is before after = after e (suits_from e q rights is)
   unless e (Some error) is before after = before
 
-  changed : (o : Option Entry)
+  changed : (o : Option RowValue)
       → P d
-      → ((e : Entry) → Suits e.layout q → P (carried_out e.layout q q.action d))
+      → ((e : RowValue) → Suits e.layout q → P (applied e.layout q q.action d))
       → P (changed_at o q rights d)
   changed None before after = before
-  changed (Some e) before after = unless e (entry_refusal e q rights) refl before after
+  changed (Some e) before after = unless e (row_refusal e q rights) refl before after
 
   changed_by-all : P d
-      → ((e : Entry) → Suits e.layout q → P (carried_out e.layout q q.action d))
+      → ((e : RowValue) → Suits e.layout q → P (applied e.layout q q.action d))
       → P (changed_by q rights d)
   unfolding changed_by
   changed_by-all before after = changed (row_of q.id) before after
@@ -149,18 +149,18 @@ module _ (P : DataSetsValue → Type 0) (q : RequestValue) (rights : Rights) (d 
 module _ (q : RequestValue) (rights : Rights) (d : DataSetsValue) where
   pub changed_by-identity : (changed_by q rights d).default.identity ≡ d.default.identity
   changed_by-identity =
-      changed_by-all (λ e. e.default.identity ≡ d.default.identity) q rights d refl (λ e suits. (carried_out-keeps e.layout q q.action d).identity)
+      changed_by-all (λ e. e.default.identity ≡ d.default.identity) q rights d refl (λ e suits. (applied-keeps e.layout q q.action d).identity)
 
   pub changed_by-ports : length (changed_by q rights d).ports ≡ length d.ports
   changed_by-ports =
-      changed_by-all (λ e. length e.ports ≡ length d.ports) q rights d refl (λ e suits. carried_out-ports e.layout q q.action d)
+      changed_by-all (λ e. length e.ports ≡ length d.ports) q rights d refl (λ e suits. applied-ports e.layout q q.action d)
 
   pub changed_by-sized : IsSized d → IsSized (changed_by q rights d)
-  changed_by-sized s = changed_by-all IsSized q rights d s (λ e suits. carried_out-sized e.layout q d suits s)
+  changed_by-sized s = changed_by-all IsSized q rights d s (λ e suits. applied-sized e.layout q d suits s)
 
   got : (layout : Layout) (action : Action)
       → action ≡ actions.Get
-      → carried_out layout q action d ≡ d
+      → applied layout q action d ≡ d
   got layout actions.Get get = refl
   got layout actions.Set get = cc
   got layout actions.Command get = cc
@@ -172,7 +172,7 @@ module _ (q : RequestValue) (rights : Rights) (d : DataSetsValue) where
 
   -- ---- a refused request
 
-  refused_entry : (o : Option Entry) (error : ErrorId)
+  refused_entry : (o : Option RowValue) (error : ErrorId)
       → refusal_at o q rights ≡ Some error
       → changed_at o q rights d ≡ d
   refused_entry None error is = refl

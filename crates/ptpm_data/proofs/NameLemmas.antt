@@ -1,15 +1,15 @@
 -- Looking a name up by way of the ids.
 use Rattle.std.proofs.Common.{◌≡◌, ℕ, ◌+◌, ◌<◌, ◌≤◌, true, false, List, [], ◌∷◌, Option, Some, None, if◌then◌else◌, bytes_eq, drop, length, get_or, drop-cons, add-one, refl, ap, ◌∙◌}
 use Rattle.std.proofs.Math.ListN.{drop_of_length-le}
-use Rattle.ptpm_data.specs.ManagementId.{Entry, row_of, row_named, if_named}
+use Rattle.ptpm_data.specs.ManagementId.{RowValue, row_of, row_named, if_named}
 
 -- the entry where it has the name, else what comes after
-abbrev pub named_or : List ℕ → Option Entry → Option Entry → Option Entry
+abbrev pub named_or : List ℕ → Option RowValue → Option RowValue → Option RowValue
 named_or name None o = o
 named_or name (Some e) o = if bytes_eq e.name name then Some e else o
 
 -- the first of the ids that has the name
-unfoldable pub named_among : List ℕ → List ℕ → Option Entry
+unfoldable pub named_among : List ℕ → List ℕ → Option RowValue
 named_among name [] = None
 named_among name (id ∷ ids) = named_or name (row_of id) (named_among name ids)
 
@@ -30,13 +30,13 @@ unfolding named_among
 named_among_step name ids i h = rw (drop-cons ids i 0 h, add-one i) refl
 
 -- at one id: another name
-pub passes : (name : List ℕ) (r o : Option Entry) → if_named name r ≡ None → named_or name r o ≡ o
+pub passes : (name : List ℕ) (r o : Option RowValue) → if_named name r ≡ None → named_or name r o ≡ o
 passes name None o h = refl
 passes name (Some e) o h =
     elim (bytes_eq e.name name) as (λ b. (if b then Some e else None) ≡ None → (if b then Some e else o) ≡ o) [ true ↦ λ q. cc | false ↦ λ q. refl ] h
 
 -- at one id: this name
-pub stops : (name : List ℕ) (r o : Option Entry) (e : Entry)
+pub stops : (name : List ℕ) (r o : Option RowValue) (e : RowValue)
     → if_named name r ≡ Some e
     → named_or name r o ≡ Some e
 stops name None o e h = cc
@@ -50,7 +50,7 @@ pub goes_on : (name ids : List ℕ) (i : ℕ)
     → row_named name ≡ named_among name (drop (i + 1) ids)
 goes_on name ids i below here other = here ∙ named_among_step name ids i below ∙ passes name _ _ other
 
-pub is_found : (name ids : List ℕ) (i : ℕ) (e : Entry)
+pub is_found : (name ids : List ℕ) (i : ℕ) (e : RowValue)
     → i < length ids
     → row_named name ≡ named_among name (drop i ids)
     → if_named name (row_of (get_or ids i 0)) ≡ Some e → row_named name ≡ Some e

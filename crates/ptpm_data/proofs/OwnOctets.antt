@@ -18,7 +18,7 @@ use Rattle.ptpm_data.specs.declared.port_change.PortChange.TheVariants as change
 use Rattle.ptpm_data.specs.declared.port_state.DelayMechanism.{DelayMechanism}
 use Rattle.ptpm_data.specs.declared.port_state.DelayMechanism.TheVariants as mechanisms
 use Rattle.ptpm_data.specs.declared.rights.Rights.{Rights}
-use Rattle.ptpm_data.specs.ManagementId.{Entry, has_action, id_table, is_of_port, is_port_entry, row_of, set_of}
+use Rattle.ptpm_data.specs.ManagementId.{RowValue, has_action, id_table, is_of_port, is_port_row, row_of, set_of}
 use Rattle.ptpm_data.specs.Members.{DataSetsValue, port_of}
 use Rattle.ptpm_data.specs.PortState.{mechanism_number, mechanism_of}
 use Rattle.ptpm_data.specs.Request.{RequestValue}
@@ -101,13 +101,13 @@ is_settable layouts.UserDescription = true
 is_settable layouts.UtcProperties = true
 is_settable layout = has_one_number layout
 
-abbrev sets_what_it_holds : Entry → Bool
+abbrev sets_what_it_holds : RowValue → Bool
 sets_what_it_holds e = not (has_action actions.Set e.actions) || is_settable e.layout
 
 table_sets : list_all sets_what_it_holds id_table ≡ true
 table_sets = refl
 
-settable : (id : ℕ) (e : Entry)
+settable : (id : ℕ) (e : RowValue)
     → row_of id ≡ Some e
     → has_action actions.Set e.actions ≡ true
     → is_settable e.layout ≡ true
@@ -260,7 +260,7 @@ each false q e octets set field =
     All-cons P (answer q None e None) [] (said q.action _ octets set (field None tt)) (λ k x below. absurd (omega arith))
 
 module _ (q : RequestValue) (rights : Rights) (d : DataSetsValue) (a : IsAcceptedSet q rights) (range : AreOctets q.octets) where
-  field_after : (e : Entry) (own : Option ℕ) → row_of q.id ≡ Some e
+  field_after : (e : RowValue) (own : Option ℕ) → row_of q.id ≡ Some e
       → IsAnswerer (is_port_layout e.layout) q.port (length d.ports) own
       → data_field_at q.id own (changed_by q rights d) ≡ standard_field e.layout q.octets
   field_after e own is answerer =
@@ -271,16 +271,16 @@ module _ (q : RequestValue) (rights : Rights) (d : DataSetsValue) (a : IsAccepte
       rw (set_changes q rights d e a is, is)
       (own_field q.port q.octets d range e.layout own (settable q.id e is (permitted e q rights a.set none)) (subst L a.set suits.size) (subst P a.set suits.value) answerer)
 
-  answered : (o : Option Entry) (own : Option ℕ) → row_of q.id ≡ o
+  answered : (o : Option RowValue) (own : Option ℕ) → row_of q.id ≡ o
       → IsAnswerer (is_of_port q.id) q.port (length (changed_by q rights d).ports) own
       → data_field_at q.id own (changed_by q rights d) ≡ standard_field_at o q.octets
   answered None own is answerer =
-      let P : Option Entry → Type 0 = λ o. refusal_at o q rights ≡ None in
+      let P : Option RowValue → Type 0 = λ o. refusal_at o q rights ≡ None in
       let wrong = subst P is a.accepted in
       cc
   answered (Some e) own is answerer =
       let C : ℕ → Type 0 = λ count. IsAnswerer (is_of_port q.id) q.port count own in
-      let O : Option Entry → Type 0 = λ o. IsAnswerer (is_port_entry o) q.port (length d.ports) own in
+      let O : Option RowValue → Type 0 = λ o. IsAnswerer (is_port_row o) q.port (length d.ports) own in
       let B : Bool → Type 0 = λ b. IsAnswerer b q.port (length d.ports) own in
       field_after e own is (subst B (sym (layout_of q.id e is)) (subst O is (subst C (changed_by-ports q rights d) answerer)))
 

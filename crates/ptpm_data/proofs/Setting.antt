@@ -5,10 +5,10 @@ use Rattle.std.proofs.lemmas.Bool.{not-false}
 use Rattle.ptpm_codec.specs.declared.message.Action.{Action}
 use Rattle.ptpm_codec.specs.declared.message.Action.TheVariants as actions
 use Rattle.ptpm_data.specs.declared.rights.Rights.{Rights}
-use Rattle.ptpm_data.specs.ManagementId.{Entry, has_action, id_table, row_of}
+use Rattle.ptpm_data.specs.ManagementId.{RowValue, has_action, id_table, row_of}
 use Rattle.ptpm_data.specs.Members.{DataSetsValue}
 use Rattle.ptpm_data.specs.Request.{RequestValue}
-use Rattle.ptpm_data.specs.Refusals.{entry_refusal, refusal_at, refusal_of, refusals, unpermitted}
+use Rattle.ptpm_data.specs.Refusals.{row_refusal, refusal_at, refusal_of, refusals, unpermitted}
 use Rattle.ptpm_data.specs.Changes.{changed_by, set_members}
 use Rattle.ptpm_data.specs.Replies.{answer, no_rights, read_reply_to, reply_of, reply_to}
 use Rattle.ptpm_data.specs.SetLaws.{IsAcceptedSet, get_of}
@@ -17,7 +17,7 @@ use Rattle.ptpm_data.proofs.FieldSizes.{found}
 
 -- ---- an id that permits SET permits GET
 
-abbrev gets_what_it_sets : Entry → Bool
+abbrev gets_what_it_sets : RowValue → Bool
 gets_what_it_sets e = not (has_action actions.Set e.actions) || has_action actions.Get e.actions
 
 table_gets : list_all gets_what_it_sets id_table ≡ true
@@ -27,24 +27,24 @@ pub then_get : (s g : Bool) → (not s || g) ≡ true → s ≡ true → g ≡ t
 then_get true g e h = e
 then_get false g e h = cc
 
-pub permitted : (e : Entry) (q : RequestValue) (rights : Rights)
+pub permitted : (e : RowValue) (q : RequestValue) (rights : Rights)
     → q.action ≡ actions.Set
-    → entry_refusal e q rights ≡ None
+    → row_refusal e q rights ≡ None
     → has_action actions.Set e.actions ≡ true
-unfolding entry_refusal
+unfolding row_refusal
 permitted e q rights set none =
     let action = first_of-none (not (has_action q.action e.actions)) (unpermitted q.action) (drop 1 (refusals e q rights)) none in
     let P : Action → Type 0 = λ a. has_action a e.actions ≡ true in
     subst P set (not-false _ action.0)
 
-entry_gets : (e : Entry) (q : RequestValue)
+entry_gets : (e : RowValue) (q : RequestValue)
     → has_action actions.Get e.actions ≡ true
-    → entry_refusal e (get_of q) no_rights ≡ None
-unfolding entry_refusal
+    → row_refusal e (get_of q) no_rights ≡ None
+unfolding row_refusal
 entry_gets e q may = rw may refl
 
-gets_after : (o : Option Entry) (q : RequestValue) (rights : Rights)
-    → ((e : Entry) → o ≡ Some e → gets_what_it_sets e ≡ true)
+gets_after : (o : Option RowValue) (q : RequestValue) (rights : Rights)
+    → ((e : RowValue) → o ≡ Some e → gets_what_it_sets e ≡ true)
     → q.action ≡ actions.Set
     → refusal_at o q rights ≡ None
     → refusal_at o (get_of q) no_rights ≡ None
@@ -81,15 +81,15 @@ set_read_back q rights d a =
 
 -- ---- the data sets after it
 
-pub accepted_by : (q : RequestValue) (rights : Rights) (e : Entry)
+pub accepted_by : (q : RequestValue) (rights : Rights) (e : RowValue)
     → IsAcceptedSet q rights
     → row_of q.id ≡ Some e
-    → entry_refusal e q rights ≡ None
+    → row_refusal e q rights ≡ None
 accepted_by q rights e a is =
-    let P : Option Entry → Type 0 = λ o. refusal_at o q rights ≡ None in
+    let P : Option RowValue → Type 0 = λ o. refusal_at o q rights ≡ None in
     subst P is a.accepted
 
-pub set_changes : (q : RequestValue) (rights : Rights) (d : DataSetsValue) (e : Entry)
+pub set_changes : (q : RequestValue) (rights : Rights) (d : DataSetsValue) (e : RowValue)
     → IsAcceptedSet q rights
     → row_of q.id ≡ Some e
     → changed_by q rights d ≡ set_members e.layout q.port q.octets d

@@ -15,14 +15,14 @@ use Rattle.ptpm_data.specs.declared.port_change.PortChange.{PortChange}
 use Rattle.ptpm_data.specs.declared.port_change.PortChange.TheVariants as changes
 use Rattle.ptpm_data.specs.declared.precedence_change.PrecedenceChange.{PrecedenceChange}
 use Rattle.ptpm_data.specs.declared.precedence_change.PrecedenceChange.TheVariants.{Priority1, Priority2, ClockAccuracy}
-use Rattle.ptpm_data.specs.ManagementId.{Entry, row_of}
+use Rattle.ptpm_data.specs.ManagementId.{RowValue, row_of}
 use Rattle.ptpm_data.specs.PortState.{mechanism_of}
 use Rattle.ptpm_data.specs.Request.{RequestValue}
 use Rattle.ptpm_data.specs.Members.{DataSetsValue, is_own_grandmaster}
 use Rattle.ptpm_data.specs.PortChange.{port_after}
 use Rattle.ptpm_data.specs.PrecedenceChange.{precedence_after}
 use Rattle.ptpm_data.specs.SetField.{octet, first_i8, first_i16, has_bit, ptp_text}
-use Rattle.ptpm_data.specs.Refusals.{entry_refusal}
+use Rattle.ptpm_data.specs.Refusals.{row_refusal}
 
 -- ---- ports
 
@@ -100,18 +100,18 @@ commanded layouts.EnablePort port d = with_ports port d changes.Enable
 commanded layouts.DisablePort port d = with_ports port d changes.Disable
 commanded _ port d = d
 
-abbrev pub carried_out : Layout → RequestValue → Action → DataSetsValue → DataSetsValue
-carried_out layout q actions.Set d = set_members layout q.port q.octets d
-carried_out layout q actions.Command d = commanded layout q.port d
-carried_out layout q _ d = d
+abbrev pub applied : Layout → RequestValue → Action → DataSetsValue → DataSetsValue
+applied layout q actions.Set d = set_members layout q.port q.octets d
+applied layout q actions.Command d = commanded layout q.port d
+applied layout q _ d = d
 
 abbrev pub unless_refused : Option ErrorId → DataSetsValue → DataSetsValue → DataSetsValue
 unless_refused None changed d = changed
 unless_refused (Some error) changed d = d
 
-abbrev pub changed_at : Option Entry → RequestValue → Rights → DataSetsValue → DataSetsValue
+abbrev pub changed_at : Option RowValue → RequestValue → Rights → DataSetsValue → DataSetsValue
 changed_at None q rights d = d
-changed_at (Some e) q rights d = unless_refused (entry_refusal e q rights) (carried_out e.layout q q.action d) d
+changed_at (Some e) q rights d = unless_refused (row_refusal e q rights) (applied e.layout q q.action d) d
 
 -- the data sets after a request of a manager with these rights; a refused one changes nothing
 unfoldable pub changed_by : RequestValue → Rights → DataSetsValue → DataSetsValue

@@ -13,7 +13,7 @@ use Rattle.ptpm_data.specs.declared.data_sets.TimePropertiesDataSet.{TimePropert
 use Rattle.ptpm_data.specs.declared.data_sets.PortDataSet.{PortDataSet}
 use Rattle.ptpm_data.specs.declared.management_id.Layout.{Layout}
 use Rattle.ptpm_data.specs.declared.management_id.Layout.TheVariants as layouts
-use Rattle.ptpm_data.specs.ManagementId.{Entry, row_of, has_action, is_of_port}
+use Rattle.ptpm_data.specs.ManagementId.{RowValue, row_of, has_action, is_of_port}
 use Rattle.ptpm_data.specs.PortState.{state_number, mechanism_number}
 use Rattle.ptpm_data.specs.Members.{DataSetsValue, port_of}
 
@@ -127,20 +127,20 @@ data_field_of layout None d = clock_field_of layout d
 data_field_of layout (Some n) d = field_of_port (port_field_of layout d.default.identity n) (port_of n d)
 
 -- whether an id permits an action
-abbrev pub entry_permits : Action → Option Entry → Bool
-entry_permits action None = false
-entry_permits action (Some e) = has_action action e.actions
+abbrev pub row_permits : Action → Option RowValue → Bool
+row_permits action None = false
+row_permits action (Some e) = has_action action e.actions
 
 abbrev pub permits : Action → ℕ → Bool
-permits action id = entry_permits action (row_of id)
+permits action id = row_permits action (row_of id)
 
-abbrev pub field_of_entry : Option Entry → Option ℕ → DataSetsValue → List ℕ
-field_of_entry None port d = []
-field_of_entry (Some e) port d = data_field_of e.layout port d
+abbrev pub field_of_row : Option RowValue → Option ℕ → DataSetsValue → List ℕ
+field_of_row None port d = []
+field_of_row (Some e) port d = data_field_of e.layout port d
 
 -- the dataField that the clock, or one of its ports, has under an id; nothing for one that is not in the table
 abbrev pub data_field_at : ℕ → Option ℕ → DataSetsValue → List ℕ
-data_field_at id port d = field_of_entry (row_of id) port d
+data_field_at id port d = field_of_row (row_of id) port d
 
 -- whose members an id shows: those of this port, or for an id of the clock the clock's own
 abbrev pub port_shown : ℕ → ℕ → Option ℕ

@@ -97,23 +97,23 @@ line LogMinPdelayReqInterval = port 0x6001 "LOG_MIN_PDELAY_REQ_INTERVAL" get_set
 unfoldable pub set_of : Layout → SetField
 set_of layout = (line layout).set
 
--- an id as the program has it: its layout says what its dataField holds
-pub record Entry : Type 0 where
+-- a row of the table, as the program has it: its layout says what its dataField holds
+pub record RowValue : Type 0 where
   pub id : ℕ
   pub name : List ℕ
   pub scope : Scope
   pub actions : ℕ
   pub layout : Layout
 
-abbrev pub entry : ℕ → List ℕ → Scope → ℕ → Layout → Entry
-entry id name scope actions layout = record { id = id; name = name; scope = scope; actions = actions; layout = layout }
+abbrev pub row_with : ℕ → List ℕ → Scope → ℕ → Layout → RowValue
+row_with id name scope actions layout = record { id = id; name = name; scope = scope; actions = actions; layout = layout }
 
-abbrev pub entry_at : Layout → Entry
-entry_at layout = let l = line layout in entry l.id l.name l.scope l.actions layout
+abbrev pub row_at : Layout → RowValue
+row_at layout = let l = line layout in row_with l.id l.name l.scope l.actions layout
 
-abbrev pub id_table : List Entry
+abbrev pub id_table : List RowValue
 id_table =
-    map entry_at (
+    map row_at (
     NullPtpManagement ∷ UserDescription ∷ DefaultDataSet ∷ CurrentDataSet ∷ ParentDataSet
     ∷ TimePropertiesDataSet ∷ PortDataSet ∷ Priority1 ∷ Priority2 ∷ Domain ∷ SlaveOnly ∷ LogAnnounceInterval
     ∷ AnnounceReceiptTimeout ∷ LogSyncInterval ∷ VersionNumber ∷ EnablePort ∷ DisablePort ∷ ClockAccuracy
@@ -121,29 +121,29 @@ id_table =
 
 -- ---- look-ups
 
-unfoldable pub row_of : ℕ → Option Entry
+unfoldable pub row_of : ℕ → Option RowValue
 row_of id = find (λ e. e.id == id) id_table
 
-unfoldable pub row_named : List ℕ → Option Entry
+unfoldable pub row_named : List ℕ → Option RowValue
 row_named name = find (λ e. bytes_eq e.name name) id_table
 
--- an entry, where it has that name
-abbrev pub if_named : List ℕ → Option Entry → Option Entry
+-- a row, where it has that name
+abbrev pub if_named : List ℕ → Option RowValue → Option RowValue
 if_named name None = None
 if_named name (Some e) = if bytes_eq e.name name then Some e else None
 
--- a row of the program, as an entry
-abbrev pub entry_of : Row → Entry
-entry_of r = record { id = r.id; name = r.name.now; scope = r.scope; actions = r.actions.0; layout = r.layout }
+-- a row of the program, as a value
+abbrev pub row_value : Row → RowValue
+row_value r = record { id = r.id; name = r.name.now; scope = r.scope; actions = r.actions.0; layout = r.layout }
 
 abbrev pub is_port_scope : Scope → Bool
 is_port_scope Clock = false
 is_port_scope Port = true
 
-abbrev pub is_port_entry : Option Entry → Bool
-is_port_entry None = false
-is_port_entry (Some e) = is_port_scope e.scope
+abbrev pub is_port_row : Option RowValue → Bool
+is_port_row None = false
+is_port_row (Some e) = is_port_scope e.scope
 
 -- whether an id is of the ports; one that is not in the table counts as of the clock (this project's profile)
 abbrev pub is_of_port : ℕ → Bool
-is_of_port id = is_port_entry (row_of id)
+is_of_port id = is_port_row (row_of id)

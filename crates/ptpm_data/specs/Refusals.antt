@@ -11,7 +11,7 @@ use Rattle.ptpm_data.specs.declared.management_id.Scope.{Scope}
 use Rattle.ptpm_data.specs.declared.management_id.Scope.TheVariants.{Clock, Port}
 use Rattle.ptpm_data.specs.declared.management_id.Layout.{Layout}
 use Rattle.ptpm_data.specs.declared.management_id.Layout.TheVariants as layouts
-use Rattle.ptpm_data.specs.ManagementId.{Entry, SetField, NoSet, Empty, TextUpTo, minus◌to◌, NotBothLeaps, row_of, has_action, set_of}
+use Rattle.ptpm_data.specs.ManagementId.{RowValue, SetField, NoSet, Empty, TextUpTo, minus◌to◌, NotBothLeaps, row_of, has_action, set_of}
 use Rattle.ptpm_data.specs.Ranges.{allows_text, allows_octet, allows_integer}
 use Rattle.ptpm_data.specs.Request.{RequestValue}
 use Rattle.ptpm_data.specs.SetField.{octet, first_i8, has_bit, ptp_text, is_ptp_text}
@@ -73,7 +73,7 @@ unpermitted actions.Set = NotSetable
 unpermitted _ = NotSupported
 
 -- the refusals of a request for an id of the table, in their order, each with its test
-abbrev pub refusals : Entry → RequestValue → Rights → List (Bool × ErrorId)
+abbrev pub refusals : RowValue → RequestValue → Rights → List (Bool × ErrorId)
 refusals e q rights =
     (not (has_action q.action e.actions), unpermitted q.action)
     ∷ (not (has_right (needed_right q.action e.scope e.layout) rights), NotSupported)
@@ -81,12 +81,12 @@ refusals e q rights =
     ∷ (not (is_value q.action (set_of e.layout) q.octets), WrongValue)
     ∷ []
 
-unfoldable pub entry_refusal : Entry → RequestValue → Rights → Option ErrorId
-entry_refusal e q rights = first_of (refusals e q rights)
+unfoldable pub row_refusal : RowValue → RequestValue → Rights → Option ErrorId
+row_refusal e q rights = first_of (refusals e q rights)
 
-abbrev pub refusal_at : Option Entry → RequestValue → Rights → Option ErrorId
+abbrev pub refusal_at : Option RowValue → RequestValue → Rights → Option ErrorId
 refusal_at None q rights = Some NoSuchId
-refusal_at (Some e) q rights = entry_refusal e q rights
+refusal_at (Some e) q rights = row_refusal e q rights
 
 -- why a request is refused; none where it is carried out
 abbrev pub refusal_of : RequestValue → Rights → Option ErrorId

@@ -5,7 +5,7 @@ use Rattle.ptpm_data.specs.declared.management_id.Layout.{Layout}
 use Rattle.ptpm_data.specs.declared.management_id.Layout.TheVariants as layouts
 use Rattle.ptpm_data.specs.declared.members.Member.{Member}
 use Rattle.ptpm_data.specs.declared.rights.Rights.{Rights}
-use Rattle.ptpm_data.specs.ManagementId.{Entry}
+use Rattle.ptpm_data.specs.ManagementId.{RowValue}
 use Rattle.ptpm_data.specs.MemberMap.{OfClock, Place, natural, value_of}
 use Rattle.ptpm_data.specs.Members.{DataSetsValue, is_own_grandmaster}
 use Rattle.ptpm_data.specs.Refusals.{refusal_of}
@@ -33,7 +33,7 @@ standard_field layouts.UserDescription octets = take (1 + octet 0 octets) octets
 standard_field layouts.UtcProperties octets = take 2 octets ++ octet 2 octets % 8 ∷ 0 ∷ []
 standard_field _ octets = octet 0 octets ∷ 0 ∷ []
 
-abbrev pub standard_field_at : Option Entry → List ℕ → List ℕ
+abbrev pub standard_field_at : Option RowValue → List ℕ → List ℕ
 standard_field_at None octets = octets
 standard_field_at (Some e) octets = standard_field e.layout octets
 

@@ -19,9 +19,9 @@ use ptpm_codec::{Action, ErrorId, PortIdentity};
 
 impl DataSets {
     ghost use Rattle.std.specs.Prelude.{◌≤◌};
-    ghost use Rattle.ptpm_data.specs.ManagementId.{entry_of, set_of};
-    ghost use Rattle.ptpm_data.specs.Changes.{carried_out, commanded, IsTargetPort, set_members, unless_refused, with_precedence, with_ports};
-    ghost use Rattle.ptpm_data.specs.Refusals.{entry_refusal, is_length, is_set_length, is_set_value, is_value};
+    ghost use Rattle.ptpm_data.specs.ManagementId.{row_value, set_of};
+    ghost use Rattle.ptpm_data.specs.Changes.{applied, commanded, IsTargetPort, set_members, unless_refused, with_precedence, with_ports};
+    ghost use Rattle.ptpm_data.specs.Refusals.{row_refusal, is_length, is_set_length, is_set_value, is_value};
 
     /// Carries out a request for an id of the table, unless it is refused; a refused one changes no member. The answer is why
     /// it is refused.
@@ -32,10 +32,10 @@ impl DataSets {
         rights: Rights,
     ) -> Option<ErrorId>
         requires { IsTargetPort request.now.port self.old }
-        ensures refusal { result ≡ entry_refusal (entry_of row.now) request.now rights }
+        ensures refusal { result ≡ row_refusal (row_value row.now) request.now rights }
         ensures changed { self.new
             ≡ unless_refused result
-            (carried_out row.now.layout request.now request.now.action self.old) self.old }
+            (applied row.now.layout request.now request.now.action self.old) self.old }
         ensures ports { length self.new.ports ≡ length self.old.ports }
     {
         let refusal = refusal(row, request, rights);
@@ -49,7 +49,7 @@ impl DataSets {
         requires length { is_length request.now.action (set_of layout) request.now.octets ≡ true }
         requires value { is_value request.now.action (set_of layout) request.now.octets ≡ true }
         requires port { IsTargetPort request.now.port self.old }
-        ensures { self.new ≡ carried_out layout request.now request.now.action self.old }
+        ensures { self.new ≡ applied layout request.now request.now.action self.old }
     {
         match request.action {
             Action::Set => self.set_members(layout, request.port, request.octets),

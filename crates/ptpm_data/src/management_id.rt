@@ -2,7 +2,7 @@
 
 ghost use Rattle.std.specs.Prelude.{◌≡◌, option_map, Some};
 ghost use Rattle.ptpm_data.specs.declared.management_id.Scope.TheVariants.{Clock, Port};
-ghost use Rattle.ptpm_data.specs.ManagementId.{entry, entry_of, row_of, row_named, if_named};
+ghost use Rattle.ptpm_data.specs.ManagementId.{row_with, row_value, row_of, row_named, if_named};
 
 use crate::actions::Actions;
 
@@ -69,7 +69,7 @@ pub static MANAGEMENT_IDS: [u16; 21] = [
 
 /// A row of an id of the clock.
 fn clock(id: u16, name: &'static str, actions: Actions, layout: Layout) -> Option<Row>
-    ensures { option_map entry_of result ≡ Some (entry id name.now Clock actions.0 layout) }
+    ensures { option_map row_value result ≡ Some (row_with id name.now Clock actions.0 layout) }
 {
     Some(Row {
         id,
@@ -82,7 +82,7 @@ fn clock(id: u16, name: &'static str, actions: Actions, layout: Layout) -> Optio
 
 /// A row of an id of each port.
 fn port(id: u16, name: &'static str, actions: Actions, layout: Layout) -> Option<Row>
-    ensures { option_map entry_of result ≡ Some (entry id name.now Port actions.0 layout) }
+    ensures { option_map row_value result ≡ Some (row_with id name.now Port actions.0 layout) }
 {
     Some(Row {
         id,
@@ -97,7 +97,7 @@ fn port(id: u16, name: &'static str, actions: Actions, layout: Layout) -> Option
 #[tactic(auto, unfolding(crate::specs::ManagementId::row_of))]
 #[inline(always)]
 pub fn by_id(id: u16) -> Option<Row>
-    ensures { option_map entry_of result ≡ row_of id }
+    ensures { option_map row_value result ≡ row_of id }
 {
     use Layout::*;
     match id {
@@ -138,7 +138,7 @@ pub fn by_id(id: u16) -> Option<Row>
 
 /// The row of an id, where it has that name.
 fn row_if_named(id: u16, name: &str) -> Option<Row>
-    ensures { option_map entry_of result ≡ if_named name.now (row_of id) }
+    ensures { option_map row_value result ≡ if_named name.now (row_of id) }
 {
     match by_id(id) {
         Some(row) if row.name == name => Some(row),
@@ -148,7 +148,7 @@ fn row_if_named(id: u16, name: &str) -> Option<Row>
 
 /// What the table says of the id of a name, as `PRIORITY1`; `None` where no id has that name.
 pub fn by_name(name: &str) -> Option<Row>
-    ensures { option_map entry_of result ≡ row_named name.now }
+    ensures { option_map row_value result ≡ row_named name.now }
 {
     for id in &MANAGEMENT_IDS {
         if let Some(row) = row_if_named(*id, name) {

@@ -1,8 +1,8 @@
 //! Why a request is refused (15.5.4.3); the order and choice of the errors are this project's profile.
 
 ghost use Rattle.std.specs.Prelude.{◌≡◌, length, true};
-ghost use Rattle.ptpm_data.specs.ManagementId.{entry_of, has_action, set_of};
-ghost use Rattle.ptpm_data.specs.Refusals.{entry_refusal, is_length, is_set_length, is_set_value, is_value, needed_right, unpermitted};
+ghost use Rattle.ptpm_data.specs.ManagementId.{row_value, has_action, set_of};
+ghost use Rattle.ptpm_data.specs.Refusals.{row_refusal, is_length, is_set_length, is_set_value, is_value, needed_right, unpermitted};
 
 use crate::actions::Actions;
 use crate::management_id::{Layout, Row, Scope};
@@ -16,10 +16,10 @@ use ptpm_codec::{Action, ErrorId};
 
 /// Why a request for an id of the table is refused; `None` where it is to be carried out. Judged in this order: the
 /// action, the manager's right, the dataField's length, its value.
-#[tactic(auto, unfolding(crate::specs::Refusals::entry_refusal))]
+#[tactic(auto, unfolding(crate::specs::Refusals::row_refusal))]
 #[inline(always)]
 pub(crate) fn refusal(row: &Row, request: &Request<'_>, rights: Rights) -> Option<ErrorId>
-    ensures { result ≡ entry_refusal (entry_of row.now) request.now rights }
+    ensures { result ≡ row_refusal (row_value row.now) request.now rights }
 {
     let action = request.action;
     if !permits(row.actions, action) {

@@ -13,7 +13,7 @@ use ptpm_codec::{Action, ErrorId, PortIdentity};
 impl DataSets {
     ghost use Rattle.std.specs.Prelude.{Some, None, map, [], ◌∷◌, ◌++◌, ◌-◌, ◌<◌, ◌≤◌, ◌+◌, length};
     ghost use Rattle.std.specs.List.{range_with_len};
-    ghost use Rattle.ptpm_data.specs.ManagementId.{entry_of, row_of};
+    ghost use Rattle.ptpm_data.specs.ManagementId.{row_value, row_of};
     ghost use Rattle.ptpm_data.specs.Changes.{IsTargetPort};
     ghost use Rattle.ptpm_data.specs.DataField.{data_field_of};
     ghost use Rattle.ptpm_data.specs.Reply.{Value, answer_of};
@@ -29,7 +29,7 @@ impl DataSets {
         refusal: Option<ErrorId>,
         reply: &mut Reply,
     )
-        requires row { row_of request.now.id ≡ Some (entry_of row.now) }
+        requires row { row_of request.now.id ≡ Some (row_value row.now) }
         requires port { IsTargetPort request.now.port self.now }
         ensures { reply.new ≡ reply_of request.now refusal self.now }
     {
@@ -54,7 +54,7 @@ impl DataSets {
         refusal: Option<ErrorId>,
         answers: &mut ArrayVec<PortAnswer, 8>,
     )
-        requires row { row_of request.now.id ≡ Some (entry_of row.now) }
+        requires row { row_of request.now.id ≡ Some (row_value row.now) }
         ensures { map answer_of answers.new.items ≡ answer request.now refusal self.now None ∷ [] }
     {
         leave_one(answers);
@@ -73,7 +73,7 @@ impl DataSets {
         refusal: Option<ErrorId>,
         own: &mut PortAnswer,
     )
-        requires row { row_of request.now.id ≡ Some (entry_of row.now) }
+        requires row { row_of request.now.id ≡ Some (row_value row.now) }
         ensures { answer_of own.new ≡ answer request.now refusal self.now own.old.port }
     {
         match refusal {
@@ -105,7 +105,7 @@ impl DataSets {
         refusal: Option<ErrorId>,
         answers: &mut ArrayVec<PortAnswer, 8>,
     )
-        requires row { row_of request.now.id ≡ Some (entry_of row.now) }
+        requires row { row_of request.now.id ≡ Some (row_value row.now) }
         requires port { IsTargetPort request.now.port self.now }
         requires empty { answers.old.items ≡ [] }
         ensures { map answer_of answers.new.items
@@ -143,7 +143,7 @@ impl DataSets {
         refusal: Option<ErrorId>,
         answers: &mut ArrayVec<PortAnswer, 8>,
     )
-        requires row { row_of request.now.id ≡ Some (entry_of row.now) }
+        requires row { row_of request.now.id ≡ Some (row_value row.now) }
         requires room { array_vec_len answers.old < 8 }
         ensures items { map answer_of answers.new.items
             ≡ map answer_of answers.old.items

@@ -13,7 +13,7 @@ use Rattle.ptpm_manager.specs.declared.receiving.Surveyed.TheVariants as surveye
 use Rattle.ptpm_manager.specs.declared.report.Outcome.{Outcome}
 use Rattle.ptpm_manager.specs.declared.enquiry.Enquiry.{Enquiry}
 use Rattle.ptpm_manager.specs.Enquiry.{ignored_for}
-use Rattle.ptpm_manager.specs.Report.{outcome_of}
+use Rattle.ptpm_manager.specs.Report.{outcome_in}
 
 -- which port answers, and what
 abbrev pub Answer : Type 0
@@ -21,7 +21,7 @@ Answer = PortIdentity × Outcome
 
 abbrev pub answer_unless : Option Reason → Message → Result Answer Reason
 answer_unless (Some reason) v = Err reason
-answer_unless None v = Ok (v.source, outcome_of v.body)
+answer_unless None v = Ok (v.source, outcome_in v.body)
 
 abbrev pub answer_in : Enquiry → Result Message DecodeError → Result Answer Reason
 answer_in e (Err cause) = Err (reasons.Malformed cause)

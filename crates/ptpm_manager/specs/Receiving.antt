@@ -14,7 +14,7 @@ use Rattle.ptpm_manager.specs.declared.receiving.Reason.TheVariants as reasons
 use Rattle.ptpm_manager.specs.declared.receiving.Received.{Received}
 use Rattle.ptpm_manager.specs.declared.receiving.Received.TheVariants as received
 use Rattle.ptpm_codec.specs.Ordered.{first_of}
-use Rattle.ptpm_manager.specs.Report.{IsCopied, outcome_of}
+use Rattle.ptpm_manager.specs.Report.{IsCopied, outcome_in}
 use Rattle.ptpm_manager.specs.Session.{SessionValue, answered, is_waiting}
 use Rattle.ptpm_codec.specs.SequenceNumber.{number_of}
 
@@ -76,7 +76,7 @@ reason_of s v = first_of (
 
 abbrev pub answer_by : Option Reason → SessionValue → Message → Received
 answer_by (Some reason) s v = received.Ignored reason
-answer_by None s v = received.Answered (record { index = s.issued; outcome = outcome_of v.body })
+answer_by None s v = received.Answered (record { index = s.issued; outcome = outcome_in v.body })
 
 abbrev pub answer_to : SessionValue → Result Message DecodeError → Received
 answer_to s (Err cause) = received.Ignored (reasons.Malformed cause)

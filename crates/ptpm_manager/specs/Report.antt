@@ -20,8 +20,8 @@ abbrev pub outcome_by : Option ℕ → Action → List ℕ → Outcome
 outcome_by (Some error) action octets = outcomes.Refused error
 outcome_by None action octets = success action octets
 
-abbrev pub outcome_of : Body → Outcome
-outcome_of body = outcome_by (error_of body) (action_of body) (octets_of body)
+abbrev pub outcome_in : Body → Outcome
+outcome_in body = outcome_by (error_of body) (action_of body) (octets_of body)
 
 -- the octets of a dataField are copied, and nothing else needs memory
 abbrev pub IsCopied : Outcome → Type 0

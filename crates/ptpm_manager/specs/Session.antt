@@ -48,13 +48,13 @@ session_value s = record {
 }
 
 -- the request that is kept is the last of those begun
-pub record IsKept (ports issued : ℕ) (pending : Pending) : Type 0 where
+pub record IsPending (ports issued : ℕ) (pending : Pending) : Type 0 where
   pub counted : 1 ≤ issued
   pub request : IsRequestTo ports (pending_request pending)
 
 abbrev pub IsStateAt : ℕ → ℕ → State → Type 0
 IsStateAt ports issued Idle = Unit {0}
-IsStateAt ports issued (Waiting pending) = IsKept ports issued pending
+IsStateAt ports issued (Waiting pending) = IsPending ports issued pending
 
 -- what holds of the fields of every session
 pub record IsSession (s : Inside) : Type 0 where

@@ -3,10 +3,10 @@
 ghost use Rattle.std.specs.Prelude.{◌≡◌, ◌++◌, ◌∷◌, [], false, Ok, IfOk, OnErr, OnOk};
 ghost use Rattle.ptpm_manager.specs.declared.receiving.Surveyed.{Surveyed};
 ghost use Rattle.ptpm_manager.specs.Answers.{has_answered, kept_by, surveyed_by};
-ghost use Rattle.ptpm_manager.specs.Report.{outcome_of};
+ghost use Rattle.ptpm_manager.specs.Report.{outcome_in};
 
 use crate::receiving::Surveyed;
-use crate::report::{Outcome, outcome_of};
+use crate::report::{Outcome, outcome_in};
 use indexmap::IndexMap;
 use ptpm_codec::{OutOfMemory, PortIdentity, View};
 use std::alloc::Global;
@@ -24,12 +24,12 @@ pub(crate) fn keep(
         (λ surveyed.
         surveyed
         ≡ surveyed_by answers.old.entries
-        (Ok (message.now.source, outcome_of message.now.body))) }
+        (Ok (message.now.source, outcome_in message.now.body))) }
     ensures kept { OnOk result
         (answers.new.entries
-        ≡ kept_by answers.old.entries (Ok (message.now.source, outcome_of message.now.body))) }
+        ≡ kept_by answers.old.entries (Ok (message.now.source, outcome_in message.now.body))) }
     ensures memory { OnErr result
-        (surveyed_by answers.old.entries (Ok (message.now.source, outcome_of message.now.body))
+        (surveyed_by answers.old.entries (Ok (message.now.source, outcome_in message.now.body))
         ≡ Surveyed.Taken) }
     ensures unchanged { OnErr result (answers.new.entries ≡ answers.old.entries) }
 {
@@ -40,7 +40,7 @@ pub(crate) fn keep(
     if answers.len() >= ANSWERS {
         return Ok(Surveyed::Full);
     }
-    add(answers, source, outcome_of(alloc, message)?)?;
+    add(answers, source, outcome_in(alloc, message)?)?;
     Ok(Surveyed::Taken)
 }
 

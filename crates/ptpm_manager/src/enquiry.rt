@@ -3,7 +3,7 @@
 ghost use Rattle.std.specs.Prelude.{◌≡◌, Ok, Err, MatchResult};
 ghost use Rattle.ptpm_manager.specs.Answers.{heard};
 ghost use Rattle.ptpm_manager.specs.Enquiry.{ignored_for, survey_message};
-ghost use Rattle.ptpm_manager.specs.Report.{outcome_of};
+ghost use Rattle.ptpm_manager.specs.Report.{outcome_in};
 
 use crate::receiving::{Reason, is_in_domain};
 use ptpm_codec::{Action, ClockIdentity, Draft, DraftBody, PortIdentity, View, view};
@@ -49,7 +49,7 @@ impl Enquiry {
     #[tactic(auto, unfolding(crate::specs::Answers::heard))]
     pub(crate) fn answer_in<'a>(&self, datagram: &'a [u8]) -> Result<View<'a>, Reason>
         ensures { MatchResult result
-            (λ message. heard self.now datagram.now ≡ Ok (message.source, outcome_of message.body))
+            (λ message. heard self.now datagram.now ≡ Ok (message.source, outcome_in message.body))
             (λ reason. heard self.now datagram.now ≡ Err reason) }
     {
         let message = match view(datagram) {

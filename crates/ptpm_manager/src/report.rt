@@ -1,7 +1,7 @@
 //! What a reply tells whoever asked.
 
 ghost use Rattle.std.specs.Prelude.{◌≡◌, IfOk, OnErr};
-ghost use Rattle.ptpm_manager.specs.Report.{IsCopied, outcome_of};
+ghost use Rattle.ptpm_manager.specs.Report.{IsCopied, outcome_in};
 
 use ptpm_codec::{Action, Octets, OutOfMemory, View};
 use std::alloc::Global;
@@ -26,9 +26,9 @@ pub struct Report {
 }
 
 /// What a reply tells. The octets of a dataField are copied, and nothing else.
-pub(crate) fn outcome_of(alloc: Global, reply: &View<'_>) -> Result<Outcome, OutOfMemory>
-    ensures outcome { IfOk result (λ outcome. outcome ≡ outcome_of reply.now.body) }
-    ensures memory { OnErr result (IsCopied (outcome_of reply.now.body)) }
+pub(crate) fn outcome_in(alloc: Global, reply: &View<'_>) -> Result<Outcome, OutOfMemory>
+    ensures outcome { IfOk result (λ outcome. outcome ≡ outcome_in reply.now.body) }
+    ensures memory { OnErr result (IsCopied (outcome_in reply.now.body)) }
 {
     if let Some(error) = reply.error() {
         return Ok(Outcome::Refused(error));

@@ -13,7 +13,7 @@ ghost use Rattle.ptpm_manager.specs.Ask.{IsRequestTo, request_of};
 use crate::ask::{Ask, Pending};
 use crate::error::{BeginError, SendError};
 use crate::receiving::{Reason, Received, is_in_domain};
-use crate::report::{Report, outcome_of};
+use crate::report::{Report, outcome_in};
 use crate::setup::Setup;
 use ptpm_codec::{Buffer, ClockIdentity, OutOfMemory, PortIdentity, View, encode, view};
 use std::alloc::Global;
@@ -210,7 +210,7 @@ impl Session {
         if let Some(reason) = self.reason_to_ignore(&message) {
             return Ok(Received::Ignored(reason));
         }
-        let outcome = outcome_of(self.alloc, &message)?;
+        let outcome = outcome_in(self.alloc, &message)?;
         self.state = State::Idle;
         Ok(Received::Answered(Report {
             index: self.issued,

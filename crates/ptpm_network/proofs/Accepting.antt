@@ -9,7 +9,7 @@ use Rattle.ptpm_data.specs.Request.{RequestValue}
 use Rattle.ptpm_table.specs.Rendering.{answer_body}
 use Rattle.ptpm_agent.specs.Once.{Accepted, greatest, kept_reply}
 use Rattle.ptpm_manager.specs.declared.report.Report.{Report}
-use Rattle.ptpm_manager.specs.Report.{outcome_of}
+use Rattle.ptpm_manager.specs.Report.{outcome_in}
 use Rattle.ptpm_network.specs.DataSets.{Answers, HasOneAnswer}
 use Rattle.ptpm_network.specs.State.{SessionState, outcomes_kept, reports_by, reports_of}
 use Rattle.ptpm_network.specs.Invariant.{IsAsked, IsInStep, WasAccepted}
@@ -223,7 +223,7 @@ in_step-set m ports es s domain attempts at = record {
 
 -- the one report of a reply with one answer
 abbrev pub report_of : ℕ → Accepted → Answer → Report
-report_of k e a = record { index = k; outcome = outcome_of (answer_body e.reply.action e.reply.id a.outcome) }
+report_of k e a = record { index = k; outcome = outcome_in (answer_body e.reply.action e.reply.id a.outcome) }
 
 reports_of-one : (k : ℕ) (o : Option Accepted) (e : Accepted) (a : Answer)
     → o ≡ Some e

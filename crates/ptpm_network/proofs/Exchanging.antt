@@ -34,7 +34,7 @@ use Rattle.ptpm_agent.specs.Once.{Accepted, History, RequestCopy, after_copy, co
 use Rattle.ptpm_agent.specs.Addressing.{is_for_this_clock, is_own, is_request, names_port}
 use Rattle.ptpm_agent.specs.Turn.{Clock}
 use Rattle.ptpm_manager.specs.declared.report.Report.{Report}
-use Rattle.ptpm_manager.specs.Report.{outcome_of}
+use Rattle.ptpm_manager.specs.Report.{outcome_in}
 use Rattle.ptpm_network.specs.Events.{Deliver, Event, FramesAtMaximum, IsInRange, frame_at, frames_limit, no_frame, no_room, refusal}
 use Rattle.ptpm_network.specs.Exchange.{HasReplied, HasReported, HasRoom, IsHeardBy}
 use Rattle.ptpm_network.specs.Invariant.{IsAsked, IsFrame, IsOfOrigin, IsReached}
@@ -355,7 +355,7 @@ told-in_domain : (state : SessionState) (octets : List ℕ) (v : Message)
     → message_of octets ≡ Some v
     → domain_number octets ≡ state.domain
     → told_by state (message_of octets)
-    ≡ Some (record { index = length state.begun; outcome = outcome_of v.body })
+    ≡ Some (record { index = length state.begun; outcome = outcome_in v.body })
 told-in_domain state octets v e domain = ap (told_by state) e ∙ cond-true _ _ _ (eq-eqb v.domain state.domain (message-domain v octets e ∙ domain))
 
 answer-is : (s : ℕ) (state : SessionState) (o : Origin)
@@ -389,7 +389,7 @@ reports-answer N w s f n r place i origin busy domain =
     let own : IsOfOrigin N w f.octets (ReplyTo s (issued w s)) = subst (λ (o : Origin). IsOfOrigin N w f.octets o) origin i.origin in
     let says = says_reply N w s (issued w s) f.octets n r own in
     let v : Message = reply_at (N.session s).setup.target says.heard says.entry.reply says.ingress says.hops says.answer in
-    let report : Report = record { index = issued w s; outcome = outcome_of v.body } in
+    let report : Report = record { index = issued w s; outcome = outcome_in v.body } in
     let from : report_from s (w.session s) f ≡ Some report =
     cond-true _ _ _ (answer-is s (w.session s) f.origin origin busy) ∙ told-in_domain (w.session s) f.octets v says.message.read domain in
     let now : (delivered_at N w f (AtSession s)).session s ≡ reported (w.session s) (Some report) =

@@ -14,7 +14,7 @@ use Rattle.ptpm_manager.specs.declared.ask.Ask.{Ask}
 use Rattle.ptpm_manager.specs.declared.report.Report.{Report}
 use Rattle.ptpm_manager.specs.Ask as ask
 use Rattle.ptpm_manager.specs.Ask.{ask_refusal}
-use Rattle.ptpm_manager.specs.Report.{outcome_of}
+use Rattle.ptpm_manager.specs.Report.{outcome_in}
 use Rattle.ptpm_manager.specs.Session.{begin_refusal}
 use Rattle.ptpm_network.specs.Events.{BeginRefused, Begin, Deliver, Event, Forged, IsInRange, NoSuchName, Refusal, Resume, Retune, Send, Stranger, begin_refused, forged, frame_at, is_forged, no_port, no_room, no_session, refusal}
 use Rattle.ptpm_network.specs.Invariant.{IsAsked, IsFrame, IsOfOrigin, IsReached}
@@ -44,13 +44,13 @@ pub record Reports (N : Network) (w : NetworkState) (s : ℕ) (report : Report) 
 pub no_report : {X : Type 0} (r : Report) → None ≡ Some r → X
 no_report r e = absurd (cc)
 
-told-by : (state : SessionState) (v : Message) (r : Report) → told_by state (Some v) ≡ Some r → r ≡ record { index = length state.begun; outcome = outcome_of v.body }
+told-by : (state : SessionState) (v : Message) (r : Report) → told_by state (Some v) ≡ Some r → r ≡ record { index = length state.begun; outcome = outcome_in v.body }
 told-by state v r e = ⊎_elim
     (λ (y : v.domain == state.domain ≡ true). sym (same_Some _ r (sym (cond-true _ _ _ y) ∙ e)))
     (λ (n : v.domain == state.domain ≡ false). no_report r (sym (cond-false _ _ _ n) ∙ e))
     (cases_Bool (v.domain == state.domain))
 
-pub told-message : (state : SessionState) (o : Option Message) (v : Message) (r : Report) → o ≡ Some v → told_by state o ≡ Some r → r ≡ record { index = length state.begun; outcome = outcome_of v.body }
+pub told-message : (state : SessionState) (o : Option Message) (v : Message) (r : Report) → o ≡ Some v → told_by state o ≡ Some r → r ≡ record { index = length state.begun; outcome = outcome_in v.body }
 told-message state o v r e h = told-by state v r (ap (told_by state) (sym e) ∙ h)
 
 reports-by : (N : Network) (w : NetworkState) (s : ℕ) (octets : List ℕ) (o : Origin) (r : Report)

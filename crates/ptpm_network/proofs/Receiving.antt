@@ -27,7 +27,7 @@ use Rattle.ptpm_manager.specs.declared.receiving.Received.TheVariants as receive
 use Rattle.ptpm_manager.specs.declared.report.Report.{Report}
 use Rattle.ptpm_codec.specs.Ordered.{first_of}
 use Rattle.ptpm_manager.specs.Receiving.{answer_by, answer_to, is_answered_by, is_content, is_from_asked_port, is_from_target, is_in_domain, reason_of, received_of}
-use Rattle.ptpm_manager.specs.Report.{outcome_of}
+use Rattle.ptpm_manager.specs.Report.{outcome_in}
 use Rattle.ptpm_manager.specs.Session.{SessionValue, is_waiting}
 use Rattle.ptpm_codec.specs.SequenceNumber.{number_of}
 use Rattle.ptpm_network.specs.Events.{Event, IsInRange, frame_at}
@@ -178,7 +178,7 @@ received-message : (s : SessionValue) (octets : List ℕ) (v : Message)
     → message_of octets ≡ Some v
     → reason_of s v ≡ None
     → received_of s octets
-    ≡ received.Answered (record { index = s.issued; outcome = outcome_of v.body })
+    ≡ received.Answered (record { index = s.issued; outcome = outcome_in v.body })
 received-message s octets v e none =
     ap (answer_to s) (reading-message_of octets v e) ∙ ap (λ (o : Option Reason). answer_by o s v) none
 
@@ -227,7 +227,7 @@ pub record Takes (s : SessionValue) (octets : List ℕ) (r : Report) : Type 0 wh
   pub message : Message
   pub read : message_of octets ≡ Some message
   pub accepted : IsAccepted s message
-  pub is : record { index = s.issued; outcome = outcome_of message.body } ≡ r
+  pub is : record { index = s.issued; outcome = outcome_in message.body } ≡ r
 
 takes-message : (s : SessionValue) (octets : List ℕ) (v : Message) (r : Report) (o : Option Reason)
     → reason_of s v ≡ o

@@ -14,7 +14,7 @@ use Rattle.ptpm_data.specs.Start.{default_clock, default_port, started}
 use Rattle.ptpm_data.specs.declared.rights.Rights.{Rights}
 use Rattle.ptpm_data.specs.ManagementId.{row_of, set_of}
 use Rattle.ptpm_data.specs.DataField.{clock_field_of}
-use Rattle.ptpm_data.specs.Refusals.{entry_refusal, is_set_length, is_set_value}
+use Rattle.ptpm_data.specs.Refusals.{row_refusal, is_set_length, is_set_value}
 use Rattle.ptpm_data.specs.Replies.{answer, reply_of, reply_to, read_reply_to}
 use Rattle.ptpm_data.specs.Changes.{changed_by, set_members}
 use Rattle.ptpm_agent.specs.Forwarding.{forwarded}
@@ -90,7 +90,7 @@ by_whom a = (a.manager, a.index)
 first_script-accepted : map by_whom
     (history one_clock (run one_clock sent_once (Deliver 1 ∷ Deliver 1 ∷ [])) 0).accepted
     ≡ (manager_m, 1) ∷ []
-unfolding refusal happens begin_refusal send_refusal ask_refusal target_port row_of port_identity_octets tlv_octets message_of frame_refusal tlv_refusal text_refusal body_at number_at port_identity_at changed_by entry_refusal forwarded answer clock_field_of reply_of reply_to read_reply_to rendered
+unfolding refusal happens begin_refusal send_refusal ask_refusal target_port row_of port_identity_octets tlv_octets message_of frame_refusal tlv_refusal text_refusal body_at number_at port_identity_at changed_by row_refusal forwarded answer clock_field_of reply_of reply_to read_reply_to rendered
 first_script-accepted = refl
 
 -- the clock's RESPONSE: priority1 is 128
@@ -107,12 +107,12 @@ whole_script = run one_clock sent_once (Deliver 1 ∷ Deliver 2 ∷ Deliver 1 �
 -- the request, the reply to it, and the same reply to its repeat
 first_script-frames : map (λ f. f.octets) whole_script.frames
     ≡ get_octets ∷ reply_octets ∷ reply_octets ∷ []
-unfolding refusal happens begin_refusal send_refusal ask_refusal target_port row_of port_identity_octets tlv_octets message_of frame_refusal tlv_refusal text_refusal body_at number_at port_identity_at changed_by entry_refusal forwarded answer clock_field_of reply_of reply_to read_reply_to rendered
+unfolding refusal happens begin_refusal send_refusal ask_refusal target_port row_of port_identity_octets tlv_octets message_of frame_refusal tlv_refusal text_refusal body_at number_at port_identity_at changed_by row_refusal forwarded answer clock_field_of reply_of reply_to read_reply_to rendered
 first_script-frames = refl
 
 -- it is reported once
 first_script-reports : (whole_script.session 0).reports ≡ record { index = 1; outcome = outcomes.Value (0x80 ∷ 0x00 ∷ []) } ∷ []
-unfolding refusal happens begin_refusal send_refusal ask_refusal target_port row_of port_identity_octets tlv_octets message_of frame_refusal tlv_refusal text_refusal body_at number_at port_identity_at changed_by entry_refusal forwarded answer clock_field_of reply_of reply_to read_reply_to rendered
+unfolding refusal happens begin_refusal send_refusal ask_refusal target_port row_of port_identity_octets tlv_octets message_of frame_refusal tlv_refusal text_refusal body_at number_at port_identity_at changed_by row_refusal forwarded answer clock_field_of reply_of reply_to read_reply_to rendered
 first_script-reports = refl
 
 -- ---- it is a network of an accepted file
@@ -205,15 +205,15 @@ other_domain = run one_clock (initial_state one_clock) (
 
 retune-reports : (other_domain.session 0).reports
     ≡ record { index = 1; outcome = outcomes.Value (0x05 ∷ 0x00 ∷ []) } ∷ record { index = 2; outcome = outcomes.Value (0x80 ∷ 0x00 ∷ []) } ∷ []
-unfolding refusal happens begin_refusal send_refusal ask_refusal target_port row_of port_identity_octets tlv_octets message_of frame_refusal tlv_refusal text_refusal body_at number_at port_identity_at changed_by entry_refusal is_set_length is_set_value set_of set_members forwarded answer clock_field_of reply_of reply_to read_reply_to rendered
+unfolding refusal happens begin_refusal send_refusal ask_refusal target_port row_of port_identity_octets tlv_octets message_of frame_refusal tlv_refusal text_refusal body_at number_at port_identity_at changed_by row_refusal is_set_length is_set_value set_of set_members forwarded answer clock_field_of reply_of reply_to read_reply_to rendered
 retune-reports = refl
 
 retune-domain : (history one_clock other_domain 0).sets.default.domain ≡ 5
-unfolding refusal happens begin_refusal send_refusal ask_refusal target_port row_of port_identity_octets tlv_octets message_of frame_refusal tlv_refusal text_refusal body_at number_at port_identity_at changed_by entry_refusal is_set_length is_set_value set_of set_members forwarded answer clock_field_of reply_of reply_to read_reply_to rendered
+unfolding refusal happens begin_refusal send_refusal ask_refusal target_port row_of port_identity_octets tlv_octets message_of frame_refusal tlv_refusal text_refusal body_at number_at port_identity_at changed_by row_refusal is_set_length is_set_value set_of set_members forwarded answer clock_field_of reply_of reply_to read_reply_to rendered
 retune-domain = refl
 
 retune-frames : map (λ f. octet 4 f.octets) other_domain.frames ≡ 0 ∷ 0 ∷ 0 ∷ 0 ∷ 0 ∷ 5 ∷ 5 ∷ []
-unfolding refusal happens begin_refusal send_refusal ask_refusal target_port row_of port_identity_octets tlv_octets message_of frame_refusal tlv_refusal text_refusal body_at number_at port_identity_at changed_by entry_refusal is_set_length is_set_value set_of set_members forwarded answer clock_field_of reply_of reply_to read_reply_to rendered
+unfolding refusal happens begin_refusal send_refusal ask_refusal target_port row_of port_identity_octets tlv_octets message_of frame_refusal tlv_refusal text_refusal body_at number_at port_identity_at changed_by row_refusal is_set_length is_set_value set_of set_members forwarded answer clock_field_of reply_of reply_to read_reply_to rendered
 retune-frames = refl
 
 -- ---- a ring of three clocks
@@ -245,14 +245,14 @@ seen f = (f.end, octet 45 f.octets, f.forwardings, f.origin)
 ring_of_three_clocks-frames : map seen
     (in_ring (Begin 0 get_priority1 ∷ Send 0 ∷ Deliver 1 ∷ Deliver 3 ∷ Deliver 4 ∷ [])).frames
     ≡ (AtPort 0 1, 2, 0, RequestOf 0 1) ∷ (AtPort 1 1, 1, 1, RequestOf 0 1) ∷ (AtPort 2 1, 1, 1, RequestOf 0 1) ∷ (AtPort 1 2, 0, 2, RequestOf 0 1) ∷ (AtPort 2 2, 2, 0, ReplyTo 0 1) ∷ []
-unfolding refusal happens begin_refusal send_refusal ask_refusal target_port row_of port_identity_octets tlv_octets message_of frame_refusal tlv_refusal text_refusal body_at number_at port_identity_at changed_by entry_refusal forwarded answer clock_field_of reply_of reply_to read_reply_to rendered
+unfolding refusal happens begin_refusal send_refusal ask_refusal target_port row_of port_identity_octets tlv_octets message_of frame_refusal tlv_refusal text_refusal body_at number_at port_identity_at changed_by row_refusal forwarded answer clock_field_of reply_of reply_to read_reply_to rendered
 ring_of_three_clocks-frames = refl
 
 -- both ways it comes to clock 1, which accepts it once
 ring_of_three_clocks-accepted : map by_whom
     (history ring_of_three_clocks (in_ring (Begin 0 get_priority1 ∷ Send 0 ∷ Deliver 1 ∷ Deliver 2 ∷ Deliver 3 ∷ Deliver 4 ∷ [])) 1).accepted
     ≡ (manager_m, 1) ∷ []
-unfolding refusal happens begin_refusal send_refusal ask_refusal target_port row_of port_identity_octets tlv_octets message_of frame_refusal tlv_refusal text_refusal body_at number_at port_identity_at changed_by entry_refusal forwarded answer clock_field_of reply_of reply_to read_reply_to rendered
+unfolding refusal happens begin_refusal send_refusal ask_refusal target_port row_of port_identity_octets tlv_octets message_of frame_refusal tlv_refusal text_refusal body_at number_at port_identity_at changed_by row_refusal forwarded answer clock_field_of reply_of reply_to read_reply_to rendered
 ring_of_three_clocks-accepted = refl
 
 -- ---- lateness

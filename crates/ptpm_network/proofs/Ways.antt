@@ -6,7 +6,7 @@ use Rattle.ptpm_codec.specs.Reading.{body_at, message_of}
 use Rattle.ptpm_codec.specs.Refusal.{frame_refusal, tlv_refusal, text_refusal}
 use Rattle.ptpm_data.specs.ManagementId.{row_of}
 use Rattle.ptpm_data.specs.DataField.{clock_field_of}
-use Rattle.ptpm_data.specs.Refusals.{entry_refusal}
+use Rattle.ptpm_data.specs.Refusals.{row_refusal}
 use Rattle.ptpm_data.specs.Replies.{answer, reply_of, reply_to, read_reply_to}
 use Rattle.ptpm_data.specs.Changes.{changed_by}
 use Rattle.ptpm_agent.specs.Forwarding.{forwarded}
@@ -46,5 +46,5 @@ ring-way = record {
 -- sent once, handed in at clock 0, at clock 1, at clock 0 on the way back and at the session: the request is reported
 ring-reports : ((in_ring (Begin 0 get_priority1 ∷ Send 0 ∷ Deliver 1 ∷ Deliver 2 ∷ Deliver 4 ∷ Deliver 5 ∷ [])).session 0).reports
     ≡ record { index = 1; outcome = outcomes.Value (0x80 ∷ 0x00 ∷ []) } ∷ []
-unfolding refusal happens begin_refusal send_refusal ask_refusal target_port row_of port_identity_octets tlv_octets message_of frame_refusal tlv_refusal text_refusal body_at number_at port_identity_at changed_by entry_refusal forwarded answer clock_field_of reply_of reply_to read_reply_to rendered
+unfolding refusal happens begin_refusal send_refusal ask_refusal target_port row_of port_identity_octets tlv_octets message_of frame_refusal tlv_refusal text_refusal body_at number_at port_identity_at changed_by row_refusal forwarded answer clock_field_of reply_of reply_to read_reply_to rendered
 ring-reports = refl

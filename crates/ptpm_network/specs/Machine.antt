@@ -16,7 +16,7 @@ use Rattle.ptpm_agent.specs.Addressing.{heard_of, is_addressed, is_numbered, is_
 use Rattle.ptpm_agent.specs.Turn.{Clock}
 use Rattle.ptpm_manager.specs.declared.report.Report.{Report}
 use Rattle.ptpm_manager.specs.Ask as ask
-use Rattle.ptpm_manager.specs.Report.{outcome_of}
+use Rattle.ptpm_manager.specs.Report.{outcome_in}
 use Rattle.ptpm_manager.specs.Session.{due_message}
 use Rattle.ptpm_network.specs.Network.{End, AtPort, AtSession, Network, SessionStart, peers, ports}
 use Rattle.ptpm_network.specs.State.{Frame, Neither, NetworkState, Origin, ReplyTo, RequestOf, SessionState, frames_to, history, initial_state, is_idle, is_late, new_frames, session_value}
@@ -130,7 +130,7 @@ abbrev pub told_by : SessionState → Option Message → Option Report
 told_by state None = None
 told_by state (Some v) =
     if v.domain == state.domain
-    then Some (record { index = length state.begun; outcome = outcome_of v.body }) else None
+    then Some (record { index = length state.begun; outcome = outcome_in v.body }) else None
 
 abbrev pub report_from : ℕ → SessionState → Frame → Option Report
 report_from s state f =

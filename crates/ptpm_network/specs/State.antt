@@ -8,7 +8,7 @@ use Rattle.ptpm_data.specs.Request.{RequestValue}
 use Rattle.ptpm_table.specs.Rendering.{answer_body}
 use Rattle.ptpm_agent.specs.Once.{Accepted, Delivery, History, RequestCopy, applied_once, copies, greatest, initial_history, kept_reply}
 use Rattle.ptpm_manager.specs.declared.report.Report.{Report}
-use Rattle.ptpm_manager.specs.Report.{outcome_of}
+use Rattle.ptpm_manager.specs.Report.{outcome_in}
 use Rattle.ptpm_manager.specs.Session.{SessionValue}
 use Rattle.ptpm_network.specs.Network.{End, Network, SessionStart, manager, ports}
 
@@ -107,7 +107,7 @@ greatest_accepted N w s = greatest (manager N s) (accepted_at_target N w s)
 
 abbrev pub reports_by : ℕ → ReplyValue → List Answer → List Report
 reports_by k r answers =
-    map (λ a. record { index = k; outcome = outcome_of (answer_body r.action r.id a.outcome) })
+    map (λ a. record { index = k; outcome = outcome_in (answer_body r.action r.id a.outcome) })
     answers
 
 -- what the reply that is kept for request k says

@@ -9,7 +9,7 @@ use Rattle.ptpm_table.specs.Rendering.{answer_body}
 use Rattle.ptpm_agent.specs.Once.{Accepted, RequestCopy, accepted_from, applied_once, initial_history, joins}
 use Rattle.ptpm_agent.specs.Turn.{Clock}
 use Rattle.ptpm_manager.specs.declared.report.Report.{Report}
-use Rattle.ptpm_manager.specs.Report.{outcome_of}
+use Rattle.ptpm_manager.specs.Report.{outcome_in}
 use Rattle.ptpm_network.specs.Network.{Network, manager}
 use Rattle.ptpm_network.specs.State.{NetworkState, accepted_at_target, copies_at}
 
@@ -39,4 +39,4 @@ pub record IsWorth (N : Network) (w : NetworkState) (s : ℕ) (report : Report) 
   pub answer : Answer
   pub one : entry.reply.answers ≡ answer ∷ []
   pub outcome : report.outcome
-      ≡ outcome_of (answer_body entry.reply.action entry.reply.id answer.outcome)
+      ≡ outcome_in (answer_body entry.reply.action entry.reply.id answer.outcome)

@@ -24,7 +24,7 @@ use Rattle.std.specs.Prelude.{is_some}
 use Rattle.ptpm_table.proofs.ListLemmas.{All-unmap}
 use Rattle.ptpm_codec.specs.Message.{reply_action}
 use Rattle.ptpm_table.specs.Entries.{FitsAnswer, FitsCount, FitsOutcome, FitsRequest}
-use Rattle.ptpm_table.specs.KeptMessages.{AreSizes, EachKept, Envelope, IsKept, IsKeptReply, answer_in, error_of_number, first_copy, has_port, kept_message, outcome_in, outcome_of_body, pieces, port_for, port_in, renewed, source_port}
+use Rattle.ptpm_table.specs.KeptMessages.{AreSizes, EachKept, Envelope, IsKeptMessage, IsKeptReply, answer_in, error_of_number, first_copy, has_port, kept_message, outcome_in, outcome_of_body, pieces, port_for, port_in, renewed, source_port}
 use Rattle.ptpm_table.specs.Rendering.{answer_body, hops_passed, rendered, reply_message}
 
 -- the copy that is answered is of the request whose reply is kept
@@ -83,7 +83,7 @@ renewed_of_port e heard ingress port o copy fits =
 renewed_one : (of_port : Bool) (e : Envelope) (heard : Heard) (ingress : ℕ) (m : List ℕ)
     → IsCopyOf e heard
     → ingress < 2 ^ 16
-    → IsKept e of_port m
+    → IsKeptMessage e of_port m
     → renewed heard.domain (port_for of_port ingress) (hops_passed heard) m
     ≡ canonical (reply_message e.clock heard e.action e.id ingress (answer_in of_port m))
 renewed_one false e heard ingress m copy low kept =
@@ -163,7 +163,7 @@ pub kept_back : (of_port : Bool) (e : Envelope) (request : Action) (a : Answer)
     → e.action ≡ reply_action request
     → IsRequestAction request
     → FitsAnswer of_port request a → IsValid (kept_message e a) → Fits (kept_message e a)
-    → IsKept e of_port (canonical (kept_message e a))
+    → IsKeptMessage e of_port (canonical (kept_message e a))
 kept_back of_port e request a action asks suits valid fits =
     let back = answer_back of_port e request a action asks suits valid fits in
     record {
@@ -197,14 +197,14 @@ pieces_more (s ∷ ss) octets m cut =
 
 each_more : (e : Envelope) (of_port : Bool) (ms : List (List ℕ)) (m : List ℕ)
     → EachKept e of_port ms
-    → IsKept e of_port m
+    → IsKeptMessage e of_port m
     → EachKept e of_port (ms ++ m ∷ [])
 each_more e of_port [] m each kept = (kept, tt)
 each_more e of_port (x ∷ ms) m each kept = (each.0, each_more e of_port ms m each.1 kept)
 
 pub kept_more : (e : Envelope) (of_port : Bool) (sizes octets m : List ℕ)
     → IsKeptReply e of_port sizes octets
-    → IsKept e of_port m
+    → IsKeptMessage e of_port m
     → 54 ≤ length m → IsKeptReply e of_port (sizes ++ length m ∷ []) (octets ++ m)
 kept_more e of_port sizes octets m kept one least = record {
   cut = subst (AreSizes (sizes ++ length m ∷ [])) (sym (length-append octets m)) (sizes_more sizes (length octets) (length m) kept.cut least);
@@ -278,7 +278,7 @@ most_of_all true = omega arith
 
 -- a message that spells an answer
 pub record IsEncoded (of_port : Bool) (e : Envelope) (a : Answer) (v : Message) : Type 0 where
-  pub kept : IsKept e of_port (canonical v)
+  pub kept : IsKeptMessage e of_port (canonical v)
   pub back : answer_in of_port (canonical v) ≡ a
   pub small : length (canonical v) ≤ most_octets of_port
   pub least : 54 ≤ length (canonical v)

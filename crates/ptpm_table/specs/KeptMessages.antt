@@ -91,13 +91,13 @@ abbrev pub kept_message : Envelope → Answer → Message
 kept_message e a = reply_message e.clock (first_copy e) e.action e.id 0 a
 
 -- a message is spelled as it is kept
-pub record IsKept (e : Envelope) (of_port : Bool) (m : List ℕ) : Type 0 where
+pub record IsKeptMessage (e : Envelope) (of_port : Bool) (m : List ℕ) : Type 0 where
   pub spelled : m ≡ canonical (kept_message e (answer_in of_port m))
   pub fits : Fits (kept_message e (answer_in of_port m))
 
 abbrev pub EachKept : Envelope → Bool → List (List ℕ) → Type 0
 EachKept e of_port [] = Unit {0}
-EachKept e of_port (m ∷ ms) = IsKept e of_port m × EachKept e of_port ms
+EachKept e of_port (m ∷ ms) = IsKeptMessage e of_port m × EachKept e of_port ms
 
 pub record IsKeptReply (e : Envelope) (of_port : Bool) (sizes octets : List ℕ) : Type 0 where
   pub cut : AreSizes sizes (length octets)

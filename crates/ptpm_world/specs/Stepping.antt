@@ -26,6 +26,6 @@ AllHappen N r [] = Unit {0}
 AllHappen N r (e ∷ es) = (network_refusal N r e ≡ None) × AllHappen N (network_step N r e) es
 
 -- the elements of a list of events that a run carries out: all of them, or those before the one where it stops
-abbrev pub carried_out : {A B E : Type 0} → Result A (ℕ × B) → List E → List E
-carried_out (Ok done) events = events
-carried_out (Err stop) events = take stop.0 events
+abbrev pub events_carried_out : {A B E : Type 0} → Result A (ℕ × B) → List E → List E
+events_carried_out (Ok done) events = events
+events_carried_out (Err stop) events = take stop.0 events

@@ -22,7 +22,7 @@ ghost use Rattle.ptpm_world.specs.declared.took.StepError.{StepError};
 ghost use Rattle.ptpm_world.specs.Frames.{HasRoom, held_in, link_ends, origin_of};
 ghost use Rattle.ptpm_world.specs.Placed.{names_in, place_in, placed};
 ghost use Rattle.ptpm_world.specs.Running.{AreLinks, IsOf, IsOfSession, IsStoredFrame, agent_clock, agent_state, running};
-ghost use Rattle.ptpm_world.specs.Stepping.{AllHappen, IsStep, carried_out};
+ghost use Rattle.ptpm_world.specs.Stepping.{AllHappen, IsStep, events_carried_out};
 ghost use Rattle.ptpm_manager.specs.Receiving.{left_by, received_of};
 ghost use Rattle.ptpm_world.specs.Took.{error_of, heard, reports_in, took};
 
@@ -142,19 +142,19 @@ impl World {
         ensures stands { (N : Network) (past : List machine.Event)
             → IsOf N self.old
             → StandsAfter N past (running self.old)
-            → let es = map (placed (names_in self.old)) (carried_out result events.now) in AreInTime
+            → let es = map (placed (names_in self.old)) (events_carried_out result events.now) in AreInTime
             N (run N (initial_state N) past) es
             → StandsAfter N (past ++ es) (running self.new) }
         ensures headline { (N : Network) (past : List machine.Event)
             → IsOf N self.old
             → StandsAfter N past (running self.old)
-            → let es = map (placed (names_in self.old)) (carried_out result events.now) in AreInTime
+            → let es = map (placed (names_in self.old)) (events_carried_out result events.now) in AreInTime
             N (run N (initial_state N) past) es
             → Headline N (run N (initial_state N) (past ++ es)) (running self.new) }
         ensures taken { (N : Network) (past : List machine.Event)
             → IsOf N self.old
             → StandsAfter N past (running self.old)
-            → let es = map (placed (names_in self.old)) (carried_out result events.now) in AreInTime
+            → let es = map (placed (names_in self.old)) (events_carried_out result events.now) in AreInTime
             N (run N (initial_state N) past) es
             → IfErr result (λ e. e.1 ≢ StepError.OutOfMemory)
             → taken N (run N (initial_state N) past) (map (placed (names_in self.old)) events.now)
@@ -162,7 +162,7 @@ impl World {
         ensures reason { (N : Network) (past : List machine.Event)
             → IsOf N self.old
             → StandsAfter N past (running self.old)
-            → let es = map (placed (names_in self.old)) (carried_out result events.now) in AreInTime
+            → let es = map (placed (names_in self.old)) (events_carried_out result events.now) in AreInTime
             N (run N (initial_state N) past) es
             → IfErr result
             (λ e.

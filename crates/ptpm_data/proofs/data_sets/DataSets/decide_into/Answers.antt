@@ -1,5 +1,5 @@
 use Rattle.std.proofs.Common.{◌≡◌, ◌∙◌, ap}
-use Rattle.ptpm_data.specs.ManagementId.{entry_of, row_of}
+use Rattle.ptpm_data.specs.ManagementId.{row_value, row_of}
 use Rattle.ptpm_data.specs.Request.{RequestValue}
 use Rattle.ptpm_data.specs.Changes.{changed_by}
 use Rattle.ptpm_data.proofs.Answering.{no_entry, entry_is, reply_to-unlisted, changed_by-unlisted, reply_to-listed, changed_by-listed}
@@ -18,13 +18,13 @@ returns-in_default-clause-changed c =
 pub returns-clause-changed : goal.returns-clause-changed
 returns-clause-changed c =
     let id : row_of c.request.inside.id ≡ row_of c.args.request.now.id = ap (λ (q : RequestValue). row_of q.id) c.request.view_is in
-    let listed = changed_by-listed c.args.request.now c.args.rights c.args.self.now (entry_of c.in-Some.row) (entry_is (c.by_id.ensures ∙ id) c.in-Some.is) in
+    let listed = changed_by-listed c.args.request.now c.args.rights c.args.self.now (row_value c.in-Some.row) (entry_is (c.by_id.ensures ∙ id) c.in-Some.is) in
     rw (c.carry_out-refusal.ensures.changed, c.carry_out-refusal.ensures.refusal) listed
 
 pub returns-clause-reply : goal.returns-clause-reply
 returns-clause-reply c =
     let id : row_of c.request.inside.id ≡ row_of c.args.request.now.id = ap (λ (q : RequestValue). row_of q.id) c.request.view_is in
     let entry = entry_is (c.by_id.ensures ∙ id) c.in-Some.is in
-    let listed = changed_by-listed c.args.request.now c.args.rights c.args.self.now (entry_of c.in-Some.row) entry in
+    let listed = changed_by-listed c.args.request.now c.args.rights c.args.self.now (row_value c.in-Some.row) entry in
     let changed : c.carry_out-refusal.new.self ≡ changed_by c.args.request.now c.args.rights c.args.self.now = rw (c.carry_out-refusal.ensures.changed, c.carry_out-refusal.ensures.refusal) listed in
-    rw (c.put_reply.ensures, changed, c.carry_out-refusal.ensures.refusal) (reply_to-listed c.args.request.now c.args.rights c.args.self.now (entry_of c.in-Some.row) entry)
+    rw (c.put_reply.ensures, changed, c.carry_out-refusal.ensures.refusal) (reply_to-listed c.args.request.now c.args.rights c.args.self.now (row_value c.in-Some.row) entry)

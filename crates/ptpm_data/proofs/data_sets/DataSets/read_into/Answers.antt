@@ -1,5 +1,5 @@
 use Rattle.std.proofs.Common.{◌≡◌, ◌∙◌, ap, sym}
-use Rattle.ptpm_data.specs.ManagementId.{entry_of, row_of}
+use Rattle.ptpm_data.specs.ManagementId.{row_value, row_of}
 use Rattle.ptpm_data.specs.Request.{RequestValue}
 use Rattle.ptpm_data.specs.Replies.{is_get}
 use Rattle.ptpm_data.proofs.Answering.{no_entry, entry_is, reply_of-unlisted, read-unlisted, read-listed, read-other}
@@ -26,6 +26,6 @@ returns c =
     elim c.if-get-2.branch [
       | then-get-2 w ↦
           rw (c.put_reply.ensures, w.refusal-is, w.refusal-refusal.ensures)
-          (read-listed c.args.request.now c.args.self.now (entry_of c.in-Some.row) w.empty.result (w.empty.ensures tt) here (get ∙ w.if-get-2.true))
+          (read-listed c.args.request.now c.args.self.now (row_value c.in-Some.row) w.empty.result (w.empty.ensures tt) here (get ∙ w.if-get-2.true))
       | else-get-2 w ↦ rw (c.put_reply.ensures, w.refusal-is) (read-other c.args.request.now c.args.self.now (get ∙ w.if-get-2.false))
     ]
