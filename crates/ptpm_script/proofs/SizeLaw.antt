@@ -26,7 +26,7 @@ use Rattle.ptpm_script.specs.declared.network.NetworkSession.{NetworkSession}
 use Rattle.ptpm_script.specs.declared.session_entries.SessionEntry.{SessionEntry}
 use Rattle.ptpm_script.specs.Document.{clock_identity, cut_at, if_one_clock, port_identity, port_of, shaped, table_of}
 use Rattle.ptpm_script.specs.Entries.{ClockEntryValue, entries_at}
-use Rattle.ptpm_script.specs.NetworkFile.{FileValue, clock_entry, clock_of_table, clock_rules, clock_start, clock_with, file_of, file_of_table, file_rules, file_with, port_entry, session_entry, session_of_table, session_rules}
+use Rattle.ptpm_script.specs.NetworkFile.{FileValue, clock_entry, clock_of_table, clock_over, clock_rules, clock_start, clock_with, file_of, file_of_table, file_rules, file_with, port_entry, session_entry, session_of_table, session_rules}
 use Rattle.ptpm_script.specs.NetworkText.{all_ports, and_then, clock_of, given, has_own_ports, has_too_many, has_twice, network_of, network_of_file, session_of}
 use Rattle.ptpm_script.specs.NetworkValue.{AreSized, ClockValue, NetworkValue, first_sets}
 use Rattle.ptpm_script.specs.Numbers.{at_most, decimal, decimal_up_to}
@@ -105,7 +105,7 @@ port_at_size key ms p h = let o = opt_inv {A = List ℕ} port_identity (text_at 
 start_size : (identity : ClockIdentity) (domain : ℕ) (ms : Members)
     → length identity.0 ≡ 8
     → IsStartSized (clock_start identity domain ms)
-unfolding clock_start
+unfolding clock_over
 start_size identity domain ms h = record {
   identity = h;
   parent = λ p e. (port_at_size (codes "parent_port") ms p e).clock;

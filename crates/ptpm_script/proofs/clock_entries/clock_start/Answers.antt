@@ -1,18 +1,18 @@
-use Rattle.std.proofs.Common.{◌∙◌, w16, w32, w64}
+use Rattle.std.proofs.Common.{◌∙◌, refl, w16, w32, w64}
 use Rattle.std.proofs.lemmas.Int.{to_z-of_z}
-use Rattle.ptpm_script.specs.NetworkFile.{clock_start}
+use Rattle.ptpm_script.specs.NetworkFile.{clock_over}
 use Rattle.ptpm_script.proofs.clock_entries.clock_start.Goals as goal
 
 pub returns : goal.returns
-unfolding clock_start
+unfolding clock_over
 returns c =
     let offset = to_z-of_z w64 c.i64_or.result (record { sfits = c.i64_or.type_inv }) ∙ c.i64_or.ensures in
     let delay = to_z-of_z w64 c.i64_or-2.result (record { sfits = c.i64_or-2.type_inv }) ∙ c.i64_or-2.ensures in
     let rate = to_z-of_z w32 c.i32_or.result (record { sfits = c.i32_or.type_inv }) ∙ c.i32_or.ensures in
     let utc = to_z-of_z w16 c.i16_or.result (record { sfits = c.i16_or.type_inv }) ∙ c.i16_or.ensures in
-    λ i. record {
-      identity = c.args.identity;
-      domain = c.args.domain;
+    (λ i. record {
+      identity = c.new-default.result.identity;
+      domain = c.new-default.result.domain;
       user_description = record { items = c.description_at.ensures i };
       two_step = c.flag_or.ensures i;
       priority1 = c.u8_or.ensures i;
@@ -41,4 +41,4 @@ returns c =
       time_traceable = c.flag_or-7.ensures i;
       frequency_traceable = c.flag_or-8.ensures i;
       time_source = c.u8_or-5.ensures i;
-    }
+    }) ∙ rw c.new-default.ensures refl
