@@ -18,7 +18,6 @@ use arrayvec::ArrayVec;
 use ptpm_codec::{Action, ErrorId, PortIdentity};
 
 impl DataSets {
-    ghost use Rattle.std.specs.Prelude.{◌≤◌};
     ghost use Rattle.ptpm_data.specs.ManagementId.{row_value, set_of};
     ghost use Rattle.ptpm_data.specs.Changes.{applied, commanded, IsTargetPort, set_members, unless_refused, with_precedence, with_ports};
     ghost use Rattle.ptpm_data.specs.Refusals.{row_refusal, is_length, is_set_length, is_set_value, is_value};

@@ -1,6 +1,6 @@
 //! Why a request is refused (15.5.4.3); the order and choice of the errors are this project's profile.
 
-ghost use Rattle.std.specs.Prelude.{◌≡◌, length, true};
+ghost use Rattle.std.specs.Prelude.{◌≡◌, true};
 ghost use Rattle.ptpm_data.specs.ManagementId.{row_value, has_action, set_of};
 ghost use Rattle.ptpm_data.specs.Refusals.{row_refusal, is_length, is_set_length, is_set_value, is_value, needed_right, unpermitted};
 

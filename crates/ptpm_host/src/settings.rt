@@ -1,9 +1,9 @@
 //! What a clock starts with, as a host in C lays it out (clause 8; ranges and defaults are this project's profile).
 
-ghost use Rattle.std.specs.Prelude.{◌≡◌, ◌==◌, not, IfOk, map, min, take};
+ghost use Rattle.std.specs.Prelude.{◌≡◌, ◌==◌, IfOk, map, min};
 ghost use Rattle.ptpm_codec.specs.declared.identity.ClockIdentity.{ClockIdentity};
 ghost use Rattle.ptpm_data.specs.Start.{default_clock, default_port};
-ghost use Rattle.ptpm_host.specs.Settings.{clock_start, configured, default_identity, given, is_set, manager_of, parent_port, port_start, text};
+ghost use Rattle.ptpm_host.specs.Settings.{clock_start, configured, default_identity, given, parent_port, port_start, text};
 
 use arrayvec::ArrayVec;
 use ptpm_codec::{ClockIdentity, OutOfMemory, PortIdentity};

@@ -1,6 +1,6 @@
 //! A network as it starts: every clock with its first data sets and nothing kept, every session with nothing begun.
 
-ghost use Rattle.std.specs.Prelude.{◌≡◌, ◌<◌, ℕ, IfOk, List, [], None, length, map};
+ghost use Rattle.std.specs.Prelude.{◌≡◌, ◌<◌, ℕ, IfOk, [], None, length, map};
 ghost use Rattle.ptpm_codec.specs.declared.identity.PortIdentity.{PortIdentity};
 ghost use Rattle.ptpm_agent.specs.Laws.{initial_clock_state};
 ghost use Rattle.ptpm_network.specs.Headline.{StandsAfter};
