@@ -2,15 +2,16 @@
 //! `hosts/ptpm.h` is its header.
 #![tactic(auto)]
 
-ghost use Rattle.std.specs.Prelude.{◌≡◌, ◌≤◌, IfNone, IfSome, None, Ok, Some, length, take};
+ghost use Rattle.std.specs.Prelude.{◌≡◌, ◌≢◌, ◌≤◌, IfNone, IfSome, None, Ok, Some, length, take};
 ghost use Rattle.ptpm_data.specs.DataField.{data_field_of_id};
 ghost use Rattle.ptpm_data.specs.Members.{has_port};
 ghost use Rattle.ptpm_data.specs.Start.{default_clock, default_port};
 ghost use Rattle.ptpm_host.specs.declared.clock.HostedClock.{HostedClock};
 ghost use Rattle.ptpm_host.specs.declared.refusal.HandleRefusal.{HandleRefusal};
 ghost use Rattle.ptpm_host.specs.declared.refusal.ReadRefusal.{ReadRefusal};
-ghost use Rattle.ptpm_host.specs.Clock.{handle_refusal, messages_in, start_by};
-ghost use Rattle.ptpm_host.specs.Numbers.{handle_number, no_clock, read_number};
+ghost use Rattle.ptpm_host.specs.declared.refusal.StartRefusal.{StartRefusal};
+ghost use Rattle.ptpm_host.specs.Clock.{IsFreshClock, handle_refusal, messages_in, start_by, start_refusal};
+ghost use Rattle.ptpm_host.specs.Numbers.{handle_number, no_clock, read_number, start_number};
 ghost use Rattle.ptpm_host.specs.Reading.{read_refusal};
 ghost use Rattle.ptpm_host.specs.Settings.{clock_start, default_identity, port_start};
 ghost use Rattle.ptpm_c.specs.declared.kept.Hosted.TheVariants.{Nothing};
@@ -49,6 +50,7 @@ pub extern "C" fn ptpm_port_defaults(settings: &mut PortSettings)
 
 /// Starts a clock in a handle, in place of the one that it holds: 0. Where it is refused, by the number of the refusal, the
 /// handle holds none.
+#[tactic(auto, using(crate::proofs::Numbers::number_of_start_refusal))]
 #[unsafe(no_mangle)]
 pub extern "C" fn ptpm_clock_start(
     alloc: Global,
@@ -59,8 +61,14 @@ pub extern "C" fn ptpm_clock_start(
 ) -> u32
     ensures started { IfSome (clock_held handle.new.keeping)
         (λ c. (result ≡ 0) × (start_by settings.now ports.now ≡ Ok c.agent.sets)) }
+    ensures fresh { IfSome (clock_held handle.new.keeping)
+        (λ c. IsFreshClock settings.now managers.now c) }
     ensures refused { IfNone (clock_held handle.new.keeping)
         ((1 ≤ result) × (held handle.new.keeping ≡ Nothing)) }
+    ensures number { (e : StartRefusal)
+        → start_refusal settings.now ports.now managers.now ≡ Some e
+        → result ≢ 35
+        → result ≡ start_number e }
 {
     handle.end(alloc);
     let clock = match HostedClock::start(alloc, settings, ports, managers) {

@@ -7,7 +7,7 @@ use Rattle.ptpm_data.specs.declared.start.StartError.{StartError}
 use Rattle.ptpm_data.specs.Members.{DataSetsValue}
 use Rattle.ptpm_data.specs.Start.{start_of}
 use Rattle.ptpm_table.specs.declared.error.TableError.{TableError}
-use Rattle.ptpm_table.specs.Managers.{clock_with, identities, table_refusal}
+use Rattle.ptpm_table.specs.Managers.{IsFresh, clock_with, identities, table_refusal}
 use Rattle.ptpm_table.specs.Slots.{configured, used}
 use Rattle.ptpm_agent.specs.Turn.{Clock, State}
 use Rattle.ptpm_host.specs.declared.clock.HostedClock.{HostedClock}
@@ -30,6 +30,11 @@ clock_in c = clock_with c.agent.table.clock (configured c.agent.table.slots.item
 -- its data sets, and what is kept of each manager
 abbrev pub state_in : HostedClock → State
 state_in c = record { sets = c.agent.sets; entries = from_entries {R = identity_cmp} (used c.agent.table.slots.items) }
+
+-- of these settings' identity and these managers, and it has heard nothing yet
+abbrev pub IsFreshClock : ClockSettings → List ManagerSettings → HostedClock → Type 0
+IsFreshClock clock managers c =
+    IsFresh (record { 0 = clock.identity }) (settings.configured managers) (clock_in c) (state_in c).entries
 
 -- ---- why a clock does not start: its values first, then its managers
 
