@@ -51,6 +51,3 @@ impl DataSets {
         self.put_reply(&row, request, refusal, reply);
     }
 }
-
-#[cfg(test)]
-mod tests;

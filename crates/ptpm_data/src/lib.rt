@@ -39,3 +39,6 @@ pub use reply::{PortAnswer, Reply, Value, What};
 pub use request::Request;
 pub use rights::Rights;
 pub use start::{ClockStart, PortStart, StartError};
+
+#[cfg(test)]
+mod tests;

@@ -157,6 +157,3 @@ pub fn by_name(name: &str) -> Option<Row>
     }
     None
 }
-
-#[cfg(test)]
-mod tests;

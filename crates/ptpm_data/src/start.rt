@@ -355,6 +355,3 @@ impl DataSets {
         })
     }
 }
-
-#[cfg(test)]
-mod tests;

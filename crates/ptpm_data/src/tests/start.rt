@@ -1,14 +1,11 @@
 //! A clock's start: each fault at its limit and just inside, and the order in which they are judged.
 
-use super::{ClockStart, PortStart, StartError};
 use crate::data_sets::DataSets;
 use crate::members::Member;
+use crate::start::{ClockStart, PortStart, StartError};
+use crate::tests::{K, OTHER};
 use arrayvec::ArrayVec;
 use ptpm_codec::ClockIdentity;
-
-const K: ClockIdentity = ClockIdentity([0xaa, 0xbb, 0xcc, 0xff, 0xfe, 0xdd, 0xee, 0x01]);
-
-const OTHER: ClockIdentity = ClockIdentity([0xaa, 0xbb, 0xcc, 0xff, 0xfe, 0xdd, 0xee, 0x02]);
 
 fn clock() -> ClockStart {
     ClockStart::new(K, 0)

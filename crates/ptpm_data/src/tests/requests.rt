@@ -5,14 +5,11 @@ use crate::reply::{Reply, Value, What};
 use crate::request::Request;
 use crate::rights::Rights;
 use crate::start::{ClockStart, PortStart};
+use crate::tests::{K, OTHER};
 use arrayvec::{ArrayString, ArrayVec};
 use bitflags::Flags;
-use ptpm_codec::{Action, ClockIdentity, PortIdentity};
+use ptpm_codec::{Action, PortIdentity};
 use std::process::Abort;
-
-const K: ClockIdentity = ClockIdentity([0xaa, 0xbb, 0xcc, 0xff, 0xfe, 0xdd, 0xee, 0x01]);
-
-const OTHER: ClockIdentity = ClockIdentity([0xaa, 0xbb, 0xcc, 0xff, 0xfe, 0xdd, 0xee, 0x02]);
 
 const EVERY: u16 = PortIdentity::EVERY_PORT;
 

@@ -1,8 +1,8 @@
 //! The table of management ids: rows as the standard names them.
 
-use super::{MANAGEMENT_IDS, by_id, by_name};
 use crate::management_id::Layout::*;
 use crate::management_id::Scope::*;
+use crate::management_id::{MANAGEMENT_IDS, by_id, by_name};
 
 #[test]
 fn rows_by_id_and_name(rt: HostRuntime) {
