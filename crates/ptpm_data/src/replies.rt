@@ -1,6 +1,6 @@
 //! What a request is answered (15.5.3, 15.5.4).
 
-ghost use Rattle.std.specs.Prelude.{◌≡◌};
+ghost use Rattle.std.specs.Prelude.{◌≡◌, ◌≤◌};
 ghost use Rattle.arrayvec.specs.ArrayVec.{array_vec_len};
 
 use crate::data_sets::DataSets;
@@ -37,15 +37,12 @@ impl DataSets {
         reply.id = request.id;
         match row.scope {
             Scope::Clock => self.put_clock_answer(row, request, refusal, &mut reply.answers),
-            Scope::Port => {
-                reply.answers.clear();
-                self.put_answers(row, request, refusal, &mut reply.answers);
-            }
+            Scope::Port => self.put_answers(row, request, refusal, &mut reply.answers),
         }
     }
 
     /// Leaves the answer of the clock, and no other. It is written over the first that was there, if any, since an answer
-    /// takes 160 octets.
+    /// takes 160 octets; so are those of ports.
     #[inline(always)]
     fn put_clock_answer(
         &self,
@@ -57,7 +54,7 @@ impl DataSets {
         requires row { row_of request.now.id ≡ Some (row_value row.now) }
         ensures { map answer_of answers.new.items ≡ answer request.now refusal self.now None ∷ [] }
     {
-        leave_one(answers);
+        leave(answers, 1);
         if let [clock] = answers.as_mut_slice() {
             clock.port = None;
             self.set_answer(row, request, refusal, clock);
@@ -97,7 +94,7 @@ impl DataSets {
         }
     }
 
-    /// Appends the answer of each named port.
+    /// Leaves the answer of each named port, and no other.
     fn put_answers(
         &self,
         row: &Row,
@@ -107,14 +104,34 @@ impl DataSets {
     )
         requires row { row_of request.now.id ≡ Some (row_value row.now) }
         requires port { IsTargetPort request.now.port self.now }
-        requires empty { answers.old.items ≡ [] }
         ensures { map answer_of answers.new.items
             ≡ map (answer request.now refusal self.now)
             (map Some (named_ports request.now.port (length self.now.ports))) }
     {
         let (first, end) = self.named_ports(request.port);
-        for port in first..end {
-            self.push_answer(port, row, request, refusal, answers);
+        leave(answers, (end - first) as usize);
+        self.set_answers(first, row, request, refusal, answers.as_mut_slice());
+    }
+
+    /// Makes these the answers of as many ports, from this number on.
+    fn set_answers(
+        &self,
+        first: u16,
+        row: &Row,
+        request: &Request<'_>,
+        refusal: Option<ErrorId>,
+        answers: &mut [PortAnswer],
+    )
+        requires row { row_of request.now.id ≡ Some (row_value row.now) }
+        requires numbers { first + length answers.old ≤ 65535 }
+        ensures { map answer_of answers.new
+            ≡ map (answer request.now refusal self.now)
+            (map Some (range_with_len first (length answers.old))) }
+    {
+        for place in 0..answers.len() {
+            let own = &mut answers[place];
+            own.port = Some(first + place as u16);
+            self.set_answer(row, request, refusal, own);
         }
     }
 
@@ -131,31 +148,6 @@ impl DataSets {
             (1, self.ports.len() as u16 + 1)
         } else {
             (port, port + 1)
-        }
-    }
-
-    /// Appends the answer of a port, made where it stays.
-    fn push_answer(
-        &self,
-        port: u16,
-        row: &Row,
-        request: &Request<'_>,
-        refusal: Option<ErrorId>,
-        answers: &mut ArrayVec<PortAnswer, 8>,
-    )
-        requires row { row_of request.now.id ≡ Some (row_value row.now) }
-        requires room { array_vec_len answers.old < 8 }
-        ensures items { map answer_of answers.new.items
-            ≡ map answer_of answers.old.items
-            ++ answer request.now refusal self.now (Some port) ∷ [] }
-        ensures len { array_vec_len answers.new ≡ array_vec_len answers.old + 1 }
-    {
-        answers.push(PortAnswer {
-            port: Some(port),
-            what: What::Done,
-        });
-        if let [.., last] = answers.as_mut_slice() {
-            self.set_answer(row, request, refusal, last);
         }
     }
 }
@@ -195,12 +187,13 @@ impl Reply {
     }
 }
 
-/// Leaves one answer: the first, or where there is none, any.
-fn leave_one(answers: &mut ArrayVec<PortAnswer, 8>)
-    ensures { array_vec_len answers.new ≡ 1 }
+/// Leaves so many answers: the first ones, and where there are fewer, any behind them.
+fn leave(answers: &mut ArrayVec<PortAnswer, 8>, count: usize)
+    requires { count ≤ 8 }
+    ensures { array_vec_len answers.new ≡ count }
 {
-    answers.truncate(1);
-    if answers.is_empty() {
+    answers.truncate(count);
+    for _ in answers.len()..count {
         answers.push(PortAnswer::default());
     }
 }
