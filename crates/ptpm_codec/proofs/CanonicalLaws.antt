@@ -1,6 +1,6 @@
 -- What the canonical spelling has at each place, how long it is, and that it spells its message.
-use Rattle.std.proofs.Common.{◌≡◌, ℕ, ◌+◌, ◌%◌, ◌^◌, ◌<◌, ◌≤◌, eqb, List, [], ◌∷◌, ◌++◌, length, take, drop, refl, sym, ap, subst, ◌∙◌, inl, inr, arith, length-append, append_assoc}
-use Rattle.std.proofs.lemmas.List.{take_at, drop-drop, length-replicate}
+use Rattle.std.proofs.Common.{◌≡◌, ℕ, ◌+◌, ◌%◌, ◌^◌, ◌<◌, ◌≤◌, eqb, List, [], ◌∷◌, ◌++◌, length, take, drop, refl, sym, ap, subst, ◌∙◌, inl, inr, arith, append_assoc}
+use Rattle.std.proofs.lemmas.List.{take_at, drop-drop}
 use Rattle.std.proofs.lemmas.Bool.{cond-false, ne_eqb}
 use Rattle.std.specs.Prelude.{replicate}
 use Rattle.ptpm_codec.specs.declared.message.Action.{Action}
@@ -12,7 +12,9 @@ use Rattle.ptpm_codec.specs.Layout as layout
 use Rattle.ptpm_codec.specs.Layout.{number_at, port_identity_at, even_up, message_octets}
 use Rattle.ptpm_codec.specs.Message.{action_code, action_of, IsValid, IsValidBody, Fits, BodyFits}
 use Rattle.ptpm_codec.specs.Spelling.{Spells, SpellsBody, SpellsText}
+use Rattle.ptpm_codec.specs.PtpText.{ptp_text_octets}
 use Rattle.ptpm_codec.specs.Canonical.{canonical, header_octets, port_identity_octets, tlv_octets, text_octets}
+use Rattle.ptpm_codec.proofs.PtpTextLaws.{ptp_text_size}
 
 -- ---- clock identities, octet by octet
 
@@ -140,20 +142,13 @@ continues_with t b behind whole = record {
 
 -- ---- displayData
 
-abbrev padded_text : List ℕ → List ℕ
-padded_text text = length text ∷ text ++ replicate ((1 + length text) % 2) 0
-
 text_octets-none : text_octets [] ≡ []
 unfolding text_octets
 text_octets-none = refl
 
-text_octets-some : (text : List ℕ) → 0 < length text → text_octets text ≡ padded_text text
+text_octets-some : (text : List ℕ) → 0 < length text → text_octets text ≡ ptp_text_octets text
 unfolding text_octets
-text_octets-some text some = cond-false (eqb (length text) 0) [] (padded_text text) (ne_eqb (length text) 0 (λ none. omega arith))
-
-length-padded_text : (text : List ℕ) → length (padded_text text) ≡ even_up (1 + length text)
-length-padded_text text =
-    omega (arith, length-replicate {A = ℕ} ((1 + length text) % 2) 0, length-append text (replicate ((1 + length text) % 2) 0))
+text_octets-some text some = cond-false (eqb (length text) 0) [] (ptp_text_octets text) (ne_eqb (length text) 0 (λ none. omega arith))
 
 record IsPaddedText (text d : List ℕ) : Type 0 where
   spelled : SpellsText text d
@@ -161,11 +156,12 @@ record IsPaddedText (text d : List ℕ) : Type 0 where
   most : length d ≤ 2 + length text
 
 padded : (text : List ℕ) → IsPaddedText text (text_octets text)
+unfolding ptp_text_octets
 padded [] = rw text_octets-none (record { spelled = inl (refl, refl); even = refl; most = omega arith })
 padded (x ∷ xs) =
     let text : List ℕ = x ∷ xs in
     let pad : List ℕ = replicate ((1 + length text) % 2) 0 in
-    let size = length-padded_text text in
+    let size = ptp_text_size text in
     rw (text_octets-some text (omega arith)) (record {
       spelled = inr (size, sym (take_at text pad (length text) refl));
       even = omega (arith, size);

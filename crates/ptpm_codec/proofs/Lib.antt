@@ -1,5 +1,6 @@
 pub mod PlaceLaws
 pub mod OrderedLaws
+pub mod PtpTextLaws
 pub mod RefusalLaws
 pub mod ReadingLaws
 pub mod ViewLaws

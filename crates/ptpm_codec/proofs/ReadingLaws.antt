@@ -1,7 +1,9 @@
 -- A datagram that is not refused spells the message that is read from it, and no other; one that spells any is not refused.
 use Rattle.std.proofs.Common.{◌≡◌, ℕ, zero, suc, ◌+◌, ◌-◌, ◌%◌, ◌≤◌, ◌<◌, Bool, true, false, cond, List, [], ◌∷◌, length, take, drop, get_or, Option, Some, None, Ok, refl, sym, ap, subst, ◌∙◌, inl, inr, arith}
+use Rattle.std.proofs.Math.Dec.{eqb-suc-zero}
 use Rattle.std.proofs.lemmas.Bool.{cases_lt, eq-eqb, eqb-true}
 use Rattle.std.proofs.lemmas.List.{length-take, length-take-le, length-drop, get_or-take, get_or-drop, get_or_past}
+use Rattle.std.specs.Prelude.{◌||◌}
 use Rattle.std.specs.Option.{option_or}
 use Rattle.ptpm_codec.specs.declared.error.DecodeError.{DecodeError}
 use Rattle.ptpm_codec.specs.declared.identity.PortIdentity.{PortIdentity}
@@ -14,10 +16,11 @@ use Rattle.ptpm_codec.specs.declared.tlv.TlvKind.{TlvKind}
 use Rattle.ptpm_codec.specs.declared.tlv.TlvKind.TheVariants.{Management, ErrorStatus}
 use Rattle.ptpm_codec.specs.Layout as layout
 use Rattle.ptpm_codec.specs.Layout.{octet, even_up, message_length, message_octets}
+use Rattle.ptpm_codec.specs.PtpText.{is_ptp_text, ptp_text}
 use Rattle.ptpm_codec.specs.Message.{action_code, is_reply, action_of, IsDataField, IsValid, IsValidBody}
 use Rattle.ptpm_codec.specs.Spelling.{Spells, SpellsBody, SpellsManagement, SpellsText}
 use Rattle.ptpm_codec.specs.Refusal.{action_from, is_text, frame_refusal, tlv_refusal, text_refusal, message_refusal, refusal}
-use Rattle.ptpm_codec.specs.Reading.{action_at, tlv_kind_at, text_at, body_from, body_at, message_at, ok_unless, reading, some_unless, message_of, IsWellFormed}
+use Rattle.ptpm_codec.specs.Reading.{action_at, tlv_kind_at, body_from, body_at, message_at, ok_unless, reading, some_unless, message_of, IsWellFormed}
 use Rattle.ptpm_codec.proofs.PlaceLaws.{octet-take, number-take}
 use Rattle.ptpm_codec.proofs.OrderedLaws.{option_or-none}
 use Rattle.ptpm_codec.proofs.RefusalLaws.{IsFramed, framed, not_refused-frame, IsTlv, is_tlv, not_refused-tlv, is_text-status, not_refused-status, not_refused-management}
@@ -63,15 +66,20 @@ action_of-body_from ErrorStatus action m = refl
 
 -- ---- texts
 
-spells_text : (d : List ℕ) → is_text d ≡ true → SpellsText (text_at d) d
-spells_text [] h = inl (refl, refl)
-spells_text (t ∷ xs) h = inr (let e : 1 + length xs ≡ even_up (1 + t) = eqb-true _ _ h in omega (arith, e), refl)
+is_text-some : (t : ℕ) (xs : List ℕ) → is_text (t ∷ xs) ≡ is_ptp_text (t ∷ xs)
+is_text-some t xs = ap (λ b. b || is_ptp_text (t ∷ xs)) (eqb-suc-zero (length xs))
 
-text_spelled : (text d : List ℕ) → SpellsText text d → (is_text d ≡ true) × (text ≡ text_at d)
+spells_text : (d : List ℕ) → is_text d ≡ true → SpellsText (ptp_text d) d
+spells_text [] h = inl (refl, refl)
+spells_text (t ∷ xs) h =
+    let e : 1 + length xs ≡ even_up (1 + t) = eqb-true (1 + length xs) (even_up (1 + t)) (sym (is_text-some t xs) ∙ h) in
+    inr (omega (arith, e), refl)
+
+text_spelled : (text d : List ℕ) → SpellsText text d → (is_text d ≡ true) × (text ≡ ptp_text d)
 text_spelled text [] (inl (none, e)) = (refl, e)
 text_spelled text [] (inr (some, e)) = (refl, e)
 text_spelled text (t ∷ xs) (inl (none, e)) = absurd (omega arith)
-text_spelled text (t ∷ xs) (inr (some, e)) = (eq-eqb _ _ (omega (arith, some)), e)
+text_spelled text (t ∷ xs) (inr (some, e)) = (is_text-some t xs ∙ eq-eqb (1 + length xs) (even_up (1 + t)) (omega (arith, some)), e)
 
 even-text : (text d : List ℕ) (n : ℕ) → length d ≡ n - 60 → 60 ≤ n → SpellsText text d → n % 2 ≡ 0
 even-text text d n rest whole (inl (none, e)) = omega (arith, rest, none)

@@ -6,10 +6,11 @@ use Rattle.ptpm_codec.specs.declared.message.Message.{Message}
 use Rattle.ptpm_codec.specs.declared.message.Body.{Body}
 use Rattle.ptpm_codec.specs.declared.message.Body.TheVariants as bodies
 use Rattle.ptpm_codec.specs.Message.{action_code, action_of}
+use Rattle.ptpm_codec.specs.PtpText.{ptp_text_octets}
 
--- an empty text is left out; another has its length octet and, where these are odd in number, a pad octet
+-- displayData: an empty text is left out, another is a PTPText
 unfoldable pub text_octets : List ℕ → List ℕ
-text_octets text = if length text == 0 then [] else length text ∷ text ++ replicate ((1 + length text) % 2) 0
+text_octets text = if length text == 0 then [] else ptp_text_octets text
 
 abbrev pub management_octets : ℕ → List ℕ → List ℕ
 management_octets id octets = big_bytes 2 0x0001 ++ big_bytes 2 (2 + length octets) ++ big_bytes 2 id ++ octets

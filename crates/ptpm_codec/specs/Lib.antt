@@ -1,6 +1,7 @@
 pub mod Identity
 pub mod Layout
 pub mod Message
+pub mod PtpText
 pub mod Draft
 pub mod Spelling
 pub mod Canonical

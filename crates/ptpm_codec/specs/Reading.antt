@@ -1,5 +1,5 @@
 -- What a datagram says, as a function: the first refusal, or the message value. Laws join it to the spelling relation.
-use Rattle.std.specs.Prelude.{◌≡◌, ℕ, ◌≤◌, true, List, [], ◌∷◌, length, take, Option, Some, None, Result, Ok, Err, if◌then◌else◌, ◌⊎◌}
+use Rattle.std.specs.Prelude.{◌≡◌, ℕ, ◌≤◌, true, List, length, Option, Some, None, Result, Ok, Err, if◌then◌else◌, ◌⊎◌}
 use Rattle.ptpm_codec.specs.declared.error.DecodeError.{DecodeError}
 use Rattle.ptpm_codec.specs.declared.error.DecodeError.TheVariants.{OutOfMemory}
 use Rattle.ptpm_codec.specs.declared.message.Action.{Action}
@@ -11,6 +11,7 @@ use Rattle.ptpm_codec.specs.declared.tlv.TlvKind.TheVariants.{Management, ErrorS
 use Rattle.ptpm_codec.specs.Layout as layout
 use Rattle.ptpm_codec.specs.Layout.{message_octets}
 use Rattle.ptpm_codec.specs.Message.{is_reply}
+use Rattle.ptpm_codec.specs.PtpText.{ptp_text}
 use Rattle.ptpm_codec.specs.Refusal.{action_from, tlv_kind, is_text, refusal}
 
 abbrev pub action_at : List ℕ → Action
@@ -19,17 +20,12 @@ action_at m = action_from (layout.action_field m)
 abbrev pub tlv_kind_at : List ℕ → TlvKind
 tlv_kind_at m = tlv_kind (layout.tlv_type m)
 
--- the text of displayData
-abbrev pub text_at : List ℕ → List ℕ
-text_at [] = []
-text_at (t ∷ xs) = take t xs
-
 abbrev pub body_from : TlvKind → Action → List ℕ → Body
 body_from Management action m =
     if is_reply action then bodies.Answer action (layout.management_id m) (layout.data_field m)
     else bodies.Request action (layout.management_id m) (layout.data_field m)
 body_from ErrorStatus action m =
-    bodies.Fault action (layout.management_error_id m) (layout.refused_id m) (text_at (layout.display_data m))
+    bodies.Fault action (layout.management_error_id m) (layout.refused_id m) (ptp_text (layout.display_data m))
 
 unfoldable pub body_at : List ℕ → Body
 body_at m = body_from (tlv_kind_at m) (action_at m) m

@@ -1,5 +1,5 @@
 -- The refusals of a datagram, in their order: the answer is the first whose test holds.
-use Rattle.std.specs.Prelude.{ℕ, ◌+◌, ◌%◌, Bool, true, not, nat_lt, ◌==◌, ◌||◌, ◌&&◌, if◌then◌else◌, List, [], ◌∷◌, length, Option, None}
+use Rattle.std.specs.Prelude.{ℕ, ◌+◌, ◌%◌, Bool, not, nat_lt, ◌==◌, ◌||◌, ◌&&◌, if◌then◌else◌, List, [], ◌∷◌, length, Option, None}
 use Rattle.std.specs.Option.{option_or}
 use Rattle.ptpm_codec.specs.declared.error.DecodeError.{DecodeError}
 use Rattle.ptpm_codec.specs.declared.error.DecodeError.TheVariants.{TooShort, NotManagement, BadVersion, BadLength, BadAction, BadTlvType, BadTlvLength, BadText}
@@ -8,9 +8,10 @@ use Rattle.ptpm_codec.specs.declared.message.Action.TheVariants as actions
 use Rattle.ptpm_codec.specs.declared.tlv.TlvKind.{TlvKind}
 use Rattle.ptpm_codec.specs.declared.tlv.TlvKind.TheVariants.{Management, ErrorStatus}
 use Rattle.ptpm_codec.specs.Layout as layout
-use Rattle.ptpm_codec.specs.Layout.{octet, even_up, message_octets}
+use Rattle.ptpm_codec.specs.Layout.{octet, message_octets}
 use Rattle.ptpm_codec.specs.Message.{is_reply}
 use Rattle.ptpm_codec.specs.Ordered.{first_of}
+use Rattle.ptpm_codec.specs.PtpText.{is_ptp_text}
 
 -- the action of an actionField from 0 to 4
 abbrev pub action_from : ℕ → Action
@@ -43,10 +44,9 @@ tlv_refusal action type length_field size = first_of (
     ∷ (not (length_field % 2 == 0) || nat_lt length_field (least_length type) || not (length_field + 52 == size), BadTlvLength)
     ∷ [])
 
--- displayData is absent, or a PTPText that ends where it ends
+-- displayData is absent, or a PTPText
 abbrev pub is_text : List ℕ → Bool
-is_text [] = true
-is_text (t ∷ xs) = 1 + length xs == even_up (1 + t)
+is_text d = (length d == 0) || is_ptp_text d
 
 -- 8, of an error status's displayData
 unfoldable pub text_refusal : TlvKind → List ℕ → Option DecodeError

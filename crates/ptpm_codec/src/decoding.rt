@@ -14,6 +14,7 @@ use crate::encoding::MESSAGE_OCTETS;
 use crate::error::DecodeError;
 use crate::message::Message;
 use crate::places::u16_at;
+use crate::ptp_text::is_ptp_text;
 use crate::tlv::{TlvKind, management_action, tlv};
 use crate::viewing::View;
 use std::alloc::Global;
@@ -47,13 +48,7 @@ fn message_octets(datagram: &[u8]) -> Result<&[u8], DecodeError>
 fn is_text(display_data: &[u8]) -> bool
     ensures { result ≡ is_text display_data.now }
 {
-    match display_data {
-        [] => true,
-        [length, rest @ ..] => {
-            let size = 1 + *length as usize;
-            1 + rest.len() == size + size % 2
-        }
-    }
+    display_data.is_empty() || is_ptp_text(display_data)
 }
 
 /// Judges the displayData of an error status.

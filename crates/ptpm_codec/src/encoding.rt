@@ -12,6 +12,7 @@ ghost use Rattle.ptpm_codec.specs.Spelling.{Spells};
 use crate::buffers::{overwrite_by_two, put, put_u16};
 use crate::draft::{Draft, DraftBody};
 use crate::identity::PortIdentity;
+use crate::ptp_text::{ptp_text_size, put_ptp_text};
 use arrayvec::ArrayVec;
 
 /// How many octets a message has at most (this project's profile).
@@ -231,11 +232,7 @@ fn put_text<const N: usize>(buffer: &mut ArrayVec<u8, N>, text: &[u8])
     if text.is_empty() {
         return;
     }
-    put(buffer, &[text.len() as u8]);
-    put(buffer, text);
-    if text.len() % 2 == 0 {
-        put(buffer, &[0]);
-    }
+    put_ptp_text(buffer, text);
 }
 
 /// How many octets the TLV takes.
@@ -261,6 +258,6 @@ fn text_size(text: &[u8]) -> usize
     if text.is_empty() {
         0
     } else {
-        1 + text.len() + (1 + text.len()) % 2
+        ptp_text_size(text)
     }
 }

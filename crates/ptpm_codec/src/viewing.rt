@@ -4,7 +4,7 @@ ghost use Rattle.std.specs.Prelude.{◌≡◌, ◌≤◌, true, IfOk, length, []
 ghost use Rattle.ptpm_codec.specs.Layout as layout;
 ghost use Rattle.ptpm_codec.specs.declared.tlv.TlvKind.{TlvKind};
 ghost use Rattle.ptpm_codec.specs.Message.{action_of, error_of, id_of, octets_of, text_of};
-ghost use Rattle.ptpm_codec.specs.Reading.{text_at};
+ghost use Rattle.ptpm_codec.specs.PtpText.{ptp_text};
 ghost use Rattle.ptpm_codec.specs.Refusal.{is_text};
 
 use crate::error::OutOfMemory;
@@ -12,6 +12,7 @@ use crate::identity::PortIdentity;
 use crate::message::{Action, Body, Message};
 use crate::octets::Octets;
 use crate::places::{identity_at, u16_at};
+use crate::ptp_text::text_of_ptp_text;
 use crate::tlv::TlvKind;
 use std::alloc::Global;
 use std::marker::Model;
@@ -191,10 +192,11 @@ fn display_data(message: &[u8]) -> &[u8]
 
 fn text_of_display_data(display_data: &[u8]) -> &[u8]
     requires { is_text display_data.now ≡ true }
-    ensures { result.now ≡ text_at display_data.now }
+    ensures { result.now ≡ ptp_text display_data.now }
 {
-    match display_data {
-        [] => display_data,
-        [length, rest @ ..] => &rest[..*length as usize],
+    if display_data.is_empty() {
+        display_data
+    } else {
+        text_of_ptp_text(display_data)
     }
 }

@@ -1,8 +1,8 @@
 -- How many octets a dataField has.
-use Rattle.std.proofs.Common.{◌≡◌, refl, ℕ, ◌+◌, ◌%◌, ◌≤◌, Bool, true, false, not, ◌&&◌, ◌==◌, cond, if◌then◌else◌, List, [], ◌∷◌, length, length-append, Option, Some, None, arith}
+use Rattle.std.proofs.Common.{◌≡◌, refl, ℕ, ◌%◌, ◌≤◌, Bool, true, false, not, ◌&&◌, ◌==◌, cond, if◌then◌else◌, List, [], ◌∷◌, length, length-append, Option, Some, None, arith}
 use Rattle.std.specs.List.{find, list_all}
-use Rattle.std.proofs.lemmas.List.{length-replicate}
 use Rattle.ptpm_codec.specs.declared.identity.ClockIdentity.{ClockIdentity}
+use Rattle.ptpm_codec.proofs.PtpTextLaws.{ptp_text_size}
 use Rattle.ptpm_data.specs.declared.data_sets.DefaultDataSet.{DefaultDataSet}
 use Rattle.ptpm_data.specs.declared.data_sets.CurrentDataSet.{CurrentDataSet}
 use Rattle.ptpm_data.specs.declared.data_sets.ParentDataSet.{ParentDataSet}
@@ -12,7 +12,7 @@ use Rattle.ptpm_data.specs.declared.management_id.Layout.{Layout}
 use Rattle.ptpm_data.specs.declared.management_id.Layout.TheVariants as layouts
 use Rattle.ptpm_data.specs.ManagementId.{RowValue, id_table, row_of, is_port_scope, is_port_row, is_of_port}
 use Rattle.ptpm_data.specs.Members.{DataSetsValue, port_of}
-use Rattle.ptpm_data.specs.DataField.{i16_octets, i32_octets, i64_octets, precedence_octets, default_data_field, current_data_field, parent_data_field, time_properties_data_field, utc_properties_data_field, text_data_field, port_settings_octets, port_data_field, clock_field_of, port_field_of, field_of_port, data_field_of, field_of_row, data_field_at}
+use Rattle.ptpm_data.specs.DataField.{i16_octets, i32_octets, i64_octets, precedence_octets, default_data_field, current_data_field, parent_data_field, time_properties_data_field, utc_properties_data_field, port_settings_octets, port_data_field, clock_field_of, port_field_of, field_of_port, data_field_of, field_of_row, data_field_at}
 use Rattle.ptpm_data.specs.RequestLaws.{IsSized, IsFieldWithin, field_limit}
 
 -- ---- each data set
@@ -47,11 +47,6 @@ port_size : (identity : ClockIdentity) (port : ℕ) (p : PortDataSet)
     → length (port_data_field identity port p) ≡ 26
 unfolding port_data_field port_settings_octets i64_octets
 port_size identity port p h = simp length-append (omega arith)
-
-text_size : (text : List ℕ)
-    → length (text_data_field text) ≡ 1 + length text + (1 + length text) % 2
-unfolding text_data_field
-text_size text = simp (length-append, length-replicate) (omega arith)
 
 -- ---- each id
 
@@ -100,7 +95,7 @@ of_clock : (layout : Layout) (d : DataSetsValue) → IsSized d
 unfolding is_port_layout clock_field_of
 of_clock layouts.UserDescription d s =
     let text : length d.description ≤ 128 = s.text in
-    within 130 _ (text_size d.description) (omega arith) (omega arith)
+    within 130 _ (ptp_text_size d.description) (omega arith) (omega arith)
 of_clock layouts.DefaultDataSet d s = within 130 20 (default_size d.default _ s.identity) refl (omega arith)
 of_clock layouts.CurrentDataSet d s = within 130 18 (current_size d.current) refl (omega arith)
 of_clock layouts.ParentDataSet d s = within 130 32 (parent_size d.parent s.parent s.grandmaster) refl (omega arith)

@@ -5,6 +5,7 @@ use Rattle.std.proofs.lemmas.List.Elements.{All-contains}
 use Rattle.ptpm_codec.specs.declared.message.Action.{Action}
 use Rattle.ptpm_codec.specs.declared.message.Action.TheVariants as actions
 use Rattle.ptpm_codec.specs.declared.error.ErrorId.{ErrorId}
+use Rattle.ptpm_codec.specs.PtpText.{ptp_text}
 use Rattle.ptpm_data.specs.declared.rights.Rights.{Rights}
 use Rattle.ptpm_data.specs.declared.management_id.Layout.{Layout}
 use Rattle.ptpm_data.specs.declared.management_id.Layout.TheVariants as layouts
@@ -17,7 +18,7 @@ use Rattle.ptpm_data.specs.PortState.{mechanism_of}
 use Rattle.ptpm_data.specs.Request.{RequestValue}
 use Rattle.ptpm_data.specs.Reply.{Refused, Answer}
 use Rattle.ptpm_data.specs.Members.{DataSetsValue, is_own_grandmaster}
-use Rattle.ptpm_data.specs.SetField.{octet, ptp_text}
+use Rattle.ptpm_data.specs.SetField.{octet}
 use Rattle.ptpm_data.specs.Refusals.{row_refusal, refusal_at, refusal_of, is_set_value, is_value}
 use Rattle.ptpm_data.specs.Changes.{applied, changed_at, changed_by, commanded, grandmaster_changed, set_members, unless_refused, with_mechanism}
 use Rattle.ptpm_data.specs.Replies.{answer, outcome, reply_of, reply_to}

@@ -7,24 +7,25 @@ use Rattle.std.proofs.lemmas.Int.{of_z-to_z}
 use Rattle.std.proofs.lemmas.List.{length-take-le}
 use Rattle.byteorder.specs.Endian.{big_number}
 use Rattle.ptpm_codec.specs.declared.identity.ClockIdentity.{ClockIdentity}
+use Rattle.ptpm_codec.specs.PtpText.{is_ptp_text, ptp_text, ptp_text_octets}
 use Rattle.ptpm_data.specs.declared.management_id.Layout.TheVariants as layouts
 use Rattle.ptpm_data.specs.declared.data_sets.PortDataSet.{PortDataSet}
 use Rattle.ptpm_data.specs.declared.data_sets.TimePropertiesDataSet.{TimePropertiesDataSet}
 use Rattle.ptpm_data.specs.Changes.{with_utc_properties}
-use Rattle.ptpm_data.specs.DataField.{bit, field_of_port, i16_octets, port_field_of, text_data_field, utc_properties_data_field}
-use Rattle.ptpm_data.specs.SetField.{first_i16, has_bit, is_ptp_text, octet, ptp_text}
+use Rattle.ptpm_data.specs.DataField.{bit, field_of_port, i16_octets, port_field_of, utc_properties_data_field}
+use Rattle.ptpm_data.specs.SetField.{first_i16, has_bit, octet}
 use Rattle.ptpm_data.specs.SetLaws.{AreOctets}
 use Rattle.ptpm_data.proofs.FieldSizes.{both_parts}
 
 -- ---- a text
 
 pub text_back : (octets : List ℕ) → is_ptp_text octets ≡ true
-    → text_data_field (ptp_text octets)
+    → ptp_text_octets (ptp_text octets)
     ≡ take (1 + octet 0 octets) octets ++ replicate ((1 + octet 0 octets) % 2) 0
-unfolding text_data_field
+unfolding ptp_text_octets
 text_back [] h = cc
 text_back (t ∷ xs) h =
-    let size : length (t ∷ xs) ≡ 1 + t + (1 + t) % 2 = eqb-true _ _ h in
+    let size : 1 + length xs ≡ 1 + t + (1 + t) % 2 = eqb-true (1 + length xs) (1 + t + (1 + t) % 2) h in
     let room : t ≤ length xs = omega arith in
     let more : 1 + t ≡ suc t = omega arith in
     rw (length-take-le t xs room, more) refl

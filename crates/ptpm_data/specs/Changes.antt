@@ -4,6 +4,7 @@ use Rattle.std.specs.List.{enumerate_from}
 use Rattle.ptpm_codec.specs.declared.message.Action.{Action}
 use Rattle.ptpm_codec.specs.declared.message.Action.TheVariants as actions
 use Rattle.ptpm_codec.specs.declared.error.ErrorId.{ErrorId}
+use Rattle.ptpm_codec.specs.PtpText.{ptp_text}
 use Rattle.ptpm_data.specs.declared.rights.Rights.{Rights}
 use Rattle.ptpm_data.specs.declared.management_id.Layout.{Layout}
 use Rattle.ptpm_data.specs.declared.management_id.Layout.TheVariants as layouts
@@ -21,7 +22,7 @@ use Rattle.ptpm_data.specs.Request.{RequestValue}
 use Rattle.ptpm_data.specs.Members.{DataSetsValue, is_own_grandmaster}
 use Rattle.ptpm_data.specs.PortChange.{port_after}
 use Rattle.ptpm_data.specs.PrecedenceChange.{precedence_after}
-use Rattle.ptpm_data.specs.SetField.{octet, first_i8, first_i16, has_bit, ptp_text}
+use Rattle.ptpm_data.specs.SetField.{octet, first_i8, first_i16, has_bit}
 use Rattle.ptpm_data.specs.Refusals.{row_refusal}
 
 -- ---- ports

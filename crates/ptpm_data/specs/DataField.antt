@@ -1,10 +1,11 @@
 -- What the dataField of a GET holds (IEEE 1588-2019, 15.5.3), one word for each data set. Numbers of several octets have
 -- the highest octet first, and signed ones are in two's complement (5.2). A reserved octet is 0.
-use Rattle.std.specs.Prelude.{ℕ, ◌+◌, ◌*◌, ◌%◌, ◌^◌, Bool, false, if◌then◌else◌, List, [], ◌∷◌, ◌++◌, length, replicate, ℤ, Option, Some, None}
+use Rattle.std.specs.Prelude.{ℕ, ◌+◌, ◌*◌, ◌^◌, Bool, false, if◌then◌else◌, List, [], ◌∷◌, ◌++◌, length, ℤ, Option, Some, None}
 use Rattle.std.specs.Int.{w8, w16, w32, w64, cast_unsigned, from_bool}
 use Rattle.byteorder.specs.Endian.{big_bytes}
 use Rattle.ptpm_codec.specs.declared.identity.ClockIdentity.{ClockIdentity}
 use Rattle.ptpm_codec.specs.declared.message.Action.{Action}
+use Rattle.ptpm_codec.specs.PtpText.{ptp_text_octets}
 use Rattle.ptpm_data.specs.declared.data_sets.ClockPrecedence.{ClockPrecedence}
 use Rattle.ptpm_data.specs.declared.data_sets.DefaultDataSet.{DefaultDataSet}
 use Rattle.ptpm_data.specs.declared.data_sets.CurrentDataSet.{CurrentDataSet}
@@ -79,10 +80,6 @@ port_data_field identity port p =
     identity.0 ++ big_bytes 2 port ++ state_number p.state ∷ i8_octet p.log_min_delay_req ∷ [] ++ i64_octets p.peer_delay
     ++ port_settings_octets p
 
--- a PTPText (5.3.9): the number of its octets, these, and a pad octet where the dataField's size would be odd
-unfoldable pub text_data_field : List ℕ → List ℕ
-text_data_field text = length text ∷ text ++ replicate ((1 + length text) % 2) 0
-
 -- one octet and a reserved one
 abbrev pub octet_data_field : ℕ → List ℕ
 octet_data_field n = n ∷ 0 ∷ []
@@ -108,7 +105,7 @@ port_field_of _ identity port p = []
 
 -- the dataField of an id of the clock, in the same way
 unfoldable pub clock_field_of : Layout → DataSetsValue → List ℕ
-clock_field_of layouts.UserDescription d = text_data_field d.description
+clock_field_of layouts.UserDescription d = ptp_text_octets d.description
 clock_field_of layouts.DefaultDataSet d = default_data_field d.default (length d.ports)
 clock_field_of layouts.CurrentDataSet d = current_data_field d.current
 clock_field_of layouts.ParentDataSet d = parent_data_field d.parent

@@ -6,6 +6,7 @@ use Rattle.ptpm_codec.specs.declared.message.Action.TheVariants as actions
 use Rattle.ptpm_codec.specs.declared.error.ErrorId.{ErrorId}
 use Rattle.ptpm_codec.specs.declared.error.ErrorId.TheVariants.{NoSuchId, WrongLength, WrongValue, NotSetable, NotSupported}
 use Rattle.ptpm_codec.specs.Ordered.{first_of}
+use Rattle.ptpm_codec.specs.PtpText.{is_ptp_text, ptp_text}
 use Rattle.ptpm_data.specs.declared.rights.Rights.{Rights}
 use Rattle.ptpm_data.specs.declared.management_id.Scope.{Scope}
 use Rattle.ptpm_data.specs.declared.management_id.Scope.TheVariants.{Clock, Port}
@@ -14,7 +15,7 @@ use Rattle.ptpm_data.specs.declared.management_id.Layout.TheVariants as layouts
 use Rattle.ptpm_data.specs.ManagementId.{RowValue, SetField, NoSet, Empty, TextUpTo, minus◌to◌, NotBothLeaps, row_of, has_action, set_of}
 use Rattle.ptpm_data.specs.Ranges.{allows_text, allows_octet, allows_integer}
 use Rattle.ptpm_data.specs.Request.{RequestValue}
-use Rattle.ptpm_data.specs.SetField.{octet, first_i8, has_bit, ptp_text, is_ptp_text}
+use Rattle.ptpm_data.specs.SetField.{octet, first_i8, has_bit}
 
 -- ---- lengths and ranges
 

@@ -1,8 +1,7 @@
 -- What the dataField of a SET says (IEEE 1588-2019, 15.5.3). Reserved octets and bits are not read.
-use Rattle.std.specs.Prelude.{ℕ, ◌+◌, ◌^◌, Bool, false, ◌==◌, bit_and, List, [], ◌∷◌, length, take, slice_index, ℤ}
+use Rattle.std.specs.Prelude.{ℕ, ◌^◌, Bool, ◌==◌, bit_and, List, slice_index, ℤ}
 use Rattle.std.specs.Int.{w8, w16, cast_signed}
 use Rattle.byteorder.specs.Endian.{big_number}
-use Rattle.ptpm_codec.specs.Layout.{even_up}
 
 abbrev pub octet : ℕ → List ℕ → ℕ
 octet place octets = slice_index octets place
@@ -16,13 +15,3 @@ first_i16 octets = cast_signed w16 (big_number 2 octets)
 
 abbrev pub has_bit : ℕ → ℕ → Bool
 has_bit n octet = bit_and octet (2 ^ n) == 2 ^ n
-
--- the text of a PTPText: as many octets as the first one says
-abbrev pub ptp_text : List ℕ → List ℕ
-ptp_text [] = []
-ptp_text (t ∷ xs) = take t xs
-
--- its size is right: its length octet, its text, and a pad octet where these are odd in number
-abbrev pub is_ptp_text : List ℕ → Bool
-is_ptp_text [] = false
-is_ptp_text (t ∷ xs) = length (t ∷ xs) == even_up (1 + t)

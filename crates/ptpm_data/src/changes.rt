@@ -13,9 +13,9 @@ use crate::precedence_change::PrecedenceChange;
 use crate::refusals::refusal;
 use crate::request::Request;
 use crate::rights::Rights;
-use crate::set_field::{first_i8, first_i16, ptp_text};
+use crate::set_field::{first_i8, first_i16};
 use arrayvec::ArrayVec;
-use ptpm_codec::{Action, ErrorId, PortIdentity};
+use ptpm_codec::{Action, ErrorId, PortIdentity, text_of_ptp_text};
 
 impl DataSets {
     ghost use Rattle.ptpm_data.specs.ManagementId.{row_value, set_of};
@@ -65,7 +65,7 @@ impl DataSets {
         ensures { self.new ≡ set_members layout port octets.now self.old }
     {
         match layout {
-            Layout::UserDescription => self.set_description(ptp_text(octets)),
+            Layout::UserDescription => self.set_description(text_of_ptp_text(octets)),
             Layout::Priority1 => self.change_precedence(PrecedenceChange::Priority1(octets[0])),
             Layout::Priority2 => self.change_precedence(PrecedenceChange::Priority2(octets[0])),
             Layout::ClockAccuracy => self.change_precedence(PrecedenceChange::ClockAccuracy(

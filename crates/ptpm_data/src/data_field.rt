@@ -2,7 +2,7 @@
 
 ghost use Rattle.std.specs.Prelude.{◌≡◌, ◌+◌, ◌≤◌, ◌++◌, [], length, true, option_map, Some};
 ghost use Rattle.arrayvec.specs.ArrayVec.{array_vec_len};
-ghost use Rattle.ptpm_data.specs.DataField.{clock_field_of, current_data_field, data_field_of, data_field_of_id, default_data_field, i16_octets, i32_octets, i64_octets, i8_data_field, i8_octet, octet_data_field, parent_data_field, permits, port_data_field, port_field_of, port_settings_octets, precedence_octets, text_data_field, time_properties_data_field, utc_properties_data_field};
+ghost use Rattle.ptpm_data.specs.DataField.{clock_field_of, current_data_field, data_field_of, data_field_of_id, default_data_field, i16_octets, i32_octets, i64_octets, i8_data_field, i8_octet, octet_data_field, parent_data_field, permits, port_data_field, port_field_of, port_settings_octets, precedence_octets, time_properties_data_field, utc_properties_data_field};
 ghost use Rattle.ptpm_data.specs.ManagementId.{is_of_port};
 ghost use Rattle.ptpm_data.specs.Members.{HasPort, port_of};
 ghost use Rattle.ptpm_codec.specs.declared.message.Action.TheVariants.{Get};
@@ -14,7 +14,7 @@ use crate::data_sets::{
 use crate::management_id::{Layout, Scope, by_id};
 use crate::reply::Value;
 use byteorder::{BigEndian, ByteOrder};
-use ptpm_codec::{ClockIdentity, put, put_u16};
+use ptpm_codec::{ClockIdentity, put, put_ptp_text, put_u16};
 
 impl DataSets {
     /// Leaves in the buffer what a GET of this id is answered, and nothing else. Takes no memory.
@@ -36,13 +36,13 @@ impl DataSets {
     }
 
     /// Appends the dataField of an id of the clock.
-    #[tactic(auto, unfolding(crate::specs::DataField::clock_field_of))]
+    #[tactic(auto, using(ptpm_codec::proofs::PtpTextLaws::ptp_text_size), unfolding(crate::specs::DataField::clock_field_of))]
     pub(crate) fn put_clock_field(&self, layout: Layout, buffer: &mut Value)
         requires { buffer.old.items ≡ [] }
         ensures { buffer.new.items ≡ clock_field_of layout self.now }
     {
         match layout {
-            Layout::UserDescription => put_text(buffer, self.description.as_slice()),
+            Layout::UserDescription => put_ptp_text(buffer, self.description.as_slice()),
             Layout::DefaultDataSet => put_default_data_set(
                 buffer,
                 &self.default,
@@ -221,19 +221,6 @@ fn put_port_settings(buffer: &mut Value, set: &PortDataSet)
             VERSION,
         ],
     );
-}
-
-#[tactic(auto, unfolding(crate::specs::DataField::text_data_field))]
-fn put_text(buffer: &mut Value, text: &[u8])
-    requires small { length text.now ≤ 128 }
-    requires room { array_vec_len buffer.old ≡ 0 }
-    ensures { buffer.new.items ≡ buffer.old.items ++ text_data_field text.now }
-{
-    put(buffer, &[text.len() as u8]);
-    put(buffer, text);
-    if text.len() % 2 == 0 {
-        put(buffer, &[0]);
-    }
 }
 
 fn put_octet(buffer: &mut Value, octet: u8)

@@ -10,9 +10,9 @@ use crate::port_state::DelayMechanism;
 use crate::ranges;
 use crate::request::Request;
 use crate::rights::Rights;
-use crate::set_field::{first_i8, is_ptp_text, ptp_text};
+use crate::set_field::first_i8;
 use bitflags::Flags;
-use ptpm_codec::{Action, ErrorId};
+use ptpm_codec::{Action, ErrorId, is_ptp_text, text_of_ptp_text};
 
 /// Why a request for an id of the table is refused; `None` where it is to be carried out. Judged in this order: the
 /// action, the manager's right, the dataField's length, its value.
@@ -115,7 +115,7 @@ fn is_set_value(layout: Layout, octets: &[u8]) -> bool
 {
     match layout {
         Layout::NullPtpManagement | Layout::Priority1 | Layout::Priority2 | Layout::Domain => true,
-        Layout::UserDescription => ranges::is_description(ptp_text(octets)),
+        Layout::UserDescription => ranges::is_description(text_of_ptp_text(octets)),
         Layout::LogAnnounceInterval => ranges::is_announce_interval(first_i8(octets)),
         Layout::AnnounceReceiptTimeout => ranges::is_receipt_timeout(octets[0]),
         Layout::LogSyncInterval => ranges::is_sync_interval(first_i8(octets)),

@@ -1,4 +1,4 @@
-use Rattle.std.proofs.Common.{◌≡◌, length, take, refl, sym, ◌∙◌, arith}
+use Rattle.std.proofs.Common.{◌≡◌, take, refl, sym, ◌∙◌, arith}
 use Rattle.std.proofs.lemmas.List.{length-take-le}
 use Rattle.ptpm_codec.proofs.PlaceLaws.{octet-take}
 use Rattle.ptpm_codec.proofs.ReadingLaws.{message_size}
