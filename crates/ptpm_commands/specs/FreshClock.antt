@@ -6,6 +6,7 @@ use Rattle.ptpm_codec.specs.declared.identity.PortIdentity.{PortIdentity}
 use Rattle.ptpm_data.specs.declared.rights.Rights.{Rights}
 use Rattle.ptpm_data.specs.declared.start.PortStart.{PortStart}
 use Rattle.ptpm_data.specs.Members.{DataSetsValue}
+use Rattle.ptpm_data.specs.Rights.{all_rights}
 use Rattle.ptpm_data.specs.Start.{default_clock, default_port, started}
 
 -- aabbccfffeddee01
@@ -19,11 +20,8 @@ manager = record {
   port = 1;
 }
 
-abbrev pub every_right : Rights
-every_right = record { 0 = 7 }
-
 abbrev pub managers : List (PortIdentity × Rights)
-managers = (manager, every_right) ∷ []
+managers = (manager, all_rights) ∷ []
 
 abbrev pub two_ports : List PortStart
 two_ports = default_port ∷ default_port ∷ []

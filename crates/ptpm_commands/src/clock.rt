@@ -28,7 +28,7 @@ pub(crate) fn fresh_clock() -> Agent<BoundTable>
     ensures port { HasPort 1 result.sets }
 {
     let mut clock = Agent::without_managers(first_sets());
-    clock.admit(&[(MANAGER, Rights(7))]);
+    clock.admit(&[(MANAGER, Rights::ALL)]);
     clock
 }
 

@@ -12,7 +12,8 @@ use Rattle.ptpm_data.specs.Request.{RequestValue}
 use Rattle.ptpm_data.specs.Reply.{Refused, ReplyValue}
 use Rattle.ptpm_data.specs.Refusals.{row_refusal, refusal_at}
 use Rattle.ptpm_data.specs.Changes.{applied, changed_at, changed_by, unless_refused}
-use Rattle.ptpm_data.specs.Replies.{answer, reply_of, reply_to, is_get, no_rights, read_reply_to}
+use Rattle.ptpm_data.specs.Rights.{no_rights}
+use Rattle.ptpm_data.specs.Replies.{answer, reply_of, reply_to, is_get, read_reply_to}
 
 pub no_entry : {r : Option Row} {e : Option RowValue} → option_map row_value r ≡ e → r ≡ None → e ≡ None
 no_entry {r = None} is gone = sym is

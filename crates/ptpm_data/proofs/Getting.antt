@@ -7,7 +7,8 @@ use Rattle.ptpm_data.specs.ManagementId.{RowValue, row_of}
 use Rattle.ptpm_data.specs.Members.{DataSetsValue}
 use Rattle.ptpm_data.specs.Request.{RequestValue}
 use Rattle.ptpm_data.specs.Refusals.{row_refusal, refusal_at, refusal_of}
-use Rattle.ptpm_data.specs.Replies.{is_get, no_rights, read_refusal, read_reply_to, reply_to}
+use Rattle.ptpm_data.specs.Rights.{no_rights}
+use Rattle.ptpm_data.specs.Replies.{is_get, read_refusal, read_reply_to, reply_to}
 use Rattle.ptpm_data.proofs.Keeping.{changed_by-get}
 
 module _ (q : RequestValue) (rights : Rights) (get : q.action ≡ actions.Get) where

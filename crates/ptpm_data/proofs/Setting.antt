@@ -10,7 +10,8 @@ use Rattle.ptpm_data.specs.Members.{DataSetsValue}
 use Rattle.ptpm_data.specs.Request.{RequestValue}
 use Rattle.ptpm_data.specs.Refusals.{row_refusal, refusal_at, refusal_of, refusals, unpermitted}
 use Rattle.ptpm_data.specs.Changes.{changed_by, set_members}
-use Rattle.ptpm_data.specs.Replies.{answer, no_rights, read_reply_to, reply_of, reply_to}
+use Rattle.ptpm_data.specs.Rights.{no_rights}
+use Rattle.ptpm_data.specs.Replies.{answer, read_reply_to, reply_of, reply_to}
 use Rattle.ptpm_data.specs.SetLaws.{IsAcceptedSet, get_of}
 use Rattle.ptpm_data.proofs.Carrying.{first_of-none}
 use Rattle.ptpm_data.proofs.FieldSizes.{found}

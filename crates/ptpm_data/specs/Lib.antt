@@ -7,6 +7,7 @@ pub mod MemberNames
 pub mod Members
 pub mod DataField
 pub mod SetField
+pub mod Rights
 pub mod Refusals
 pub mod PortChange
 pub mod PrecedenceChange

@@ -12,6 +12,7 @@ use Rattle.ptpm_data.specs.Request.{RequestValue}
 use Rattle.ptpm_data.specs.Reply.{Outcome, Value, Done, Refused, Answer, ReplyValue}
 use Rattle.ptpm_data.specs.Members.{DataSetsValue}
 use Rattle.ptpm_data.specs.DataField.{data_field_at}
+use Rattle.ptpm_data.specs.Rights.{no_rights}
 use Rattle.ptpm_data.specs.Refusals.{refusal_of}
 use Rattle.ptpm_data.specs.Changes.{is_named, changed_by}
 
@@ -48,9 +49,6 @@ reply_to q rights d = reply_of q (refusal_of q rights) (changed_by q rights d)
 abbrev pub is_get : Action → Bool
 is_get actions.Get = true
 is_get _ = false
-
-abbrev pub no_rights : Rights
-no_rights = record { 0 = 0 }
 
 -- to any other request, which changes nothing: a GET needs no right; a SET and a COMMAND are not supported, whatever they say
 -- (this project's profile)

@@ -9,6 +9,14 @@ use bitflags::{Flag, Flags, bitflag_items};
 #[derive(Clone, Copy, PartialEq, Eq, Debug)]
 pub struct Rights(pub u8);
 
+impl Rights {
+    /// No right.
+    pub const NONE: Rights = Rights(0);
+
+    /// Every right.
+    pub const ALL: Rights = Rights(7);
+}
+
 bitflag_items! {
     impl Rights: u8 {
         const CLOCK_SET = 1;

@@ -33,7 +33,7 @@ pub fn fresh_clock(size: Size) -> Option<Agent<BoundTable>> {
     }?;
     let table = match size {
         Size::SixteenManagers => table(&sixteen_managers()),
-        Size::TwoPorts | Size::EightPorts => table(&[(MANAGER, Rights(7))]),
+        Size::TwoPorts | Size::EightPorts => table(&[(MANAGER, Rights::ALL)]),
     }?;
     if sets.identity() == table.clock() {
         Some(Agent::new(sets, table))
@@ -54,7 +54,7 @@ fn table(managers: &[(PortIdentity, Rights)]) -> Option<BoundTable> {
 
 /// The manager behind fifteen others, at ports 2 to 16 of its node.
 fn sixteen_managers() -> [(PortIdentity, Rights); 16] {
-    let mut managers = [(MANAGER, Rights(7)); 16];
+    let mut managers = [(MANAGER, Rights::ALL); 16];
     let mut port = MANAGER.port;
     for manager in &mut managers[..15] {
         port = port.saturating_add(1);

@@ -63,7 +63,7 @@ pub fn start_each(count: u32) -> Option<u64> {
     for _ in 0..count {
         let sets = data_sets(&[PortStart::new(); 2])?;
         let mut clock = Agent::without_managers(sets);
-        clock.admit(&[(MANAGER, Rights(7))]);
+        clock.admit(&[(MANAGER, Rights::ALL)]);
         let out = fresh_outbox();
         ports = ports
             .wrapping_add(clock.sets().port_count() as u64)

@@ -11,7 +11,7 @@ use Rattle.ptpm_codec.specs.Canonical.{port_identity_octets, tlv_octets}
 use Rattle.ptpm_codec.specs.Reading.{body_at, message_of}
 use Rattle.ptpm_codec.specs.Refusal.{frame_refusal, tlv_refusal, text_refusal}
 use Rattle.ptpm_data.specs.Start.{default_clock, default_port, started}
-use Rattle.ptpm_data.specs.declared.rights.Rights.{Rights}
+use Rattle.ptpm_data.specs.Rights.{all_rights}
 use Rattle.ptpm_data.specs.ManagementId.{row_of, set_of}
 use Rattle.ptpm_data.specs.DataField.{clock_field_of}
 use Rattle.ptpm_data.specs.Refusals.{row_refusal, is_set_length, is_set_value}
@@ -40,9 +40,6 @@ clock_k = record { 0 = 0xaa ∷ 0xbb ∷ 0xcc ∷ 0xff ∷ 0xfe ∷ 0xdd ∷ 0xe
 
 abbrev manager_m : PortIdentity
 manager_m = record { clock = record { 0 = 0x00 ∷ 0x11 ∷ 0x22 ∷ 0x33 ∷ 0x44 ∷ 0x55 ∷ 0x66 ∷ 0x77 ∷ [] }; port = 1 }
-
-abbrev all_rights : Rights
-all_rights = record { 0 = 7 }
 
 abbrev session_to : ClockIdentity → ℕ → ℕ → ℕ → SessionStart
 session_to target ports first hops = record {

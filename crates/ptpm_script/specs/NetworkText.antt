@@ -2,10 +2,10 @@
 use Rattle.std.specs.Prelude.{ℕ, ◌==◌, nat_le, nat_lt, Bool, true, false, not, ◌&&◌, ◌||◌, if◌then◌else◌, List, [], ◌∷◌, length, map, bytes_eq, Option, Some, None, unwrap_or, option_map, option_and_then, min, slice_get, ◌≡◌, ◌⊎◌, Result, Ok, Err, flat_map}
 use Rattle.std.specs.List.{list_all, list_any, count_by, position_from, range_with_len}
 use Rattle.ptpm_codec.specs.Identity.{same_clock, same_identity}
-use Rattle.ptpm_data.specs.declared.rights.Rights.{Rights}
 use Rattle.ptpm_data.specs.declared.start.PortStart.{PortStart}
 use Rattle.ptpm_data.specs.declared.start.StartError.{StartError}
 use Rattle.ptpm_data.specs.Members.{DataSetsValue}
+use Rattle.ptpm_data.specs.Rights.{all_rights}
 use Rattle.ptpm_data.specs.Start.{default_port, start_of}
 use Rattle.toml.specs.Parse.{parse_document}
 use Rattle.ptpm_script.specs.declared.clock_entries.PortEntry.{PortEntry}
@@ -147,9 +147,6 @@ unfoldable pub link_of : List ClockEntryValue
 link_of clocks sessions link = map_all (λ e. given (end_by_place clocks sessions e) NoSuchName) link
 
 -- ---- sessions by places
-
-abbrev pub all_rights : Rights
-all_rights = record { 0 = 7 }
 
 -- a session at its target; one of version 1 has all rights
 abbrev pub session_at : SessionEntry → ℕ → NetworkSession

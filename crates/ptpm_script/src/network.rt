@@ -2,8 +2,9 @@
 
 ghost use Rattle.std.specs.Prelude.{◌≡◌, ◌≤◌, length, map, false, unwrap_or};
 ghost use Rattle.std.specs.List.{list_all};
+ghost use Rattle.ptpm_data.specs.Rights.{all_rights};
 ghost use Rattle.ptpm_script.specs.NetworkValue.{clock_value, link_value, value_of};
-ghost use Rattle.ptpm_script.specs.NetworkText.{IsAnswerAs, IsOfText, all_rights, clock_of, clock_place, end_by_place, has_own_ports, has_too_many, link_of, map_all, network_of, network_of_file, placed, session_of, session_place};
+ghost use Rattle.ptpm_script.specs.NetworkText.{IsAnswerAs, IsOfText, clock_of, clock_place, end_by_place, has_own_ports, has_too_many, link_of, map_all, network_of, network_of_file, placed, session_of, session_place};
 
 use crate::clock_entries::ClockEntry;
 use crate::file::NetworkFile;

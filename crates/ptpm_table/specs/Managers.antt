@@ -6,6 +6,7 @@ use Rattle.ptpm_codec.specs.declared.identity.ClockIdentity.{ClockIdentity}
 use Rattle.ptpm_codec.specs.declared.identity.PortIdentity.{PortIdentity}
 use Rattle.ptpm_codec.specs.Identity.{same_identity}
 use Rattle.ptpm_data.specs.declared.rights.Rights.{Rights}
+use Rattle.ptpm_data.specs.Rights.{no_rights}
 use Rattle.ptpm_table.specs.declared.error.TableError.{TableError}
 use Rattle.ptpm_table.specs.declared.error.TableError.TheVariants.{TooMany, Twice}
 use Rattle.ptpm_table.specs.Entries.{Entries}
@@ -18,9 +19,6 @@ pub record Clock : Type 0 where
 
 abbrev pub identities : List (PortIdentity × Rights) → List PortIdentity
 identities managers = map (λ m. m.0) managers
-
-abbrev pub no_rights : Rights
-no_rights = record { 0 = 0 }
 
 -- the rights of a configured manager; none of anyone else
 abbrev pub rights_in : List (PortIdentity × Rights) → PortIdentity → Rights

@@ -4,9 +4,9 @@ use Rattle.ptpm_codec.specs.declared.identity.ClockIdentity.{ClockIdentity}
 use Rattle.ptpm_codec.specs.declared.identity.PortIdentity.{PortIdentity}
 use Rattle.ptpm_codec.specs.Identity.{same_identity}
 use Rattle.ptpm_data.specs.declared.rights.Rights.{Rights}
+use Rattle.ptpm_data.specs.Rights.{no_rights}
 use Rattle.ptpm_table.specs.declared.slot.Slot.{Slot}
 use Rattle.ptpm_table.specs.Entries.{Entry}
-use Rattle.ptpm_table.specs.Managers.{no_rights}
 
 -- the managers of the slots, with their rights
 abbrev pub configured : List Slot → List (PortIdentity × Rights)

@@ -204,7 +204,7 @@ impl ReplyTable for BoundTable {
     fn rights(&self, who: &PortIdentity) -> Rights {
         match slot_at(self.slots.as_slice(), who) {
             Some(slot) => slot.rights,
-            None => Rights(0),
+            None => Rights::NONE,
         }
     }
 

@@ -49,7 +49,7 @@ pub(crate) fn rights_of(managers: &[(PortIdentity, Rights)], who: &PortIdentity)
     ensures { result ≡ rights_in managers.now who.now }
 {
     match managers {
-        [] => Rights(0),
+        [] => Rights::NONE,
         [first, rest @ ..] => {
             if *who == first.0 {
                 first.1

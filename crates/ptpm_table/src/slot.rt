@@ -32,7 +32,7 @@ impl Default for Slot {
         let clock = ClockIdentity([0; 8]);
         Slot {
             kept: Kept::nothing(&clock, &PortIdentity { clock, port: 0 }),
-            rights: Rights(0),
+            rights: Rights::NONE,
             taken: false,
         }
     }

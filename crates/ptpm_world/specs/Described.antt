@@ -4,8 +4,9 @@ use Rattle.std.specs.List.{filter}
 use Rattle.ptpm_codec.specs.declared.identity.PortIdentity.{PortIdentity}
 use Rattle.ptpm_codec.specs.Identity.{every_clock}
 use Rattle.ptpm_data.specs.declared.rights.Rights.{Rights}
+use Rattle.ptpm_data.specs.Rights.{no_rights}
 use Rattle.ptpm_data.specs.Start.{default_clock}
-use Rattle.ptpm_table.specs.Managers.{clock_with, no_rights}
+use Rattle.ptpm_table.specs.Managers.{clock_with}
 use Rattle.ptpm_agent.specs.Turn.{Clock}
 use Rattle.ptpm_network.specs.Network as machine
 use Rattle.ptpm_network.specs.Network.{Network, SessionStart}
