@@ -1,17 +1,19 @@
 //! `ptpm answer`: what a fresh clock sends for datagrams that come in at its port 1.
 
-ghost use Rattle.std.specs.Prelude.{◌≡◌};
+ghost use Rattle.std.specs.Prelude.{◌≡◌, []};
 ghost use Rattle.ptpm_agent.specs.Turn.{turn};
 ghost use Rattle.ptpm_commands.specs.Answer.{clock_shown, state_shown};
+ghost use Rattle.ptpm_commands.specs.FreshClock.{fresh_sets, shown};
 ghost use Rattle.ptpm_data.specs.Members.{HasPort};
+ghost use Rattle.ptpm_table.specs.Managers.{IsFresh};
 
-use crate::clock::fresh_clock;
+use crate::clock::{admit_manager, fresh_clock};
 use crate::faults::Fault;
 use crate::lines::Lines;
 use ptpm_agent::Agent;
 use ptpm_data::change_law;
 use ptpm_script::Hexadecimal;
-use ptpm_table::{BoundTable, Outbox};
+use ptpm_table::{BoundTable, Outbox, ReplyTable};
 use std::alloc::Global;
 use std::io;
 use std::io::{Read, Write};
@@ -24,10 +26,26 @@ pub fn answer<O: Write>(alloc: Global, text: &str, out: &mut O) -> Result<(), Fa
     answer_one(datagram.as_slice(), out)
 }
 
-/// Lets a fresh clock answer one datagram. The clock is made first, where it is kept.
+/// Lets a fresh clock answer one datagram.
 #[inline(never)]
 fn answer_one<O: Write>(datagram: &[u8], out: &mut O) -> Result<(), Fault> {
-    let mut clock = fresh_clock();
+    answer_once(fresh_clock(), datagram, out)
+}
+
+/// Gives a fresh clock its manager, and lets it answer one datagram.
+#[inline(never)]
+fn answer_once<O: Write>(
+    mut clock: Agent<BoundTable>,
+    datagram: &[u8],
+    out: &mut O,
+) -> Result<(), Fault>
+    requires sets { clock.sets ≡ fresh_sets }
+    requires table { IsFresh shown []
+        (⟦<BoundTable as ReplyTable>⟧.owner clock.table)
+        (⟦<BoundTable as ReplyTable>⟧.entries clock.table) }
+    requires port { HasPort 1 clock.sets }
+{
+    admit_manager(&mut clock);
     answer_datagram(&mut clock, datagram, out)
 }
 
@@ -39,17 +57,24 @@ pub fn answer_lines<R: Read + Drop, O: Write>(
     out: &mut O,
 ) -> Result<(), Fault> {
     let mut lines = Lines::new(alloc, reader)?;
-    answer_each(alloc, &mut lines, out)
+    answer_each(fresh_clock(), alloc, &mut lines, out)
 }
 
-/// Lets a fresh clock answer the datagram of each line that is left. The clock is made first, where it is kept.
+/// Gives a fresh clock its manager, and lets it answer the datagram of each line that is left.
 #[inline(never)]
 fn answer_each<R: Read + Drop, O: Write>(
+    mut clock: Agent<BoundTable>,
     alloc: Global,
     lines: &mut Lines<R>,
     out: &mut O,
-) -> Result<(), Fault> {
-    let mut clock = fresh_clock();
+) -> Result<(), Fault>
+    requires sets { clock.sets ≡ fresh_sets }
+    requires table { IsFresh shown []
+        (⟦<BoundTable as ReplyTable>⟧.owner clock.table)
+        (⟦<BoundTable as ReplyTable>⟧.entries clock.table) }
+    requires port { HasPort 1 clock.sets }
+{
+    admit_manager(&mut clock);
     for number in 1..u64::MAX {
         if !lines.read(number)? {
             break;

@@ -1,6 +1,6 @@
 //! The clock that `ptpm answer` shows: fresh, with two ports and one configured manager, who has every right.
 
-ghost use Rattle.std.specs.Prelude.{◌≡◌};
+ghost use Rattle.std.specs.Prelude.{◌≡◌, []};
 ghost use Rattle.ptpm_commands.specs.FreshClock.{fresh_sets, managers, shown};
 ghost use Rattle.ptpm_data.specs.Members.{HasPort};
 ghost use Rattle.ptpm_table.specs.Managers.{IsFresh};
@@ -17,19 +17,30 @@ const MANAGER: PortIdentity = PortIdentity {
     port: 1,
 };
 
-/// The clock, which has heard nothing yet. It has some 36,000 octets, and is made where it is kept by whoever calls this first
-/// of all.
+/// The clock, which has heard nothing yet and does not have its manager yet. It has some 36,000 octets, and is handed on in
+/// the place where it is made: `admit_manager` is for whom it is handed to.
 #[inline(always)]
 pub(crate) fn fresh_clock() -> Agent<BoundTable>
     ensures sets { result.sets ≡ fresh_sets }
-    ensures table { IsFresh shown managers
+    ensures table { IsFresh shown []
         (⟦<BoundTable as ReplyTable>⟧.owner result.table)
         (⟦<BoundTable as ReplyTable>⟧.entries result.table) }
     ensures port { HasPort 1 result.sets }
 {
-    let mut clock = Agent::without_managers(first_sets());
+    Agent::without_managers(first_sets())
+}
+
+/// Gives the clock its manager, where it stands.
+pub(crate) fn admit_manager(clock: &mut Agent<BoundTable>)
+    requires table { IsFresh shown []
+        (⟦<BoundTable as ReplyTable>⟧.owner clock.old.table)
+        (⟦<BoundTable as ReplyTable>⟧.entries clock.old.table) }
+    ensures sets { clock.new.sets ≡ clock.old.sets }
+    ensures table { IsFresh shown managers
+        (⟦<BoundTable as ReplyTable>⟧.owner clock.new.table)
+        (⟦<BoundTable as ReplyTable>⟧.entries clock.new.table) }
+{
     clock.admit(&[(MANAGER, Rights::ALL)]);
-    clock
 }
 
 /// The data sets that the clock starts with.

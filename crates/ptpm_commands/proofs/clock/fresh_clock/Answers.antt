@@ -1,18 +1,12 @@
-use Rattle.std.proofs.Common.{ap, ◌∙◌}
+use Rattle.std.proofs.Common.{ap, [], ◌∙◌}
 use Rattle.ptpm_data.specs.Members.{DataSetsValue}
-use Rattle.ptpm_table.specs.Managers.{Clock, clock_with}
-use Rattle.ptpm_commands.specs.FreshClock.{managers}
+use Rattle.ptpm_table.specs.Managers.{clock_with}
 use Rattle.ptpm_commands.proofs.clock.fresh_clock.Goals as goal
-
-pub admit-requires-clause-none : goal.admit-requires-clause-none
-admit-requires-clause-none c = ap (λ (k : Clock). k.managers) c.without_managers-clock.ensures.table.owner_is
 
 pub returns-clause-table : goal.returns-clause-table
 returns-clause-table c =
-    let identity =
-    ap (λ (k : Clock). k.identity) c.without_managers-clock.ensures.table.owner_is
-    ∙ ap (λ (d : DataSetsValue). d.default.identity) c.first_sets.ensures in
+    let identity = ap (λ (d : DataSetsValue). d.default.identity) c.first_sets.ensures in
     record {
-      owner_is = c.admit.ensures.table.owner_is ∙ (λ i. clock_with (identity i) managers);
-      nothing_kept = c.admit.ensures.table.nothing_kept;
+      owner_is = c.without_managers.ensures.table.owner_is ∙ (λ i. clock_with (identity i) []);
+      nothing_kept = c.without_managers.ensures.table.nothing_kept;
     }
