@@ -1,9 +1,7 @@
 -- A world as it starts is one of its network, and stands where the machine starts.
-use Rattle.std.proofs.Common.{suc, zero, arith, ◌≡◌, ◌≢◌, ℕ, ◌+◌, ◌<◌, ◌≤◌, ◌==◌, Bool, true, false, if◌then◌else◌, nat_lt, List, [], ◌∷◌, ◌++◌, Option, Some, None, Result, Ok, refl, ap, sym, ◌∙◌, subst, length, map, get_or}
+use Rattle.std.proofs.Common.{suc, zero, arith, ◌≡◌, ◌≢◌, ℕ, ◌+◌, ◌<◌, ◌≤◌, ◌==◌, Bool, true, false, if◌then◌else◌, List, [], ◌∷◌, ◌++◌, Option, Some, None, Result, Ok, refl, ap, sym, ◌∙◌, subst, length, map, get_or, set}
 use Rattle.std.specs.Prelude.{slice_get, slice_index_or, All}
 use Rattle.std.specs.List.{AllByRecursion, count_by, filter}
-use Rattle.std.proofs.lemmas.Bool.{cond-false}
-use Rattle.std.proofs.lemmas.Bool.Decides.{nat_tests}
 use Rattle.std.proofs.lemmas.List.{length-map, length_push}
 use Rattle.std.proofs.lemmas.List.Sums.{length-filter}
 use Rattle.std.proofs.lemmas.Option.{slice_get_read}
@@ -18,7 +16,7 @@ use Rattle.ptpm_data.specs.Members.{DataSetsValue}
 use Rattle.ptpm_data.specs.Start.{port_data_set, start_fault, start_of, started, unless}
 use Rattle.ptpm_table.specs.declared.bound_table.BoundTable.{BoundTable}
 use Rattle.ptpm_table.specs.Entries.{is_known}
-use Rattle.ptpm_table.specs.Managers.{IsFresh, clock_with, has_twice, identities, table_refusal}
+use Rattle.ptpm_table.specs.Managers.{Clock, IsFresh, clock_with, has_twice, identities}
 use Rattle.ptpm_table.specs.Slots as slots
 use Rattle.ptpm_agent.specs.declared.agent.Agent.{Agent}
 use Rattle.ptpm_agent.specs.Laws.{StandsAt, initial_clock_state}
@@ -43,7 +41,7 @@ use Rattle.ptpm_world.specs.Described.{clock_at, configured, described, describe
 use Rattle.ptpm_world.specs.Ends.{AreLinks, IsLink, IsStoredFrame, IsThere, port_counts}
 use Rattle.ptpm_world.specs.Frames.{frame_in, held_in, link_ends}
 use Rattle.ptpm_world.specs.Placed.{Names, names_of}
-use Rattle.ptpm_world.specs.Running.{IsOf, agent_clock, agent_state, reports_of, session_of, state_of, table_entries}
+use Rattle.ptpm_world.specs.Running.{IsOf, agent_state, reports_of, session_of, state_of, table_entries}
 use Rattle.ptpm_world.specs.Starting.{AreStartedClocks, AreStartedSessions, IsStartedClock, IsStartedSession}
 use Rattle.ptpm_world.proofs.DescribedLaws.{at_place, known-place, of_place, there}
 
@@ -77,6 +75,34 @@ grown P xs ys place y e count old new =
       omega (arith, more, length_push xs y, count),
       λ i x h. made_more P xs y (subst (λ k. P k y) (sym count) new) old i x (sym (ap (λ zs. slice_get zs i) e) ∙ h),
     )
+
+-- the last of a list that was grown by one: how it is read, and the list with another in its place
+last_read : {X : Type 0} (xs : List X) (x d : X) → get_or (xs ++ x ∷ []) (length xs) d ≡ x
+last_read [] x d = refl
+last_read (z ∷ xs) x d = last_read xs x d
+
+last_put : {X : Type 0} (xs : List X) (x y : X) → set (xs ++ x ∷ []) (length xs) y ≡ xs ++ y ∷ []
+last_put [] x y = refl
+last_put (z ∷ xs) x y = ap (λ zs. z ∷ zs) (last_put xs x y)
+
+pub pushed_on : {X : Type 0} (xs rs ys : List X) (x : X)
+    → ys ≡ rs ++ x ∷ []
+    → rs ≡ xs
+    → ys ≡ xs ++ x ∷ []
+pushed_on xs rs ys x e same = e ∙ ap (λ zs. zs ++ x ∷ []) same
+
+pub is_last : {X : Type 0} (xs ys : List X) (i : ℕ) (x y : X)
+    → ys ≡ xs ++ x ∷ []
+    → i ≡ length xs
+    → y ≡ get_or ys i y
+    → y ≡ x
+is_last xs ys i x y e at read = read ∙ (λ k. get_or (e k) (at k) y) ∙ last_read xs x y
+
+pub changed_last : {X : Type 0} (xs ys : List X) (i : ℕ) (x y : X)
+    → ys ≡ xs ++ x ∷ []
+    → i ≡ length xs
+    → set ys i y ≡ xs ++ y ∷ []
+changed_last xs ys i x y e at = (λ k. set (e k) (at k) y) ∙ last_put xs x y
 
 -- two lists of which the same is seen, place by place
 same_maps : {X Y A : Type 0} (f : X → A) (g : Y → A) (xs : List X) (ys : List Y)
@@ -168,11 +194,13 @@ two_clocks n facts t k is e = record {
 
 -- ---- the managers of a clock
 
-counted : (ss : List NetworkSession) (c : ℕ)
-    → length (identities (configured ss c)) ≡ count_by (λ s. s.target == c) ss
-counted ss c =
-    length-map (configured ss c) (λ m. m.0) ∙ length-map (filter (λ s. s.target == c) ss) with_rights
-    ∙ length-filter (λ s. s.target == c) ss
+pub few_managers : (n : NetworkValue)
+    → IsAccepted n
+    → (c : ℕ)
+    → length (configured n.sessions c) ≤ 16
+few_managers n facts c =
+    let counted = length-map (filter (λ s. s.target == c) n.sessions) with_rights ∙ length-filter (λ s. s.target == c) n.sessions in
+    subst (λ k. k ≤ 16) (sym counted) (facts.managers c)
 
 tail_distinct : (s : NetworkSession) (ss : List NetworkSession)
     → AreDistinct (λ t. t.identity) (s ∷ ss)
@@ -194,23 +222,12 @@ twice-more : (here : Bool) (s : NetworkSession) (ss : List NetworkSession)
 twice-more true s ss once rest = rw (once, rest) refl
 twice-more false s ss once rest = rest
 
-none_twice : (ss : List NetworkSession) (c : ℕ)
+pub none_twice : (ss : List NetworkSession) (c : ℕ)
     → AreDistinct (λ s. s.identity) ss
     → has_twice (identities (configured ss c)) ≡ false
 none_twice [] c d = refl
 none_twice (s ∷ ss) c d =
     twice-more (s.target == c) s (filter (λ t. t.target == c) ss) (stands_once s ss c d) (none_twice ss c (tail_distinct s ss d))
-
-not_over : (n : ℕ) → n ≤ 16 → nat_lt 16 n ≡ false
-not_over n h = grind (arith, nat_tests)
-
-pub no_refusal : (n : NetworkValue)
-    → IsAccepted n
-    → (c : ℕ)
-    → table_refusal (identities (configured n.sessions c)) ≡ None
-no_refusal n facts c =
-    let few : length (identities (configured n.sessions c)) ≤ 16 = subst (λ k. k ≤ 16) (sym (counted n.sessions c)) (facts.managers c) in
-    cond-false _ _ _ (not_over _ few) ∙ cond-false _ _ _ (none_twice n.sessions c facts.session_identities)
 
 -- ---- one clock
 
@@ -229,34 +246,28 @@ abbrev IsFreshTable : ClockIdentity → List (PortIdentity × Rights) → BoundT
 IsFreshTable clock managers t =
     IsFresh clock managers (clock_with t.clock (slots.configured t.slots.items)) (table_entries t)
 
-pub clock_starts : (a : Agent BoundTable) (t : BoundTable) (clock : ClockIdentity)
-    (managers : List (PortIdentity × Rights))
-    → a.table ≡ t
-    → IsFreshTable clock managers t → agent_clock a ≡ clock_with clock managers
-clock_starts a t clock managers same f =
-    ap (λ (b : BoundTable). clock_with b.clock (slots.configured b.slots.items)) same ∙ f.owner_is
-
-pub state_starts : (a : Agent BoundTable) (t : BoundTable) (sets : DataSetsValue)
-    (clock : ClockIdentity) (managers : List (PortIdentity × Rights))
-    → a.table ≡ t
-    → a.sets ≡ sets
-    → IsFreshTable clock managers t
-    → agent_state a ≡ initial_clock_state sets
-state_starts a t sets clock managers same sets_are f = λ i. record {
-  sets = sets_are i;
-  entries = (ap table_entries same ∙ f.nothing_kept) i;
-}
-
+-- a clock that was put behind the others without managers, and then given these
 pub started_clock : (n : NetworkValue) (c : ℕ) (k : ClockValue)
-    (managers : List (PortIdentity × Rights)) (x : RunningClock)
-    → clock_at n c ≡ k → managers ≡ configured n.sessions c → x.name ≡ k.name
-    → agent_clock x.agent ≡ clock_with k.start.identity managers
-    → agent_state x.agent ≡ initial_clock_state (first_sets k) → IsStartedClock n c x
-started_clock n c k managers x at same name clock state = record {
-  name = name ∙ ap (λ (v : ClockValue). v.name) (sym at);
-  clock = clock ∙ (λ i. clock_with (sym at i).start.identity (same i));
-  state = state ∙ ap (λ (v : ClockValue). initial_clock_state (first_sets v)) (sym at);
-}
+    (managers : List (PortIdentity × Rights)) (sets : DataSetsValue) (put there x : RunningClock)
+    → there ≡ put
+    → clock_at n c ≡ k → managers ≡ configured n.sessions c → put.name ≡ k.name
+    → sets ≡ first_sets k
+    → put.agent.sets ≡ sets → IsFreshTable sets.default.identity [] put.agent.table
+    → x.name ≡ there.name
+    → x.agent.sets ≡ there.agent.sets
+    → IsFreshTable there.agent.table.clock managers x.agent.table → IsStartedClock n c x
+started_clock n c k managers sets put there x is at same name first put_sets unmanaged named kept given =
+    let identity : there.agent.table.clock ≡ k.start.identity =
+    ap (λ (r : RunningClock). r.agent.table.clock) is ∙ ap (λ (o : Clock). o.identity) unmanaged.owner_is
+    ∙ ap (λ (d : DataSetsValue). d.default.identity) first in
+    let sets_are : x.agent.sets ≡ first_sets k = kept ∙ ap (λ (r : RunningClock). r.agent.sets) is ∙ put_sets ∙ first in
+    let state : agent_state x.agent ≡ initial_clock_state (first_sets k) =
+    λ i. record { sets = sets_are i; entries = given.nothing_kept i } in
+    record {
+      name = named ∙ ap (λ (r : RunningClock). r.name) is ∙ name ∙ ap (λ (v : ClockValue). v.name) (sym at);
+      clock = given.owner_is ∙ (λ i. clock_with (identity i) managers) ∙ (λ i. clock_with (sym at i).start.identity (same i));
+      state = state ∙ ap (λ (v : ClockValue). initial_clock_state (first_sets v)) (sym at);
+    }
 
 pub started_session : (n : NetworkValue) (s : ℕ) (t : NetworkSession) (k : ClockValue)
     (x : RunningSession)

@@ -1,17 +1,15 @@
 //! A network as it starts: every clock with its first data sets and nothing kept, every session with nothing begun.
 
-ghost use Rattle.std.specs.Prelude.{◌≡◌, ◌<◌, ℕ, IfOk, [], None, length, map};
+ghost use Rattle.std.specs.Prelude.{◌≡◌, ◌<◌, ◌++◌, ◌∷◌, ℕ, IfOk, [], length, map};
 ghost use Rattle.ptpm_codec.specs.declared.identity.PortIdentity.{PortIdentity};
-ghost use Rattle.ptpm_agent.specs.Laws.{initial_clock_state};
 ghost use Rattle.ptpm_network.specs.Headline.{StandsAfter};
 ghost use Rattle.ptpm_network.specs.Stands.{Stands};
 ghost use Rattle.ptpm_network.specs.State.{initial_state};
 ghost use Rattle.ptpm_script.specs.NetworkValue.{CanStart, clock_value, first_sets, link_value};
 ghost use Rattle.ptpm_script.specs.NetworkView.{network_value};
-ghost use Rattle.ptpm_table.specs.Managers.{clock_with, identities, table_refusal};
 ghost use Rattle.ptpm_world.specs.Described.{configured, described};
 ghost use Rattle.ptpm_world.specs.Placed.{names_in, names_of};
-ghost use Rattle.ptpm_world.specs.Running.{IsOf, agent_clock, agent_state, running};
+ghost use Rattle.ptpm_world.specs.Running.{IsOf, running};
 ghost use Rattle.ptpm_world.specs.Starting.{AreStartedClocks, AreStartedSessions, IsStartedClock, IsStartedSession};
 
 use crate::frames::Frames;
@@ -21,7 +19,7 @@ use ptpm_codec::{Buffer, OutOfMemory, PortIdentity};
 use ptpm_data::{DataSets, Rights};
 use ptpm_manager::Session;
 use ptpm_script::{Network, NetworkClock, NetworkLink, NetworkSession};
-use ptpm_table::{BoundTable, Outbox};
+use ptpm_table::Outbox;
 use std::alloc::Global;
 
 impl World {
@@ -49,49 +47,58 @@ impl World {
     }
 }
 
+/// The clocks, in the order of the file. They are made in frames that end before the network runs.
+#[inline(never)]
 fn start_clocks(alloc: Global, network: &Network) -> Result<Vec<RunningClock>, OutOfMemory>
     ensures { IfOk result (λ v. AreStartedClocks (network_value network.now) v.items) }
 {
     let mut running = Vec::new(alloc);
     for place in 0..network.clocks().len() {
-        let clock = start_clock(alloc, network, place)?;
-        running.push(clock).map_err(|_| OutOfMemory)?;
+        start_clock(alloc, network, place, &mut running)?;
     }
     Ok(running)
 }
 
-/// The clock at a place. It has some 36,000 octets, and so have its agent and its table, each of which is made in a frame of
-/// its own.
+/// Puts the clock at a place behind the others. It has some 36,000 octets: it is moved once, without managers, to its place in
+/// the vector, which has room for it by then, and is given them there.
 #[inline(never)]
-fn start_clock(alloc: Global, network: &Network, place: usize) -> Result<RunningClock, OutOfMemory>
+fn start_clock(
+    alloc: Global,
+    network: &Network,
+    place: usize,
+    running: &mut Vec<RunningClock>,
+) -> Result<(), OutOfMemory>
     requires { place < length network.now.clocks.items }
-    ensures { IfOk result (λ x. IsStartedClock (network_value network.now) place x) }
+    ensures { IfOk result (λ _. (x : RunningClock)
+        × ((running.new.items ≡ running.old.items ++ x ∷ [])
+        × IsStartedClock (network_value network.now) place x)) }
 {
-    let clock = &network.clocks()[place];
+    let listed = &network.clocks()[place];
     let managers = managers_of(alloc, network.sessions(), place)?;
-    Ok(RunningClock {
-        name: clock.name.copy(alloc)?,
-        agent: start_agent(clock, managers.as_slice()),
-    })
+    let name = listed.name.copy(alloc)?;
+    if running.reserve(1).is_err() {
+        return Err(OutOfMemory);
+    }
+    let last = running.len();
+    running.push_reserved(RunningClock {
+        name,
+        agent: Agent::without_managers(data_sets(listed)),
+    });
+    let clock = &mut running[last];
+    clock.agent.admit(managers.as_slice());
+    Ok(())
 }
 
-/// The agent of a clock with these managers.
+/// The data sets that a clock starts with.
 #[inline(never)]
-fn start_agent(clock: &NetworkClock, managers: &[(PortIdentity, Rights)]) -> Agent<BoundTable>
-    requires starts { CanStart (clock_value clock.now) }
-    requires managers { table_refusal (identities managers.now) ≡ None }
-    ensures clock { agent_clock result ≡ clock_with clock.now.start.identity managers.now }
-    ensures state { agent_state result ≡ initial_clock_state (first_sets (clock_value clock.now)) }
+fn data_sets(clock: &NetworkClock) -> DataSets
+    requires { CanStart (clock_value clock.now) }
+    ensures { result ≡ first_sets (clock_value clock.now) }
 {
-    let sets = match DataSets::new(&clock.start, clock.ports.as_slice()) {
+    match DataSets::new(&clock.start, clock.ports.as_slice()) {
         Ok(sets) => sets,
         Err(_) => unreachable!(),
-    };
-    let table = match BoundTable::new(clock.start.identity, managers) {
-        Ok(table) => table,
-        Err(_) => unreachable!(),
-    };
-    Agent::new(sets, table)
+    }
 }
 
 /// The configured managers of the clock at a place, with their rights.

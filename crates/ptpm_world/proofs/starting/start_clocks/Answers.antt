@@ -1,6 +1,3 @@
-use Rattle.std.proofs.Common.{ap, sym, ◌∙◌}
-use Rattle.std.specs.Prelude.{is_ok}
-use Rattle.std.proofs.lemmas.Bool.{cond-true}
 use Rattle.ptpm_script.specs.NetworkView.{network_value}
 use Rattle.ptpm_world.specs.Starting.{IsStartedClock}
 use Rattle.ptpm_world.proofs.StartingLemmas.{grown}
@@ -8,6 +5,6 @@ use Rattle.ptpm_world.proofs.starting.start_clocks.Goals as goal
 
 pub loop-place-preserved : goal.loop-place-preserved
 loop-place-preserved c =
-    let pushed = c.push.ensures.items ∙ cond-true _ _ _ (sym c.map_err.ensures.variant ∙ ap is_ok c.in_ok-map_err.was) in
-    grown (IsStartedClock (network_value c.args.network.now)) c.loop-place.running.items c.push.new.self.items c.loop-place.place c.in_ok-clock.clock pushed
-    c.loop-place.invariant.0 c.loop-place.invariant.1 c.in_ok-clock.ensures
+    let started = c.in_ok-start_clock.ensures in
+    grown (IsStartedClock (network_value c.args.network.now)) c.loop-place.running.items c.start_clock.new.running.items c.loop-place.place started.0 started.1.0
+    c.loop-place.invariant.0 c.loop-place.invariant.1 started.1.1
