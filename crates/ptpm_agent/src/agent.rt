@@ -22,7 +22,7 @@ use crate::forwarding::forward;
 use crate::verdict::Verdict;
 use ptpm_codec::{ClockIdentity, Octets, OutOfMemory, PortIdentity, View, view};
 use ptpm_data::{DataSets, Reply, Request, Rights, data_sets_law};
-use ptpm_table::{BoundTable, Heard, Look, Outbox, ReplyTable, SureTable, render};
+use ptpm_table::{Heard, Look, Outbox, ReplyTable, SlotTable, SureTable, render};
 
 /// A clock's data sets and its reply table, and what becomes of the datagrams that come in at its ports.
 #[derive(Drop)]
@@ -284,29 +284,31 @@ impl<T: ReplyTable + Drop> Agent<T> {
     }
 }
 
-impl Agent<BoundTable> {
+const _: () = prove!(size_of::<Agent<SlotTable<1>>>() == 3_880);
+
+impl<const SLOTS: usize> Agent<SlotTable<SLOTS>> {
     /// A clock that has heard nothing yet and has no managers. It is never inlined: whoever keeps it has it made where it is
     /// kept, cleared once and not moved.
     #[inline(never)]
-    pub fn without_managers(sets: DataSets) -> Agent<BoundTable>
+    pub fn without_managers(sets: DataSets) -> Agent<SlotTable<SLOTS>>
         ensures sets { result.sets ≡ sets }
         ensures table { IsFresh sets.default.identity []
-            (⟦<BoundTable as ReplyTable>⟧.owner result.table)
-            (⟦<BoundTable as ReplyTable>⟧.entries result.table) }
+            (⟦<SlotTable<SLOTS> as ReplyTable>⟧.owner result.table)
+            (⟦<SlotTable<SLOTS> as ReplyTable>⟧.entries result.table) }
     {
-        let table = BoundTable::without_managers(sets.identity());
+        let table = SlotTable::without_managers(sets.identity());
         Agent::new(sets, table)
     }
 
-    /// Gives a clock without managers these. At most sixteen managers, and each identity once.
+    /// Gives a clock without managers these. At most as many as its table has slots, and each identity once.
     pub fn admit(&mut self, managers: &[(PortIdentity, Rights)])
-        requires none { (⟦<BoundTable as ReplyTable>⟧.owner self.old.table).managers ≡ [] }
-        requires few { length managers.now ≤ 16 }
+        requires none { (⟦<SlotTable<SLOTS> as ReplyTable>⟧.owner self.old.table).managers ≡ [] }
+        requires few { length managers.now ≤ SLOTS }
         requires distinct { has_twice (identities managers.now) ≡ false }
         ensures sets { self.new.sets ≡ self.old.sets }
-        ensures table { IsFresh (⟦<BoundTable as ReplyTable>⟧.owner self.old.table).identity
-            managers.now (⟦<BoundTable as ReplyTable>⟧.owner self.new.table)
-            (⟦<BoundTable as ReplyTable>⟧.entries self.new.table) }
+        ensures table { IsFresh (⟦<SlotTable<SLOTS> as ReplyTable>⟧.owner self.old.table).identity
+            managers.now (⟦<SlotTable<SLOTS> as ReplyTable>⟧.owner self.new.table)
+            (⟦<SlotTable<SLOTS> as ReplyTable>⟧.entries self.new.table) }
     {
         self.table.admit(managers);
     }

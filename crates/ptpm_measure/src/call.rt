@@ -10,6 +10,8 @@ use std::alloc::Global;
 pub enum Call {
     /// A clock of two ports and its outbox are made.
     Start,
+    /// The same, with a table of one slot.
+    StartOneSlot,
     /// A session sends its GET of PRIORITY1.
     Send,
     /// A session begins a GET of PRIORITY1, and hears the answer.
@@ -22,8 +24,9 @@ pub enum Call {
 
 impl Call {
     /// Every call.
-    pub const ALL: [Call; 5] = [
+    pub const ALL: [Call; 6] = [
         Call::Start,
+        Call::StartOneSlot,
         Call::Send,
         Call::Receive,
         Call::Ignore,
@@ -34,6 +37,7 @@ impl Call {
     pub fn name(self) -> &'static str {
         match self {
             Call::Start => "start",
+            Call::StartOneSlot => "start_one_slot",
             Call::Send => "send",
             Call::Receive => "receive",
             Call::Ignore => "ignore",
@@ -45,7 +49,8 @@ impl Call {
     /// where it is refused.
     pub fn repeat(self, alloc: Global, count: u32) -> Option<u64> {
         match self {
-            Call::Start => start_each(count),
+            Call::Start => start_each::<16>(count),
+            Call::StartOneSlot => start_each::<1>(count),
             Call::Send => Some(send_each(alloc, count)? as u64),
             Call::Receive => receive_each(alloc, count),
             Call::Ignore => Some(ignore_each(alloc, count)? as u64),

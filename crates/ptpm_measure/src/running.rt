@@ -1,11 +1,13 @@
 //! A datagram handled as often as told.
 
+ghost use Rattle.std.specs.Prelude.{◌≤◌};
+
 use crate::clock::{MANAGER, data_sets, fresh_clock};
 use crate::list::List;
 use ptpm_agent::{Agent, Verdict};
 use ptpm_codec::view;
 use ptpm_data::{PortStart, Rights};
-use ptpm_table::{BoundTable, Outbox};
+use ptpm_table::{BoundTable, Outbox, SlotTable};
 
 /// What came of the last datagram.
 #[derive(Drop)]
@@ -57,12 +59,16 @@ fn number_of(datagram: &[u8]) -> u16 {
     }
 }
 
-/// Makes a clock of two ports and an outbox as often as told: how many ports all have together.
-pub fn start_each(count: u32) -> Option<u64> {
+/// Makes a clock of two ports, one manager and so many slots, and an outbox, as often as told: how many ports all have
+/// together.
+pub fn start_each<const SLOTS: usize>(count: u32) -> Option<u64>
+    requires one { 1 ≤ SLOTS }
+    requires few { SLOTS ≤ 16 }
+{
     let mut ports = 0_u64;
     for _ in 0..count {
         let sets = data_sets(&[PortStart::new(); 2])?;
-        let mut clock = Agent::without_managers(sets);
+        let mut clock: Agent<SlotTable<SLOTS>> = Agent::without_managers(sets);
         clock.admit(&[(MANAGER, Rights::ALL)]);
         let out = fresh_outbox();
         ports = ports

@@ -1,4 +1,4 @@
--- How a `BoundTable` represents a kept reply, which is no promise: in octets, its messages one after the other, as they answer
+-- How a `SlotTable` represents a kept reply, which is no promise: in octets, its messages one after the other, as they answer
 -- a copy of the request in domain 0 that has lost no hop and came in at port 0.
 use Rattle.std.specs.Prelude.{◌≡◌, ◌≤◌, ◌-◌, ℕ, ◌/◌, ◌%◌, ◌==◌, Bool, true, false, List, [], ◌∷◌, length, take, drop, Option, Some, None, if◌then◌else◌, is_some, slice_set}
 use Rattle.ptpm_codec.specs.declared.error.ErrorId.{ErrorId}

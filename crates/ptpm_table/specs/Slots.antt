@@ -1,4 +1,4 @@
--- How a `BoundTable` is represented, which is no promise: what its slots hold.
+-- How a `SlotTable` is represented, which is no promise: what its slots hold.
 use Rattle.std.specs.Prelude.{List, [], ◌∷◌, map, Option, Some, None, find, if◌then◌else◌}
 use Rattle.ptpm_codec.specs.declared.identity.ClockIdentity.{ClockIdentity}
 use Rattle.ptpm_codec.specs.declared.identity.PortIdentity.{PortIdentity}

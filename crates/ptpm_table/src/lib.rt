@@ -1,7 +1,6 @@
 //! Request numbers, kept replies, and replies as messages: what at-most-once execution stands on.
 #![tactic(auto)]
 
-mod bound_table;
 mod error;
 mod heard;
 mod kept;
@@ -15,8 +14,8 @@ mod renewal;
 mod reply_table;
 mod serial;
 mod slot;
+mod slot_table;
 
-pub use bound_table::BoundTable;
 pub use error::TableError;
 pub use heard::Heard;
 pub use outbox::Outbox;
@@ -24,6 +23,7 @@ pub use plain_table::PlainTable;
 pub use rendering::render;
 pub use reply_table::{Look, ReplyTable, SureTable};
 pub use serial::{Serial, compare};
+pub use slot_table::{BoundTable, SlotTable};
 
 #[cfg(test)]
 mod tests;

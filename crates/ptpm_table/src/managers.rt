@@ -2,7 +2,7 @@
 
 ghost use Rattle.std.specs.Prelude.{◌≡◌, ◌≤◌, None, length};
 ghost use Rattle.ptpm_table.specs.Entries.{is_known};
-ghost use Rattle.ptpm_table.specs.Managers.{has_twice, identities, rights_in, table_refusal};
+ghost use Rattle.ptpm_table.specs.Managers.{has_twice, identities, rights_in, slots_refusal};
 
 use crate::error::TableError;
 use ptpm_codec::PortIdentity;
@@ -11,12 +11,12 @@ use ptpm_data::Rights;
 /// How many managers a clock has at most.
 pub(crate) const MANAGERS: usize = 16;
 
-/// Why no table is made for these managers.
-pub(crate) fn refusal(managers: &[(PortIdentity, Rights)]) -> Option<TableError>
-    ensures refusal { result ≡ table_refusal (identities managers.now) }
-    ensures few { result ≡ None → length managers.now ≤ MANAGERS }
+/// Why no table of so many slots is made for these managers.
+pub(crate) fn refusal(managers: &[(PortIdentity, Rights)], slots: usize) -> Option<TableError>
+    ensures refusal { result ≡ slots_refusal slots (identities managers.now) }
+    ensures few { result ≡ None → length managers.now ≤ slots }
 {
-    if managers.len() > MANAGERS {
+    if managers.len() > slots {
         Some(TableError::TooMany)
     } else if stands_twice(managers) {
         Some(TableError::Twice)

@@ -9,7 +9,7 @@ ghost use Rattle.ptpm_table.specs.Managers.{IsFresh, identities, table_refusal};
 use crate::error::TableError;
 use crate::heard::Heard;
 use crate::kept::{copy_reply, judge, no_answers};
-use crate::managers::{is_configured, refusal, rights_of};
+use crate::managers::{MANAGERS, is_configured, refusal, rights_of};
 use crate::outbox::Outbox;
 use crate::rendering::render;
 use crate::reply_table::{Look, ReplyTable};
@@ -83,7 +83,7 @@ impl PlainTable {
         ensures no_other { IfErr result
             (λ e. e ≢ TableError.OutOfMemory → table_refusal (identities managers.now) ≡ Some e) }
     {
-        if let Some(error) = refusal(managers) {
+        if let Some(error) = refusal(managers, MANAGERS) {
             return Err(error);
         }
         match Vec::from_slice(alloc, managers) {

@@ -71,6 +71,21 @@ fn table_constructors(rt: HostRuntime) -> Result<(), Fail> {
     Ok(())
 }
 
+/// A table of two slots is as any other; one slot is too few for two managers.
+#[test]
+fn tables_of_other_sizes(rt: HostRuntime) -> Result<(), Fail> {
+    let two = [(M, Rights(7)), (M2, Rights(0))];
+    let twice = [(M, Rights(7)), (M, Rights(0))];
+    let refused = SlotTable::<1>::of_size(K, &two).map(|_| ());
+    assert_eq!(rt; refused, Err(TableError::TooMany));
+    let refused = SlotTable::<2>::of_size(K, &twice).map(|_| ());
+    assert_eq!(rt; refused, Err(TableError::Twice));
+    knows_its_managers(&rt, &SlotTable::<2>::of_size(K, &two)?);
+    set_log_sync_interval(&rt, &mut SlotTable::<2>::of_size(K, &two)?);
+    values_of_eight_ports(&rt, &mut SlotTable::<1>::of_size(K, &two[..1])?);
+    Ok(())
+}
+
 fn knows_its_managers<T: ReplyTable>(rt: &impl Abort, table: &T) {
     assert_eq!(rt; table.clock(), K);
     assert!(rt; table.knows(&M) && table.knows(&M2) && !table.knows(&STRANGER));

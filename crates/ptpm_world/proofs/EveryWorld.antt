@@ -6,7 +6,7 @@ use Rattle.std.proofs.lemmas.Option.{slice_get_within}
 use Rattle.std.specs.FinMap.{get}
 use Rattle.std.specs.Prelude.{is_some, slice_index_or}
 use Rattle.ptpm_codec.specs.declared.identity.PortIdentity.{PortIdentity}
-use Rattle.ptpm_table.specs.declared.bound_table.BoundTable.{BoundTable}
+use Rattle.ptpm_table.specs.declared.slot_table.SlotTable.{SlotTable}
 use Rattle.ptpm_table.specs.declared.slot.Slot.{Slot}
 use Rattle.ptpm_table.specs.Entries.{is_known}
 use Rattle.ptpm_table.specs.Managers.{identities}
@@ -34,7 +34,7 @@ nothing_kept None e = refl
 nothing_kept (Some s) e = absurd (cc)
 
 -- a table has entries of the managers of its slots alone
-table-of_managers : (t : BoundTable) (m : PortIdentity)
+table-of_managers : (t : SlotTable 16) (m : PortIdentity)
     → is_known m (identities (configured t.slots.items)) ≡ false
     → get (table_entries t) m ≡ None
 table-of_managers t m e =

@@ -14,7 +14,7 @@ use Rattle.ptpm_data.specs.declared.start.ClockStart.{ClockStart}
 use Rattle.ptpm_data.specs.declared.start.PortStart.{PortStart}
 use Rattle.ptpm_data.specs.Members.{DataSetsValue}
 use Rattle.ptpm_data.specs.Start.{port_data_set, start_fault, start_of, started, unless}
-use Rattle.ptpm_table.specs.declared.bound_table.BoundTable.{BoundTable}
+use Rattle.ptpm_table.specs.declared.slot_table.SlotTable.{SlotTable}
 use Rattle.ptpm_table.specs.Entries.{is_known}
 use Rattle.ptpm_table.specs.Managers.{Clock, IsFresh, clock_with, has_twice, identities}
 use Rattle.ptpm_table.specs.Slots as slots
@@ -242,7 +242,7 @@ unfolding start_of
 sets_start c ports sets h = unless_ok (start_fault c ports) (started c ports) sets h
 
 -- the table of a fresh agent
-abbrev IsFreshTable : ClockIdentity → List (PortIdentity × Rights) → BoundTable → Type 0
+abbrev IsFreshTable : ClockIdentity → List (PortIdentity × Rights) → SlotTable 16 → Type 0
 IsFreshTable clock managers t =
     IsFresh clock managers (clock_with t.clock (slots.configured t.slots.items)) (table_entries t)
 

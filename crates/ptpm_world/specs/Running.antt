@@ -3,7 +3,7 @@ use Rattle.std.specs.Prelude.{◌≡◌, ℕ, List, [], Bool, false, bytes_eq, f
 use Rattle.std.specs.FinMap.{from_entries}
 use Rattle.ptpm_codec.specs.Identity.{identity_cmp}
 use Rattle.ptpm_data.specs.Members.{DataSetsValue}
-use Rattle.ptpm_table.specs.declared.bound_table.BoundTable.{BoundTable}
+use Rattle.ptpm_table.specs.declared.slot_table.SlotTable.{SlotTable}
 use Rattle.ptpm_table.specs.Entries.{Entries}
 use Rattle.ptpm_table.specs.Managers.{clock_with}
 use Rattle.ptpm_table.specs.Slots.{configured, used}
@@ -27,13 +27,13 @@ pub use Rattle.ptpm_world.specs.Ends.{AreLinks, IsOfSession, IsStoredFrame, IsTh
 
 -- ---- an agent
 
-abbrev pub table_entries : BoundTable → Entries
+abbrev pub table_entries : SlotTable 16 → Entries
 table_entries t = from_entries {R = identity_cmp} (used t.slots.items)
 
-abbrev pub agent_clock : Agent BoundTable → Clock
+abbrev pub agent_clock : Agent (SlotTable 16) → Clock
 agent_clock a = clock_with a.table.clock (configured a.table.slots.items)
 
-abbrev pub agent_state : Agent BoundTable → State
+abbrev pub agent_state : Agent (SlotTable 16) → State
 agent_state a = record { sets = a.sets; entries = table_entries a.table }
 
 -- ---- what stands at a place; past the last, something that no definition looks at

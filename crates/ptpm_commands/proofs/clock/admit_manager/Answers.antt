@@ -1,10 +1,10 @@
-use Rattle.std.proofs.Common.{ap, ◌∙◌}
+use Rattle.std.proofs.Common.{ap, ◌∙◌, rules}
 use Rattle.ptpm_table.specs.Managers.{Clock, clock_with}
 use Rattle.ptpm_commands.specs.FreshClock.{managers}
 use Rattle.ptpm_commands.proofs.clock.admit_manager.Goals as goal
 
-pub admit-requires-clause-none : goal.admit-requires-clause-none
-admit-requires-clause-none c = ap (λ (k : Clock). k.managers) c.requires.table.owner_is
+pub admit-requires : goal.admit-requires
+admit-requires c = (search rules, (ap (λ (k : Clock). k.managers) c.requires.table.owner_is, (search rules, search rules)))
 
 pub returns-clause-table : goal.returns-clause-table
 returns-clause-table c =

@@ -1,4 +1,4 @@
-use Rattle.std.proofs.Common.{ap, arith, refl, sym, subst, ◌≡◌, ◌≤◌, false, length, ◌∙◌}
+use Rattle.std.proofs.Common.{ap, arith, refl, rules, sym, subst, ◌≡◌, ◌≤◌, false, length, ◌∙◌}
 use Rattle.ptpm_table.specs.Managers.{Clock, has_twice, identities}
 use Rattle.ptpm_script.specs.NetworkValue.{clock_value}
 use Rattle.ptpm_script.specs.NetworkView.{network_value}
@@ -18,27 +18,24 @@ data_sets-requires c =
     starts_at n facts c.args.place (clock_value c.index-clocks-place.result)
     (get_map clock_value c.args.network.now.clocks.items c.args.place c.index-clocks-place.result at)
 
-pub admit-requires-clause-none : goal.admit-requires-clause-none
-admit-requires-clause-none c =
+pub admit-requires : goal.admit-requires
+admit-requires c =
+    let n = network_value c.args.network.now in
+    let facts = of_text-accepted n c.args.network.now.of_text in
+    let managers_are = c.as_slice.ensures.value ∙ c.in_ok-managers.ensures ∙ ap (λ ss. configured ss c.args.place) c.sessions.ensures in
     let old = c.args.running.now.items in
     let pushed = pushed_on old _ _ _ c.push_reserved.ensures.items c.reserve.ensures.items in
     let at : c.len-last.result ≡ length old = omega (arith, c.len-last.ensures, c.reserve.ensures.len, c.args.running.now.ok.0) in
-    let is = is_last old _ c.len-last.result _ c.index_mut-clock.result.now pushed at c.index_mut-clock.ensures.value in
-    ap (λ (r : RunningClock). (agent_clock r.agent).managers) is ∙ ap (λ (k : Clock). k.managers) c.without_managers.ensures.table.owner_is
-
-pub admit-requires-clause-few : goal.admit-requires-clause-few
-admit-requires-clause-few c =
-    let n = network_value c.args.network.now in
-    let facts = of_text-accepted n c.args.network.now.of_text in
-    let managers_are = c.as_slice.ensures.value ∙ c.in_ok-managers.ensures ∙ ap (λ ss. configured ss c.args.place) c.sessions.ensures in
-    subst (λ ms. length ms ≤ 16) (sym managers_are) (few_managers n facts c.args.place)
-
-pub admit-requires-clause-distinct : goal.admit-requires-clause-distinct
-admit-requires-clause-distinct c =
-    let n = network_value c.args.network.now in
-    let facts = of_text-accepted n c.args.network.now.of_text in
-    let managers_are = c.as_slice.ensures.value ∙ c.in_ok-managers.ensures ∙ ap (λ ss. configured ss c.args.place) c.sessions.ensures in
-    subst (λ ms. has_twice (identities ms) ≡ false) (sym managers_are) (none_twice n.sessions c.args.place facts.session_identities)
+    let is = is_last old _ c.len-last.result _ c.index_mut-clock.result.now pushed at c.index_mut-clock.ensures.value in (
+      search rules,
+      (
+        ap (λ (r : RunningClock). (agent_clock r.agent).managers) is ∙ ap (λ (k : Clock). k.managers) c.without_managers.ensures.table.owner_is,
+        (
+          subst (λ ms. length ms ≤ 16) (sym managers_are) (few_managers n facts c.args.place),
+          subst (λ ms. has_twice (identities ms) ≡ false) (sym managers_are) (none_twice n.sessions c.args.place facts.session_identities),
+        ),
+      ),
+    )
 
 pub returns : goal.returns
 returns c =

@@ -6,7 +6,7 @@ use Rattle.ptpm_table.specs.KeptMessages.{KeptValue}
 use Rattle.ptpm_table.specs.Slots.{used}
 use Rattle.ptpm_table.specs.declared.slot.Slot.{Slot}
 use Rattle.ptpm_table.proofs.Slots.{clocks_set, configured_set, entries_set, has_place}
-use Rattle.ptpm_table.proofs.bound_table.put.Goals as goal
+use Rattle.ptpm_table.proofs.slot_table.put.Goals as goal
 
 pub returns-in-Some-clause-entries : goal.returns-in-Some-clause-entries
 returns-in-Some-clause-entries c =

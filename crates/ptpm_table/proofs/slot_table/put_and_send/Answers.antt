@@ -1,4 +1,4 @@
-use Rattle.std.proofs.Common.{arith, sym, ◌∙◌, ◌++◌, ap, refl, true, get_or}
+use Rattle.std.proofs.Common.{sym, ◌∙◌, ◌++◌, ap, refl, true, get_or}
 use Rattle.std.specs.FinMap.{from_entries, insert}
 use Rattle.std.proofs.lemmas.List.Quantifiers.{position-Some}
 use Rattle.ptpm_codec.specs.Identity.{identity_cmp, same_identity}
@@ -8,7 +8,7 @@ use Rattle.ptpm_table.specs.Slots.{used}
 use Rattle.ptpm_table.specs.declared.slot.Slot.{Slot}
 use Rattle.ptpm_table.proofs.Identities.{same_identity-true}
 use Rattle.ptpm_table.proofs.Slots.{clock_at, clocks_set, configured_set, entries_set, has_place}
-use Rattle.ptpm_table.proofs.bound_table.put_and_send.Goals as goal
+use Rattle.ptpm_table.proofs.slot_table.put_and_send.Goals as goal
 
 pub returns-in-Some-clause-entries : goal.returns-in-Some-clause-entries
 returns-in-Some-clause-entries c =

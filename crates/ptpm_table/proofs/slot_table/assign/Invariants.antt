@@ -1,9 +1,9 @@
 use Rattle.std.proofs.Common.{All, ◌≡◌, [], take, length}
 use Rattle.ptpm_table.specs.Slots.{clocks, configured, used}
-use Rattle.ptpm_table.proofs.bound_table.assign.Given as goal
+use Rattle.ptpm_table.proofs.slot_table.assign.Given as goal
 
 abbrev pub invariant-loop-manager : goal.invariant-loop-manager
-invariant-loop-manager l = record {
+invariant-loop-manager g l = record {
   configured : configured l.slots.items ≡ take l.manager-index l.managers;
   own : All (λ c. c ≡ l.clock) (clocks l.slots.items);
   used : used l.slots.items ≡ [];

@@ -8,7 +8,7 @@ ghost use Rattle.ptpm_codec.specs.Identity.{identity_cmp, same_identity};
 ghost use Rattle.ptpm_codec.specs.Message.{IsDataField, IsRequestAction};
 ghost use Rattle.ptpm_table.specs.Entries.{FitsRequest, is_known};
 ghost use Rattle.ptpm_table.specs.Rendering.{rendered};
-ghost use Rattle.ptpm_table.specs.Managers.{IsFresh, has_twice, identities, rights_in, table_refusal};
+ghost use Rattle.ptpm_table.specs.Managers.{IsFresh, has_twice, identities, rights_in, slots_refusal, table_refusal};
 ghost use Rattle.ptpm_table.specs.Slots.{clocks, configured, entry_in, rights_at, slot_of, used};
 
 use crate::error::TableError;
@@ -22,20 +22,25 @@ use arrayvec::ArrayVec;
 use ptpm_codec::{ClockIdentity, OutOfMemory, PortIdentity};
 use ptpm_data::{Reply, Request, Rights};
 
-/// The latest accepted requests in sixteen slots inside the value, which has 34,192 octets. Replies are kept as octets,
-/// encoded once by `keep`; `resend` copies them and writes over what depends on the copy that is answered. It takes no
-/// memory, and `keep` is never refused.
+/// The latest accepted requests in so many slots inside the value, one for each manager. A slot has 2,136 octets, and the
+/// table 16 besides. Replies are kept as octets, encoded once by `keep`; `resend` copies them and writes over what depends
+/// on the copy that is answered. It takes no memory, and `keep` is never refused.
 #[derive(Drop)]
-pub struct BoundTable {
+pub struct SlotTable<const SLOTS: usize> {
     clock: ClockIdentity,
-    slots: ArrayVec<Slot, MANAGERS>,
+    slots: ArrayVec<Slot, SLOTS>,
     ghost distinct: { has_twice (identities (configured slots.items)) ≡ false },
     ghost own: { All (λ c. c ≡ clock) (clocks slots.items) },
 }
 
+/// A table of sixteen slots, as many as a clock has managers at most.
+pub type BoundTable = SlotTable<MANAGERS>;
+
 const _: () = prove!(size_of::<BoundTable>() == 34_192);
 
-impl BoundTable {
+const _: () = prove!(size_of::<SlotTable<1>>() == 2_152);
+
+impl SlotTable<MANAGERS> {
     /// A table without entries, of this clock and these managers. At most sixteen managers, and each identity once.
     pub fn new(
         clock: ClockIdentity,
@@ -47,10 +52,28 @@ impl BoundTable {
             (λ _. table_refusal (identities managers.now) ≡ None)
             (λ e. table_refusal (identities managers.now) ≡ Some e) }
     {
-        match refusal(managers) {
+        SlotTable::of_size(clock, managers)
+    }
+}
+
+impl<const SLOTS: usize> SlotTable<SLOTS> {
+    /// A table without entries, of this clock and these managers, each identity once. `TooMany` where there are more than
+    /// slots.
+    pub fn of_size(
+        clock: ClockIdentity,
+        managers: &[(PortIdentity, Rights)],
+    ) -> Result<SlotTable<SLOTS>, TableError>
+        requires { SLOTS ≤ MANAGERS }
+        ensures fresh { IfOk result (λ t. IsFresh clock managers.now
+            (⟦<SlotTable<SLOTS> as ReplyTable>⟧.owner t) (⟦<SlotTable<SLOTS> as ReplyTable>⟧.entries t)) }
+        ensures refusal { MatchResult result
+            (λ _. slots_refusal SLOTS (identities managers.now) ≡ None)
+            (λ e. slots_refusal SLOTS (identities managers.now) ≡ Some e) }
+    {
+        match refusal(managers, SLOTS) {
             Some(error) => Err(error),
             None => {
-                let mut table = BoundTable::without_managers(clock);
+                let mut table = SlotTable::without_managers(clock);
                 table.admit(managers);
                 Ok(table)
             }
@@ -59,24 +82,24 @@ impl BoundTable {
 
     /// A table of this clock that has no managers yet.
     #[inline(always)]
-    pub fn without_managers(clock: ClockIdentity) -> BoundTable
-        ensures { IsFresh clock [] (⟦<BoundTable as ReplyTable>⟧.owner result)
-            (⟦<BoundTable as ReplyTable>⟧.entries result) }
+    pub fn without_managers(clock: ClockIdentity) -> SlotTable<SLOTS>
+        ensures { IsFresh clock [] (⟦<SlotTable<SLOTS> as ReplyTable>⟧.owner result)
+            (⟦<SlotTable<SLOTS> as ReplyTable>⟧.entries result) }
     {
-        BoundTable {
+        SlotTable {
             clock,
             slots: ArrayVec::new(),
         }
     }
 
-    /// Gives a table without managers these, where it stands. At most sixteen managers, and each identity once.
+    /// Gives a table without managers these, where it stands. At most as many as slots, and each identity once.
     pub fn admit(&mut self, managers: &[(PortIdentity, Rights)])
-        requires none { (⟦<BoundTable as ReplyTable>⟧.owner self.old).managers ≡ [] }
-        requires few { length managers.now ≤ 16 }
+        requires none { (⟦<SlotTable<SLOTS> as ReplyTable>⟧.owner self.old).managers ≡ [] }
+        requires few { length managers.now ≤ SLOTS }
         requires distinct { has_twice (identities managers.now) ≡ false }
-        ensures { IsFresh (⟦<BoundTable as ReplyTable>⟧.owner self.old).identity managers.now
-            (⟦<BoundTable as ReplyTable>⟧.owner self.new)
-            (⟦<BoundTable as ReplyTable>⟧.entries self.new) }
+        ensures { IsFresh (⟦<SlotTable<SLOTS> as ReplyTable>⟧.owner self.old).identity managers.now
+            (⟦<SlotTable<SLOTS> as ReplyTable>⟧.owner self.new)
+            (⟦<SlotTable<SLOTS> as ReplyTable>⟧.entries self.new) }
     {
         let clock = self.clock;
         assign(&mut self.slots, &clock, managers);
@@ -84,13 +107,13 @@ impl BoundTable {
 }
 
 /// A slot without an entry for each manager.
-fn assign(
-    slots: &mut ArrayVec<Slot, MANAGERS>,
+fn assign<const SLOTS: usize>(
+    slots: &mut ArrayVec<Slot, SLOTS>,
     clock: &ClockIdentity,
     managers: &[(PortIdentity, Rights)],
 )
     requires empty { slots.old.items ≡ [] }
-    requires few { length managers.now ≤ MANAGERS }
+    requires few { length managers.now ≤ SLOTS }
     ensures own { All (λ c. c ≡ clock.now) (clocks slots.new.items) }
     ensures configured { configured slots.new.items ≡ managers.now }
     ensures used { used slots.new.items ≡ [] }
@@ -184,7 +207,7 @@ fn put_and_send(
     }
 }
 
-impl ReplyTable for BoundTable {
+impl<const SLOTS: usize> ReplyTable for SlotTable<SLOTS> {
     ghost use Rattle.std.specs.FinMap as fin;
     ghost use Rattle.ptpm_table.specs.Managers.{clock_with};
     ghost use Rattle.ptpm_table.specs.Slots.{configured, used};
@@ -230,20 +253,20 @@ impl ReplyTable for BoundTable {
         reply: &Reply,
     ) -> Result<(), OutOfMemory>
         requires known { IsTrue (is_known who.now
-            (⟦<BoundTable as ReplyTable>⟧.owner self.old).managers) }
+            (⟦<SlotTable<SLOTS> as ReplyTable>⟧.owner self.old).managers) }
         requires action { IsRequestAction request.now.action }
         requires octets { IsDataField request.now.octets }
         requires fits { FitsRequest request.now reply.now }
         ensures never_refused { IsOk result }
         ensures ok { OnOk result
-            (⟦<BoundTable as ReplyTable>⟧.entries self.new
-            ≡ fin.insert (⟦<BoundTable as ReplyTable>⟧.entries self.old) who.now
+            (⟦<SlotTable<SLOTS> as ReplyTable>⟧.entries self.new
+            ≡ fin.insert (⟦<SlotTable<SLOTS> as ReplyTable>⟧.entries self.old) who.now
             (record { number = number; request = request.now; reply = reply.now })) }
         ensures err { OnErr result
-            (⟦<BoundTable as ReplyTable>⟧.entries self.new
-            ≡ ⟦<BoundTable as ReplyTable>⟧.entries self.old) }
-        ensures owner { ⟦<BoundTable as ReplyTable>⟧.owner self.new
-            ≡ ⟦<BoundTable as ReplyTable>⟧.owner self.old }
+            (⟦<SlotTable<SLOTS> as ReplyTable>⟧.entries self.new
+            ≡ ⟦<SlotTable<SLOTS> as ReplyTable>⟧.entries self.old) }
+        ensures owner { ⟦<SlotTable<SLOTS> as ReplyTable>⟧.owner self.new
+            ≡ ⟦<SlotTable<SLOTS> as ReplyTable>⟧.owner self.old }
     {
         self.replace(who, number, request, reply);
         Ok(())
@@ -258,7 +281,7 @@ impl ReplyTable for BoundTable {
     }
 }
 
-impl SureTable for BoundTable {
+impl<const SLOTS: usize> SureTable for SlotTable<SLOTS> {
     fn replace(&mut self, who: &PortIdentity, number: u16, request: &Request<'_>, reply: &Reply) {
         let slots = self.slots.as_mut_slice();
         put(slots, who, number, request, reply);
