@@ -57,7 +57,17 @@ pub fn answer_lines<R: Read + Drop, O: Write>(
     out: &mut O,
 ) -> Result<(), Fault> {
     let mut lines = Lines::new(alloc, reader)?;
-    answer_each(fresh_clock(), alloc, &mut lines, out)
+    answer_rest(alloc, &mut lines, out)
+}
+
+/// Lets a fresh clock answer the datagram of each line that is left.
+#[inline(never)]
+fn answer_rest<R: Read + Drop, O: Write>(
+    alloc: Global,
+    lines: &mut Lines<R>,
+    out: &mut O,
+) -> Result<(), Fault> {
+    answer_each(fresh_clock(), alloc, lines, out)
 }
 
 /// Gives a fresh clock its manager, and lets it answer the datagram of each line that is left.
