@@ -37,10 +37,10 @@ pub(crate) fn forward(
 fn is_forwarded(me: &ClockIdentity, sets: &DataSets, ingress: u16, message: &View<'_>) -> bool
     ensures { result ≡ is_forwarded me.now ingress sets.now message.now }
 {
-    message.sdo() == 0
+    message.target().clock != *me
+        && message.sdo() == 0
         && message.domain() == sets.domain()
         && message.source().clock != *me
-        && message.target().clock != *me
         && message.hops() > 0
         && sets.may_forward(ingress)
 }

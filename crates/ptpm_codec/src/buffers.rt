@@ -27,9 +27,21 @@ pub fn put_u16<const N: usize>(buffer: &mut ArrayVec<u8, N>, number: u16)
     put(buffer, &octets);
 }
 
-/// Leaves a copy of these octets in the buffer, and nothing else. What the buffer had is written over and not cleared
-/// before, but for what would stay behind the copy.
+/// Leaves a copy of these octets in the buffer, and nothing else. Where it had as many, all are written over.
 pub fn overwrite<const N: usize>(buffer: &mut ArrayVec<u8, N>, octets: &[u8])
+    requires { length octets.now ≤ N }
+    ensures { buffer.new.items ≡ octets.now }
+{
+    if buffer.len() == octets.len() {
+        buffer.as_mut_slice().copy_from_slice(octets);
+    } else {
+        resize_over(buffer, octets);
+    }
+}
+
+/// The same where the size changes: what the buffer had is not cleared before, but for what would stay behind the copy.
+#[inline(never)]
+fn resize_over<const N: usize>(buffer: &mut ArrayVec<u8, N>, octets: &[u8])
     requires { length octets.now ≤ N }
     ensures { buffer.new.items ≡ octets.now }
 {
@@ -44,7 +56,8 @@ pub fn overwrite<const N: usize>(buffer: &mut ArrayVec<u8, N>, octets: &[u8])
 }
 
 /// Leaves copies of these octets in the buffer, one behind the other, and nothing else. Where it had as many octets, all are
-/// written over and none is cleared.
+/// written over.
+#[inline(always)]
 pub(crate) fn overwrite_by_two<const N: usize>(
     buffer: &mut ArrayVec<u8, N>,
     front: &[u8],
@@ -56,9 +69,20 @@ pub(crate) fn overwrite_by_two<const N: usize>(
     if buffer.len() == front.len() + back.len() {
         let (first, second) = buffer.as_mut_slice().split_at_mut(front.len());
         first.copy_from_slice(front);
-        second.copy_from_slice(back);
+        if !back.is_empty() {
+            second.copy_from_slice(back);
+        }
     } else {
-        overwrite(buffer, front);
-        put(buffer, back);
+        resize_over_by_two(buffer, front, back);
     }
+}
+
+/// The same where the size changes.
+#[inline(never)]
+fn resize_over_by_two<const N: usize>(buffer: &mut ArrayVec<u8, N>, front: &[u8], back: &[u8])
+    requires { length front.now + length back.now ≤ N }
+    ensures { buffer.new.items ≡ front.now ++ back.now }
+{
+    overwrite(buffer, front);
+    put(buffer, back);
 }

@@ -13,7 +13,8 @@ use Rattle.ptpm_data.specs.Reply.{Refused, ReplyValue}
 use Rattle.ptpm_data.specs.Refusals.{row_refusal, refusal_at}
 use Rattle.ptpm_data.specs.Changes.{applied, changed_at, changed_by, unless_refused}
 use Rattle.ptpm_data.specs.Rights.{no_rights}
-use Rattle.ptpm_data.specs.Replies.{answer, reply_of, reply_to, is_get, read_reply_to}
+use Rattle.ptpm_data.specs.DataField.{data_field_of, field_of_row}
+use Rattle.ptpm_data.specs.Replies.{answer, outcome, reply_of, reply_to, is_get, read_reply_to}
 
 pub no_entry : {r : Option Row} {e : Option RowValue} → option_map row_value r ≡ e → r ≡ None → e ≡ None
 no_entry {r = None} is gone = sym is
@@ -25,6 +26,17 @@ pub entry_is : {r : Option Row} {e : Option RowValue} {row : Row}
     → e ≡ Some (row_value row)
 entry_is {r = None} is here = cc
 entry_is {r = Some row} is here = cc
+
+-- ---- an id of the table
+
+-- the answer by what the table says of the id
+pub answer_by_row : (q : RequestValue) (refusal : Option ErrorId) (d : DataSetsValue) (port : Option ℕ)
+    (e : RowValue)
+    → row_of q.id ≡ Some e
+    → record { port = port; outcome = outcome refusal q.action (data_field_of e.layout port d) } ≡ answer q refusal d port
+unfolding answer
+answer_by_row q refusal d port e listed =
+    ap (λ (r : Option RowValue). record { port = port; outcome = outcome refusal q.action (field_of_row r port d) }) (sym listed)
 
 -- ---- an id that is not in the table
 

@@ -17,7 +17,7 @@ impl DataSets {
     ghost use Rattle.ptpm_data.specs.Changes.{IsTargetPort};
     ghost use Rattle.ptpm_data.specs.DataField.{data_field_of};
     ghost use Rattle.ptpm_data.specs.Reply.{Value, answer_of};
-    ghost use Rattle.ptpm_data.specs.Replies.{answer, named_ports, reply_of};
+    ghost use Rattle.ptpm_data.specs.Replies.{answer, named_ports, outcome, reply_of};
 
     /// Leaves the reply to a request for an id of the table, which was carried out, or refused for this reason.
     #[tactic(auto, unfolding(crate::specs::Replies::reply_of))]
@@ -43,6 +43,7 @@ impl DataSets {
 
     /// Leaves the answer of the clock, and no other. It is written over the first that was there, if any, since an answer
     /// takes 160 octets; so are those of ports.
+    #[tactic(auto, unfolding(crate::specs::Replies::answer))]
     #[inline(always)]
     fn put_clock_answer(
         &self,
@@ -57,26 +58,28 @@ impl DataSets {
         leave(answers, 1);
         if let [clock] = answers.as_mut_slice() {
             clock.port = None;
-            self.set_answer(row, request, refusal, clock);
+            self.set_answer(row.layout, request.action, refusal, clock);
         }
     }
 
     /// Makes this the answer of its port, or of the clock.
-    #[tactic(auto, unfolding(crate::specs::Replies::answer))]
     fn set_answer(
         &self,
-        row: &Row,
-        request: &Request<'_>,
+        layout: Layout,
+        action: Action,
         refusal: Option<ErrorId>,
         own: &mut PortAnswer,
     )
-        requires row { row_of request.now.id ≡ Some (row_value row.now) }
-        ensures { answer_of own.new ≡ answer request.now refusal self.now own.old.port }
+        ensures { answer_of own.new
+            ≡ record {
+              port = own.old.port;
+              outcome = outcome refusal action (data_field_of layout own.old.port self.now);
+            } }
     {
         match refusal {
             Some(error) => own.what = What::Refused(error),
-            None if request.action == Action::Command => own.what = What::Done,
-            None => self.set_value(row.layout, own),
+            None if action == Action::Command => own.what = What::Done,
+            None => self.set_value(layout, own),
         }
     }
 
@@ -114,6 +117,7 @@ impl DataSets {
     }
 
     /// Makes these the answers of as many ports, from this number on.
+    #[tactic(auto, unfolding(crate::specs::Replies::answer))]
     fn set_answers(
         &self,
         first: u16,
@@ -131,7 +135,7 @@ impl DataSets {
         for place in 0..answers.len() {
             let own = &mut answers[place];
             own.port = Some(first + place as u16);
-            self.set_answer(row, request, refusal, own);
+            self.set_answer(row.layout, request.action, refusal, own);
         }
     }
 

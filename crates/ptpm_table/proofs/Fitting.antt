@@ -1,5 +1,5 @@
 -- A reply that fits its request can be sent.
-use Rattle.std.proofs.Common.{◌≡◌, ◌≤◌, ℕ, Bool, true, false, refl, ap, ◌∙◌, length, arith, All}
+use Rattle.std.proofs.Common.{◌≤◌, ℕ, Bool, true, false, ap, ◌∙◌, length, arith, All}
 use Rattle.ptpm_codec.specs.declared.message.Action.{Action}
 use Rattle.ptpm_codec.specs.Message.{IsReplyAction, is_reply}
 use Rattle.ptpm_codec.proofs.MessageLaws.{reply_action-is_reply}

@@ -4,9 +4,10 @@ ghost use Rattle.std.specs.Prelude.{All, ◌≡◌, ◌+◌, ◌∷◌, ◌++◌
 ghost use Rattle.arrayvec.specs.ArrayVec.{array_vec_len};
 ghost use Rattle.ptpm_codec.specs.Canonical.{canonical, tlv_octets};
 ghost use Rattle.ptpm_codec.specs.Message.{Fits, IsRequestAction, IsValid};
-ghost use Rattle.ptpm_data.specs.Reply.{answer_of};
+ghost use Rattle.ptpm_data.specs.Reply.{answer_of, outcome_of};
 ghost use Rattle.ptpm_table.specs.Entries.{FitsAnswer, FitsCount};
-ghost use Rattle.ptpm_table.specs.KeptMessages.{AreSizes, IsKeptReply, answer_in, envelope_of, has_port, pieces, port_for, renewed};
+ghost use Rattle.ptpm_table.specs.Rendering.{IsEvenOutcome};
+ghost use Rattle.ptpm_table.specs.KeptMessages.{AreSizes, IsKeptReply, answer_in, envelope_of, has_port, kept_message, pieces, port_for, renewed};
 
 use crate::heard::Heard;
 use crate::outbox::Outbox;
@@ -31,6 +32,26 @@ pub(crate) struct Exchange {
     /// What the request asks.
     pub(crate) action: Action,
     pub(crate) id: u16,
+}
+
+impl Exchange {
+    /// The message of one answer as it is kept: for a copy of the request in domain 0 that has lost no hop and came in at
+    /// port 0.
+    #[inline(always)]
+    fn draft<'a>(&self, answer: &'a PortAnswer) -> Draft<'a>
+        requires { IsEvenOutcome (outcome_of answer.now.what) }
+        ensures message { result ≡ kept_message (envelope_of self.now) (answer_of answer.now) }
+        ensures valid { IsValid result }
+    {
+        let copy = Heard {
+            domain: 0,
+            source: self.manager,
+            number: self.number,
+            starting_hops: 0,
+            hops: 0,
+        };
+        draft_of(&self.clock, &copy, self.action.reply(), self.id, answer, 0)
+    }
 }
 
 /// Appends messages of these sizes, each for this port and with what depends on the copy written over.
@@ -99,23 +120,36 @@ pub(crate) fn encode_each(
     ensures answers { map (answer_in of_port) (pieces sizes.new.items messages.new.items)
         ≡ map answer_of answers.now }
 {
-    let action = exchange.action.reply();
-    let copy = Heard {
-        domain: 0,
-        source: exchange.manager,
-        number: exchange.number,
-        starting_hops: 0,
-        hops: 0,
-    };
     if let [answer] = answers {
-        let draft = draft_of(&exchange.clock, &copy, action, exchange.id, answer, 0);
+        let draft = exchange.draft(answer);
         leave_message(&draft, sizes, messages);
-        return;
+    } else {
+        encode_many(exchange, of_port, answers, sizes, messages);
     }
+}
+
+/// The same for any number of answers. It is never inlined: most replies have one.
+#[inline(never)]
+fn encode_many(
+    exchange: &Exchange,
+    of_port: bool,
+    answers: &[PortAnswer],
+    sizes: &mut Sizes,
+    messages: &mut Messages,
+)
+    requires asks { IsRequestAction exchange.now.action }
+    requires count { FitsCount of_port (length answers.now) }
+    requires suits { All (λ a. FitsAnswer of_port exchange.now.action (answer_of a)) answers.now }
+    ensures kept { IsKeptReply (envelope_of exchange.now) of_port sizes.new.items
+        messages.new.items }
+    ensures answers { map (answer_in of_port) (pieces sizes.new.items messages.new.items)
+        ≡ map answer_of answers.now }
+{
+    let exchange = *exchange;
     *sizes = Sizes::new();
     messages.clear();
     for answer in answers {
-        let draft = draft_of(&exchange.clock, &copy, action, exchange.id, answer, 0);
+        let draft = exchange.draft(answer);
         append_message(&draft, sizes, messages);
     }
 }

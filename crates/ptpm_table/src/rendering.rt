@@ -73,7 +73,10 @@ pub(crate) fn draft_of<'a>(
             port: answer.port.unwrap_or(ingress),
         },
         number: heard.number,
-        target: heard.source,
+        target: PortIdentity {
+            clock: heard.source.clock,
+            port: heard.source.port,
+        },
         starting_hops: hops,
         hops,
         body: body_of_answer(action, id, &answer.what),

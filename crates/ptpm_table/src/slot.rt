@@ -140,7 +140,9 @@ impl Kept {
         self.action = request.action;
         self.id = request.id;
         self.port = request.port;
-        overwrite(&mut self.octets, request.octets);
+        if !(request.octets.is_empty() && self.octets.is_empty()) {
+            overwrite(&mut self.octets, request.octets);
+        }
         let answers = reply.answers.as_slice();
         self.of_port = has_port(answers);
         let exchange = Exchange {
