@@ -1,12 +1,11 @@
 //! What a table does with the requests and replies that it keeps.
 
-ghost use Rattle.std.specs.Prelude.{◌≡◌, ◌≤◌, [], length};
+ghost use Rattle.std.specs.Prelude.{◌≡◌, ◌≤◌, length};
 ghost use Rattle.ptpm_table.specs.Numbering.{look_by, same_request};
 ghost use Rattle.ptpm_table.specs.Serial.{serial_of};
 
 use crate::reply_table::Look;
 use arrayvec::ArrayVec;
-use ptpm_codec::Action;
 use ptpm_data::{PortAnswer, Reply, Request, Value, What};
 
 /// What a request of this number is, where `kept` is the latest accepted one, of the number `latest`. The numbers are told
@@ -31,17 +30,6 @@ fn is_same(kept: &Request<'_>, request: &Request<'_>) -> bool
         && kept.id == request.id
         && kept.port == request.port
         && kept.octets == request.octets
-}
-
-/// A reply without answers, to be written over.
-pub(crate) fn no_answers() -> Reply
-    ensures { result ≡ record { action = Action.Response; id = 0; answers = [] } }
-{
-    Reply {
-        action: Action::Response,
-        id: 0,
-        answers: ArrayVec::new(),
-    }
 }
 
 /// Makes a reply equal to another, in its place.

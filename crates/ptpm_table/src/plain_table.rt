@@ -8,7 +8,7 @@ ghost use Rattle.ptpm_table.specs.Managers.{IsFresh, identities, table_refusal};
 
 use crate::error::TableError;
 use crate::heard::Heard;
-use crate::kept::{copy_reply, judge, no_answers};
+use crate::kept::{copy_reply, judge};
 use crate::managers::{MANAGERS, is_configured, refusal, rights_of};
 use crate::outbox::Outbox;
 use crate::rendering::render;
@@ -143,7 +143,7 @@ impl ReplyTable for PlainTable {
         reply: &Reply,
     ) -> Result<(), OutOfMemory> {
         let octets = Octets::copy_of(self.alloc, request.octets)?;
-        let mut copy = no_answers();
+        let mut copy = Reply::empty();
         copy_reply(reply, &mut copy);
         let kept = Kept {
             number,
