@@ -7,8 +7,8 @@ ghost use Rattle.ptpm_codec.specs.Message.{IsValid};
 ghost use Rattle.ptpm_codec.specs.Reading.{reading};
 ghost use Rattle.ptpm_codec.specs.Spelling.{Spells};
 ghost use Rattle.ptpm_data.specs.Members.{HasPort};
-ghost use Rattle.ptpm_table.specs.Entries.{HasEntry};
-ghost use Rattle.ptpm_table.specs.Managers.{IsFresh, has_twice, identities};
+ghost use Rattle.ptpm_table.specs.Entries.{CanResend};
+ghost use Rattle.ptpm_table.specs.Managers.{IsFresh, has_twice, identities, most_managers};
 ghost use Rattle.ptpm_table.specs.Rendering.{IsSendable, rendered};
 ghost use Rattle.ptpm_agent.specs.Agent.{IsTurned, clock_of, state_of};
 ghost use Rattle.ptpm_agent.specs.Forwarding.{forwarded};
@@ -109,7 +109,7 @@ impl<T: ReplyTable + Drop> Agent<T> {
         ensures verdict { result ≡ judged
             (clock_of T.owner self.now) (state_of T.entries self.now) message.now }
         ensures repeat { result ≡ Verdict.AnsweredRepeat →
-            HasEntry (T.entries self.now.table) message.now.source message.now.number }
+            CanResend (T.entries self.now.table) message.now.source message.now.number }
     {
         if message.sdo() != 0 {
             return Verdict::OtherDomain;
@@ -144,7 +144,7 @@ impl<T: ReplyTable + Drop> Agent<T> {
         ensures exact { result ≡ is_accepted_repeat
             (clock_of T.owner self.now) (state_of T.entries self.now) message.now }
         ensures kept { IsTrue result
-            → HasEntry (T.entries self.now.table) message.now.source message.now.number }
+            → CanResend (T.entries self.now.table) message.now.source message.now.number }
     {
         message.source().clock != self.table.clock()
             && self.is_addressed(message)
@@ -167,7 +167,7 @@ impl<T: ReplyTable + Drop> Agent<T> {
         ensures look { result ≡ look
             (clock_of T.owner self.now) (state_of T.entries self.now) message.now }
         ensures repeat { result ≡ Look.Repeat →
-            HasEntry (T.entries self.now.table) message.now.source message.now.number }
+            CanResend (T.entries self.now.table) message.now.source message.now.number }
     {
         if message.target().clock != self.table.clock() {
             return Look::Unknown;
@@ -191,7 +191,7 @@ impl<T: ReplyTable + Drop> Agent<T> {
         requires verdict { verdict ≡ judged
             (clock_of T.owner self.old) (state_of T.entries self.old) message.now }
         requires repeat { verdict ≡ Verdict.AnsweredRepeat →
-            HasEntry (T.entries self.old.table) message.now.source message.now.number }
+            CanResend (T.entries self.old.table) message.now.source message.now.number }
         requires not_new { verdict ≢ Verdict.AnsweredNew }
         requires valid { IsValid message.now }
         ensures sent { out.new
@@ -218,7 +218,7 @@ impl<T: ReplyTable + Drop> Agent<T> {
         requires verdict { verdict ≡ judged
             (clock_of T.owner self.old) (state_of T.entries self.old) message.now }
         requires repeat { verdict ≡ Verdict.AnsweredRepeat →
-            HasEntry (T.entries self.old.table) message.now.source message.now.number }
+            CanResend (T.entries self.old.table) message.now.source message.now.number }
         requires not_new { verdict ≢ Verdict.AnsweredNew }
         requires valid { IsValid message.now }
         requires room { length out.old ≤ 7 }
@@ -300,10 +300,11 @@ impl<const SLOTS: usize> Agent<SlotTable<SLOTS>> {
         Agent::new(sets, table)
     }
 
-    /// Gives a clock without managers these. At most as many as its table has slots, and each identity once.
+    /// Gives a clock without managers these: whom its table takes, so at most as many as it has slots, sixteen at most, and
+    /// each identity once.
     pub fn admit(&mut self, managers: &[(PortIdentity, Rights)])
         requires none { (⟦<SlotTable<SLOTS> as ReplyTable>⟧.owner self.old.table).managers ≡ [] }
-        requires few { length managers.now ≤ SLOTS }
+        requires few { length managers.now ≤ most_managers SLOTS }
         requires distinct { has_twice (identities managers.now) ≡ false }
         ensures sets { self.new.sets ≡ self.old.sets }
         ensures table { IsFresh (⟦<SlotTable<SLOTS> as ReplyTable>⟧.owner self.old.table).identity

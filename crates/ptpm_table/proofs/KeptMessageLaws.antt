@@ -1,5 +1,5 @@
 -- Kept messages: written over for another copy, and read back.
-use Rattle.std.proofs.Common.{arith, ◌≡◌, ◌<◌, ◌≤◌, ◌^◌, ℕ, ◌+◌, ◌-◌, ◌*◌, Bool, true, false, refl, sym, ◌∙◌, ap, subst, List, [], ◌∷◌, ◌++◌, length, get_or, map, take, drop, Option, Some, None, unwrap_or, slice_set, All}
+use Rattle.std.proofs.Common.{suc, arith, ◌≡◌, ◌<◌, ◌≤◌, ◌^◌, ℕ, ◌+◌, ◌-◌, ◌*◌, Bool, true, false, refl, sym, ◌∙◌, ap, subst, List, [], ◌∷◌, ◌++◌, length, get_or, map, take, drop, Option, Some, None, unwrap_or, slice_set, All}
 use Rattle.ptpm_codec.specs.declared.error.ErrorId.{ErrorId}
 use Rattle.ptpm_codec.specs.declared.error.ErrorId.TheVariants as errors
 use Rattle.ptpm_codec.specs.declared.message.Action.{Action}
@@ -394,6 +394,17 @@ pub filled_one : (of_port : Bool) (e : Envelope) (answers : List PortAnswer) (si
 filled_one of_port e answers sizes octets item v is inside made s o =
     filled_after of_port e answers [] [] sizes octets 0 item v
     (record { kept = record { cut = refl; each = tt }; answers_are = refl; count = refl; room = omega arith }) is inside made s o
+
+-- ---- how many messages
+
+length_pieces : (sizes octets : List ℕ) → length (pieces sizes octets) ≡ length sizes
+length_pieces [] octets = refl
+length_pieces (s ∷ ss) octets = ap suc (length_pieces ss (drop s octets))
+
+-- there are as many answers as sizes
+pub length_answers : (of_port : Bool) (sizes octets : List ℕ)
+    → length (map (answer_in of_port) (pieces sizes octets)) ≡ length sizes
+length_answers of_port sizes octets = length-map (pieces sizes octets) (answer_in of_port) ∙ length_pieces sizes octets
 
 -- ---- of a reply that fits
 

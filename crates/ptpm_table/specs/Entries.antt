@@ -1,5 +1,5 @@
 -- What is kept of each configured manager: the latest accepted request, with its number and its reply.
-use Rattle.std.specs.Prelude.{◌≡◌, ℕ, ◌≤◌, ◌%◌, Bool, true, false, List, length, Some, None, All}
+use Rattle.std.specs.Prelude.{◌≡◌, ℕ, ◌+◌, ◌≤◌, ◌%◌, Bool, true, false, List, length, Some, None, All}
 use Rattle.std.specs.List.{list_any}
 use Rattle.std.specs.FinMap.{FinMap, get}
 use Rattle.ptpm_codec.specs.declared.identity.PortIdentity.{PortIdentity}
@@ -30,6 +30,16 @@ pub record HasEntry (entries : Entries) (who : PortIdentity) (n : ℕ) : Type 0 
   pub entry : Entry
   pub is : get entries who ≡ Some entry
   pub number_is : entry.number ≡ n
+
+-- an outbox that holds so many messages has room for those of the manager's kept reply, one for each answer
+abbrev pub HasRoom : Entries → PortIdentity → ℕ → Type 0
+HasRoom entries who held = (e : Entry) → get entries who ≡ Some e → held + length e.reply.answers ≤ 15
+
+-- The manager has an entry of this number, and its reply can be sent again: behind the seven copies of a message that a clock
+-- of eight ports passes on, and so behind fewer, an outbox has room for it.
+pub record CanResend (entries : Entries) (who : PortIdentity) (n : ℕ) : Type 0 where
+  pub kept : HasEntry entries who n
+  pub room : HasRoom entries who 7
 
 -- ---- which replies may be kept for a request
 

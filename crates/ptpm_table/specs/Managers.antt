@@ -1,5 +1,5 @@
 -- The configured managers of a clock, and what each may change (this project's profile).
-use Rattle.std.specs.Prelude.{◌≡◌, ℕ, Bool, false, ◌||◌, List, [], ◌∷◌, length, map, Option, Some, None, nat_lt, if◌then◌else◌}
+use Rattle.std.specs.Prelude.{◌≡◌, ℕ, Bool, false, ◌||◌, List, [], ◌∷◌, length, map, min, Option, Some, None, nat_lt, if◌then◌else◌}
 use Rattle.std.specs.List.{list_any}
 use Rattle.std.specs.FinMap.{empty}
 use Rattle.ptpm_codec.specs.declared.identity.ClockIdentity.{ClockIdentity}
@@ -37,10 +37,14 @@ abbrev pub has_twice : List PortIdentity → Bool
 has_twice [] = false
 has_twice (p ∷ ps) = list_any (same_identity p) ps || has_twice ps
 
+-- how many managers a table of so many slots takes: one for each slot, and sixteen at most, as many as a clock may have
+abbrev pub most_managers : ℕ → ℕ
+most_managers slots = min slots 16
+
 -- why no table of so many slots is made for these managers
 abbrev pub slots_refusal : ℕ → List PortIdentity → Option TableError
 slots_refusal slots managers =
-    if nat_lt slots (length managers) then Some TooMany else if has_twice managers then Some Twice else None
+    if nat_lt (most_managers slots) (length managers) then Some TooMany else if has_twice managers then Some Twice else None
 
 -- why no table of a clock's managers is made, of whom there are at most sixteen
 abbrev pub table_refusal : List PortIdentity → Option TableError

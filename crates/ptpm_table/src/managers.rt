@@ -2,21 +2,21 @@
 
 ghost use Rattle.std.specs.Prelude.{◌≡◌, ◌≤◌, None, length};
 ghost use Rattle.ptpm_table.specs.Entries.{is_known};
-ghost use Rattle.ptpm_table.specs.Managers.{has_twice, identities, rights_in, slots_refusal};
+ghost use Rattle.ptpm_table.specs.Managers.{has_twice, identities, most_managers, rights_in, slots_refusal};
 
 use crate::error::TableError;
 use ptpm_codec::PortIdentity;
 use ptpm_data::Rights;
 
-/// How many managers a clock has at most.
+/// How many managers a clock has at most, and so a reply table, however many slots it has.
 pub(crate) const MANAGERS: usize = 16;
 
 /// Why no table of so many slots is made for these managers.
 pub(crate) fn refusal(managers: &[(PortIdentity, Rights)], slots: usize) -> Option<TableError>
     ensures refusal { result ≡ slots_refusal slots (identities managers.now) }
-    ensures few { result ≡ None → length managers.now ≤ slots }
+    ensures few { result ≡ None → length managers.now ≤ most_managers slots }
 {
-    if managers.len() > slots {
+    if managers.len() > slots.min(MANAGERS) {
         Some(TableError::TooMany)
     } else if stands_twice(managers) {
         Some(TableError::Twice)

@@ -3,7 +3,7 @@
 ghost use Rattle.std.specs.Prelude.{◌≡◌, ◌≤◌, ◌+◌, ◌++◌, IsTrue, OnOk, OnErr, Some, length};
 ghost use Rattle.std.specs.FinMap as fin;
 ghost use Rattle.ptpm_codec.specs.Message.{IsRequestAction, IsDataField};
-ghost use Rattle.ptpm_table.specs.Entries.{Entry, FitsRequest, HasEntry, is_known};
+ghost use Rattle.ptpm_table.specs.Entries.{CanResend, Entry, FitsRequest, HasEntry, HasRoom, is_known};
 ghost use Rattle.ptpm_table.specs.Numbering.{look_of};
 ghost use Rattle.ptpm_table.specs.Rendering.{rendered};
 
@@ -55,7 +55,7 @@ pub trait ReplyTable {
     fn look(&self, who: &PortIdentity, number: u16, request: &Request<'_>) -> Look
         ensures look { result ≡ look_of (is_known who.now (owner self.now).managers)
             (fin.get (entries self.now) who.now) number request.now }
-        ensures repeat { result ≡ Look.Repeat → HasEntry (entries self.now) who.now number };
+        ensures repeat { result ≡ Look.Repeat → CanResend (entries self.now) who.now number };
 
     /// Puts number, request and reply in place of what is kept of the manager; of no other manager anything changes.
     /// Where memory is refused, nothing changes.
@@ -75,12 +75,11 @@ pub trait ReplyTable {
         ensures err { OnErr result (entries self.new ≡ entries self.old) }
         ensures owner { owner self.new ≡ owner self.old };
 
-    /// Appends the messages of the kept reply for the copy that was heard, and changes no entry. At most seven messages
-    /// stand before them, as many as a clock of eight ports passes on: a kept reply has eight at most, and an outbox has room
-    /// for fifteen.
+    /// Appends the messages of the kept reply for the copy that was heard, and changes no entry. The outbox has room for
+    /// them, one for each answer: of its fifteen places, seven and fewer that are taken always leave enough.
     fn resend(&self, heard: &Heard, ingress: u16, out: &mut Outbox)
         requires kept { HasEntry (entries self.now) heard.now.source heard.now.number }
-        requires room { length out.old ≤ 7 }
+        requires room { HasRoom (entries self.now) heard.now.source (length out.old) }
         ensures { (e : Entry) → fin.get (entries self.now) heard.now.source ≡ Some e →
             out.new ≡ out.old ++ rendered (owner self.now).identity heard.now e.reply ingress };
 }
@@ -113,7 +112,7 @@ pub trait SureTable: ReplyTable {
         requires action { IsRequestAction request.now.action }
         requires octets { IsDataField request.now.octets }
         requires fits { FitsRequest request.now reply.now }
-        requires room { length out.old ≤ 7 }
+        requires room { length out.old + length reply.now.answers ≤ 15 }
         ensures kept { Self.entries self.new ≡ fin.insert (Self.entries self.old) heard.now.source
             (record { number = heard.now.number; request = request.now; reply = reply.now }) }
         ensures sent { out.new ≡ out.old

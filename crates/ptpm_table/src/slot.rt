@@ -1,6 +1,6 @@
 //! A manager's place in a table of fixed size.
 
-ghost use Rattle.std.specs.Prelude.{◌≡◌, ◌≤◌, ◌++◌, length};
+ghost use Rattle.std.specs.Prelude.{◌≡◌, ◌≤◌, ◌+◌, ◌++◌, length};
 ghost use Rattle.ptpm_codec.specs.Message.{IsDataField, IsRequestAction};
 ghost use Rattle.ptpm_table.specs.Entries.{FitsRequest};
 ghost use Rattle.ptpm_table.specs.Rendering.{rendered};
@@ -117,10 +117,12 @@ impl Kept {
         self.number
     }
 
-    /// The request, with its dataField lent.
+    /// The request, with its dataField lent. The reply to it has eight messages at most.
     pub(crate) fn request(&self) -> Request<'_>
-        ensures { result ≡ self.now.entry.request }
+        ensures request { result ≡ self.now.entry.request }
+        ensures few { length self.now.entry.reply.answers ≤ 8 }
     {
+        prove!(self.sizes.len() <= 8);
         Request {
             action: self.action,
             id: self.id,
@@ -161,7 +163,7 @@ impl Kept {
     pub(crate) fn resend(&self, heard: &Heard, ingress: u16, out: &mut Outbox)
         requires manager { heard.now.source ≡ self.now.manager }
         requires number { heard.now.number ≡ self.now.entry.number }
-        requires room { length out.old ≤ 7 }
+        requires room { length out.old + length self.now.entry.reply.answers ≤ 15 }
         ensures { out.new
             ≡ out.old ++ rendered self.now.clock heard.now self.now.entry.reply ingress }
     {

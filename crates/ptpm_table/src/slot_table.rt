@@ -1,6 +1,6 @@
 //! A reply table in fixed slots.
 
-ghost use Rattle.std.specs.Prelude.{◌≡◌, ◌≤◌, ◌++◌, [], false, IfOk, IfSome, IsOk, IsTrue, OnErr, OnOk, All, MatchResult, None, Some, is_some, length, position};
+ghost use Rattle.std.specs.Prelude.{◌≡◌, ◌≤◌, ◌+◌, ◌++◌, [], false, IfOk, IfSome, IsOk, IsTrue, OnErr, OnOk, All, MatchResult, None, Some, is_some, length, position};
 ghost use Rattle.std.specs.FinMap as fin;
 ghost use Rattle.std.specs.Option.{option_copied};
 ghost use Rattle.ptpm_codec.specs.declared.identity.ClockIdentity.{ClockIdentity};
@@ -8,7 +8,7 @@ ghost use Rattle.ptpm_codec.specs.Identity.{identity_cmp, same_identity};
 ghost use Rattle.ptpm_codec.specs.Message.{IsDataField, IsRequestAction};
 ghost use Rattle.ptpm_table.specs.Entries.{FitsRequest, is_known};
 ghost use Rattle.ptpm_table.specs.Rendering.{rendered};
-ghost use Rattle.ptpm_table.specs.Managers.{IsFresh, has_twice, identities, rights_in, slots_refusal, table_refusal};
+ghost use Rattle.ptpm_table.specs.Managers.{IsFresh, has_twice, identities, most_managers, rights_in, slots_refusal, table_refusal};
 ghost use Rattle.ptpm_table.specs.Slots.{clocks, configured, entry_in, rights_at, slot_of, used};
 
 use crate::error::TableError;
@@ -22,9 +22,10 @@ use arrayvec::ArrayVec;
 use ptpm_codec::{ClockIdentity, OutOfMemory, PortIdentity};
 use ptpm_data::{Reply, Request, Rights};
 
-/// The latest accepted requests in so many slots inside the value, one for each manager. A slot has 2,136 octets, and the
-/// table 16 besides. Replies are kept as octets, encoded once by `keep`; `resend` copies them and writes over what depends
-/// on the copy that is answered. It takes no memory, and `keep` is never refused.
+/// The latest accepted requests in so many slots inside the value, one for each manager. A clock has sixteen managers at
+/// most (this project's profile), so slots past the sixteenth stay empty. A slot has 2,136 octets, and the table 16 besides.
+/// Replies are kept as octets, encoded once by `keep`; `resend` copies them and writes over what depends on the copy that
+/// is answered. It takes no memory, and `keep` is never refused.
 #[derive(Drop)]
 pub struct SlotTable<const SLOTS: usize> {
     clock: ClockIdentity,
@@ -57,13 +58,13 @@ impl SlotTable<MANAGERS> {
 }
 
 impl<const SLOTS: usize> SlotTable<SLOTS> {
-    /// A table without entries, of this clock and these managers, each identity once. `TooMany` where there are more than
-    /// slots.
+    /// A table without entries, of this clock and these managers. `TooMany` where they are more than the slots, or more than
+    /// sixteen however many slots there are; then `Twice` where an identity stands twice. Takes no memory: the table has 16
+    /// octets, and 2,136 for each slot, used or not.
     pub fn of_size(
         clock: ClockIdentity,
         managers: &[(PortIdentity, Rights)],
     ) -> Result<SlotTable<SLOTS>, TableError>
-        requires { SLOTS ≤ MANAGERS }
         ensures fresh { IfOk result (λ t. IsFresh clock managers.now
             (⟦<SlotTable<SLOTS> as ReplyTable>⟧.owner t) (⟦<SlotTable<SLOTS> as ReplyTable>⟧.entries t)) }
         ensures refusal { MatchResult result
@@ -92,10 +93,11 @@ impl<const SLOTS: usize> SlotTable<SLOTS> {
         }
     }
 
-    /// Gives a table without managers these, where it stands. At most as many as slots, and each identity once.
+    /// Gives a table without managers these, where it stands: whom `of_size` would take, so at most as many as slots, sixteen
+    /// at most, and each identity once.
     pub fn admit(&mut self, managers: &[(PortIdentity, Rights)])
         requires none { (⟦<SlotTable<SLOTS> as ReplyTable>⟧.owner self.old).managers ≡ [] }
-        requires few { length managers.now ≤ SLOTS }
+        requires few { length managers.now ≤ most_managers SLOTS }
         requires distinct { has_twice (identities managers.now) ≡ false }
         ensures { IsFresh (⟦<SlotTable<SLOTS> as ReplyTable>⟧.owner self.old).identity managers.now
             (⟦<SlotTable<SLOTS> as ReplyTable>⟧.owner self.new)
@@ -190,7 +192,7 @@ fn put_and_send(
     requires distinct { has_twice (identities (configured slots.old)) ≡ false }
     requires octets { IsDataField request.now.octets }
     requires fits { FitsRequest request.now reply.now }
-    requires room { length out.old ≤ 7 }
+    requires room { length out.old + length reply.now.answers ≤ 15 }
     ensures entries { fin.from_entries {R = identity_cmp} (used slots.new)
         ≡ fin.insert (fin.from_entries (used slots.old)) heard.now.source
         (record { number = heard.now.number; request = request.now; reply = reply.now }) }

@@ -1,7 +1,8 @@
-use Rattle.std.proofs.Common.{sym, subst}
+use Rattle.std.proofs.Common.{ap, arith, length, subst, sym}
 use Rattle.std.specs.Bool.{IsTrue}
 use Rattle.ptpm_table.specs.declared.heard.Heard.{Heard}
 use Rattle.ptpm_table.specs.Entries.{is_known}
+use Rattle.ptpm_table.proofs.Fitting.{fitting_few}
 use Rattle.ptpm_agent.proofs.Fitting.{fits_numbered, may_judge_action, may_judge_port}
 use Rattle.ptpm_agent.proofs.Turns.{new_parts}
 use Rattle.ptpm_agent.proofs.agent.Agent.accept.Goals as goal
@@ -31,3 +32,11 @@ answer-requires-clause-fits g c =
     let p = new_parts _ _ _ c.requires.new in
     fits_numbered c.request_of-request.result c.rights-rights.result c.args.self.now.sets c.args.message.now c.decide_into.new.reply
     c.request_of-request.ensures c.data_sets_law.ensures.sized p.request p.port c.requires.valid c.decide_into.ensures.reply
+
+pub answer-requires-clause-room : goal.answer-requires-clause-room
+answer-requires-clause-room g c =
+    let p = new_parts _ _ _ c.requires.new in
+    let few = fitting_few c.request_of-request.result c.decide_into.new.reply
+    (fits_numbered c.request_of-request.result c.rights-rights.result c.args.self.now.sets c.args.message.now c.decide_into.new.reply
+    c.request_of-request.ensures c.data_sets_law.ensures.sized p.request p.port c.requires.valid c.decide_into.ensures.reply) in
+    omega (arith, few, ap length c.clear.ensures)
