@@ -1,18 +1,5 @@
 -- How what was accepted of a manager, its requests and its reports go on together.
-use Rattle.std.proofs.Common.{suc, zero, arith, ◌≡◌, ℕ, ◌<◌, ◌≤◌, ◌+◌, ◌-◌, ◌==◌, ◌&&◌, max, List, [], ◌∷◌, ◌++◌, Option, Some, None, true, false, refl, sym, ◌∙◌, ap, subst, ⊎_elim, length, length-append}
-use Rattle.std.proofs.lemmas.Bool.{cases_Bool, cases_eq, and_parts, and_from, and_left, and_right, eqb-true, eq-eqb, ne_eqb, cond-true, cond-false}
-use Rattle.std.specs.Prelude.{slice_get}
-use Rattle.ptpm_codec.specs.declared.identity.PortIdentity.{PortIdentity}
-use Rattle.ptpm_codec.specs.Identity.{same_identity}
-use Rattle.ptpm_data.specs.Reply.{Answer}
-use Rattle.ptpm_data.specs.Request.{RequestValue}
-use Rattle.ptpm_table.specs.Rendering.{answer_body}
-use Rattle.ptpm_agent.specs.Once.{Accepted, greatest, kept_reply}
-use Rattle.ptpm_manager.specs.declared.report.Report.{Report}
-use Rattle.ptpm_manager.specs.Report.{outcome_in}
-use Rattle.ptpm_network.specs.DataSets.{Answers, HasOneAnswer}
-use Rattle.ptpm_network.specs.State.{SessionState, outcomes_kept, reports_by, reports_of}
-use Rattle.ptpm_network.specs.Invariant.{IsAsked, IsInStep, WasAccepted}
+use Rattle.ptpm_network.proofs.Common.{suc, zero, arith, ◌≡◌, ℕ, ◌<◌, ◌≤◌, ◌+◌, ◌-◌, ◌==◌, ◌&&◌, max, List, [], ◌∷◌, ◌++◌, Option, Some, None, true, false, refl, sym, ◌∙◌, ap, subst, ⊎_elim, length, length-append, cases_Bool, cases_eq, and_parts, and_from, and_left, and_right, eqb-true, eq-eqb, ne_eqb, cond-true, cond-false, slice_get, PortIdentity, same_identity, Answer, RequestValue, answer_body, Accepted, greatest, kept_reply, Report, outcome_in, Answers, HasOneAnswer, SessionState, outcomes_kept, reports_by, reports_of, IsAsked, IsInStep, WasAccepted}
 use Rattle.ptpm_network.proofs.Lists.{get_append, get_appended}
 
 -- ---- one more accepted request

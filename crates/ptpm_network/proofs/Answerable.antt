@@ -1,25 +1,7 @@
 -- One copy each way along a way answers the request: the session sends it, the way gives the deliveries, and it is reported.
-use Rattle.std.proofs.Common.{arith, ◌≡◌, ℕ, ◌<◌, ◌≤◌, ◌+◌, ◌-◌, ◌==◌, List, [], ◌∷◌, ◌++◌, Some, None, true, false, refl, sym, ◌∙◌, ap, subst, length, length-append}
-use Rattle.std.proofs.lemmas.Bool.{cond-true, eq-eqb, eqb-false, ne_eqb}
-use Rattle.std.specs.Prelude.{is_none, is_some, not, option_map}
-use Rattle.std.specs.List.{AllByRecursion, list_any}
-use Rattle.std.specs.Option.{option_or}
-use Rattle.ptpm_codec.specs.declared.message.Message.{Message}
-use Rattle.ptpm_codec.specs.Canonical.{canonical}
-use Rattle.ptpm_codec.specs.Layout.{boundary_hops, domain_number}
-use Rattle.ptpm_codec.specs.Ordered.{first_of}
-use Rattle.ptpm_data.specs.Request.{RequestValue}
+use Rattle.ptpm_network.proofs.Common.{arith, ◌≡◌, ℕ, ◌<◌, ◌≤◌, ◌+◌, ◌-◌, ◌==◌, List, [], ◌∷◌, ◌++◌, Some, None, true, false, refl, sym, ◌∙◌, ap, subst, length, length-append, cond-true, eq-eqb, eqb-false, ne_eqb, is_none, is_some, not, option_map, AllByRecursion, list_any, option_or, Message, canonical, boundary_hops, domain_number, first_of, RequestValue, SessionValue, is_waiting, send_refusal, request_message, Deliver, Event, IsInRange, Send, SendRefused, frames_limit, no_room, refusal, send_refused, HasReported, HasRoom, IsReached, AreInTime, happens, is_late_frame, run, sent_frames, step, taken, AtPort, AtSession, End, IsNetwork, Network, peers, ports, same_end, Frame, NetworkState, RequestOf, ReplyTo, SessionState, initial_state, greatest_accepted, is_idle, is_late, issued, new_frames, session_value, unanswered, ComeIn, ComesIn, Hop, IsAnswerable, IsWay, LinksHaveAtMost, PassesOn, ends_of, handed_in, made_along, made_each_way, passed_at_most, visited}
 use Rattle.ptpm_manager.specs.declared.error.SendError.TheVariants as sends
-use Rattle.ptpm_manager.specs.Session.{SessionValue, is_waiting, send_refusal}
-use Rattle.ptpm_manager.specs.Setup.{request_message}
-use Rattle.ptpm_network.specs.Events.{Deliver, Event, IsInRange, Send, SendRefused, frames_limit, no_room, refusal, send_refused}
-use Rattle.ptpm_network.specs.Exchange.{HasReported, HasRoom}
-use Rattle.ptpm_network.specs.Invariant.{IsReached}
 use Rattle.ptpm_network.specs.Machine as machine
-use Rattle.ptpm_network.specs.Machine.{AreInTime, happens, is_late_frame, run, sent_frames, step, taken}
-use Rattle.ptpm_network.specs.Network.{AtPort, AtSession, End, IsNetwork, Network, peers, ports, same_end}
-use Rattle.ptpm_network.specs.State.{Frame, NetworkState, RequestOf, ReplyTo, SessionState, initial_state, greatest_accepted, is_idle, is_late, issued, new_frames, session_value, unanswered}
-use Rattle.ptpm_network.specs.Way.{ComeIn, ComesIn, Hop, IsAnswerable, IsWay, LinksHaveAtMost, PassesOn, ends_of, handed_in, made_along, made_each_way, passed_at_most, visited}
 use Rattle.ptpm_network.proofs.Carrying.{IsIn, MakesAtMost, add_most, few-made, in_any, in_map, in_right, length-map_same}
 use Rattle.ptpm_network.proofs.Exchanging.{delivery-step, is_room, reports-answer, said-domain, said-hops, step-taken}
 use Rattle.ptpm_network.proofs.Lists.{all_weaker, with_place-same}

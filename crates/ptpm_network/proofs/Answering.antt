@@ -1,25 +1,5 @@
 -- The frames that a clock makes of one that comes in keep the invariant.
-use Rattle.std.proofs.Common.{arith, ◌≡◌, ℕ, ◌<◌, ◌≤◌, ◌^◌, ◌==◌, List, [], ◌∷◌, Option, Some, None, true, false, refl, sym, ◌∙◌, ap, subst, ⊎_elim}
-use Rattle.std.proofs.lemmas.Bool.{cases_Bool, and_from, cond-true, cond-false, eq-eqb}
-use Rattle.std.proofs.lemmas.Option.{same_Some}
-use Rattle.std.specs.Prelude.{map}
-use Rattle.std.specs.List.{AllByRecursion}
-use Rattle.ptpm_codec.specs.declared.identity.ClockIdentity.{ClockIdentity}
-use Rattle.ptpm_codec.specs.declared.identity.PortIdentity.{PortIdentity}
-use Rattle.ptpm_codec.specs.Canonical.{canonical}
-use Rattle.ptpm_data.specs.Reply.{Answer, ReplyValue}
-use Rattle.ptpm_table.specs.declared.heard.Heard.{Heard}
-use Rattle.ptpm_table.specs.Numbering.{same_request}
-use Rattle.ptpm_table.specs.Rendering.{hops_passed, rendered, reply_message}
-use Rattle.ptpm_agent.specs.Laws.{due_messages}
-use Rattle.ptpm_agent.specs.Once.{Accepted, History, RequestCopy, accepted_from, after_copy, copy_of, due_reply, greatest, joins, kept_for, kept_reply}
-use Rattle.ptpm_agent.specs.Turn.{Clock}
-use Rattle.ptpm_table.proofs.Identities.{same_identity-refl}
-use Rattle.ptpm_network.specs.DataSets.{IsSendable}
-use Rattle.ptpm_network.specs.Invariant.{IsFrame, IsOfOrigin, IsReached}
-use Rattle.ptpm_network.specs.Machine.{arrives, delivery, reply_frames, reply_origin}
-use Rattle.ptpm_network.specs.Network.{AtPort, HasEnd, IsNetwork, Network, manager, peers, ports}
-use Rattle.ptpm_network.specs.State.{Frame, NetworkState, Origin, ReplyTo, accepted_at_target, history}
+use Rattle.ptpm_network.proofs.Common.{arith, ◌≡◌, ℕ, ◌<◌, ◌≤◌, ◌^◌, ◌==◌, List, [], ◌∷◌, Option, Some, None, true, false, refl, sym, ◌∙◌, ap, subst, ⊎_elim, cases_Bool, and_from, cond-true, cond-false, eq-eqb, same_Some, map, AllByRecursion, ClockIdentity, PortIdentity, canonical, Answer, ReplyValue, Heard, same_request, hops_passed, rendered, reply_message, due_messages, Accepted, History, RequestCopy, accepted_from, after_copy, copy_of, due_reply, greatest, joins, kept_for, kept_reply, Clock, same_identity-refl, IsSendable, IsFrame, IsOfOrigin, IsReached, arrives, delivery, reply_frames, reply_origin, AtPort, HasEnd, IsNetwork, Network, manager, peers, ports, Frame, NetworkState, Origin, ReplyTo, accepted_at_target, history}
 use Rattle.ptpm_network.proofs.Arriving.{IsCopyOf, after_arrival, history-here}
 use Rattle.ptpm_network.proofs.Frames.{SaysKept, says_kept}
 use Rattle.ptpm_network.proofs.Lists.{all_flat, all_made}

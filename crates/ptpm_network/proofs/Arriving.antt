@@ -1,35 +1,10 @@
 -- What a delivery at a clock does to what the clock accepted.
-use Rattle.std.proofs.Common.{◌≡◌, ℕ, ◌<◌, ◌≤◌, ◌-◌, ◌==◌, nat_lt, List, [], ◌∷◌, ◌++◌, Option, Some, None, true, false, refl, sym, ◌∙◌, ap, subst, ⊎_elim, ◌⊎◌, inl, inr, length}
-use Rattle.std.proofs.lemmas.Bool.{cases_Bool, and_parts, cond-true, cond-false, eq-eqb, eqb-true, ltb-true, not-true, true≢false}
-use Rattle.std.proofs.lemmas.Option.{same_Some}
+use Rattle.ptpm_network.proofs.Common.{◌≡◌, ℕ, ◌<◌, ◌≤◌, ◌-◌, ◌==◌, nat_lt, List, [], ◌∷◌, ◌++◌, Option, Some, None, true, false, refl, sym, ◌∙◌, ap, subst, ⊎_elim, ◌⊎◌, inl, inr, length, cases_Bool, and_parts, cond-true, cond-false, eq-eqb, eqb-true, ltb-true, not-true, true≢false, same_Some, cons_option, slice_get, PortIdentity, Action, Message, same_identity, action_of, is_reply, message_of, Outcome, RequestValue, answer_body, Accepted, Delivery, History, RequestCopy, accepted_from, after_copy, applied_once, copies, initial_history, copy_from, copy_of, greatest, is_copy, joined, joins, kept_reply, Clock, DeliversCopy, applied_once-ports, delivers_copy, same_identity-true, copy_parts, number_of, AreDataSets, IsForOne, IsInStep, IsReached, arrives, delivery, index_of, IsNetwork, Network, manager, ports, Frame, NetworkState, Origin, RequestOf, ReplyTo, Neither, accepted_at_target, copies_at, history, reply_action-is_reply}
 use Rattle.std.proofs.lemmas.List.Elements.{filter_map-append}
-use Rattle.std.specs.List.{cons_option}
-use Rattle.std.specs.Prelude.{slice_get}
-use Rattle.ptpm_codec.specs.declared.identity.PortIdentity.{PortIdentity}
-use Rattle.ptpm_codec.specs.declared.message.Action.{Action}
-use Rattle.ptpm_codec.specs.declared.message.Message.{Message}
-use Rattle.ptpm_codec.specs.Identity.{same_identity}
-use Rattle.ptpm_codec.specs.Message.{action_of, is_reply}
-use Rattle.ptpm_codec.specs.Reading.{message_of}
 use Rattle.ptpm_data.specs.Reply as reply
-use Rattle.ptpm_data.specs.Reply.{Outcome, ReplyValue}
-use Rattle.ptpm_data.specs.Request.{RequestValue}
-use Rattle.ptpm_table.specs.Rendering.{answer_body}
-use Rattle.ptpm_agent.specs.Once.{Accepted, Delivery, History, RequestCopy, accepted_from, after_copy, applied_once, copies, initial_history, copy_from, copy_of, greatest, is_copy, joined, joins, kept_reply}
-use Rattle.ptpm_agent.specs.Turn.{Clock}
-use Rattle.ptpm_agent.proofs.AtMostOnce.{DeliversCopy, applied_once-ports, delivers_copy}
-use Rattle.ptpm_table.proofs.Identities.{same_identity-true}
-use Rattle.ptpm_agent.proofs.Turns.{copy_parts}
-use Rattle.ptpm_codec.specs.SequenceNumber.{number_of}
-use Rattle.ptpm_network.specs.DataSets.{AreDataSets, IsForOne}
-use Rattle.ptpm_network.specs.Invariant.{IsInStep, IsReached}
-use Rattle.ptpm_network.specs.Machine.{arrives, delivery, index_of}
-use Rattle.ptpm_network.specs.Network.{IsNetwork, Network, manager, ports}
-use Rattle.ptpm_network.specs.State.{Frame, NetworkState, Origin, RequestOf, ReplyTo, Neither, accepted_at_target, copies_at, history}
 use Rattle.ptpm_network.proofs.Accepting.{IsAbove, JoinsOwn, in_step-joined, kept-joined, kept-le}
 use Rattle.ptpm_network.proofs.Frames.{IsHeard, SaysRequest, same_read, says_reply, says_request}
 use Rattle.ptpm_network.proofs.Lists.{with_place-other, with_place-same}
-use Rattle.ptpm_codec.proofs.MessageLaws.{reply_action-is_reply}
 use Rattle.ptpm_network.proofs.Messages.{request_at}
 use Rattle.ptpm_network.proofs.Requests.{answered, kept, once}
 use Rattle.ptpm_network.proofs.Steps.{KeptStays, frames-stay}

@@ -1,30 +1,6 @@
 -- What a clock on the way does with a copy of a request, or of the reply: it passes it on, and nothing else changes.
-use Rattle.std.proofs.Common.{suc, zero, arith, ◌≡◌, ℕ, ◌<◌, ◌≤◌, ◌+◌, ◌-◌, ◌*◌, ◌/◌, ◌==◌, ◌&&◌, ◌||◌, Bool, List, [], ◌∷◌, ◌++◌, Option, Some, None, true, false, refl, sym, ◌∙◌, ap, subst, ⊎_elim, length, length-append}
-use Rattle.std.proofs.lemmas.Bool.{and_from, and_left, and_parts, and_right, cases_Bool, cond-false, cond-true, eq-eqb, eqb-false, eqb-true, false≢true, lt-ltb, ne_eqb, or_cases, or_from}
-use Rattle.std.proofs.lemmas.List.{append-nil}
-use Rattle.std.proofs.lemmas.Option.{slice_get_within}
-use Rattle.std.specs.Prelude.{flat_map, map, nat_lt, not, slice_get}
-use Rattle.std.specs.List.{AllByRecursion, filter, list_any, range_with_len}
-use Rattle.ptpm_codec.specs.declared.identity.ClockIdentity.{ClockIdentity}
-use Rattle.ptpm_codec.specs.declared.identity.PortIdentity.{PortIdentity}
-use Rattle.ptpm_codec.specs.declared.message.Message.{Message}
-use Rattle.ptpm_codec.specs.Identity.{every_clock, same_clock}
-use Rattle.ptpm_codec.specs.Layout.{boundary_hops, domain_number}
-use Rattle.ptpm_codec.specs.Message.{Fits}
-use Rattle.ptpm_codec.specs.Reading.{message_of}
+use Rattle.ptpm_network.proofs.Common.{suc, zero, arith, ◌≡◌, ℕ, ◌<◌, ◌≤◌, ◌+◌, ◌-◌, ◌*◌, ◌/◌, ◌==◌, ◌&&◌, ◌||◌, Bool, List, [], ◌∷◌, ◌++◌, Option, Some, None, true, false, refl, sym, ◌∙◌, ap, subst, ⊎_elim, length, length-append, and_from, and_left, and_parts, and_right, cases_Bool, cond-false, cond-true, eq-eqb, eqb-false, eqb-true, false≢true, lt-ltb, ne_eqb, or_cases, or_from, append-nil, slice_get_within, flat_map, map, nat_lt, not, slice_get, AllByRecursion, filter, list_any, range_with_len, ClockIdentity, PortIdentity, Message, every_clock, same_clock, boundary_hops, domain_number, Fits, message_of, DataSetsValue, is_forwarding_port, may_forward, is_known, egress_ports, forwarded, forwarded_by, with_less_hop, History, RequestCopy, copy_by, copy_of, is_addressed, is_for_this_clock, is_own, names_port, Clock, AreDataSets, IsOfOrigin, IsReached, answering_frames, arrives, delivered_at_clock, delivery, forwarded_frames, made_frames, read_messages, reply_frames, AtPort, AtSession, End, IsNetwork, Network, manager, peers, ports, same_end, Frame, NetworkState, RequestOf, ReplyTo, Neither, frames_to, history, LinksHaveAtMost, passed_at_most}
 use Rattle.ptpm_data.specs.declared.data_sets.PortDataSet.{PortDataSet}
-use Rattle.ptpm_data.specs.Members.{DataSetsValue, is_forwarding_port, may_forward}
-use Rattle.ptpm_table.specs.Entries.{is_known}
-use Rattle.ptpm_agent.specs.Forwarding.{egress_ports, forwarded, forwarded_by, with_less_hop}
-use Rattle.ptpm_agent.specs.Once.{History, RequestCopy, copy_by, copy_of}
-use Rattle.ptpm_agent.specs.Addressing.{is_addressed, is_for_this_clock, is_own, names_port}
-use Rattle.ptpm_agent.specs.Turn.{Clock}
-use Rattle.ptpm_network.specs.DataSets.{AreDataSets}
-use Rattle.ptpm_network.specs.Invariant.{IsOfOrigin, IsReached}
-use Rattle.ptpm_network.specs.Machine.{answering_frames, arrives, delivered_at_clock, delivery, forwarded_frames, made_frames, read_messages, reply_frames}
-use Rattle.ptpm_network.specs.Network.{AtPort, AtSession, End, IsNetwork, Network, manager, peers, ports, same_end}
-use Rattle.ptpm_network.specs.State.{Frame, NetworkState, RequestOf, ReplyTo, Neither, frames_to, history}
-use Rattle.ptpm_network.specs.Way.{LinksHaveAtMost, passed_at_most}
 use Rattle.ptpm_network.proofs.Arriving.{after_arrival, history-elsewhere, history-here}
 use Rattle.ptpm_network.proofs.Exchanging.{clocks_apart, message-domain}
 use Rattle.ptpm_network.proofs.Frames.{says_reply, says_request}

@@ -1,32 +1,6 @@
 -- How many frames an event makes.
-use Rattle.std.proofs.Common.{arith, ◌≡◌, ℕ, ◌+◌, ◌<◌, ◌≤◌, ◌*◌, List, [], ◌∷◌, ◌++◌, Option, Some, None, true, false, refl, sym, ◌∙◌, ap, subst, ⊎_elim, length, length-append}
-use Rattle.std.proofs.lemmas.Bool.{cases_Bool, cond-true, cond-false, ltb-false}
-use Rattle.std.proofs.lemmas.List.{length-map}
-use Rattle.std.specs.Prelude.{nat_lt}
-use Rattle.std.specs.List.{AllByRecursion, list_any}
-use Rattle.ptpm_codec.proofs.OrderedLaws.{first_of-none, option_or-none}
-use Rattle.ptpm_codec.specs.declared.identity.ClockIdentity.{ClockIdentity}
-use Rattle.ptpm_codec.specs.declared.message.Message.{Message}
-use Rattle.ptpm_codec.specs.Canonical.{canonical}
-use Rattle.ptpm_codec.specs.Layout.{boundary_hops}
-use Rattle.ptpm_codec.specs.Reading.{message_of}
-use Rattle.ptpm_data.specs.Members.{DataSetsValue}
-use Rattle.ptpm_data.specs.Replies.{read_reply_to}
-use Rattle.ptpm_data.specs.Reply.{ReplyValue}
-use Rattle.ptpm_table.specs.declared.heard.Heard.{Heard}
-use Rattle.ptpm_table.specs.Rendering.{rendered}
-use Rattle.ptpm_agent.specs.Forwarding.{forwarded, forwarded_by, is_forwarded}
-use Rattle.ptpm_agent.specs.Laws.{due_messages}
-use Rattle.ptpm_agent.specs.Once.{RequestCopy, copy_of, due_reply}
-use Rattle.ptpm_agent.specs.Addressing.{heard_of, request_of}
-use Rattle.ptpm_agent.specs.Turn.{Clock}
+use Rattle.ptpm_network.proofs.Common.{arith, ◌≡◌, ℕ, ◌+◌, ◌<◌, ◌≤◌, ◌*◌, List, [], ◌∷◌, ◌++◌, Option, Some, None, true, false, refl, sym, ◌∙◌, ap, subst, ⊎_elim, length, length-append, cases_Bool, cond-true, cond-false, ltb-false, length-map, nat_lt, AllByRecursion, list_any, first_of-none, option_or-none, ClockIdentity, Message, canonical, boundary_hops, message_of, DataSetsValue, read_reply_to, ReplyValue, Heard, rendered, forwarded, forwarded_by, is_forwarded, due_messages, RequestCopy, copy_of, due_reply, heard_of, request_of, Clock, due_message, Begin, Deliver, Event, Forged, FramesAtMaximum, IsInRange, Refusal, Resume, Retune, Send, Stranger, forged, frame_at, frames_limit, is_forged, no_frame, no_port, no_room, no_session, refusal, send_refused, IsFrame, IsReached, answer_messages, answer_origin, answering_frames, arrives, delivered, delivered_at, delivery, forwarded_frames, happens, is_read, made_frames, read_messages, reply_frames, run, sent_frames, step, step_by, strange_frame, AtPort, AtSession, End, HasEnd, IsLink, IsNetwork, Network, peers, ports, same_end, Frame, NetworkState, Origin, initial_state, frames_to, history, session_value}
 use Rattle.ptpm_agent.proofs.Egress.{copies_up_to-all, length-copies_up_to_but_one}
-use Rattle.ptpm_manager.specs.Session.{due_message}
-use Rattle.ptpm_network.specs.Events.{Begin, Deliver, Event, Forged, FramesAtMaximum, IsInRange, Refusal, Resume, Retune, Send, Stranger, forged, frame_at, frames_limit, is_forged, no_frame, no_port, no_room, no_session, refusal, send_refused}
-use Rattle.ptpm_network.specs.Invariant.{IsFrame, IsReached}
-use Rattle.ptpm_network.specs.Machine.{answer_messages, answer_origin, answering_frames, arrives, delivered, delivered_at, delivery, forwarded_frames, happens, is_read, made_frames, read_messages, reply_frames, run, sent_frames, step, step_by, strange_frame}
-use Rattle.ptpm_network.specs.Network.{AtPort, AtSession, End, HasEnd, IsLink, IsNetwork, Network, peers, ports, same_end}
-use Rattle.ptpm_network.specs.State.{Frame, NetworkState, Origin, initial_state, frames_to, history, session_value}
 use Rattle.ptpm_network.proofs.Answering.{keeps_due}
 use Rattle.ptpm_network.proofs.Arriving.{IsCopyOf, arrives-reached, is_copy_of}
 use Rattle.ptpm_network.proofs.Frames.{IsHeard, heard-frame}

@@ -1,25 +1,6 @@
 -- What is due to a copy of a request, and what its delivery makes.
-use Rattle.std.proofs.Common.{arith, ◌≡◌, ℕ, ◌<◌, ◌≤◌, List, [], ◌++◌, Option, Some, None, true, false, refl, sym, ◌∙◌, ap, subst}
-use Rattle.std.proofs.lemmas.Bool.{and_from, and_right, cond-true, cond-false, eq-eqb, le-ltb, ne_eqb}
-use Rattle.std.proofs.lemmas.Option.{same_Some}
-use Rattle.std.proofs.lemmas.Slice.Eq.{bytes_eq-Decides}
-use Rattle.std.specs.List.{AllByRecursion}
-use Rattle.ptpm_codec.specs.declared.identity.PortIdentity.{PortIdentity}
-use Rattle.ptpm_codec.specs.Message.{action_code}
-use Rattle.ptpm_data.specs.Request.{RequestValue}
-use Rattle.ptpm_table.specs.Numbering.{same_request}
-use Rattle.ptpm_agent.specs.Forwarding.{forwarded}
-use Rattle.ptpm_agent.specs.Laws.{due_messages}
-use Rattle.ptpm_agent.specs.Once.{Accepted, History, RequestCopy, copy_of, due_reply, greatest, joins, kept_for, kept_reply}
-use Rattle.ptpm_agent.specs.Turn.{Clock}
-use Rattle.ptpm_agent.proofs.AtMostOnce.{delivers_copy}
-use Rattle.ptpm_agent.proofs.Turns.{copy_parts, forwarded-copy}
+use Rattle.ptpm_network.proofs.Common.{arith, ◌≡◌, ℕ, ◌<◌, ◌≤◌, List, [], ◌++◌, Option, Some, None, true, false, refl, sym, ◌∙◌, ap, subst, and_from, and_right, cond-true, cond-false, eq-eqb, le-ltb, ne_eqb, same_Some, bytes_eq-Decides, AllByRecursion, PortIdentity, action_code, RequestValue, same_request, forwarded, due_messages, Accepted, History, RequestCopy, copy_of, due_reply, greatest, joins, kept_for, kept_reply, Clock, delivers_copy, copy_parts, forwarded-copy, Deliver, Event, IsInRange, IsReached, answering_frames, delivered, delivered_at, delivery, forwarded_frames, happens, made_frames, reply_frames, reply_origin, run, End, HasEnd, IsNetwork, Network, manager, ports, Frame, NetworkState, accepted_at_target, initial_state, history}
 use Rattle.ptpm_network.specs.Copies.{IsCopyAt}
-use Rattle.ptpm_network.specs.Events.{Deliver, Event, IsInRange}
-use Rattle.ptpm_network.specs.Invariant.{IsReached}
-use Rattle.ptpm_network.specs.Machine.{answering_frames, delivered, delivered_at, delivery, forwarded_frames, happens, made_frames, reply_frames, reply_origin, run}
-use Rattle.ptpm_network.specs.Network.{End, HasEnd, IsNetwork, Network, manager, ports}
-use Rattle.ptpm_network.specs.State.{Frame, NetworkState, accepted_at_target, initial_state, history}
 use Rattle.ptpm_network.proofs.Arriving.{IsCopyOf, is_copy_of}
 use Rattle.ptpm_network.proofs.Frames.{heard-frame}
 use Rattle.ptpm_network.proofs.Reaching.{frame_at-is}

@@ -1,46 +1,5 @@
 -- What one copy of a session's last request brings about at its target, and one of the reply at the session.
-use Rattle.std.proofs.Common.{arith, ◌≡◌, ℕ, ◌<◌, ◌≤◌, ◌+◌, ◌-◌, ◌^◌, ◌==◌, List, [], ◌∷◌, ◌++◌, Option, Some, None, true, false, refl, sym, ◌∙◌, ap, subst, ⊎_elim, length, length-append}
-use Rattle.std.proofs.lemmas.Bool.{and_from, and_left, and_right, cases_Bool, cases_eq, cond-false, cond-true, eq-eqb, eqb-false, false_from_ne_true, le-leb, le-ltb, lt-ltb, or_left, or_right}
-use Rattle.std.proofs.lemmas.List.{append-nil}
-use Rattle.std.proofs.lemmas.Option.{same_Some}
-use Rattle.std.proofs.lemmas.Slice.Eq.{bytes_eq-Decides}
-use Rattle.std.specs.Prelude.{nat_le, nat_lt, not}
-use Rattle.std.specs.List.{AllByRecursion}
-use Rattle.std.specs.Option.{option_or}
-use Rattle.ptpm_codec.specs.declared.identity.ClockIdentity.{ClockIdentity}
-use Rattle.ptpm_codec.specs.declared.identity.PortIdentity.{PortIdentity}
-use Rattle.ptpm_codec.specs.declared.message.Message.{Message}
-use Rattle.ptpm_codec.specs.Canonical.{canonical}
-use Rattle.ptpm_codec.specs.Identity.{every_port, same_clock}
-use Rattle.ptpm_codec.specs.Layout.{boundary_hops, domain_number, message_length}
-use Rattle.ptpm_codec.specs.Message.{Fits, IsValid}
-use Rattle.ptpm_codec.specs.Ordered.{first_of}
-use Rattle.ptpm_codec.specs.Reading.{message_of}
-use Rattle.ptpm_codec.proofs.CanonicalLaws.{canonical_spells}
-use Rattle.ptpm_codec.proofs.IdentityLaws.{same_clock-refl, same_clock-true}
-use Rattle.ptpm_codec.proofs.PlaceLaws.{octet-take}
-use Rattle.ptpm_codec.proofs.ReadingLaws.{message_of-some, message_of-spells, message_size}
-use Rattle.ptpm_data.specs.ManagementId.{is_of_port}
-use Rattle.ptpm_data.specs.Members.{DataSetsValue}
-use Rattle.ptpm_data.specs.Replies.{reply_to}
-use Rattle.ptpm_data.specs.Reply.{Answer, ReplyValue}
-use Rattle.ptpm_data.specs.Request.{RequestValue}
-use Rattle.ptpm_table.specs.Entries.{is_known}
-use Rattle.ptpm_table.specs.Numbering.{same_request}
-use Rattle.ptpm_table.specs.Rendering.{hops_passed, reply_message}
-use Rattle.ptpm_agent.specs.Forwarding.{forwarded, forwarded_by}
-use Rattle.ptpm_agent.specs.Laws.{due_messages}
-use Rattle.ptpm_agent.specs.Once.{Accepted, History, RequestCopy, after_copy, copy_by, copy_from, copy_of, due_reply, greatest, is_copy, kept_for, kept_reply}
-use Rattle.ptpm_agent.specs.Addressing.{is_for_this_clock, is_own, is_request, names_port}
-use Rattle.ptpm_agent.specs.Turn.{Clock}
-use Rattle.ptpm_manager.specs.declared.report.Report.{Report}
-use Rattle.ptpm_manager.specs.Report.{outcome_in}
-use Rattle.ptpm_network.specs.Events.{Deliver, Event, FramesAtMaximum, IsInRange, frame_at, frames_limit, no_frame, no_room, refusal}
-use Rattle.ptpm_network.specs.Exchange.{HasReplied, HasReported, HasRoom, IsHeardBy}
-use Rattle.ptpm_network.specs.Invariant.{IsAsked, IsFrame, IsOfOrigin, IsReached}
-use Rattle.ptpm_network.specs.Machine.{answering_frames, arrives, delivered, delivered_at, delivered_at_clock, delivery, forwarded_frames, happens, index_of, is_answer, made_frames, reply_frames, reply_origin, report_from, reported, run, step, step_by, told_by}
-use Rattle.ptpm_network.specs.Network.{AtPort, AtSession, End, HasEnd, IsNetwork, Network, manager, peers, ports}
-use Rattle.ptpm_network.specs.State.{Frame, NetworkState, Origin, RequestOf, ReplyTo, SessionState, accepted_at_target, initial_state, greatest_accepted, history, is_idle, is_late, issued, new_frames}
+use Rattle.ptpm_network.proofs.Common.{arith, ◌≡◌, ℕ, ◌<◌, ◌≤◌, ◌+◌, ◌-◌, ◌^◌, ◌==◌, List, [], ◌∷◌, ◌++◌, Option, Some, None, true, false, refl, sym, ◌∙◌, ap, subst, ⊎_elim, length, length-append, and_from, and_left, and_right, cases_Bool, cases_eq, cond-false, cond-true, eq-eqb, eqb-false, false_from_ne_true, le-leb, le-ltb, lt-ltb, or_left, or_right, append-nil, same_Some, bytes_eq-Decides, nat_le, nat_lt, not, AllByRecursion, option_or, ClockIdentity, PortIdentity, Message, canonical, every_port, same_clock, boundary_hops, domain_number, message_length, Fits, IsValid, first_of, message_of, canonical_spells, same_clock-refl, same_clock-true, octet-take, message_of-some, message_of-spells, message_size, is_of_port, DataSetsValue, reply_to, Answer, ReplyValue, RequestValue, is_known, same_request, hops_passed, reply_message, forwarded, forwarded_by, due_messages, Accepted, History, RequestCopy, after_copy, copy_by, copy_from, copy_of, due_reply, greatest, is_copy, kept_for, kept_reply, is_for_this_clock, is_own, is_request, names_port, Clock, Report, outcome_in, Deliver, Event, FramesAtMaximum, IsInRange, frame_at, frames_limit, no_frame, no_room, refusal, HasReplied, HasReported, HasRoom, IsHeardBy, IsAsked, IsFrame, IsOfOrigin, IsReached, answering_frames, arrives, delivered, delivered_at, delivered_at_clock, delivery, forwarded_frames, happens, index_of, is_answer, made_frames, reply_frames, reply_origin, report_from, reported, run, step, step_by, told_by, AtPort, AtSession, End, HasEnd, IsNetwork, Network, manager, peers, ports, Frame, NetworkState, Origin, RequestOf, ReplyTo, SessionState, accepted_at_target, initial_state, greatest_accepted, history, is_idle, is_late, issued, new_frames}
 use Rattle.ptpm_network.proofs.Answering.{is_due, rendered-one, small}
 use Rattle.ptpm_network.proofs.Arriving.{after_arrival, arrives-reached, history-here}
 use Rattle.ptpm_network.proofs.Frames.{SaysRequest, heard-frame, says_kept, says_reply, says_request, sendable-one}

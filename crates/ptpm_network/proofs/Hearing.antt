@@ -1,21 +1,7 @@
 -- A running network after what a session did, or was told.
-use Rattle.std.proofs.Common.{arith, ◌≡◌, ℕ, ◌<◌, ◌≤◌, ◌+◌, ◌-◌, List, [], ◌∷◌, ◌++◌, Option, Some, None, false, refl, sym, ◌∙◌, ap, subst, length, length-append}
-use Rattle.std.proofs.lemmas.Bool.{cond-true, cond-false, eq-eqb, ne_eqb}
-use Rattle.std.proofs.lemmas.List.{map-append}
-use Rattle.std.specs.Prelude.{map, slice_get}
-use Rattle.ptpm_codec.specs.declared.identity.PortIdentity.{PortIdentity}
-use Rattle.ptpm_data.specs.Request.{RequestValue}
+use Rattle.ptpm_network.proofs.Common.{arith, ◌≡◌, ℕ, ◌<◌, ◌≤◌, ◌+◌, ◌-◌, List, [], ◌∷◌, ◌++◌, Option, Some, None, false, refl, sym, ◌∙◌, ap, subst, length, length-append, cond-true, cond-false, eq-eqb, ne_eqb, map-append, map, slice_get, PortIdentity, RequestValue, Report, received_of, SessionValue, answered, begun, due_message, sent, Held, RunningNetwork, hears, held, sends_in, sent_posted, with_session_value, IsOfOrigin, IsReached, begun_in, report_from, reported, sends, sent_frames, with_session, AtSession, IsNetwork, Network, SessionStart, peers, Stands, Frame, NetworkState, SessionState, is_late, session_value, unanswered}
 use Rattle.ptpm_manager.specs.declared.receiving.Received.{Received}
 use Rattle.ptpm_manager.specs.declared.receiving.Received.TheVariants as received
-use Rattle.ptpm_manager.specs.declared.report.Report.{Report}
-use Rattle.ptpm_manager.specs.Receiving.{received_of}
-use Rattle.ptpm_manager.specs.Session.{SessionValue, answered, begun, due_message, sent}
-use Rattle.ptpm_network.specs.RunningNetwork.{Held, RunningNetwork, hears, held, sends_in, sent_posted, with_session_value}
-use Rattle.ptpm_network.specs.Invariant.{IsOfOrigin, IsReached}
-use Rattle.ptpm_network.specs.Machine.{begun_in, report_from, reported, sends, sent_frames, with_session}
-use Rattle.ptpm_network.specs.Network.{AtSession, IsNetwork, Network, SessionStart, peers}
-use Rattle.ptpm_network.specs.Stands.{Stands}
-use Rattle.ptpm_network.specs.State.{Frame, NetworkState, SessionState, is_late, session_value, unanswered}
 use Rattle.ptpm_network.proofs.Frames.{le_le}
 use Rattle.ptpm_network.proofs.Held.{held-sent_frames}
 use Rattle.ptpm_network.proofs.Lists.{at_place, at_places, get_last}

@@ -1,19 +1,5 @@
 -- Frames as a running network holds them, without their first hops and forwardings.
-use Rattle.std.proofs.Common.{◌≡◌, ℕ, ◌+◌, ◌-◌, ◌==◌, List, [], ◌∷◌, ◌++◌, Option, Some, None, true, false, refl, sym, ◌∙◌, ap, ⊎_elim, length}
-use Rattle.std.proofs.lemmas.Bool.{cases_Bool, cond-true, cond-false}
-use Rattle.std.proofs.lemmas.List.{map-append}
-use Rattle.std.proofs.lemmas.Option.{slice_get-map}
-use Rattle.std.specs.Prelude.{flat_map, map, option_map, slice_get}
-use Rattle.ptpm_codec.specs.declared.message.Message.{Message}
-use Rattle.ptpm_codec.specs.Canonical.{canonical}
-use Rattle.ptpm_codec.specs.Layout.{boundary_hops}
-use Rattle.ptpm_agent.specs.Once.{copy_of}
-use Rattle.ptpm_agent.specs.Turn.{turn}
-use Rattle.ptpm_network.specs.Events.{frame_at}
-use Rattle.ptpm_network.specs.RunningNetwork.{Held, RunningNetwork, after_turn, held, posted, seen, sent_posted, turn_frames}
-use Rattle.ptpm_network.specs.Machine.{answer_origin, delivery, forwarded_frames, reply_frames, sent_frames, with_place}
-use Rattle.ptpm_network.specs.Network.{AtPort, End, Network, peers}
-use Rattle.ptpm_network.specs.State.{Frame, Origin, RequestOf, frames_to}
+use Rattle.ptpm_network.proofs.Common.{◌≡◌, ℕ, ◌+◌, ◌-◌, ◌==◌, List, [], ◌∷◌, ◌++◌, Option, Some, None, true, false, refl, sym, ◌∙◌, ap, ⊎_elim, length, cases_Bool, cond-true, cond-false, map-append, slice_get-map, flat_map, map, option_map, slice_get, Message, canonical, boundary_hops, copy_of, turn, frame_at, Held, RunningNetwork, after_turn, held, posted, seen, sent_posted, turn_frames, answer_origin, delivery, forwarded_frames, reply_frames, sent_frames, with_place, AtPort, End, Network, peers, Frame, Origin, RequestOf, frames_to}
 
 -- a frame by its number
 pub frame_at-map : (fs : List Frame) (n : ℕ)

@@ -1,23 +1,5 @@
 -- A copy that is not late lies in the window of its manager.
-use Rattle.std.proofs.Common.{arith, ◌≡◌, ℕ, ◌<◌, ◌≤◌, ◌+◌, ◌==◌, List, [], ◌∷◌, ◌++◌, Option, Some, None, true, false, refl, sym, ◌∙◌, ap, subst, ⊎_elim, length}
-use Rattle.std.proofs.lemmas.Bool.{cases_Bool, eqb-true, ltb-false}
-use Rattle.std.proofs.lemmas.List.{append-nil}
-use Rattle.std.specs.List.{AllByRecursion, cons_option}
-use Rattle.ptpm_codec.proofs.OrderedLaws.{first_of-none, option_or-none}
-use Rattle.ptpm_codec.specs.declared.identity.PortIdentity.{PortIdentity}
-use Rattle.ptpm_table.specs.Serial.{InWindow}
-use Rattle.ptpm_agent.specs.Laws.{initial_clock_state, turns}
-use Rattle.ptpm_agent.specs.Once.{Delivery, History, RequestCopy, after_copy, applied_once, initial_history, copy_of, greatest}
-use Rattle.ptpm_agent.specs.Turn.{Clock}
-use Rattle.ptpm_codec.specs.SequenceNumber.{number_of}
-use Rattle.ptpm_agent.specs.Window.{AreNumbered, IsInTime, IsInWindow, IsNumbered, KeepsWindow}
-use Rattle.ptpm_agent.proofs.AtMostOnce.{sets_once}
-use Rattle.ptpm_network.specs.Events.{Event, Begin, Deliver, IsInRange, Refusal, Resume, Retune, Send, Stranger, frame_at, refusal, no_port, forged, no_room, is_forged, Forged}
-use Rattle.ptpm_network.specs.Invariant.{IsFrame, IsReached}
-use Rattle.ptpm_network.specs.Machine.{AreInTime, arrives, delivered, delivered_at, delivery, happens, is_late_delivery, is_late_frame, run, step, step_by, strange_frame}
-use Rattle.ptpm_network.specs.Network.{AtPort, AtSession, End, HasEnd, IsNetwork, Network, manager, ports}
-use Rattle.ptpm_network.specs.Stands.{AreFirsts}
-use Rattle.ptpm_network.specs.State.{Frame, NetworkState, Origin, RequestOf, copies_at, initial_state, greatest_accepted, history, is_late}
+use Rattle.ptpm_network.proofs.Common.{arith, ◌≡◌, ℕ, ◌<◌, ◌≤◌, ◌+◌, ◌==◌, List, [], ◌∷◌, ◌++◌, Option, Some, None, true, false, refl, sym, ◌∙◌, ap, subst, ⊎_elim, length, cases_Bool, eqb-true, ltb-false, append-nil, AllByRecursion, cons_option, first_of-none, option_or-none, PortIdentity, InWindow, initial_clock_state, turns, Delivery, History, RequestCopy, after_copy, applied_once, initial_history, copy_of, greatest, Clock, number_of, AreNumbered, IsInTime, IsInWindow, IsNumbered, KeepsWindow, sets_once, Event, Begin, Deliver, IsInRange, Refusal, Resume, Retune, Send, Stranger, frame_at, refusal, no_port, forged, no_room, is_forged, Forged, IsFrame, IsReached, AreInTime, arrives, delivered, delivered_at, delivery, happens, is_late_delivery, is_late_frame, run, step, step_by, strange_frame, AtPort, AtSession, End, HasEnd, IsNetwork, Network, manager, ports, AreFirsts, Frame, NetworkState, Origin, RequestOf, copies_at, initial_state, greatest_accepted, history, is_late}
 use Rattle.ptpm_network.proofs.Arriving.{IsCopyOf, copies-elsewhere, copies-here, is_copy_of}
 use Rattle.ptpm_network.proofs.Frames.{IsHeard, heard-frame}
 use Rattle.ptpm_network.proofs.Schedule.{reached}

@@ -1,3 +1,4 @@
+pub mod Common
 pub mod Schedules
 pub mod Lists
 pub mod Requests

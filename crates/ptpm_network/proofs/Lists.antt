@@ -1,9 +1,5 @@
 -- What holds of each element of a list, and functions of places that change at one.
-use Rattle.std.proofs.Common.{suc, zero, ◌≡◌, ℕ, ◌*◌, ◌<◌, ◌≤◌, ◌==◌, ◌||◌, not, List, [], ◌∷◌, ◌++◌, Some, Bool, true, false, refl, sym, ◌∙◌, ap, subst, ⊎_elim, length, length-append, arith}
-use Rattle.std.proofs.lemmas.Bool.{cases_Bool, cond-true, cond-false, eqb-true, true≢false}
-use Rattle.std.specs.Prelude.{slice_get, flat_map, map}
-use Rattle.std.specs.List.{AllByRecursion, filter, list_any}
-use Rattle.ptpm_network.specs.Machine.{with_place}
+use Rattle.ptpm_network.proofs.Common.{suc, zero, ◌≡◌, ℕ, ◌*◌, ◌<◌, ◌≤◌, ◌==◌, ◌||◌, not, List, [], ◌∷◌, ◌++◌, Some, Bool, true, false, refl, sym, ◌∙◌, ap, subst, ⊎_elim, length, length-append, arith, cases_Bool, cond-true, cond-false, eqb-true, true≢false, slice_get, flat_map, map, AllByRecursion, filter, list_any, with_place}
 
 pub all_weaker : {X : Type 0} (P Q : X → Type 0)
     → ((x : X) → P x → Q x)

@@ -1,37 +1,8 @@
 -- What requests and replies say as octets, and what stays of them as they are passed on.
-use Rattle.std.proofs.Common.{arith, ◌≡◌, ℕ, ◌<◌, ◌-◌, ◌^◌, ◌==◌, ◌&&◌, nat_lt, not, List, [], ◌∷◌, Option, Some, None, Bool, true, false, refl, sym, ◌∙◌, ap, subst, ⊎_elim, length, take}
-use Rattle.std.proofs.lemmas.Bool.{cases_Bool, and_parts, cond-true, cond-false, ltb-true}
-use Rattle.std.proofs.lemmas.List.{append-nil, get_or-set_other, get_or-set_same, length-set, take_all}
-use Rattle.std.specs.Prelude.{map, slice_set, unwrap_or}
-use Rattle.std.specs.List.{AllByRecursion}
-use Rattle.ptpm_codec.specs.declared.error.ErrorId.{ErrorId}
+use Rattle.ptpm_network.proofs.Common.{arith, ◌≡◌, ℕ, ◌<◌, ◌-◌, ◌^◌, ◌==◌, ◌&&◌, nat_lt, not, List, [], ◌∷◌, Option, Some, None, Bool, true, false, refl, sym, ◌∙◌, ap, subst, ⊎_elim, length, take, cases_Bool, and_parts, cond-true, cond-false, ltb-true, append-nil, get_or-set_other, get_or-set_same, length-set, take_all, map, slice_set, unwrap_or, AllByRecursion, ErrorId, ClockIdentity, Action, Message, canonical, same_clock, boundary_hops, message_length, message_octets, BodyFits, Fits, IsReplyAction, IsValid, IsValidBody, error_number, is_reply, message_of, Spells, canonical_octets, canonical_spells, number_at-octets, octet-take, message_of-some, message_of-spells, message_size, spells-message_of, DataSetsValue, may_forward, Answer, Outcome, ReplyValue, RequestValue, Heard, reply_action-is_reply, answer_body, reply_message, egress_ports, forwarded, forwarded_by, is_forwarded, with_less_hop, request_message, Answers, IsPort, IsSendable, IsSendableOutcome, IsAsked, IsMessage, IsNetwork, Network, ports}
 use Rattle.ptpm_codec.specs.declared.error.ErrorId.TheVariants as errors
-use Rattle.ptpm_codec.specs.declared.identity.ClockIdentity.{ClockIdentity}
-use Rattle.ptpm_codec.specs.declared.message.Action.{Action}
-use Rattle.ptpm_codec.specs.declared.message.Action.TheVariants as actions
-use Rattle.ptpm_codec.specs.declared.message.Message.{Message}
-use Rattle.ptpm_codec.specs.Canonical.{canonical}
-use Rattle.ptpm_codec.specs.Identity.{same_clock}
-use Rattle.ptpm_codec.specs.Layout.{boundary_hops, message_length, message_octets}
-use Rattle.ptpm_codec.specs.Message.{BodyFits, Fits, IsReplyAction, IsValid, IsValidBody, error_number, is_reply}
-use Rattle.ptpm_codec.specs.Reading.{message_of}
-use Rattle.ptpm_codec.specs.Spelling.{Spells}
-use Rattle.ptpm_codec.proofs.CanonicalLaws.{canonical_octets, canonical_spells}
-use Rattle.ptpm_codec.proofs.PlaceLaws.{number_at-octets, octet-take}
-use Rattle.ptpm_codec.proofs.ReadingLaws.{message_of-some, message_of-spells, message_size, spells-message_of}
 use Rattle.ptpm_codec.proofs.RewritingLaws.{less_hop_message, set_hops}
-use Rattle.ptpm_data.specs.Members.{DataSetsValue, may_forward}
 use Rattle.ptpm_data.specs.Reply as reply
-use Rattle.ptpm_data.specs.Reply.{Answer, Outcome, ReplyValue}
-use Rattle.ptpm_data.specs.Request.{RequestValue}
-use Rattle.ptpm_table.specs.declared.heard.Heard.{Heard}
-use Rattle.ptpm_codec.proofs.MessageLaws.{reply_action-is_reply}
-use Rattle.ptpm_table.specs.Rendering.{answer_body, reply_message}
-use Rattle.ptpm_agent.specs.Forwarding.{egress_ports, forwarded, forwarded_by, is_forwarded, with_less_hop}
-use Rattle.ptpm_manager.specs.Setup.{request_message}
-use Rattle.ptpm_network.specs.DataSets.{Answers, IsPort, IsSendable, IsSendableOutcome}
-use Rattle.ptpm_network.specs.Invariant.{IsAsked, IsMessage}
-use Rattle.ptpm_network.specs.Network.{IsNetwork, Network, ports}
 
 -- ---- canonical spellings
 

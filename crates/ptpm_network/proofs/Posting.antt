@@ -1,18 +1,6 @@
 -- The frames of a turn, message by message of the outbox.
-use Rattle.std.proofs.Common.{◌≡◌, ℕ, ◌==◌, ◌⊎◌, inl, inr, List, [], ◌∷◌, ◌++◌, refl, sym, ◌∙◌, ap, ⊎_elim, length}
-use Rattle.std.proofs.lemmas.Bool.{cond-true, cond-false}
+use Rattle.ptpm_network.proofs.Common.{◌≡◌, ℕ, ◌==◌, ◌⊎◌, inl, inr, List, [], ◌∷◌, ◌++◌, refl, sym, ◌∙◌, ap, ⊎_elim, length, cond-true, cond-false, map-append, flat_map, map, AllByRecursion, boundary_hops, copy_of, State, Turned, outbox_of, turn, held, posted, turn_frames, answer_origin, delivery, forwarded_frames, reply_frames, AtPort, End, Network, peers, origin_by, posted_by, Frame, Origin, frames_to}
 use Rattle.std.proofs.lemmas.Grind.{flat_map-append}
-use Rattle.std.proofs.lemmas.List.{map-append}
-use Rattle.std.specs.Prelude.{flat_map, map}
-use Rattle.std.specs.List.{AllByRecursion}
-use Rattle.ptpm_codec.specs.Layout.{boundary_hops}
-use Rattle.ptpm_agent.specs.Once.{copy_of}
-use Rattle.ptpm_agent.specs.Turn.{State, Turned, outbox_of, turn}
-use Rattle.ptpm_network.specs.RunningNetwork.{held, posted, turn_frames}
-use Rattle.ptpm_network.specs.Machine.{answer_origin, delivery, forwarded_frames, reply_frames}
-use Rattle.ptpm_network.specs.Network.{AtPort, End, Network, peers}
-use Rattle.ptpm_network.specs.Replying.{origin_by, posted_by}
-use Rattle.ptpm_network.specs.State.{Frame, Origin, frames_to}
 use Rattle.ptpm_network.proofs.Held.{held-forwarded, held-frames_to}
 use Rattle.ptpm_network.proofs.TurnSends.{IsAt, IsAway, forwards-away, replies-at, reply-origin}
 

@@ -1,22 +1,5 @@
 -- The promise of a network, and the states of a running network in which it holds.
-use Rattle.std.proofs.Common.{suc, zero, arith, ◌≡◌, ℕ, ◌<◌, ◌≤◌, List, [], ◌∷◌, ◌++◌, Option, Some, None, true, false, sym, ◌∙◌, ap, subst, ⊎_elim, length, append_assoc}
-use Rattle.std.proofs.lemmas.Bool.{cases_Bool, cases_eq, cond-true, cond-false, true≢false}
-use Rattle.std.proofs.lemmas.List.{append-nil}
-use Rattle.std.specs.Prelude.{if◌then◌else◌}
-use Rattle.std.specs.List.{AllByRecursion}
-use Rattle.ptpm_codec.specs.declared.identity.PortIdentity.{PortIdentity}
-use Rattle.ptpm_codec.specs.Identity.{same_identity}
-use Rattle.ptpm_table.proofs.Identities.{same_identity-refl, same_identity-true}
-use Rattle.ptpm_agent.specs.Once.{Accepted, kept_reply}
-use Rattle.ptpm_manager.specs.declared.report.Report.{Report}
-use Rattle.ptpm_network.specs.Events.{Event, IsInRange, Refusal, refusal}
-use Rattle.ptpm_network.specs.RunningNetwork.{RunningNetwork, initial_network, network_refusal, network_run, network_step}
-use Rattle.ptpm_network.specs.Headline.{Headline, IsPromised, StandsAfter}
-use Rattle.ptpm_network.specs.Invariant.{IsReached}
-use Rattle.ptpm_network.specs.Machine.{AreInTime, happens, is_late_delivery, run, step_by, taken}
-use Rattle.ptpm_network.specs.Network.{IsNetwork, Network, manager}
-use Rattle.ptpm_network.specs.Stands.{AreFirsts, Stands}
-use Rattle.ptpm_network.specs.State.{NetworkState, accepted_at_target, initial_state, greatest_accepted, outcomes_kept, reports_of}
+use Rattle.ptpm_network.proofs.Common.{suc, zero, arith, ◌≡◌, ℕ, ◌<◌, ◌≤◌, List, [], ◌∷◌, ◌++◌, Option, Some, None, true, false, sym, ◌∙◌, ap, subst, ⊎_elim, length, append_assoc, cases_Bool, cases_eq, cond-true, cond-false, true≢false, append-nil, if◌then◌else◌, AllByRecursion, PortIdentity, same_identity, same_identity-refl, same_identity-true, Accepted, kept_reply, Report, Event, IsInRange, Refusal, refusal, RunningNetwork, initial_network, network_refusal, network_run, network_step, Headline, IsPromised, StandsAfter, IsReached, AreInTime, happens, is_late_delivery, run, step_by, taken, IsNetwork, Network, manager, AreFirsts, Stands, NetworkState, accepted_at_target, initial_state, greatest_accepted, outcomes_kept, reports_of}
 use Rattle.ptpm_network.proofs.Lists.{all_append}
 use Rattle.ptpm_network.proofs.Running.{network_step-running, network_run-running, network_refusal-running}
 use Rattle.ptpm_network.proofs.Schedule.{reached}

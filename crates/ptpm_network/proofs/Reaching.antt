@@ -1,26 +1,6 @@
 -- Every event keeps the invariant, and so it holds after every schedule.
-use Rattle.std.proofs.Common.{arith, ◌≡◌, ℕ, ◌<◌, ◌≤◌, ◌-◌, ◌^◌, ◌==◌, ◌&&◌, nat_lt, not, List, [], ◌∷◌, Option, Some, None, true, false, refl, sym, ◌∙◌, ap, subst, ⊎_elim, length}
-use Rattle.std.proofs.lemmas.Bool.{cases_Bool, and_parts, cond-true, cond-false, eqb-true, eqb-false, leb-true, ltb-true, not-false, not-true}
-use Rattle.std.proofs.lemmas.Option.{same_Some}
-use Rattle.std.specs.Prelude.{nat_le}
-use Rattle.std.specs.List.{AllByRecursion}
-use Rattle.ptpm_codec.proofs.OrderedLaws.{first_of-none, option_or-none}
-use Rattle.ptpm_codec.specs.declared.message.Message.{Message}
-use Rattle.ptpm_codec.specs.Reading.{message_of}
-use Rattle.ptpm_data.specs.Members.{has_port}
-use Rattle.ptpm_data.specs.Reply.{Answer}
-use Rattle.ptpm_agent.specs.Once.{Accepted, kept_reply}
-use Rattle.ptpm_manager.specs.declared.ask.Ask.{Ask}
-use Rattle.ptpm_manager.specs.declared.report.Report.{Report}
+use Rattle.ptpm_network.proofs.Common.{arith, ◌≡◌, ℕ, ◌<◌, ◌≤◌, ◌-◌, ◌^◌, ◌==◌, ◌&&◌, nat_lt, not, List, [], ◌∷◌, Option, Some, None, true, false, refl, sym, ◌∙◌, ap, subst, ⊎_elim, length, cases_Bool, and_parts, cond-true, cond-false, eqb-true, eqb-false, leb-true, ltb-true, not-false, not-true, same_Some, nat_le, AllByRecursion, first_of-none, option_or-none, Message, message_of, has_port, Answer, Accepted, kept_reply, Ask, Report, ask_refusal, outcome_in, begin_refusal, BeginRefused, Begin, Deliver, Event, Forged, IsInRange, NoSuchName, Refusal, Resume, Retune, Send, Stranger, begin_refused, forged, frame_at, is_forged, no_port, no_room, no_session, refusal, IsAsked, IsFrame, IsOfOrigin, IsReached, delivered, delivered_at, happens, is_answer, report_from, reported, run, step, step_by, strange_frame, told_by, with_session, AtPort, AtSession, End, HasEnd, IsNetwork, Network, manager, ports, Frame, NetworkState, Origin, RequestOf, ReplyTo, Neither, SessionState, accepted_at_target, initial_state, is_idle, issued, session_value}
 use Rattle.ptpm_manager.specs.Ask as ask
-use Rattle.ptpm_manager.specs.Ask.{ask_refusal}
-use Rattle.ptpm_manager.specs.Report.{outcome_in}
-use Rattle.ptpm_manager.specs.Session.{begin_refusal}
-use Rattle.ptpm_network.specs.Events.{BeginRefused, Begin, Deliver, Event, Forged, IsInRange, NoSuchName, Refusal, Resume, Retune, Send, Stranger, begin_refused, forged, frame_at, is_forged, no_port, no_room, no_session, refusal}
-use Rattle.ptpm_network.specs.Invariant.{IsAsked, IsFrame, IsOfOrigin, IsReached}
-use Rattle.ptpm_network.specs.Machine.{delivered, delivered_at, happens, is_answer, report_from, reported, run, step, step_by, strange_frame, told_by, with_session}
-use Rattle.ptpm_network.specs.Network.{AtPort, AtSession, End, HasEnd, IsNetwork, Network, manager, ports}
-use Rattle.ptpm_network.specs.State.{Frame, NetworkState, Origin, RequestOf, ReplyTo, Neither, SessionState, accepted_at_target, initial_state, is_idle, issued, session_value}
 use Rattle.ptpm_network.proofs.Accepting.{in_step-begun, in_step-reported, report_of}
 use Rattle.ptpm_network.proofs.Frames.{heard-frame, le_le, says_reply}
 use Rattle.ptpm_network.proofs.Lists.{all_get, get_append}

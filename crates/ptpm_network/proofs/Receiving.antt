@@ -1,43 +1,12 @@
 -- A session tells the answer to its request by octets as the machine tells it by origins.
-use Rattle.std.proofs.Common.{arith, ◌≡◌, ℕ, ◌<◌, ◌≤◌, ◌+◌, ◌==◌, ◌&&◌, not, List, [], ◌∷◌, Option, Some, None, Result, Ok, Err, Bool, true, false, refl, sym, ◌∙◌, ap, subst, ⊎_elim, length}
-use Rattle.std.proofs.lemmas.Bool.{cases_Bool, and_from, and_parts, cond-true, cond-false, eq-eqb, eqb-true, ltb-false, not-false, not-true, or_left, or_right, true≢false, false≢true}
-use Rattle.std.proofs.lemmas.Option.{same_Some}
-use Rattle.std.specs.Prelude.{is_some, unwrap_or}
-use Rattle.std.specs.List.{AllByRecursion}
-use Rattle.ptpm_codec.proofs.OrderedLaws.{first_of-none}
-use Rattle.ptpm_codec.specs.declared.error.DecodeError.{DecodeError}
-use Rattle.ptpm_codec.specs.declared.identity.PortIdentity.{PortIdentity}
-use Rattle.ptpm_codec.specs.declared.message.Action.{Action}
+use Rattle.ptpm_network.proofs.Common.{arith, ◌≡◌, ℕ, ◌<◌, ◌≤◌, ◌+◌, ◌==◌, ◌&&◌, not, List, [], ◌∷◌, Option, Some, None, Result, Ok, Err, Bool, true, false, refl, sym, ◌∙◌, ap, subst, ⊎_elim, length, cases_Bool, and_from, and_parts, cond-true, cond-false, eq-eqb, eqb-true, ltb-false, not-false, not-true, or_left, or_right, true≢false, false≢true, same_Some, is_some, unwrap_or, AllByRecursion, first_of-none, DecodeError, PortIdentity, Action, Message, every_port, same_clock, same_identity, action_of, id_of, is_reply, message_of, reading, is_of_port, Answer, Outcome, reply_action, answer_body, same_identity-refl, same_identity-true, same_clock-refl, same_clock-true, message_of-reading, reading-message_of, Report, first_of, answer_by, answer_to, is_answered_by, is_content, is_from_asked_port, is_from_target, is_in_domain, reason_of, received_of, outcome_in, SessionValue, is_waiting, number_of, Event, IsInRange, frame_at, IsOfOrigin, IsReached, is_answer, report_from, run, told_by, AtSession, HasEnd, IsNetwork, Network, SessionStart, manager, Frame, NetworkState, Origin, RequestOf, ReplyTo, Neither, SessionState, initial_state, is_idle, is_late, issued, session_value, unanswered, reply_action-is_reply}
 use Rattle.ptpm_codec.specs.declared.message.Action.TheVariants as actions
-use Rattle.ptpm_codec.specs.declared.message.Message.{Message}
-use Rattle.ptpm_codec.specs.Identity.{every_port, same_clock, same_identity}
-use Rattle.ptpm_codec.specs.Message.{action_of, id_of, is_reply}
-use Rattle.ptpm_codec.specs.Reading.{message_of, reading}
-use Rattle.ptpm_data.specs.ManagementId.{is_of_port}
 use Rattle.ptpm_data.specs.Reply as reply
-use Rattle.ptpm_data.specs.Reply.{Answer, Outcome}
-use Rattle.ptpm_codec.specs.Message.{reply_action}
-use Rattle.ptpm_table.specs.Rendering.{answer_body}
-use Rattle.ptpm_table.proofs.Identities.{same_identity-refl, same_identity-true}
-use Rattle.ptpm_codec.proofs.IdentityLaws.{same_clock-refl, same_clock-true}
-use Rattle.ptpm_agent.proofs.Turns.{message_of-reading, reading-message_of}
 use Rattle.ptpm_manager.specs.declared.receiving.Reason.{Reason}
 use Rattle.ptpm_manager.specs.declared.receiving.Reason.TheVariants as reasons
 use Rattle.ptpm_manager.specs.declared.receiving.Received.TheVariants as received
-use Rattle.ptpm_manager.specs.declared.report.Report.{Report}
-use Rattle.ptpm_codec.specs.Ordered.{first_of}
-use Rattle.ptpm_manager.specs.Receiving.{answer_by, answer_to, is_answered_by, is_content, is_from_asked_port, is_from_target, is_in_domain, reason_of, received_of}
-use Rattle.ptpm_manager.specs.Report.{outcome_in}
-use Rattle.ptpm_manager.specs.Session.{SessionValue, is_waiting}
-use Rattle.ptpm_codec.specs.SequenceNumber.{number_of}
-use Rattle.ptpm_network.specs.Events.{Event, IsInRange, frame_at}
-use Rattle.ptpm_network.specs.Invariant.{IsOfOrigin, IsReached}
-use Rattle.ptpm_network.specs.Machine.{is_answer, report_from, run, told_by}
-use Rattle.ptpm_network.specs.Network.{AtSession, HasEnd, IsNetwork, Network, SessionStart, manager}
-use Rattle.ptpm_network.specs.State.{Frame, NetworkState, Origin, RequestOf, ReplyTo, Neither, SessionState, initial_state, is_idle, is_late, issued, session_value, unanswered}
 use Rattle.ptpm_network.proofs.Arriving.{action_of-answer_body}
 use Rattle.ptpm_network.proofs.Frames.{SaysReply, same_read, says_reply, says_request}
-use Rattle.ptpm_codec.proofs.MessageLaws.{reply_action-is_reply}
 use Rattle.ptpm_network.proofs.Messages.{reply_at, request_at}
 use Rattle.ptpm_network.proofs.Reaching.{frame_at-is, no_report, told-message}
 use Rattle.ptpm_network.proofs.Schedule.{reached}

@@ -1,20 +1,8 @@
 -- What an event that is not refused tells.
-use Rattle.std.proofs.Common.{suc, zero, arith, ◌≡◌, ℕ, ◌<◌, ◌≤◌, ◌-◌, ◌^◌, ◌&&◌, not, List, [], ◌∷◌, Option, Some, None, true, false, refl, sym, ◌∙◌, ap, ⊎_elim, length}
-use Rattle.std.proofs.lemmas.Bool.{cases_Bool, eq-eqb, cond-false, true≢false}
-use Rattle.std.specs.Prelude.{nat_lt, option_map, is_some, slice_get}
-use Rattle.std.specs.Option.{option_or}
-use Rattle.ptpm_codec.specs.Identity.{every_port}
-use Rattle.ptpm_codec.specs.Ordered.{first_of}
-use Rattle.ptpm_codec.proofs.OrderedLaws.{first_of-none, option_or-none}
-use Rattle.ptpm_data.specs.ManagementId.{is_of_port}
-use Rattle.ptpm_manager.specs.declared.ask.Ask.{Ask}
+use Rattle.ptpm_network.proofs.Common.{suc, zero, arith, ◌≡◌, ℕ, ◌<◌, ◌≤◌, ◌-◌, ◌^◌, not, List, [], ◌∷◌, Option, Some, None, true, false, refl, sym, ◌∙◌, ap, ⊎_elim, length, cases_Bool, eq-eqb, cond-false, true≢false, nat_lt, option_map, is_some, slice_get, option_or, every_port, first_of, first_of-none, option_or-none, is_of_port, Ask, ask_refusal, SessionValue, begin_refusal, count_limit, is_waiting, IsAsked, SessionState, is_idle, session_value, SessionStart}
 use Rattle.ptpm_manager.specs.declared.error.BeginError.TheVariants as begins
-use Rattle.ptpm_manager.specs.Ask.{ask_refusal, request_of}
+use Rattle.ptpm_manager.specs.Ask.{request_of}
 use Rattle.ptpm_manager.proofs.AskLaws.{request_of-permitted}
-use Rattle.ptpm_manager.specs.Session.{SessionValue, begin_refusal, count_limit, is_waiting}
-use Rattle.ptpm_network.specs.Invariant.{IsAsked}
-use Rattle.ptpm_network.specs.State.{SessionState, is_idle, session_value}
-use Rattle.ptpm_network.specs.Network.{SessionStart}
 
 pub option_map-none : {A B : Type 0} (f : A → B) (o : Option A) → option_map f o ≡ None → o ≡ None
 option_map-none f None e = refl

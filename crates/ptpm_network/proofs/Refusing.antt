@@ -1,19 +1,6 @@
 -- A running network refuses what the machine refuses, for the same reasons.
-use Rattle.std.proofs.Common.{◌≡◌, ℕ, ◌<◌, ◌≤◌, nat_lt, not, [], ◌∷◌, Option, Some, None, true, false, refl, sym, ◌∙◌, ap, ⊎_elim, length}
-use Rattle.std.proofs.lemmas.Bool.{cases_Bool}
-use Rattle.std.proofs.lemmas.List.{length-map}
-use Rattle.std.specs.Prelude.{option_map}
-use Rattle.std.specs.Option.{option_or}
-use Rattle.ptpm_codec.specs.declared.identity.PortIdentity.{PortIdentity}
-use Rattle.ptpm_codec.specs.Ordered.{first_of}
+use Rattle.ptpm_network.proofs.Common.{◌≡◌, ℕ, ◌<◌, ◌≤◌, nat_lt, not, [], ◌∷◌, Option, Some, None, true, false, refl, sym, ◌∙◌, ap, ⊎_elim, length, cases_Bool, length-map, option_map, option_or, PortIdentity, first_of, SessionValue, begin_refusal, is_waiting, send_refusal, Begin, BeginRefused, Deliver, Event, FramesAtMaximum, Refusal, Resume, Retune, Send, SendRefused, Stranger, begin_refused, forged, frame_at, frames_limit, no_frame, no_port, no_room, no_session, refusal, resume_refused, send_refused, RunningNetwork, held, network_refusal, nothing_to_resume, IsReached, Network, SessionStart, Stands, Frame, NetworkState, SessionState, is_idle, session_value}
 use Rattle.ptpm_manager.specs.declared.error.SendError.TheVariants as sends
-use Rattle.ptpm_manager.specs.Session.{SessionValue, begin_refusal, is_waiting, send_refusal}
-use Rattle.ptpm_network.specs.Events.{Begin, BeginRefused, Deliver, Event, FramesAtMaximum, Refusal, Resume, Retune, Send, SendRefused, Stranger, begin_refused, forged, frame_at, frames_limit, no_frame, no_port, no_room, no_session, refusal, resume_refused, send_refused}
-use Rattle.ptpm_network.specs.RunningNetwork.{RunningNetwork, held, network_refusal, nothing_to_resume}
-use Rattle.ptpm_network.specs.Invariant.{IsReached}
-use Rattle.ptpm_network.specs.Network.{Network, SessionStart}
-use Rattle.ptpm_network.specs.Stands.{Stands}
-use Rattle.ptpm_network.specs.State.{Frame, NetworkState, SessionState, is_idle, session_value}
 use Rattle.ptpm_network.proofs.Frames.{le_le}
 use Rattle.ptpm_network.proofs.Held.{frame_at-map}
 use Rattle.ptpm_network.proofs.Reaching.{session-exists}

@@ -1,20 +1,5 @@
 -- What reports of a running network are worth, and that it runs to the report that a way gives.
-use Rattle.std.proofs.Common.{◌≡◌, ℕ, ◌<◌, ◌≤◌, ◌+◌, List, [], ◌∷◌, ◌++◌, Some, true, false, sym, ◌∙◌, ap, subst, length}
-use Rattle.std.proofs.lemmas.Bool.{cond-true}
-use Rattle.std.specs.Prelude.{is_some, slice_get}
-use Rattle.std.specs.List.{AllByRecursion}
-use Rattle.ptpm_codec.specs.declared.identity.PortIdentity.{PortIdentity}
-use Rattle.ptpm_manager.specs.declared.report.Report.{Report}
-use Rattle.ptpm_manager.specs.Session.{is_waiting}
-use Rattle.ptpm_network.specs.Events.{Event, IsInRange, frames_limit}
-use Rattle.ptpm_network.specs.RunningNetwork.{RunningNetwork, network_run}
-use Rattle.ptpm_network.specs.Headline.{StandsAfter}
-use Rattle.ptpm_network.specs.Machine.{run}
-use Rattle.ptpm_network.specs.Network.{IsNetwork, Network}
-use Rattle.ptpm_network.specs.Stands.{AreFirsts, Stands}
-use Rattle.ptpm_network.specs.State.{NetworkState, SessionState, initial_state, is_idle, session_value}
-use Rattle.ptpm_network.specs.Way.{Hop, IsAnswerable, IsWay, LinksHaveAtMost, RunsToReport, made_each_way}
-use Rattle.ptpm_network.specs.Worth.{IsWorth}
+use Rattle.ptpm_network.proofs.Common.{◌≡◌, ℕ, ◌<◌, ◌≤◌, ◌+◌, List, [], ◌∷◌, ◌++◌, Some, true, false, sym, ◌∙◌, ap, subst, length, cond-true, is_some, slice_get, AllByRecursion, PortIdentity, Report, is_waiting, Event, IsInRange, frames_limit, RunningNetwork, network_run, StandsAfter, run, IsNetwork, Network, AreFirsts, Stands, NetworkState, SessionState, initial_state, is_idle, session_value, Hop, IsAnswerable, IsWay, LinksHaveAtMost, RunsToReport, made_each_way, IsWorth}
 use Rattle.ptpm_network.proofs.Answerable.{answer-runs, answerable, answering}
 use Rattle.ptpm_network.proofs.Promise.{first_of_sessions, firsts}
 use Rattle.ptpm_network.proofs.Running.{network_run-stands}

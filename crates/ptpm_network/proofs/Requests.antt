@@ -1,27 +1,11 @@
 -- What a request keeps of the data sets, and what its reply says.
-use Rattle.std.proofs.Common.{arith, ◌≡◌, ◌∙◌, refl, sym, subst, ℕ, zero, suc, ◌+◌, ◌<◌, ◌≤◌, ◌^◌, Bool, true, false, List, length, map, Option, Some, None, ⊎_elim}
-use Rattle.std.proofs.lemmas.Bool.{cases_Bool, cond-true, cond-false}
-use Rattle.std.proofs.lemmas.List.{length-map}
+use Rattle.ptpm_network.proofs.Common.{arith, ◌≡◌, ◌∙◌, refl, sym, subst, ℕ, zero, suc, ◌+◌, ◌<◌, ◌≤◌, ◌^◌, Bool, true, false, List, length, map, Option, Some, None, ⊎_elim, cases_Bool, cond-true, cond-false, length-map, AllByRecursion, filter, range_with_len, ErrorId, Action, IsDataField, changed_by, is_named, data_field_at, is_of_port, DataSetsValue, refusal_of, answer, named_ports, outcome, read_refusal, read_reply_to, reply_of, reply_to, ReplyValue, RequestValue, changed_by-ports, changed_by-sized, Answers, AreDataSets, HasOneAnswer, IsForOne, IsSendable, IsSendableOutcome}
 use Rattle.std.proofs.lemmas.List.FromFn.{length-range_with_len}
-use Rattle.std.specs.List.{AllByRecursion, filter, range_with_len}
-use Rattle.ptpm_codec.specs.declared.error.ErrorId.{ErrorId}
-use Rattle.ptpm_codec.specs.declared.message.Action.{Action}
 use Rattle.ptpm_codec.specs.declared.message.Action.TheVariants as actions
-use Rattle.ptpm_codec.specs.Message.{IsDataField}
 use Rattle.ptpm_data.specs.declared.rights.Rights.{Rights}
-use Rattle.ptpm_data.specs.Changes.{changed_by, is_named}
-use Rattle.ptpm_data.specs.DataField.{data_field_at}
-use Rattle.ptpm_data.specs.ManagementId.{is_of_port}
-use Rattle.ptpm_data.specs.Members.{DataSetsValue}
-use Rattle.ptpm_data.specs.Refusals.{refusal_of}
-use Rattle.ptpm_data.specs.Replies.{answer, named_ports, outcome, read_refusal, read_reply_to, reply_of, reply_to}
-use Rattle.ptpm_data.specs.Reply.{ReplyValue}
-use Rattle.ptpm_data.specs.Request.{RequestValue}
 use Rattle.ptpm_data.specs.RequestLaws.{IsFieldWithin, IsOneAnswer, IsSized, answerer, field_limit}
 use Rattle.ptpm_data.proofs.FieldSizes.{of_id}
-use Rattle.ptpm_data.proofs.Keeping.{changed_by-ports, changed_by-sized}
 use Rattle.ptpm_data.proofs.ReplyLemmas.{answers_of, reply_of-one}
-use Rattle.ptpm_network.specs.DataSets.{Answers, AreDataSets, HasOneAnswer, IsForOne, IsSendable, IsSendableOutcome}
 use Rattle.ptpm_network.proofs.Lists.{all_made, filter-few}
 
 -- ---- data sets of a number of ports

@@ -1,21 +1,6 @@
 -- A running network goes through every event as the machine does.
-use Rattle.std.proofs.Common.{◌≡◌, ℕ, ◌<◌, List, [], ◌∷◌, ◌++◌, Option, Some, None, true, false, refl, sym, ◌∙◌, ap, subst, ⊎_elim, length}
-use Rattle.std.proofs.lemmas.Bool.{cases_Bool, cond-true, cond-false}
-use Rattle.std.specs.Prelude.{is_none, option_map}
-use Rattle.std.specs.List.{AllByRecursion}
-use Rattle.ptpm_codec.proofs.OrderedLaws.{first_of-none, option_or-none}
-use Rattle.ptpm_codec.specs.declared.identity.PortIdentity.{PortIdentity}
-use Rattle.ptpm_manager.specs.declared.ask.Ask.{Ask}
+use Rattle.ptpm_network.proofs.Common.{◌≡◌, ℕ, ◌<◌, List, [], ◌∷◌, ◌++◌, Option, Some, None, true, false, refl, sym, ◌∙◌, ap, subst, ⊎_elim, length, cases_Bool, cond-true, cond-false, is_none, option_map, AllByRecursion, first_of-none, option_or-none, PortIdentity, Ask, received_of, SessionValue, begun, resumed, retuned, Begin, Deliver, Event, Forged, IsInRange, Refusal, Resume, Retune, Send, Stranger, begin_refused, forged, frame_at, is_forged, no_port, no_room, no_session, refusal, Held, RunningNetwork, held, network_refusal, network_run, network_step, reaches, reaches_end, IsFrame, IsReached, AreInTime, begun_in, delivered, delivered_at, delivered_at_clock, happens, is_late_delivery, is_late_frame, report_from, run, step, step_by, strange_frame, taken, AtPort, AtSession, End, HasEnd, IsNetwork, Network, AreFirsts, Stands, Frame, NetworkState, initial_state, is_late}
 use Rattle.ptpm_manager.specs.Ask as ask
-use Rattle.ptpm_manager.specs.Receiving.{received_of}
-use Rattle.ptpm_manager.specs.Session.{SessionValue, begun, resumed, retuned}
-use Rattle.ptpm_network.specs.Events.{Begin, Deliver, Event, Forged, IsInRange, Refusal, Resume, Retune, Send, Stranger, begin_refused, forged, frame_at, is_forged, no_port, no_room, no_session, refusal}
-use Rattle.ptpm_network.specs.RunningNetwork.{Held, RunningNetwork, held, network_refusal, network_run, network_step, reaches, reaches_end}
-use Rattle.ptpm_network.specs.Invariant.{IsFrame, IsReached}
-use Rattle.ptpm_network.specs.Machine.{AreInTime, begun_in, delivered, delivered_at, delivered_at_clock, happens, is_late_delivery, is_late_frame, report_from, run, step, step_by, strange_frame, taken}
-use Rattle.ptpm_network.specs.Network.{AtPort, AtSession, End, HasEnd, IsNetwork, Network}
-use Rattle.ptpm_network.specs.Stands.{AreFirsts, Stands}
-use Rattle.ptpm_network.specs.State.{Frame, NetworkState, initial_state, is_late}
 use Rattle.ptpm_network.proofs.Frames.{heard-frame, le_le}
 use Rattle.ptpm_network.proofs.Hearing.{begun-value, hears-stands, sends-stand, session-stands}
 use Rattle.ptpm_network.proofs.Held.{frame_at-map, turned-seen}

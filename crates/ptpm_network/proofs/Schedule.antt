@@ -1,13 +1,5 @@
 -- What the invariant says of a schedule.
-use Rattle.std.proofs.Common.{suc, zero, arith, ◌≡◌, ℕ, ◌<◌, ◌≤◌, ◌+◌, ◌-◌, List, Some, None, sym, ◌∙◌, length}
-use Rattle.std.specs.List.{AllByRecursion}
-use Rattle.ptpm_codec.specs.Layout.{boundary_hops}
-use Rattle.ptpm_agent.specs.Once.{Accepted, kept_reply}
-use Rattle.ptpm_network.specs.Events.{Event, IsInRange, frame_at}
-use Rattle.ptpm_network.specs.Invariant.{IsReached}
-use Rattle.ptpm_network.specs.Machine.{run}
-use Rattle.ptpm_network.specs.Network.{IsNetwork, Network, manager}
-use Rattle.ptpm_network.specs.State.{Frame, NetworkState, accepted_at_target, initial_state, greatest_accepted, issued, outcomes_kept}
+use Rattle.ptpm_network.proofs.Common.{suc, zero, arith, ◌≡◌, ℕ, ◌<◌, ◌≤◌, ◌+◌, ◌-◌, List, Some, None, sym, ◌∙◌, length, AllByRecursion, boundary_hops, Accepted, kept_reply, Event, IsInRange, frame_at, IsReached, run, IsNetwork, Network, manager, Frame, NetworkState, accepted_at_target, initial_state, greatest_accepted, issued, outcomes_kept}
 use Rattle.ptpm_network.proofs.Accepting.{kept-le}
 use Rattle.ptpm_network.proofs.Frames.{le_le}
 use Rattle.ptpm_network.proofs.Reaching.{first-reached, frame_at-is, run-reached}

@@ -1,37 +1,11 @@
 -- Worked schedules: what the machine makes of them.
-use Rattle.std.proofs.Common.{◌≡◌, ℕ, List, [], ◌∷◌, Option, Some, None, refl, true, false, map, replicate, arith, ◌<◌, ◌||◌, sym, ◌∙◌, ap, ⊎_elim}
-use Rattle.std.specs.Prelude.{◌++◌, ◌==◌, slice_set, if◌then◌else◌}
-use Rattle.std.proofs.lemmas.Bool.{cases_Bool, or_left, true≢false}
-use Rattle.ptpm_codec.specs.declared.identity.ClockIdentity.{ClockIdentity}
-use Rattle.ptpm_codec.specs.declared.identity.PortIdentity.{PortIdentity}
+use Rattle.ptpm_network.proofs.Common.{◌≡◌, ℕ, List, [], ◌∷◌, Option, Some, None, refl, true, false, map, replicate, arith, ◌<◌, ◌||◌, sym, ◌∙◌, ap, ⊎_elim, ◌++◌, ◌==◌, slice_set, if◌then◌else◌, cases_Bool, or_left, true≢false, ClockIdentity, PortIdentity, every_clock, same_identity, number_at, port_identity_at, octet, port_identity_octets, tlv_octets, body_at, message_of, frame_refusal, tlv_refusal, text_refusal, row_of, set_of, clock_field_of, row_refusal, is_set_length, is_set_value, answer, reply_of, reply_to, read_reply_to, changed_by, set_members, forwarded, same_identity-refl, same_identity-true, is_known, Accepted, rendered, Ask, ask_refusal, target_port, begin_refusal, send_refusal, IsNetwork, End, AtPort, AtSession, Network, SessionStart, Frame, NetworkState, Origin, RequestOf, ReplyTo, initial_state, history, is_late_at, Event, Begin, Send, Resume, Retune, Deliver, Stranger, Refusal, NoSuchName, NoSuchFrame, Forged, BeginRefused, SendRefused, refusal, happens, run}
 use Rattle.ptpm_codec.specs.declared.message.Action.TheVariants as actions
-use Rattle.ptpm_codec.specs.Identity.{every_clock, same_identity}
-use Rattle.ptpm_codec.specs.Layout.{number_at, port_identity_at, octet}
-use Rattle.ptpm_codec.specs.Canonical.{port_identity_octets, tlv_octets}
-use Rattle.ptpm_codec.specs.Reading.{body_at, message_of}
-use Rattle.ptpm_codec.specs.Refusal.{frame_refusal, tlv_refusal, text_refusal}
 use Rattle.ptpm_data.specs.Start.{default_clock, default_port, started}
 use Rattle.ptpm_data.specs.Rights.{all_rights}
-use Rattle.ptpm_data.specs.ManagementId.{row_of, set_of}
-use Rattle.ptpm_data.specs.DataField.{clock_field_of}
-use Rattle.ptpm_data.specs.Refusals.{row_refusal, is_set_length, is_set_value}
-use Rattle.ptpm_data.specs.Replies.{answer, reply_of, reply_to, read_reply_to}
-use Rattle.ptpm_data.specs.Changes.{changed_by, set_members}
-use Rattle.ptpm_agent.specs.Forwarding.{forwarded}
-use Rattle.ptpm_table.proofs.Identities.{same_identity-refl, same_identity-true}
-use Rattle.ptpm_table.specs.Entries.{is_known}
-use Rattle.ptpm_agent.specs.Once.{Accepted}
-use Rattle.ptpm_table.specs.Rendering.{rendered}
-use Rattle.ptpm_manager.specs.declared.ask.Ask.{Ask}
 use Rattle.ptpm_manager.specs.declared.error.BeginError.TheVariants as begins
 use Rattle.ptpm_manager.specs.declared.error.SendError.TheVariants as sends
 use Rattle.ptpm_manager.specs.declared.report.Outcome.TheVariants as outcomes
-use Rattle.ptpm_manager.specs.Ask.{ask_refusal, target_port}
-use Rattle.ptpm_manager.specs.Session.{begin_refusal, send_refusal}
-use Rattle.ptpm_network.specs.Network.{IsNetwork, End, AtPort, AtSession, Network, SessionStart}
-use Rattle.ptpm_network.specs.State.{Frame, NetworkState, Origin, RequestOf, ReplyTo, initial_state, history, is_late_at}
-use Rattle.ptpm_network.specs.Events.{Event, Begin, Send, Resume, Retune, Deliver, Stranger, Refusal, NoSuchName, NoSuchFrame, Forged, BeginRefused, SendRefused, refusal}
-use Rattle.ptpm_network.specs.Machine.{happens, run}
 
 -- ---- one clock of two ports, and one session at its port 1
 

@@ -1,23 +1,5 @@
 -- A clock that takes its turn at a frame goes where the machine goes.
-use Rattle.std.proofs.Common.{◌≡◌, ℕ, ◌<◌, ◌==◌, List, ◌++◌, Some, true, false, refl, sym, ◌∙◌, ap, subst, ⊎_elim, length, Option, None}
-use Rattle.std.proofs.lemmas.Bool.{cases_Bool, eqb-true}
-use Rattle.std.proofs.lemmas.List.{map-append}
-use Rattle.std.specs.Prelude.{map}
-use Rattle.std.specs.List.{AllByRecursion}
-use Rattle.ptpm_codec.specs.declared.identity.PortIdentity.{PortIdentity}
-use Rattle.ptpm_data.specs.Members.{DataSetsValue}
-use Rattle.ptpm_agent.specs.Forwarding.{forwarded}
-use Rattle.ptpm_agent.specs.Laws.{StandsAt}
-use Rattle.ptpm_agent.specs.Once.{Delivery, History, RequestCopy, copy_of}
-use Rattle.ptpm_agent.specs.Turn.{Clock, State, turn}
-use Rattle.ptpm_agent.specs.Window.{IsInTime}
-use Rattle.ptpm_agent.proofs.AtMostOnce.{stands-copy, stands-initial_history, stands-other}
-use Rattle.ptpm_network.specs.Events.{Event, IsInRange, frame_at}
-use Rattle.ptpm_network.specs.Machine.{answer_messages, answer_origin, arrives, delivered_at_clock, delivery, forwarded_frames, made_frames, reply_frames, run, with_place}
-use Rattle.ptpm_network.specs.Network.{AtPort, HasEnd, IsNetwork, Network, ports}
-use Rattle.ptpm_network.specs.Stands.{AreFirsts, Stands}
-use Rattle.ptpm_network.specs.RunningNetwork.{RunningNetwork, after_turn, held, initial_network, turn_frames}
-use Rattle.ptpm_network.specs.State.{Frame, NetworkState, initial_state, history, is_late}
+use Rattle.ptpm_network.proofs.Common.{◌≡◌, ℕ, ◌<◌, ◌==◌, List, ◌++◌, Some, true, false, refl, sym, ◌∙◌, ap, subst, ⊎_elim, length, Option, None, cases_Bool, eqb-true, map-append, map, AllByRecursion, PortIdentity, DataSetsValue, forwarded, StandsAt, Delivery, History, RequestCopy, copy_of, Clock, State, turn, IsInTime, stands-copy, stands-initial_history, stands-other, Event, IsInRange, frame_at, answer_messages, answer_origin, arrives, delivered_at_clock, delivery, forwarded_frames, made_frames, reply_frames, run, with_place, AtPort, HasEnd, IsNetwork, Network, ports, AreFirsts, Stands, RunningNetwork, after_turn, held, initial_network, turn_frames, Frame, NetworkState, initial_state, history, is_late}
 use Rattle.ptpm_network.proofs.Arriving.{after_arrival, history-elsewhere, history-here, history-ports}
 use Rattle.ptpm_network.proofs.Frames.{heard-frame}
 use Rattle.ptpm_network.proofs.InTime.{in_window}

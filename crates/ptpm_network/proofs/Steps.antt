@@ -1,16 +1,5 @@
 -- What sessions do keeps the invariant.
-use Rattle.std.proofs.Common.{arith, ◌≡◌, ℕ, ◌<◌, ◌-◌, ◌==◌, List, [], ◌∷◌, ◌++◌, Option, Some, None, Bool, true, false, refl, sym, ◌∙◌, subst, ⊎_elim, length}
-use Rattle.std.proofs.lemmas.Bool.{cases_Bool, eqb-true, cond-true, cond-false}
-use Rattle.std.proofs.lemmas.Option.{slice_get_within}
-use Rattle.std.specs.Prelude.{option_map, slice_get}
-use Rattle.std.specs.List.{AllByRecursion, filter, list_any}
-use Rattle.ptpm_data.specs.Request.{RequestValue}
-use Rattle.ptpm_agent.specs.Once.{Accepted, kept_reply}
-use Rattle.ptpm_manager.specs.Setup.{request_message}
-use Rattle.ptpm_network.specs.Invariant.{IsFrame, IsInStep, IsOfOrigin, IsReached}
-use Rattle.ptpm_network.specs.Machine.{sends, sent_frames, with_frames, with_session}
-use Rattle.ptpm_network.specs.Network.{End, AtSession, HasEnd, IsLink, IsNetwork, Network, manager, peers, ports, same_end}
-use Rattle.ptpm_network.specs.State.{Frame, NetworkState, Origin, RequestOf, ReplyTo, Neither, SessionState, accepted_at_target, is_idle, new_frames, unanswered}
+use Rattle.ptpm_network.proofs.Common.{arith, ◌≡◌, ℕ, ◌<◌, ◌-◌, ◌==◌, List, [], ◌∷◌, ◌++◌, Option, Some, None, Bool, true, false, refl, sym, ◌∙◌, subst, ⊎_elim, length, cases_Bool, eqb-true, cond-true, cond-false, slice_get_within, option_map, slice_get, AllByRecursion, filter, list_any, RequestValue, Accepted, kept_reply, request_message, IsFrame, IsInStep, IsOfOrigin, IsReached, sends, sent_frames, with_frames, with_session, End, AtSession, HasEnd, IsLink, IsNetwork, Network, manager, peers, ports, same_end, Frame, NetworkState, Origin, RequestOf, ReplyTo, Neither, SessionState, accepted_at_target, is_idle, new_frames, unanswered}
 use Rattle.ptpm_network.proofs.Accepting.{in_step-set}
 use Rattle.ptpm_network.proofs.Lists.{all_append, all_made, all_weaker, with_place-other, with_place-same}
 

@@ -1,26 +1,6 @@
 -- A stranger's datagram that is not refused is of no clock and of no session.
-use Rattle.std.proofs.Common.{suc, zero, arith, ◌≡◌, ℕ, ◌<◌, ◌≤◌, ◌+◌, ◌-◌, ◌^◌, List, Some, Bool, true, false, refl, sym, ◌∙◌, ap, subst, ⊎_elim, length, take, drop}
-use Rattle.std.proofs.lemmas.Bool.{cases_eq, or_parts, and_cases, le-leb, true≢false}
-use Rattle.std.proofs.lemmas.List.{drop-take, length-drop, length-take-le, take-take}
-use Rattle.std.specs.Prelude.{nat_le}
-use Rattle.std.specs.List.{list_any, range_with_len}
-use Rattle.ptpm_codec.specs.declared.identity.ClockIdentity.{ClockIdentity}
-use Rattle.ptpm_codec.specs.declared.identity.PortIdentity.{PortIdentity}
-use Rattle.ptpm_codec.specs.declared.message.Body.{Body}
+use Rattle.ptpm_network.proofs.Common.{suc, zero, arith, ◌≡◌, ℕ, ◌<◌, ◌≤◌, ◌+◌, ◌-◌, ◌^◌, List, Some, Bool, true, false, refl, sym, ◌∙◌, ap, subst, ⊎_elim, length, take, drop, cases_eq, or_parts, and_cases, le-leb, true≢false, drop-take, length-drop, length-take-le, take-take, nat_le, list_any, range_with_len, ClockIdentity, PortIdentity, Body, Message, same_clock, same_identity, message_length, message_octets, number_at, port_identity_at, source_port_identity, BodyFits, Fits, PortIdentityFits, message_of, Spells, SpellsBody, number_at-octets, number-take, IsOctets, message_of-some, message_of-spells, message_size, octets-take, same_identity-refl, same_clock-refl, is_forged, is_taken, IsForeign, Network, manager}
 use Rattle.ptpm_codec.specs.declared.message.Body.TheVariants as bodies
-use Rattle.ptpm_codec.specs.declared.message.Message.{Message}
-use Rattle.ptpm_codec.specs.Identity.{same_clock, same_identity}
-use Rattle.ptpm_codec.specs.Layout.{message_length, message_octets, number_at, port_identity_at, source_port_identity}
-use Rattle.ptpm_codec.specs.Message.{BodyFits, Fits, PortIdentityFits}
-use Rattle.ptpm_codec.specs.Reading.{message_of}
-use Rattle.ptpm_codec.specs.Spelling.{Spells, SpellsBody}
-use Rattle.ptpm_codec.proofs.PlaceLaws.{number_at-octets, number-take}
-use Rattle.ptpm_codec.proofs.ReadingLaws.{IsOctets, message_of-some, message_of-spells, message_size, octets-take}
-use Rattle.ptpm_table.proofs.Identities.{same_identity-refl}
-use Rattle.ptpm_codec.proofs.IdentityLaws.{same_clock-refl}
-use Rattle.ptpm_network.specs.Events.{is_forged, is_taken}
-use Rattle.ptpm_network.specs.Invariant.{IsForeign}
-use Rattle.ptpm_network.specs.Network.{Network, manager}
 
 -- ---- ranges
 

@@ -1,12 +1,5 @@
 -- One list of events after another, and what is taken of a list: all before the first that is refused.
-use Rattle.std.proofs.Common.{◌≡◌, List, [], ◌∷◌, ◌++◌, Option, Some, None, true, false, refl, sym, ◌∙◌, ap, subst, ⊎_elim}
-use Rattle.std.proofs.lemmas.Bool.{cases_Bool, cond-true, cond-false}
-use Rattle.std.specs.Prelude.{is_none}
-use Rattle.std.specs.List.{AllByRecursion}
-use Rattle.ptpm_network.specs.Events.{Event, IsInRange, refusal}
-use Rattle.ptpm_network.specs.Machine.{AreInTime, run, step, taken}
-use Rattle.ptpm_network.specs.Network.{Network}
-use Rattle.ptpm_network.specs.State.{NetworkState}
+use Rattle.ptpm_network.proofs.Common.{◌≡◌, List, [], ◌∷◌, ◌++◌, Option, Some, None, true, false, refl, sym, ◌∙◌, ap, subst, ⊎_elim, cases_Bool, cond-true, cond-false, is_none, AllByRecursion, Event, IsInRange, refusal, AreInTime, run, step, taken, Network, NetworkState}
 
 pub is_none-none : {A : Type 0} (o : Option A) → is_none o ≡ true → o ≡ None
 is_none-none None y = refl

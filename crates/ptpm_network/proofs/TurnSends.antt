@@ -1,34 +1,10 @@
 -- What a clock sends in a turn: copies at other ports than the one that the datagram came in at, replies at that one. And to
 -- what it replies: to a numbered copy exactly where its verdict says so.
-use Rattle.std.proofs.Common.{◌≡◌, ℕ, ◌==◌, ◌&&◌, not, ◌⊎◌, inl, inr, length, List, [], ◌∷◌, Option, Some, None, Result, Ok, Err, Bool, true, false, refl, sym, ◌∙◌, ap, subst, ⊎_elim}
-use Rattle.std.proofs.lemmas.Bool.{cases_Bool, and_parts, and_right, not-true, cond-true, cond-false, eq-eqb}
-use Rattle.std.specs.Prelude.{map}
-use Rattle.std.specs.List.{AllByRecursion, filter, range_with_len}
+use Rattle.ptpm_network.proofs.Common.{◌≡◌, ℕ, ◌==◌, ◌&&◌, not, ◌⊎◌, inl, inr, length, List, [], ◌∷◌, Option, Some, None, Result, Ok, Err, Bool, true, false, refl, sym, ◌∙◌, ap, subst, ⊎_elim, cases_Bool, and_parts, and_right, not-true, cond-true, cond-false, eq-eqb, map, AllByRecursion, filter, range_with_len, DecodeError, ClockIdentity, Message, canonical, message_of, reading, DataSetsValue, may_forward, ReplyValue, Heard, Entry, is_known, look_at, look_by, same_request, rendered, reply_message, serial_of, Verdict, forwarded, forwarded_by, is_forwarded, with_less_hop, Delivery, RequestCopy, copy_by, copy_from, copy_of, is_copy, heard_of, is_for_this_clock, is_numbered, is_own, is_request, names_port, request_of, Clock, State, judged, look, reply_by, reply_messages, turn, turn_by, verdict_at, is_copy-numbered, judged-each, message_of-reading, verdict_at-unnumbered, answer_origin, Origin, origin_by}
 use Rattle.std.specs.FinMap.{get}
-use Rattle.ptpm_codec.specs.declared.error.DecodeError.{DecodeError}
-use Rattle.ptpm_codec.specs.declared.identity.ClockIdentity.{ClockIdentity}
-use Rattle.ptpm_codec.specs.declared.message.Message.{Message}
-use Rattle.ptpm_codec.specs.Canonical.{canonical}
-use Rattle.ptpm_codec.specs.Reading.{message_of, reading}
-use Rattle.ptpm_data.specs.Members.{DataSetsValue, may_forward}
-use Rattle.ptpm_data.specs.Reply.{ReplyValue}
-use Rattle.ptpm_table.specs.declared.heard.Heard.{Heard}
 use Rattle.ptpm_table.specs.declared.reply_table.Look.{Look}
 use Rattle.ptpm_table.specs.declared.serial.Serial.{Serial}
 use Rattle.ptpm_table.specs.declared.serial.Serial.TheVariants as serials
-use Rattle.ptpm_table.specs.Entries.{Entry, is_known}
-use Rattle.ptpm_table.specs.Numbering.{look_at, look_by, same_request}
-use Rattle.ptpm_table.specs.Rendering.{rendered, reply_message}
-use Rattle.ptpm_table.specs.Serial.{serial_of}
-use Rattle.ptpm_agent.specs.declared.verdict.Verdict.{Verdict}
-use Rattle.ptpm_agent.specs.Forwarding.{forwarded, forwarded_by, is_forwarded, with_less_hop}
-use Rattle.ptpm_agent.specs.Once.{Delivery, RequestCopy, copy_by, copy_from, copy_of, is_copy}
-use Rattle.ptpm_agent.specs.Addressing.{heard_of, is_for_this_clock, is_numbered, is_own, is_request, names_port, request_of}
-use Rattle.ptpm_agent.specs.Turn.{Clock, State, judged, look, reply_by, reply_messages, turn, turn_by, verdict_at}
-use Rattle.ptpm_agent.proofs.Turns.{is_copy-numbered, judged-each, message_of-reading, verdict_at-unnumbered}
-use Rattle.ptpm_network.specs.Machine.{answer_origin}
-use Rattle.ptpm_network.specs.State.{Origin}
-use Rattle.ptpm_network.specs.Replying.{origin_by}
 
 -- ---- ports
 

@@ -1,26 +1,8 @@
 -- What a clock sends in a turn is what the machine says that it sends.
-use Rattle.std.proofs.Common.{◌≡◌, ℕ, ◌==◌, ◌&&◌, ◌||◌, not, List, Option, Some, None, Result, Ok, Err, Bool, true, false, refl, sym, ◌∙◌, ap, ⊎_elim, length}
-use Rattle.std.proofs.lemmas.Bool.{cases_Bool, and_from, and_left, and_right, and_parts, cond-true, cond-false, true≢false}
-use Rattle.ptpm_codec.specs.declared.error.DecodeError.{DecodeError}
-use Rattle.ptpm_codec.specs.declared.identity.PortIdentity.{PortIdentity}
-use Rattle.ptpm_codec.specs.declared.message.Message.{Message}
-use Rattle.ptpm_codec.specs.Identity.{every_clock, same_clock}
-use Rattle.ptpm_codec.specs.Reading.{message_of, reading}
-use Rattle.ptpm_data.specs.Members.{DataSetsValue}
+use Rattle.ptpm_network.proofs.Common.{◌≡◌, ℕ, ◌==◌, ◌&&◌, ◌||◌, not, List, Option, Some, None, Result, Ok, Err, Bool, true, false, refl, sym, ◌∙◌, ap, ⊎_elim, length, cases_Bool, and_from, and_left, and_right, and_parts, cond-true, cond-false, true≢false, DecodeError, PortIdentity, Message, every_clock, same_clock, message_of, reading, DataSetsValue, is_known, Verdict, forwarded, StandsAt, Delivery, History, RequestCopy, copy_of, is_copy, heard_of, is_addressed, is_for_this_clock, is_numbered, is_own, is_request, names_port, Clock, State, Turned, is_accepted_repeat, is_repeat, judged, look, reply_by, reply_messages, turn, turn_by, verdict_at, IsInTime, no_copy, turns_as, judged-foreign, judged-request, message_of-reading, reading-message_of, turn-message, answer_messages, delivery, is_read, read_messages, Frame}
 use Rattle.ptpm_table.specs.declared.reply_table.Look.TheVariants as looks
-use Rattle.ptpm_table.specs.Entries.{is_known}
-use Rattle.ptpm_agent.specs.declared.verdict.Verdict.{Verdict}
 use Rattle.ptpm_agent.specs.declared.verdict.Verdict.TheVariants as verdicts
-use Rattle.ptpm_agent.specs.Forwarding.{forwarded}
-use Rattle.ptpm_agent.specs.Laws.{StandsAt}
-use Rattle.ptpm_agent.specs.Once.{Delivery, History, RequestCopy, copy_of, is_copy}
-use Rattle.ptpm_agent.specs.Addressing.{heard_of, is_addressed, is_for_this_clock, is_numbered, is_own, is_request, names_port}
-use Rattle.ptpm_agent.specs.Turn.{Clock, State, Turned, is_accepted_repeat, is_in_domain, is_repeat, judged, look, reply_by, reply_messages, turn, turn_by, verdict_at}
-use Rattle.ptpm_agent.specs.Window.{IsInTime}
-use Rattle.ptpm_agent.proofs.AtMostOnce.{no_copy, turns_as}
-use Rattle.ptpm_agent.proofs.Turns.{judged-foreign, judged-request, message_of-reading, reading-message_of, turn-message}
-use Rattle.ptpm_network.specs.Machine.{answer_messages, delivery, is_read, read_messages}
-use Rattle.ptpm_network.specs.State.{Frame}
+use Rattle.ptpm_agent.specs.Turn.{is_in_domain}
 
 -- ---- a message that is no numbered copy
 

@@ -1,19 +1,5 @@
 -- What leaves a clock as it was: a stranger's datagram, and a request that is refused.
-use Rattle.std.proofs.Common.{◌≡◌, ℕ, ◌<◌, ◌==◌, List, [], Option, Some, None, true, false, refl, sym, ◌∙◌, ap, subst, ⊎_elim}
-use Rattle.std.proofs.lemmas.Bool.{cases_Bool, cond-true, cond-false, eqb-true}
-use Rattle.std.proofs.lemmas.Option.{same_Some}
-use Rattle.std.specs.List.{AllByRecursion, Contains}
-use Rattle.ptpm_codec.proofs.OrderedLaws.{first_of-none, option_or-none}
-use Rattle.ptpm_codec.specs.declared.error.ErrorId.{ErrorId}
-use Rattle.ptpm_data.specs.Reply.{Answer, Refused, ReplyValue}
-use Rattle.ptpm_data.proofs.Keeping.{refused_answer}
-use Rattle.ptpm_agent.specs.Once.{Delivery, History, RequestCopy, accepted_from, after_copy, copy_of, due_reply, joins}
-use Rattle.ptpm_agent.specs.Turn.{Clock}
-use Rattle.ptpm_network.specs.Events.{Event, Forged, IsInRange, Refusal, Stranger, forged, is_forged, no_port, no_room, refusal}
-use Rattle.ptpm_network.specs.Invariant.{IsReached}
-use Rattle.ptpm_network.specs.Machine.{arrives, delivery, happens, run, step, step_by, strange_frame}
-use Rattle.ptpm_network.specs.Network.{IsNetwork, Network, ports}
-use Rattle.ptpm_network.specs.State.{NetworkState, Neither, RequestOf, initial_state, history}
+use Rattle.ptpm_network.proofs.Common.{◌≡◌, ℕ, ◌<◌, ◌==◌, List, [], Option, Some, None, true, false, refl, sym, ◌∙◌, ap, subst, ⊎_elim, cases_Bool, cond-true, cond-false, eqb-true, same_Some, AllByRecursion, Contains, first_of-none, option_or-none, ErrorId, Answer, Refused, ReplyValue, refused_answer, Delivery, History, RequestCopy, accepted_from, after_copy, copy_of, due_reply, joins, Clock, Event, Forged, IsInRange, Refusal, Stranger, forged, is_forged, no_port, no_room, refusal, IsReached, arrives, delivery, happens, run, step, step_by, strange_frame, IsNetwork, Network, ports, NetworkState, Neither, RequestOf, initial_state, history}
 use Rattle.ptpm_network.proofs.Arriving.{after_arrival, history-elsewhere, history-here, is_copy_of}
 use Rattle.ptpm_network.proofs.Frames.{IsHeard}
 use Rattle.ptpm_network.proofs.Reaching.{port-exists}

@@ -1,35 +1,10 @@
 -- Replies to what is not numbered go to no session, and a delivery at a clock keeps the invariant.
-use Rattle.std.proofs.Common.{◌≡◌, ℕ, ◌<◌, ◌+◌, ◌^◌, ◌==◌, ◌&&◌, ◌||◌, not, List, Option, Some, None, Bool, true, false, refl, sym, ◌∙◌, ap, subst, ⊎_elim, ◌⊎◌, inl, inr, length}
-use Rattle.std.proofs.lemmas.Bool.{cases_Bool, and_from, and_parts, cond-true, cond-false, not-true, true≢false}
-use Rattle.std.specs.Prelude.{slice_get}
-use Rattle.std.specs.List.{AllByRecursion}
-use Rattle.ptpm_codec.specs.declared.identity.PortIdentity.{PortIdentity}
-use Rattle.ptpm_codec.specs.declared.message.Body.{Body}
+use Rattle.ptpm_network.proofs.Common.{◌≡◌, ℕ, ◌<◌, ◌+◌, ◌^◌, ◌==◌, ◌&&◌, ◌||◌, not, List, Option, Some, None, Bool, true, false, refl, sym, ◌∙◌, ap, subst, ⊎_elim, ◌⊎◌, inl, inr, length, cases_Bool, and_from, and_parts, cond-true, cond-false, not-true, true≢false, slice_get, AllByRecursion, PortIdentity, Body, Message, every_clock, same_clock, boundary_hops, BodyFits, Fits, action_of, id_of, is_reply, message_of, read_reply_to, ReplyValue, is_known, hops_passed, rendered, forwarded, RequestCopy, copy_of, due_reply, heard_of, is_for_this_clock, is_numbered, is_own, is_request, names_port, request_of, Clock, same_clock-true, Answers, IsForeign, IsForeignFrame, IsFrame, IsReached, answering_frames, arrives, delivered_at_clock, delivery, is_read, made_frames, read_messages, AtPort, HasEnd, IsNetwork, Network, manager, ports, Frame, NetworkState, Origin, RequestOf, ReplyTo, Neither, history, reply_action-is_reply}
 use Rattle.ptpm_codec.specs.declared.message.Body.TheVariants as bodies
-use Rattle.ptpm_codec.specs.declared.message.Message.{Message}
-use Rattle.ptpm_codec.specs.Identity.{every_clock, same_clock}
-use Rattle.ptpm_codec.specs.Layout.{boundary_hops}
-use Rattle.ptpm_codec.specs.Message.{BodyFits, Fits, action_of, id_of, is_reply}
-use Rattle.ptpm_codec.specs.Reading.{message_of}
-use Rattle.ptpm_data.specs.Replies.{read_reply_to}
-use Rattle.ptpm_data.specs.Reply.{ReplyValue}
-use Rattle.ptpm_table.specs.Entries.{is_known}
-use Rattle.ptpm_table.specs.Rendering.{hops_passed, rendered}
-use Rattle.ptpm_agent.specs.Forwarding.{forwarded}
-use Rattle.ptpm_agent.specs.Once.{RequestCopy, copy_of, due_reply}
-use Rattle.ptpm_agent.specs.Addressing.{heard_of, is_for_this_clock, is_numbered, is_own, is_request, names_port, request_of}
-use Rattle.ptpm_agent.specs.Turn.{Clock}
-use Rattle.ptpm_codec.proofs.IdentityLaws.{same_clock-true}
-use Rattle.ptpm_network.specs.DataSets.{Answers}
-use Rattle.ptpm_network.specs.Invariant.{IsForeign, IsForeignFrame, IsFrame, IsReached}
-use Rattle.ptpm_network.specs.Machine.{answering_frames, arrives, delivered_at_clock, delivery, is_read, made_frames, read_messages}
-use Rattle.ptpm_network.specs.Network.{AtPort, HasEnd, IsNetwork, Network, manager, ports}
-use Rattle.ptpm_network.specs.State.{Frame, NetworkState, Origin, RequestOf, ReplyTo, Neither, history}
 use Rattle.ptpm_network.proofs.Answering.{due-frames, rendered-all, reply_frames-are, small}
 use Rattle.ptpm_network.proofs.Arriving.{action_of-answer_body, arrives-reached, is_copy_of, kept-stays}
 use Rattle.ptpm_network.proofs.Frames.{IsHeard, forwarded_frames-are, same_read, says_reply, says_request}
 use Rattle.ptpm_network.proofs.Lists.{all_append}
-use Rattle.ptpm_codec.proofs.MessageLaws.{reply_action-is_reply}
 use Rattle.ptpm_network.proofs.Messages.{canonical-message, passed_on, reply_at, reply-fits, reply-valid, request_at}
 use Rattle.ptpm_network.proofs.Requests.{read_answered}
 use Rattle.ptpm_network.proofs.Steps.{KeptStays, more-frames, origin-stays}

@@ -1,23 +1,6 @@
 -- Worked ways: that what the law of one copy each way asks for is met, and an exchange that it speaks of.
-use Rattle.std.proofs.Common.{◌≡◌, List, [], ◌∷◌, refl, inl, arith}
-use Rattle.ptpm_codec.specs.Layout.{number_at, port_identity_at}
-use Rattle.ptpm_codec.specs.Canonical.{port_identity_octets, tlv_octets}
-use Rattle.ptpm_codec.specs.Reading.{body_at, message_of}
-use Rattle.ptpm_codec.specs.Refusal.{frame_refusal, tlv_refusal, text_refusal}
-use Rattle.ptpm_data.specs.ManagementId.{row_of}
-use Rattle.ptpm_data.specs.DataField.{clock_field_of}
-use Rattle.ptpm_data.specs.Refusals.{row_refusal}
-use Rattle.ptpm_data.specs.Replies.{answer, reply_of, reply_to, read_reply_to}
-use Rattle.ptpm_data.specs.Changes.{changed_by}
-use Rattle.ptpm_agent.specs.Forwarding.{forwarded}
-use Rattle.ptpm_table.specs.Rendering.{rendered}
+use Rattle.ptpm_network.proofs.Common.{◌≡◌, List, [], ◌∷◌, refl, inl, arith, number_at, port_identity_at, port_identity_octets, tlv_octets, body_at, message_of, frame_refusal, tlv_refusal, text_refusal, row_of, clock_field_of, row_refusal, answer, reply_of, reply_to, read_reply_to, changed_by, forwarded, rendered, ask_refusal, target_port, begin_refusal, send_refusal, Begin, Deliver, Send, refusal, happens, run, initial_state, Hop, IsAnswerable, IsWay}
 use Rattle.ptpm_manager.specs.declared.report.Outcome.TheVariants as outcomes
-use Rattle.ptpm_manager.specs.Ask.{ask_refusal, target_port}
-use Rattle.ptpm_manager.specs.Session.{begin_refusal, send_refusal}
-use Rattle.ptpm_network.specs.Events.{Begin, Deliver, Send, refusal}
-use Rattle.ptpm_network.specs.Machine.{happens, run}
-use Rattle.ptpm_network.specs.State.{initial_state}
-use Rattle.ptpm_network.specs.Way.{Hop, IsAnswerable, IsWay}
 use Rattle.ptpm_network.proofs.Answerable.{answerable}
 use Rattle.ptpm_network.proofs.Schedules.{get_priority1, in_ring, one_clock, one_clock-IsNetwork, ring_of_three_clocks}
 

@@ -1,30 +1,6 @@
 -- What a report is worth: its request was carried out exactly once, and the report tells the answer of that moment.
-use Rattle.std.proofs.Common.{suc, zero, arith, ◌≡◌, ℕ, ◌<◌, ◌≤◌, ◌+◌, ◌-◌, ◌==◌, ◌&&◌, max, Bool, List, [], ◌∷◌, ◌++◌, Some, None, true, false, refl, sym, ◌∙◌, ap, subst, ⊎_elim, ◌⊎◌, inl, inr, length, length-append, append_assoc}
-use Rattle.std.proofs.lemmas.Bool.{cases_Bool, and_parts, and_left, and_right, eqb-true, ltb-true, ne_eqb, cond-true, cond-false, lt-ltb}
-use Rattle.std.proofs.lemmas.List.{append-nil}
-use Rattle.std.specs.Prelude.{is_some, nat_lt, not, option_map, slice_get}
-use Rattle.std.specs.Option.{option_or}
-use Rattle.std.specs.List.{AllByRecursion, find}
-use Rattle.ptpm_codec.specs.declared.identity.PortIdentity.{PortIdentity}
-use Rattle.ptpm_codec.specs.Identity.{same_identity}
-use Rattle.ptpm_codec.specs.Ordered.{first_of}
-use Rattle.ptpm_data.specs.Members.{DataSetsValue}
-use Rattle.ptpm_data.specs.Reply.{Answer}
-use Rattle.ptpm_data.specs.Request.{RequestValue}
-use Rattle.ptpm_table.proofs.Identities.{same_identity-true}
-use Rattle.ptpm_agent.specs.Once.{Accepted, History, RequestCopy, accepted_from, after_copy, applied_once, initial_history, greatest, joins, kept_reply}
-use Rattle.ptpm_agent.specs.Turn.{Clock}
-use Rattle.ptpm_manager.specs.declared.ask.Ask.{Ask}
+use Rattle.ptpm_network.proofs.Common.{suc, zero, arith, ◌≡◌, ℕ, ◌<◌, ◌≤◌, ◌+◌, ◌-◌, ◌==◌, ◌&&◌, max, Bool, List, [], ◌∷◌, ◌++◌, Some, None, true, false, refl, sym, ◌∙◌, ap, subst, ⊎_elim, ◌⊎◌, inl, inr, length, length-append, append_assoc, cases_Bool, and_parts, and_left, and_right, eqb-true, ltb-true, ne_eqb, cond-true, cond-false, lt-ltb, append-nil, is_some, nat_lt, not, option_map, slice_get, option_or, AllByRecursion, find, PortIdentity, same_identity, first_of, DataSetsValue, Answer, RequestValue, same_identity-true, Accepted, History, RequestCopy, accepted_from, after_copy, applied_once, initial_history, greatest, joins, kept_reply, Clock, Ask, Report, ask_refusal, SessionValue, begin_refusal, count_limit, is_waiting, Begin, BeginRefused, Event, IsInRange, NoSuchName, begin_refused, no_session, refusal, IsReached, WasAccepted, run, IsNetwork, Network, manager, NetworkState, SessionState, accepted_at_target, copies_at, initial_state, history, issued, outcomes_kept, reports_by, reports_of, session_value, unanswered, IsWorth, WasCarriedOut, entries_of}
 use Rattle.ptpm_manager.specs.declared.error.BeginError.TheVariants as begins
-use Rattle.ptpm_manager.specs.declared.report.Report.{Report}
-use Rattle.ptpm_manager.specs.Ask.{ask_refusal}
-use Rattle.ptpm_manager.specs.Session.{SessionValue, begin_refusal, count_limit, is_waiting}
-use Rattle.ptpm_network.specs.Events.{Begin, BeginRefused, Event, IsInRange, NoSuchName, begin_refused, no_session, refusal}
-use Rattle.ptpm_network.specs.Invariant.{IsReached, WasAccepted}
-use Rattle.ptpm_network.specs.Machine.{run}
-use Rattle.ptpm_network.specs.Network.{IsNetwork, Network, manager}
-use Rattle.ptpm_network.specs.State.{NetworkState, SessionState, accepted_at_target, copies_at, initial_state, history, issued, outcomes_kept, reports_by, reports_of, session_value, unanswered}
-use Rattle.ptpm_network.specs.Worth.{IsWorth, WasCarriedOut, entries_of}
 use Rattle.ptpm_network.proofs.Accepting.{report_of}
 use Rattle.ptpm_network.proofs.Lists.{all_weaker}
 use Rattle.ptpm_network.proofs.Refusals.{get-below}
