@@ -95,14 +95,14 @@ pub judged-foreign : (c : Clock) (s : State) (v : Message)
 unfolding judged
 judged-foreign c s v d = cond-true _ _ _ (ap not d)
 
-judged-own : (c : Clock) (s : State) (v : Message)
+pub judged-own : (c : Clock) (s : State) (v : Message)
     → is_in_domain c s v ≡ true
     → is_own c v ≡ true
     → judged c s v ≡ verdicts.OwnMessage
 unfolding judged
 judged-own c s v d o = cond-false _ _ _ (ap not d) ∙ cond-true _ _ _ o
 
-judged-away : (c : Clock) (s : State) (v : Message)
+pub judged-away : (c : Clock) (s : State) (v : Message)
     → is_in_domain c s v ≡ true
     → is_own c v ≡ false
     → is_addressed c s.sets v ≡ false
@@ -110,7 +110,7 @@ judged-away : (c : Clock) (s : State) (v : Message)
 unfolding judged
 judged-away c s v d o a = cond-false _ _ _ (ap not d) ∙ (cond-false _ _ _ o ∙ cond-true _ _ _ (ap not a))
 
-judged-reply : (c : Clock) (s : State) (v : Message)
+pub judged-reply : (c : Clock) (s : State) (v : Message)
     → is_in_domain c s v ≡ true
     → is_own c v ≡ false
     → is_addressed c s.sets v ≡ true

@@ -1,6 +1,5 @@
 -- How what was accepted of a manager, its requests and its reports go on together.
-use Rattle.ptpm_network.proofs.Common.{suc, zero, arith, ◌≡◌, ℕ, ◌<◌, ◌≤◌, ◌+◌, ◌-◌, ◌==◌, ◌&&◌, max, List, [], ◌∷◌, ◌++◌, Option, Some, None, true, false, refl, sym, ◌∙◌, ap, subst, ⊎_elim, length, length-append, cases_Bool, cases_eq, and_parts, and_from, and_left, and_right, eqb-true, eq-eqb, ne_eqb, cond-true, cond-false, slice_get, PortIdentity, same_identity, Answer, RequestValue, answer_body, Accepted, greatest, kept_reply, Report, outcome_in, Answers, HasOneAnswer, SessionState, outcomes_kept, reports_by, reports_of, IsAsked, IsInStep, WasAccepted}
-use Rattle.ptpm_network.proofs.Lists.{get_append, get_appended}
+use Rattle.ptpm_network.proofs.Common.{by_test, suc, zero, arith, ◌≡◌, ℕ, ◌<◌, ◌≤◌, ◌+◌, ◌-◌, ◌==◌, ◌&&◌, max, List, [], ◌∷◌, ◌++◌, Option, Some, None, true, false, refl, sym, ◌∙◌, ap, subst, ⊎_elim, length, length-append, cases_eq, and_parts, and_from, and_left, and_right, eqb-true, eq-eqb, ne_eqb, cond-true, cond-false, slice_get, PortIdentity, same_identity, Answer, RequestValue, answer_body, Accepted, greatest, kept_reply, Report, outcome_in, Answers, HasOneAnswer, SessionState, outcomes_kept, reports_by, reports_of, IsAsked, IsInStep, WasAccepted, get_append, get_appended}
 
 -- ---- one more accepted request
 
@@ -16,10 +15,9 @@ greatest-other m d es t = cond-false _ _ _ t
 
 pub greatest-grows : (m : PortIdentity) (d : Accepted) (es : List Accepted)
     → greatest m es ≤ greatest m (d ∷ es)
-greatest-grows m d es = ⊎_elim
-    (λ (t : same_identity m d.manager ≡ true). omega (arith, greatest-same m d es t))
-    (λ (t : same_identity m d.manager ≡ false). omega (arith, greatest-other m d es t))
-    (cases_Bool (same_identity m d.manager))
+greatest-grows m d es = by_test (same_identity m d.manager)
+    (λ t. omega (arith, greatest-same m d es t))
+    (λ t. omega (arith, greatest-other m d es t))
 
 kept-first : (m : PortIdentity) (k : ℕ) (d : Accepted) (es : List Accepted)
     → same_identity m d.manager ≡ true
@@ -37,14 +35,11 @@ pub kept-le : (m : PortIdentity) (k : ℕ) (es : List Accepted) (e : Accepted)
     → kept_reply m k es ≡ Some e
     → k ≤ greatest m es
 kept-le m k [] e a = absurd (cc)
-kept-le m k (d ∷ es) e a = ⊎_elim
-    (λ (t : (same_identity m d.manager && d.index == k) ≡ true).
-    let parts = and_parts (same_identity m d.manager) (d.index == k) t in
+kept-le m k (d ∷ es) e a = by_test (same_identity m d.manager && d.index == k)
+    (λ t. let parts = and_parts (same_identity m d.manager) (d.index == k) t in
     let i : d.index ≡ k = eqb-true d.index k parts.1 in
     omega (arith, greatest-same m d es parts.0, i))
-    (λ (f : (same_identity m d.manager && d.index == k) ≡ false).
-    omega (arith, greatest-grows m d es, kept-le m k es e (sym (kept-rest m k d es f) ∙ a)))
-    (cases_Bool (same_identity m d.manager && d.index == k))
+    (λ f. omega (arith, greatest-grows m d es, kept-le m k es e (sym (kept-rest m k d es f) ∙ a)))
 
 -- what joins is of another manager, or above all that was accepted
 abbrev pub IsAbove : PortIdentity → List Accepted → Accepted → Type 0
@@ -55,10 +50,9 @@ pub kept-joined : (m : PortIdentity) (es : List Accepted) (d : Accepted) (k : �
     → IsAbove m es d
     → k ≤ greatest m es
     → kept_reply m k (d ∷ es) ≡ kept_reply m k es
-kept-joined m es d k above le = kept-rest m k d es (⊎_elim
-    (λ (y : same_identity m d.manager ≡ true). let lt : greatest m es < d.index = above y in and_right _ _ (ne_eqb d.index k (λ (q : d.index ≡ k). omega arith)))
-    (λ (n : same_identity m d.manager ≡ false). and_left _ _ n)
-    (cases_Bool (same_identity m d.manager)))
+kept-joined m es d k above le = kept-rest m k d es (by_test (same_identity m d.manager)
+    (λ y. let lt : greatest m es < d.index = above y in and_right _ _ (ne_eqb d.index k (λ (q : d.index ≡ k). omega arith)))
+    (λ n. and_left _ _ n))
 
 outcomes_kept-joined : (m : PortIdentity) (es : List Accepted) (d : Accepted) (n : ℕ)
     → IsAbove m es d
@@ -130,10 +124,9 @@ from_one-joined : (m : PortIdentity) (es : List Accepted) (d : Accepted)
     → IsAbove m es d
     → kept_reply m 0 es ≡ None
     → kept_reply m 0 (d ∷ es) ≡ None
-from_one-joined m es d above none = kept-rest m 0 d es (⊎_elim
-    (λ (y : same_identity m d.manager ≡ true). let lt : greatest m es < d.index = above y in and_right _ _ (ne_eqb d.index 0 (λ (q : d.index ≡ 0). omega arith)))
-    (λ (n : same_identity m d.manager ≡ false). and_left _ _ n)
-    (cases_Bool (same_identity m d.manager))) ∙ none
+from_one-joined m es d above none = kept-rest m 0 d es (by_test (same_identity m d.manager)
+    (λ y. let lt : greatest m es < d.index = above y in and_right _ _ (ne_eqb d.index 0 (λ (q : d.index ≡ 0). omega arith)))
+    (λ n. and_left _ _ n)) ∙ none
 
 -- a manager goes on where one of its requests joins, or one of another manager
 pub in_step-joined : (m : PortIdentity) (ports : ℕ) (es : List Accepted) (d : Accepted)
@@ -145,18 +138,15 @@ pub in_step-joined : (m : PortIdentity) (ports : ℕ) (es : List Accepted) (d : 
 in_step-joined m ports es d s above own at = record {
   asked = at.asked;
   one_at_a_time = at.one_at_a_time;
-  begun_before = ⊎_elim
-      (λ (y : same_identity m d.manager ≡ true). omega (arith, greatest-same m d es y, at.begun_before, (own y).index))
-      (λ (n : same_identity m d.manager ≡ false). omega (arith, greatest-other m d es n, at.begun_before))
-      (cases_Bool (same_identity m d.manager));
+  begun_before = by_test (same_identity m d.manager)
+      (λ y. omega (arith, greatest-same m d es y, at.begun_before, (own y).index))
+      (λ n. omega (arith, greatest-other m d es n, at.begun_before));
   accepted_before = omega (arith, greatest-grows m d es, at.accepted_before);
   from_one = from_one-joined m es d above at.from_one;
-  without_gap = λ k p le. ⊎_elim
-      (λ (y : same_identity m d.manager ≡ true). without_gap-own m ports es d s y above (own y) at k p le)
-      (λ (n : same_identity m d.manager ≡ false).
-      let below : k ≤ greatest m es = omega (arith, greatest-other m d es n, le) in
-      was_accepted-joined m s.begun es d k above below (at.without_gap k p below))
-      (cases_Bool (same_identity m d.manager));
+  without_gap = λ k p le. by_test (same_identity m d.manager)
+      (λ y. without_gap-own m ports es d s y above (own y) at k p le)
+      (λ n. let below : k ≤ greatest m es = omega (arith, greatest-other m d es n, le) in
+      was_accepted-joined m s.begun es d k above below (at.without_gap k p below));
   reports = at.reports ∙ sym (outcomes_kept-joined m es d (length s.reports) above at.accepted_before);
 }
 

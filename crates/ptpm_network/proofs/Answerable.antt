@@ -1,10 +1,9 @@
 -- One copy each way along a way answers the request: the session sends it, the way gives the deliveries, and it is reported.
-use Rattle.ptpm_network.proofs.Common.{arith, ◌≡◌, ℕ, ◌<◌, ◌≤◌, ◌+◌, ◌-◌, ◌==◌, List, [], ◌∷◌, ◌++◌, Some, None, true, false, refl, sym, ◌∙◌, ap, subst, length, length-append, cond-true, eq-eqb, eqb-false, ne_eqb, is_none, is_some, not, option_map, AllByRecursion, list_any, option_or, Message, canonical, boundary_hops, domain_number, first_of, RequestValue, SessionValue, is_waiting, send_refusal, request_message, Deliver, Event, IsInRange, Send, SendRefused, frames_limit, no_room, refusal, send_refused, HasReported, HasRoom, IsReached, AreInTime, happens, is_late_frame, run, sent_frames, step, taken, AtPort, AtSession, End, IsNetwork, Network, peers, ports, same_end, Frame, NetworkState, RequestOf, ReplyTo, SessionState, initial_state, greatest_accepted, is_idle, is_late, issued, new_frames, session_value, unanswered, ComeIn, ComesIn, Hop, IsAnswerable, IsWay, LinksHaveAtMost, PassesOn, ends_of, handed_in, made_along, made_each_way, passed_at_most, visited}
+use Rattle.ptpm_network.proofs.Common.{arith, ◌≡◌, ℕ, ◌<◌, ◌≤◌, ◌+◌, ◌-◌, ◌==◌, List, [], ◌∷◌, ◌++◌, Some, None, true, false, refl, sym, ◌∙◌, ap, subst, length, length-append, cond-true, eq-eqb, eqb-false, ne_eqb, is_none, is_some, not, option_map, AllByRecursion, list_any, option_or, Message, canonical, boundary_hops, domain_number, first_of, RequestValue, SessionValue, is_waiting, send_refusal, request_message, Deliver, Event, IsInRange, Send, SendRefused, frames_limit, no_room, refusal, send_refused, HasReported, HasRoom, IsReached, AreInTime, happens, is_late_frame, run, sent_frames, step, taken, AtPort, AtSession, End, IsNetwork, Network, peers, ports, same_end, Frame, NetworkState, RequestOf, ReplyTo, SessionState, initial_state, is_idle, is_late, issued, new_frames, session_value, unanswered, ComeIn, ComesIn, Hop, IsAnswerable, IsWay, LinksHaveAtMost, PassesOn, ends_of, handed_in, made_along, made_each_way, passed_at_most, visited, all_weaker, with_place-same, le_trans}
 use Rattle.ptpm_manager.specs.declared.error.SendError.TheVariants as sends
 use Rattle.ptpm_network.specs.Machine as machine
 use Rattle.ptpm_network.proofs.Carrying.{IsIn, MakesAtMost, add_most, few-made, in_any, in_map, in_right, length-map_same}
 use Rattle.ptpm_network.proofs.Exchanging.{delivery-step, is_room, reports-answer, said-domain, said-hops, step-taken}
-use Rattle.ptpm_network.proofs.Lists.{all_weaker, with_place-same}
 use Rattle.ptpm_network.proofs.Messages.{request-fits, request-valid}
 use Rattle.ptpm_network.proofs.Reaching.{frame_at-is}
 use Rattle.ptpm_network.proofs.Schedule.{reached}
@@ -235,9 +234,6 @@ fewer reports begun a ne = omega arith
 not_zero : (n : ℕ) → 0 < n → n ≡ 0 → ⊥
 not_zero n lt e = omega arith
 
-le_both : (a b c : ℕ) → a ≤ b → b ≤ c → a ≤ c
-le_both a b c x y = omega arith
-
 answerable-at : (N : Network) (w : NetworkState) (s : ℕ) (hops : List Hop) (port most : ℕ)
     → IsNetwork N
     → IsReached N w
@@ -249,7 +245,7 @@ answerable-at : (N : Network) (w : NetworkState) (s : ℕ) (hops : List Hop) (po
     → length w.frames + (most + made_along most hops) ≤ frames_limit → IsAnswerable N w s hops port
 answerable-at N w s hops port most n r place few busy attempts way room =
     let at = r.sessions s place in
-    let waits = unanswered-some (w.session s) (fewer (length (w.session s).reports) (length (w.session s).begun) (le_both (length (w.session s).reports) (greatest_accepted N w s) (length (w.session s).begun) at.accepted_before at.begun_before) (eqb-false _ _ busy)) in
+    let waits = unanswered-some (w.session s) (fewer (length (w.session s).reports) (length (w.session s).begun) (le_trans at.accepted_before at.begun_before) (eqb-false _ _ busy)) in
     let goes = send-taken N w s waits.0 place (room-now (length w.frames) (most + made_along most hops) frames_limit room) waits.1 (not_zero (w.session s).attempts_left attempts) in
     let after = subst (λ (u : NetworkState). AfterSend N w u s hops (AtPort (N.session s).target port)) (sym (send-step N w s goes)) (after-send N w s hops port most waits.0 n r place few waits.1 busy way room) in
     record { sent = goes; deliveries = after.deliveries; along = after.along; come_in = after.come_in; reported = after.reported }

@@ -1,8 +1,7 @@
 -- The frames that a clock makes of one that comes in keep the invariant.
-use Rattle.ptpm_network.proofs.Common.{arith, ◌≡◌, ℕ, ◌<◌, ◌≤◌, ◌^◌, ◌==◌, List, [], ◌∷◌, Option, Some, None, true, false, refl, sym, ◌∙◌, ap, subst, ⊎_elim, cases_Bool, and_from, cond-true, cond-false, eq-eqb, same_Some, map, AllByRecursion, ClockIdentity, PortIdentity, canonical, Answer, ReplyValue, Heard, same_request, hops_passed, rendered, reply_message, due_messages, Accepted, History, RequestCopy, accepted_from, after_copy, copy_of, due_reply, greatest, joins, kept_for, kept_reply, Clock, same_identity-refl, IsSendable, IsFrame, IsOfOrigin, IsReached, arrives, delivery, reply_frames, reply_origin, AtPort, HasEnd, IsNetwork, Network, manager, peers, ports, Frame, NetworkState, Origin, ReplyTo, accepted_at_target, history}
+use Rattle.ptpm_network.proofs.Common.{by_test, arith, ◌≡◌, ℕ, ◌<◌, ◌≤◌, ◌^◌, ◌==◌, List, [], ◌∷◌, Option, Some, None, true, false, refl, sym, ◌∙◌, ap, subst, and_from, cond-true, cond-false, eq-eqb, same_Some, map, AllByRecursion, ClockIdentity, PortIdentity, canonical, Answer, ReplyValue, Heard, same_request, hops_passed, rendered, reply_message, due_messages, Accepted, History, RequestCopy, accepted_from, after_copy, copy_of, due_reply, greatest, joins, kept_for, kept_reply, Clock, same_identity-refl, IsSendable, IsFrame, IsOfOrigin, IsReached, arrives, delivery, reply_frames, reply_origin, AtPort, HasEnd, IsNetwork, Network, manager, peers, ports, Frame, NetworkState, Origin, ReplyTo, accepted_at_target, history, all_flat, all_made}
 use Rattle.ptpm_network.proofs.Arriving.{IsCopyOf, after_arrival, history-here}
 use Rattle.ptpm_network.proofs.Frames.{SaysKept, says_kept}
-use Rattle.ptpm_network.proofs.Lists.{all_flat, all_made}
 use Rattle.ptpm_network.proofs.Steps.{has_peers, new_frames-are}
 
 -- ---- the reply that is due is the one that is kept from then on
@@ -19,10 +18,9 @@ kept_for-some : (copy : RequestCopy) (o : Option Accepted) (r : ReplyValue)
     → kept_for copy o ≡ Some r
     → (e : Accepted) × (o ≡ Some e) × (e.reply ≡ r)
 kept_for-some copy None r e = absurd (cc)
-kept_for-some copy (Some a) r e = ⊎_elim
-    (λ (y : same_request a.request copy.request ≡ true). (a, refl, same_reply a.reply r (sym (cond-true _ _ _ y) ∙ e)))
-    (λ (n : same_request a.request copy.request ≡ false). let none : None ≡ Some r = sym (cond-false _ _ _ n) ∙ e in absurd (cc))
-    (cases_Bool (same_request a.request copy.request))
+kept_for-some copy (Some a) r e = by_test (same_request a.request copy.request)
+    (λ y. (a, refl, same_reply a.reply r (sym (cond-true _ _ _ y) ∙ e)))
+    (λ n. let none : None ≡ Some r = sym (cond-false _ _ _ n) ∙ e in absurd (cc))
 
 kept-accepted : (c : Clock) (h : History) (copy : RequestCopy)
     → kept_reply copy.heard.source copy.index (accepted_from c h copy ∷ h.accepted)
@@ -43,21 +41,17 @@ due-repeats : (c : Clock) (h : History) (copy : RequestCopy) (r : ReplyValue)
     → joins h copy ≡ false
     → due_reply c h copy ≡ Some r
     → IsDue c h copy r
-due-repeats c h copy r j e = ⊎_elim
-    (λ (y : greatest copy.heard.source h.accepted == copy.index ≡ true).
-    let p = kept_for-some copy (kept_reply copy.heard.source copy.index h.accepted) r (sym (cond-true _ _ _ y) ∙ (sym (cond-false _ _ _ j) ∙ e)) in
+due-repeats c h copy r j e = by_test (greatest copy.heard.source h.accepted == copy.index)
+    (λ y. let p = kept_for-some copy (kept_reply copy.heard.source copy.index h.accepted) r (sym (cond-true _ _ _ y) ∙ (sym (cond-false _ _ _ j) ∙ e)) in
     record { entry = p.0; kept = ap (λ (g : History). kept_reply copy.heard.source copy.index g.accepted) (cond-false _ _ _ j) ∙ p.1; reply = p.2 })
-    (λ (n : greatest copy.heard.source h.accepted == copy.index ≡ false).
-    let none : None ≡ Some r = sym (cond-false _ _ _ n) ∙ (sym (cond-false _ _ _ j) ∙ e) in absurd (cc))
-    (cases_Bool (greatest copy.heard.source h.accepted == copy.index))
+    (λ n. let none : None ≡ Some r = sym (cond-false _ _ _ n) ∙ (sym (cond-false _ _ _ j) ∙ e) in absurd (cc))
 
 pub is_due : (c : Clock) (h : History) (copy : RequestCopy) (r : ReplyValue)
     → due_reply c h copy ≡ Some r
     → IsDue c h copy r
-is_due c h copy r e = ⊎_elim
-    (λ (y : joins h copy ≡ true). due-joins c h copy r y e)
-    (λ (n : joins h copy ≡ false). due-repeats c h copy r n e)
-    (cases_Bool (joins h copy))
+is_due c h copy r e = by_test (joins h copy)
+    (λ y. due-joins c h copy r y e)
+    (λ n. due-repeats c h copy r n e)
 
 -- ---- frames of new messages
 

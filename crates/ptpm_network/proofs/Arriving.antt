@@ -1,10 +1,9 @@
 -- What a delivery at a clock does to what the clock accepted.
-use Rattle.ptpm_network.proofs.Common.{◌≡◌, ℕ, ◌<◌, ◌≤◌, ◌-◌, ◌==◌, nat_lt, List, [], ◌∷◌, ◌++◌, Option, Some, None, true, false, refl, sym, ◌∙◌, ap, subst, ⊎_elim, ◌⊎◌, inl, inr, length, cases_Bool, and_parts, cond-true, cond-false, eq-eqb, eqb-true, ltb-true, not-true, true≢false, same_Some, cons_option, slice_get, PortIdentity, Action, Message, same_identity, action_of, is_reply, message_of, Outcome, RequestValue, answer_body, Accepted, Delivery, History, RequestCopy, accepted_from, after_copy, applied_once, copies, initial_history, copy_from, copy_of, greatest, is_copy, joined, joins, kept_reply, Clock, DeliversCopy, applied_once-ports, delivers_copy, same_identity-true, copy_parts, number_of, AreDataSets, IsForOne, IsInStep, IsReached, arrives, delivery, index_of, IsNetwork, Network, manager, ports, Frame, NetworkState, Origin, RequestOf, ReplyTo, Neither, accepted_at_target, copies_at, history, reply_action-is_reply}
+use Rattle.ptpm_network.proofs.Common.{by_test, ◌≡◌, ℕ, ◌<◌, ◌≤◌, ◌-◌, ◌==◌, nat_lt, List, [], ◌∷◌, ◌++◌, Option, Some, None, true, false, refl, sym, ◌∙◌, ap, subst, ⊎_elim, ◌⊎◌, inl, inr, length, and_parts, cond-true, cond-false, eq-eqb, eqb-true, ltb-true, not-true, true≢false, same_Some, cons_option, slice_get, PortIdentity, Action, Message, same_identity, action_of, is_reply, message_of, Outcome, RequestValue, answer_body, Accepted, Delivery, History, RequestCopy, accepted_from, after_copy, applied_once, copies, initial_history, copy_from, copy_of, greatest, is_copy, joined, joins, kept_reply, Clock, DeliversCopy, applied_once-ports, delivers_copy, same_identity-true, copy_parts, number_of, AreDataSets, IsForOne, IsInStep, IsReached, arrives, delivery, index_of, IsNetwork, Network, manager, ports, Frame, NetworkState, Origin, RequestOf, ReplyTo, Neither, accepted_at_target, copies_at, history, reply_action-is_reply, with_place-other, with_place-same}
 use Rattle.std.proofs.lemmas.List.Elements.{filter_map-append}
 use Rattle.ptpm_data.specs.Reply as reply
 use Rattle.ptpm_network.proofs.Accepting.{IsAbove, JoinsOwn, in_step-joined, kept-joined, kept-le}
 use Rattle.ptpm_network.proofs.Frames.{IsHeard, SaysRequest, same_read, says_reply, says_request}
-use Rattle.ptpm_network.proofs.Lists.{with_place-other, with_place-same}
 use Rattle.ptpm_network.proofs.Messages.{request_at}
 use Rattle.ptpm_network.proofs.Requests.{answered, kept, once}
 use Rattle.ptpm_network.proofs.Steps.{KeptStays, frames-stay}
@@ -150,15 +149,14 @@ here_by N w c port f None n r place i e =
 here_by N w c port f (Some copy) n r place i e =
     let is : history N (arrives w c (delivery port f)) c ≡ after_copy (N.clock c) (history N w c) copy =
     history-here N w c (delivery port f) ∙ ap (after_arrival (N.clock c) (history N w c)) e in
-    ⊎_elim
-    (λ (y : joins (history N w c) copy ≡ true). inr (record {
+    by_test (joins (history N w c) copy)
+    (λ y. inr (record {
       copy = copy;
       of = is_copy_of N w c port f copy n r place i e;
       above = ltb-true _ _ (and_parts (copy.heard.domain == (history N w c).sets.default.domain) (nat_lt (greatest copy.heard.source (history N w c).accepted) copy.index) y).1;
       is = is ∙ cond-true _ _ _ y;
     }))
-    (λ (f : joins (history N w c) copy ≡ false). inl (is ∙ cond-false _ _ _ f))
-    (cases_Bool (joins (history N w c) copy))
+    (λ f. inl (is ∙ cond-false _ _ _ f))
 
 pub here_after : (N : Network) (w : NetworkState) (c port : ℕ) (f : Frame)
     → IsNetwork N
@@ -190,10 +188,9 @@ clocks-after : (N : Network) (w : NetworkState) (c port : ℕ) (f : Frame)
     → (d : ℕ)
     → d < N.clocks
     → AreDataSets (ports N d) (history N (arrives w c (delivery port f)) d).sets
-clocks-after N w c port f n r place i d exists = ⊎_elim
-    (λ (y : d == c ≡ true). subst (λ j. AreDataSets (ports N j) (history N (arrives w c (delivery port f)) j).sets) (sym (eqb-true d c y)) (clock-after N w c port f n r place i))
-    (λ (o : d == c ≡ false). subst (λ (h : History). AreDataSets (ports N d) h.sets) (sym (history-elsewhere N w c (delivery port f) d o)) (r.clocks d exists))
-    (cases_Bool (d == c))
+clocks-after N w c port f n r place i d exists = by_test (d == c)
+    (λ y. subst (λ j. AreDataSets (ports N j) (history N (arrives w c (delivery port f)) j).sets) (sym (eqb-true d c y)) (clock-after N w c port f n r place i))
+    (λ o. subst (λ (h : History). AreDataSets (ports N d) h.sets) (sym (history-elsewhere N w c (delivery port f) d o)) (r.clocks d exists))
 
 -- ---- what was accepted of a session
 
@@ -256,12 +253,10 @@ pub gains : (N : Network) (w : NetworkState) (c port : ℕ) (f : Frame)
     → t < N.sessions
     → StaysOrGains (manager N t) (w.session t).begun
     (accepted_at_target N (arrives w c (delivery port f)) t) (accepted_at_target N w t)
-gains N w c port f n r place i t exists = ⊎_elim
-    (λ (y : (N.session t).target == c ≡ true).
-    subst (λ d. StaysOrGains (manager N t) (w.session t).begun (history N (arrives w c (delivery port f)) d).accepted (history N w d).accepted)
+gains N w c port f n r place i t exists = by_test ((N.session t).target == c)
+    (λ y. subst (λ d. StaysOrGains (manager N t) (w.session t).begun (history N (arrives w c (delivery port f)) d).accepted (history N w d).accepted)
     (sym (eqb-true (N.session t).target c y)) (gains-here N w c port f n r place i t exists))
-    (λ (o : (N.session t).target == c ≡ false). inl (ap (λ (h : History). h.accepted) (history-elsewhere N w c (delivery port f) (N.session t).target o)))
-    (cases_Bool ((N.session t).target == c))
+    (λ o. inl (ap (λ (h : History). h.accepted) (history-elsewhere N w c (delivery port f) (N.session t).target o)))
 
 -- ---- the invariant, before the clock sends anything
 

@@ -1,10 +1,9 @@
 -- What a clock on the way does with a copy of a request, or of the reply: it passes it on, and nothing else changes.
-use Rattle.ptpm_network.proofs.Common.{suc, zero, arith, ◌≡◌, ℕ, ◌<◌, ◌≤◌, ◌+◌, ◌-◌, ◌*◌, ◌/◌, ◌==◌, ◌&&◌, ◌||◌, Bool, List, [], ◌∷◌, ◌++◌, Option, Some, None, true, false, refl, sym, ◌∙◌, ap, subst, ⊎_elim, length, length-append, and_from, and_left, and_parts, and_right, cases_Bool, cond-false, cond-true, eq-eqb, eqb-false, eqb-true, false≢true, lt-ltb, ne_eqb, or_cases, or_from, append-nil, slice_get_within, flat_map, map, nat_lt, not, slice_get, AllByRecursion, filter, list_any, range_with_len, ClockIdentity, PortIdentity, Message, every_clock, same_clock, boundary_hops, domain_number, Fits, message_of, DataSetsValue, is_forwarding_port, may_forward, is_known, egress_ports, forwarded, forwarded_by, with_less_hop, History, RequestCopy, copy_by, copy_of, is_addressed, is_for_this_clock, is_own, names_port, Clock, AreDataSets, IsOfOrigin, IsReached, answering_frames, arrives, delivered_at_clock, delivery, forwarded_frames, made_frames, read_messages, reply_frames, AtPort, AtSession, End, IsNetwork, Network, manager, peers, ports, same_end, Frame, NetworkState, RequestOf, ReplyTo, Neither, frames_to, history, LinksHaveAtMost, passed_at_most}
+use Rattle.ptpm_network.proofs.Common.{by_test, suc, zero, arith, ◌≡◌, ℕ, ◌<◌, ◌≤◌, ◌+◌, ◌-◌, ◌*◌, ◌/◌, ◌==◌, ◌&&◌, ◌||◌, Bool, List, [], ◌∷◌, ◌++◌, Option, Some, None, true, refl, sym, ◌∙◌, ap, subst, ⊎_elim, length, length-append, and_from, and_left, and_parts, and_right, cond-false, cond-true, eq-eqb, eqb-false, eqb-true, false≢true, lt-ltb, ne_eqb, or_cases, or_from, append-nil, slice_get_within, flat_map, map, nat_lt, not, slice_get, AllByRecursion, filter, list_any, range_with_len, ClockIdentity, PortIdentity, Message, every_clock, same_clock, boundary_hops, domain_number, Fits, message_of, DataSetsValue, is_forwarding_port, may_forward, is_known, egress_ports, forwarded, forwarded_by, with_less_hop, History, RequestCopy, copy_by, copy_of, is_addressed, is_for_this_clock, is_own, names_port, Clock, AreDataSets, IsOfOrigin, IsReached, answering_frames, arrives, delivered_at_clock, delivery, forwarded_frames, made_frames, read_messages, reply_frames, AtPort, AtSession, End, IsNetwork, Network, manager, peers, ports, same_end, Frame, NetworkState, RequestOf, ReplyTo, Neither, frames_to, history, LinksHaveAtMost, passed_at_most, get_append, le_trans, filter-few, length-range_with_len}
 use Rattle.ptpm_data.specs.declared.data_sets.PortDataSet.{PortDataSet}
 use Rattle.ptpm_network.proofs.Arriving.{after_arrival, history-elsewhere, history-here}
 use Rattle.ptpm_network.proofs.Exchanging.{clocks_apart, message-domain}
 use Rattle.ptpm_network.proofs.Frames.{says_reply, says_request}
-use Rattle.ptpm_network.proofs.Lists.{get_append}
 use Rattle.ptpm_network.proofs.Messages.{less_hop-hops, less_hop-message, message-hops, reply_at, request_at}
 
 -- ---- elements of lists
@@ -54,10 +53,9 @@ in_filter-at test (y ∷ xs) zero x e t =
     subst (λ ys. IsIn ys x) (sym (cond-true _ _ _ (ap test q ∙ t))) (0, e)
 in_filter-at test (y ∷ xs) (suc i) x e t =
     let rest = in_filter-at test xs i x e t in
-    ⊎_elim
-    (λ (h : test y ≡ true). subst (λ ys. IsIn ys x) (sym (cond-true _ _ _ h)) (suc rest.0, rest.1))
-    (λ (h : test y ≡ false). subst (λ ys. IsIn ys x) (sym (cond-false _ _ _ h)) rest)
-    (cases_Bool (test y))
+    by_test (test y)
+    (λ h. subst (λ ys. IsIn ys x) (sym (cond-true _ _ _ h)) (suc rest.0, rest.1))
+    (λ h. subst (λ ys. IsIn ys x) (sym (cond-false _ _ _ h)) rest)
 
 pub in_filter : {X : Type 0} (test : X → Bool) (xs : List X) (x : X)
     → IsIn xs x
@@ -106,12 +104,10 @@ between q n a b = (omega arith, omega arith)
 forwarding-exists : (q : ℕ) (d : DataSetsValue)
     → may_forward q d ≡ true
     → (1 ≤ q) × (q ≤ length d.ports)
-forwarding-exists q d y = ⊎_elim
-    (λ (z : q == 0 ≡ true). absurd (false≢true (sym (ap is_forwarding_port (cond-true _ _ _ z)) ∙ y)))
-    (λ (n : q == 0 ≡ false).
-    let some = forwarding-at (slice_get d.ports (q - 1)) (sym (ap is_forwarding_port (cond-false _ _ _ n)) ∙ y) in
+forwarding-exists q d y = by_test (q == 0)
+    (λ z. absurd (false≢true (sym (ap is_forwarding_port (cond-true _ _ _ z)) ∙ y)))
+    (λ n. let some = forwarding-at (slice_get d.ports (q - 1)) (sym (ap is_forwarding_port (cond-false _ _ _ n)) ∙ y) in
     between q (length d.ports) (eqb-false q 0 n) (slice_get_within d.ports (q - 1) some.0 some.1))
-    (cases_Bool (q == 0))
 
 egress-in : (p q : ℕ) (d : DataSetsValue)
     → (q ≡ p → ⊥)
@@ -124,26 +120,12 @@ egress-in p q d ne y =
 
 -- ---- how many frames a message makes at most
 
-length-filter_le : {X : Type 0} (test : X → Bool) (xs : List X)
-    → length (filter test xs) ≤ length xs
-length-filter_le test [] = omega arith
-length-filter_le test (x ∷ xs) =
-    let rest = length-filter_le test xs in
-    ⊎_elim
-    (λ (h : test x ≡ true). let is : length (filter test (x ∷ xs)) ≡ suc (length (filter test xs)) = ap length (cond-true _ _ _ h) in omega (arith, is, rest))
-    (λ (h : test x ≡ false). let is : length (filter test (x ∷ xs)) ≡ length (filter test xs) = ap length (cond-false _ _ _ h) in omega (arith, is, rest))
-    (cases_Bool (test x))
-
-length-range : (a n : ℕ) → length (range_with_len a n) ≡ n
-length-range a zero = refl
-length-range a (suc n) = omega (arith, length-range (a + 1) n)
-
 pub length-map_same : {X Y : Type 0} (f : X → Y) (xs : List X) → length (map f xs) ≡ length xs
 length-map_same f [] = refl
 length-map_same f (x ∷ xs) = omega (arith, length-map_same f xs)
 
 pub few-egress : (p : ℕ) (d : DataSetsValue) → length d.ports ≤ 8 → length (egress_ports p d) ≤ 8
-few-egress p d few = omega (arith, length-filter_le (λ port. not (port == p) && may_forward port d) (range_with_len 1 (length d.ports)), length-range 1 (length d.ports))
+few-egress p d few = omega (arith, filter-few (λ port. not (port == p) && may_forward port d) (range_with_len 1 (length d.ports)), length-range_with_len 1 (length d.ports))
 
 -- as often as this list has elements
 abbrev times : ℕ → ℕ → ℕ
@@ -160,9 +142,6 @@ flat-times : {X Y : Type 0} (f : X → List Y) (m : ℕ) (xs : List X)
     → length (flat_map f xs) ≤ times (length xs) m
 flat-times f m [] each = omega arith
 flat-times f m (x ∷ xs) each = omega (arith, length-append (f x) (flat_map f xs), each x, flat-times f m xs each)
-
-le_both : (a b c : ℕ) → a ≤ b → b ≤ c → a ≤ c
-le_both a b c x y = omega arith
 
 -- eight times an eighth
 eighth : (x most : ℕ) → 8 * x ≤ most → x ≤ most / 8
@@ -182,11 +161,9 @@ few-peers : (ends : ℕ) (links : List (List End)) (e : End)
     → AllByRecursion (λ link. length link ≤ ends) links
     → length (peers links e) ≤ ends
 few-peers ends [] e all = omega arith
-few-peers ends (link ∷ links) e all = ⊎_elim
-    (λ (y : list_any (same_end e) link ≡ true).
-    subst (λ es. length es ≤ ends) (sym (cond-true _ _ _ y)) (le_both (length (filter (λ other. not (same_end e other)) link)) (length link) ends (length-filter_le (λ other. not (same_end e other)) link) all.0))
-    (λ (n : list_any (same_end e) link ≡ false). subst (λ es. length es ≤ ends) (sym (cond-false _ _ _ n)) (few-peers ends links e all.1))
-    (cases_Bool (list_any (same_end e) link))
+few-peers ends (link ∷ links) e all = by_test (list_any (same_end e) link)
+    (λ y. subst (λ es. length es ≤ ends) (sym (cond-true _ _ _ y)) (le_trans (filter-few (λ other. not (same_end e other)) link) all.0))
+    (λ n. subst (λ es. length es ≤ ends) (sym (cond-false _ _ _ n)) (few-peers ends links e all.1))
 
 pub few-made : (N : Network) (ends : ℕ)
     → LinksHaveAtMost N ends
@@ -317,12 +294,10 @@ made-passing N w c p q f v may =
 pub passing-history : (N : Network) (w : NetworkState) (c p : ℕ) (f : Frame) (d : ℕ)
     → IsPassing (N.clock c).identity f.octets
     → history N (delivered_at_clock N w c p f) d ≡ history N w d
-passing-history N w c p f d v = ⊎_elim
-    (λ (y : d == c ≡ true).
-    subst (λ j. history N (arrives w c (delivery p f)) j ≡ history N w j) (sym (eqb-true d c y))
+passing-history N w c p f d v = by_test (d == c)
+    (λ y. subst (λ j. history N (arrives w c (delivery p f)) j ≡ history N w j) (sym (eqb-true d c y))
     (history-here N w c (delivery p f) ∙ ap (after_arrival (N.clock c) (history N w c)) (passing-no_copy (N.clock c) (ports N c) p f v)))
-    (λ (n : d == c ≡ false). history-elsewhere N w c (delivery p f) d n)
-    (cases_Bool (d == c))
+    (λ n. history-elsewhere N w c (delivery p f) d n)
 
 -- the copy for this end
 abbrev pub passed_copy : Frame → End → Frame

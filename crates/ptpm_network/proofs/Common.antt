@@ -1,10 +1,11 @@
 -- The names that most of these proofs cite, passed on from one place. It declares nothing.
-pub use Rattle.std.proofs.Common.{[], ap, append_assoc, arith, Bool, drop, Err, false, flat_map, if◌then◌else◌, inl, inr, is_none, is_some, length, length-append, List, map, max, nat_le, nat_lt, None, not, Ok, Option, option_map, refl, replicate, Result, slice_get, slice_set, Some, subst, suc, sym, take, true, zero, ℕ, ⊎_elim, ◌&&◌, ◌*◌, ◌++◌, ◌+◌, ◌-◌, ◌/◌, ◌<◌, ◌==◌, ◌^◌, ◌||◌, ◌∙◌, ◌∷◌, ◌≡◌, ◌≤◌, ◌⊎◌}
+pub use Rattle.std.proofs.Common.{le_trans, [], ap, append_assoc, arith, Bool, drop, Err, false, flat_map, if◌then◌else◌, inl, inr, is_none, is_some, length, length-append, List, map, max, nat_le, nat_lt, None, not, Ok, Option, option_map, refl, replicate, Result, slice_get, slice_set, Some, subst, suc, sym, take, true, zero, ℕ, ⊎_elim, ◌&&◌, ◌*◌, ◌++◌, ◌+◌, ◌-◌, ◌/◌, ◌<◌, ◌==◌, ◌^◌, ◌||◌, ◌∙◌, ◌∷◌, ◌≡◌, ◌≤◌, ◌⊎◌}
 pub use Rattle.std.specs.List.{AllByRecursion, cons_option, Contains, filter, find, list_any, range_with_len}
 pub use Rattle.std.specs.Option.{option_or}
 pub use Rattle.std.specs.Prelude.{unwrap_or}
 pub use Rattle.std.proofs.lemmas.Bool.{and_cases, and_from, and_left, and_parts, and_right, cases_Bool, cases_eq, cond-false, cond-true, eq-eqb, eqb-false, eqb-true, false_from_ne_true, false≢true, le-leb, le-ltb, leb-true, lt-ltb, ltb-false, ltb-true, ne_eqb, not-false, not-true, or_cases, or_from, or_left, or_parts, or_right, true≢false}
 pub use Rattle.std.proofs.lemmas.List.{append-nil, drop-take, get_or-set_other, get_or-set_same, length-drop, length-map, length-set, length-take-le, map-append, take-take, take_all}
+pub use Rattle.std.proofs.lemmas.List.FromFn.{length-range_with_len}
 pub use Rattle.std.proofs.lemmas.Option.{same_Some, slice_get-map, slice_get_within}
 pub use Rattle.std.proofs.lemmas.Slice.Eq.{bytes_eq-Decides}
 pub use Rattle.ptpm_codec.specs.declared.error.DecodeError.{DecodeError}
@@ -63,7 +64,7 @@ pub use Rattle.ptpm_agent.specs.Turn.{Clock, is_accepted_repeat, is_repeat, look
 unfoldable pub use Rattle.ptpm_agent.specs.Turn.{judged, turn}
 pub use Rattle.ptpm_agent.specs.Window.{AreNumbered, IsInTime, IsInWindow, IsNumbered, KeepsWindow}
 pub use Rattle.ptpm_agent.proofs.AtMostOnce.{applied_once-ports, delivers_copy, DeliversCopy, no_copy, sets_once, stands-copy, stands-initial_history, stands-other, turns_as}
-pub use Rattle.ptpm_agent.proofs.Turns.{copy_parts, forwarded-copy, is_copy-numbered, judged-each, judged-foreign, judged-request, message_of-reading, reading-message_of, turn-message, verdict_at-unnumbered}
+pub use Rattle.ptpm_agent.proofs.Turns.{copy_parts, forwarded-copy, is_copy-numbered, judged-each, judged-foreign, judged-request, message_of-reading, reading-message_of, turn-message, verdict_at-unnumbered, judged-away, judged-own, judged-reply}
 pub use Rattle.ptpm_manager.specs.declared.ask.Ask.{Ask}
 pub use Rattle.ptpm_manager.specs.declared.report.Report.{Report}
 unfoldable pub use Rattle.ptpm_manager.specs.Ask.{ask_refusal, target_port}
@@ -89,3 +90,5 @@ pub use Rattle.ptpm_network.specs.Stands.{AreFirsts, Stands}
 pub use Rattle.ptpm_network.specs.State.{accepted_at_target, copies_at, Frame, frames_to, greatest_accepted, history, initial_state, is_idle, is_late, is_late_at, issued, Neither, NetworkState, new_frames, Origin, outcomes_kept, ReplyTo, reports_by, reports_of, RequestOf, session_value, SessionState, unanswered}
 pub use Rattle.ptpm_network.specs.Way.{AreLinked, ComeIn, ComesIn, ends_of, handed_in, Hop, IsAnswerable, IsWay, Leads, LinksHaveAtMost, made_along, made_each_way, passed_at_most, PassesOn, RunsToReport, visited}
 pub use Rattle.ptpm_network.specs.Worth.{entries_of, IsWorth, WasCarriedOut}
+pub use Rattle.ptpm_network.proofs.Lists.{all_append, all_flat, all_get, all_made, all_weaker, at_place, at_places, filter-few, filter-fewer, flat-few, get_append, get_appended, get_last, with_place-other, with_place-same}
+pub use Rattle.ptpm_network.proofs.Tests.{by_test}

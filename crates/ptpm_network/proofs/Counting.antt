@@ -1,10 +1,9 @@
 -- How many frames an event makes.
-use Rattle.ptpm_network.proofs.Common.{arith, ◌≡◌, ℕ, ◌+◌, ◌<◌, ◌≤◌, ◌*◌, List, [], ◌∷◌, ◌++◌, Option, Some, None, true, false, refl, sym, ◌∙◌, ap, subst, ⊎_elim, length, length-append, cases_Bool, cond-true, cond-false, ltb-false, length-map, nat_lt, AllByRecursion, list_any, first_of-none, option_or-none, ClockIdentity, Message, canonical, boundary_hops, message_of, DataSetsValue, read_reply_to, ReplyValue, Heard, rendered, forwarded, forwarded_by, is_forwarded, due_messages, RequestCopy, copy_of, due_reply, heard_of, request_of, Clock, due_message, Begin, Deliver, Event, Forged, FramesAtMaximum, IsInRange, Refusal, Resume, Retune, Send, Stranger, forged, frame_at, frames_limit, is_forged, no_frame, no_port, no_room, no_session, refusal, send_refused, IsFrame, IsReached, answer_messages, answer_origin, answering_frames, arrives, delivered, delivered_at, delivery, forwarded_frames, happens, is_read, made_frames, read_messages, reply_frames, run, sent_frames, step, step_by, strange_frame, AtPort, AtSession, End, HasEnd, IsLink, IsNetwork, Network, peers, ports, same_end, Frame, NetworkState, Origin, initial_state, frames_to, history, session_value}
+use Rattle.ptpm_network.proofs.Common.{by_test, arith, ◌≡◌, ℕ, ◌+◌, ◌<◌, ◌≤◌, ◌*◌, List, [], ◌∷◌, ◌++◌, Option, Some, None, refl, sym, ◌∙◌, ap, subst, length, length-append, cond-true, cond-false, ltb-false, length-map, nat_lt, AllByRecursion, list_any, first_of-none, option_or-none, ClockIdentity, Message, canonical, boundary_hops, message_of, DataSetsValue, read_reply_to, ReplyValue, Heard, rendered, forwarded, forwarded_by, is_forwarded, due_messages, RequestCopy, copy_of, due_reply, heard_of, request_of, Clock, due_message, Begin, Deliver, Event, Forged, FramesAtMaximum, IsInRange, Refusal, Resume, Retune, Send, Stranger, forged, frame_at, frames_limit, is_forged, no_frame, no_port, no_room, no_session, refusal, send_refused, IsFrame, IsReached, answer_messages, answer_origin, answering_frames, arrives, delivered, delivered_at, delivery, forwarded_frames, happens, is_read, made_frames, read_messages, reply_frames, run, sent_frames, step, step_by, strange_frame, AtPort, AtSession, End, HasEnd, IsLink, IsNetwork, Network, peers, ports, same_end, Frame, NetworkState, Origin, initial_state, frames_to, history, session_value, filter-fewer, flat-few}
 use Rattle.ptpm_agent.proofs.Egress.{copies_up_to-all, length-copies_up_to_but_one}
 use Rattle.ptpm_network.proofs.Answering.{keeps_due}
 use Rattle.ptpm_network.proofs.Arriving.{IsCopyOf, arrives-reached, is_copy_of}
 use Rattle.ptpm_network.proofs.Frames.{IsHeard, heard-frame}
-use Rattle.ptpm_network.proofs.Lists.{filter-fewer, flat-few}
 use Rattle.ptpm_network.proofs.Reaching.{first-reached, frame_at-is, port-exists, step-reached}
 use Rattle.ptpm_network.proofs.Requests.{read_few}
 use Rattle.ptpm_network.proofs.Schedule.{reached}
@@ -20,11 +19,9 @@ peers-few : (N : Network) (links : List (List End)) (e : End)
     → AllByRecursion (IsLink N) links
     → length (peers links e) ≤ 15
 peers-few N [] e a = omega arith
-peers-few N (link ∷ links) e a = ⊎_elim
-    (λ (y : list_any (same_end e) link ≡ true).
-    subst (λ (es : List End). length es ≤ 15) (sym (cond-true _ _ _ y)) (one_of_sixteen _ (length link) (filter-fewer (same_end e) link y) a.0.at_most_sixteen))
-    (λ (n : list_any (same_end e) link ≡ false). subst (λ (es : List End). length es ≤ 15) (sym (cond-false _ _ _ n)) (peers-few N links e a.1))
-    (cases_Bool (list_any (same_end e) link))
+peers-few N (link ∷ links) e a = by_test (list_any (same_end e) link)
+    (λ y. subst (λ (es : List End). length es ≤ 15) (sym (cond-true _ _ _ y)) (one_of_sixteen _ (length link) (filter-fewer (same_end e) link y) a.0.at_most_sixteen))
+    (λ n. subst (λ (es : List End). length es ≤ 15) (sym (cond-false _ _ _ n)) (peers-few N links e a.1))
 
 frames_to-few : (N : Network) (e : End) (octets : List ℕ) (o : Origin) (first_hops forwardings : ℕ)
     → IsNetwork N
@@ -58,12 +55,10 @@ forwarded_by-few : (me : ClockIdentity) (port : ℕ) (d : DataSetsValue) (octets
     → length d.ports ≤ 8
     → length (forwarded_by me port d octets o) ≤ 7
 forwarded_by-few me port d octets None low high eight = omega arith
-forwarded_by-few me port d octets (Some v) low high eight = ⊎_elim
-    (λ (y : is_forwarded me port d v ≡ true).
-    subst (λ (sent : List (ℕ × List ℕ)). length sent ≤ 7) (sym (cond-true _ _ _ y ∙ sym (copies_up_to-all port d octets)))
+forwarded_by-few me port d octets (Some v) low high eight = by_test (is_forwarded me port d v)
+    (λ y. subst (λ (sent : List (ℕ × List ℕ)). length sent ≤ 7) (sym (cond-true _ _ _ y ∙ sym (copies_up_to-all port d octets)))
     (omega (arith, length-copies_up_to_but_one port d octets (length d.ports) low high)))
-    (λ (n : is_forwarded me port d v ≡ false). subst (λ (sent : List (ℕ × List ℕ)). length sent ≤ 7) (sym (cond-false _ _ _ n)) (omega arith))
-    (cases_Bool (is_forwarded me port d v))
+    (λ n. subst (λ (sent : List (ℕ × List ℕ)). length sent ≤ 7) (sym (cond-false _ _ _ n)) (omega arith))
 
 forwarded-few : (me : ClockIdentity) (port : ℕ) (d : DataSetsValue) (octets : List ℕ)
     → 1 ≤ port
@@ -97,12 +92,10 @@ read-few : (c : Clock) (d : DataSetsValue) (port : ℕ) (o : Option Message)
     → length d.ports ≤ 8
     → length (read_messages c d port o) ≤ 8
 read-few c d port None eight = omega arith
-read-few c d port (Some v) eight = ⊎_elim
-    (λ (y : is_read c d v ≡ true).
-    subst (λ (sent : List (ℕ × List ℕ)). length sent ≤ 8) (sym (cond-true _ _ _ y))
+read-few c d port (Some v) eight = by_test (is_read c d v)
+    (λ y. subst (λ (sent : List (ℕ × List ℕ)). length sent ≤ 8) (sym (cond-true _ _ _ y))
     (subst (λ k. k ≤ 8) (sym (length-rendered c.identity (heard_of v) (read_reply_to (request_of v) d) port)) (read_few (request_of v) d eight)))
-    (λ (n : is_read c d v ≡ false). subst (λ (sent : List (ℕ × List ℕ)). length sent ≤ 8) (sym (cond-false _ _ _ n)) (omega arith))
-    (cases_Bool (is_read c d v))
+    (λ n. subst (λ (sent : List (ℕ × List ℕ)). length sent ≤ 8) (sym (cond-false _ _ _ n)) (omega arith))
 
 answers-few : (N : Network) (w : NetworkState) (c port : ℕ) (f : Frame) (o : Option RequestCopy)
     → IsNetwork N

@@ -1,9 +1,8 @@
 -- What one copy of a session's last request brings about at its target, and one of the reply at the session.
-use Rattle.ptpm_network.proofs.Common.{arith, ◌≡◌, ℕ, ◌<◌, ◌≤◌, ◌+◌, ◌-◌, ◌^◌, ◌==◌, List, [], ◌∷◌, ◌++◌, Option, Some, None, true, false, refl, sym, ◌∙◌, ap, subst, ⊎_elim, length, length-append, and_from, and_left, and_right, cases_Bool, cases_eq, cond-false, cond-true, eq-eqb, eqb-false, false_from_ne_true, le-leb, le-ltb, lt-ltb, or_left, or_right, append-nil, same_Some, bytes_eq-Decides, nat_le, nat_lt, not, AllByRecursion, option_or, ClockIdentity, PortIdentity, Message, canonical, every_port, same_clock, boundary_hops, domain_number, message_length, Fits, IsValid, first_of, message_of, canonical_spells, same_clock-refl, same_clock-true, octet-take, message_of-some, message_of-spells, message_size, is_of_port, DataSetsValue, reply_to, Answer, ReplyValue, RequestValue, is_known, same_request, hops_passed, reply_message, forwarded, forwarded_by, due_messages, Accepted, History, RequestCopy, after_copy, copy_by, copy_from, copy_of, due_reply, greatest, is_copy, kept_for, kept_reply, is_for_this_clock, is_own, is_request, names_port, Clock, Report, outcome_in, Deliver, Event, FramesAtMaximum, IsInRange, frame_at, frames_limit, no_frame, no_room, refusal, HasReplied, HasReported, HasRoom, IsHeardBy, IsAsked, IsFrame, IsOfOrigin, IsReached, answering_frames, arrives, delivered, delivered_at, delivered_at_clock, delivery, forwarded_frames, happens, index_of, is_answer, made_frames, reply_frames, reply_origin, report_from, reported, run, step, step_by, told_by, AtPort, AtSession, End, HasEnd, IsNetwork, Network, manager, peers, ports, Frame, NetworkState, Origin, RequestOf, ReplyTo, SessionState, accepted_at_target, initial_state, greatest_accepted, history, is_idle, is_late, issued, new_frames}
+use Rattle.ptpm_network.proofs.Common.{by_test, arith, ◌≡◌, ℕ, ◌<◌, ◌≤◌, ◌+◌, ◌-◌, ◌^◌, ◌==◌, List, [], ◌∷◌, ◌++◌, Option, Some, None, true, false, refl, sym, ◌∙◌, ap, subst, ⊎_elim, length, length-append, and_from, and_right, cases_eq, cond-false, cond-true, eq-eqb, eqb-false, false_from_ne_true, le-leb, le-ltb, lt-ltb, or_left, or_right, append-nil, same_Some, bytes_eq-Decides, nat_le, nat_lt, not, AllByRecursion, option_or, ClockIdentity, PortIdentity, Message, canonical, every_port, same_clock, boundary_hops, domain_number, message_length, Fits, IsValid, first_of, message_of, canonical_spells, same_clock-refl, same_clock-true, octet-take, message_of-some, message_of-spells, message_size, is_of_port, reply_to, Answer, ReplyValue, RequestValue, is_known, same_request, hops_passed, reply_message, due_messages, Accepted, History, RequestCopy, after_copy, copy_by, copy_from, copy_of, due_reply, greatest, is_copy, kept_for, kept_reply, is_for_this_clock, is_own, is_request, names_port, Clock, Report, outcome_in, Deliver, Event, FramesAtMaximum, IsInRange, frame_at, frames_limit, no_frame, no_room, refusal, HasReplied, HasReported, HasRoom, IsHeardBy, IsAsked, IsFrame, IsOfOrigin, IsReached, answering_frames, arrives, delivered, delivered_at, delivered_at_clock, delivery, forwarded_frames, happens, index_of, is_answer, made_frames, reply_frames, reply_origin, report_from, reported, run, step, step_by, told_by, AtPort, AtSession, End, HasEnd, IsNetwork, Network, manager, peers, ports, Frame, NetworkState, Origin, RequestOf, ReplyTo, SessionState, accepted_at_target, initial_state, greatest_accepted, history, is_idle, is_late, issued, new_frames, with_place-same, le_trans, forwarded-copy}
 use Rattle.ptpm_network.proofs.Answering.{is_due, rendered-one, small}
 use Rattle.ptpm_network.proofs.Arriving.{after_arrival, arrives-reached, history-here}
 use Rattle.ptpm_network.proofs.Frames.{SaysRequest, heard-frame, says_kept, says_reply, says_request, sendable-one}
-use Rattle.ptpm_network.proofs.Lists.{with_place-same}
 use Rattle.ptpm_network.proofs.Messages.{message-hops, reply-fits, reply-valid, reply_at, request_at}
 use Rattle.ptpm_network.proofs.Reaching.{frame_at-is}
 use Rattle.ptpm_network.proofs.Schedule.{reached}
@@ -56,12 +55,10 @@ clocks_same a b e = subst (λ (x : ClockIdentity). same_clock a x ≡ true) e (s
 -- ---- a copy of a session's request at its target
 
 port-named : (p : ℕ) (q : RequestValue) → IsAsked p q → names_port p q.port ≡ true
-port-named p q asked = ⊎_elim
-    (λ (y : is_of_port q.id ≡ true).
-    let one = asked.one y in
+port-named p q asked = by_test (is_of_port q.id)
+    (λ y. let one = asked.one y in
     or_right _ _ (and_from (nat_le 1 q.port) (nat_le q.port p) (le-leb 1 q.port one.0) (le-leb q.port p one.1)))
-    (λ (n : is_of_port q.id ≡ false). or_left _ _ (eq-eqb q.port every_port (asked.every n)))
-    (cases_Bool (is_of_port q.id))
+    (λ n. or_left _ _ (eq-eqb q.port every_port (asked.every n)))
 
 request-is_copy : (N : Network) (s k domain hops : ℕ) (q : RequestValue)
     → IsNetwork N
@@ -91,16 +88,6 @@ copy-is : (N : Network) (s port : ℕ) (f : Frame) (v : Message)
     ≡ Some (copy_from (delivery port f) v)
 copy-is N s port f v e is =
     ap (copy_by (N.clock (N.session s).target) (ports N (N.session s).target) (delivery port f)) e ∙ cond-true _ _ _ is
-
--- what is for exactly this clock is not passed on
-here-kept : (c : Clock) (port : ℕ) (d : DataSetsValue) (octets : List ℕ) (v : Message)
-    → message_of octets ≡ Some v
-    → is_for_this_clock c v ≡ true
-    → forwarded c.identity port d octets ≡ []
-unfolding forwarded
-here-kept c port d octets v e here =
-    ap (forwarded_by c.identity port d octets) e
-    ∙ cond-false _ _ _ (and_right (v.sdo == 0) _ (and_right (v.domain == d.default.domain) _ (and_right (not (same_clock v.source.clock c.identity)) _ (and_left (not (same_clock v.target.clock c.identity)) _ (ap not here)))))
 
 -- ---- a reply is due to it
 
@@ -265,7 +252,7 @@ made-reply N w s port f x v r origin e here is due ingress m =
     let c = (N.session s).target in
     let h : History = history N w c in
     let octets = canonical (reply_message (N.clock c).identity x.heard r.action r.id x.ingress m.answer) in
-    ap (λ sent. forwarded_frames N c f sent ++ answering_frames N c h port f (copy_of (N.clock c) (ports N c) (delivery port f))) (here-kept (N.clock c) port h.sets f.octets v e here)
+    ap (λ sent. forwarded_frames N c f sent ++ answering_frames N c h port f (copy_of (N.clock c) (ports N c) (delivery port f))) (forwarded-copy (N.clock c) port h.sets f.octets v e here)
     ∙ ap (answering_frames N c h port f) is
     ∙ ap (λ (o : Origin). reply_frames N c (reply_origin o) (due_messages (N.clock c) x (due_reply (N.clock c) h x))) origin
     ∙ ap (λ (o : Option ReplyValue). reply_frames N c (ReplyTo s (issued w s)) (due_messages (N.clock c) x o)) due
@@ -331,9 +318,6 @@ all_reported : (reports begun more : ℕ)
     → more ≡ begun
 all_reported reports begun more a b ne d = omega arith
 
-le_through : (a b c : ℕ) → a ≤ b → b ≤ c → a ≤ c
-le_through a b c x y = omega arith
-
 pub reports-answer : (N : Network) (w : NetworkState) (s : ℕ) (f : Frame)
     → IsNetwork N
     → IsReached N w
@@ -355,7 +339,7 @@ reports-answer N w s f n r place i origin busy domain =
     with_place-same w.session s (reported (w.session s) (report_from s (w.session s) f)) s (eq-eqb s s refl) ∙ ap (reported (w.session s)) from in
     let size : length ((w.session s).reports ++ report ∷ []) ≡ length (w.session s).reports + 1 = length-append (w.session s).reports (report ∷ []) in
     let all : length ((w.session s).reports ++ report ∷ []) ≡ length (w.session s).begun =
-    all_reported (length (w.session s).reports) (length (w.session s).begun) (length ((w.session s).reports ++ report ∷ [])) at.one_at_a_time (le_through (length (w.session s).reports) (greatest_accepted N w s) (length (w.session s).begun) at.accepted_before at.begun_before) (eqb-false _ _ busy) size in
+    all_reported (length (w.session s).reports) (length (w.session s).begun) (length ((w.session s).reports ++ report ∷ [])) at.one_at_a_time (le_trans at.accepted_before at.begun_before) (eqb-false _ _ busy) size in
     record {
       report = report;
       index = refl;
@@ -368,12 +352,6 @@ reports-answer N w s f n r place i origin busy domain =
 pub never-late : (w : NetworkState) (s : ℕ)
     → (is_late w (RequestOf s (issued w s)) ≡ false) × (is_late w (ReplyTo s (issued w s)) ≡ false)
 never-late w s = let now = le-ltb (issued w s + 32768) (issued w s) (omega arith) in (now, now)
-
-pub copy-taken : (N : Network) (w : NetworkState) (n : ℕ) (f : Frame)
-    → frame_at w.frames n ≡ Some f
-    → HasRoom w
-    → refusal N w (Deliver n) ≡ None
-copy-taken N w n f e room = delivery-taken N w n f e room
 
 pub copy-replied : (N : Network) (es : List Event) (n s port : ℕ) (f : Frame)
     → IsNetwork N

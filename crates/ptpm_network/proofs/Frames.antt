@@ -1,7 +1,6 @@
 -- What a frame of each origin says, and that what a clock passes on keeps its origin.
-use Rattle.ptpm_network.proofs.Common.{arith, ◌≡◌, ℕ, ◌<◌, ◌≤◌, ◌+◌, ◌-◌, ◌^◌, List, [], ◌∷◌, Some, sym, ◌∙◌, ap, subst, length, same_Some, slice_get_within, slice_get, AllByRecursion, ClockIdentity, PortIdentity, Message, canonical, boundary_hops, Fits, message_of, Answer, RequestValue, Heard, with_less_hop, Accepted, kept_reply, number_of, Answers, HasOneAnswer, IsSendable, IsAsked, IsForeign, IsFrame, IsMessage, IsOfOrigin, IsReached, forwarded_frames, AtPort, HasEnd, IsNetwork, Network, manager, peers, ports, Frame, NetworkState, Origin, RequestOf, ReplyTo, Neither, accepted_at_target, frames_to, issued}
+use Rattle.ptpm_network.proofs.Common.{arith, ◌≡◌, ℕ, ◌<◌, ◌≤◌, ◌+◌, ◌-◌, ◌^◌, List, [], ◌∷◌, Some, sym, ◌∙◌, ap, subst, length, same_Some, slice_get_within, slice_get, AllByRecursion, ClockIdentity, PortIdentity, Message, canonical, boundary_hops, Fits, message_of, Answer, RequestValue, Heard, with_less_hop, Accepted, kept_reply, number_of, Answers, HasOneAnswer, IsSendable, IsAsked, IsForeign, IsFrame, IsMessage, IsOfOrigin, IsReached, forwarded_frames, AtPort, HasEnd, IsNetwork, Network, manager, peers, ports, Frame, NetworkState, Origin, RequestOf, ReplyTo, Neither, accepted_at_target, frames_to, issued, all_flat, all_made, le_trans}
 use Rattle.ptpm_network.proofs.Accepting.{kept-le}
-use Rattle.ptpm_network.proofs.Lists.{all_flat, all_made}
 use Rattle.ptpm_network.proofs.Messages.{IsPassedOn, canonical-message, less_hop-canonical, less_hop-hops, less_hop-message, message-hops, reply_at, reply-fits, reply-valid, request_at, request-fits, request-valid}
 use Rattle.ptpm_network.proofs.Steps.{has_peers}
 
@@ -55,9 +54,6 @@ pub record SaysKept (N : Network) (w : NetworkState) (s k : ℕ) (e : Accepted) 
   pub one : HasOneAnswer e.request e.reply
   pub within : k ≤ issued w s
 
-pub le_le : (a b c : ℕ) → a ≤ b → b ≤ c → a ≤ c
-le_le a b c x y = omega arith
-
 pub says_kept : (N : Network) (w : NetworkState) (s k : ℕ) (e : Accepted)
     → IsReached N w
     → s < N.sessions
@@ -74,7 +70,7 @@ says_kept N w s k e r place positive kept =
       asked = subst (λ (a : Accepted). IsAsked (ports N (N.session s).target) a.request) same (at.asked (k - 1) was.entry.request was.begun_as);
       answers = subst (λ (a : Accepted). Answers a.request a.reply) same was.answers;
       one = subst (λ (a : Accepted). HasOneAnswer a.request a.reply) same was.one;
-      within = le_le k _ _ le at.begun_before;
+      within = le_trans le at.begun_before;
     }
 
 pub record SaysReply (N : Network) (w : NetworkState) (s k : ℕ) (octets : List ℕ) : Type 0 where

@@ -1,10 +1,8 @@
 -- A running network after what a session did, or was told.
-use Rattle.ptpm_network.proofs.Common.{arith, ◌≡◌, ℕ, ◌<◌, ◌≤◌, ◌+◌, ◌-◌, List, [], ◌∷◌, ◌++◌, Option, Some, None, false, refl, sym, ◌∙◌, ap, subst, length, length-append, cond-true, cond-false, eq-eqb, ne_eqb, map-append, map, slice_get, PortIdentity, RequestValue, Report, received_of, SessionValue, answered, begun, due_message, sent, Held, RunningNetwork, hears, held, sends_in, sent_posted, with_session_value, IsOfOrigin, IsReached, begun_in, report_from, reported, sends, sent_frames, with_session, AtSession, IsNetwork, Network, SessionStart, peers, Stands, Frame, NetworkState, SessionState, is_late, session_value, unanswered}
+use Rattle.ptpm_network.proofs.Common.{arith, ◌≡◌, ℕ, ◌<◌, ◌≤◌, ◌+◌, ◌-◌, List, [], ◌∷◌, ◌++◌, Option, Some, None, false, refl, sym, ◌∙◌, ap, subst, length, length-append, cond-true, cond-false, eq-eqb, ne_eqb, map-append, map, slice_get, PortIdentity, RequestValue, Report, received_of, SessionValue, answered, begun, due_message, sent, Held, RunningNetwork, hears, held, sends_in, sent_posted, with_session_value, IsOfOrigin, IsReached, begun_in, report_from, reported, sends, sent_frames, with_session, AtSession, IsNetwork, Network, SessionStart, peers, Stands, Frame, NetworkState, SessionState, is_late, session_value, unanswered, at_place, at_places, get_last, le_trans}
 use Rattle.ptpm_manager.specs.declared.receiving.Received.{Received}
 use Rattle.ptpm_manager.specs.declared.receiving.Received.TheVariants as received
-use Rattle.ptpm_network.proofs.Frames.{le_le}
 use Rattle.ptpm_network.proofs.Held.{held-sent_frames}
-use Rattle.ptpm_network.proofs.Lists.{at_place, at_places, get_last}
 use Rattle.ptpm_network.proofs.Reaching.{no_report, reports_of_frame}
 use Rattle.ptpm_network.proofs.Receiving.{received-as_reported}
 use Rattle.ptpm_network.proofs.Steps.{InStep}
@@ -120,7 +118,7 @@ answered-stands : (N : Network) (first : PortIdentity → ℕ) (r : RunningNetwo
     → Stands N first (hears r s (received.Answered report))
     (with_session w s (reported (w.session s) (Some report)))
 answered-stands N first r w s report at place step busy =
-    let le = le_le (length (w.session s).reports) _ (length (w.session s).begun) step.accepted_before step.begun_before in
+    let le = le_trans step.accepted_before step.begun_before in
     let value = ap answered (at.sessions s place) ∙ answered-value (N.session s) (w.session s) report busy step.one_at_a_time le in
     record {
       clocks = at.clocks;

@@ -1,17 +1,14 @@
 -- Frames as a running network holds them, without their first hops and forwardings.
-use Rattle.ptpm_network.proofs.Common.{◌≡◌, ℕ, ◌+◌, ◌-◌, ◌==◌, List, [], ◌∷◌, ◌++◌, Option, Some, None, true, false, refl, sym, ◌∙◌, ap, ⊎_elim, length, cases_Bool, cond-true, cond-false, map-append, slice_get-map, flat_map, map, option_map, slice_get, Message, canonical, boundary_hops, copy_of, turn, frame_at, Held, RunningNetwork, after_turn, held, posted, seen, sent_posted, turn_frames, answer_origin, delivery, forwarded_frames, reply_frames, sent_frames, with_place, AtPort, End, Network, peers, Frame, Origin, RequestOf, frames_to}
+use Rattle.ptpm_network.proofs.Common.{by_test, ◌≡◌, ℕ, ◌+◌, ◌-◌, ◌==◌, List, [], ◌∷◌, ◌++◌, Option, Some, None, refl, sym, ◌∙◌, ap, length, cond-true, cond-false, map-append, slice_get-map, flat_map, map, option_map, slice_get, Message, canonical, boundary_hops, copy_of, turn, frame_at, Held, RunningNetwork, after_turn, held, posted, seen, sent_posted, turn_frames, answer_origin, delivery, forwarded_frames, reply_frames, sent_frames, with_place, AtPort, End, Network, peers, Frame, Origin, RequestOf, frames_to}
 
 -- a frame by its number
 pub frame_at-map : (fs : List Frame) (n : ℕ)
     → frame_at (map held fs) n ≡ option_map held (frame_at fs n)
-frame_at-map fs n = ⊎_elim
-    (λ (y : n == 0 ≡ true).
-    let none : frame_at fs n ≡ None = cond-true _ _ _ y in
+frame_at-map fs n = by_test (n == 0)
+    (λ y. let none : frame_at fs n ≡ None = cond-true _ _ _ y in
     cond-true _ _ _ y ∙ sym (ap (option_map held) none))
-    (λ (o : n == 0 ≡ false).
-    let some : frame_at fs n ≡ slice_get fs (n - 1) = cond-false _ _ _ o in
+    (λ o. let some : frame_at fs n ≡ slice_get fs (n - 1) = cond-false _ _ _ o in
     cond-false _ _ _ o ∙ slice_get-map held fs (n - 1) ∙ sym (ap (option_map held) some))
-    (cases_Bool (n == 0))
 
 -- ---- frames that are made
 

@@ -1,9 +1,8 @@
 -- A copy that is not late lies in the window of its manager.
-use Rattle.ptpm_network.proofs.Common.{arith, ◌≡◌, ℕ, ◌<◌, ◌≤◌, ◌+◌, ◌==◌, List, [], ◌∷◌, ◌++◌, Option, Some, None, true, false, refl, sym, ◌∙◌, ap, subst, ⊎_elim, length, cases_Bool, eqb-true, ltb-false, append-nil, AllByRecursion, cons_option, first_of-none, option_or-none, PortIdentity, InWindow, initial_clock_state, turns, Delivery, History, RequestCopy, after_copy, applied_once, initial_history, copy_of, greatest, Clock, number_of, AreNumbered, IsInTime, IsInWindow, IsNumbered, KeepsWindow, sets_once, Event, Begin, Deliver, IsInRange, Refusal, Resume, Retune, Send, Stranger, frame_at, refusal, no_port, forged, no_room, is_forged, Forged, IsFrame, IsReached, AreInTime, arrives, delivered, delivered_at, delivery, happens, is_late_delivery, is_late_frame, run, step, step_by, strange_frame, AtPort, AtSession, End, HasEnd, IsNetwork, Network, manager, ports, AreFirsts, Frame, NetworkState, Origin, RequestOf, copies_at, initial_state, greatest_accepted, history, is_late}
+use Rattle.ptpm_network.proofs.Common.{by_test, arith, ◌≡◌, ℕ, ◌<◌, ◌≤◌, ◌+◌, ◌==◌, List, [], ◌∷◌, ◌++◌, Option, Some, None, false, refl, sym, ◌∙◌, ap, subst, length, eqb-true, ltb-false, append-nil, AllByRecursion, cons_option, first_of-none, option_or-none, PortIdentity, InWindow, initial_clock_state, turns, Delivery, History, RequestCopy, after_copy, applied_once, initial_history, copy_of, greatest, Clock, number_of, AreNumbered, IsInTime, IsInWindow, IsNumbered, KeepsWindow, sets_once, Event, Begin, Deliver, IsInRange, Refusal, Resume, Retune, Send, Stranger, frame_at, refusal, no_port, forged, no_room, is_forged, Forged, IsFrame, IsReached, AreInTime, arrives, delivered, delivered_at, delivery, happens, is_late_delivery, is_late_frame, run, step, step_by, strange_frame, AtPort, AtSession, End, HasEnd, IsNetwork, Network, manager, ports, AreFirsts, Frame, NetworkState, Origin, RequestOf, copies_at, initial_state, greatest_accepted, history, is_late, all_append}
 use Rattle.ptpm_network.proofs.Arriving.{IsCopyOf, copies-elsewhere, copies-here, is_copy_of}
 use Rattle.ptpm_network.proofs.Frames.{IsHeard, heard-frame}
 use Rattle.ptpm_network.proofs.Schedule.{reached}
-use Rattle.ptpm_network.proofs.Lists.{all_append}
 use Rattle.ptpm_network.proofs.Reaching.{first-reached, frame_at-is, step-reached}
 use Rattle.ptpm_network.proofs.Strangers.{strange-message}
 use Rattle.ptpm_network.proofs.Steps.{InStep}
@@ -125,15 +124,13 @@ keeps-arriving : (N : Network) (first : PortIdentity → ℕ) (A : Type 0) (w : 
     → Keeps N first A (arrives w d (delivery port f))
 keeps-arriving N first A w d port f n r i late keeps c place =
     let x : Delivery = delivery port f in
-    ⊎_elim
-    (λ (y : c == d ≡ true).
-    let cd : c ≡ d = eqb-true c d y in
+    by_test (c == d)
+    (λ y. let cd : c ≡ d = eqb-true c d y in
     let there : d < N.clocks = subst (λ j. j < N.clocks) cd place in
     subst (λ j. Keeping N first A j (copies_at N (arrives w d x) j)) (sym cd)
     (subst (Keeping N first A d) (sym (copies-here N w d x))
     (keeping-by N first A w d port f (copy_of (N.clock d) (ports N d) x) n r there i late refl (keeps d there))))
-    (λ (o : c == d ≡ false). subst (Keeping N first A c) (sym (copies-elsewhere N w d x c o)) (keeps c place))
-    (cases_Bool (c == d))
+    (λ o. subst (Keeping N first A c) (sym (copies-elsewhere N w d x c o)) (keeps c place))
 
 keeps-delivered_at : (N : Network) (first : PortIdentity → ℕ) (A : Type 0) (w : NetworkState)
     (f : Frame) (e : End)

@@ -1,3 +1,4 @@
+pub mod Tests
 pub mod Common
 pub mod Schedules
 pub mod Lists

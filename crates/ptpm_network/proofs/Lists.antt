@@ -1,5 +1,10 @@
 -- What holds of each element of a list, and functions of places that change at one.
-use Rattle.ptpm_network.proofs.Common.{suc, zero, ◌≡◌, ℕ, ◌*◌, ◌<◌, ◌≤◌, ◌==◌, ◌||◌, not, List, [], ◌∷◌, ◌++◌, Some, Bool, true, false, refl, sym, ◌∙◌, ap, subst, ⊎_elim, length, length-append, arith, cases_Bool, cond-true, cond-false, eqb-true, true≢false, slice_get, flat_map, map, AllByRecursion, filter, list_any, with_place}
+use Rattle.std.proofs.Common.{suc, zero, ◌≡◌, ℕ, ◌*◌, ◌<◌, ◌≤◌, ◌==◌, ◌||◌, not, List, [], ◌∷◌, ◌++◌, Some, Bool, true, false, refl, sym, ◌∙◌, ap, subst, length, length-append, arith, slice_get, map, filter}
+use Rattle.std.proofs.lemmas.Bool.{cond-true, cond-false, eqb-true, true≢false}
+use Rattle.std.specs.Prelude.{flat_map}
+use Rattle.std.specs.List.{AllByRecursion, list_any}
+use Rattle.ptpm_network.specs.Machine.{with_place}
+use Rattle.ptpm_network.proofs.Tests.{by_test}
 
 pub all_weaker : {X : Type 0} (P Q : X → Type 0)
     → ((x : X) → P x → Q x)
@@ -80,24 +85,20 @@ pub at_place : {B : Type 0} (P : ℕ → B → Type 0) (g : ℕ → B) (i : ℕ)
     → P i b
     → P j (g j)
     → P j (with_place g i b j)
-at_place P g i b j new old = ⊎_elim
-    (λ (y : j == i ≡ true). subst (P j) (sym (with_place-same g i b j y)) (subst (λ k. P k b) (sym (eqb-true j i y)) new))
-    (λ (n : j == i ≡ false). subst (P j) (sym (with_place-other g i b j n)) old)
-    (cases_Bool (j == i))
+at_place P g i b j new old = by_test (j == i)
+    (λ y. subst (P j) (sym (with_place-same g i b j y)) (subst (λ k. P k b) (sym (eqb-true j i y)) new))
+    (λ n. subst (P j) (sym (with_place-other g i b j n)) old)
 
 pub at_places : {A B : Type 0} (P : ℕ → A → B → Type 0) (f : ℕ → A) (g : ℕ → B) (i : ℕ) (a : A)
     (b : B) (j : ℕ)
     → P i a b
     → P j (f j) (g j)
     → P j (with_place f i a j) (with_place g i b j)
-at_places P f g i a b j new old = ⊎_elim
-    (λ (y : j == i ≡ true).
-    subst (λ x. P j x (with_place g i b j)) (sym (with_place-same f i a j y))
+at_places P f g i a b j new old = by_test (j == i)
+    (λ y. subst (λ x. P j x (with_place g i b j)) (sym (with_place-same f i a j y))
     (subst (P j a) (sym (with_place-same g i b j y)) (subst (λ k. P k a b) (sym (eqb-true j i y)) new)))
-    (λ (n : j == i ≡ false).
-    subst (λ x. P j x (with_place g i b j)) (sym (with_place-other f i a j n))
+    (λ n. subst (λ x. P j x (with_place g i b j)) (sym (with_place-other f i a j n))
     (subst (P j (f j)) (sym (with_place-other g i b j n)) old))
-    (cases_Bool (j == i))
 
 -- ---- how many there are
 
@@ -105,25 +106,21 @@ pub filter-few : {X : Type 0} (test : X → Bool) (xs : List X) → length (filt
 filter-few test [] = omega arith
 filter-few test (x ∷ xs) =
     let rest : length (filter test xs) ≤ length xs = filter-few test xs in
-    ⊎_elim
-    (λ (y : test x ≡ true). let is : filter test (x ∷ xs) ≡ x ∷ filter test xs = cond-true _ _ _ y in omega (arith, ap length is))
-    (λ (n : test x ≡ false). let is : filter test (x ∷ xs) ≡ filter test xs = cond-false _ _ _ n in omega (arith, ap length is))
-    (cases_Bool (test x))
+    by_test (test x)
+    (λ y. let is : filter test (x ∷ xs) ≡ x ∷ filter test xs = cond-true _ _ _ y in omega (arith, ap length is))
+    (λ n. let is : filter test (x ∷ xs) ≡ filter test xs = cond-false _ _ _ n in omega (arith, ap length is))
 
 -- one less at least, where one is left out
 pub filter-fewer : {X : Type 0} (test : X → Bool) (xs : List X)
     → list_any test xs ≡ true
     → length (filter (λ x. not (test x)) xs) < length xs
 filter-fewer test [] some = absurd (true≢false (sym some))
-filter-fewer test (x ∷ xs) some = ⊎_elim
-    (λ (y : test x ≡ true).
-    let is : filter (λ z. not (test z)) (x ∷ xs) ≡ filter (λ z. not (test z)) xs = cond-false _ _ _ (ap not y) in
+filter-fewer test (x ∷ xs) some = by_test (test x)
+    (λ y. let is : filter (λ z. not (test z)) (x ∷ xs) ≡ filter (λ z. not (test z)) xs = cond-false _ _ _ (ap not y) in
     omega (arith, ap length is, filter-few (λ z. not (test z)) xs))
-    (λ (n : test x ≡ false).
-    let is : filter (λ z. not (test z)) (x ∷ xs) ≡ x ∷ filter (λ z. not (test z)) xs = cond-true _ _ _ (ap not n) in
+    (λ n. let is : filter (λ z. not (test z)) (x ∷ xs) ≡ x ∷ filter (λ z. not (test z)) xs = cond-true _ _ _ (ap not n) in
     let later : list_any test xs ≡ true = sym (ap (λ b. b || list_any test xs) n) ∙ some in
     omega (arith, ap length is, filter-fewer test xs later))
-    (cases_Bool (test x))
 
 -- of each at most fifteen
 pub flat-few : {X Y : Type 0} (make : X → List Y)

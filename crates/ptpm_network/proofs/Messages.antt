@@ -1,5 +1,5 @@
 -- What requests and replies say as octets, and what stays of them as they are passed on.
-use Rattle.ptpm_network.proofs.Common.{arith, ◌≡◌, ℕ, ◌<◌, ◌-◌, ◌^◌, ◌==◌, ◌&&◌, nat_lt, not, List, [], ◌∷◌, Option, Some, None, Bool, true, false, refl, sym, ◌∙◌, ap, subst, ⊎_elim, length, take, cases_Bool, and_parts, cond-true, cond-false, ltb-true, append-nil, get_or-set_other, get_or-set_same, length-set, take_all, map, slice_set, unwrap_or, AllByRecursion, ErrorId, ClockIdentity, Action, Message, canonical, same_clock, boundary_hops, message_length, message_octets, BodyFits, Fits, IsReplyAction, IsValid, IsValidBody, error_number, is_reply, message_of, Spells, canonical_octets, canonical_spells, number_at-octets, octet-take, message_of-some, message_of-spells, message_size, spells-message_of, DataSetsValue, may_forward, Answer, Outcome, ReplyValue, RequestValue, Heard, reply_action-is_reply, answer_body, reply_message, egress_ports, forwarded, forwarded_by, is_forwarded, with_less_hop, request_message, Answers, IsPort, IsSendable, IsSendableOutcome, IsAsked, IsMessage, IsNetwork, Network, ports}
+use Rattle.ptpm_network.proofs.Common.{by_test, arith, ◌≡◌, ℕ, ◌<◌, ◌-◌, ◌^◌, ◌==◌, ◌&&◌, nat_lt, not, List, [], ◌∷◌, Option, Some, None, Bool, true, refl, sym, ◌∙◌, ap, subst, length, take, and_parts, cond-true, cond-false, ltb-true, append-nil, get_or-set_other, get_or-set_same, length-set, take_all, map, slice_set, unwrap_or, AllByRecursion, ErrorId, ClockIdentity, Action, Message, canonical, same_clock, boundary_hops, message_length, message_octets, BodyFits, Fits, IsReplyAction, IsValid, IsValidBody, error_number, is_reply, message_of, Spells, canonical_octets, canonical_spells, number_at-octets, octet-take, message_of-some, message_of-spells, message_size, spells-message_of, DataSetsValue, may_forward, Answer, Outcome, ReplyValue, RequestValue, Heard, reply_action-is_reply, answer_body, reply_message, egress_ports, forwarded, forwarded_by, is_forwarded, with_less_hop, request_message, Answers, IsPort, IsSendable, IsSendableOutcome, IsAsked, IsMessage, IsNetwork, Network, ports}
 use Rattle.ptpm_codec.specs.declared.error.ErrorId.TheVariants as errors
 use Rattle.ptpm_codec.proofs.RewritingLaws.{less_hop_message, set_hops}
 use Rattle.ptpm_data.specs.Reply as reply
@@ -82,13 +82,11 @@ passed_on-by : (me : ClockIdentity) (port : ℕ) (sets : DataSetsValue) (d : Lis
     → message_of d ≡ o
     → AllByRecursion (IsPassedOn d) (forwarded_by me port sets d o)
 passed_on-by me port sets d None e = tt
-passed_on-by me port sets d (Some v) e = ⊎_elim
-    (λ (y : is_forwarded me port sets v ≡ true).
-    let hop = ltb-true 0 v.hops (has_hop (v.sdo == 0) (v.domain == sets.default.domain) (not (same_clock v.source.clock me)) (not (same_clock v.target.clock me)) (nat_lt 0 v.hops) (may_forward port sets) y) in
+passed_on-by me port sets d (Some v) e = by_test (is_forwarded me port sets v)
+    (λ y. let hop = ltb-true 0 v.hops (has_hop (v.sdo == 0) (v.domain == sets.default.domain) (not (same_clock v.source.clock me)) (not (same_clock v.target.clock me)) (nat_lt 0 v.hops) (may_forward port sets) y) in
     subst (AllByRecursion (IsPassedOn d)) (sym (cond-true _ _ _ y))
     (all_pairs (IsPassedOn d) (with_less_hop d) (λ p. record { message = v; read = e; hop = hop; octets = refl }) (egress_ports port sets)))
-    (λ (n : is_forwarded me port sets v ≡ false). subst (AllByRecursion (IsPassedOn d)) (sym (cond-false _ _ _ n)) tt)
-    (cases_Bool (is_forwarded me port sets v))
+    (λ n. subst (AllByRecursion (IsPassedOn d)) (sym (cond-false _ _ _ n)) tt)
 
 pub passed_on : (me : ClockIdentity) (port : ℕ) (sets : DataSetsValue) (d : List ℕ)
     → AllByRecursion (IsPassedOn d) (forwarded me port sets d)

@@ -1,6 +1,5 @@
 -- The promise of a network, and the states of a running network in which it holds.
-use Rattle.ptpm_network.proofs.Common.{suc, zero, arith, ◌≡◌, ℕ, ◌<◌, ◌≤◌, List, [], ◌∷◌, ◌++◌, Option, Some, None, true, false, sym, ◌∙◌, ap, subst, ⊎_elim, length, append_assoc, cases_Bool, cases_eq, cond-true, cond-false, true≢false, append-nil, if◌then◌else◌, AllByRecursion, PortIdentity, same_identity, same_identity-refl, same_identity-true, Accepted, kept_reply, Report, Event, IsInRange, Refusal, refusal, RunningNetwork, initial_network, network_refusal, network_run, network_step, Headline, IsPromised, StandsAfter, IsReached, AreInTime, happens, is_late_delivery, run, step_by, taken, IsNetwork, Network, manager, AreFirsts, Stands, NetworkState, accepted_at_target, initial_state, greatest_accepted, outcomes_kept, reports_of}
-use Rattle.ptpm_network.proofs.Lists.{all_append}
+use Rattle.ptpm_network.proofs.Common.{by_test, suc, zero, arith, ◌≡◌, ℕ, ◌<◌, ◌≤◌, List, [], ◌∷◌, ◌++◌, Option, Some, None, false, sym, ◌∙◌, ap, subst, ⊎_elim, length, append_assoc, cases_eq, cond-true, cond-false, true≢false, append-nil, if◌then◌else◌, AllByRecursion, PortIdentity, same_identity, same_identity-refl, same_identity-true, Accepted, kept_reply, Report, Event, IsInRange, Refusal, refusal, RunningNetwork, initial_network, network_refusal, network_run, network_step, Headline, IsPromised, StandsAfter, IsReached, AreInTime, happens, is_late_delivery, run, step_by, taken, IsNetwork, Network, manager, AreFirsts, Stands, NetworkState, accepted_at_target, initial_state, greatest_accepted, outcomes_kept, reports_of, all_append}
 use Rattle.ptpm_network.proofs.Running.{network_step-running, network_run-running, network_refusal-running}
 use Rattle.ptpm_network.proofs.Schedule.{reached}
 use Rattle.ptpm_network.proofs.Standing.{stands-initial_state}
@@ -23,15 +22,13 @@ first_of-session : (N : Network) (n s : ℕ)
     → first_of_sessions N n (manager N s) ≡ (N.session s).setup.first
 unfolding first_of_sessions
 first_of-session N zero s is le below = none_below s below
-first_of-session N (suc n) s is le below = ⊎_elim
-    (λ (y : same_identity (manager N s) (manager N n) ≡ true).
-    let same : s ≡ n = is.sessions_apart s n (omega arith) (omega arith) (same_identity-true (manager N s) (manager N n) y) in
+first_of-session N (suc n) s is le below = by_test (same_identity (manager N s) (manager N n))
+    (λ y. let same : s ≡ n = is.sessions_apart s n (omega arith) (omega arith) (same_identity-true (manager N s) (manager N n) y) in
     cond-true _ _ _ y ∙ ap (λ j. (N.session j).setup.first) (sym same))
-    (λ (o : same_identity (manager N s) (manager N n) ≡ false). ⊎_elim
+    (λ o. ⊎_elim
     (λ (q : s ≡ n). absurd (true≢false (sym (same_identity-refl (manager N n)) ∙ (ap (λ j. same_identity (manager N j) (manager N n)) (sym q) ∙ o))))
     (λ (ne : s ≡ n → ⊥). cond-false _ _ _ o ∙ first_of-session N n s is (omega arith) (omega arith))
     (cases_eq s n))
-    (cases_Bool (same_identity (manager N s) (manager N n)))
 
 -- there are such as the sessions have
 pub firsts : (N : Network) → IsNetwork N → AreFirsts N (first_of_sessions N N.sessions)

@@ -1,9 +1,8 @@
 -- Every event keeps the invariant, and so it holds after every schedule.
-use Rattle.ptpm_network.proofs.Common.{arith, ◌≡◌, ℕ, ◌<◌, ◌≤◌, ◌-◌, ◌^◌, ◌==◌, ◌&&◌, nat_lt, not, List, [], ◌∷◌, Option, Some, None, true, false, refl, sym, ◌∙◌, ap, subst, ⊎_elim, length, cases_Bool, and_parts, cond-true, cond-false, eqb-true, eqb-false, leb-true, ltb-true, not-false, not-true, same_Some, nat_le, AllByRecursion, first_of-none, option_or-none, Message, message_of, has_port, Answer, Accepted, kept_reply, Ask, Report, ask_refusal, outcome_in, begin_refusal, BeginRefused, Begin, Deliver, Event, Forged, IsInRange, NoSuchName, Refusal, Resume, Retune, Send, Stranger, begin_refused, forged, frame_at, is_forged, no_port, no_room, no_session, refusal, IsAsked, IsFrame, IsOfOrigin, IsReached, delivered, delivered_at, happens, is_answer, report_from, reported, run, step, step_by, strange_frame, told_by, with_session, AtPort, AtSession, End, HasEnd, IsNetwork, Network, manager, ports, Frame, NetworkState, Origin, RequestOf, ReplyTo, Neither, SessionState, accepted_at_target, initial_state, is_idle, issued, session_value}
+use Rattle.ptpm_network.proofs.Common.{by_test, arith, ◌≡◌, ℕ, ◌<◌, ◌≤◌, ◌-◌, ◌^◌, ◌==◌, ◌&&◌, nat_lt, not, List, [], ◌∷◌, Option, Some, None, true, refl, sym, ◌∙◌, ap, subst, length, and_parts, cond-true, cond-false, eqb-true, eqb-false, leb-true, ltb-true, not-false, not-true, same_Some, nat_le, AllByRecursion, first_of-none, option_or-none, Message, message_of, has_port, Answer, Accepted, kept_reply, Ask, Report, ask_refusal, outcome_in, begin_refusal, BeginRefused, Begin, Deliver, Event, Forged, IsInRange, NoSuchName, Refusal, Resume, Retune, Send, Stranger, begin_refused, forged, frame_at, is_forged, no_port, no_room, no_session, refusal, IsAsked, IsFrame, IsOfOrigin, IsReached, delivered, delivered_at, happens, is_answer, report_from, reported, run, step, step_by, strange_frame, told_by, with_session, AtPort, AtSession, End, HasEnd, IsNetwork, Network, manager, ports, Frame, NetworkState, Origin, RequestOf, ReplyTo, Neither, SessionState, accepted_at_target, initial_state, is_idle, issued, session_value, all_get, get_append, le_trans}
 use Rattle.ptpm_manager.specs.Ask as ask
 use Rattle.ptpm_network.proofs.Accepting.{in_step-begun, in_step-reported, report_of}
-use Rattle.ptpm_network.proofs.Frames.{heard-frame, le_le, says_reply}
-use Rattle.ptpm_network.proofs.Lists.{all_get, get_append}
+use Rattle.ptpm_network.proofs.Frames.{heard-frame, says_reply}
 use Rattle.ptpm_network.proofs.Messages.{reply_at}
 use Rattle.ptpm_network.proofs.Refusals.{asked-not_refused, begin-not_refused, idle-not_waiting, option_map-none}
 use Rattle.ptpm_network.proofs.Steps.{sends-reached, session-changes, session-set}
@@ -25,10 +24,9 @@ pub no_report : {X : Type 0} (r : Report) → None ≡ Some r → X
 no_report r e = absurd (cc)
 
 told-by : (state : SessionState) (v : Message) (r : Report) → told_by state (Some v) ≡ Some r → r ≡ record { index = length state.begun; outcome = outcome_in v.body }
-told-by state v r e = ⊎_elim
-    (λ (y : v.domain == state.domain ≡ true). sym (same_Some _ r (sym (cond-true _ _ _ y) ∙ e)))
-    (λ (n : v.domain == state.domain ≡ false). no_report r (sym (cond-false _ _ _ n) ∙ e))
-    (cases_Bool (v.domain == state.domain))
+told-by state v r e = by_test (v.domain == state.domain)
+    (λ y. sym (same_Some _ r (sym (cond-true _ _ _ y) ∙ e)))
+    (λ n. no_report r (sym (cond-false _ _ _ n) ∙ e))
 
 pub told-message : (state : SessionState) (o : Option Message) (v : Message) (r : Report) → o ≡ Some v → told_by state o ≡ Some r → r ≡ record { index = length state.begun; outcome = outcome_in v.body }
 told-message state o v r e h = told-by state v r (ap (told_by state) (sym e) ∙ h)
@@ -66,10 +64,9 @@ pub reports_of_frame : (N : Network) (w : NetworkState) (s : ℕ) (f : Frame) (r
     → IsOfOrigin N w f.octets f.origin
     → report_from s (w.session s) f ≡ Some r
     → Reports N w s r
-reports_of_frame N w s f r n reached i e = ⊎_elim
-    (λ (y : is_answer s (w.session s) f.origin ≡ true). reports-by N w s f.octets f.origin r n reached i y (sym (cond-true _ _ _ y) ∙ e))
-    (λ (no' : is_answer s (w.session s) f.origin ≡ false). no_report r (sym (cond-false _ _ _ no') ∙ e))
-    (cases_Bool (is_answer s (w.session s) f.origin))
+reports_of_frame N w s f r n reached i e = by_test (is_answer s (w.session s) f.origin)
+    (λ y. reports-by N w s f.octets f.origin r n reached i y (sym (cond-true _ _ _ y) ∙ e))
+    (λ no'. no_report r (sym (cond-false _ _ _ no') ∙ e))
 
 reported-reached : (N : Network) (w : NetworkState) (s : ℕ) (f : Frame) (o : Option Report)
     → IsNetwork N
@@ -101,10 +98,9 @@ pub frame_at-is : (N : Network) (w : NetworkState) (k : ℕ) (f : Frame)
     → IsReached N w
     → frame_at w.frames k ≡ Some f
     → IsFrame N w f
-frame_at-is N w k f r e = ⊎_elim
-    (λ (y : k == 0 ≡ true). let none : None ≡ Some f = sym (cond-true _ _ _ y) ∙ e in absurd (cc))
-    (λ (n : k == 0 ≡ false). all_get (IsFrame N w) w.frames (k - 1) f r.frames (sym (cond-false _ _ _ n) ∙ e))
-    (cases_Bool (k == 0))
+frame_at-is N w k f r e = by_test (k == 0)
+    (λ y. let none : None ≡ Some f = sym (cond-true _ _ _ y) ∙ e in absurd (cc))
+    (λ n. all_get (IsFrame N w) w.frames (k - 1) f r.frames (sym (cond-false _ _ _ n) ∙ e))
 
 delivered-reached : (N : Network) (w : NetworkState) (k : ℕ) (o : Option Frame)
     → IsNetwork N
@@ -140,7 +136,7 @@ begins-reached N w s a n r place id e =
     let clock = n.are_clocks (N.session s).target session.exists in
     let at = r.sessions s place in
     let parts = begin-not_refused (session_value (N.session s) (w.session s)) a (option_map-none BeginRefused (begin_refusal (session_value (N.session s) (w.session s)) a) e) in
-    let idle = idle-not_waiting (N.session s) (w.session s) (le_le (length (w.session s).reports) _ (length (w.session s).begun) at.accepted_before at.begun_before) parts.0 in
+    let idle = idle-not_waiting (N.session s) (w.session s) (le_trans at.accepted_before at.begun_before) parts.0 in
     let asked : IsAsked (ports N (N.session s).target) (ask.request_of a) =
     asked-not_refused (ports N (N.session s).target) a clock.at_most_eight id (subst (λ p. ask_refusal p a ≡ None) session.ports parts.1) in
     session-changes N w s _ (λ i q h. get_append (w.session s).begun (ask.request_of a ∷ []) i q h)

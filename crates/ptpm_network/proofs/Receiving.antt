@@ -1,5 +1,5 @@
 -- A session tells the answer to its request by octets as the machine tells it by origins.
-use Rattle.ptpm_network.proofs.Common.{arith, ◌≡◌, ℕ, ◌<◌, ◌≤◌, ◌+◌, ◌==◌, ◌&&◌, not, List, [], ◌∷◌, Option, Some, None, Result, Ok, Err, Bool, true, false, refl, sym, ◌∙◌, ap, subst, ⊎_elim, length, cases_Bool, and_from, and_parts, cond-true, cond-false, eq-eqb, eqb-true, ltb-false, not-false, not-true, or_left, or_right, true≢false, false≢true, same_Some, is_some, unwrap_or, AllByRecursion, first_of-none, DecodeError, PortIdentity, Action, Message, every_port, same_clock, same_identity, action_of, id_of, is_reply, message_of, reading, is_of_port, Answer, Outcome, reply_action, answer_body, same_identity-refl, same_identity-true, same_clock-refl, same_clock-true, message_of-reading, reading-message_of, Report, first_of, answer_by, answer_to, is_answered_by, is_content, is_from_asked_port, is_from_target, is_in_domain, reason_of, received_of, outcome_in, SessionValue, is_waiting, number_of, Event, IsInRange, frame_at, IsOfOrigin, IsReached, is_answer, report_from, run, told_by, AtSession, HasEnd, IsNetwork, Network, SessionStart, manager, Frame, NetworkState, Origin, RequestOf, ReplyTo, Neither, SessionState, initial_state, is_idle, is_late, issued, session_value, unanswered, reply_action-is_reply}
+use Rattle.ptpm_network.proofs.Common.{by_test, arith, ◌≡◌, ℕ, ◌<◌, ◌≤◌, ◌+◌, ◌==◌, ◌&&◌, not, List, [], ◌∷◌, Option, Some, None, Result, Ok, Err, Bool, true, false, refl, sym, ◌∙◌, ap, subst, length, and_from, and_parts, cond-true, cond-false, eq-eqb, eqb-true, ltb-false, not-false, not-true, or_left, or_right, true≢false, false≢true, same_Some, is_some, unwrap_or, AllByRecursion, first_of-none, DecodeError, PortIdentity, Action, Message, every_port, same_clock, same_identity, action_of, id_of, is_reply, message_of, reading, is_of_port, Answer, Outcome, reply_action, answer_body, same_identity-refl, same_identity-true, same_clock-refl, same_clock-true, message_of-reading, reading-message_of, Report, first_of, answer_by, answer_to, is_answered_by, is_content, is_from_asked_port, is_from_target, is_in_domain, reason_of, received_of, outcome_in, SessionValue, is_waiting, number_of, Event, IsInRange, frame_at, IsOfOrigin, IsReached, is_answer, report_from, run, told_by, AtSession, HasEnd, IsNetwork, Network, SessionStart, manager, Frame, NetworkState, Origin, RequestOf, ReplyTo, Neither, SessionState, initial_state, is_idle, is_late, issued, session_value, unanswered, reply_action-is_reply}
 use Rattle.ptpm_codec.specs.declared.message.Action.TheVariants as actions
 use Rattle.ptpm_data.specs.Reply as reply
 use Rattle.ptpm_manager.specs.declared.receiving.Reason.{Reason}
@@ -92,14 +92,12 @@ asked-port : (N : Network) (w : NetworkState) (s k : ℕ) (octets : List ℕ)
     (says : SaysReply N w s k octets)
     → is_from_asked_port (Some says.entry.request) (message_said N w s k octets says).source.port
     ≡ true
-asked-port N w s k octets says = ⊎_elim
-    (λ (y : is_of_port says.entry.request.id ≡ true).
-    let same : says.answer ≡ says.says.one.answer = same_answer says.answer says.says.one.answer (sym says.one ∙ says.says.one.is) in
+asked-port N w s k octets says = by_test (is_of_port says.entry.request.id)
+    (λ y. let same : says.answer ≡ says.says.one.answer = same_answer says.answer says.says.one.answer (sym says.one ∙ says.says.one.is) in
     let port : unwrap_or says.answer.port says.ingress ≡ says.entry.request.port =
     ap (λ (a : Answer). unwrap_or a.port says.ingress) same ∙ ap (λ (o : Option ℕ). unwrap_or o says.ingress) (says.says.one.port y) in
     or_right _ _ (eq-eqb says.entry.request.port (unwrap_or says.answer.port says.ingress) (sym port)))
-    (λ (n : is_of_port says.entry.request.id ≡ false). or_left _ _ (eq-eqb says.entry.request.port every_port (says.says.asked.every n)))
-    (cases_Bool (is_of_port says.entry.request.id))
+    (λ n. or_left _ _ (eq-eqb says.entry.request.port every_port (says.says.asked.every n)))
 
 content-said : (N : Network) (w : NetworkState) (s k : ℕ) (octets : List ℕ)
     (says : SaysReply N w s k octets)
@@ -155,10 +153,9 @@ told-domain : (state : SessionState) (o : Option Message) (v : Message) (r : Rep
     → o ≡ Some v
     → told_by state o ≡ Some r
     → v.domain == state.domain ≡ true
-told-domain state o v r e h = ⊎_elim
-    (λ (y : v.domain == state.domain ≡ true). y)
-    (λ (n : v.domain == state.domain ≡ false). no_report r (sym (ap (told_by state) e ∙ cond-false _ _ _ n) ∙ h))
-    (cases_Bool (v.domain == state.domain))
+told-domain state o v r e h = by_test (v.domain == state.domain)
+    (λ y. y)
+    (λ n. no_report r (sym (ap (told_by state) e ∙ cond-false _ _ _ n) ∙ h))
 
 received-by : (N : Network) (w : NetworkState) (s : ℕ) (octets : List ℕ) (o : Origin) (r : Report)
     → IsNetwork N
@@ -224,10 +221,9 @@ same_number first k n p le late e = omega arith
 pub not_idle : (start : SessionStart) (s : SessionState)
     → is_waiting (session_value start s) ≡ true
     → is_idle s ≡ false
-not_idle start s h = ⊎_elim
-    (λ (y : is_idle s ≡ true). absurd (false≢true (sym (ap is_some (cond-true _ _ _ y)) ∙ h)))
-    (λ (n : is_idle s ≡ false). n)
-    (cases_Bool (is_idle s))
+not_idle start s h = by_test (is_idle s)
+    (λ y. absurd (false≢true (sym (ap is_some (cond-true _ _ _ y)) ∙ h)))
+    (λ n. n)
 
 takes-answer : (N : Network) (w : NetworkState) (s : ℕ) (octets : List ℕ) (o : Origin) (r : Report)
     → IsNetwork N
@@ -282,10 +278,9 @@ pub received-as_reported : (N : Network) (w : NetworkState) (s : ℕ) (f : Frame
     → received_of (session_value (N.session s) (w.session s)) f.octets ≡ received.Answered r)
     × (received_of (session_value (N.session s) (w.session s)) f.octets ≡ received.Answered r → report_from s (w.session s) f ≡ Some r)
 received-as_reported N w s f r n reached place i late = (
-  λ e. ⊎_elim
-      (λ (y : is_answer s (w.session s) f.origin ≡ true). received-by N w s f.octets f.origin r n reached i y (sym (cond-true _ _ _ y) ∙ e))
-      (λ (n' : is_answer s (w.session s) f.origin ≡ false). no_report r (sym (cond-false _ _ _ n') ∙ e))
-      (cases_Bool (is_answer s (w.session s) f.origin)),
+  λ e. by_test (is_answer s (w.session s) f.origin)
+      (λ y. received-by N w s f.octets f.origin r n reached i y (sym (cond-true _ _ _ y) ∙ e))
+      (λ n'. no_report r (sym (cond-false _ _ _ n') ∙ e)),
   λ e.
       let takes = takes-by (session_value (N.session s) (w.session s)) f.octets r (reading f.octets) refl e in
       cond-true _ _ _ (takes-answer N w s f.octets f.origin r n reached place i late takes) ∙ takes-told (N.session s) (w.session s) f.octets r takes,

@@ -1,5 +1,5 @@
 -- What an event that is not refused tells.
-use Rattle.ptpm_network.proofs.Common.{suc, zero, arith, ◌≡◌, ℕ, ◌<◌, ◌≤◌, ◌-◌, ◌^◌, not, List, [], ◌∷◌, Option, Some, None, true, false, refl, sym, ◌∙◌, ap, ⊎_elim, length, cases_Bool, eq-eqb, cond-false, true≢false, nat_lt, option_map, is_some, slice_get, option_or, every_port, first_of, first_of-none, option_or-none, is_of_port, Ask, ask_refusal, SessionValue, begin_refusal, count_limit, is_waiting, IsAsked, SessionState, is_idle, session_value, SessionStart}
+use Rattle.ptpm_network.proofs.Common.{by_test, suc, zero, arith, ◌≡◌, ℕ, ◌<◌, ◌≤◌, ◌-◌, ◌^◌, not, List, [], ◌∷◌, Option, Some, None, true, false, refl, sym, ◌∙◌, ap, length, eq-eqb, cond-false, true≢false, nat_lt, option_map, is_some, slice_get, option_or, every_port, first_of, first_of-none, option_or-none, is_of_port, Ask, ask_refusal, SessionValue, begin_refusal, count_limit, is_waiting, IsAsked, SessionState, is_idle, session_value, SessionStart}
 use Rattle.ptpm_manager.specs.declared.error.BeginError.TheVariants as begins
 use Rattle.ptpm_manager.specs.Ask.{request_of}
 use Rattle.ptpm_manager.proofs.AskLaws.{request_of-permitted}
@@ -27,10 +27,9 @@ asked-not_refused ports a few id e =
       action = asked.action;
       id = id;
       octets = asked.octets;
-      port = ⊎_elim
-          (λ (y : is_of_port a.id ≡ true). port_fits (request_of a).port ports few (asked.port y).1)
-          (λ (n : is_of_port a.id ≡ false). every_port_fits (request_of a).port (asked.every n))
-          (cases_Bool (is_of_port a.id));
+      port = by_test (is_of_port a.id)
+          (λ y. port_fits (request_of a).port ports few (asked.port y).1)
+          (λ n. every_port_fits (request_of a).port (asked.every n));
       one = asked.port;
       every = asked.every;
     }
@@ -61,9 +60,7 @@ pub idle-not_waiting : (start : SessionStart) (s : SessionState)
     → length s.reports ≤ length s.begun
     → is_waiting (session_value start s) ≡ false
     → is_idle s ≡ true
-idle-not_waiting start s le w = ⊎_elim
-    (λ (y : is_idle s ≡ true). y)
-    (λ (n : is_idle s ≡ false).
-    let last = get-below s.begun (length s.begun - 1) (last_below (length s.reports) (length s.begun) le (λ (q : length s.reports ≡ length s.begun). true≢false (sym (eq-eqb (length s.reports) (length s.begun) q) ∙ n))) in
+idle-not_waiting start s le w = by_test (is_idle s)
+    (λ y. y)
+    (λ n. let last = get-below s.begun (length s.begun - 1) (last_below (length s.reports) (length s.begun) le (λ (q : length s.reports ≡ length s.begun). true≢false (sym (eq-eqb (length s.reports) (length s.begun) q) ∙ n))) in
     absurd (true≢false (sym (ap is_some (cond-false _ _ _ n ∙ last.1)) ∙ w)))
-    (cases_Bool (is_idle s))

@@ -1,7 +1,6 @@
 -- A running network refuses what the machine refuses, for the same reasons.
-use Rattle.ptpm_network.proofs.Common.{◌≡◌, ℕ, ◌<◌, ◌≤◌, nat_lt, not, [], ◌∷◌, Option, Some, None, true, false, refl, sym, ◌∙◌, ap, ⊎_elim, length, cases_Bool, length-map, option_map, option_or, PortIdentity, first_of, SessionValue, begin_refusal, is_waiting, send_refusal, Begin, BeginRefused, Deliver, Event, FramesAtMaximum, Refusal, Resume, Retune, Send, SendRefused, Stranger, begin_refused, forged, frame_at, frames_limit, no_frame, no_port, no_room, no_session, refusal, resume_refused, send_refused, RunningNetwork, held, network_refusal, nothing_to_resume, IsReached, Network, SessionStart, Stands, Frame, NetworkState, SessionState, is_idle, session_value}
+use Rattle.ptpm_network.proofs.Common.{by_test, ◌≡◌, ℕ, ◌<◌, ◌≤◌, nat_lt, not, [], ◌∷◌, Option, Some, None, refl, sym, ◌∙◌, ap, length, length-map, option_map, option_or, PortIdentity, first_of, SessionValue, begin_refusal, is_waiting, send_refusal, Begin, BeginRefused, Deliver, Event, FramesAtMaximum, Refusal, Resume, Retune, Send, SendRefused, Stranger, begin_refused, forged, frame_at, frames_limit, no_frame, no_port, no_room, no_session, refusal, resume_refused, send_refused, RunningNetwork, held, network_refusal, nothing_to_resume, IsReached, Network, SessionStart, Stands, Frame, NetworkState, SessionState, is_idle, session_value, le_trans}
 use Rattle.ptpm_manager.specs.declared.error.SendError.TheVariants as sends
-use Rattle.ptpm_network.proofs.Frames.{le_le}
 use Rattle.ptpm_network.proofs.Held.{frame_at-map}
 use Rattle.ptpm_network.proofs.Reaching.{session-exists}
 use Rattle.ptpm_network.proofs.Receiving.{not_idle}
@@ -37,10 +36,9 @@ no_frame-held N first r w n at = ap (λ fs. no_frame (frame_at fs n)) at.frames 
 idle-waiting : (start : SessionStart) (s : SessionState)
     → length s.reports ≤ length s.begun
     → not (is_waiting (session_value start s)) ≡ is_idle s
-idle-waiting start s le = ⊎_elim
-    (λ (y : is_waiting (session_value start s) ≡ true). ap not y ∙ sym (not_idle start s y))
-    (λ (n : is_waiting (session_value start s) ≡ false). ap not n ∙ sym (idle-not_waiting start s le n))
-    (cases_Bool (is_waiting (session_value start s)))
+idle-waiting start s le = by_test (is_waiting (session_value start s))
+    (λ y. ap not y ∙ sym (not_idle start s y))
+    (λ n. ap not n ∙ sym (idle-not_waiting start s le n))
 
 resume-refused : (N : Network) (first : PortIdentity → ℕ) (r : RunningNetwork) (w : NetworkState)
     (s : ℕ)
@@ -52,7 +50,7 @@ resume-refused N first r w s reached at place =
     let step = reached.sessions s place in
     ap nothing_to_resume (at.sessions s place)
     ∙ ap (λ b. first_of ((b, SendRefused sends.Idle) ∷ []))
-    (idle-waiting (N.session s) (w.session s) (le_le (length (w.session s).reports) _ (length (w.session s).begun) step.accepted_before step.begun_before))
+    (idle-waiting (N.session s) (w.session s) (le_trans step.accepted_before step.begun_before))
 
 pub network_refusal-as : (N : Network) (first : PortIdentity → ℕ) (r : RunningNetwork)
     (w : NetworkState) (e : Event)

@@ -1,12 +1,10 @@
 -- What a request keeps of the data sets, and what its reply says.
-use Rattle.ptpm_network.proofs.Common.{arith, ◌≡◌, ◌∙◌, refl, sym, subst, ℕ, zero, suc, ◌+◌, ◌<◌, ◌≤◌, ◌^◌, Bool, true, false, List, length, map, Option, Some, None, ⊎_elim, cases_Bool, cond-true, cond-false, length-map, AllByRecursion, filter, range_with_len, ErrorId, Action, IsDataField, changed_by, is_named, data_field_at, is_of_port, DataSetsValue, refusal_of, answer, named_ports, outcome, read_refusal, read_reply_to, reply_of, reply_to, ReplyValue, RequestValue, changed_by-ports, changed_by-sized, Answers, AreDataSets, HasOneAnswer, IsForOne, IsSendable, IsSendableOutcome}
-use Rattle.std.proofs.lemmas.List.FromFn.{length-range_with_len}
+use Rattle.ptpm_network.proofs.Common.{by_test, arith, ◌≡◌, ◌∙◌, refl, sym, subst, ℕ, zero, suc, ◌+◌, ◌<◌, ◌≤◌, ◌^◌, Bool, true, false, List, length, map, Option, Some, None, cond-true, cond-false, length-map, AllByRecursion, filter, range_with_len, ErrorId, Action, IsDataField, changed_by, is_named, data_field_at, is_of_port, DataSetsValue, refusal_of, answer, named_ports, outcome, read_refusal, read_reply_to, reply_of, reply_to, ReplyValue, RequestValue, changed_by-ports, changed_by-sized, Answers, AreDataSets, HasOneAnswer, IsForOne, IsSendable, IsSendableOutcome, all_made, filter-few, length-range_with_len}
 use Rattle.ptpm_codec.specs.declared.message.Action.TheVariants as actions
 use Rattle.ptpm_data.specs.declared.rights.Rights.{Rights}
 use Rattle.ptpm_data.specs.RequestLaws.{IsFieldWithin, IsOneAnswer, IsSized, answerer, field_limit}
 use Rattle.ptpm_data.proofs.FieldSizes.{of_id}
 use Rattle.ptpm_data.proofs.ReplyLemmas.{answers_of, reply_of-one}
-use Rattle.ptpm_network.proofs.Lists.{all_made, filter-few}
 
 -- ---- data sets of a number of ports
 
@@ -69,10 +67,9 @@ named-small port a zero below = tt
 named-small port a (suc n) below =
     let first : a < 2 ^ 16 = omega arith in
     let others = named-small port (a + 1) n (omega arith) in
-    ⊎_elim
-    (λ (y : is_named port a ≡ true). subst (AllByRecursion (λ k. k < 2 ^ 16)) (sym (cond-true _ _ _ y)) (first, others))
-    (λ (o : is_named port a ≡ false). subst (AllByRecursion (λ k. k < 2 ^ 16)) (sym (cond-false _ _ _ o)) others)
-    (cases_Bool (is_named port a))
+    by_test (is_named port a)
+    (λ y. subst (AllByRecursion (λ k. k < 2 ^ 16)) (sym (cond-true _ _ _ y)) (first, others))
+    (λ o. subst (AllByRecursion (λ k. k < 2 ^ 16)) (sym (cond-false _ _ _ o)) others)
 
 named_ports-small : (port n : ℕ) → n ≤ 8 → AllByRecursion (λ k. k < 2 ^ 16) (named_ports port n)
 unfolding named_ports

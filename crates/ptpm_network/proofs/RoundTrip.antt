@@ -1,10 +1,9 @@
 -- One copy of a request goes along a way to the target, and one of the reply comes back: the deliveries that the way gives.
-use Rattle.ptpm_network.proofs.Common.{suc, arith, ◌≡◌, ℕ, ◌<◌, ◌≤◌, ◌+◌, ◌-◌, ◌*◌, List, [], ◌∷◌, ◌++◌, Some, true, false, refl, sym, ◌∙◌, ap, subst, ⊎_elim, ◌⊎◌, inl, inr, length, length-append, cond-false, le-ltb, ne_eqb, slice_get, AllByRecursion, list_any, boundary_hops, domain_number, may_forward, History, greatest, Deliver, frame_at, frames_limit, HasReplied, HasRoom, IsHeardBy, IsOfOrigin, IsReached, delivered_at_clock, run, step, AtPort, End, HasEnd, IsNetwork, Network, manager, peers, same_end, Frame, NetworkState, Origin, RequestOf, ReplyTo, SessionState, greatest_accepted, history, is_late, issued, new_frames, AreLinked, ComeIn, ComesIn, Hop, Leads, PassesOn, ends_of, handed_in, made_along, visited}
+use Rattle.ptpm_network.proofs.Common.{suc, arith, ◌≡◌, ℕ, ◌<◌, ◌≤◌, ◌+◌, ◌-◌, ◌*◌, List, [], ◌∷◌, ◌++◌, Some, true, false, refl, sym, ◌∙◌, ap, subst, ⊎_elim, ◌⊎◌, inl, inr, length, length-append, cond-false, le-ltb, ne_eqb, slice_get, AllByRecursion, list_any, boundary_hops, domain_number, may_forward, History, greatest, Deliver, frame_at, frames_limit, HasReplied, HasRoom, IsHeardBy, IsOfOrigin, IsReached, delivered_at_clock, run, step, AtPort, End, HasEnd, IsNetwork, Network, manager, peers, same_end, Frame, NetworkState, Origin, RequestOf, ReplyTo, SessionState, greatest_accepted, history, is_late, issued, new_frames, AreLinked, ComeIn, ComesIn, Hop, Leads, PassesOn, ends_of, handed_in, made_along, visited, all_weaker}
 use Rattle.ptpm_network.specs.Machine as machine
 use Rattle.ptpm_network.proofs.Arriving.{history-elsewhere}
 use Rattle.ptpm_network.proofs.Carrying.{IsIn, IsPassing, MakesAtMost, MayPass, add_most, in_any, in_map, in_right, length-map_same, passed-domain, passed-hops, passed_copy, passing-few, passing-history, passing-made, reply-passing, request-passing}
 use Rattle.ptpm_network.proofs.Exchanging.{delivery-step, delivery-taken, replied}
-use Rattle.ptpm_network.proofs.Lists.{all_weaker}
 use Rattle.ptpm_network.proofs.Reaching.{frame_at-is, step-reached}
 
 -- ---- one event after another

@@ -1,7 +1,7 @@
 -- A running network goes through every event as the machine does.
-use Rattle.ptpm_network.proofs.Common.{◌≡◌, ℕ, ◌<◌, List, [], ◌∷◌, ◌++◌, Option, Some, None, true, false, refl, sym, ◌∙◌, ap, subst, ⊎_elim, length, cases_Bool, cond-true, cond-false, is_none, option_map, AllByRecursion, first_of-none, option_or-none, PortIdentity, Ask, received_of, SessionValue, begun, resumed, retuned, Begin, Deliver, Event, Forged, IsInRange, Refusal, Resume, Retune, Send, Stranger, begin_refused, forged, frame_at, is_forged, no_port, no_room, no_session, refusal, Held, RunningNetwork, held, network_refusal, network_run, network_step, reaches, reaches_end, IsFrame, IsReached, AreInTime, begun_in, delivered, delivered_at, delivered_at_clock, happens, is_late_delivery, is_late_frame, report_from, run, step, step_by, strange_frame, taken, AtPort, AtSession, End, HasEnd, IsNetwork, Network, AreFirsts, Stands, Frame, NetworkState, initial_state, is_late}
+use Rattle.ptpm_network.proofs.Common.{by_test, ◌≡◌, ℕ, ◌<◌, List, [], ◌∷◌, ◌++◌, Option, Some, None, false, refl, sym, ◌∙◌, ap, subst, cond-true, cond-false, is_none, option_map, AllByRecursion, first_of-none, option_or-none, PortIdentity, Ask, received_of, SessionValue, begun, resumed, retuned, Begin, Deliver, Event, Forged, IsInRange, Refusal, Resume, Retune, Send, Stranger, begin_refused, forged, frame_at, is_forged, no_port, no_room, no_session, refusal, Held, RunningNetwork, held, network_refusal, network_run, network_step, reaches, reaches_end, IsFrame, IsReached, AreInTime, begun_in, delivered, delivered_at, delivered_at_clock, happens, is_late_delivery, is_late_frame, report_from, run, step, step_by, strange_frame, taken, AtPort, AtSession, End, HasEnd, IsNetwork, Network, AreFirsts, Stands, Frame, NetworkState, initial_state, is_late, le_trans}
 use Rattle.ptpm_manager.specs.Ask as ask
-use Rattle.ptpm_network.proofs.Frames.{heard-frame, le_le}
+use Rattle.ptpm_network.proofs.Frames.{heard-frame}
 use Rattle.ptpm_network.proofs.Hearing.{begun-value, hears-stands, sends-stand, session-stands}
 use Rattle.ptpm_network.proofs.Held.{frame_at-map, turned-seen}
 use Rattle.ptpm_network.proofs.InTime.{in_window}
@@ -57,7 +57,7 @@ begins-stand : (N : Network) (first : PortIdentity → ℕ) (r : RunningNetwork)
 unfolding network_step happens
 begins-stand N first r w s a reached at place e =
     let step = reached.sessions s place in
-    let le = le_le (length (w.session s).reports) _ (length (w.session s).begun) step.accepted_before step.begun_before in
+    let le = le_trans step.accepted_before step.begun_before in
     session-stands N first r w s (begun (r.session s) (ask.request_of a)) (begun_in (N.session s) (w.session s) (ask.request_of a)) at place
     (ap (λ (v : SessionValue). begun v (ask.request_of a)) (at.sessions s place) ∙ begun-value (N.session s) (w.session s) (ask.request_of a) le) refl
 
@@ -123,9 +123,8 @@ pub network_run-stands : (N : Network) (first : PortIdentity → ℕ) (r : Runni
     → AreInTime N w (taken N w es)
     → Stands N first (network_run N r es) (run N w (taken N w es))
 network_run-stands N first r w [] firsts n reached at i time = at
-network_run-stands N first r w (e ∷ es) firsts n reached at i time = ⊎_elim
-    (λ (y : is_none (refusal N w e) ≡ true).
-    let none : refusal N w e ≡ None = is_none-none (refusal N w e) y in
+network_run-stands N first r w (e ∷ es) firsts n reached at i time = by_test (is_none (refusal N w e))
+    (λ y. let none : refusal N w e ≡ None = is_none-none (refusal N w e) y in
     let next : step N w e ≡ happens N w e = ap (λ (o : Option Refusal). step_by o N w e) none in
     let goes : taken N w (e ∷ es) ≡ e ∷ taken N (step N w e) es = cond-true _ _ _ y in
     let timely : AreInTime N w (e ∷ taken N (step N w e) es) = subst (AreInTime N w) goes time in
@@ -134,12 +133,10 @@ network_run-stands N first r w (e ∷ es) firsts n reached at i time = ⊎_elim
     subst (λ (x : RunningNetwork). Stands N first x (run N w (taken N w (e ∷ es)))) (sym runs)
     (subst (λ (ts : List Event). Stands N first (network_run N (network_step N r e) es) (run N w ts)) (sym goes)
     (network_run-stands N first (network_step N r e) (step N w e) es firsts n (step-reached N w e n i.0 reached) there i.1 timely.1)))
-    (λ (o : is_none (refusal N w e) ≡ false).
-    let stops : taken N w (e ∷ es) ≡ [] = cond-false _ _ _ o in
+    (λ o. let stops : taken N w (e ∷ es) ≡ [] = cond-false _ _ _ o in
     let halts : network_run N r (e ∷ es) ≡ r = cond-false _ _ _ (ap is_none (network_refusal-as N first r w e reached at) ∙ o) in
     subst (λ (x : RunningNetwork). Stands N first x (run N w (taken N w (e ∷ es)))) (sym halts)
     (subst (λ (ts : List Event). Stands N first r (run N w ts)) (sym stops) at))
-    (cases_Bool (is_none (refusal N w e)))
 
 -- ---- from where a list of events leads
 

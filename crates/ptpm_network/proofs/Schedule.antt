@@ -1,7 +1,6 @@
 -- What the invariant says of a schedule.
-use Rattle.ptpm_network.proofs.Common.{suc, zero, arith, ◌≡◌, ℕ, ◌<◌, ◌≤◌, ◌+◌, ◌-◌, List, Some, None, sym, ◌∙◌, length, AllByRecursion, boundary_hops, Accepted, kept_reply, Event, IsInRange, frame_at, IsReached, run, IsNetwork, Network, manager, Frame, NetworkState, accepted_at_target, initial_state, greatest_accepted, issued, outcomes_kept}
+use Rattle.ptpm_network.proofs.Common.{suc, zero, arith, ◌≡◌, ℕ, ◌<◌, ◌≤◌, ◌+◌, ◌-◌, List, Some, None, sym, ◌∙◌, length, AllByRecursion, boundary_hops, Accepted, kept_reply, Event, IsInRange, frame_at, IsReached, run, IsNetwork, Network, manager, Frame, NetworkState, accepted_at_target, initial_state, greatest_accepted, issued, outcomes_kept, le_trans}
 use Rattle.ptpm_network.proofs.Accepting.{kept-le}
-use Rattle.ptpm_network.proofs.Frames.{le_le}
 use Rattle.ptpm_network.proofs.Reaching.{first-reached, frame_at-is, run-reached}
 use Rattle.ptpm_network.proofs.Steps.{InStep}
 
@@ -65,7 +64,7 @@ pub reported_begun : (N : Network) (es : List Event) (s : ℕ)
     → s < N.sessions
     → length ((run N (initial_state N) es).session s).reports
     ≤ issued (run N (initial_state N) es) s
-reported_begun N es s n i place = let p = at N es s n i place in le_le _ _ _ p.accepted_before p.begun_before
+reported_begun N es s n i place = let p = at N es s n i place in le_trans p.accepted_before p.begun_before
 
 pub begun_reported : (N : Network) (es : List Event) (s : ℕ)
     → IsNetwork N

@@ -1,9 +1,8 @@
 -- A clock that takes its turn at a frame goes where the machine goes.
-use Rattle.ptpm_network.proofs.Common.{◌≡◌, ℕ, ◌<◌, ◌==◌, List, ◌++◌, Some, true, false, refl, sym, ◌∙◌, ap, subst, ⊎_elim, length, Option, None, cases_Bool, eqb-true, map-append, map, AllByRecursion, PortIdentity, DataSetsValue, forwarded, StandsAt, Delivery, History, RequestCopy, copy_of, Clock, State, turn, IsInTime, stands-copy, stands-initial_history, stands-other, Event, IsInRange, frame_at, answer_messages, answer_origin, arrives, delivered_at_clock, delivery, forwarded_frames, made_frames, reply_frames, run, with_place, AtPort, HasEnd, IsNetwork, Network, ports, AreFirsts, Stands, RunningNetwork, after_turn, held, initial_network, turn_frames, Frame, NetworkState, initial_state, history, is_late}
+use Rattle.ptpm_network.proofs.Common.{by_test, ◌≡◌, ℕ, ◌<◌, ◌==◌, List, ◌++◌, Some, false, refl, sym, ◌∙◌, ap, subst, length, Option, None, eqb-true, map-append, map, AllByRecursion, PortIdentity, DataSetsValue, forwarded, StandsAt, Delivery, History, RequestCopy, copy_of, Clock, State, turn, IsInTime, stands-copy, stands-initial_history, stands-other, Event, IsInRange, frame_at, answer_messages, answer_origin, arrives, delivered_at_clock, delivery, forwarded_frames, made_frames, reply_frames, run, with_place, AtPort, HasEnd, IsNetwork, Network, ports, AreFirsts, Stands, RunningNetwork, after_turn, held, initial_network, turn_frames, Frame, NetworkState, initial_state, history, is_late, with_place-other, with_place-same}
 use Rattle.ptpm_network.proofs.Arriving.{after_arrival, history-elsewhere, history-here, history-ports}
 use Rattle.ptpm_network.proofs.Frames.{heard-frame}
 use Rattle.ptpm_network.proofs.InTime.{in_window}
-use Rattle.ptpm_network.proofs.Lists.{with_place-other, with_place-same}
 use Rattle.ptpm_network.proofs.Reaching.{frame_at-is}
 use Rattle.ptpm_network.proofs.Schedule.{reached}
 use Rattle.ptpm_network.proofs.Turning.{turn-answers, turn-passes_on}
@@ -47,16 +46,13 @@ clock-stands : (N : Network) (first : PortIdentity → ℕ) (r : RunningNetwork)
     → d < N.clocks
     → StandsAt first (with_place r.clock c (turn (N.clock c) (r.clock c) port f.octets).next d)
     (history N (arrives w c (delivery port f)) d)
-clock-stands N first r w c port f at place time d there = ⊎_elim
-    (λ (y : d == c ≡ true).
-    subst (λ (s : State). StandsAt first s (history N (arrives w c (delivery port f)) d)) (sym (with_place-same r.clock c (turn (N.clock c) (r.clock c) port f.octets).next d y))
+clock-stands N first r w c port f at place time d there = by_test (d == c)
+    (λ y. subst (λ (s : State). StandsAt first s (history N (arrives w c (delivery port f)) d)) (sym (with_place-same r.clock c (turn (N.clock c) (r.clock c) port f.octets).next d y))
     (subst (λ j. StandsAt first (turn (N.clock c) (r.clock c) port f.octets).next (history N (arrives w c (delivery port f)) j)) (sym (eqb-true d c y))
     (subst (StandsAt first (turn (N.clock c) (r.clock c) port f.octets).next) (sym (history-here N w c (delivery port f)))
     (stands_by first (N.clock c) (ports N c) (r.clock c) (history N w c) (delivery port f) (copy_of (N.clock c) (ports N c) (delivery port f)) (history-ports N w c) refl (at.clocks c place) time))))
-    (λ (n : d == c ≡ false).
-    subst (λ (s : State). StandsAt first s (history N (arrives w c (delivery port f)) d)) (sym (with_place-other r.clock c (turn (N.clock c) (r.clock c) port f.octets).next d n))
+    (λ n. subst (λ (s : State). StandsAt first s (history N (arrives w c (delivery port f)) d)) (sym (with_place-other r.clock c (turn (N.clock c) (r.clock c) port f.octets).next d n))
     (subst (StandsAt first (r.clock d)) (sym (history-elsewhere N w c (delivery port f) d n)) (at.clocks d there)))
-    (cases_Bool (d == c))
 
 pub stands-turned : (N : Network) (first : PortIdentity → ℕ) (r : RunningNetwork) (w : NetworkState)
     (c port : ℕ) (f : Frame)

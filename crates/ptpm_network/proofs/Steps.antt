@@ -1,7 +1,6 @@
 -- What sessions do keeps the invariant.
-use Rattle.ptpm_network.proofs.Common.{arith, ◌≡◌, ℕ, ◌<◌, ◌-◌, ◌==◌, List, [], ◌∷◌, ◌++◌, Option, Some, None, Bool, true, false, refl, sym, ◌∙◌, subst, ⊎_elim, length, cases_Bool, eqb-true, cond-true, cond-false, slice_get_within, option_map, slice_get, AllByRecursion, filter, list_any, RequestValue, Accepted, kept_reply, request_message, IsFrame, IsInStep, IsOfOrigin, IsReached, sends, sent_frames, with_frames, with_session, End, AtSession, HasEnd, IsLink, IsNetwork, Network, manager, peers, ports, same_end, Frame, NetworkState, Origin, RequestOf, ReplyTo, Neither, SessionState, accepted_at_target, is_idle, new_frames, unanswered}
+use Rattle.ptpm_network.proofs.Common.{by_test, arith, ◌≡◌, ℕ, ◌<◌, ◌-◌, ◌==◌, List, [], ◌∷◌, ◌++◌, Option, Some, None, Bool, refl, sym, ◌∙◌, subst, length, eqb-true, cond-true, cond-false, slice_get_within, option_map, slice_get, AllByRecursion, filter, list_any, RequestValue, Accepted, kept_reply, request_message, IsFrame, IsInStep, IsOfOrigin, IsReached, sends, sent_frames, with_frames, with_session, End, AtSession, HasEnd, IsLink, IsNetwork, Network, manager, peers, ports, same_end, Frame, NetworkState, Origin, RequestOf, ReplyTo, Neither, SessionState, accepted_at_target, is_idle, new_frames, unanswered, all_append, all_made, all_weaker, with_place-other, with_place-same}
 use Rattle.ptpm_network.proofs.Accepting.{in_step-set}
-use Rattle.ptpm_network.proofs.Lists.{all_append, all_made, all_weaker, with_place-other, with_place-same}
 
 -- ---- ends
 
@@ -9,20 +8,18 @@ all_filter : {X : Type 0} (P : X → Type 0) (test : X → Bool) (xs : List X)
     → AllByRecursion P xs
     → AllByRecursion P (filter test xs)
 all_filter P test [] a = tt
-all_filter P test (x ∷ xs) a = ⊎_elim
-    (λ (y : test x ≡ true). subst (AllByRecursion P) (sym (cond-true _ _ _ y)) (a.0, all_filter P test xs a.1))
-    (λ (n : test x ≡ false). subst (AllByRecursion P) (sym (cond-false _ _ _ n)) (all_filter P test xs a.1))
-    (cases_Bool (test x))
+all_filter P test (x ∷ xs) a = by_test (test x)
+    (λ y. subst (AllByRecursion P) (sym (cond-true _ _ _ y)) (a.0, all_filter P test xs a.1))
+    (λ n. subst (AllByRecursion P) (sym (cond-false _ _ _ n)) (all_filter P test xs a.1))
 
 -- the ends that a message goes to exist
 peers_exist : (N : Network) (links : List (List End)) (e : End)
     → AllByRecursion (IsLink N) links
     → AllByRecursion (HasEnd N) (peers links e)
 peers_exist N [] e a = tt
-peers_exist N (link ∷ links) e a = ⊎_elim
-    (λ (y : list_any (same_end e) link ≡ true). subst (AllByRecursion (HasEnd N)) (sym (cond-true _ _ _ y)) (all_filter (HasEnd N) _ link a.0.ends))
-    (λ (n : list_any (same_end e) link ≡ false). subst (AllByRecursion (HasEnd N)) (sym (cond-false _ _ _ n)) (peers_exist N links e a.1))
-    (cases_Bool (list_any (same_end e) link))
+peers_exist N (link ∷ links) e a = by_test (list_any (same_end e) link)
+    (λ y. subst (AllByRecursion (HasEnd N)) (sym (cond-true _ _ _ y)) (all_filter (HasEnd N) _ link a.0.ends))
+    (λ n. subst (AllByRecursion (HasEnd N)) (sym (cond-false _ _ _ n)) (peers_exist N links e a.1))
 
 pub has_peers : (N : Network) (e : End) → IsNetwork N → AllByRecursion (HasEnd N) (peers N.links e)
 has_peers N e n = peers_exist N N.links e n.are_links
@@ -96,12 +93,10 @@ begun-stays : (w : NetworkState) (s : ℕ) (v : SessionState)
     → slice_get (w.session s).begun i ≡ Some q
     → slice_get v.begun i ≡ Some q)
     → BegunStays w (with_session w s v)
-begun-stays w s v g t i q e = ⊎_elim
-    (λ (y : t == s ≡ true).
-    subst (λ (x : SessionState). slice_get x.begun i ≡ Some q) (sym (with_place-same w.session s v t y))
+begun-stays w s v g t i q e = by_test (t == s)
+    (λ y. subst (λ (x : SessionState). slice_get x.begun i ≡ Some q) (sym (with_place-same w.session s v t y))
     (g i q (subst (λ j. slice_get (w.session j).begun i ≡ Some q) (eqb-true t s y) e)))
-    (λ (n : t == s ≡ false). subst (λ (x : SessionState). slice_get x.begun i ≡ Some q) (sym (with_place-other w.session s v t n)) e)
-    (cases_Bool (t == s))
+    (λ n. subst (λ (x : SessionState). slice_get x.begun i ≡ Some q) (sym (with_place-other w.session s v t n)) e)
 
 abbrev pub InStep : Network → NetworkState → ℕ → SessionState → Type 0
 InStep N w s v = IsInStep (manager N s) (ports N (N.session s).target) (accepted_at_target N w s) v
@@ -114,10 +109,9 @@ pub session-changes : (N : Network) (w : NetworkState) (s : ℕ) (v : SessionSta
     → IsReached N w
     → IsReached N (with_session w s v)
 session-changes N w s v g at r = record {
-  sessions = λ t place. ⊎_elim
-      (λ (y : t == s ≡ true). subst (InStep N w t) (sym (with_place-same w.session s v t y)) (subst (λ j. InStep N w j v) (sym (eqb-true t s y)) at))
-      (λ (n : t == s ≡ false). subst (InStep N w t) (sym (with_place-other w.session s v t n)) (r.sessions t place))
-      (cases_Bool (t == s));
+  sessions = λ t place. by_test (t == s)
+      (λ y. subst (InStep N w t) (sym (with_place-same w.session s v t y)) (subst (λ j. InStep N w j v) (sym (eqb-true t s y)) at))
+      (λ n. subst (InStep N w t) (sym (with_place-other w.session s v t n)) (r.sessions t place));
   clocks = r.clocks;
   frames = frames-stay N w (with_session w s v) (begun-stays w s v g) (λ t k e place h. h) w.frames r.frames;
 }
@@ -152,10 +146,9 @@ new_frames-are N w ends octets o a i = all_made (HasEnd N) (IsFrame N w) _ (λ e
 pub unanswered-last : (s : SessionState) (q : RequestValue)
     → unanswered s ≡ Some q
     → slice_get s.begun (length s.begun - 1) ≡ Some q
-unanswered-last s q e = ⊎_elim
-    (λ (y : is_idle s ≡ true). let none : None ≡ Some q = sym (cond-true _ _ _ y) ∙ e in absurd (cc))
-    (λ (n : is_idle s ≡ false). sym (cond-false _ _ _ n) ∙ e)
-    (cases_Bool (is_idle s))
+unanswered-last s q e = by_test (is_idle s)
+    (λ y. let none : None ≡ Some q = sym (cond-true _ _ _ y) ∙ e in absurd (cc))
+    (λ n. sym (cond-false _ _ _ n) ∙ e)
 
 positive : (n : ℕ) → n - 1 < n → 0 < n
 positive n h = omega arith

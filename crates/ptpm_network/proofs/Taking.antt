@@ -1,5 +1,5 @@
 -- One list of events after another, and what is taken of a list: all before the first that is refused.
-use Rattle.ptpm_network.proofs.Common.{◌≡◌, List, [], ◌∷◌, ◌++◌, Option, Some, None, true, false, refl, sym, ◌∙◌, ap, subst, ⊎_elim, cases_Bool, cond-true, cond-false, is_none, AllByRecursion, Event, IsInRange, refusal, AreInTime, run, step, taken, Network, NetworkState}
+use Rattle.ptpm_network.proofs.Common.{by_test, ◌≡◌, List, [], ◌∷◌, ◌++◌, Option, Some, None, true, refl, sym, ◌∙◌, ap, subst, cond-true, cond-false, is_none, AllByRecursion, Event, IsInRange, refusal, AreInTime, run, step, taken, Network, NetworkState}
 
 pub is_none-none : {A : Type 0} (o : Option A) → is_none o ≡ true → o ≡ None
 is_none-none None y = refl
@@ -43,19 +43,17 @@ pub taken-in_range : (N : Network) (w : NetworkState) (es : List Event)
     → AllByRecursion IsInRange es
     → AllByRecursion IsInRange (taken N w es)
 taken-in_range N w [] i = tt
-taken-in_range N w (e ∷ es) i = ⊎_elim
-    (λ (y : is_none (refusal N w e) ≡ true). subst (AllByRecursion IsInRange) (sym (cond-true _ _ _ y)) (i.0, taken-in_range N (step N w e) es i.1))
-    (λ (n : is_none (refusal N w e) ≡ false). subst (AllByRecursion IsInRange) (sym (cond-false _ _ _ n)) tt)
-    (cases_Bool (is_none (refusal N w e)))
+taken-in_range N w (e ∷ es) i = by_test (is_none (refusal N w e))
+    (λ y. subst (AllByRecursion IsInRange) (sym (cond-true _ _ _ y)) (i.0, taken-in_range N (step N w e) es i.1))
+    (λ n. subst (AllByRecursion IsInRange) (sym (cond-false _ _ _ n)) tt)
 
 pub taken-in_time : (N : Network) (w : NetworkState) (es : List Event)
     → AreInTime N w es
     → AreInTime N w (taken N w es)
 taken-in_time N w [] time = tt
-taken-in_time N w (e ∷ es) time = ⊎_elim
-    (λ (y : is_none (refusal N w e) ≡ true). subst (AreInTime N w) (sym (cond-true _ _ _ y)) (time.0, taken-in_time N (step N w e) es time.1))
-    (λ (n : is_none (refusal N w e) ≡ false). subst (AreInTime N w) (sym (cond-false _ _ _ n)) tt)
-    (cases_Bool (is_none (refusal N w e)))
+taken-in_time N w (e ∷ es) time = by_test (is_none (refusal N w e))
+    (λ y. subst (AreInTime N w) (sym (cond-true _ _ _ y)) (time.0, taken-in_time N (step N w e) es time.1))
+    (λ n. subst (AreInTime N w) (sym (cond-false _ _ _ n)) tt)
 
 same_rest : (e : Event) (es fs : List Event) → e ∷ es ≡ e ∷ fs → es ≡ fs
 same_rest e es fs h = cc
@@ -68,9 +66,7 @@ pub taken-append : (N : Network) (w : NetworkState) (es fs : List Event)
     → taken N w es ≡ es
     → taken N w (es ++ fs) ≡ es ++ taken N (run N w es) fs
 taken-append N w [] fs whole = refl
-taken-append N w (e ∷ es) fs whole = ⊎_elim
-    (λ (y : is_none (refusal N w e) ≡ true).
-    let rest : taken N (step N w e) es ≡ es = same_rest e (taken N (step N w e) es) es (sym (cond-true _ _ _ y) ∙ whole) in
+taken-append N w (e ∷ es) fs whole = by_test (is_none (refusal N w e))
+    (λ y. let rest : taken N (step N w e) es ≡ es = same_rest e (taken N (step N w e) es) es (sym (cond-true _ _ _ y) ∙ whole) in
     cond-true _ _ _ y ∙ ap (λ (ts : List Event). e ∷ ts) (taken-append N (step N w e) es fs rest))
-    (λ (n : is_none (refusal N w e) ≡ false). none_left e es (sym (cond-false _ _ _ n) ∙ whole))
-    (cases_Bool (is_none (refusal N w e)))
+    (λ n. none_left e es (sym (cond-false _ _ _ n) ∙ whole))

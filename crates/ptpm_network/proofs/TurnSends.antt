@@ -1,6 +1,6 @@
 -- What a clock sends in a turn: copies at other ports than the one that the datagram came in at, replies at that one. And to
 -- what it replies: to a numbered copy exactly where its verdict says so.
-use Rattle.ptpm_network.proofs.Common.{◌≡◌, ℕ, ◌==◌, ◌&&◌, not, ◌⊎◌, inl, inr, length, List, [], ◌∷◌, Option, Some, None, Result, Ok, Err, Bool, true, false, refl, sym, ◌∙◌, ap, subst, ⊎_elim, cases_Bool, and_parts, and_right, not-true, cond-true, cond-false, eq-eqb, map, AllByRecursion, filter, range_with_len, DecodeError, ClockIdentity, Message, canonical, message_of, reading, DataSetsValue, may_forward, ReplyValue, Heard, Entry, is_known, look_at, look_by, same_request, rendered, reply_message, serial_of, Verdict, forwarded, forwarded_by, is_forwarded, with_less_hop, Delivery, RequestCopy, copy_by, copy_from, copy_of, is_copy, heard_of, is_for_this_clock, is_numbered, is_own, is_request, names_port, request_of, Clock, State, judged, look, reply_by, reply_messages, turn, turn_by, verdict_at, is_copy-numbered, judged-each, message_of-reading, verdict_at-unnumbered, answer_origin, Origin, origin_by}
+use Rattle.ptpm_network.proofs.Common.{by_test, ◌≡◌, ℕ, ◌==◌, ◌&&◌, not, ◌⊎◌, inl, inr, length, List, [], ◌∷◌, Option, Some, None, Result, Ok, Err, Bool, true, false, refl, sym, ◌∙◌, ap, subst, and_parts, and_right, not-true, cond-true, cond-false, eq-eqb, map, AllByRecursion, filter, range_with_len, DecodeError, ClockIdentity, Message, canonical, message_of, reading, DataSetsValue, may_forward, ReplyValue, Heard, Entry, is_known, look_at, look_by, same_request, rendered, reply_message, serial_of, Verdict, forwarded, forwarded_by, is_forwarded, with_less_hop, Delivery, RequestCopy, copy_by, copy_from, copy_of, is_copy, heard_of, is_for_this_clock, is_numbered, is_own, is_request, names_port, request_of, Clock, State, judged, look, reply_by, reply_messages, turn, turn_by, verdict_at, is_copy-numbered, judged-each, message_of-reading, verdict_at-unnumbered, answer_origin, Origin, origin_by}
 use Rattle.std.specs.FinMap.{get}
 use Rattle.ptpm_table.specs.declared.reply_table.Look.{Look}
 use Rattle.ptpm_table.specs.declared.serial.Serial.{Serial}
@@ -19,23 +19,19 @@ passed-away : (ingress : ℕ) (may : ℕ → Bool) (octets : List ℕ) (ports : 
     → AllByRecursion (IsAway ingress)
     (map (λ port. (port, octets)) (filter (λ port. not (port == ingress) && may port) ports))
 passed-away ingress may octets [] = tt
-passed-away ingress may octets (p ∷ ps) = ⊎_elim
-    (λ (y : (not (p == ingress) && may p) ≡ true).
-    subst (λ xs. AllByRecursion (IsAway ingress) (map (λ port. (port, octets)) xs)) (sym (cond-true _ _ _ y))
+passed-away ingress may octets (p ∷ ps) = by_test (not (p == ingress) && may p)
+    (λ y. subst (λ xs. AllByRecursion (IsAway ingress) (map (λ port. (port, octets)) xs)) (sym (cond-true _ _ _ y))
     (not-true (p == ingress) (and_parts (not (p == ingress)) (may p) y).0, passed-away ingress may octets ps))
-    (λ (n : (not (p == ingress) && may p) ≡ false).
-    subst (λ xs. AllByRecursion (IsAway ingress) (map (λ port. (port, octets)) xs)) (sym (cond-false _ _ _ n)) (passed-away ingress may octets ps))
-    (cases_Bool (not (p == ingress) && may p))
+    (λ n. subst (λ xs. AllByRecursion (IsAway ingress) (map (λ port. (port, octets)) xs)) (sym (cond-false _ _ _ n)) (passed-away ingress may octets ps))
 
 forwarded_by-away : (me : ClockIdentity) (ingress : ℕ) (d : DataSetsValue) (datagram : List ℕ)
     (o : Option Message)
     → AllByRecursion (IsAway ingress) (forwarded_by me ingress d datagram o)
 forwarded_by-away me ingress d datagram None = tt
-forwarded_by-away me ingress d datagram (Some v) = ⊎_elim
-    (λ (y : is_forwarded me ingress d v ≡ true). subst (AllByRecursion (IsAway ingress)) (sym (cond-true _ _ _ y))
+forwarded_by-away me ingress d datagram (Some v) = by_test (is_forwarded me ingress d v)
+    (λ y. subst (AllByRecursion (IsAway ingress)) (sym (cond-true _ _ _ y))
     (passed-away ingress (λ port. may_forward port d) (with_less_hop datagram) (range_with_len 1 (length d.ports))))
-    (λ (n : is_forwarded me ingress d v ≡ false). subst (AllByRecursion (IsAway ingress)) (sym (cond-false _ _ _ n)) tt)
-    (cases_Bool (is_forwarded me ingress d v))
+    (λ n. subst (AllByRecursion (IsAway ingress)) (sym (cond-false _ _ _ n)) tt)
 
 forwarded-away : (me : ClockIdentity) (ingress : ℕ) (d : DataSetsValue) (datagram : List ℕ)
     → AllByRecursion (IsAway ingress) (forwarded me ingress d datagram)
@@ -137,15 +133,13 @@ message-copy : (c : Clock) (s : State) (x : Delivery) (v : Message) →
 message-copy c s x v =
     judged-each (λ (w : Verdict). IsToCopy w (reply_messages c x.ingress (heard_of v) (reply_by w c s v)) (copy_by c (length s.sets.ports) x (Some v))) c s v
     (inl refl) (inl refl) (inl refl) (inl refl)
-    (λ d o a q. ⊎_elim
-    (λ (n : is_numbered c v ≡ true).
-    subst (λ (copy : Option RequestCopy). IsToCopy (verdict_at (look c s v)) (reply_messages c x.ingress (heard_of v) (reply_by (verdict_at (look c s v)) c s v)) copy)
+    (λ d o a q. by_test (is_numbered c v)
+    (λ n. subst (λ (copy : Option RequestCopy). IsToCopy (verdict_at (look c s v)) (reply_messages c x.ingress (heard_of v) (reply_by (verdict_at (look c s v)) c s v)) copy)
     (sym (copy_by-copy c s x v (is_copy-numbered c s v d o a q n)))
     (numbered-copy c s x.ingress v (copy_from x v) n))
-    (λ (n : is_numbered c v ≡ false). inr (λ origin.
+    (λ n. inr (λ origin.
     ap (λ (w : Verdict). origin_by w origin) (verdict_at-unnumbered c s v n)
-    ∙ sym (ap (answer_origin origin) (copy_by-none c s x v (is_copy-unnumbered c s v n)))))
-    (cases_Bool (is_numbered c v)))
+    ∙ sym (ap (answer_origin origin) (copy_by-none c s x v (is_copy-unnumbered c s v n))))))
 
 turn_by-copy : (c : Clock) (s : State) (x : Delivery) (r : Result Message DecodeError)
     → reading x.datagram ≡ r →

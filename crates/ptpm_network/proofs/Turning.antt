@@ -1,34 +1,10 @@
 -- What a clock sends in a turn is what the machine says that it sends.
-use Rattle.ptpm_network.proofs.Common.{◌≡◌, ℕ, ◌==◌, ◌&&◌, ◌||◌, not, List, Option, Some, None, Result, Ok, Err, Bool, true, false, refl, sym, ◌∙◌, ap, ⊎_elim, length, cases_Bool, and_from, and_left, and_right, and_parts, cond-true, cond-false, true≢false, DecodeError, PortIdentity, Message, every_clock, same_clock, message_of, reading, DataSetsValue, is_known, Verdict, forwarded, StandsAt, Delivery, History, RequestCopy, copy_of, is_copy, heard_of, is_addressed, is_for_this_clock, is_numbered, is_own, is_request, names_port, Clock, State, Turned, is_accepted_repeat, is_repeat, judged, look, reply_by, reply_messages, turn, turn_by, verdict_at, IsInTime, no_copy, turns_as, judged-foreign, judged-request, message_of-reading, reading-message_of, turn-message, answer_messages, delivery, is_read, read_messages, Frame}
+use Rattle.ptpm_network.proofs.Common.{by_test, ◌≡◌, ℕ, ◌==◌, ◌&&◌, ◌||◌, not, List, Option, Some, None, Result, Ok, Err, Bool, true, false, refl, sym, ◌∙◌, ap, length, and_from, and_left, and_right, and_parts, cond-true, cond-false, true≢false, DecodeError, PortIdentity, Message, every_clock, same_clock, message_of, reading, DataSetsValue, is_known, Verdict, forwarded, StandsAt, Delivery, History, RequestCopy, copy_of, is_copy, heard_of, is_addressed, is_for_this_clock, is_numbered, is_own, is_request, names_port, Clock, State, Turned, is_accepted_repeat, is_repeat, judged, look, reply_by, reply_messages, turn, turn_by, verdict_at, IsInTime, no_copy, turns_as, judged-foreign, judged-request, message_of-reading, reading-message_of, turn-message, answer_messages, delivery, is_read, read_messages, Frame, judged-own, judged-away, judged-reply}
 use Rattle.ptpm_table.specs.declared.reply_table.Look.TheVariants as looks
 use Rattle.ptpm_agent.specs.declared.verdict.Verdict.TheVariants as verdicts
 use Rattle.ptpm_agent.specs.Turn.{is_in_domain}
 
 -- ---- a message that is no numbered copy
-
-judged-own : (c : Clock) (s : State) (v : Message)
-    → is_in_domain c s v ≡ true
-    → is_own c v ≡ true
-    → judged c s v ≡ verdicts.OwnMessage
-unfolding judged
-judged-own c s v d o = cond-false _ _ _ (ap not d) ∙ cond-true _ _ _ o
-
-judged-away : (c : Clock) (s : State) (v : Message)
-    → is_in_domain c s v ≡ true
-    → is_own c v ≡ false
-    → is_addressed c s.sets v ≡ false
-    → judged c s v ≡ verdicts.NotAddressed
-unfolding judged
-judged-away c s v d o a = cond-false _ _ _ (ap not d) ∙ (cond-false _ _ _ o ∙ cond-true _ _ _ (ap not a))
-
-judged-reply : (c : Clock) (s : State) (v : Message)
-    → is_in_domain c s v ≡ true
-    → is_own c v ≡ false
-    → is_addressed c s.sets v ≡ true
-    → is_request v ≡ false
-    → judged c s v ≡ verdicts.NotARequest
-unfolding judged
-judged-reply c s v d o a q = cond-false _ _ _ (ap not d) ∙ (cond-false _ _ _ o ∙ (cond-false _ _ _ (ap not a) ∙ cond-true _ _ _ (ap not q)))
 
 -- where the verdict sends nothing, nothing is read
 says_nothing : (c : Clock) (s : State) (ingress : ℕ) (v : Message) (w : Verdict)
@@ -102,34 +78,29 @@ says_request_or_nothing : (c : Clock) (s : State) (ingress : ℕ) (v : Message)
     → is_addressed c s.sets v ≡ true
     → reply_messages c ingress (heard_of v) (reply_by (judged c s v) c s v)
     ≡ read_messages c s.sets ingress (Some v)
-says_request_or_nothing c s ingress v n d o a = ⊎_elim
-    (λ (q : is_request v ≡ true). ⊎_elim
-    (λ (y : is_numbered c v ≡ true). absurd (true≢false (sym
+says_request_or_nothing c s ingress v n d o a = by_test (is_request v)
+    (λ q. by_test (is_numbered c v)
+    (λ y. absurd (true≢false (sym
     (is_copy-bits (v.sdo == 0) (is_own c v) (is_known v.source c.managers) (is_for_this_clock c v) (names_port (length s.sets.ports) v.target.port) (is_request v) (same_clock v.target.clock every_clock)
     (and_parts (v.sdo == 0) (v.domain == s.sets.default.domain || is_accepted_repeat c s v) d).0 o y a q) ∙ n)))
-    (λ (f : is_numbered c v ≡ false). says_read c s ingress v d o a q f)
-    (cases_Bool (is_numbered c v)))
-    (λ (q : is_request v ≡ false). says_nothing c s ingress v verdicts.NotARequest (judged-reply c s v d o a q) refl
+    (λ f. says_read c s ingress v d o a q f))
+    (λ q. says_nothing c s ingress v verdicts.NotARequest (judged-reply c s v d o a q) refl
     (is_read-reply (v.sdo == 0) (v.domain == s.sets.default.domain) (is_own c v) (is_addressed c s.sets v) (is_request v) (not (is_numbered c v)) q))
-    (cases_Bool (is_request v))
 
 says_as_read : (c : Clock) (s : State) (ingress : ℕ) (v : Message)
     → is_copy c (length s.sets.ports) v ≡ false
     → reply_messages c ingress (heard_of v) (reply_by (judged c s v) c s v)
     ≡ read_messages c s.sets ingress (Some v)
-says_as_read c s ingress v n = ⊎_elim
-    (λ (d : is_in_domain c s v ≡ true). ⊎_elim
-    (λ (o : is_own c v ≡ true). says_nothing c s ingress v verdicts.OwnMessage (judged-own c s v d o) refl
+says_as_read c s ingress v n = by_test (is_in_domain c s v)
+    (λ d. by_test (is_own c v)
+    (λ o. says_nothing c s ingress v verdicts.OwnMessage (judged-own c s v d o) refl
     (is_read-own (v.sdo == 0) (v.domain == s.sets.default.domain) (is_own c v) (is_addressed c s.sets v && (is_request v && not (is_numbered c v))) o))
-    (λ (o : is_own c v ≡ false). ⊎_elim
-    (λ (a : is_addressed c s.sets v ≡ true). says_request_or_nothing c s ingress v n d o a)
-    (λ (a : is_addressed c s.sets v ≡ false). says_nothing c s ingress v verdicts.NotAddressed (judged-away c s v d o a) refl
-    (is_read-away (v.sdo == 0) (v.domain == s.sets.default.domain) (is_own c v) (is_addressed c s.sets v) (is_request v && not (is_numbered c v)) a))
-    (cases_Bool (is_addressed c s.sets v)))
-    (cases_Bool (is_own c v)))
-    (λ (d : is_in_domain c s v ≡ false). says_nothing c s ingress v verdicts.OtherDomain (judged-foreign c s v d) refl
+    (λ o. by_test (is_addressed c s.sets v)
+    (λ a. says_request_or_nothing c s ingress v n d o a)
+    (λ a. says_nothing c s ingress v verdicts.NotAddressed (judged-away c s v d o a) refl
+    (is_read-away (v.sdo == 0) (v.domain == s.sets.default.domain) (is_own c v) (is_addressed c s.sets v) (is_request v && not (is_numbered c v)) a))))
+    (λ d. says_nothing c s ingress v verdicts.OtherDomain (judged-foreign c s v d) refl
     (is_read-foreign (v.sdo == 0) (v.domain == s.sets.default.domain) (is_accepted_repeat c s v) (not (is_own c v) && (is_addressed c s.sets v && (is_request v && not (is_numbered c v)))) d))
-    (cases_Bool (is_in_domain c s v))
 
 -- ---- a turn
 

@@ -1,5 +1,5 @@
 -- What leaves a clock as it was: a stranger's datagram, and a request that is refused.
-use Rattle.ptpm_network.proofs.Common.{◌≡◌, ℕ, ◌<◌, ◌==◌, List, [], Option, Some, None, true, false, refl, sym, ◌∙◌, ap, subst, ⊎_elim, cases_Bool, cond-true, cond-false, eqb-true, same_Some, AllByRecursion, Contains, first_of-none, option_or-none, ErrorId, Answer, Refused, ReplyValue, refused_answer, Delivery, History, RequestCopy, accepted_from, after_copy, copy_of, due_reply, joins, Clock, Event, Forged, IsInRange, Refusal, Stranger, forged, is_forged, no_port, no_room, refusal, IsReached, arrives, delivery, happens, run, step, step_by, strange_frame, IsNetwork, Network, ports, NetworkState, Neither, RequestOf, initial_state, history}
+use Rattle.ptpm_network.proofs.Common.{by_test, ◌≡◌, ℕ, ◌<◌, ◌==◌, List, [], Option, Some, None, refl, sym, ◌∙◌, ap, subst, cond-true, cond-false, eqb-true, same_Some, AllByRecursion, Contains, first_of-none, option_or-none, ErrorId, Answer, Refused, ReplyValue, refused_answer, Delivery, History, RequestCopy, accepted_from, after_copy, copy_of, due_reply, joins, Clock, Event, Forged, IsInRange, Refusal, Stranger, forged, is_forged, no_port, no_room, refusal, IsReached, arrives, delivery, happens, run, step, step_by, strange_frame, IsNetwork, Network, ports, NetworkState, Neither, RequestOf, initial_state, history}
 use Rattle.ptpm_network.proofs.Arriving.{after_arrival, history-elsewhere, history-here, is_copy_of}
 use Rattle.ptpm_network.proofs.Frames.{IsHeard}
 use Rattle.ptpm_network.proofs.Reaching.{port-exists}
@@ -32,12 +32,10 @@ strange-history : (N : Network) (w : NetworkState) (c port : ℕ) (datagram : Li
     → history N (arrives w c (delivery port (strange_frame c port datagram))) d ≡ history N w d
 strange-history N w c port datagram d n r place i =
     let x : Delivery = delivery port (strange_frame c port datagram) in
-    ⊎_elim
-    (λ (y : d == c ≡ true).
-    subst (λ j. history N (arrives w c x) j ≡ history N w j) (sym (eqb-true d c y))
+    by_test (d == c)
+    (λ y. subst (λ j. history N (arrives w c x) j ≡ history N w j) (sym (eqb-true d c y))
     (history-here N w c x ∙ ap (after_arrival (N.clock c) (history N w c)) (strange-no_copy N w c port datagram _ n r place i refl)))
-    (λ (o : d == c ≡ false). history-elsewhere N w c x d o)
-    (cases_Bool (d == c))
+    (λ o. history-elsewhere N w c x d o)
 
 strange-happens : (N : Network) (w : NetworkState) (c port : ℕ) (datagram : List ℕ) (d : ℕ)
     → IsNetwork N
@@ -85,14 +83,12 @@ pub refused-copy : (c : Clock) (h : History) (copy : RequestCopy) (r : ReplyValu
     → Contains r.answers a
     → a.outcome ≡ Refused error
     → (after_copy c h copy).sets ≡ h.sets
-refused-copy c h copy r a error due has refused = ⊎_elim
-    (λ (y : joins h copy ≡ true).
-    let same : (accepted_from c h copy).reply ≡ r = same_Some _ r (sym (cond-true _ _ _ y) ∙ due) in
+refused-copy c h copy r a error due has refused = by_test (joins h copy)
+    (λ y. let same : (accepted_from c h copy).reply ≡ r = same_Some _ r (sym (cond-true _ _ _ y) ∙ due) in
     ap (λ (g : History). g.sets) (cond-true _ _ _ y)
     ∙ refused_answer copy.request (c.rights copy.heard.source) h.sets a error
     (subst (λ (z : ReplyValue). Contains z.answers a) (sym same) has) refused)
-    (λ (n : joins h copy ≡ false). ap (λ (g : History). g.sets) (cond-false _ _ _ n))
-    (cases_Bool (joins h copy))
+    (λ n. ap (λ (g : History). g.sets) (cond-false _ _ _ n))
 
 pub refused-leaves : (N : Network) (w : NetworkState) (c : ℕ) (x : Delivery) (copy : RequestCopy)
     (r : ReplyValue) (a : Answer) (error : ErrorId)

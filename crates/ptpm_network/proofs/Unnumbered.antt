@@ -1,10 +1,9 @@
 -- Replies to what is not numbered go to no session, and a delivery at a clock keeps the invariant.
-use Rattle.ptpm_network.proofs.Common.{◌≡◌, ℕ, ◌<◌, ◌+◌, ◌^◌, ◌==◌, ◌&&◌, ◌||◌, not, List, Option, Some, None, Bool, true, false, refl, sym, ◌∙◌, ap, subst, ⊎_elim, ◌⊎◌, inl, inr, length, cases_Bool, and_from, and_parts, cond-true, cond-false, not-true, true≢false, slice_get, AllByRecursion, PortIdentity, Body, Message, every_clock, same_clock, boundary_hops, BodyFits, Fits, action_of, id_of, is_reply, message_of, read_reply_to, ReplyValue, is_known, hops_passed, rendered, forwarded, RequestCopy, copy_of, due_reply, heard_of, is_for_this_clock, is_numbered, is_own, is_request, names_port, request_of, Clock, same_clock-true, Answers, IsForeign, IsForeignFrame, IsFrame, IsReached, answering_frames, arrives, delivered_at_clock, delivery, is_read, made_frames, read_messages, AtPort, HasEnd, IsNetwork, Network, manager, ports, Frame, NetworkState, Origin, RequestOf, ReplyTo, Neither, history, reply_action-is_reply}
+use Rattle.ptpm_network.proofs.Common.{by_test, ◌≡◌, ℕ, ◌<◌, ◌+◌, ◌^◌, ◌==◌, ◌&&◌, ◌||◌, not, List, Option, Some, None, Bool, true, false, refl, sym, ◌∙◌, ap, subst, ⊎_elim, ◌⊎◌, inl, inr, length, and_from, and_parts, cond-true, cond-false, not-true, true≢false, slice_get, AllByRecursion, PortIdentity, Body, Message, every_clock, same_clock, boundary_hops, BodyFits, Fits, action_of, id_of, is_reply, message_of, read_reply_to, ReplyValue, is_known, hops_passed, rendered, forwarded, RequestCopy, copy_of, due_reply, heard_of, is_for_this_clock, is_numbered, is_own, is_request, names_port, request_of, Clock, same_clock-true, Answers, IsForeign, IsForeignFrame, IsFrame, IsReached, answering_frames, arrives, delivered_at_clock, delivery, is_read, made_frames, read_messages, AtPort, HasEnd, IsNetwork, Network, manager, ports, Frame, NetworkState, Origin, RequestOf, ReplyTo, Neither, history, reply_action-is_reply, all_append}
 use Rattle.ptpm_codec.specs.declared.message.Body.TheVariants as bodies
 use Rattle.ptpm_network.proofs.Answering.{due-frames, rendered-all, reply_frames-are, small}
 use Rattle.ptpm_network.proofs.Arriving.{action_of-answer_body, arrives-reached, is_copy_of, kept-stays}
 use Rattle.ptpm_network.proofs.Frames.{IsHeard, forwarded_frames-are, same_read, says_reply, says_request}
-use Rattle.ptpm_network.proofs.Lists.{all_append}
 use Rattle.ptpm_network.proofs.Messages.{canonical-message, passed_on, reply_at, reply-fits, reply-valid, request_at}
 use Rattle.ptpm_network.proofs.Requests.{read_answered}
 use Rattle.ptpm_network.proofs.Steps.{KeptStays, more-frames, origin-stays}
@@ -150,14 +149,12 @@ read-by : (N : Network) (w : NetworkState) (c port : ℕ) (octets : List ℕ) (o
 read-by N w c port octets o None n r end i e = tt
 read-by N w c port octets o (Some v) n r end i e =
     let d = (history N w c).sets in
-    ⊎_elim
-    (λ (y : is_read (N.clock c) d v ≡ true).
-    let p = read_parts (N.clock c) (v.sdo == 0) (v.domain == d.default.domain) (not (is_own (N.clock c) v)) (names_port (length d.ports) v.target.port) (is_request v) (is_numbered (N.clock c) v) (is_for_this_clock (N.clock c) v || same_clock v.target.clock every_clock) refl y in
+    by_test (is_read (N.clock c) d v)
+    (λ y. let p = read_parts (N.clock c) (v.sdo == 0) (v.domain == d.default.domain) (not (is_own (N.clock c) v)) (names_port (length d.ports) v.target.port) (is_request v) (is_numbered (N.clock c) v) (is_for_this_clock (N.clock c) v || same_clock v.target.clock every_clock) refl y in
     subst (AllByRecursion (λ m. IsForeignFrame N m.1)) (sym (cond-true _ _ _ y))
     (read-origin N w c port octets o v (names_port (length d.ports) v.target.port) n r end i e (record { addressed = p.0; request = p.1; not_numbered = p.2 })
     (read_reply_to (request_of v) d) (read_answered (request_of v) (ports N c) d (r.clocks c end.0))))
-    (λ (n : is_read (N.clock c) d v ≡ false). subst (AllByRecursion (λ m. IsForeignFrame N m.1)) (sym (cond-false _ _ _ n)) tt)
-    (cases_Bool (is_read (N.clock c) d v))
+    (λ n. subst (AllByRecursion (λ m. IsForeignFrame N m.1)) (sym (cond-false _ _ _ n)) tt)
 
 -- ---- all frames that a clock makes
 

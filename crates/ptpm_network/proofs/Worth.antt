@@ -1,8 +1,7 @@
 -- What a report is worth: its request was carried out exactly once, and the report tells the answer of that moment.
-use Rattle.ptpm_network.proofs.Common.{suc, zero, arith, ◌≡◌, ℕ, ◌<◌, ◌≤◌, ◌+◌, ◌-◌, ◌==◌, ◌&&◌, max, Bool, List, [], ◌∷◌, ◌++◌, Some, None, true, false, refl, sym, ◌∙◌, ap, subst, ⊎_elim, ◌⊎◌, inl, inr, length, length-append, append_assoc, cases_Bool, and_parts, and_left, and_right, eqb-true, ltb-true, ne_eqb, cond-true, cond-false, lt-ltb, append-nil, is_some, nat_lt, not, option_map, slice_get, option_or, AllByRecursion, find, PortIdentity, same_identity, first_of, DataSetsValue, Answer, RequestValue, same_identity-true, Accepted, History, RequestCopy, accepted_from, after_copy, applied_once, initial_history, greatest, joins, kept_reply, Clock, Ask, Report, ask_refusal, SessionValue, begin_refusal, count_limit, is_waiting, Begin, BeginRefused, Event, IsInRange, NoSuchName, begin_refused, no_session, refusal, IsReached, WasAccepted, run, IsNetwork, Network, manager, NetworkState, SessionState, accepted_at_target, copies_at, initial_state, history, issued, outcomes_kept, reports_by, reports_of, session_value, unanswered, IsWorth, WasCarriedOut, entries_of}
+use Rattle.ptpm_network.proofs.Common.{by_test, suc, zero, arith, ◌≡◌, ℕ, ◌<◌, ◌≤◌, ◌+◌, ◌-◌, ◌==◌, ◌&&◌, max, Bool, List, [], ◌∷◌, ◌++◌, Some, None, true, refl, sym, ◌∙◌, ap, subst, ⊎_elim, ◌⊎◌, inl, inr, length, length-append, append_assoc, and_parts, and_left, and_right, eqb-true, ltb-true, ne_eqb, cond-true, cond-false, lt-ltb, append-nil, is_some, nat_lt, not, option_map, slice_get, option_or, AllByRecursion, find, PortIdentity, same_identity, first_of, DataSetsValue, Answer, RequestValue, same_identity-true, Accepted, History, RequestCopy, accepted_from, after_copy, applied_once, initial_history, greatest, joins, kept_reply, Clock, Ask, Report, ask_refusal, SessionValue, begin_refusal, count_limit, is_waiting, Begin, BeginRefused, Event, IsInRange, NoSuchName, begin_refused, no_session, refusal, IsReached, WasAccepted, run, IsNetwork, Network, manager, NetworkState, SessionState, accepted_at_target, copies_at, initial_state, history, issued, outcomes_kept, reports_by, reports_of, session_value, unanswered, IsWorth, WasCarriedOut, entries_of, all_weaker}
 use Rattle.ptpm_manager.specs.declared.error.BeginError.TheVariants as begins
 use Rattle.ptpm_network.proofs.Accepting.{report_of}
-use Rattle.ptpm_network.proofs.Lists.{all_weaker}
 use Rattle.ptpm_network.proofs.Refusals.{get-below}
 use Rattle.ptpm_network.proofs.Schedule.{reached}
 
@@ -16,14 +15,11 @@ none_above : (m : PortIdentity) (k : ℕ) (es : List Accepted)
     → greatest m es < k
     → entries_of m k es ≡ []
 none_above m k [] above = refl
-none_above m k (d ∷ es) above = ⊎_elim
-    (λ (y : same_identity m d.manager ≡ true).
-    let p = above-same (greatest m (d ∷ es)) (greatest m es) d.index k (cond-true _ _ _ y) above in
+none_above m k (d ∷ es) above = by_test (same_identity m d.manager)
+    (λ y. let p = above-same (greatest m (d ∷ es)) (greatest m es) d.index k (cond-true _ _ _ y) above in
     cond-false _ _ _ (and_right _ _ (ne_eqb d.index k p.1)) ∙ none_above m k es p.0)
-    (λ (n : same_identity m d.manager ≡ false).
-    let other : greatest m (d ∷ es) ≡ greatest m es = cond-false _ _ _ n in
+    (λ n. let other : greatest m (d ∷ es) ≡ greatest m es = cond-false _ _ _ n in
     cond-false _ _ _ (and_left _ _ n) ∙ none_above m k es (subst (λ g. g < k) other above))
-    (cases_Bool (same_identity m d.manager))
 
 abbrev pub AreOnce : List Accepted → Type 0
 AreOnce es = (m : PortIdentity) (k : ℕ) → length (entries_of m k es) ≤ 1
@@ -32,25 +28,21 @@ once-joined : (es : List Accepted) (d : Accepted)
     → greatest d.manager es < d.index
     → AreOnce es
     → AreOnce (d ∷ es)
-once-joined es d above once m k = ⊎_elim
-    (λ (y : (same_identity m d.manager && d.index == k) ≡ true).
-    let parts = and_parts (same_identity m d.manager) (d.index == k) y in
+once-joined es d above once m k = by_test (same_identity m d.manager && d.index == k)
+    (λ y. let parts = and_parts (same_identity m d.manager) (d.index == k) y in
     let at_m : greatest m es < d.index = subst (λ (n : PortIdentity). greatest n es < d.index) (sym (same_identity-true m d.manager parts.0)) above in
     let none : entries_of m k es ≡ [] = none_above m k es (subst (λ j. greatest m es < j) (eqb-true d.index k parts.1) at_m) in
     let one : length (entries_of m k (d ∷ es)) ≡ 1 = ap length (cond-true _ _ _ y) ∙ ap (λ rest. length (d ∷ rest)) none in
     omega (arith, one))
-    (λ (n : (same_identity m d.manager && d.index == k) ≡ false). subst (λ (rest : List Accepted). length rest ≤ 1) (sym (cond-false _ _ _ n)) (once m k))
-    (cases_Bool (same_identity m d.manager && d.index == k))
+    (λ n. subst (λ (rest : List Accepted). length rest ≤ 1) (sym (cond-false _ _ _ n)) (once m k))
 
 once-copy : (c : Clock) (h : History) (x : RequestCopy)
     → AreOnce h.accepted
     → AreOnce (after_copy c h x).accepted
-once-copy c h x once = ⊎_elim
-    (λ (y : joins h x ≡ true).
-    let above : greatest x.heard.source h.accepted < x.index = ltb-true _ _ (and_parts (x.heard.domain == h.sets.default.domain) (nat_lt (greatest x.heard.source h.accepted) x.index) y).1 in
+once-copy c h x once = by_test (joins h x)
+    (λ y. let above : greatest x.heard.source h.accepted < x.index = ltb-true _ _ (and_parts (x.heard.domain == h.sets.default.domain) (nat_lt (greatest x.heard.source h.accepted) x.index) y).1 in
     subst (λ (g : History). AreOnce g.accepted) (sym (cond-true _ _ _ y)) (once-joined h.accepted (accepted_from c h x) above once))
-    (λ (n : joins h x ≡ false). subst (λ (g : History). AreOnce g.accepted) (sym (cond-false _ _ _ n)) once)
-    (cases_Bool (joins h x))
+    (λ n. subst (λ (g : History). AreOnce g.accepted) (sym (cond-false _ _ _ n)) once)
 
 once-applied : (c : Clock) (h : History) (xs : List RequestCopy)
     → AreOnce h.accepted
@@ -66,15 +58,12 @@ first-entry : (m : PortIdentity) (k : ℕ) (es : List Accepted) (e : Accepted)
     → kept_reply m k es ≡ Some e
     → (rest : List Accepted) × (entries_of m k es ≡ e ∷ rest)
 first-entry m k [] e kept = absurd (cc)
-first-entry m k (d ∷ es) e kept = ⊎_elim
-    (λ (y : (same_identity m d.manager && d.index == k) ≡ true).
-    let same : Some d ≡ Some e = sym (cond-true _ _ _ y) ∙ kept in
+first-entry m k (d ∷ es) e kept = by_test (same_identity m d.manager && d.index == k)
+    (λ y. let same : Some d ≡ Some e = sym (cond-true _ _ _ y) ∙ kept in
     let is : d ≡ e = cc in
     (entries_of m k es, cond-true _ _ _ y ∙ ap (λ (a : Accepted). a ∷ entries_of m k es) is))
-    (λ (n : (same_identity m d.manager && d.index == k) ≡ false).
-    let rest = first-entry m k es e (sym (cond-false _ _ _ n) ∙ kept) in
+    (λ n. let rest = first-entry m k es e (sym (cond-false _ _ _ n) ∙ kept) in
     (rest.0, cond-false _ _ _ n ∙ rest.1))
-    (cases_Bool (same_identity m d.manager && d.index == k))
 
 alone : (e : Accepted) (rest es : List Accepted) → es ≡ e ∷ rest → length es ≤ 1 → es ≡ e ∷ []
 alone e [] es is few = is
@@ -110,13 +99,12 @@ carried_out-copy : (c : Clock) (start : DataSetsValue) (xs : List RequestCopy) (
     (after_copy c (applied_once c (initial_history start) xs) x).accepted
 carried_out-copy c start xs x all =
     let h : History = applied_once c (initial_history start) xs in
-    ⊎_elim
-    (λ (y : joins h x ≡ true). subst (λ (g : History). AreCarriedOut c start (xs ++ x ∷ []) g.accepted) (sym (cond-true _ _ _ y)) (
+    by_test (joins h x)
+    (λ y. subst (λ (g : History). AreCarriedOut c start (xs ++ x ∷ []) g.accepted) (sym (cond-true _ _ _ y)) (
       record { before = xs; copy = x; later = []; came_in = refl; joined = y; is = refl },
       all,
     ))
-    (λ (n : joins h x ≡ false). subst (λ (g : History). AreCarriedOut c start (xs ++ x ∷ []) g.accepted) (sym (cond-false _ _ _ n)) all)
-    (cases_Bool (joins h x))
+    (λ n. subst (λ (g : History). AreCarriedOut c start (xs ++ x ∷ []) g.accepted) (sym (cond-false _ _ _ n)) all)
 
 abbrev AllCarriedOut : Clock → DataSetsValue → List RequestCopy → Type 0
 AllCarriedOut c start xs = AreCarriedOut c start xs (applied_once c (initial_history start) xs).accepted
@@ -145,12 +133,10 @@ found : (P : Accepted → Type 0) (test : Accepted → Bool) (es : List Accepted
     → find test es ≡ Some e
     → P e
 found P test [] e all is = absurd (cc)
-found P test (d ∷ es) e all is = ⊎_elim
-    (λ (y : test d ≡ true).
-    let same : Some d ≡ Some e = sym (cond-true _ _ _ y) ∙ is in
+found P test (d ∷ es) e all is = by_test (test d)
+    (λ y. let same : Some d ≡ Some e = sym (cond-true _ _ _ y) ∙ is in
     let q : d ≡ e = cc in subst P q all.0)
-    (λ (n : test d ≡ false). found P test es e all.1 (sym (cond-false _ _ _ n) ∙ is))
-    (cases_Bool (test d))
+    (λ n. found P test es e all.1 (sym (cond-false _ _ _ n) ∙ is))
 
 carried_out : (N : Network) (w : NetworkState) (c : ℕ) (m : PortIdentity) (k : ℕ) (e : Accepted)
     → kept_reply m k (history N w c).accepted ≡ Some e
