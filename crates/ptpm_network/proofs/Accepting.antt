@@ -3,32 +3,26 @@ use Rattle.ptpm_network.proofs.Common.{by_test, suc, zero, arith, ◌≡◌, ℕ
 
 -- ---- one more accepted request
 
-greatest-same : (m : PortIdentity) (d : Accepted) (es : List Accepted)
-    → same_identity m d.manager ≡ true
-    → greatest m (d ∷ es) ≡ max d.index (greatest m es)
-greatest-same m d es t = cond-true _ _ _ t
+module _ (m : PortIdentity) (d : Accepted) (es : List Accepted) where
+  greatest-same : same_identity m d.manager ≡ true
+      → greatest m (d ∷ es) ≡ max d.index (greatest m es)
+  greatest-same t = cond-true _ _ _ t
 
-greatest-other : (m : PortIdentity) (d : Accepted) (es : List Accepted)
-    → same_identity m d.manager ≡ false
-    → greatest m (d ∷ es) ≡ greatest m es
-greatest-other m d es t = cond-false _ _ _ t
+  greatest-other : same_identity m d.manager ≡ false → greatest m (d ∷ es) ≡ greatest m es
+  greatest-other t = cond-false _ _ _ t
 
-pub greatest-grows : (m : PortIdentity) (d : Accepted) (es : List Accepted)
-    → greatest m es ≤ greatest m (d ∷ es)
-greatest-grows m d es = by_test (same_identity m d.manager)
-    (λ t. omega (arith, greatest-same m d es t))
-    (λ t. omega (arith, greatest-other m d es t))
+  pub greatest-grows : greatest m es ≤ greatest m (d ∷ es)
+  greatest-grows = by_test (same_identity m d.manager)
+      (λ t. omega (arith, greatest-same t))
+      (λ t. omega (arith, greatest-other t))
 
-kept-first : (m : PortIdentity) (k : ℕ) (d : Accepted) (es : List Accepted)
-    → same_identity m d.manager ≡ true
-    → d.index ≡ k
-    → kept_reply m k (d ∷ es) ≡ Some d
-kept-first m k d es t i = cond-true _ _ _ (and_from _ _ t (eq-eqb d.index k i))
+module _ (m : PortIdentity) (k : ℕ) (d : Accepted) (es : List Accepted) where
+  kept-first : same_identity m d.manager ≡ true → d.index ≡ k → kept_reply m k (d ∷ es) ≡ Some d
+  kept-first t i = cond-true _ _ _ (and_from _ _ t (eq-eqb d.index k i))
 
-kept-rest : (m : PortIdentity) (k : ℕ) (d : Accepted) (es : List Accepted)
-    → (same_identity m d.manager && d.index == k) ≡ false
-    → kept_reply m k (d ∷ es) ≡ kept_reply m k es
-kept-rest m k d es f = cond-false _ _ _ f
+  kept-rest : (same_identity m d.manager && d.index == k) ≡ false
+      → kept_reply m k (d ∷ es) ≡ kept_reply m k es
+  kept-rest f = cond-false _ _ _ f
 
 -- what was accepted has an index up to the greatest
 pub kept-le : (m : PortIdentity) (k : ℕ) (es : List Accepted) (e : Accepted)

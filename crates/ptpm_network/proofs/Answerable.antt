@@ -62,15 +62,14 @@ send-taken N w s q place room e ne =
     ∙ ap (λ o. option_or o (send_refused N w s)) (is_room w room)
     ∙ ap (option_map SendRefused) (send-not_refused (session_value (N.session s) (w.session s)) (ap is_some e) ne)
 
-send-step : (N : Network) (w : NetworkState) (s : ℕ)
-    → refusal N w (Send s) ≡ None
-    → step N w (Send s) ≡ machine.sends N w s
-unfolding happens
-send-step N w s none = step-taken N w (Send s) none
+module _ (N : Network) (w : NetworkState) (s : ℕ) where
+  send-step : refusal N w (Send s) ≡ None → step N w (Send s) ≡ machine.sends N w s
+  unfolding happens
+  send-step none = step-taken N w (Send s) none
 
--- its session is as it was, but for the attempts
-sent-session : (N : Network) (w : NetworkState) (s : ℕ) → (machine.sends N w s).session s ≡ record (w.session s) { attempts_left = (w.session s).attempts_left - 1 }
-sent-session N w s = with_place-same w.session s (record (w.session s) { attempts_left = (w.session s).attempts_left - 1 }) s (eq-eqb s s refl)
+  -- its session is as it was, but for the attempts
+  sent-session : (machine.sends N w s).session s ≡ record (w.session s) { attempts_left = (w.session s).attempts_left - 1 }
+  sent-session = with_place-same w.session s (record (w.session s) { attempts_left = (w.session s).attempts_left - 1 }) s (eq-eqb s s refl)
 
 -- its requests, reports and domain are as they were
 record IsSameSession (w u : NetworkState) (s : ℕ) : Type 0 where

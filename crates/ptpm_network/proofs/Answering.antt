@@ -27,31 +27,24 @@ kept-accepted : (c : Clock) (h : History) (copy : RequestCopy)
     ≡ Some (accepted_from c h copy)
 kept-accepted c h copy = cond-true _ _ _ (and_from _ _ (same_identity-refl copy.heard.source) (eq-eqb copy.index copy.index refl))
 
-due-joins : (c : Clock) (h : History) (copy : RequestCopy) (r : ReplyValue)
-    → joins h copy ≡ true
-    → due_reply c h copy ≡ Some r
-    → IsDue c h copy r
-due-joins c h copy r y e = record {
-  entry = accepted_from c h copy;
-  kept = ap (λ (g : History). kept_reply copy.heard.source copy.index g.accepted) (cond-true _ _ _ y) ∙ kept-accepted c h copy;
-  reply = same_reply (accepted_from c h copy).reply r (sym (cond-true _ _ _ y) ∙ e);
-}
+module _ (c : Clock) (h : History) (copy : RequestCopy) (r : ReplyValue) where
+  due-joins : joins h copy ≡ true → due_reply c h copy ≡ Some r → IsDue c h copy r
+  due-joins y e = record {
+    entry = accepted_from c h copy;
+    kept = ap (λ (g : History). kept_reply copy.heard.source copy.index g.accepted) (cond-true _ _ _ y) ∙ kept-accepted c h copy;
+    reply = same_reply (accepted_from c h copy).reply r (sym (cond-true _ _ _ y) ∙ e);
+  }
 
-due-repeats : (c : Clock) (h : History) (copy : RequestCopy) (r : ReplyValue)
-    → joins h copy ≡ false
-    → due_reply c h copy ≡ Some r
-    → IsDue c h copy r
-due-repeats c h copy r j e = by_test (greatest copy.heard.source h.accepted == copy.index)
-    (λ y. let p = kept_for-some copy (kept_reply copy.heard.source copy.index h.accepted) r (sym (cond-true _ _ _ y) ∙ (sym (cond-false _ _ _ j) ∙ e)) in
-    record { entry = p.0; kept = ap (λ (g : History). kept_reply copy.heard.source copy.index g.accepted) (cond-false _ _ _ j) ∙ p.1; reply = p.2 })
-    (λ n. let none : None ≡ Some r = sym (cond-false _ _ _ n) ∙ (sym (cond-false _ _ _ j) ∙ e) in absurd (cc))
+  due-repeats : joins h copy ≡ false → due_reply c h copy ≡ Some r → IsDue c h copy r
+  due-repeats j e = by_test (greatest copy.heard.source h.accepted == copy.index)
+      (λ y. let p = kept_for-some copy (kept_reply copy.heard.source copy.index h.accepted) r (sym (cond-true _ _ _ y) ∙ (sym (cond-false _ _ _ j) ∙ e)) in
+      record { entry = p.0; kept = ap (λ (g : History). kept_reply copy.heard.source copy.index g.accepted) (cond-false _ _ _ j) ∙ p.1; reply = p.2 })
+      (λ n. let none : None ≡ Some r = sym (cond-false _ _ _ n) ∙ (sym (cond-false _ _ _ j) ∙ e) in absurd (cc))
 
-pub is_due : (c : Clock) (h : History) (copy : RequestCopy) (r : ReplyValue)
-    → due_reply c h copy ≡ Some r
-    → IsDue c h copy r
-is_due c h copy r e = by_test (joins h copy)
-    (λ y. due-joins c h copy r y e)
-    (λ n. due-repeats c h copy r n e)
+  pub is_due : due_reply c h copy ≡ Some r → IsDue c h copy r
+  is_due e = by_test (joins h copy)
+      (λ y. due-joins y e)
+      (λ n. due-repeats n e)
 
 -- ---- frames of new messages
 

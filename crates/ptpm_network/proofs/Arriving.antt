@@ -86,18 +86,15 @@ is_copy_of N w c port f copy n r place i e =
 
 -- ---- what a delivery leaves of a clock
 
--- the copies of a list with one more delivery
-pub copies-here : (N : Network) (w : NetworkState) (c : ℕ) (x : Delivery)
-    → copies_at N (arrives w c x) c
-    ≡ copies_at N w c ++ cons_option (copy_of (N.clock c) (ports N c) x) []
-copies-here N w c x =
-    ap (copies (N.clock c) (ports N c)) (with_place-same w.arrivals c (w.arrivals c ++ x ∷ []) c (eq-eqb c c refl))
-    ∙ filter_map-append (copy_of (N.clock c) (ports N c)) (w.arrivals c) (x ∷ [])
+module _ (N : Network) (w : NetworkState) (c : ℕ) (x : Delivery) where
+  -- the copies of a list with one more delivery
+  pub copies-here : copies_at N (arrives w c x) c ≡ copies_at N w c ++ cons_option (copy_of (N.clock c) (ports N c) x) []
+  copies-here =
+      ap (copies (N.clock c) (ports N c)) (with_place-same w.arrivals c (w.arrivals c ++ x ∷ []) c (eq-eqb c c refl))
+      ∙ filter_map-append (copy_of (N.clock c) (ports N c)) (w.arrivals c) (x ∷ [])
 
-pub copies-elsewhere : (N : Network) (w : NetworkState) (c : ℕ) (x : Delivery) (d : ℕ)
-    → d == c ≡ false
-    → copies_at N (arrives w c x) d ≡ copies_at N w d
-copies-elsewhere N w c x d n = ap (copies (N.clock d) (ports N d)) (with_place-other w.arrivals c (w.arrivals c ++ x ∷ []) d n)
+  pub copies-elsewhere : (d : ℕ) → d == c ≡ false → copies_at N (arrives w c x) d ≡ copies_at N w d
+  copies-elsewhere d n = ap (copies (N.clock d) (ports N d)) (with_place-other w.arrivals c (w.arrivals c ++ x ∷ []) d n)
 
 -- where a delivery leads, of which there is a copy or none
 abbrev pub after_arrival : Clock → History → Option RequestCopy → History
@@ -110,17 +107,14 @@ applied_once-arrival c h [] None = refl
 applied_once-arrival c h [] (Some k) = refl
 applied_once-arrival c h (j ∷ js) o = applied_once-arrival c (after_copy c h j) js o
 
-pub history-here : (N : Network) (w : NetworkState) (c : ℕ) (x : Delivery)
-    → history N (arrives w c x) c
-    ≡ after_arrival (N.clock c) (history N w c) (copy_of (N.clock c) (ports N c) x)
-history-here N w c x =
-    ap (applied_once (N.clock c) (initial_history (N.start c))) (copies-here N w c x)
-    ∙ applied_once-arrival (N.clock c) (initial_history (N.start c)) (copies_at N w c) (copy_of (N.clock c) (ports N c) x)
+module _ (N : Network) (w : NetworkState) (c : ℕ) (x : Delivery) where
+  pub history-here : history N (arrives w c x) c ≡ after_arrival (N.clock c) (history N w c) (copy_of (N.clock c) (ports N c) x)
+  history-here =
+      ap (applied_once (N.clock c) (initial_history (N.start c))) (copies-here N w c x)
+      ∙ applied_once-arrival (N.clock c) (initial_history (N.start c)) (copies_at N w c) (copy_of (N.clock c) (ports N c) x)
 
-pub history-elsewhere : (N : Network) (w : NetworkState) (c : ℕ) (x : Delivery) (d : ℕ)
-    → d == c ≡ false
-    → history N (arrives w c x) d ≡ history N w d
-history-elsewhere N w c x d n = ap (applied_once (N.clock d) (initial_history (N.start d))) (copies-elsewhere N w c x d n)
+  pub history-elsewhere : (d : ℕ) → d == c ≡ false → history N (arrives w c x) d ≡ history N w d
+  history-elsewhere d n = ap (applied_once (N.clock d) (initial_history (N.start d))) (copies-elsewhere N w c x d n)
 
 -- a clock keeps its number of ports
 pub history-ports : (N : Network) (w : NetworkState) (c : ℕ)
@@ -168,29 +162,20 @@ here_after N w c port f n r place i = here_by N w c port f (copy_of (N.clock c) 
 
 -- ---- data sets stay data sets
 
-clock-after : (N : Network) (w : NetworkState) (c port : ℕ) (f : Frame)
-    → IsNetwork N
-    → IsReached N w
-    → c < N.clocks
-    → IsHeard N w f.octets f.origin
-    → AreDataSets (ports N c) (history N (arrives w c (delivery port f)) c).sets
-clock-after N w c port f n r place i = ⊎_elim
-    (λ (e : history N (arrives w c (delivery port f)) c ≡ history N w c). subst (λ (h : History). AreDataSets (ports N c) h.sets) (sym e) (r.clocks c place))
-    (λ (j : JoinsAt N w c port f). subst (λ (h : History). AreDataSets (ports N c) h.sets) (sym j.is)
-    (kept j.copy.request ((N.clock c).rights j.copy.heard.source) (ports N c) (history N w c).sets (r.clocks c place)))
-    (here_after N w c port f n r place i)
+module _ (N : Network) (w : NetworkState) (c port : ℕ) (f : Frame) (n : IsNetwork N) (r : IsReached N w) (place : c < N.clocks) (i : IsHeard N w f.octets f.origin) where
+  clock-after : AreDataSets (ports N c) (history N (arrives w c (delivery port f)) c).sets
+  clock-after = ⊎_elim
+      (λ (e : history N (arrives w c (delivery port f)) c ≡ history N w c). subst (λ (h : History). AreDataSets (ports N c) h.sets) (sym e) (r.clocks c place))
+      (λ (j : JoinsAt N w c port f). subst (λ (h : History). AreDataSets (ports N c) h.sets) (sym j.is)
+      (kept j.copy.request ((N.clock c).rights j.copy.heard.source) (ports N c) (history N w c).sets (r.clocks c place)))
+      (here_after N w c port f n r place i)
 
-clocks-after : (N : Network) (w : NetworkState) (c port : ℕ) (f : Frame)
-    → IsNetwork N
-    → IsReached N w
-    → c < N.clocks
-    → IsHeard N w f.octets f.origin
-    → (d : ℕ)
-    → d < N.clocks
-    → AreDataSets (ports N d) (history N (arrives w c (delivery port f)) d).sets
-clocks-after N w c port f n r place i d exists = by_test (d == c)
-    (λ y. subst (λ j. AreDataSets (ports N j) (history N (arrives w c (delivery port f)) j).sets) (sym (eqb-true d c y)) (clock-after N w c port f n r place i))
-    (λ o. subst (λ (h : History). AreDataSets (ports N d) h.sets) (sym (history-elsewhere N w c (delivery port f) d o)) (r.clocks d exists))
+  clocks-after : (d : ℕ)
+      → d < N.clocks
+      → AreDataSets (ports N d) (history N (arrives w c (delivery port f)) d).sets
+  clocks-after d exists = by_test (d == c)
+      (λ y. subst (λ j. AreDataSets (ports N j) (history N (arrives w c (delivery port f)) j).sets) (sym (eqb-true d c y)) clock-after)
+      (λ o. subst (λ (h : History). AreDataSets (ports N d) h.sets) (sym (history-elsewhere N w c (delivery port f) d o)) (r.clocks d exists))
 
 -- ---- what was accepted of a session
 
@@ -223,71 +208,47 @@ joins-own N w c port f r place j =
           (subst (λ (q : RequestValue). IsForOne (ports N c) q) (sym j.of.request) (subst (λ p. IsForOne p says.request) of_ports asked.one));
     }
 
-gains-here : (N : Network) (w : NetworkState) (c port : ℕ) (f : Frame)
-    → IsNetwork N
-    → IsReached N w
-    → c < N.clocks
-    → IsHeard N w f.octets f.origin
-    → (t : ℕ)
-    → t < N.sessions
-    → StaysOrGains (manager N t) (w.session t).begun
-    (history N (arrives w c (delivery port f)) c).accepted (history N w c).accepted
-gains-here N w c port f n r place i t exists = ⊎_elim
-    (λ (e : history N (arrives w c (delivery port f)) c ≡ history N w c). inl (ap (λ (h : History). h.accepted) e))
-    (λ (j : JoinsAt N w c port f). inr (record {
-      entry = accepted_from (N.clock c) (history N w c) j.copy;
-      is = ap (λ (h : History). h.accepted) j.is;
-      above = λ y. subst (λ (m : PortIdentity). greatest m (history N w c).accepted < j.copy.index) (sym (same_identity-true (manager N t) j.copy.heard.source y)) j.above;
-      own = λ y.
-          let ts : t ≡ j.of.session = n.sessions_apart t j.of.session exists j.of.says.place (same_identity-true (manager N t) j.copy.heard.source y ∙ j.of.source) in
-          subst (λ s. JoinsOwn (manager N s) (w.session s).begun (accepted_from (N.clock c) (history N w c) j.copy)) (sym ts) (joins-own N w c port f r place j);
-    }))
-    (here_after N w c port f n r place i)
+module _ (N : Network) (w : NetworkState) (c port : ℕ) (f : Frame) (n : IsNetwork N) (r : IsReached N w) (place : c < N.clocks) (i : IsHeard N w f.octets f.origin) (t : ℕ) (exists : t < N.sessions) where
+  gains-here : StaysOrGains (manager N t) (w.session t).begun (history N (arrives w c (delivery port f)) c).accepted (history N w c).accepted
+  gains-here = ⊎_elim
+      (λ (e : history N (arrives w c (delivery port f)) c ≡ history N w c). inl (ap (λ (h : History). h.accepted) e))
+      (λ (j : JoinsAt N w c port f). inr (record {
+        entry = accepted_from (N.clock c) (history N w c) j.copy;
+        is = ap (λ (h : History). h.accepted) j.is;
+        above = λ y. subst (λ (m : PortIdentity). greatest m (history N w c).accepted < j.copy.index) (sym (same_identity-true (manager N t) j.copy.heard.source y)) j.above;
+        own = λ y.
+            let ts : t ≡ j.of.session = n.sessions_apart t j.of.session exists j.of.says.place (same_identity-true (manager N t) j.copy.heard.source y ∙ j.of.source) in
+            subst (λ s. JoinsOwn (manager N s) (w.session s).begun (accepted_from (N.clock c) (history N w c) j.copy)) (sym ts) (joins-own N w c port f r place j);
+      }))
+      (here_after N w c port f n r place i)
 
-pub gains : (N : Network) (w : NetworkState) (c port : ℕ) (f : Frame)
-    → IsNetwork N
-    → IsReached N w
-    → c < N.clocks
-    → IsHeard N w f.octets f.origin
-    → (t : ℕ)
-    → t < N.sessions
-    → StaysOrGains (manager N t) (w.session t).begun
-    (accepted_at_target N (arrives w c (delivery port f)) t) (accepted_at_target N w t)
-gains N w c port f n r place i t exists = by_test ((N.session t).target == c)
-    (λ y. subst (λ d. StaysOrGains (manager N t) (w.session t).begun (history N (arrives w c (delivery port f)) d).accepted (history N w d).accepted)
-    (sym (eqb-true (N.session t).target c y)) (gains-here N w c port f n r place i t exists))
-    (λ o. inl (ap (λ (h : History). h.accepted) (history-elsewhere N w c (delivery port f) (N.session t).target o)))
+  pub gains : StaysOrGains (manager N t) (w.session t).begun (accepted_at_target N (arrives w c (delivery port f)) t) (accepted_at_target N w t)
+  gains = by_test ((N.session t).target == c)
+      (λ y. subst (λ d. StaysOrGains (manager N t) (w.session t).begun (history N (arrives w c (delivery port f)) d).accepted (history N w d).accepted)
+      (sym (eqb-true (N.session t).target c y)) gains-here)
+      (λ o. inl (ap (λ (h : History). h.accepted) (history-elsewhere N w c (delivery port f) (N.session t).target o)))
 
 -- ---- the invariant, before the clock sends anything
 
-pub kept-stays : (N : Network) (w : NetworkState) (c port : ℕ) (f : Frame)
-    → IsNetwork N
-    → IsReached N w
-    → c < N.clocks
-    → IsHeard N w f.octets f.origin
-    → KeptStays N w (arrives w c (delivery port f))
-kept-stays N w c port f n r place i t k e exists h = ⊎_elim
-    (λ (q : accepted_at_target N (arrives w c (delivery port f)) t ≡ accepted_at_target N w t). ap (kept_reply (manager N t) k) q ∙ h)
-    (λ (g : Gains (manager N t) (w.session t).begun (accepted_at_target N (arrives w c (delivery port f)) t) (accepted_at_target N w t)).
-    ap (kept_reply (manager N t) k) g.is
-    ∙ kept-joined (manager N t) (accepted_at_target N w t) g.entry k g.above (kept-le (manager N t) k (accepted_at_target N w t) e h)
-    ∙ h)
-    (gains N w c port f n r place i t exists)
-
-pub arrives-reached : (N : Network) (w : NetworkState) (c port : ℕ) (f : Frame)
-    → IsNetwork N
-    → IsReached N w
-    → c < N.clocks
-    → IsHeard N w f.octets f.origin
-    → IsReached N (arrives w c (delivery port f))
-arrives-reached N w c port f n r place i = record {
-  sessions = λ t exists. ⊎_elim
-      (λ (q : accepted_at_target N (arrives w c (delivery port f)) t ≡ accepted_at_target N w t).
-      subst (λ es. IsInStep (manager N t) (ports N (N.session t).target) es (w.session t)) (sym q) (r.sessions t exists))
+module _ (N : Network) (w : NetworkState) (c port : ℕ) (f : Frame) (n : IsNetwork N) (r : IsReached N w) (place : c < N.clocks) where
+  pub kept-stays : IsHeard N w f.octets f.origin → KeptStays N w (arrives w c (delivery port f))
+  kept-stays i t k e exists h = ⊎_elim
+      (λ (q : accepted_at_target N (arrives w c (delivery port f)) t ≡ accepted_at_target N w t). ap (kept_reply (manager N t) k) q ∙ h)
       (λ (g : Gains (manager N t) (w.session t).begun (accepted_at_target N (arrives w c (delivery port f)) t) (accepted_at_target N w t)).
-      subst (λ es. IsInStep (manager N t) (ports N (N.session t).target) es (w.session t)) (sym g.is)
-      (in_step-joined (manager N t) (ports N (N.session t).target) (accepted_at_target N w t) g.entry (w.session t) g.above g.own (r.sessions t exists)))
-      (gains N w c port f n r place i t exists);
-  clocks = clocks-after N w c port f n r place i;
-  frames = frames-stay N w (arrives w c (delivery port f)) (λ s j q e. e) (kept-stays N w c port f n r place i) w.frames r.frames;
-}
+      ap (kept_reply (manager N t) k) g.is
+      ∙ kept-joined (manager N t) (accepted_at_target N w t) g.entry k g.above (kept-le (manager N t) k (accepted_at_target N w t) e h)
+      ∙ h)
+      (gains N w c port f n r place i t exists)
+
+  pub arrives-reached : IsHeard N w f.octets f.origin → IsReached N (arrives w c (delivery port f))
+  arrives-reached i = record {
+    sessions = λ t exists. ⊎_elim
+        (λ (q : accepted_at_target N (arrives w c (delivery port f)) t ≡ accepted_at_target N w t).
+        subst (λ es. IsInStep (manager N t) (ports N (N.session t).target) es (w.session t)) (sym q) (r.sessions t exists))
+        (λ (g : Gains (manager N t) (w.session t).begun (accepted_at_target N (arrives w c (delivery port f)) t) (accepted_at_target N w t)).
+        subst (λ es. IsInStep (manager N t) (ports N (N.session t).target) es (w.session t)) (sym g.is)
+        (in_step-joined (manager N t) (ports N (N.session t).target) (accepted_at_target N w t) g.entry (w.session t) g.above g.own (r.sessions t exists)))
+        (gains N w c port f n r place i t exists);
+    clocks = clocks-after N w c port f n r place i;
+    frames = frames-stay N w (arrives w c (delivery port f)) (λ s j q e. e) (kept-stays i) w.frames r.frames;
+  }

@@ -191,46 +191,36 @@ pub record IsPassing (me : ClockIdentity) (octets : List ℕ) : Type 0 where
   pub target : message.target.clock ≡ me → ⊥
   pub every : message.target.clock ≡ every_clock → ⊥
 
-pub request-passing : (N : Network) (w : NetworkState) (s k c : ℕ) (octets : List ℕ)
-    → IsNetwork N
-    → IsReached N w
-    → c < N.clocks
-    → (c ≡ (N.session s).target → ⊥)
-    → IsOfOrigin N w octets (RequestOf s k)
-    → IsPassing (N.clock c).identity octets
-request-passing N w s k c octets n r exists ne i =
-    let says = says_request N w s k octets n r i in
-    let session = n.are_sessions s says.place in
-    record {
-      message = request_at N s k says.domain says.hops says.request;
-      read = says.message.read;
-      fits = says.message.fits;
-      sdo = refl;
-      source = n.no_clock s c says.place exists;
-      target = λ (h : (N.session s).setup.target ≡ (N.clock c).identity). ne (n.clocks_apart c (N.session s).target exists session.exists (sym h ∙ session.target));
-      every = λ (h : (N.session s).setup.target ≡ every_clock). (n.are_clocks (N.session s).target session.exists).is_one (sym session.target ∙ h);
-    }
+module _ (N : Network) (w : NetworkState) (s k c : ℕ) (octets : List ℕ) (n : IsNetwork N) (r : IsReached N w) (exists : c < N.clocks) (ne : (c ≡ (N.session s).target → ⊥)) where
+  pub request-passing : IsOfOrigin N w octets (RequestOf s k)
+      → IsPassing (N.clock c).identity octets
+  request-passing i =
+      let says = says_request N w s k octets n r i in
+      let session = n.are_sessions s says.place in
+      record {
+        message = request_at N s k says.domain says.hops says.request;
+        read = says.message.read;
+        fits = says.message.fits;
+        sdo = refl;
+        source = n.no_clock s c says.place exists;
+        target = λ (h : (N.session s).setup.target ≡ (N.clock c).identity). ne (n.clocks_apart c (N.session s).target exists session.exists (sym h ∙ session.target));
+        every = λ (h : (N.session s).setup.target ≡ every_clock). (n.are_clocks (N.session s).target session.exists).is_one (sym session.target ∙ h);
+      }
 
-pub reply-passing : (N : Network) (w : NetworkState) (s k c : ℕ) (octets : List ℕ)
-    → IsNetwork N
-    → IsReached N w
-    → c < N.clocks
-    → (c ≡ (N.session s).target → ⊥)
-    → IsOfOrigin N w octets (ReplyTo s k)
-    → IsPassing (N.clock c).identity octets
-reply-passing N w s k c octets n r exists ne i =
-    let says = says_reply N w s k octets n r i in
-    let session = n.are_sessions s says.place in
-    let to_manager : says.heard.source.clock ≡ (manager N s).clock = ap (λ (m : PortIdentity). m.clock) says.source in
-    record {
-      message = reply_at (N.session s).setup.target says.heard says.entry.reply says.ingress says.hops says.answer;
-      read = says.message.read;
-      fits = says.message.fits;
-      sdo = refl;
-      source = λ (h : (N.session s).setup.target ≡ (N.clock c).identity). ne (n.clocks_apart c (N.session s).target exists session.exists (sym h ∙ session.target));
-      target = λ (h : says.heard.source.clock ≡ (N.clock c).identity). n.no_clock s c says.place exists (sym to_manager ∙ h);
-      every = λ (h : says.heard.source.clock ≡ every_clock). session.is_one (sym to_manager ∙ h);
-    }
+  pub reply-passing : IsOfOrigin N w octets (ReplyTo s k) → IsPassing (N.clock c).identity octets
+  reply-passing i =
+      let says = says_reply N w s k octets n r i in
+      let session = n.are_sessions s says.place in
+      let to_manager : says.heard.source.clock ≡ (manager N s).clock = ap (λ (m : PortIdentity). m.clock) says.source in
+      record {
+        message = reply_at (N.session s).setup.target says.heard says.entry.reply says.ingress says.hops says.answer;
+        read = says.message.read;
+        fits = says.message.fits;
+        sdo = refl;
+        source = λ (h : (N.session s).setup.target ≡ (N.clock c).identity). ne (n.clocks_apart c (N.session s).target exists session.exists (sym h ∙ session.target));
+        target = λ (h : says.heard.source.clock ≡ (N.clock c).identity). n.no_clock s c says.place exists (sym to_manager ∙ h);
+        every = λ (h : says.heard.source.clock ≡ every_clock). session.is_one (sym to_manager ∙ h);
+      }
 
 -- ---- it is passed on
 
@@ -337,16 +327,13 @@ passing-few N w most c p q f few sets v may =
     let all : length (w.frames ++ made_frames N c (history N w c) p f) ≡ length w.frames + length (made_frames N c (history N w c) p f) = length-append w.frames (made_frames N c (history N w c) p f) in
     subst (λ n. n ≤ length w.frames + most) (sym all) (add_most (length w.frames) (length (made_frames N c (history N w c) p f)) most made)
 
--- a hop less, in the same domain
-pub passed-hops : (me : ClockIdentity) (octets : List ℕ)
-    → IsPassing me octets
-    → boundary_hops (with_less_hop octets) ≡ boundary_hops octets - 1
-passed-hops me octets v = less_hop-hops v.message octets v.read
+module _ (me : ClockIdentity) (octets : List ℕ) (v : IsPassing me octets) where
+  -- a hop less, in the same domain
+  pub passed-hops : boundary_hops (with_less_hop octets) ≡ boundary_hops octets - 1
+  passed-hops = less_hop-hops v.message octets v.read
 
-pub passed-domain : (me : ClockIdentity) (octets : List ℕ)
-    → IsPassing me octets
-    → domain_number (with_less_hop octets) ≡ domain_number octets
-passed-domain me octets v =
-    let m : Message = v.message in
-    let less = less_hop-message m octets v.read v.fits in
-    sym (message-domain (record m { hops = m.hops - 1 }) (with_less_hop octets) less.read) ∙ message-domain m octets v.read
+  pub passed-domain : domain_number (with_less_hop octets) ≡ domain_number octets
+  passed-domain =
+      let m : Message = v.message in
+      let less = less_hop-message m octets v.read v.fits in
+      sym (message-domain (record m { hops = m.hops - 1 }) (with_less_hop octets) less.read) ∙ message-domain m octets v.read

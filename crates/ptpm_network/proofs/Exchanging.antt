@@ -12,19 +12,17 @@ use Rattle.ptpm_network.proofs.Schedule.{reached}
 pub is_room : (w : NetworkState) → HasRoom w → no_room w.frames ≡ None
 is_room w room = ap (λ b. first_of ((b, FramesAtMaximum) ∷ [])) (le-ltb frames_limit (length w.frames) room)
 
-pub delivery-taken : (N : Network) (w : NetworkState) (n : ℕ) (f : Frame)
-    → frame_at w.frames n ≡ Some f
-    → HasRoom w
-    → refusal N w (Deliver n) ≡ None
-unfolding refusal
-delivery-taken N w n f e room = ap (λ o. option_or (no_frame o) (no_room w.frames)) e ∙ is_room w room
+module _ (N : Network) (w : NetworkState) (n : ℕ) (f : Frame) where
+  pub delivery-taken : frame_at w.frames n ≡ Some f → HasRoom w → refusal N w (Deliver n) ≡ None
+  unfolding refusal
+  delivery-taken e room = ap (λ o. option_or (no_frame o) (no_room w.frames)) e ∙ is_room w room
 
-happens-delivery : (N : Network) (w : NetworkState) (n : ℕ) (f : Frame) (end : End)
-    → frame_at w.frames n ≡ Some f
-    → f.end ≡ end
-    → happens N w (Deliver n) ≡ delivered_at N w f end
-unfolding happens
-happens-delivery N w n f end e q = ap (delivered N w) e ∙ ap (delivered_at N w f) q
+  happens-delivery : (end : End)
+      → frame_at w.frames n ≡ Some f
+      → f.end ≡ end
+      → happens N w (Deliver n) ≡ delivered_at N w f end
+  unfolding happens
+  happens-delivery end e q = ap (delivered N w) e ∙ ap (delivered_at N w f) q
 
 pub step-taken : (N : Network) (w : NetworkState) (e : Event)
     → refusal N w e ≡ None
@@ -129,31 +127,24 @@ pub record IsLatestCopy (N : Network) (w : NetworkState) (s : ℕ) (octets : Lis
   pub request : x.request ≡ says.request
   pub domain : x.heard.domain ≡ domain_number octets
 
-due-repeat : (N : Network) (w : NetworkState) (s : ℕ) (octets : List ℕ) (x : RequestCopy)
-    → IsReached N w
-    → s < N.sessions
-    → IsLatestCopy N w s octets x
-    → greatest_accepted N w s ≡ issued w s
-    → IsDueTo (N.clock (N.session s).target) (history N w (N.session s).target) x
-due-repeat N w s octets x r place of g =
-    let at = r.sessions s place in
-    let was = at.without_gap (issued w s) of.says.positive (not_more (issued w s) (greatest_accepted N w s) (issued w s) refl g) in
-    let here : greatest x.heard.source (accepted_at_target N w s) ≡ x.index = ap (λ (m : PortIdentity). greatest m (accepted_at_target N w s)) of.source ∙ g ∙ sym of.index in
-    let kept : kept_reply x.heard.source x.index (accepted_at_target N w s) ≡ Some was.entry =
-    ap (λ (m : PortIdentity). kept_reply m x.index (accepted_at_target N w s)) of.source ∙ ap (λ k. kept_reply (manager N s) k (accepted_at_target N w s)) of.index ∙ was.is in
-    let same : was.entry.request ≡ x.request = same_Some was.entry.request of.says.request (sym was.begun_as ∙ of.says.begun_as) ∙ sym of.request in
-    (was.entry.reply, due-latest (N.clock (N.session s).target) (history N w (N.session s).target) x was.entry here kept same)
+module _ (N : Network) (w : NetworkState) (s : ℕ) (octets : List ℕ) (x : RequestCopy) (r : IsReached N w) (place : s < N.sessions) (of : IsLatestCopy N w s octets x) where
+  due-repeat : greatest_accepted N w s ≡ issued w s
+      → IsDueTo (N.clock (N.session s).target) (history N w (N.session s).target) x
+  due-repeat g =
+      let at = r.sessions s place in
+      let was = at.without_gap (issued w s) of.says.positive (not_more (issued w s) (greatest_accepted N w s) (issued w s) refl g) in
+      let here : greatest x.heard.source (accepted_at_target N w s) ≡ x.index = ap (λ (m : PortIdentity). greatest m (accepted_at_target N w s)) of.source ∙ g ∙ sym of.index in
+      let kept : kept_reply x.heard.source x.index (accepted_at_target N w s) ≡ Some was.entry =
+      ap (λ (m : PortIdentity). kept_reply m x.index (accepted_at_target N w s)) of.source ∙ ap (λ k. kept_reply (manager N s) k (accepted_at_target N w s)) of.index ∙ was.is in
+      let same : was.entry.request ≡ x.request = same_Some was.entry.request of.says.request (sym was.begun_as ∙ of.says.begun_as) ∙ sym of.request in
+      (was.entry.reply, due-latest (N.clock (N.session s).target) (history N w (N.session s).target) x was.entry here kept same)
 
-due-first : (N : Network) (w : NetworkState) (s : ℕ) (octets : List ℕ) (x : RequestCopy)
-    → IsReached N w
-    → s < N.sessions
-    → IsLatestCopy N w s octets x
-    → domain_number octets ≡ (history N w (N.session s).target).sets.default.domain
-    → (greatest_accepted N w s ≡ issued w s → ⊥)
-    → IsDueTo (N.clock (N.session s).target) (history N w (N.session s).target) x
-due-first N w s octets x r place of domain ne =
-    let above : greatest (manager N s) (accepted_at_target N w s) < x.index = below (greatest_accepted N w s) x.index (issued w s) (r.sessions s place).begun_before of.index ne in
-    (_, due-new (N.clock (N.session s).target) (history N w (N.session s).target) x (of.domain ∙ domain) (subst (λ (m : PortIdentity). greatest m (accepted_at_target N w s) < x.index) (sym of.source) above))
+  due-first : domain_number octets ≡ (history N w (N.session s).target).sets.default.domain
+      → (greatest_accepted N w s ≡ issued w s → ⊥)
+      → IsDueTo (N.clock (N.session s).target) (history N w (N.session s).target) x
+  due-first domain ne =
+      let above : greatest (manager N s) (accepted_at_target N w s) < x.index = below (greatest_accepted N w s) x.index (issued w s) (r.sessions s place).begun_before of.index ne in
+      (_, due-new (N.clock (N.session s).target) (history N w (N.session s).target) x (of.domain ∙ domain) (subst (λ (m : PortIdentity). greatest m (accepted_at_target N w s) < x.index) (sym of.source) above))
 
 due-to : (N : Network) (w : NetworkState) (s : ℕ) (octets : List ℕ) (x : RequestCopy)
     → IsReached N w

@@ -76,38 +76,31 @@ session-stands N first r w s v state at place value reports = record {
   frames = at.frames;
 }
 
-pub sends-stand : (N : Network) (first : PortIdentity → ℕ) (r : RunningNetwork) (w : NetworkState)
-    (s : ℕ)
-    → Stands N first r w
-    → s < N.sessions
-    → Stands N first (sends_in N r s) (sends N w s)
-sends-stand N first r w s at place =
-    let ends = peers N.links (AtSession s) in
-    let value : SessionValue = session_value (N.session s) (w.session s) in
-    let base = session-stands N first r w s (sent (r.session s)) (record (w.session s) { attempts_left = (w.session s).attempts_left - 1 }) at place (ap sent (at.sessions s place)) refl in
-    record {
-      clocks = base.clocks;
-      sessions = base.sessions;
-      reports = base.reports;
-      frames = ap (λ (v : SessionValue). r.frames ++ sent_posted ends s v.issued (due_message v)) (at.sessions s place)
-          ∙ ap (λ (hs : List Held). hs ++ sent_posted ends s value.issued (due_message value)) at.frames
-          ∙ ap (λ (hs : List Held). map held w.frames ++ hs) (sym (held-sent_frames ends s value.issued (due_message value)))
-          ∙ sym (map-append held w.frames (sent_frames ends s value.issued (due_message value)));
-    }
+module _ (N : Network) (first : PortIdentity → ℕ) (r : RunningNetwork) (w : NetworkState) (s : ℕ) (at : Stands N first r w) where
+  pub sends-stand : s < N.sessions → Stands N first (sends_in N r s) (sends N w s)
+  sends-stand place =
+      let ends = peers N.links (AtSession s) in
+      let value : SessionValue = session_value (N.session s) (w.session s) in
+      let base = session-stands N first r w s (sent (r.session s)) (record (w.session s) { attempts_left = (w.session s).attempts_left - 1 }) at place (ap sent (at.sessions s place)) refl in
+      record {
+        clocks = base.clocks;
+        sessions = base.sessions;
+        reports = base.reports;
+        frames = ap (λ (v : SessionValue). r.frames ++ sent_posted ends s v.issued (due_message v)) (at.sessions s place)
+            ∙ ap (λ (hs : List Held). hs ++ sent_posted ends s value.issued (due_message value)) at.frames
+            ∙ ap (λ (hs : List Held). map held w.frames ++ hs) (sym (held-sent_frames ends s value.issued (due_message value)))
+            ∙ sym (map-append held w.frames (sent_frames ends s value.issued (due_message value)));
+      }
 
--- ---- a frame comes in at a session
+  -- ---- a frame comes in at a session
 
-ignored-stands : (N : Network) (first : PortIdentity → ℕ) (r : RunningNetwork) (w : NetworkState)
-    (s : ℕ)
-    → Stands N first r w
-    → s < N.sessions
-    → Stands N first r (with_session w s (w.session s))
-ignored-stands N first r w s at place = record {
-  clocks = at.clocks;
-  sessions = λ t there. at_place (λ j (y : SessionState). r.session j ≡ session_value (N.session j) y) w.session s (w.session s) t (at.sessions s place) (at.sessions t there);
-  reports = λ t there. at_place (λ j (y : SessionState). r.reports j ≡ y.reports) w.session s (w.session s) t (at.reports s place) (at.reports t there);
-  frames = at.frames;
-}
+  ignored-stands : s < N.sessions → Stands N first r (with_session w s (w.session s))
+  ignored-stands place = record {
+    clocks = at.clocks;
+    sessions = λ t there. at_place (λ j (y : SessionState). r.session j ≡ session_value (N.session j) y) w.session s (w.session s) t (at.sessions s place) (at.sessions t there);
+    reports = λ t there. at_place (λ j (y : SessionState). r.reports j ≡ y.reports) w.session s (w.session s) t (at.reports s place) (at.reports t there);
+    frames = at.frames;
+  }
 
 answered-stands : (N : Network) (first : PortIdentity → ℕ) (r : RunningNetwork) (w : NetworkState)
     (s : ℕ) (report : Report)

@@ -7,16 +7,12 @@ use Rattle.ptpm_network.proofs.Reaching.{first-reached, frame_at-is, step-reache
 use Rattle.ptpm_network.proofs.Strangers.{strange-message}
 use Rattle.ptpm_network.proofs.Steps.{InStep}
 
-not_ahead : (g h k begun reports : ℕ)
-    → g ≡ h
-    → k ≤ begun
-    → begun ≤ reports + 1
-    → reports ≤ h
-    → k ≤ g + 32767
-not_ahead g h k begun reports a b c d = omega arith
+module _ (g h k begun : ℕ) where
+  not_ahead : (reports : ℕ) → g ≡ h → k ≤ begun → begun ≤ reports + 1 → reports ≤ h → k ≤ g + 32767
+  not_ahead reports a b c d = omega arith
 
-not_behind : (g h k begun : ℕ) → g ≡ h → h ≤ begun → begun ≤ k + 32768 → g ≤ k + 32768
-not_behind g h k begun a b late = omega arith
+  not_behind : g ≡ h → h ≤ begun → begun ≤ k + 32768 → g ≤ k + 32768
+  not_behind a b late = omega arith
 
 copy-window : (N : Network) (w : NetworkState) (c port : ℕ) (f : Frame) (copy : RequestCopy)
     → IsReached N w
@@ -34,33 +30,27 @@ copy-window N w c port f copy r late of =
       not_far_behind = not_behind (greatest copy.heard.source (history N w c).accepted) (greatest_accepted N w of.session) of.k (length (w.session of.session).begun) g at.begun_before (ltb-false _ _ now);
     })
 
--- late or not, index and sequenceId go together
-copy-numbered : (first : PortIdentity → ℕ) (N : Network) (w : NetworkState) (c port : ℕ) (f : Frame)
-    (copy : RequestCopy)
-    → AreFirsts N first
-    → IsCopyOf N w c port f copy
-    → IsNumbered first copy
-copy-numbered first N w c port f copy firsts of = record {
-  positive = subst (λ k. 0 < k) (sym of.index) of.says.positive;
-  number = of.number
-      ∙ ap (λ j. number_of j of.k) (sym (firsts of.session of.says.place))
-      ∙ ap (λ (m : PortIdentity). number_of (first m) of.k) (sym of.source)
-      ∙ ap (number_of (first copy.heard.source)) (sym of.index);
-}
+module _ (first : PortIdentity → ℕ) (N : Network) (w : NetworkState) (c port : ℕ) (f : Frame) (copy : RequestCopy) (firsts : AreFirsts N first) where
+  -- late or not, index and sequenceId go together
+  copy-numbered : IsCopyOf N w c port f copy → IsNumbered first copy
+  copy-numbered of = record {
+    positive = subst (λ k. 0 < k) (sym of.index) of.says.positive;
+    number = of.number
+        ∙ ap (λ j. number_of j of.k) (sym (firsts of.session of.says.place))
+        ∙ ap (λ (m : PortIdentity). number_of (first m) of.k) (sym of.source)
+        ∙ ap (number_of (first copy.heard.source)) (sym of.index);
+  }
 
-pub in_window : (first : PortIdentity → ℕ) (N : Network) (w : NetworkState) (c port : ℕ) (f : Frame)
-    (copy : RequestCopy)
-    → AreFirsts N first
-    → IsNetwork N
-    → IsReached N w
-    → c < N.clocks
-    → IsHeard N w f.octets f.origin
-    → is_late w f.origin ≡ false
-    → copy_of (N.clock c) (ports N c) (delivery port f) ≡ Some copy
-    → IsInTime first (history N w c) copy
-in_window first N w c port f copy firsts n r place i late e =
-    let of = is_copy_of N w c port f copy n r place i e in
-    record { numbered = copy-numbered first N w c port f copy firsts of; window = λ p. copy-window N w c port f copy r late of }
+  pub in_window : IsNetwork N
+      → IsReached N w
+      → c < N.clocks
+      → IsHeard N w f.octets f.origin
+      → is_late w f.origin ≡ false
+      → copy_of (N.clock c) (ports N c) (delivery port f) ≡ Some copy
+      → IsInTime first (history N w c) copy
+  in_window n r place i late e =
+      let of = is_copy_of N w c port f copy n r place i e in
+      record { numbered = copy-numbered of; window = λ p. copy-window N w c port f copy r late of }
 
 -- a frame that was sent
 pub frame-in_window : (N : Network) (es : List Event) (first : PortIdentity → ℕ) (k c port : ℕ)

@@ -38,27 +38,23 @@ message_length-set m n =
     let low = get_or-set_other m 45 3 n 0 (λ e. omega arith) in
     omega (arith, number_at-octets 2 m, number_at-octets 2 (slice_set m 45 n), high, low)
 
-pub less_hop-message : (v : Message) (d : List ℕ)
-    → message_of d ≡ Some v
-    → Fits v
-    → IsMessage (with_less_hop d) (record v { hops = v.hops - 1 })
-less_hop-message v d e fits =
-    let m = message_octets d in
-    let n = boundary_hops d - 1 in
-    let size : length (slice_set m 45 n) ≡ length m = length-set m 45 n in
-    let number : message_length (slice_set m 45 n) ≡ length m = message_length-set m n ∙ (message_of-spells v d e).message_length in
-    record {
-      read = less_hop_message v d e;
-      whole = ap (λ k. take k (slice_set m 45 n)) number ∙ take_all (length m) (slice_set m 45 n) (omega (arith, size));
-      fits = record { source = fits.source; number = fits.number; target = fits.target; body = fits.body };
-    }
+module _ (v : Message) (d : List ℕ) (e : message_of d ≡ Some v) where
+  pub less_hop-message : Fits v → IsMessage (with_less_hop d) (record v { hops = v.hops - 1 })
+  less_hop-message fits =
+      let m = message_octets d in
+      let n = boundary_hops d - 1 in
+      let size : length (slice_set m 45 n) ≡ length m = length-set m 45 n in
+      let number : message_length (slice_set m 45 n) ≡ length m = message_length-set m n ∙ (message_of-spells v d e).message_length in
+      record {
+        read = less_hop_message v d e;
+        whole = ap (λ k. take k (slice_set m 45 n)) number ∙ take_all (length m) (slice_set m 45 n) (omega (arith, size));
+        fits = record { source = fits.source; number = fits.number; target = fits.target; body = fits.body };
+      }
 
-pub less_hop-hops : (v : Message) (d : List ℕ)
-    → message_of d ≡ Some v
-    → boundary_hops (with_less_hop d) ≡ boundary_hops d - 1
-less_hop-hops v d e =
-    let low = (message_of-spells v d e).at_least in
-    get_or-set_same (message_octets d) 45 (boundary_hops d - 1) 0 (omega arith)
+  pub less_hop-hops : boundary_hops (with_less_hop d) ≡ boundary_hops d - 1
+  less_hop-hops =
+      let low = (message_of-spells v d e).at_least in
+      get_or-set_same (message_octets d) 45 (boundary_hops d - 1) 0 (omega arith)
 
 -- what a clock passes on is one message with one hop less
 pub record IsPassedOn (d : List ℕ) (sent : ℕ × List ℕ) : Type 0 where
@@ -99,25 +95,23 @@ passed_on me port sets d = passed_on-by me port sets d (message_of d) refl
 abbrev pub request_at : Network → ℕ → ℕ → ℕ → ℕ → RequestValue → Message
 request_at N s k domain hops q = record (request_message (N.session s).setup domain k q) { hops = hops }
 
-pub request-valid : (N : Network) (s k domain hops ports : ℕ) (q : RequestValue)
-    → IsAsked ports q
-    → IsValid (request_at N s k domain hops q)
-request-valid N s k domain hops ports q asked = record { sdo = omega arith; body = (asked.action, asked.octets) }
+module _ (N : Network) (s k domain hops ports : ℕ) (q : RequestValue) where
+  pub request-valid : IsAsked ports q → IsValid (request_at N s k domain hops q)
+  request-valid asked = record { sdo = omega arith; body = (asked.action, asked.octets) }
 
-pub request-fits : (N : Network) (s k domain hops ports : ℕ) (q : RequestValue)
-    → IsNetwork N
-    → s < N.sessions
-    → IsAsked ports q
-    → Fits (request_at N s k domain hops q)
-request-fits N s k domain hops ports q n place asked =
-    let session = n.are_sessions s place in
-    let clock = n.are_clocks (N.session s).target session.exists in
-    record {
-      source = session.identity;
-      number = omega arith;
-      target = record { clock = subst (λ (c : ClockIdentity). length c.0 ≡ 8) (sym session.target) clock.identity; port = asked.port };
-      body = asked.id;
-    }
+  pub request-fits : IsNetwork N
+      → s < N.sessions
+      → IsAsked ports q
+      → Fits (request_at N s k domain hops q)
+  request-fits n place asked =
+      let session = n.are_sessions s place in
+      let clock = n.are_clocks (N.session s).target session.exists in
+      record {
+        source = session.identity;
+        number = omega arith;
+        target = record { clock = subst (λ (c : ClockIdentity). length c.0 ≡ 8) (sym session.target) clock.identity; port = asked.port };
+        body = asked.id;
+      }
 
 -- ---- replies
 
@@ -156,30 +150,25 @@ port-fits (Some port) ingress o h = o
 abbrev pub reply_at : ClockIdentity → Heard → ReplyValue → ℕ → ℕ → Answer → Message
 reply_at me heard r ingress hops a = record (reply_message me heard r.action r.id ingress a) { hops = hops }
 
-pub reply-valid : (me : ClockIdentity) (heard : Heard) (q : RequestValue) (r : ReplyValue)
-    (ingress hops : ℕ) (a : Answer)
-    → Answers q r
-    → IsSendable a
-    → IsValid (reply_at me heard r ingress hops a)
-reply-valid me heard q r ingress hops a answers sendable = record {
-  sdo = omega arith;
-  body = answer_body-valid r.action r.id a.outcome (ap is_reply answers.action ∙ reply_action-is_reply q.action) sendable.outcome;
-}
+module _ (me : ClockIdentity) (heard : Heard) (q : RequestValue) (r : ReplyValue) (ingress hops : ℕ) (a : Answer) where
+  pub reply-valid : Answers q r → IsSendable a → IsValid (reply_at me heard r ingress hops a)
+  reply-valid answers sendable = record {
+    sdo = omega arith;
+    body = answer_body-valid r.action r.id a.outcome (ap is_reply answers.action ∙ reply_action-is_reply q.action) sendable.outcome;
+  }
 
-pub reply-fits : (me : ClockIdentity) (heard : Heard) (q : RequestValue) (r : ReplyValue)
-    (ingress hops : ℕ) (a : Answer)
-    → length me.0 ≡ 8
-    → length heard.source.clock.0 ≡ 8
-    → heard.source.port < 2 ^ 16
-    → heard.number < 2 ^ 16
-    → ingress < 2 ^ 16
-    → q.id < 2 ^ 16
-    → Answers q r
-    → IsSendable a
-    → Fits (reply_at me heard r ingress hops a)
-reply-fits me heard q r ingress hops a identity source port number in' id answers sendable = record {
-  source = record { clock = identity; port = port-fits a.port ingress sendable.port in' };
-  number = number;
-  target = record { clock = source; port = port };
-  body = answer_body-fits r.action r.id a.outcome (subst (λ i. i < 2 ^ 16) (sym answers.id) id);
-}
+  pub reply-fits : length me.0 ≡ 8
+      → length heard.source.clock.0 ≡ 8
+      → heard.source.port < 2 ^ 16
+      → heard.number < 2 ^ 16
+      → ingress < 2 ^ 16
+      → q.id < 2 ^ 16
+      → Answers q r
+      → IsSendable a
+      → Fits (reply_at me heard r ingress hops a)
+  reply-fits identity source port number in' id answers sendable = record {
+    source = record { clock = identity; port = port-fits a.port ingress sendable.port in' };
+    number = number;
+    target = record { clock = source; port = port };
+    body = answer_body-fits r.action r.id a.outcome (subst (λ i. i < 2 ^ 16) (sym answers.id) id);
+  }

@@ -94,23 +94,21 @@ delivered_at-reached : (N : Network) (w : NetworkState) (f : Frame) (e : End)
 delivered_at-reached N w f (AtPort c port) q n r i h = delivered_at_clock-reached N w c port f n r h (heard-frame N w f.octets f.origin i.origin) i.hops
 delivered_at-reached N w f (AtSession s) q n r i h = reported-reached N w s f (report_from s (w.session s) f) n r h i.origin refl
 
-pub frame_at-is : (N : Network) (w : NetworkState) (k : ℕ) (f : Frame)
-    → IsReached N w
-    → frame_at w.frames k ≡ Some f
-    → IsFrame N w f
-frame_at-is N w k f r e = by_test (k == 0)
-    (λ y. let none : None ≡ Some f = sym (cond-true _ _ _ y) ∙ e in absurd (cc))
-    (λ n. all_get (IsFrame N w) w.frames (k - 1) f r.frames (sym (cond-false _ _ _ n) ∙ e))
+module _ (N : Network) (w : NetworkState) (k : ℕ) where
+  pub frame_at-is : (f : Frame) → IsReached N w → frame_at w.frames k ≡ Some f → IsFrame N w f
+  frame_at-is f r e = by_test (k == 0)
+      (λ y. let none : None ≡ Some f = sym (cond-true _ _ _ y) ∙ e in absurd (cc))
+      (λ n. all_get (IsFrame N w) w.frames (k - 1) f r.frames (sym (cond-false _ _ _ n) ∙ e))
 
-delivered-reached : (N : Network) (w : NetworkState) (k : ℕ) (o : Option Frame)
-    → IsNetwork N
-    → IsReached N w
-    → frame_at w.frames k ≡ o
-    → IsReached N (delivered N w o)
-delivered-reached N w k None n r e = r
-delivered-reached N w k (Some f) n r e =
-    let i = frame_at-is N w k f r e in
-    delivered_at-reached N w f f.end refl n r i i.end
+  delivered-reached : (o : Option Frame)
+      → IsNetwork N
+      → IsReached N w
+      → frame_at w.frames k ≡ o
+      → IsReached N (delivered N w o)
+  delivered-reached None n r e = r
+  delivered-reached (Some f) n r e =
+      let i = frame_at-is f r e in
+      delivered_at-reached N w f f.end refl n r i i.end
 
 -- ---- any event
 
@@ -174,21 +172,18 @@ happens-reached N w (Stranger c port datagram) n r i e =
     let q = option_or-none (forged N datagram) (no_room w.frames) p.1 in
     strange-reached N w c port datagram n r i p.0 q.0
 
-step_by-reached : (N : Network) (w : NetworkState) (e : Event) (o : Option Refusal)
-    → refusal N w e ≡ o
-    → IsNetwork N
-    → IsReached N w
-    → IsInRange e
-    → IsReached N (step_by o N w e)
-step_by-reached N w e None h n r i = happens-reached N w e n r i h
-step_by-reached N w e (Some refused) h n r i = r
+module _ (N : Network) (w : NetworkState) (e : Event) where
+  step_by-reached : (o : Option Refusal)
+      → refusal N w e ≡ o
+      → IsNetwork N
+      → IsReached N w
+      → IsInRange e
+      → IsReached N (step_by o N w e)
+  step_by-reached None h n r i = happens-reached N w e n r i h
+  step_by-reached (Some refused) h n r i = r
 
-pub step-reached : (N : Network) (w : NetworkState) (e : Event)
-    → IsNetwork N
-    → IsInRange e
-    → IsReached N w
-    → IsReached N (step N w e)
-step-reached N w e n i r = step_by-reached N w e (refusal N w e) refl n r i
+  pub step-reached : IsNetwork N → IsInRange e → IsReached N w → IsReached N (step N w e)
+  step-reached n i r = step_by-reached (refusal N w e) refl n r i
 
 pub run-reached : (N : Network) (w : NetworkState) (es : List Event)
     → IsNetwork N

@@ -112,33 +112,27 @@ content-said N w s k octets says =
     (ap (is_answered_by q.action) action ∙ answered_by-reply_action q.action says.says.asked.action)
     (eq-eqb q.id _ (sym id))
 
--- what is unanswered is the request that the reply is to
-unanswered-said : (N : Network) (w : NetworkState) (s : ℕ) (octets : List ℕ)
-    (says : SaysReply N w s (issued w s) octets)
-    → is_idle (w.session s) ≡ false
-    → unanswered (w.session s) ≡ Some says.entry.request
-unanswered-said N w s octets says busy = cond-false _ _ _ busy ∙ says.says.begun_as
+module _ (N : Network) (w : NetworkState) (s : ℕ) (octets : List ℕ) (says : SaysReply N w s (issued w s) octets) (busy : is_idle (w.session s) ≡ false) where
+  -- what is unanswered is the request that the reply is to
+  unanswered-said : unanswered (w.session s) ≡ Some says.entry.request
+  unanswered-said = cond-false _ _ _ busy ∙ says.says.begun_as
 
-answer-accepted : (N : Network) (w : NetworkState) (s : ℕ) (octets : List ℕ)
-    (says : SaysReply N w s (issued w s) octets)
-    → is_idle (w.session s) ≡ false
-    → says.heard.domain == (w.session s).domain ≡ true
-    → IsAccepted (session_value (N.session s) (w.session s))
-    (message_said N w s (issued w s) octets says)
-answer-accepted N w s octets says busy domain =
-    let asked = unanswered-said N w s octets says busy in
-    let r = says.entry.reply in
-    record {
-      domain = domain;
-      reply = ap is_reply (action_of-answer_body r.action r.id says.answer.outcome ∙ says.says.answers.action) ∙ reply_action-is_reply says.entry.request.action;
-      target = ap (λ (m : PortIdentity). same_identity m (manager N s)) says.source ∙ same_identity-refl (manager N s);
-      source = and_from _ _ (same_clock-refl (N.session s).setup.target)
-          (ap (λ o. is_from_asked_port o (message_said N w s (issued w s) octets says).source.port) asked ∙ asked-port N w s (issued w s) octets says);
-      waiting = ap is_some asked;
-      number = eq-eqb says.heard.number _ says.number;
-      content = ap (λ o. is_content o (action_of (message_said N w s (issued w s) octets says).body) (id_of (message_said N w s (issued w s) octets says).body)) asked
-          ∙ content-said N w s (issued w s) octets says;
-    }
+  answer-accepted : says.heard.domain == (w.session s).domain ≡ true
+      → IsAccepted (session_value (N.session s) (w.session s)) (message_said N w s (issued w s) octets says)
+  answer-accepted domain =
+      let asked = unanswered-said in
+      let r = says.entry.reply in
+      record {
+        domain = domain;
+        reply = ap is_reply (action_of-answer_body r.action r.id says.answer.outcome ∙ says.says.answers.action) ∙ reply_action-is_reply says.entry.request.action;
+        target = ap (λ (m : PortIdentity). same_identity m (manager N s)) says.source ∙ same_identity-refl (manager N s);
+        source = and_from _ _ (same_clock-refl (N.session s).setup.target)
+            (ap (λ o. is_from_asked_port o (message_said N w s (issued w s) octets says).source.port) asked ∙ asked-port N w s (issued w s) octets says);
+        waiting = ap is_some asked;
+        number = eq-eqb says.heard.number _ says.number;
+        content = ap (λ o. is_content o (action_of (message_said N w s (issued w s) octets says).body) (id_of (message_said N w s (issued w s) octets says).body)) asked
+            ∙ content-said N w s (issued w s) octets says;
+      }
 
 -- what is received of a message that passes
 received-message : (s : SessionValue) (octets : List ℕ) (v : Message)

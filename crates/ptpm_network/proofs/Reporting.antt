@@ -16,21 +16,14 @@ reports-after : (N : Network) (past : List Event) (r : RunningNetwork) (s : ℕ)
     → r.reports s ≡ ((run N (initial_state N) past).session s).reports
 reports-after N past r s at place = (at.stands (first_of_sessions N N.sessions) (firsts N at.promised.network)).reports s place
 
-pub index-after : (N : Network) (past : List Event) (r : RunningNetwork) (s i : ℕ) (report : Report)
-    → StandsAfter N past r
-    → s < N.sessions
-    → slice_get (r.reports s) i ≡ Some report
-    → report.index ≡ i + 1
-index-after N past r s i report at place e =
-    report-index N past s i report at.promised.network at.promised.in_range place (subst (λ rs. slice_get rs i ≡ Some report) (reports-after N past r s at place) e)
+module _ (N : Network) (past : List Event) (r : RunningNetwork) (s i : ℕ) (report : Report) (at : StandsAfter N past r) (place : s < N.sessions) (e : slice_get (r.reports s) i ≡ Some report) where
+  pub index-after : report.index ≡ i + 1
+  index-after =
+      report-index N past s i report at.promised.network at.promised.in_range place (subst (λ rs. slice_get rs i ≡ Some report) (reports-after N past r s at place) e)
 
-pub worth-after : (N : Network) (past : List Event) (r : RunningNetwork) (s i : ℕ) (report : Report)
-    → StandsAfter N past r
-    → s < N.sessions
-    → slice_get (r.reports s) i ≡ Some report
-    → IsWorth N (run N (initial_state N) past) s report
-worth-after N past r s i report at place e =
-    report-worth N past s i report at.promised.network at.promised.in_range place (subst (λ rs. slice_get rs i ≡ Some report) (reports-after N past r s at place) e)
+  pub worth-after : IsWorth N (run N (initial_state N) past) s report
+  worth-after =
+      report-worth N past s i report at.promised.network at.promised.in_range place (subst (λ rs. slice_get rs i ≡ Some report) (reports-after N past r s at place) e)
 
 -- ---- running to the report
 

@@ -34,22 +34,20 @@ pub record Moved (N : Network) (s : ℕ) (w u : NetworkState) (made : ℕ) : Typ
 add_both : (a b c x y : ℕ) → b ≤ a + x → c ≤ b + y → c ≤ a + (x + y)
 add_both a b c x y p q = omega arith
 
-moved-then : (N : Network) (s : ℕ) (w u z : NetworkState) (a b : ℕ)
-    → Moved N s w u a
-    → Moved N s u z b
-    → Moved N s w z (a + b)
-moved-then N s w u z a b p q = record {
-  reached = q.reached;
-  sessions = q.sessions ∙ p.sessions;
-  histories = λ d ne. q.histories d ne ∙ p.histories d ne;
-  frames = add_both (length w.frames) (length u.frames) (length z.frames) a b p.frames q.frames;
-}
+module _ (N : Network) (s : ℕ) (w u : NetworkState) where
+  moved-then : (z : NetworkState) (a b : ℕ)
+      → Moved N s w u a
+      → Moved N s u z b
+      → Moved N s w z (a + b)
+  moved-then z a b p q = record {
+    reached = q.reached;
+    sessions = q.sessions ∙ p.sessions;
+    histories = λ d ne. q.histories d ne ∙ p.histories d ne;
+    frames = add_both (length w.frames) (length u.frames) (length z.frames) a b p.frames q.frames;
+  }
 
-pub issued-moved : (N : Network) (s : ℕ) (w u : NetworkState) (made k : ℕ)
-    → Moved N s w u made
-    → issued w s ≡ k
-    → issued u s ≡ k
-issued-moved N s w u made k p e = ap (λ (f : ℕ → SessionState). length (f s).begun) p.sessions ∙ e
+  pub issued-moved : (made k : ℕ) → Moved N s w u made → issued w s ≡ k → issued u s ≡ k
+  issued-moved made k p e = ap (λ (f : ℕ → SessionState). length (f s).begun) p.sessions ∙ e
 
 -- ---- a frame on its way to an end
 
@@ -261,38 +259,27 @@ hears-stays N w u s k domain same h = ⊎_elim
     (λ (g : greatest_accepted N w s ≡ k). inr (ap (λ (x : History). greatest (manager N s) x.accepted) same ∙ g))
     h
 
--- a clock passes a request on to the far side, and the reply back to the near one
-pass_there : (N : Network) (s : ℕ) (w : NetworkState) (most k domain hops : ℕ) (h : Hop) (e : End)
-    → IsNetwork N
-    → MakesAtMost N most
-    → IsReached N w
-    → HasRoom w
-    → issued w s ≡ k
-    → PassesOn N w (N.session s).target domain h
-    → list_any (same_end e) (peers N.links (AtPort h.clock h.far)) ≡ true
-    → 0 < hops
-    → Comes w (AtPort h.clock h.near) (RequestOf s k) domain hops
-    → Passed N s w most (AtPort h.clock h.near) e (RequestOf s k) domain (hops - 1)
-pass_there N s w most k domain hops h e n few r room is p link hop comes =
-    pass N s w most h.clock h.near h.far e (RequestOf s k) domain hops n few r room (in_time w s k is)
-    (λ octets exists i. request-passing N w s k h.clock octets n r exists p.other i)
-    (record { two_ports = λ q. p.two_ports (sym q); domain_is = p.in_domain; ingress = p.near; egress = p.far; link = link }) hop comes
+module _ (N : Network) (s : ℕ) (w : NetworkState) (most k domain hops : ℕ) (h : Hop) (e : End) (n : IsNetwork N) (few : MakesAtMost N most) (r : IsReached N w) (room : HasRoom w) (is : issued w s ≡ k) where
+  -- a clock passes a request on to the far side, and the reply back to the near one
+  pass_there : PassesOn N w (N.session s).target domain h
+      → list_any (same_end e) (peers N.links (AtPort h.clock h.far)) ≡ true
+      → 0 < hops
+      → Comes w (AtPort h.clock h.near) (RequestOf s k) domain hops
+      → Passed N s w most (AtPort h.clock h.near) e (RequestOf s k) domain (hops - 1)
+  pass_there p link hop comes =
+      pass N s w most h.clock h.near h.far e (RequestOf s k) domain hops n few r room (in_time w s k is)
+      (λ octets exists i. request-passing N w s k h.clock octets n r exists p.other i)
+      (record { two_ports = λ q. p.two_ports (sym q); domain_is = p.in_domain; ingress = p.near; egress = p.far; link = link }) hop comes
 
-pass_back : (N : Network) (s : ℕ) (w : NetworkState) (most k domain hops : ℕ) (h : Hop) (e : End)
-    → IsNetwork N
-    → MakesAtMost N most
-    → IsReached N w
-    → HasRoom w
-    → issued w s ≡ k
-    → PassesOn N w (N.session s).target domain h
-    → list_any (same_end e) (peers N.links (AtPort h.clock h.near)) ≡ true
-    → 0 < hops
-    → Comes w (AtPort h.clock h.far) (ReplyTo s k) domain hops
-    → Passed N s w most (AtPort h.clock h.far) e (ReplyTo s k) domain (hops - 1)
-pass_back N s w most k domain hops h e n few r room is p link hop comes =
-    pass N s w most h.clock h.far h.near e (ReplyTo s k) domain hops n few r room (in_time w s k is)
-    (λ octets exists i. reply-passing N w s k h.clock octets n r exists p.other i)
-    (record { two_ports = p.two_ports; domain_is = p.in_domain; ingress = p.far; egress = p.near; link = link }) hop comes
+  pass_back : PassesOn N w (N.session s).target domain h
+      → list_any (same_end e) (peers N.links (AtPort h.clock h.near)) ≡ true
+      → 0 < hops
+      → Comes w (AtPort h.clock h.far) (ReplyTo s k) domain hops
+      → Passed N s w most (AtPort h.clock h.far) e (ReplyTo s k) domain (hops - 1)
+  pass_back p link hop comes =
+      pass N s w most h.clock h.far h.near e (ReplyTo s k) domain hops n few r room (in_time w s k is)
+      (λ octets exists i. reply-passing N w s k h.clock octets n r exists p.other i)
+      (record { two_ports = p.two_ports; domain_is = p.in_domain; ingress = p.far; egress = p.near; link = link }) hop comes
 
 one_less : (lost hops all : ℕ) → 0 < hops → lost + hops ≡ all → (lost + 1) + (hops - 1) ≡ all
 one_less lost hops all p e = omega arith
@@ -303,14 +290,12 @@ enough_left n hops le = (omega arith, omega arith)
 pub room-now : (a m limit : ℕ) → a + m ≤ limit → a ≤ limit
 room-now a m limit le = omega arith
 
-room-next : (a b most m limit : ℕ) → b ≤ a + most → a + (most + (m + most)) ≤ limit → b + m ≤ limit
-room-next a b most m limit p le = omega arith
+module _ (a b : ℕ) where
+  room-next : (most m limit : ℕ) → b ≤ a + most → a + (most + (m + most)) ≤ limit → b + m ≤ limit
+  room-next most m limit p le = omega arith
 
-room-last : (a b most m limit : ℕ)
-    → b ≤ a + (most + m)
-    → a + (most + (m + most)) ≤ limit
-    → b ≤ limit
-room-last a b most m limit p le = omega arith
+  room-last : (most m limit : ℕ) → b ≤ a + (most + m) → a + (most + (m + most)) ≤ limit → b ≤ limit
+  room-last most m limit p le = omega arith
 
 plus_one : (lost : ℕ) → (lost + 1) - 1 ≡ lost
 plus_one lost = omega arith

@@ -140,25 +140,18 @@ network_run-stands N first r w (e ∷ es) firsts n reached at i time = by_test (
 
 -- ---- from where a list of events leads
 
-pub network_refusal-running : (N : Network) (es : List Event) (first : PortIdentity → ℕ)
-    (r : RunningNetwork) (e : Event)
-    → IsNetwork N
-    → AllByRecursion IsInRange es
-    → Stands N first r (run N (initial_state N) es)
-    → network_refusal N r e ≡ refusal N (run N (initial_state N) es) e
-network_refusal-running N es first r e n i at = network_refusal-as N first r (run N (initial_state N) es) e (reached N es n i) at
+module _ (N : Network) (es : List Event) (first : PortIdentity → ℕ) (r : RunningNetwork) (e : Event) (n : IsNetwork N) (i : AllByRecursion IsInRange es) where
+  pub network_refusal-running : Stands N first r (run N (initial_state N) es)
+      → network_refusal N r e ≡ refusal N (run N (initial_state N) es) e
+  network_refusal-running at = network_refusal-as N first r (run N (initial_state N) es) e (reached N es n i) at
 
-pub network_step-running : (N : Network) (es : List Event) (first : PortIdentity → ℕ)
-    (r : RunningNetwork) (e : Event)
-    → IsNetwork N
-    → AllByRecursion IsInRange es
-    → AreFirsts N first
-    → Stands N first r (run N (initial_state N) es)
-    → IsInRange e
-    → refusal N (run N (initial_state N) es) e ≡ None
-    → is_late_delivery (run N (initial_state N) es) e ≡ false
-    → Stands N first (network_step N r e) (happens N (run N (initial_state N) es) e)
-network_step-running N es first r e n i firsts at range none late = network_step-stands N first r (run N (initial_state N) es) e firsts n (reached N es n i) at range none late
+  pub network_step-running : AreFirsts N first
+      → Stands N first r (run N (initial_state N) es)
+      → IsInRange e
+      → refusal N (run N (initial_state N) es) e ≡ None
+      → is_late_delivery (run N (initial_state N) es) e ≡ false
+      → Stands N first (network_step N r e) (happens N (run N (initial_state N) es) e)
+  network_step-running firsts at range none late = network_step-stands N first r (run N (initial_state N) es) e firsts n (reached N es n i) at range none late
 
 pub network_run-running : (N : Network) (past es : List Event) (first : PortIdentity → ℕ)
     (r : RunningNetwork)

@@ -4,35 +4,26 @@ use Rattle.ptpm_network.proofs.Accepting.{kept-le}
 use Rattle.ptpm_network.proofs.Reaching.{first-reached, frame_at-is, run-reached}
 use Rattle.ptpm_network.proofs.Steps.{InStep}
 
-pub reached : (N : Network) (es : List Event)
-    → IsNetwork N
-    → AllByRecursion IsInRange es
-    → IsReached N (run N (initial_state N) es)
-reached N es n i = run-reached N (initial_state N) es n i (first-reached N n)
+module _ (N : Network) (es : List Event) where
+  pub reached : IsNetwork N → AllByRecursion IsInRange es → IsReached N (run N (initial_state N) es)
+  reached n i = run-reached N (initial_state N) es n i (first-reached N n)
 
-at : (N : Network) (es : List Event) (s : ℕ)
-    → IsNetwork N
-    → AllByRecursion IsInRange es
-    → s < N.sessions
-    → InStep N (run N (initial_state N) es) s ((run N (initial_state N) es).session s)
-at N es s n i place = (reached N es n i).sessions s place
+  at : (s : ℕ)
+      → IsNetwork N
+      → AllByRecursion IsInRange es
+      → s < N.sessions
+      → InStep N (run N (initial_state N) es) s ((run N (initial_state N) es).session s)
+  at s n i place = (reached n i).sessions s place
 
 one_more : (begun reports g : ℕ) → begun ≤ reports + 1 → reports ≤ g → begun ≤ g + 1
 one_more begun reports g a b = omega arith
 
-pub accepted_begun : (N : Network) (es : List Event) (s : ℕ)
-    → IsNetwork N
-    → AllByRecursion IsInRange es
-    → s < N.sessions
-    → greatest_accepted N (run N (initial_state N) es) s ≤ issued (run N (initial_state N) es) s
-accepted_begun N es s n i place = (at N es s n i place).begun_before
+module _ (N : Network) (es : List Event) (s : ℕ) (n : IsNetwork N) (i : AllByRecursion IsInRange es) (place : s < N.sessions) where
+  pub accepted_begun : greatest_accepted N (run N (initial_state N) es) s ≤ issued (run N (initial_state N) es) s
+  accepted_begun = (at N es s n i place).begun_before
 
-pub begun_accepted : (N : Network) (es : List Event) (s : ℕ)
-    → IsNetwork N
-    → AllByRecursion IsInRange es
-    → s < N.sessions
-    → issued (run N (initial_state N) es) s ≤ greatest_accepted N (run N (initial_state N) es) s + 1
-begun_accepted N es s n i place = let p = at N es s n i place in one_more _ _ _ p.one_at_a_time p.accepted_before
+  pub begun_accepted : issued (run N (initial_state N) es) s ≤ greatest_accepted N (run N (initial_state N) es) s + 1
+  begun_accepted = let p = at N es s n i place in one_more _ _ _ p.one_at_a_time p.accepted_before
 
 -- an index from 1 on
 positive-kept : (k : ℕ) (N : Network) (w : NetworkState) (s : ℕ) (e : Accepted)
@@ -58,21 +49,12 @@ accepted_exactly N es s k n i place =
       λ h. (positive-kept k N w s h.0 p.from_one h.1, kept-le (manager N s) k (accepted_at_target N w s) h.0 h.1),
     )
 
-pub reported_begun : (N : Network) (es : List Event) (s : ℕ)
-    → IsNetwork N
-    → AllByRecursion IsInRange es
-    → s < N.sessions
-    → length ((run N (initial_state N) es).session s).reports
-    ≤ issued (run N (initial_state N) es) s
-reported_begun N es s n i place = let p = at N es s n i place in le_trans p.accepted_before p.begun_before
+module _ (N : Network) (es : List Event) (s : ℕ) (n : IsNetwork N) (i : AllByRecursion IsInRange es) (place : s < N.sessions) where
+  pub reported_begun : length ((run N (initial_state N) es).session s).reports ≤ issued (run N (initial_state N) es) s
+  reported_begun = let p = at N es s n i place in le_trans p.accepted_before p.begun_before
 
-pub begun_reported : (N : Network) (es : List Event) (s : ℕ)
-    → IsNetwork N
-    → AllByRecursion IsInRange es
-    → s < N.sessions
-    → issued (run N (initial_state N) es) s
-    ≤ length ((run N (initial_state N) es).session s).reports + 1
-begun_reported N es s n i place = (at N es s n i place).one_at_a_time
+  pub begun_reported : issued (run N (initial_state N) es) s ≤ length ((run N (initial_state N) es).session s).reports + 1
+  begun_reported = (at N es s n i place).one_at_a_time
 
 pub reports : (N : Network) (es : List Event) (s : ℕ)
     → IsNetwork N
@@ -95,16 +77,9 @@ left_of : (hops forwardings first : ℕ)
     → (hops ≡ first - forwardings) × (forwardings ≤ first)
 left_of hops forwardings first e = (omega arith, omega arith)
 
-pub hops_lost : (N : Network) (es : List Event) (k : ℕ) (f : Frame)
-    → IsNetwork N
-    → AllByRecursion IsInRange es
-    → frame_at (run N (initial_state N) es).frames k ≡ Some f
-    → boundary_hops f.octets ≡ f.first_hops - f.forwardings
-hops_lost N es k f n i e = (left_of (boundary_hops f.octets) f.forwardings f.first_hops (hops_and_forwardings N es k f n i e)).0
+module _ (N : Network) (es : List Event) (k : ℕ) (f : Frame) (n : IsNetwork N) (i : AllByRecursion IsInRange es) (e : frame_at (run N (initial_state N) es).frames k ≡ Some f) where
+  pub hops_lost : boundary_hops f.octets ≡ f.first_hops - f.forwardings
+  hops_lost = (left_of (boundary_hops f.octets) f.forwardings f.first_hops (hops_and_forwardings N es k f n i e)).0
 
-pub forwardings_few : (N : Network) (es : List Event) (k : ℕ) (f : Frame)
-    → IsNetwork N
-    → AllByRecursion IsInRange es
-    → frame_at (run N (initial_state N) es).frames k ≡ Some f
-    → f.forwardings ≤ f.first_hops
-forwardings_few N es k f n i e = (left_of (boundary_hops f.octets) f.forwardings f.first_hops (hops_and_forwardings N es k f n i e)).1
+  pub forwardings_few : f.forwardings ≤ f.first_hops
+  forwardings_few = (left_of (boundary_hops f.octets) f.forwardings f.first_hops (hops_and_forwardings N es k f n i e)).1

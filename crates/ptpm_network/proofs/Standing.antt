@@ -35,41 +35,27 @@ turn_frames-made N first s h c port f at many time =
     ∙ ap (λ p. forwarded_frames N c f (forwarded (N.clock c).identity port h.sets f.octets)
     ++ reply_frames N c (answer_origin f.origin (copy_of (N.clock c) p (delivery port f))) (answer_messages (N.clock c) h port f.octets (copy_of (N.clock c) p (delivery port f)))) many
 
-clock-stands : (N : Network) (first : PortIdentity → ℕ) (r : RunningNetwork) (w : NetworkState)
-    (c port : ℕ) (f : Frame)
-    → Stands N first r w
-    → c < N.clocks
-    → ((k : RequestCopy)
-    → copy_of (N.clock c) (ports N c) (delivery port f) ≡ Some k
-    → IsInTime first (history N w c) k)
-    → (d : ℕ)
-    → d < N.clocks
-    → StandsAt first (with_place r.clock c (turn (N.clock c) (r.clock c) port f.octets).next d)
-    (history N (arrives w c (delivery port f)) d)
-clock-stands N first r w c port f at place time d there = by_test (d == c)
-    (λ y. subst (λ (s : State). StandsAt first s (history N (arrives w c (delivery port f)) d)) (sym (with_place-same r.clock c (turn (N.clock c) (r.clock c) port f.octets).next d y))
-    (subst (λ j. StandsAt first (turn (N.clock c) (r.clock c) port f.octets).next (history N (arrives w c (delivery port f)) j)) (sym (eqb-true d c y))
-    (subst (StandsAt first (turn (N.clock c) (r.clock c) port f.octets).next) (sym (history-here N w c (delivery port f)))
-    (stands_by first (N.clock c) (ports N c) (r.clock c) (history N w c) (delivery port f) (copy_of (N.clock c) (ports N c) (delivery port f)) (history-ports N w c) refl (at.clocks c place) time))))
-    (λ n. subst (λ (s : State). StandsAt first s (history N (arrives w c (delivery port f)) d)) (sym (with_place-other r.clock c (turn (N.clock c) (r.clock c) port f.octets).next d n))
-    (subst (StandsAt first (r.clock d)) (sym (history-elsewhere N w c (delivery port f) d n)) (at.clocks d there)))
+module _ (N : Network) (first : PortIdentity → ℕ) (r : RunningNetwork) (w : NetworkState) (c port : ℕ) (f : Frame) (at : Stands N first r w) (place : c < N.clocks) (time : ((k : RequestCopy) → copy_of (N.clock c) (ports N c) (delivery port f) ≡ Some k → IsInTime first (history N w c) k)) where
+  clock-stands : (d : ℕ)
+      → d < N.clocks
+      → StandsAt first (with_place r.clock c (turn (N.clock c) (r.clock c) port f.octets).next d) (history N (arrives w c (delivery port f)) d)
+  clock-stands d there = by_test (d == c)
+      (λ y. subst (λ (s : State). StandsAt first s (history N (arrives w c (delivery port f)) d)) (sym (with_place-same r.clock c (turn (N.clock c) (r.clock c) port f.octets).next d y))
+      (subst (λ j. StandsAt first (turn (N.clock c) (r.clock c) port f.octets).next (history N (arrives w c (delivery port f)) j)) (sym (eqb-true d c y))
+      (subst (StandsAt first (turn (N.clock c) (r.clock c) port f.octets).next) (sym (history-here N w c (delivery port f)))
+      (stands_by first (N.clock c) (ports N c) (r.clock c) (history N w c) (delivery port f) (copy_of (N.clock c) (ports N c) (delivery port f)) (history-ports N w c) refl (at.clocks c place) time))))
+      (λ n. subst (λ (s : State). StandsAt first s (history N (arrives w c (delivery port f)) d)) (sym (with_place-other r.clock c (turn (N.clock c) (r.clock c) port f.octets).next d n))
+      (subst (StandsAt first (r.clock d)) (sym (history-elsewhere N w c (delivery port f) d n)) (at.clocks d there)))
 
-pub stands-turned : (N : Network) (first : PortIdentity → ℕ) (r : RunningNetwork) (w : NetworkState)
-    (c port : ℕ) (f : Frame)
-    → Stands N first r w
-    → c < N.clocks
-    → ((k : RequestCopy)
-    → copy_of (N.clock c) (ports N c) (delivery port f) ≡ Some k
-    → IsInTime first (history N w c) k)
-    → Stands N first (after_turn N r c port f) (delivered_at_clock N w c port f)
-stands-turned N first r w c port f at place time = record {
-  clocks = clock-stands N first r w c port f at place time;
-  sessions = at.sessions;
-  reports = at.reports;
-  frames = ap (λ fs. fs ++ map held (turn_frames N (r.clock c) c port f)) at.frames
-      ∙ ap (λ fs. map held w.frames ++ map held fs) (turn_frames-made N first (r.clock c) (history N w c) c port f (at.clocks c place) (history-ports N w c) time)
-      ∙ sym (map-append held w.frames (made_frames N c (history N w c) port f));
-}
+  pub stands-turned : Stands N first (after_turn N r c port f) (delivered_at_clock N w c port f)
+  stands-turned = record {
+    clocks = clock-stands;
+    sessions = at.sessions;
+    reports = at.reports;
+    frames = ap (λ fs. fs ++ map held (turn_frames N (r.clock c) c port f)) at.frames
+        ∙ ap (λ fs. map held w.frames ++ map held fs) (turn_frames-made N first (r.clock c) (history N w c) c port f (at.clocks c place) (history-ports N w c) time)
+        ∙ sym (map-append held w.frames (made_frames N c (history N w c) port f));
+  }
 
 -- a running network that stands where a schedule leads stands there after a turn, too
 pub stands-delivered : (N : Network) (es : List Event) (first : PortIdentity → ℕ)

@@ -34,57 +34,47 @@ BegunStays w u = (s i : ℕ) (q : RequestValue) → slice_get (w.session s).begu
 abbrev pub KeptStays : Network → NetworkState → NetworkState → Type 0
 KeptStays N w u = (s k : ℕ) (e : Accepted) → s < N.sessions → kept_reply (manager N s) k (accepted_at_target N w s) ≡ Some e → kept_reply (manager N s) k (accepted_at_target N u s) ≡ Some e
 
-pub origin-stays : (N : Network) (w u : NetworkState)
-    → BegunStays w u
-    → KeptStays N w u
-    → (octets : List ℕ) (o : Origin)
-    → IsOfOrigin N w octets o
-    → IsOfOrigin N u octets o
-origin-stays N w u begun kept octets (RequestOf s k) (place, r) = (
-  place,
-  record {
-    positive = r.positive;
-    request = r.request;
-    begun_as = begun s (k - 1) r.request r.begun_as;
-    domain = r.domain;
-    hops = r.hops;
-    is = r.is;
-  },
-)
-origin-stays N w u begun kept octets (ReplyTo s k) (place, r) = (
-  place,
-  record {
-    positive = r.positive;
-    entry = r.entry;
-    kept = kept s k r.entry place r.kept;
-    answer = r.answer;
-    one = r.one;
-    heard = r.heard;
-    source = r.source;
-    number = r.number;
-    ingress = r.ingress;
-    port = r.port;
-    hops = r.hops;
-    is = r.is;
-  },
-)
-origin-stays N w u begun kept octets Neither r = r
+module _ (N : Network) (w u : NetworkState) (begun : BegunStays w u) (kept : KeptStays N w u) where
+  pub origin-stays : (octets : List ℕ) (o : Origin)
+      → IsOfOrigin N w octets o
+      → IsOfOrigin N u octets o
+  origin-stays octets (RequestOf s k) (place, r) = (
+    place,
+    record {
+      positive = r.positive;
+      request = r.request;
+      begun_as = begun s (k - 1) r.request r.begun_as;
+      domain = r.domain;
+      hops = r.hops;
+      is = r.is;
+    },
+  )
+  origin-stays octets (ReplyTo s k) (place, r) = (
+    place,
+    record {
+      positive = r.positive;
+      entry = r.entry;
+      kept = kept s k r.entry place r.kept;
+      answer = r.answer;
+      one = r.one;
+      heard = r.heard;
+      source = r.source;
+      number = r.number;
+      ingress = r.ingress;
+      port = r.port;
+      hops = r.hops;
+      is = r.is;
+    },
+  )
+  origin-stays octets Neither r = r
 
-pub frame-stays : (N : Network) (w u : NetworkState)
-    → BegunStays w u
-    → KeptStays N w u
-    → (f : Frame)
-    → IsFrame N w f
-    → IsFrame N u f
-frame-stays N w u begun kept f i = record { end = i.end; origin = origin-stays N w u begun kept f.octets f.origin i.origin; hops = i.hops }
+  pub frame-stays : (f : Frame) → IsFrame N w f → IsFrame N u f
+  frame-stays f i = record { end = i.end; origin = origin-stays f.octets f.origin i.origin; hops = i.hops }
 
-pub frames-stay : (N : Network) (w u : NetworkState)
-    → BegunStays w u
-    → KeptStays N w u
-    → (fs : List Frame)
-    → AllByRecursion (IsFrame N w) fs
-    → AllByRecursion (IsFrame N u) fs
-frames-stay N w u begun kept fs a = all_weaker (IsFrame N w) (IsFrame N u) (λ f i. frame-stays N w u begun kept f i) fs a
+  pub frames-stay : (fs : List Frame)
+      → AllByRecursion (IsFrame N w) fs
+      → AllByRecursion (IsFrame N u) fs
+  frames-stay fs a = all_weaker (IsFrame N w) (IsFrame N u) (λ f i. frame-stays f i) fs a
 
 -- ---- one session changes
 
@@ -153,38 +143,31 @@ unanswered-last s q e = by_test (is_idle s)
 positive : (n : ℕ) → n - 1 < n → 0 < n
 positive n h = omega arith
 
-sent_frames-are : (N : Network) (w : NetworkState) (s : ℕ) (o : Option RequestValue)
-    → s < N.sessions
-    → AllByRecursion (HasEnd N) (peers N.links (AtSession s))
-    → unanswered (w.session s) ≡ o
-    → AllByRecursion (IsFrame N w)
-    (sent_frames (peers N.links (AtSession s)) s (length (w.session s).begun)
-    (option_map
-    (request_message (N.session s).setup (w.session s).domain
-    (length (w.session s).begun)) o))
-sent_frames-are N w s None place ends e = tt
-sent_frames-are N w s (Some q) place ends e =
-    let last = unanswered-last (w.session s) q e in
-    new_frames-are N w (peers N.links (AtSession s)) _ (RequestOf s (length (w.session s).begun)) ends (
-      place,
-      record {
-        positive = positive (length (w.session s).begun) (slice_get_within (w.session s).begun (length (w.session s).begun - 1) q last);
-        request = q;
-        begun_as = last;
-        domain = (w.session s).domain;
-        hops = (N.session s).setup.hops;
-        is = refl;
-      },
-    )
+module _ (N : Network) (w : NetworkState) (s : ℕ) where
+  sent_frames-are : (o : Option RequestValue)
+      → s < N.sessions
+      → AllByRecursion (HasEnd N) (peers N.links (AtSession s))
+      → unanswered (w.session s) ≡ o
+      → AllByRecursion (IsFrame N w) (sent_frames (peers N.links (AtSession s)) s (length (w.session s).begun) (option_map (request_message (N.session s).setup (w.session s).domain (length (w.session s).begun)) o))
+  sent_frames-are None place ends e = tt
+  sent_frames-are (Some q) place ends e =
+      let last = unanswered-last (w.session s) q e in
+      new_frames-are N w (peers N.links (AtSession s)) _ (RequestOf s (length (w.session s).begun)) ends (
+        place,
+        record {
+          positive = positive (length (w.session s).begun) (slice_get_within (w.session s).begun (length (w.session s).begun - 1) q last);
+          request = q;
+          begun_as = last;
+          domain = (w.session s).domain;
+          hops = (N.session s).setup.hops;
+          is = refl;
+        },
+      )
 
-pub sends-reached : (N : Network) (w : NetworkState) (s : ℕ)
-    → IsNetwork N
-    → s < N.sessions
-    → IsReached N w
-    → IsReached N (sends N w s)
-sends-reached N w s n place r =
-    let v : SessionState = record (w.session s) { attempts_left = (w.session s).attempts_left - 1 } in
-    more-frames N (with_session w s v) _
-    (frames-stay N w (with_session w s v) (begun-stays w s v (λ i q e. e)) (λ t k e p h. h) _
-    (sent_frames-are N w s (unanswered (w.session s)) place (has_peers N (AtSession s) n) refl))
-    (session-set N w s (w.session s).domain ((w.session s).attempts_left - 1) place r)
+  pub sends-reached : IsNetwork N → s < N.sessions → IsReached N w → IsReached N (sends N w s)
+  sends-reached n place r =
+      let v : SessionState = record (w.session s) { attempts_left = (w.session s).attempts_left - 1 } in
+      more-frames N (with_session w s v) _
+      (frames-stay N w (with_session w s v) (begun-stays w s v (λ i q e. e)) (λ t k e p h. h) _
+      (sent_frames-are (unanswered (w.session s)) place (has_peers N (AtSession s) n) refl))
+      (session-set N w s (w.session s).domain ((w.session s).attempts_left - 1) place r)

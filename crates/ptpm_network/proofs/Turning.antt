@@ -71,36 +71,31 @@ says_read c s ingress v d o a q n =
     let read : is_read c s.sets v ≡ true = and_from _ _ home.0 (and_from _ _ home.1 (and_from _ _ (ap not o) (and_from _ _ a (and_from _ _ q (ap not n))))) in
     ap (λ (u : Verdict). reply_messages c ingress (heard_of v) (reply_by u c s v)) verdict ∙ sym (cond-true _ _ _ read)
 
-says_request_or_nothing : (c : Clock) (s : State) (ingress : ℕ) (v : Message)
-    → is_copy c (length s.sets.ports) v ≡ false
-    → is_in_domain c s v ≡ true
-    → is_own c v ≡ false
-    → is_addressed c s.sets v ≡ true
-    → reply_messages c ingress (heard_of v) (reply_by (judged c s v) c s v)
-    ≡ read_messages c s.sets ingress (Some v)
-says_request_or_nothing c s ingress v n d o a = by_test (is_request v)
-    (λ q. by_test (is_numbered c v)
-    (λ y. absurd (true≢false (sym
-    (is_copy-bits (v.sdo == 0) (is_own c v) (is_known v.source c.managers) (is_for_this_clock c v) (names_port (length s.sets.ports) v.target.port) (is_request v) (same_clock v.target.clock every_clock)
-    (and_parts (v.sdo == 0) (v.domain == s.sets.default.domain || is_accepted_repeat c s v) d).0 o y a q) ∙ n)))
-    (λ f. says_read c s ingress v d o a q f))
-    (λ q. says_nothing c s ingress v verdicts.NotARequest (judged-reply c s v d o a q) refl
-    (is_read-reply (v.sdo == 0) (v.domain == s.sets.default.domain) (is_own c v) (is_addressed c s.sets v) (is_request v) (not (is_numbered c v)) q))
+module _ (c : Clock) (s : State) (ingress : ℕ) (v : Message) (n : is_copy c (length s.sets.ports) v ≡ false) where
+  says_request_or_nothing : is_in_domain c s v ≡ true
+      → is_own c v ≡ false
+      → is_addressed c s.sets v ≡ true
+      → reply_messages c ingress (heard_of v) (reply_by (judged c s v) c s v) ≡ read_messages c s.sets ingress (Some v)
+  says_request_or_nothing d o a = by_test (is_request v)
+      (λ q. by_test (is_numbered c v)
+      (λ y. absurd (true≢false (sym
+      (is_copy-bits (v.sdo == 0) (is_own c v) (is_known v.source c.managers) (is_for_this_clock c v) (names_port (length s.sets.ports) v.target.port) (is_request v) (same_clock v.target.clock every_clock)
+      (and_parts (v.sdo == 0) (v.domain == s.sets.default.domain || is_accepted_repeat c s v) d).0 o y a q) ∙ n)))
+      (λ f. says_read c s ingress v d o a q f))
+      (λ q. says_nothing c s ingress v verdicts.NotARequest (judged-reply c s v d o a q) refl
+      (is_read-reply (v.sdo == 0) (v.domain == s.sets.default.domain) (is_own c v) (is_addressed c s.sets v) (is_request v) (not (is_numbered c v)) q))
 
-says_as_read : (c : Clock) (s : State) (ingress : ℕ) (v : Message)
-    → is_copy c (length s.sets.ports) v ≡ false
-    → reply_messages c ingress (heard_of v) (reply_by (judged c s v) c s v)
-    ≡ read_messages c s.sets ingress (Some v)
-says_as_read c s ingress v n = by_test (is_in_domain c s v)
-    (λ d. by_test (is_own c v)
-    (λ o. says_nothing c s ingress v verdicts.OwnMessage (judged-own c s v d o) refl
-    (is_read-own (v.sdo == 0) (v.domain == s.sets.default.domain) (is_own c v) (is_addressed c s.sets v && (is_request v && not (is_numbered c v))) o))
-    (λ o. by_test (is_addressed c s.sets v)
-    (λ a. says_request_or_nothing c s ingress v n d o a)
-    (λ a. says_nothing c s ingress v verdicts.NotAddressed (judged-away c s v d o a) refl
-    (is_read-away (v.sdo == 0) (v.domain == s.sets.default.domain) (is_own c v) (is_addressed c s.sets v) (is_request v && not (is_numbered c v)) a))))
-    (λ d. says_nothing c s ingress v verdicts.OtherDomain (judged-foreign c s v d) refl
-    (is_read-foreign (v.sdo == 0) (v.domain == s.sets.default.domain) (is_accepted_repeat c s v) (not (is_own c v) && (is_addressed c s.sets v && (is_request v && not (is_numbered c v)))) d))
+  says_as_read : reply_messages c ingress (heard_of v) (reply_by (judged c s v) c s v) ≡ read_messages c s.sets ingress (Some v)
+  says_as_read = by_test (is_in_domain c s v)
+      (λ d. by_test (is_own c v)
+      (λ o. says_nothing c s ingress v verdicts.OwnMessage (judged-own c s v d o) refl
+      (is_read-own (v.sdo == 0) (v.domain == s.sets.default.domain) (is_own c v) (is_addressed c s.sets v && (is_request v && not (is_numbered c v))) o))
+      (λ o. by_test (is_addressed c s.sets v)
+      (λ a. says_request_or_nothing d o a)
+      (λ a. says_nothing c s ingress v verdicts.NotAddressed (judged-away c s v d o a) refl
+      (is_read-away (v.sdo == 0) (v.domain == s.sets.default.domain) (is_own c v) (is_addressed c s.sets v) (is_request v && not (is_numbered c v)) a))))
+      (λ d. says_nothing c s ingress v verdicts.OtherDomain (judged-foreign c s v d) refl
+      (is_read-foreign (v.sdo == 0) (v.domain == s.sets.default.domain) (is_accepted_repeat c s v) (not (is_own c v) && (is_addressed c s.sets v && (is_request v && not (is_numbered c v)))) d))
 
 -- ---- a turn
 

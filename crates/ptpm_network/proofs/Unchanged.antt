@@ -24,31 +24,26 @@ strange-no_copy N w c port datagram (Some copy) n r place i e =
     let of = is_copy_of N w c port (strange_frame c port datagram) copy n r place i e in
     of_nothing of.session of.k of.origin
 
-strange-history : (N : Network) (w : NetworkState) (c port : ℕ) (datagram : List ℕ) (d : ℕ)
-    → IsNetwork N
-    → IsReached N w
-    → c < N.clocks
-    → IsHeard N w datagram Neither
-    → history N (arrives w c (delivery port (strange_frame c port datagram))) d ≡ history N w d
-strange-history N w c port datagram d n r place i =
-    let x : Delivery = delivery port (strange_frame c port datagram) in
-    by_test (d == c)
-    (λ y. subst (λ j. history N (arrives w c x) j ≡ history N w j) (sym (eqb-true d c y))
-    (history-here N w c x ∙ ap (after_arrival (N.clock c) (history N w c)) (strange-no_copy N w c port datagram _ n r place i refl)))
-    (λ o. history-elsewhere N w c x d o)
+module _ (N : Network) (w : NetworkState) (c port : ℕ) (datagram : List ℕ) (d : ℕ) (n : IsNetwork N) (r : IsReached N w) where
+  strange-history : c < N.clocks
+      → IsHeard N w datagram Neither
+      → history N (arrives w c (delivery port (strange_frame c port datagram))) d ≡ history N w d
+  strange-history place i =
+      let x : Delivery = delivery port (strange_frame c port datagram) in
+      by_test (d == c)
+      (λ y. subst (λ j. history N (arrives w c x) j ≡ history N w j) (sym (eqb-true d c y))
+      (history-here N w c x ∙ ap (after_arrival (N.clock c) (history N w c)) (strange-no_copy N w c port datagram _ n r place i refl)))
+      (λ o. history-elsewhere N w c x d o)
 
-strange-happens : (N : Network) (w : NetworkState) (c port : ℕ) (datagram : List ℕ) (d : ℕ)
-    → IsNetwork N
-    → IsReached N w
-    → IsInRange (Stranger c port datagram)
-    → refusal N w (Stranger c port datagram) ≡ None
-    → history N (happens N w (Stranger c port datagram)) d ≡ history N w d
-unfolding refusal happens
-strange-happens N w c port datagram d n r octets none =
-    let p = option_or-none (no_port N c port) _ none in
-    let q = option_or-none (forged N datagram) (no_room w.frames) p.1 in
-    let honest = (first_of-none (is_forged N datagram) Forged [] q.0).0 in
-    strange-history N w c port datagram d n r (port-exists N c port p.0).0 (λ v h. strange-message N datagram v octets honest h)
+  strange-happens : IsInRange (Stranger c port datagram)
+      → refusal N w (Stranger c port datagram) ≡ None
+      → history N (happens N w (Stranger c port datagram)) d ≡ history N w d
+  unfolding refusal happens
+  strange-happens octets none =
+      let p = option_or-none (no_port N c port) _ none in
+      let q = option_or-none (forged N datagram) (no_room w.frames) p.1 in
+      let honest = (first_of-none (is_forged N datagram) Forged [] q.0).0 in
+      strange-history (port-exists N c port p.0).0 (λ v h. strange-message N datagram v octets honest h)
 
 strange-step_by : (N : Network) (w : NetworkState) (c port : ℕ) (datagram : List ℕ) (d : ℕ)
     (o : Option Refusal)

@@ -214,36 +214,27 @@ told N w s i r reached place e =
 
 -- ---- the law
 
-pub report-index : (N : Network) (es : List Event) (s i : ℕ) (r : Report)
-    → IsNetwork N
-    → AllByRecursion IsInRange es
-    → s < N.sessions
-    → slice_get ((run N (initial_state N) es).session s).reports i ≡ Some r
-    → r.index ≡ i + 1
-report-index N es s i r n range place e =
-    let index : r.index ≡ suc i = ap (λ (p : Report). p.index) (told N (run N (initial_state N) es) s i r (reached N es n range) place e).is in
-    omega arith
+module _ (N : Network) (es : List Event) (s i : ℕ) (r : Report) (n : IsNetwork N) (range : AllByRecursion IsInRange es) (place : s < N.sessions) (e : slice_get ((run N (initial_state N) es).session s).reports i ≡ Some r) where
+  pub report-index : r.index ≡ i + 1
+  report-index =
+      let index : r.index ≡ suc i = ap (λ (p : Report). p.index) (told N (run N (initial_state N) es) s i r (reached N es n range) place e).is in
+      omega arith
 
-pub report-worth : (N : Network) (es : List Event) (s i : ℕ) (r : Report)
-    → IsNetwork N
-    → AllByRecursion IsInRange es
-    → s < N.sessions
-    → slice_get ((run N (initial_state N) es).session s).reports i ≡ Some r
-    → IsWorth N (run N (initial_state N) es) s r
-report-worth N es s i r n range place e =
-    let w : NetworkState = run N (initial_state N) es in
-    let is = told N w s i r (reached N es n range) place e in
-    let index : suc i ≡ r.index = sym (ap (λ (p : Report). p.index) is.is) in
-    let kept : kept_reply (manager N s) r.index (accepted_at_target N w s) ≡ Some is.entry = subst (λ k. kept_reply (manager N s) k (accepted_at_target N w s) ≡ Some is.entry) index is.kept in
-    record {
-      entry = is.entry;
-      once = only-entry (manager N s) r.index (accepted_at_target N w s) is.entry (at_most_once N w (N.session s).target) kept;
-      begun_as = subst (λ k. slice_get (w.session s).begun (k - 1) ≡ Some is.entry.request) index is.begun_as;
-      carried_out = carried_out N w (N.session s).target (manager N s) r.index is.entry kept;
-      answer = is.answer;
-      one = is.one;
-      outcome = ap (λ (p : Report). p.outcome) is.is;
-    }
+  pub report-worth : IsWorth N (run N (initial_state N) es) s r
+  report-worth =
+      let w : NetworkState = run N (initial_state N) es in
+      let is = told N w s i r (reached N es n range) place e in
+      let index : suc i ≡ r.index = sym (ap (λ (p : Report). p.index) is.is) in
+      let kept : kept_reply (manager N s) r.index (accepted_at_target N w s) ≡ Some is.entry = subst (λ k. kept_reply (manager N s) k (accepted_at_target N w s) ≡ Some is.entry) index is.kept in
+      record {
+        entry = is.entry;
+        once = only-entry (manager N s) r.index (accepted_at_target N w s) is.entry (at_most_once N w (N.session s).target) kept;
+        begun_as = subst (λ k. slice_get (w.session s).begun (k - 1) ≡ Some is.entry.request) index is.begun_as;
+        carried_out = carried_out N w (N.session s).target (manager N s) r.index is.entry kept;
+        answer = is.answer;
+        one = is.one;
+        outcome = ap (λ (p : Report). p.outcome) is.is;
+      }
 
 pub once : (N : Network) (es : List Event) (c : ℕ) (m : PortIdentity) (k : ℕ)
     → length (entries_of m k (history N (run N (initial_state N) es) c).accepted) ≤ 1
