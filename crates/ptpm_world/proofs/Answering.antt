@@ -1,21 +1,12 @@
 -- What an event did, or why it was refused, and where it led, as its line tells it.
-use Rattle.std.proofs.lemmas.Bool.{ne_eqb, true≢false}
-use Rattle.std.proofs.Common.{◌≡◌, ◌≢◌, ℕ, false, None, Some, Ok, Err, Result, refl, sym, ap, ◌∙◌}
-use Rattle.std.specs.Prelude.{IfErr, IfOk, OnErr, OnOk, Option, option_map}
-use Rattle.ptpm_network.specs.Events.{Event, Refusal}
-use Rattle.ptpm_network.specs.RunningNetwork.{RunningNetwork, network_refusal, network_step}
-use Rattle.ptpm_network.specs.Network.{Network}
-use Rattle.ptpm_world.specs.declared.took.StepError.{StepError}
+use Rattle.ptpm_world.proofs.Common.{ne_eqb, true≢false, ◌≡◌, ◌≢◌, ℕ, false, None, Some, Ok, Err, Result, refl, sym, ap, ◌∙◌, IfErr, IfOk, OnErr, OnOk, Option, option_map, Refusal, RunningNetwork, network_refusal, network_step, Network, StepError, Took, ◌==◌, error_of, took, after, after_by, answer, answer_by, error_text, is_out_of_memory}
+use Rattle.ptpm_network.specs.Events.{Event}
 use Rattle.ptpm_world.specs.declared.took.StepError.TheVariants.{OutOfMemory}
-use Rattle.ptpm_world.specs.declared.took.Took.{Took}
-use Rattle.std.specs.Prelude.{◌==◌}
 use Rattle.std.specs.Int.{to_be_bytes, w16}
 use Rattle.ptpm_codec.specs.declared.error.ErrorId.{ErrorId}
 use Rattle.ptpm_codec.specs.declared.error.ErrorId.TheVariants as errors
 use Rattle.ptpm_codec.specs.Message.{error_name, error_number}
 use Rattle.ptpm_script.specs.OctetText.{text_of_octets}
-use Rattle.ptpm_world.specs.Took.{error_of, took}
-use Rattle.ptpm_world.specs.Trace.{after, after_by, answer, answer_by, error_text, is_out_of_memory}
 
 some_is : (a b : StepError) → Some a ≡ Some b → b ≡ a
 some_is a b h = cc

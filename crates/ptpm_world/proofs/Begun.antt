@@ -1,22 +1,9 @@
 -- What was written of a script's trace by the time that a fault ends it.
-use Rattle.std.proofs.Common.{◌≡◌, ◌≢◌, ℕ, ◌+◌, ◌++◌, ◌⊎◌, inl, inr, true, false, List, [], ◌∷◌, None, Some, Ok, refl, sym, ap, subst, ◌∙◌, append_assoc}
-use Rattle.std.specs.Prelude.{IfErr, IfSome, IsErrAnd, Option, Result}
-use Rattle.std.specs.Io.KnownBytes.{Appends}
-use Rattle.std.specs.Str.Lines.{lines}
-use Rattle.std.proofs.KnownBytes.{Appends-nil, Appends-trans}
-use Rattle.ptpm_network.specs.Network.{Network}
-use Rattle.ptpm_network.specs.RunningNetwork.{RunningNetwork}
+use Rattle.ptpm_world.proofs.Common.{◌≡◌, ◌≢◌, ℕ, ◌+◌, ◌++◌, ◌⊎◌, inl, inr, true, false, List, [], ◌∷◌, None, Some, Ok, refl, sym, ap, subst, ◌∙◌, append_assoc, IfErr, IfSome, IsErrAnd, Option, Result, Appends, lines, Appends-nil, Appends-trans, Network, RunningNetwork, reading, network_of, NetworkValue, described, BothKnown, Names, names_of, placed, Begins, TakesFirst, event_part, events_from, is_skipped, network_text, after, event_line, event_lines}
 use Rattle.ptpm_script.specs.declared.event.Event.{Event}
-use Rattle.ptpm_script.specs.EventLine.{reading}
-use Rattle.ptpm_script.specs.NetworkText.{network_of}
-use Rattle.ptpm_script.specs.NetworkValue.{NetworkValue}
 use Rattle.ptpm_world.specs.declared.script_error.ScriptError.{ScriptError}
 use Rattle.ptpm_world.specs.declared.script_error.ScriptError.TheVariants as faults
-use Rattle.ptpm_world.specs.Described.{described}
-use Rattle.ptpm_world.specs.Lines.{BothKnown}
-use Rattle.ptpm_world.specs.Placed.{Names, names_of, placed}
-use Rattle.ptpm_world.specs.Script.{Begins, TakesFirst, event_part, events_from, is_skipped, network_text, started}
-use Rattle.ptpm_world.specs.Trace.{after, event_line, event_lines}
+use Rattle.ptpm_world.specs.Script.{started}
 use Rattle.ptpm_world.proofs.FaultLemmas.{err-on}
 use Rattle.ptpm_world.proofs.Playing.{skipped, taken}
 

@@ -1,18 +1,6 @@
 -- What becomes of a world of which one session or one clock has changed, and frames were added.
-use Rattle.std.proofs.Common.{◌≡◌, ℕ, List, Some, sym, ◌∙◌, ap, length, length-set}
-use Rattle.std.specs.Prelude.{map, slice_get, slice_set}
-use Rattle.ptpm_agent.specs.Turn.{State}
-use Rattle.ptpm_manager.specs.declared.report.Report.{Report}
-use Rattle.ptpm_manager.specs.Session.{SessionValue}
-use Rattle.ptpm_network.specs.Machine.{with_place}
-use Rattle.ptpm_network.specs.Network.{Network}
-use Rattle.ptpm_network.specs.RunningNetwork.{Held, RunningNetwork}
-use Rattle.ptpm_world.specs.declared.world.World.{World}
-use Rattle.ptpm_world.specs.declared.world.RunningClock.{RunningClock}
-use Rattle.ptpm_world.specs.declared.world.RunningSession.{RunningSession}
-use Rattle.ptpm_world.specs.Frames.{held_in, link_ends}
-use Rattle.ptpm_world.specs.Placed.{Names, names_in}
-use Rattle.ptpm_world.specs.Running.{IsClockOf, IsOf, IsSessionOf, agent_clock, agent_state, reports_of, running, session_of, state_of}
+use Rattle.ptpm_world.proofs.Common.{◌≡◌, ℕ, List, Some, sym, ◌∙◌, ap, length, length-set, map, slice_get, slice_set, State, Report, SessionValue, with_place, Network, Held, RunningNetwork, World, RunningClock, RunningSession, held_in, link_ends, Names, names_in, IsClockOf, IsOf, agent_clock, agent_state, reports_of, running, session_of, state_of}
+use Rattle.ptpm_world.specs.Running.{IsSessionOf}
 use Rattle.ptpm_world.proofs.Places.{each-set, map-set_same, read-kept, read-set}
 
 -- a world is a running network where each part is

@@ -1,29 +1,14 @@
 -- Events at a clock: what the world becomes, and what is answered.
-use Rattle.std.proofs.Common.{◌≡◌, ℕ, ◌<◌, ◌≤◌, ◌&&◌, not, List, ◌++◌, Some, None, Ok, Err, true, false, refl, sym, ◌∙◌, ap, subst, length, nat_lt, nat_le}
-use Rattle.std.proofs.lemmas.Bool.{and_from, and_left, and_right, cond-true, cond-false, le-ltb, lt-ltb}
-use Rattle.std.proofs.lemmas.Option.{slice_get_within}
+use Rattle.ptpm_world.proofs.Common.{◌≡◌, ℕ, ◌<◌, ◌≤◌, ◌&&◌, not, List, ◌++◌, Some, None, Ok, Err, true, false, refl, sym, ◌∙◌, ap, subst, length, nat_lt, nat_le, and_from, and_left, and_right, cond-true, cond-false, le-ltb, lt-ltb, slice_get_within, flat_map, map, slice_get, DataSetsValue, has_port, State, Turned, turn, Deliver, Stranger, NoSuchName, NoSuchFrame, Forged, FramesAtMaximum, frames_limit, frame_at, is_forged, no_port, Held, RunningNetwork, after_turn, held, network_step, reaches, reaches_end, seen, turn_frames, strange_frame, AtPort, Network, origin_by, posted_by, Frame, Origin, Neither, World, RunningClock, held_in, link_ends, IsOf, agent_clock, agent_state, running, state_of, IsStep, took, took_at, took_of}
 use Rattle.std.proofs.Math.Nat.{le_refl}
-use Rattle.std.specs.Prelude.{flat_map, map, slice_get}
-use Rattle.ptpm_data.specs.Members.{DataSetsValue, has_port}
 use Rattle.ptpm_agent.specs.Agent.{IsTurned}
 use Rattle.ptpm_agent.specs.declared.verdict.Verdict.{Verdict}
-use Rattle.ptpm_agent.specs.Turn.{Clock, State, Turned, turn}
-use Rattle.ptpm_network.specs.Events.{Deliver, Stranger, NoSuchName, NoSuchFrame, Forged, FramesAtMaximum, frames_limit, frame_at, is_forged, no_port}
-use Rattle.ptpm_network.specs.RunningNetwork.{Held, RunningNetwork, after_turn, held, network_step, reaches, reaches_end, seen, turn_frames}
-use Rattle.ptpm_network.specs.Machine.{strange_frame}
-use Rattle.ptpm_network.specs.Network.{AtPort, End, Network}
-use Rattle.ptpm_network.specs.Replying.{origin_by, posted_by}
-use Rattle.ptpm_network.specs.State.{Frame, Origin, Neither}
+use Rattle.ptpm_agent.specs.Turn.{Clock}
+use Rattle.ptpm_network.specs.Network.{End}
 use Rattle.ptpm_network.proofs.Posting.{held-turn_frames}
 use Rattle.ptpm_agent.proofs.TurnKeeps.{turn-ports}
 use Rattle.ptpm_world.specs.declared.took.StepError.TheVariants as errors
 use Rattle.ptpm_world.specs.declared.took.Took.TheVariants.{AtClock}
-use Rattle.ptpm_world.specs.declared.world.World.{World}
-use Rattle.ptpm_world.specs.declared.world.RunningClock.{RunningClock}
-use Rattle.ptpm_world.specs.Frames.{held_in, link_ends}
-use Rattle.ptpm_world.specs.Running.{IsOf, agent_clock, agent_state, running, state_of}
-use Rattle.ptpm_world.specs.Stepping.{IsStep}
-use Rattle.ptpm_world.specs.Took.{took, took_at, took_of}
 use Rattle.ptpm_world.proofs.Changing.{ClockChange, clock_change-network, clock_change-running}
 use Rattle.ptpm_world.proofs.Ending.{step_fine, step_refused}
 use Rattle.ptpm_world.proofs.Refusing.{deliver-absent, deliver-fine, deliver-full, stranger-absent, stranger-fine, stranger-forged, stranger-full}

@@ -1,26 +1,16 @@
 -- The network that an accepted file describes is one of the network machine's.
-use Rattle.std.proofs.Common.{suc, zero, arith, ◌≡◌, ◌≢◌, ℕ, ◌<◌, ◌≤◌, ◌==◌, Bool, true, false, ◌&&◌, ◌||◌, List, [], ◌∷◌, Some, refl, sym, ◌∙◌, subst, length, map, if◌then◌else◌, ⊎_elim}
-use Rattle.std.proofs.lemmas.Bool.{and_parts, eqb-true, eq-eqb, or_cases, or_left, or_right}
-use Rattle.std.proofs.lemmas.List.{length-map}
-use Rattle.std.proofs.lemmas.Option.{slice_get_within}
-use Rattle.std.specs.Prelude.{slice_get, slice_index_or}
-use Rattle.std.specs.List.{AllByRecursion, filter}
-use Rattle.ptpm_codec.specs.declared.identity.PortIdentity.{PortIdentity}
-use Rattle.ptpm_codec.specs.Identity.{same_identity}
+use Rattle.ptpm_world.proofs.Common.{suc, zero, arith, ◌≡◌, ◌≢◌, ℕ, ◌<◌, ◌≤◌, ◌==◌, Bool, true, false, ◌&&◌, ◌||◌, List, [], ◌∷◌, Some, refl, sym, ◌∙◌, subst, length, map, if◌then◌else◌, ⊎_elim, and_parts, eqb-true, eq-eqb, or_cases, or_left, or_right, length-map, slice_get_within, slice_get, slice_index_or, AllByRecursion, filter, PortIdentity, same_identity, port_data_set, is_known, identities, HasEnd, IsClock, IsSession, clock_at, configured, described, described_end, no_clock, session_at, with_rights, AreSized, CanStart, IsAccepted, IsEndOf, IsLinkOf, NetworkValue, first_sets}
 use Rattle.ptpm_codec.specs.Message.{PortIdentityFits}
 use Rattle.ptpm_data.specs.RequestLaws.{IsSized}
-use Rattle.ptpm_data.specs.Start.{port_data_set}
-use Rattle.ptpm_table.specs.Entries.{is_known}
-use Rattle.ptpm_table.specs.Managers.{identities}
 use Rattle.ptpm_table.proofs.Identities.{same_identity-true, same_identity-refl}
 use Rattle.ptpm_network.specs.Network as machine
-use Rattle.ptpm_network.specs.Network.{HasEnd, IsClock, IsLink, IsSession}
+use Rattle.ptpm_network.specs.Network.{IsLink}
 use Rattle.ptpm_network.proofs.Lists.{all_get, all_made}
 use Rattle.ptpm_script.specs.declared.network.End.{End}
 use Rattle.ptpm_script.specs.declared.network.End.TheVariants as ends
 use Rattle.ptpm_script.specs.declared.network.NetworkSession.{NetworkSession}
-use Rattle.ptpm_world.specs.Described.{clock_at, configured, described, described_end, no_clock, no_session, session_at, with_rights}
-use Rattle.ptpm_script.specs.NetworkValue.{AreSized, CanStart, IsAccepted, IsEndOf, IsLinkOf, IsSessionOf, NetworkValue, first_sets}
+use Rattle.ptpm_world.specs.Described.{no_session}
+use Rattle.ptpm_script.specs.NetworkValue.{IsSessionOf}
 
 -- ---- what stands at a place
 

@@ -1,15 +1,7 @@
 -- How a step ends: the event happened, was refused, or memory was.
-use Rattle.std.proofs.Common.{◌≡◌, Some, None, Ok, Err, Result, refl, sym, subst, ap, option_map}
-use Rattle.ptpm_network.specs.Events.{Event, Refusal}
-use Rattle.ptpm_network.specs.RunningNetwork.{network_refusal, network_step}
-use Rattle.ptpm_network.specs.Network.{Network}
-use Rattle.ptpm_world.specs.declared.took.StepError.{StepError}
+use Rattle.ptpm_world.proofs.Common.{◌≡◌, Some, None, Ok, Err, Result, refl, sym, subst, ap, option_map, Refusal, network_refusal, network_step, Network, StepError, Took, World, IsOf, running, IsStep, error_of, took}
+use Rattle.ptpm_network.specs.Events.{Event}
 use Rattle.ptpm_world.specs.declared.took.StepError.TheVariants as errors
-use Rattle.ptpm_world.specs.declared.took.Took.{Took}
-use Rattle.ptpm_world.specs.declared.world.World.{World}
-use Rattle.ptpm_world.specs.Running.{IsOf, running}
-use Rattle.ptpm_world.specs.Stepping.{IsStep}
-use Rattle.ptpm_world.specs.Took.{error_of, took}
 
 pub step_fine : (N : Network) (old new : World) (e : Event) (t : Took)
     → running new ≡ network_step N (running old) e

@@ -1,29 +1,14 @@
 -- What holds of every world, by what it keeps of itself.
-use Rattle.std.proofs.Common.{arith, ◌≡◌, ℕ, ◌<◌, ◌≤◌, All, List, Option, Some, None, false, refl, sym, ◌∙◌, ap, drop, length, take}
-use Rattle.std.proofs.lemmas.List.{length-map, length-take}
+use Rattle.ptpm_world.proofs.Common.{arith, ◌≡◌, ℕ, ◌<◌, ◌≤◌, All, List, Option, Some, None, false, refl, sym, ◌∙◌, ap, drop, length, take, length-map, length-take, slice_get_within, is_some, slice_index_or, PortIdentity, is_known, identities, AreOfManagers, HasEnd, Network, ports, Held, RunningClock, World, described_end, IsThere, port_counts, frame_in, IsOf, running, state_of, table_entries}
 use Rattle.std.proofs.lemmas.List.Elements.{All-map}
-use Rattle.std.proofs.lemmas.Option.{slice_get_within}
 use Rattle.std.specs.FinMap.{get}
-use Rattle.std.specs.Prelude.{is_some, slice_index_or}
-use Rattle.ptpm_codec.specs.declared.identity.PortIdentity.{PortIdentity}
 use Rattle.ptpm_table.specs.declared.slot_table.SlotTable.{SlotTable}
 use Rattle.ptpm_table.specs.declared.slot.Slot.{Slot}
-use Rattle.ptpm_table.specs.Entries.{is_known}
-use Rattle.ptpm_table.specs.Managers.{identities}
 use Rattle.ptpm_table.specs.Slots.{configured, entry_in, slot_of}
 use Rattle.ptpm_table.proofs.Slots.{get_used, known_slot}
-use Rattle.ptpm_agent.specs.Laws.{AreOfManagers}
 use Rattle.ptpm_agent.specs.Turn.{Clock}
-use Rattle.ptpm_network.specs.Network.{HasEnd, Network, ports}
-use Rattle.ptpm_network.specs.RunningNetwork.{Held}
 use Rattle.ptpm_script.specs.declared.network.End.{End}
 use Rattle.ptpm_script.specs.declared.network.End.TheVariants as ends
-use Rattle.ptpm_world.specs.declared.world.RunningClock.{RunningClock}
-use Rattle.ptpm_world.specs.declared.world.World.{World}
-use Rattle.ptpm_world.specs.Described.{described_end}
-use Rattle.ptpm_world.specs.Ends.{IsThere, port_counts}
-use Rattle.ptpm_world.specs.Frames.{frame_in}
-use Rattle.ptpm_world.specs.Running.{IsOf, running, state_of, table_entries}
 use Rattle.ptpm_world.proofs.StartingLemmas.{some_at}
 use Rattle.ptpm_world.proofs.WorldLemmas.{made_at}
 

@@ -1,23 +1,11 @@
 -- The first fault of a script, line by line.
-use Rattle.std.proofs.Common.{◌≡◌, ℕ, ◌+◌, ◌<◌, ◌≤◌, ◌++◌, List, [], ◌∷◌, length, length-append, Bool, true, false, None, Some, Ok, Err, refl, sym, ap, subst, ◌∙◌, append_assoc, append-nil, arith}
-use Rattle.std.specs.Prelude.{IfErr, IfOk, IfSome, IsErrAnd, OnOk, OnSome, Option, Result, nat_lt, option_map, zip, ◌==◌, if◌then◌else◌}
-use Rattle.std.specs.List.{onto_first}
-use Rattle.std.specs.Option.{option_or}
-use Rattle.std.specs.Io.KnownBytes.{Consumes, IsAtEnd}
+use Rattle.ptpm_world.proofs.Common.{◌≡◌, ℕ, ◌+◌, ◌<◌, ◌≤◌, ◌++◌, List, [], ◌∷◌, length, length-append, Bool, true, false, None, Some, Ok, Err, refl, sym, ap, subst, ◌∙◌, append_assoc, append-nil, arith, IfErr, IfOk, IfSome, IsErrAnd, OnOk, OnSome, Option, Result, nat_lt, option_map, zip, ◌==◌, if◌then◌else◌, onto_first, option_or, Consumes, IsAtEnd, lines, lines_of_parts, strip_carriage_return, cond-false, cond-true, lt-ltb, reading, network_of, NetworkValue, BothKnown, given, whole_lines, event_part, is_divider, is_skipped, network_text, HasNextFault, ReadsWhole, event_fault, events_fault, file_fault, is_outside, network_fault, next_fault, reading_fault, script_fault, size_fault, text_fault}
 use Rattle.std.specs.Str.{IsUtf8, is_utf8}
-use Rattle.std.specs.Str.Lines.{lines, lines_of_parts, strip_carriage_return}
-use Rattle.std.proofs.lemmas.Bool.{cond-false, cond-true, lt-ltb}
 use Rattle.std.proofs.lemmas.Bool.Decides.{nat_tests}
 use Rattle.std.proofs.lemmas.Str.{IsUtf8-from_is_utf8, is_utf8-from_IsUtf8}
 use Rattle.ptpm_script.specs.declared.event.Event.{Event}
-use Rattle.ptpm_script.specs.EventLine.{reading}
-use Rattle.ptpm_script.specs.NetworkText.{network_of}
-use Rattle.ptpm_script.specs.NetworkValue.{NetworkValue}
 use Rattle.ptpm_world.specs.declared.script_error.ScriptError.{ScriptError}
 use Rattle.ptpm_world.specs.declared.script_error.ScriptError.TheVariants as faults
-use Rattle.ptpm_world.specs.Lines.{BothKnown, given, whole_lines}
-use Rattle.ptpm_world.specs.Script.{event_part, is_divider, is_skipped, network_text}
-use Rattle.ptpm_world.specs.ScriptError.{HasNextFault, ReadsWhole, event_fault, events_fault, file_fault, is_outside, network_fault, next_fault, reading_fault, script_fault, size_fault, text_fault}
 use Rattle.ptpm_world.proofs.LineLemmas.{IsRead, NoFeed, last_line, line_ends, no_feed-more, not_empty, one_part, part_ends, parts, some_part}
 use Rattle.ptpm_world.proofs.ScriptLemmas.{FileRead, kept-network}
 

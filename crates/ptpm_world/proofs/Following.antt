@@ -1,23 +1,9 @@
 -- From where a list of events led, a world goes on as the machine does.
-use Rattle.std.proofs.Common.{◌≡◌, ◌≢◌, Result, Ok, Err, List, [], ◌∷◌, ◌++◌, Option, Some, None, false, refl, sym, ◌∙◌, ap, subst}
-use Rattle.std.proofs.lemmas.Bool.{cond-true, cond-false}
-use Rattle.std.proofs.lemmas.List.{append-nil, append_assoc}
-use Rattle.std.specs.Prelude.{IfErr, OnOk, is_none, option_map}
-use Rattle.ptpm_network.specs.Events.{Event, IsInRange, Refusal, refusal}
-use Rattle.ptpm_network.specs.Headline.{StandsAfter}
-use Rattle.ptpm_network.specs.Machine.{AreInTime, is_late_delivery, run, step, taken}
-use Rattle.ptpm_network.specs.Network.{Network}
-use Rattle.ptpm_network.specs.RunningNetwork.{RunningNetwork}
-use Rattle.ptpm_network.specs.State.{NetworkState, initial_state}
+use Rattle.ptpm_world.proofs.Common.{◌≡◌, ◌≢◌, Result, Ok, Err, List, [], ◌∷◌, ◌++◌, Option, Some, None, false, refl, sym, ◌∙◌, ap, subst, cond-true, cond-false, append-nil, append_assoc, IfErr, OnOk, is_none, option_map, IsInRange, Refusal, refusal, StandsAfter, AreInTime, is_late_delivery, run, step, taken, Network, RunningNetwork, NetworkState, initial_state, StepError, Took, World, running, IsStep, error_of}
+use Rattle.ptpm_network.specs.Events.{Event}
 use Rattle.ptpm_network.proofs.Promise.{stands-network_step, stands-judged}
 use Rattle.ptpm_network.proofs.Taking.{in_time-parts, run-append, taken-append}
-use Rattle.ptpm_world.specs.declared.took.StepError.{StepError}
 use Rattle.ptpm_world.specs.declared.took.StepError.TheVariants as errors
-use Rattle.ptpm_world.specs.declared.took.Took.{Took}
-use Rattle.ptpm_world.specs.declared.world.World.{World}
-use Rattle.ptpm_world.specs.Running.{running}
-use Rattle.ptpm_world.specs.Stepping.{IsStep}
-use Rattle.ptpm_world.specs.Took.{error_of}
 
 -- ---- a step
 

@@ -1,15 +1,7 @@
 -- Whose identity a stranger's datagram has: the clocks and sessions of a world have those of its network.
-use Rattle.std.proofs.Common.{suc, ◌≡◌, ℕ, ◌+◌, ◌&&◌, ◌||◌, List, [], ◌∷◌, Some, None, Bool, true, false, refl, ◌∙◌, ap, length, arith, nat_le, if◌then◌else◌}
-use Rattle.std.specs.Prelude.{slice_get}
-use Rattle.std.specs.List.{list_any, range_with_len}
-use Rattle.ptpm_codec.specs.declared.identity.PortIdentity.{PortIdentity}
-use Rattle.ptpm_codec.specs.Identity.{same_clock, same_identity}
+use Rattle.ptpm_world.proofs.Common.{suc, ◌≡◌, ℕ, ◌+◌, ◌&&◌, ◌||◌, List, [], ◌∷◌, Some, None, Bool, true, false, refl, ◌∙◌, ap, length, arith, nat_le, if◌then◌else◌, slice_get, list_any, range_with_len, PortIdentity, same_clock, same_identity, is_forged, is_taken, Network, manager, World, IsOf}
 use Rattle.ptpm_codec.specs.Layout.{source_port_identity}
 use Rattle.ptpm_agent.specs.Turn.{Clock}
-use Rattle.ptpm_network.specs.Events.{is_forged, is_taken}
-use Rattle.ptpm_network.specs.Network.{Network, manager}
-use Rattle.ptpm_world.specs.declared.world.World.{World}
-use Rattle.ptpm_world.specs.Running.{IsOf}
 
 -- elements are tested as their places are
 any-places : {X : Type 0} (test : X → Bool) (at : ℕ → Bool) (xs : List X) (a : ℕ)

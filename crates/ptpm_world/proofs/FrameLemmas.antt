@@ -1,21 +1,9 @@
 -- Frames in a store of octets, as the machine has them.
-use Rattle.std.proofs.Common.{arith, ◌≡◌, ℕ, ◌+◌, ◌≤◌, ◌<◌, Bool, true, false, cond, not, refl, sym, ◌∙◌, ap, subst, List, [], ◌∷◌, ◌++◌, length, get_or, map, take, drop, Option, Some, None, All}
-use Rattle.std.specs.Prelude.{find, ◌||◌}
-use Rattle.std.specs.List.{filter, list_any}
-use Rattle.std.proofs.lemmas.List.{drop-append-le, drop_at, length-append, length-drop, length-map, map-append, take-append-drop, take-append-le, take_all}
+use Rattle.ptpm_world.proofs.Common.{arith, ◌≡◌, ℕ, ◌+◌, ◌≤◌, ◌<◌, Bool, true, false, cond, not, refl, sym, ◌∙◌, ap, subst, List, [], ◌∷◌, ◌++◌, length, get_or, map, take, drop, Option, Some, None, All, find, ◌||◌, filter, list_any, drop-append-le, drop_at, length-append, length-drop, length-map, map-append, take-append-drop, take-append-le, take_all, count_by-le-length, length-filter, posted, peers, same_end, NetworkLink, Stored, described_end, ends_of, frame_in, link_ends, origin_of, AreLinks, IsOfSession, IsStoredFrame, IsThere, IsShort, IsWithin, at_end, is_same, others}
 use Rattle.std.proofs.lemmas.List.Elements.{All-append, All-filter, All-head, All-map, All-tail, All-weaker, filter-append}
 use Rattle.std.proofs.lemmas.List.Filters.{length-filter_more}
-use Rattle.std.proofs.lemmas.List.Sums.{count_by-le-length, length-filter}
-use Rattle.ptpm_network.specs.RunningNetwork.{posted}
-use Rattle.ptpm_network.specs.Network.{peers, same_end}
 use Rattle.ptpm_network.specs.Network as machine
 use Rattle.ptpm_script.specs.declared.network.End.{End}
-use Rattle.ptpm_script.specs.declared.network.NetworkLink.{NetworkLink}
-use Rattle.ptpm_world.specs.declared.frames.Stored.{Stored}
-use Rattle.ptpm_world.specs.Described.{described_end}
-use Rattle.ptpm_world.specs.Frames.{ends_of, frame_in, link_ends, origin_of}
-use Rattle.ptpm_world.specs.Ends.{AreLinks, IsOfSession, IsStoredFrame, IsThere}
-use Rattle.ptpm_world.specs.Stored.{IsShort, IsWithin, at_end, is_same, others}
 
 -- ---- lists
 

@@ -1,12 +1,5 @@
 -- What holds of every world holds where one session or one clock is another, and frames were added.
-use Rattle.std.proofs.Common.{◌≡◌, ℕ, ◌≤◌, List, Some, sym, subst, length, length-set, All}
-use Rattle.std.specs.Prelude.{slice_get, slice_set}
-use Rattle.ptpm_script.specs.declared.network.NetworkLink.{NetworkLink}
-use Rattle.ptpm_world.specs.declared.frames.Stored.{Stored}
-use Rattle.ptpm_world.specs.declared.world.World.{World}
-use Rattle.ptpm_world.specs.declared.world.RunningClock.{RunningClock}
-use Rattle.ptpm_world.specs.declared.world.RunningSession.{RunningSession}
-use Rattle.ptpm_world.specs.Ends.{AreLinks, IsStoredFrame, port_counts}
+use Rattle.ptpm_world.proofs.Common.{◌≡◌, ℕ, ◌≤◌, List, Some, sym, subst, length, length-set, All, slice_get, slice_set, NetworkLink, Stored, World, RunningClock, RunningSession, AreLinks, IsStoredFrame, port_counts}
 use Rattle.ptpm_world.proofs.Places.{map-set_same}
 
 -- the facts of a world, by its parts

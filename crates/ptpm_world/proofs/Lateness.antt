@@ -1,20 +1,11 @@
 -- A delivery is late by what a running network sees where it is late in the machine, if the one stands where the other is.
-use Rattle.std.proofs.Common.{◌≡◌, ℕ, List, Option, Some, None, refl, ◌∙◌, ap, option_map}
-use Rattle.ptpm_manager.specs.Session.{SessionValue}
-use Rattle.ptpm_codec.specs.declared.identity.PortIdentity.{PortIdentity}
-use Rattle.ptpm_network.specs.Events.{Event, frame_at}
-use Rattle.ptpm_network.specs.Headline.{StandsAfter}
+use Rattle.ptpm_world.proofs.Common.{◌≡◌, ℕ, List, Option, Some, None, refl, ◌∙◌, ap, option_map, SessionValue, PortIdentity, frame_at, StandsAfter, is_late_frame, run, Network, Stands, Held, RunningNetwork, held, Frame, NetworkState, Neither, Origin, ReplyTo, RequestOf, initial_state, is_late, is_late_at, is_late_held, is_late_of}
+use Rattle.ptpm_network.specs.Events.{Event}
 use Rattle.ptpm_network.specs.Invariant.{IsOfOrigin, IsReached}
-use Rattle.ptpm_network.specs.Machine.{is_late_frame, run}
-use Rattle.ptpm_network.specs.Network.{Network}
-use Rattle.ptpm_network.specs.Stands.{Stands}
-use Rattle.ptpm_network.specs.RunningNetwork.{Held, RunningNetwork, held}
-use Rattle.ptpm_network.specs.State.{Frame, NetworkState, Neither, Origin, ReplyTo, RequestOf, initial_state, is_late, is_late_at}
 use Rattle.ptpm_network.proofs.Held.{frame_at-map}
 use Rattle.ptpm_network.proofs.Promise.{first_of_sessions, firsts}
 use Rattle.ptpm_network.proofs.Reaching.{frame_at-is}
 use Rattle.ptpm_network.proofs.Schedule.{reached}
-use Rattle.ptpm_world.specs.Running.{is_late_held, is_late_of}
 
 late-origin : (N : Network) (first : PortIdentity → ℕ) (r : RunningNetwork) (w : NetworkState)
     (octets : List ℕ) (o : Origin)

@@ -1,3 +1,4 @@
+pub mod Common
 pub mod DescribedLaws
 mod FrameLemmas
 pub mod Places

@@ -1,14 +1,8 @@
 -- Lines of octets that come one by one.
-use Rattle.std.proofs.Common.{◌≡◌, ℕ, ◌<◌, ◌≤◌, ◌++◌, List, [], ◌∷◌, length, Bool, true, false, None, Some, refl, sym, ap, ◌∙◌, subst, take, append_assoc, append-nil, rules, arith}
-use Rattle.std.specs.Prelude.{IfNone, IfSome, OnSome, Option, option_map, cond, slice_get, ◌==◌}
-use Rattle.std.specs.List.{onto_first, slice_split}
+use Rattle.ptpm_world.proofs.Common.{◌≡◌, ℕ, ◌<◌, ◌≤◌, ◌++◌, List, [], ◌∷◌, length, Bool, true, false, None, Some, refl, sym, ap, ◌∙◌, subst, take, append_assoc, append-nil, rules, arith, IfNone, IfSome, OnSome, Option, option_map, cond, slice_get, ◌==◌, onto_first, slice_split, Consumes, IsAtEnd, Keeps, same_Some, lines, lines_of_parts, strip_carriage_return, BothKnown, ReadsLine, given}
 use Rattle.std.specs.Io.{StartsWith}
 use Rattle.std.specs.Io.BufRead.{DropsConsumable}
-use Rattle.std.specs.Io.KnownBytes.{Consumes, IsAtEnd, Keeps}
 use Rattle.std.proofs.BufReadLemmas.{Consumes_shown}
-use Rattle.std.proofs.lemmas.Option.{same_Some}
-use Rattle.std.specs.Str.Lines.{lines, lines_of_parts, strip_carriage_return}
-use Rattle.ptpm_world.specs.Lines.{BothKnown, ReadsLine, given}
 
 pub some_there : {X : Type 0} (x : X) → ◌≡◌ {A = Option X} (Some x) None → ⊥
 some_there x h = cc

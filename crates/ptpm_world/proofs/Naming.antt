@@ -1,13 +1,6 @@
 -- Where a name has a place, and a number a frame.
-use Rattle.std.proofs.Common.{suc, zero, arith, ◌≡◌, ◌≢◌, ℕ, ◌+◌, ◌-◌, ◌<◌, ◌≤◌, ◌==◌, true, false, not, if◌then◌else◌, List, [], ◌∷◌, Option, Some, None, refl, sym, ◌∙◌, ap, length, map, ⊎_elim}
-use Rattle.std.specs.Prelude.{Contains, IsSome, bytes_eq, is_some, option_map, slice_get, slice_index_or, ◌↔◌}
-use Rattle.std.proofs.lemmas.Bool.{cases_Bool, cond-true, cond-false, eqb-false, eqb-true, false≢true}
-use Rattle.std.proofs.lemmas.List.{length-map}
+use Rattle.ptpm_world.proofs.Common.{suc, zero, arith, ◌≡◌, ◌≢◌, ℕ, ◌+◌, ◌-◌, ◌<◌, ◌≤◌, ◌==◌, true, false, not, if◌then◌else◌, List, [], ◌∷◌, Option, Some, None, refl, sym, ◌∙◌, ap, length, map, ⊎_elim, Contains, IsSome, bytes_eq, is_some, option_map, slice_get, slice_index_or, ◌↔◌, cases_Bool, cond-true, cond-false, eqb-false, eqb-true, false≢true, length-map, frame_at, Held, RunningNetwork, place_in, is_late_held}
 use Rattle.std.proofs.lemmas.Slice.Eq.{bytes_eq-Decides}
-use Rattle.ptpm_network.specs.Events.{frame_at}
-use Rattle.ptpm_network.specs.RunningNetwork.{Held, RunningNetwork}
-use Rattle.ptpm_world.specs.Placed.{place_in}
-use Rattle.ptpm_world.specs.Running.{is_late_held}
 
 -- ---- names
 

@@ -1,11 +1,8 @@
 -- The network of every text is one of the network machine's, however the text is kept.
+use Rattle.ptpm_world.proofs.Common.{IsNetwork, IsOfText, AreSized, NetworkValue, described}
 use Rattle.std.proofs.Props.{props}
 use mathlib.Core.Logic.{∥∥₁_elim}
-use Rattle.ptpm_network.specs.Network.{IsNetwork}
-use Rattle.ptpm_script.specs.NetworkText.{IsOfText}
-use Rattle.ptpm_script.specs.NetworkValue.{AreSized, NetworkValue}
 use Rattle.ptpm_script.proofs.NetworkFacts.{of_text-accepted}
-use Rattle.ptpm_world.specs.Described.{described}
 use Rattle.ptpm_world.proofs.DescribedLaws.{described-network}
 use Rattle.ptpm_script.proofs.SizeLaw.{sized}
 

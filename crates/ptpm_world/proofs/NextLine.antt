@@ -1,8 +1,5 @@
 -- What `Lines::read` says of a script's next line: where it came, and where there was none.
-use Rattle.std.proofs.Common.{◌≡◌, ℕ, Bool, List, None, ap, subst, sym, ◌∙◌}
-use Rattle.std.specs.Prelude.{Option}
-use Rattle.ptpm_world.specs.Lines.{ReadsLine}
-use Rattle.ptpm_world.specs.ScriptError.{ReadsWhole, text_fault}
+use Rattle.ptpm_world.proofs.Common.{◌≡◌, ℕ, Bool, List, None, ap, subst, sym, ◌∙◌, Option, ReadsLine, ReadsWhole, text_fault}
 
 -- before it this was left, and this is after it; it has this number in all that is read
 pub record NextLine (number : ℕ) (had : Option (List ℕ)) (more : Bool) (line : List ℕ) (has : Option (List ℕ)) : Type 0 where

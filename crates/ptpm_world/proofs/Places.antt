@@ -1,10 +1,5 @@
 -- Lists of which one element is written over, place by place.
-use Rattle.std.proofs.Common.{◌≡◌, ℕ, ◌<◌, ◌==◌, zero, suc, List, [], ◌∷◌, ◌++◌, ◌+◌, get_or, drop, take, Option, Some, true, false, refl, sym, ◌∙◌, ap, subst, ⊎_elim, length}
-use Rattle.std.proofs.lemmas.Bool.{cases_Bool, eqb-true, eqb-false, cond-true, cond-false}
-use Rattle.std.proofs.lemmas.List.{append_assoc, map-append, take-append-drop, take_more}
-use Rattle.std.proofs.lemmas.Option.{same_Some}
-use Rattle.std.specs.Prelude.{map, slice_get, slice_set}
-use Rattle.ptpm_network.specs.Machine.{with_place}
+use Rattle.ptpm_world.proofs.Common.{◌≡◌, ℕ, ◌<◌, ◌==◌, zero, suc, List, [], ◌∷◌, ◌++◌, ◌+◌, get_or, drop, take, Option, Some, true, false, refl, sym, ◌∙◌, ap, subst, ⊎_elim, length, cases_Bool, eqb-true, eqb-false, cond-true, cond-false, append_assoc, map-append, take-append-drop, take_more, same_Some, map, slice_get, slice_set, with_place}
 
 pub get-set_same : {X : Type 0} (xs : List X) (i : ℕ) (x y : X)
     → slice_get xs i ≡ Some x

@@ -1,18 +1,6 @@
 -- A script as far as it is played: what is left of its lines leads on as all of them did.
-use Rattle.std.proofs.Common.{◌≡◌, ℕ, ◌+◌, List, [], ◌∷◌, true, false, None, Some, Ok, sym, ap, subst, ◌∙◌}
-use Rattle.std.proofs.lemmas.Bool.{cond-false, cond-true}
-use Rattle.std.specs.Prelude.{Option, IfSome}
-use Rattle.std.specs.Io.KnownBytes.{Appends}
-use Rattle.std.specs.Str.Lines.{lines}
-use Rattle.std.proofs.KnownBytes.{Appends-nil, Appends-trans}
-use Rattle.ptpm_network.specs.Network.{Network}
-use Rattle.ptpm_network.specs.RunningNetwork.{RunningNetwork}
+use Rattle.ptpm_world.proofs.Common.{◌≡◌, ℕ, ◌+◌, List, [], ◌∷◌, true, false, None, Some, Ok, sym, ap, subst, ◌∙◌, cond-false, cond-true, Option, IfSome, Appends, lines, Appends-nil, Appends-trans, Network, RunningNetwork, reading, BothKnown, ReadsLine, Names, placed, bad_line_from, bad_or, events_from, is_skipped, numbered, after, after_all, event_line, event_lines}
 use Rattle.ptpm_script.specs.declared.event.Event.{Event}
-use Rattle.ptpm_script.specs.EventLine.{reading}
-use Rattle.ptpm_world.specs.Lines.{BothKnown, ReadsLine}
-use Rattle.ptpm_world.specs.Placed.{Names, placed}
-use Rattle.ptpm_world.specs.Script.{bad_line_from, bad_or, events_from, is_skipped, numbered}
-use Rattle.ptpm_world.specs.Trace.{after, after_all, event_line, event_lines}
 
 -- ---- lines
 

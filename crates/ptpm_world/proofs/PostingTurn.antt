@@ -1,11 +1,6 @@
 -- A clock's outbox is sent message by message.
-use Rattle.std.proofs.Common.{◌≡◌, ℕ, ◌+◌, ◌<◌, ◌==◌, List, ◌++◌, sym, ◌∙◌, ap, length, get_or, take, if◌then◌else◌}
-use Rattle.std.proofs.lemmas.List.{flat_map_more}
-use Rattle.std.specs.Prelude.{flat_map, map}
-use Rattle.ptpm_network.specs.RunningNetwork.{Held, posted}
-use Rattle.ptpm_network.specs.Network.{AtPort, End, peers}
-use Rattle.ptpm_network.specs.Replying.{posted_by}
-use Rattle.ptpm_network.specs.State.{Origin}
+use Rattle.ptpm_world.proofs.Common.{◌≡◌, ℕ, ◌+◌, ◌<◌, ◌==◌, List, ◌++◌, sym, ◌∙◌, ap, length, get_or, take, if◌then◌else◌, flat_map_more, flat_map, map, Held, posted, AtPort, peers, posted_by, Origin}
+use Rattle.ptpm_network.specs.Network.{End}
 use Rattle.ptpm_world.proofs.Places.{map_more}
 
 -- what was posted of the messages so far, and the frames of one more

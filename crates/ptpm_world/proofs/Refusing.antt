@@ -1,15 +1,10 @@
 -- Why events are refused, reason by reason.
-use Rattle.std.proofs.Common.{◌≡◌, ℕ, ◌<◌, ◌≤◌, not, List, Option, Some, None, true, false, ◌∙◌, ap, nat_lt, option_map, length}
-use Rattle.std.proofs.lemmas.Bool.{cond-true, cond-false, lt-ltb, le-ltb}
-use Rattle.std.specs.Option.{option_or}
+use Rattle.ptpm_world.proofs.Common.{◌≡◌, ℕ, ◌<◌, ◌≤◌, not, List, Option, Some, None, true, false, ◌∙◌, ap, nat_lt, option_map, length, cond-true, cond-false, lt-ltb, le-ltb, option_or, begin_refusal, is_waiting, send_refusal, Begin, Send, Resume, Retune, Deliver, Stranger, NoSuchName, NoSuchFrame, Forged, FramesAtMaximum, BeginRefused, SendRefused, frame_at, frames_limit, is_forged, no_frame, no_port, no_room, Held, RunningNetwork, network_refusal, Network}
 use Rattle.ptpm_manager.specs.declared.ask.Ask.{Ask}
 use Rattle.ptpm_manager.specs.declared.error.BeginError.{BeginError}
 use Rattle.ptpm_manager.specs.declared.error.SendError.{SendError}
 use Rattle.ptpm_manager.specs.declared.error.SendError.TheVariants as sends
-use Rattle.ptpm_manager.specs.Session.{begin_refusal, is_waiting, send_refusal}
-use Rattle.ptpm_network.specs.Events.{Begin, Send, Resume, Retune, Deliver, Stranger, NoSuchName, NoSuchFrame, Forged, FramesAtMaximum, BeginRefused, SendRefused, frame_at, frames_limit, is_forged, no_frame, no_port, no_room, no_session}
-use Rattle.ptpm_network.specs.RunningNetwork.{Held, RunningNetwork, network_refusal}
-use Rattle.ptpm_network.specs.Network.{Network}
+use Rattle.ptpm_network.specs.Events.{no_session}
 
 -- ---- a single reason
 

@@ -1,18 +1,8 @@
 -- What the reports that a world shows are worth.
-use Rattle.std.proofs.Common.{◌≡◌, ℕ, ◌<◌, ◌+◌, ◌∙◌, List, Some, ap, subst}
-use Rattle.std.specs.Prelude.{slice_get}
-use Rattle.std.proofs.lemmas.Option.{slice_get_within}
-use Rattle.ptpm_manager.specs.declared.report.Report.{Report}
+use Rattle.ptpm_world.proofs.Common.{◌≡◌, ℕ, ◌<◌, ◌+◌, ◌∙◌, List, Some, ap, subst, slice_get, slice_get_within, Report, StandsAfter, run, Network, initial_state, RunningSession, World, IsOf, reports_of, running}
 use Rattle.ptpm_network.specs.Events as machine
-use Rattle.ptpm_network.specs.Headline.{StandsAfter}
-use Rattle.ptpm_network.specs.Machine.{run}
-use Rattle.ptpm_network.specs.Network.{Network}
-use Rattle.ptpm_network.specs.State.{initial_state}
 use Rattle.ptpm_network.specs.Worth.{IsWorth}
 use Rattle.ptpm_network.proofs.Reporting.{index-after, worth-after}
-use Rattle.ptpm_world.specs.declared.world.RunningSession.{RunningSession}
-use Rattle.ptpm_world.specs.declared.world.World.{World}
-use Rattle.ptpm_world.specs.Running.{IsOf, reports_of, running}
 
 -- a report of the session at a place
 pub worth-shown : (N : Network) (past : List machine.Event) (w : World) (s : ℕ) (x : RunningSession)

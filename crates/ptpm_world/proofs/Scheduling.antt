@@ -1,10 +1,6 @@
 -- A list of events, and one more.
-use Rattle.std.proofs.Common.{◌≡◌, List, [], ◌∷◌, ◌++◌, None, is_none, sym, ◌∙◌, ap}
-use Rattle.std.proofs.lemmas.Bool.{cond-true}
+use Rattle.ptpm_world.proofs.Common.{◌≡◌, List, [], ◌∷◌, ◌++◌, None, is_none, sym, ◌∙◌, ap, cond-true, RunningNetwork, network_refusal, network_run, network_step, Network, AllHappen}
 use Rattle.ptpm_network.specs.Events.{Event}
-use Rattle.ptpm_network.specs.RunningNetwork.{RunningNetwork, network_refusal, network_run, network_step}
-use Rattle.ptpm_network.specs.Network.{Network}
-use Rattle.ptpm_world.specs.Stepping.{AllHappen}
 
 network_run-next : (N : Network) (r : RunningNetwork) (e : Event) (es : List Event)
     → network_refusal N r e ≡ None

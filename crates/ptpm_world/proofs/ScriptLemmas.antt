@@ -1,19 +1,7 @@
 -- A whole script: its network file is read, its events are played, and the rest of its trace is written.
-use Rattle.std.proofs.Common.{◌≡◌, ℕ, ◌<◌, ◌≤◌, ◌++◌, ◌⊎◌, inl, inr, true, false, List, [], ◌∷◌, length, None, Some, Ok, Err, refl, sym, ap, subst, ◌∙◌, append_assoc, length-append, append-nil, arith}
-use Rattle.std.specs.Prelude.{Option, IfSome}
-use Rattle.std.proofs.lemmas.Bool.{cases_lt, cond-false, cond-true, lt-ltb}
-use Rattle.std.proofs.KnownBytes.{Appends-trans}
-use Rattle.std.specs.Io.KnownBytes.{Appends, Keeps}
-use Rattle.std.specs.Str.Lines.{lines}
-use Rattle.ptpm_network.specs.RunningNetwork.{RunningNetwork}
+use Rattle.ptpm_world.proofs.Common.{◌≡◌, ℕ, ◌<◌, ◌≤◌, ◌++◌, ◌⊎◌, inl, inr, true, false, List, [], ◌∷◌, length, None, Some, Ok, Err, refl, sym, ap, subst, ◌∙◌, append_assoc, length-append, append-nil, arith, Option, IfSome, cases_lt, cond-false, cond-true, lt-ltb, Appends-trans, Appends, Keeps, lines, RunningNetwork, network_of, NetworkValue, described, BothKnown, ReadsLine, Names, names_of, Prints, StandsFor, bad_line_from, event_part, events_from, is_divider, network_text, after_all, data_lines, event_lines, line_feed, report_lines, trace}
 use Rattle.ptpm_script.specs.declared.net_error.NetError.TheVariants as refusals
-use Rattle.ptpm_script.specs.NetworkText.{network_of}
-use Rattle.ptpm_script.specs.NetworkValue.{NetworkValue}
-use Rattle.ptpm_world.specs.Described.{described}
-use Rattle.ptpm_world.specs.Lines.{BothKnown, ReadsLine}
-use Rattle.ptpm_world.specs.Placed.{Names, names_of}
-use Rattle.ptpm_world.specs.Script.{Prints, StandsFor, bad_line_from, event_part, events_from, is_divider, network_text, started}
-use Rattle.ptpm_world.specs.Trace.{after_all, data_lines, event_lines, line_feed, report_lines, trace}
+use Rattle.ptpm_world.specs.Script.{started}
 
 -- ---- the network file
 

@@ -1,9 +1,6 @@
 -- Events at a session: what the world becomes, and what is answered.
-use Rattle.std.proofs.Common.{◌≡◌, ℕ, ◌<◌, ◌≤◌, List, [], ◌∷◌, ◌++◌, Option, Some, None, Result, Ok, Err, OnOk, OnErr, IfOk, IfErr, IsErrAnd, is_some, not, if◌then◌else◌, true, false, refl, sym, ◌∙◌, ap, subst, option_map, length, nat_lt}
-use Rattle.std.proofs.lemmas.Option.{slice_get_within}
-use Rattle.std.proofs.lemmas.List.{append-nil}
+use Rattle.ptpm_world.proofs.Common.{◌≡◌, ℕ, ◌<◌, ◌≤◌, List, [], ◌∷◌, ◌++◌, Option, Some, None, Result, Ok, Err, OnOk, OnErr, IfOk, IfErr, IsErrAnd, is_some, not, if◌then◌else◌, true, false, refl, sym, ◌∙◌, ap, subst, option_map, length, nat_lt, slice_get_within, append-nil, slice_get, slice_set, Report, SessionValue, begin_refusal, begun, due_message, is_waiting, resumed, retuned, send_refusal, Begin, Send, Resume, Retune, Deliver, NoSuchName, FramesAtMaximum, BeginRefused, SendRefused, frame_at, frames_limit, Held, RunningNetwork, hears, network_step, posted, reaches, reaches_end, sent_posted, AtSession, Network, peers, Origin, RequestOf, StepError, Took, World, RunningSession, held_in, link_ends, IsOf, reports_of, running, session_of, IsStep, begin_error, heard, reports_in, took, took_at, took_of}
 use Rattle.std.proofs.Math.Nat.{le_refl}
-use Rattle.std.specs.Prelude.{slice_get, slice_set}
 use Rattle.ptpm_codec.specs.declared.message.Message.{Message}
 use Rattle.ptpm_codec.specs.Canonical.{canonical}
 use Rattle.ptpm_data.specs.Request.{RequestValue}
@@ -14,25 +11,13 @@ use Rattle.ptpm_manager.specs.declared.error.SendError.{SendError}
 use Rattle.ptpm_manager.specs.declared.error.SendError.TheVariants as sends
 use Rattle.ptpm_manager.specs.declared.receiving.Received.{Received}
 use Rattle.ptpm_manager.specs.declared.receiving.Received.TheVariants as received
-use Rattle.ptpm_manager.specs.declared.report.Report.{Report}
 use Rattle.ptpm_manager.specs.Ask.{request_of}
 use Rattle.ptpm_manager.specs.Receiving.{left_by, received_of}
-use Rattle.ptpm_manager.specs.Session.{SessionValue, begin_refusal, begun, due_message, is_waiting, resumed, retuned, send_refusal, sent}
+use Rattle.ptpm_manager.specs.Session.{sent}
 use Rattle.ptpm_manager.specs.Setup.{request_message}
-use Rattle.ptpm_network.specs.Events.{Begin, Send, Resume, Retune, Deliver, NoSuchName, FramesAtMaximum, BeginRefused, SendRefused, frame_at, frames_limit}
-use Rattle.ptpm_network.specs.RunningNetwork.{Held, RunningNetwork, hears, network_step, posted, reaches, reaches_end, sent_posted}
-use Rattle.ptpm_network.specs.Network.{AtSession, End, Network, peers}
-use Rattle.ptpm_network.specs.State.{Origin, RequestOf}
-use Rattle.ptpm_world.specs.declared.took.StepError.{StepError}
+use Rattle.ptpm_network.specs.Network.{End}
 use Rattle.ptpm_world.specs.declared.took.StepError.TheVariants as errors
-use Rattle.ptpm_world.specs.declared.took.Took.{Took}
 use Rattle.ptpm_world.specs.declared.took.Took.TheVariants.{Fine}
-use Rattle.ptpm_world.specs.declared.world.World.{World}
-use Rattle.ptpm_world.specs.declared.world.RunningSession.{RunningSession}
-use Rattle.ptpm_world.specs.Frames.{held_in, link_ends}
-use Rattle.ptpm_world.specs.Running.{IsOf, reports_of, running, session_of}
-use Rattle.ptpm_world.specs.Stepping.{IsStep}
-use Rattle.ptpm_world.specs.Took.{begin_error, heard, reports_in, took, took_at, took_of}
 use Rattle.ptpm_world.proofs.Changing.{SessionChange, running_by, session_change-network, session_change-none, session_change-quiet, session_change-running}
 use Rattle.ptpm_world.proofs.Refusing.{begin-absent, begin-judged, deliver-fine, resume-absent, resume-idle, resume-waiting, retune-absent, retune-present, send-absent, send-full, send-judged}
 use Rattle.ptpm_world.proofs.Places.{read-kept}

@@ -1,25 +1,10 @@
 -- A world that stands where its network starts is the started network.
-use Rattle.std.proofs.Common.{◌≡◌, ℕ, ◌<◌, ◌≤◌, ◌⊎◌, inl, inr, [], Option, Some, None, length, refl, sym, ap, ◌∙◌, arith}
-use Rattle.std.specs.Prelude.{slice_get}
+use Rattle.ptpm_world.proofs.Common.{◌≡◌, ℕ, ◌<◌, ◌≤◌, ◌⊎◌, inl, inr, [], Option, Some, None, length, refl, sym, ap, ◌∙◌, arith, slice_get, cases_lt, get_or_past, slice_get_past, PortIdentity, identity_cmp, DataSetsValue, Entry, IsKept, StandsAt, initial_clock_state, State, Stands, initial_state, NetworkValue, first_sets, World, clock_at, described, no_clock, IsOf, reports_of, running, session_of, state_of, started_session}
 use Rattle.std.specs.FinMap.{empty, get, get-empty, same_map}
-use Rattle.std.proofs.lemmas.Bool.{cases_lt}
-use Rattle.std.proofs.lemmas.List.{get_or_past}
-use Rattle.std.proofs.lemmas.Option.{slice_get_past}
-use Rattle.ptpm_codec.specs.declared.identity.PortIdentity.{PortIdentity}
-use Rattle.ptpm_codec.specs.Identity.{identity_cmp}
-use Rattle.ptpm_data.specs.Members.{DataSetsValue}
-use Rattle.ptpm_table.specs.Entries.{Entry}
 use Rattle.ptpm_table.proofs.Identities.{exact_identities, identities_total}
-use Rattle.ptpm_agent.specs.Laws.{IsKept, StandsAt, initial_clock_state}
 use Rattle.ptpm_agent.specs.Once.{initial_history}
-use Rattle.ptpm_agent.specs.Turn.{State}
-use Rattle.ptpm_network.specs.Stands.{Stands}
-use Rattle.ptpm_network.specs.State.{initial_state}
-use Rattle.ptpm_script.specs.NetworkValue.{NetworkValue, first_sets}
-use Rattle.ptpm_world.specs.declared.world.World.{World}
-use Rattle.ptpm_world.specs.Described.{clock_at, described, no_clock, no_session}
-use Rattle.ptpm_world.specs.Running.{IsOf, reports_of, running, session_of, state_of}
-use Rattle.ptpm_world.specs.Script.{started, started_session}
+use Rattle.ptpm_world.specs.Described.{no_session}
+use Rattle.ptpm_world.specs.Script.{started}
 use Rattle.ptpm_world.proofs.DescribedLaws.{there}
 
 -- ---- a clock

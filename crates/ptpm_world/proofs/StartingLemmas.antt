@@ -1,48 +1,26 @@
 -- A world as it starts is one of its network, and stands where the machine starts.
-use Rattle.std.proofs.Common.{suc, zero, arith, ◌≡◌, ◌≢◌, ℕ, ◌+◌, ◌<◌, ◌≤◌, ◌==◌, Bool, true, false, if◌then◌else◌, List, [], ◌∷◌, ◌++◌, Option, Some, None, Result, Ok, refl, ap, sym, ◌∙◌, subst, length, map, get_or, set}
-use Rattle.std.specs.Prelude.{slice_get, slice_index_or, All}
-use Rattle.std.specs.List.{AllByRecursion, count_by, filter}
-use Rattle.std.proofs.lemmas.List.{length-map, length_push}
-use Rattle.std.proofs.lemmas.List.Sums.{length-filter}
-use Rattle.std.proofs.lemmas.Option.{slice_get_read}
-use Rattle.ptpm_codec.specs.declared.identity.PortIdentity.{PortIdentity}
+use Rattle.ptpm_world.proofs.Common.{suc, zero, arith, ◌≡◌, ◌≢◌, ℕ, ◌+◌, ◌<◌, ◌≤◌, ◌==◌, Bool, true, false, if◌then◌else◌, List, [], ◌∷◌, ◌++◌, Option, Some, None, Result, Ok, refl, ap, sym, ◌∙◌, subst, length, map, get_or, set, slice_get, slice_index_or, All, AllByRecursion, count_by, filter, length-map, length_push, length-filter, slice_get_read, PortIdentity, every_clock, same_clock, DataSetsValue, port_data_set, start_fault, start_of, unless, is_known, IsFresh, clock_with, has_twice, identities, StandsAt, initial_clock_state, Stands, RunningNetwork, initial_state, history, NetworkLink, AreDistinct, CanStart, ClockValue, IsAccepted, IsEndOf, IsLinkOf, NetworkValue, clock_value, first_sets, link_value, Frames, RunningClock, RunningSession, World, clock_at, configured, described, described_end, described_session, no_clock, session_at, with_rights, AreLinks, IsStoredFrame, IsThere, port_counts, frame_in, held_in, link_ends, Names, names_of, IsOf, agent_state, reports_of, session_of, state_of, table_entries, AreStartedClocks, AreStartedSessions, IsStartedClock, IsStartedSession}
 use Rattle.ptpm_codec.specs.declared.identity.ClockIdentity.{ClockIdentity}
-use Rattle.ptpm_codec.specs.Identity.{every_clock, same_clock}
 use Rattle.ptpm_codec.proofs.IdentityLaws.{same_clock-true}
 use Rattle.ptpm_data.specs.declared.rights.Rights.{Rights}
 use Rattle.ptpm_data.specs.declared.start.ClockStart.{ClockStart}
 use Rattle.ptpm_data.specs.declared.start.PortStart.{PortStart}
-use Rattle.ptpm_data.specs.Members.{DataSetsValue}
-use Rattle.ptpm_data.specs.Start.{port_data_set, start_fault, start_of, started, unless}
+use Rattle.ptpm_data.specs.Start.{started}
 use Rattle.ptpm_table.specs.declared.slot_table.SlotTable.{SlotTable}
-use Rattle.ptpm_table.specs.Entries.{is_known}
-use Rattle.ptpm_table.specs.Managers.{Clock, IsFresh, clock_with, has_twice, identities}
+use Rattle.ptpm_table.specs.Managers.{Clock}
 use Rattle.ptpm_table.specs.Slots as slots
 use Rattle.ptpm_agent.specs.declared.agent.Agent.{Agent}
-use Rattle.ptpm_agent.specs.Laws.{StandsAt, initial_clock_state}
 use Rattle.ptpm_manager.specs.Session as manager
 use Rattle.ptpm_manager.specs.Setup.{AreTwoClocks}
-use Rattle.ptpm_network.specs.Stands.{Stands}
-use Rattle.ptpm_network.specs.RunningNetwork.{RunningNetwork}
-use Rattle.ptpm_network.specs.State.{initial_state, history}
 use Rattle.ptpm_network.proofs.Lists.{all_get}
 use Rattle.ptpm_network.proofs.Standing.{stands-initial_state}
 use Rattle.ptpm_script.specs.declared.network.End.{End}
 use Rattle.ptpm_script.specs.declared.network.End.TheVariants as ends
 use Rattle.ptpm_script.specs.declared.network.NetworkClock.{NetworkClock}
-use Rattle.ptpm_script.specs.declared.network.NetworkLink.{NetworkLink}
 use Rattle.ptpm_script.specs.declared.network.NetworkSession.{NetworkSession}
-use Rattle.ptpm_script.specs.NetworkValue.{AreDistinct, CanStart, ClockValue, IsAccepted, IsEndOf, IsLinkOf, IsSessionOf, NetworkValue, clock_value, first_sets, link_value}
-use Rattle.ptpm_world.specs.declared.frames.Frames.{Frames}
-use Rattle.ptpm_world.specs.declared.world.RunningClock.{RunningClock}
-use Rattle.ptpm_world.specs.declared.world.RunningSession.{RunningSession}
-use Rattle.ptpm_world.specs.declared.world.World.{World}
-use Rattle.ptpm_world.specs.Described.{clock_at, configured, described, described_end, described_session, no_clock, no_session, session_at, with_rights}
-use Rattle.ptpm_world.specs.Ends.{AreLinks, IsLink, IsStoredFrame, IsThere, port_counts}
-use Rattle.ptpm_world.specs.Frames.{frame_in, held_in, link_ends}
-use Rattle.ptpm_world.specs.Placed.{Names, names_of}
-use Rattle.ptpm_world.specs.Running.{IsOf, agent_state, reports_of, session_of, state_of, table_entries}
-use Rattle.ptpm_world.specs.Starting.{AreStartedClocks, AreStartedSessions, IsStartedClock, IsStartedSession}
+use Rattle.ptpm_script.specs.NetworkValue.{IsSessionOf}
+use Rattle.ptpm_world.specs.Described.{no_session}
+use Rattle.ptpm_world.specs.Ends.{IsLink}
 use Rattle.ptpm_world.proofs.DescribedLaws.{at_place, known-place, of_place, there}
 
 -- ---- lists

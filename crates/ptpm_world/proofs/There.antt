@@ -1,22 +1,10 @@
 -- A frame of a world has an end that is there, and belongs to a session that is there.
-use Rattle.std.proofs.Common.{◌≡◌, ℕ, ◌<◌, ◌≤◌, List, Option, Some, None, refl, sym, ◌∙◌, ap, subst, length, option_map, ◌==◌, ◌-◌, Bool, true, false, if◌then◌else◌, All, IsSomeAnd}
-use Rattle.std.proofs.lemmas.Option.{same_Some, slice_get-map, slice_get_within, get_or_from_slice_get}
-use Rattle.std.specs.Prelude.{map, slice_get}
-use Rattle.ptpm_data.specs.Members.{HasPort}
-use Rattle.ptpm_network.specs.Events.{frame_at}
+use Rattle.ptpm_world.proofs.Common.{◌≡◌, ℕ, ◌<◌, ◌≤◌, List, Option, Some, None, refl, sym, ◌∙◌, ap, subst, length, option_map, ◌==◌, ◌-◌, Bool, true, false, if◌then◌else◌, All, IsSomeAnd, same_Some, slice_get-map, slice_get_within, get_or_from_slice_get, map, slice_get, HasPort, frame_at, Held, Frames, Stored, World, RunningClock, described_end, IsOfSession, IsStoredFrame, IsThere, port_counts, frame_in, held_in, origin_of}
 use Rattle.ptpm_network.specs.Network as machine
-use Rattle.ptpm_network.specs.RunningNetwork.{Held}
 use Rattle.ptpm_script.specs.declared.network.End.{End}
 use Rattle.ptpm_script.specs.declared.network.End.TheVariants as ends
-use Rattle.ptpm_world.specs.declared.frames.Frames.{Frames}
 use Rattle.ptpm_world.specs.declared.frames.Origin.{Origin}
 use Rattle.ptpm_world.specs.declared.frames.Origin.TheVariants as origins
-use Rattle.ptpm_world.specs.declared.frames.Stored.{Stored}
-use Rattle.ptpm_world.specs.declared.world.World.{World}
-use Rattle.ptpm_world.specs.declared.world.RunningClock.{RunningClock}
-use Rattle.ptpm_world.specs.Described.{described_end}
-use Rattle.ptpm_world.specs.Ends.{IsOfSession, IsStoredFrame, IsThere, port_counts}
-use Rattle.ptpm_world.specs.Frames.{frame_in, held_in, origin_of}
 
 -- what is stored as a held frame
 pub record IsStoredAs (counts : List ℕ) (sessions : ℕ) (h : Held) : Type 0 where

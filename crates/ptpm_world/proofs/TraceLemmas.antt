@@ -1,16 +1,5 @@
 -- Lines that are written one after another.
-use Rattle.std.proofs.Common.{◌≡◌, ℕ, zero, suc, ◌+◌, ◌-◌, ◌<◌, ◌≤◌, ◌++◌, List, [], ◌∷◌, length, take, get_or, Some, refl, sym, ap, subst, ◌∙◌, add-one, arith, map}
-use Rattle.std.specs.Prelude.{Option, flat_map, slice_get}
-use Rattle.std.specs.List.{enumerate_from, range_with_len}
-use Rattle.std.specs.Io.KnownBytes.{Appends}
-use Rattle.std.proofs.KnownBytes.{Appends-trans}
-use Rattle.std.proofs.lemmas.List.{flat_map_more, take_more}
-use Rattle.ptpm_world.specs.declared.world.RunningClock.{RunningClock}
-use Rattle.ptpm_world.specs.declared.world.RunningSession.{RunningSession}
-use Rattle.ptpm_world.specs.declared.world.World.{World}
-use Rattle.ptpm_world.specs.Placed.{names_in}
-use Rattle.ptpm_world.specs.Running.{reports_of, running, state_of}
-use Rattle.ptpm_world.specs.Trace.{clock_lines, data_lines, report_lines, session_lines}
+use Rattle.ptpm_world.proofs.Common.{◌≡◌, ℕ, zero, suc, ◌+◌, ◌-◌, ◌<◌, ◌≤◌, ◌++◌, List, [], ◌∷◌, length, take, get_or, Some, refl, sym, ap, subst, ◌∙◌, add-one, arith, map, Option, flat_map, slice_get, enumerate_from, range_with_len, Appends, Appends-trans, flat_map_more, take_more, RunningClock, RunningSession, World, names_in, reports_of, running, state_of, clock_lines, data_lines, report_lines, session_lines}
 
 -- ---- one piece more
 

@@ -1,22 +1,10 @@
 -- What is found in a world by its name, and what its frames belong to.
-use Rattle.std.proofs.Common.{suc, zero, arith, ◌≡◌, ℕ, ◌+◌, ◌-◌, ◌<◌, ◌≤◌, ◌==◌, Bool, true, false, not, if◌then◌else◌, nat_lt, List, [], ◌∷◌, Option, Some, None, refl, ap, sym, ◌∙◌, subst, length, map, ⊎_elim}
-use Rattle.std.specs.Prelude.{All, IfNone, IfSome, bytes_eq, find, position, slice_get}
-use Rattle.std.specs.List.{position_or_len, prefix_len}
-use Rattle.std.proofs.lemmas.Bool.{cases_Bool, cond-true, cond-false}
+use Rattle.ptpm_world.proofs.Common.{suc, zero, arith, ◌≡◌, ℕ, ◌+◌, ◌-◌, ◌<◌, ◌≤◌, ◌==◌, Bool, true, false, not, if◌then◌else◌, nat_lt, List, [], ◌∷◌, Option, Some, None, refl, ap, sym, ◌∙◌, subst, length, map, ⊎_elim, All, IfNone, IfSome, bytes_eq, find, position, slice_get, position_or_len, prefix_len, cases_Bool, cond-true, cond-false, prefix_len-le-length, get_or_from_slice_get, same_Some, slice_get_past, slice_get_within, count_limit, frame_at, Held, Frames, IsOfSession, IsStoredFrame, frame_in, held_in, origin_of, place_in}
 use Rattle.std.proofs.lemmas.Bool.Decides.{nat_tests}
 use Rattle.std.proofs.lemmas.List.Folds.{find_at}
-use Rattle.std.proofs.lemmas.List.Sums.{prefix_len-le-length}
-use Rattle.std.proofs.lemmas.Option.{get_or_from_slice_get, same_Some, slice_get_past, slice_get_within}
-use Rattle.ptpm_manager.specs.Session.{count_limit}
-use Rattle.ptpm_network.specs.Events.{frame_at}
-use Rattle.ptpm_network.specs.RunningNetwork.{Held}
 use Rattle.ptpm_network.specs.State as state
-use Rattle.ptpm_world.specs.declared.frames.Frames.{Frames}
 use Rattle.ptpm_world.specs.declared.frames.Origin.{Origin}
 use Rattle.ptpm_world.specs.declared.frames.Origin.TheVariants as origins
-use Rattle.ptpm_world.specs.Ends.{IsOfSession, IsStoredFrame}
-use Rattle.ptpm_world.specs.Frames.{frame_in, held_in, origin_of}
-use Rattle.ptpm_world.specs.Placed.{place_in}
 
 -- ---- by names
 

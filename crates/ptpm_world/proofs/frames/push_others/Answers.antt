@@ -1,9 +1,7 @@
-use Rattle.std.proofs.Common.{arith, ◌≡◌, ◌<◌, Bool, true, not, ap, get_or, length}
+use Rattle.ptpm_world.proofs.Common.{arith, ◌≡◌, ◌<◌, Bool, true, not, ap, get_or, length, length-append, length-map, is_same}
 use Rattle.std.proofs.lemmas.Grind.{common_steps}
-use Rattle.std.proofs.lemmas.List.{length-append, length-map}
 use Rattle.ptpm_script.specs.declared.network.End.{End}
 use Rattle.ptpm_script.specs.declared.network.End.TheVariants as ends
-use Rattle.ptpm_world.specs.Stored.{is_same}
 use Rattle.ptpm_world.proofs.FrameLemmas.{filter_room}
 use Rattle.ptpm_world.proofs.frames.push_others.Goals as goal
 

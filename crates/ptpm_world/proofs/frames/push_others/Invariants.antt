@@ -1,6 +1,4 @@
-use Rattle.std.proofs.Common.{◌≡◌, ◌++◌, map, take}
-use Rattle.std.specs.Prelude.{vec_capacity}
-use Rattle.ptpm_world.specs.Stored.{at_end, others}
+use Rattle.ptpm_world.proofs.Common.{◌≡◌, ◌++◌, map, take, vec_capacity, at_end, others}
 use Rattle.ptpm_world.proofs.frames.push_others.Given as goal
 
 -- the frame was stored for each other end so far, where there was room

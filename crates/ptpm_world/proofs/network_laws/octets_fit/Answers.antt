@@ -1,4 +1,4 @@
-use Rattle.std.proofs.Common.{arith}
+use Rattle.ptpm_world.proofs.Common.{arith}
 use Rattle.ptpm_world.proofs.network_laws.octets_fit.Goals as goal
 
 pub returns : goal.returns

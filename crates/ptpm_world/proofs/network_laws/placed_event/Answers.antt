@@ -1,8 +1,6 @@
-use Rattle.std.proofs.Common.{ℕ, ◌<◌, sym, subst}
+use Rattle.ptpm_world.proofs.Common.{ℕ, ◌<◌, sym, subst, IsInRange, placed}
 use Rattle.ptpm_codec.specs.Layout.{octet}
-use Rattle.ptpm_network.specs.Events.{IsInRange}
 use Rattle.ptpm_script.specs.declared.event.Event.{Event}
-use Rattle.ptpm_world.specs.Placed.{placed}
 use Rattle.ptpm_world.proofs.network_laws.placed_event.Goals as goal
 
 pub returns-in-Begin : goal.returns-in-Begin

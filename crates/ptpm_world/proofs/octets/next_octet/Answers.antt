@@ -1,7 +1,5 @@
-use Rattle.std.proofs.Common.{◌≡◌, [], None, Some, subst, sym, ◌∙◌}
-use Rattle.std.specs.Prelude.{slice_get}
+use Rattle.ptpm_world.proofs.Common.{◌≡◌, [], None, Some, subst, sym, ◌∙◌, slice_get, Consumes-kept, Consumes-nil}
 use Rattle.std.specs.Io.BufRead.{FillKeeps}
-use Rattle.std.proofs.KnownBytes.{Consumes-kept, Consumes-nil}
 use Rattle.ptpm_world.proofs.LineLemmas.{octet-none, octet-some}
 use Rattle.ptpm_world.proofs.octets.next_octet.Goals as goal
 

@@ -1,5 +1,4 @@
-use Rattle.std.proofs.Common.{ap}
-use Rattle.ptpm_world.specs.Script.{begins_comment}
+use Rattle.ptpm_world.proofs.Common.{ap, begins_comment}
 use Rattle.ptpm_world.proofs.script.is_skipped.Goals as goal
 
 pub returns-in-Some : goal.returns-in-Some

@@ -1,10 +1,6 @@
-use Rattle.std.proofs.Common.{◌≡◌, Ok, Result, ap, sym, ◌∙◌}
+use Rattle.ptpm_world.proofs.Common.{◌≡◌, Ok, Result, ap, sym, ◌∙◌, NetworkValue, described, names_of, event_part, events_from, trace}
 use Rattle.ptpm_script.specs.declared.net_error.NetError.{NetError}
-use Rattle.ptpm_script.specs.NetworkValue.{NetworkValue}
-use Rattle.ptpm_world.specs.Described.{described}
-use Rattle.ptpm_world.specs.Placed.{names_of}
-use Rattle.ptpm_world.specs.Script.{event_part, events_from, started}
-use Rattle.ptpm_world.specs.Trace.{trace}
+use Rattle.ptpm_world.specs.Script.{started}
 use Rattle.ptpm_world.proofs.script.one_trace.Goals as goal
 
 one_network : (m n : NetworkValue) → ◌≡◌ {A = Result NetworkValue NetError} (Ok m) (Ok n) → m ≡ n

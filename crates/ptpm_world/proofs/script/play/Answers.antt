@@ -1,13 +1,4 @@
-use Rattle.std.proofs.Common.{◌≡◌, ◌+◌, arith, refl, rules, true, false, None, Ok, ap, subst, sym, ◌∙◌}
-use Rattle.std.specs.Io.KnownBytes.{Appends}
-use Rattle.ptpm_network.specs.Network.{Network}
-use Rattle.ptpm_script.specs.EventLine.{reading}
-use Rattle.ptpm_world.specs.Lines.{left_in}
-use Rattle.ptpm_world.specs.Placed.{names_in, placed}
-use Rattle.ptpm_world.specs.Running.{IsOf, running}
-use Rattle.ptpm_world.specs.ScriptError.{is_outside, reading_fault, text_fault}
-use Rattle.ptpm_world.specs.Script.{bad_line_from, events_from, is_skipped}
-use Rattle.ptpm_world.specs.Trace.{after, after_all, event_line, event_lines}
+use Rattle.ptpm_world.proofs.Common.{◌≡◌, ◌+◌, arith, refl, rules, true, false, None, Ok, ap, subst, sym, ◌∙◌, Appends, Network, reading, left_in, names_in, placed, IsOf, running, is_outside, reading_fault, text_fault, bad_line_from, events_from, is_skipped, after, after_all, event_line, event_lines}
 use Rattle.ptpm_world.proofs.Begun.{Begun, begun-err, begun-first, begun-skip, begun-take}
 use Rattle.ptpm_world.proofs.FaultLemmas.{EventsFault, err-on, event-bad, event-read, event-skip, events-bad, events-end, events-first, events-more, events-size, events-text, outside}
 use Rattle.ptpm_world.proofs.NextLine.{NextLine, next_line, next_text}

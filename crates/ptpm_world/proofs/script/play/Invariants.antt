@@ -1,9 +1,4 @@
-use Rattle.std.proofs.Common.{◌≡◌, ◌≤◌, ◌+◌, ◌-◌}
-use Rattle.std.specs.Str.Lines.{lines}
-use Rattle.ptpm_network.specs.Network.{Network}
-use Rattle.ptpm_world.specs.Lines.{BothKnown, left_in}
-use Rattle.ptpm_world.specs.Placed.{names_in}
-use Rattle.ptpm_world.specs.Running.{IsOf, running}
+use Rattle.ptpm_world.proofs.Common.{◌≡◌, ◌≤◌, ◌+◌, ◌-◌, lines, Network, BothKnown, left_in, names_in, IsOf, running}
 use Rattle.ptpm_world.proofs.Begun.{Begun}
 use Rattle.ptpm_world.proofs.FaultLemmas.{EventsGo}
 use Rattle.ptpm_world.proofs.Playing.{GoesOn, LeadsOn, SameBad}

@@ -1,11 +1,4 @@
-use Rattle.std.proofs.Common.{◌≡◌, ◌+◌, false, None, Some, Ok, ap, sym, ◌∙◌}
-use Rattle.std.specs.Prelude.{IfSome, string_bytes}
-use Rattle.std.specs.Str.Lines.{lines}
-use Rattle.ptpm_script.specs.NetworkText.{network_of}
-use Rattle.ptpm_script.specs.NetworkView.{network_value}
-use Rattle.ptpm_world.specs.Lines.{BothKnown, left_in, whole_lines}
-use Rattle.ptpm_world.specs.Script.{event_part, network_text}
-use Rattle.ptpm_world.specs.ScriptError.{events_fault, file_fault, is_outside, network_fault}
+use Rattle.ptpm_world.proofs.Common.{◌≡◌, ◌+◌, false, None, Some, Ok, ap, sym, ◌∙◌, IfSome, string_bytes, lines, network_of, network_value, BothKnown, left_in, whole_lines, event_part, network_text, events_fault, file_fault, is_outside, network_fault}
 use Rattle.ptpm_world.proofs.FaultLemmas.{at-ok, err-on, on-err, on-ok, network-bad, network-fault, network-file, network-none}
 use Rattle.ptpm_world.proofs.ScriptLemmas.{file-network}
 use Rattle.ptpm_world.proofs.script.read_network.Goals as goal

@@ -1,10 +1,5 @@
-use Rattle.std.proofs.Common.{◌≡◌, ◌+◌, ◌++◌, true, false, None, Ok, refl, ap, sym, ◌∙◌, rules}
-use Rattle.std.specs.Prelude.{string_bytes}
-use Rattle.ptpm_world.specs.Lines.{left_in}
-use Rattle.ptpm_world.specs.Script.{is_divider}
-use Rattle.ptpm_world.specs.ScriptError.{is_outside, text_fault}
+use Rattle.ptpm_world.proofs.Common.{◌≡◌, ◌+◌, ◌++◌, true, false, None, Ok, refl, ap, sym, ◌∙◌, rules, string_bytes, left_in, is_divider, is_outside, text_fault, line_feed}
 use Rattle.ptpm_world.specs.declared.script_error.ScriptError.TheVariants as faults
-use Rattle.ptpm_world.specs.Trace.{line_feed}
 use Rattle.ptpm_world.proofs.FaultLemmas.{FileFault, err-on, file-divider, file-end, file-first, file-more, file-size, file-text, outside}
 use Rattle.ptpm_world.proofs.NextLine.{NextLine, next_line, next_text}
 use Rattle.ptpm_world.proofs.ScriptLemmas.{kept-first, kept-on, read-divider, read-whole}

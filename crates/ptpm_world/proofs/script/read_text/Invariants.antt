@@ -1,6 +1,4 @@
-use Rattle.std.proofs.Common.{◌+◌, ◌-◌}
-use Rattle.std.specs.Prelude.{string_bytes}
-use Rattle.ptpm_world.specs.Lines.{left_in}
+use Rattle.ptpm_world.proofs.Common.{◌+◌, ◌-◌, string_bytes, left_in}
 use Rattle.ptpm_world.proofs.FaultLemmas.{FileGoes}
 use Rattle.ptpm_world.proofs.ScriptLemmas.{Kept}
 use Rattle.ptpm_world.proofs.script.read_text.Given as goal

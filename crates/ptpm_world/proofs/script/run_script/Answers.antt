@@ -1,14 +1,5 @@
-use Rattle.std.proofs.Common.{◌≡◌, ◌+◌, false, Some, refl, subst}
-use Rattle.std.specs.Prelude.{IfSome}
-use Rattle.ptpm_script.specs.NetworkView.{network_value}
-use Rattle.ptpm_world.specs.Described.{described}
-use Rattle.ptpm_world.specs.Lines.{left_in}
-use Rattle.ptpm_world.specs.Placed.{names_in}
-use Rattle.ptpm_world.specs.Running.{running}
-use Rattle.ptpm_world.specs.Trace.{data_lines, report_lines}
-use Rattle.std.specs.Io.KnownBytes.{Appends}
+use Rattle.ptpm_world.proofs.Common.{◌≡◌, ◌+◌, false, Some, refl, subst, IfSome, network_value, described, left_in, names_in, running, data_lines, report_lines, Appends, is_outside, script_fault}
 use Rattle.ptpm_world.specs.declared.script_error.ScriptError.TheVariants as faults
-use Rattle.ptpm_world.specs.ScriptError.{is_outside, script_fault}
 use Rattle.ptpm_world.proofs.Begun.{begins-err, begins-nothing, begins-script}
 use Rattle.ptpm_world.proofs.FaultLemmas.{err-on, network-read, script-events, script-file, script-none, script-outside}
 use Rattle.ptpm_world.proofs.ScriptLemmas.{script-prints}

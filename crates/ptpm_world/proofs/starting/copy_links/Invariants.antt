@@ -1,5 +1,4 @@
-use Rattle.std.proofs.Common.{◌≡◌, map, take}
-use Rattle.ptpm_script.specs.NetworkValue.{link_value}
+use Rattle.ptpm_world.proofs.Common.{◌≡◌, map, take, link_value}
 use Rattle.ptpm_world.proofs.starting.copy_links.Given as goal
 
 abbrev pub invariant-loop-link : goal.invariant-loop-link

@@ -1,4 +1,4 @@
-use Rattle.std.proofs.Common.{ap, ◌∙◌}
+use Rattle.ptpm_world.proofs.Common.{ap, ◌∙◌}
 use Rattle.ptpm_data.specs.Start.{started}
 use Rattle.ptpm_world.proofs.StartingLemmas.{sets_start}
 use Rattle.ptpm_world.proofs.starting.data_sets.Goals as goal

@@ -1,5 +1,4 @@
-use Rattle.std.proofs.Common.{◌≡◌, take}
-use Rattle.ptpm_world.specs.Described.{configured}
+use Rattle.ptpm_world.proofs.Common.{◌≡◌, take, configured}
 use Rattle.ptpm_world.proofs.starting.managers_of.Given as goal
 
 abbrev pub invariant-loop-session : goal.invariant-loop-session

@@ -1,11 +1,6 @@
-use Rattle.std.proofs.Common.{ap, arith, refl, rules, sym, subst, ◌≡◌, ◌≤◌, false, length, ◌∙◌}
-use Rattle.ptpm_table.specs.Managers.{Clock, has_twice, identities}
-use Rattle.ptpm_script.specs.NetworkValue.{clock_value}
-use Rattle.ptpm_script.specs.NetworkView.{network_value}
+use Rattle.ptpm_world.proofs.Common.{ap, arith, refl, rules, sym, subst, ◌≡◌, ◌≤◌, false, length, ◌∙◌, has_twice, identities, clock_value, network_value, RunningClock, configured, agent_clock}
+use Rattle.ptpm_table.specs.Managers.{Clock}
 use Rattle.ptpm_script.proofs.NetworkFacts.{of_text-accepted}
-use Rattle.ptpm_world.specs.declared.world.RunningClock.{RunningClock}
-use Rattle.ptpm_world.specs.Described.{configured}
-use Rattle.ptpm_world.specs.Running.{agent_clock}
 use Rattle.ptpm_world.proofs.StartingLemmas.{changed_last, clock_is, few_managers, get_map, is_last, none_twice, pushed_on, read_at, started_clock, starts_at}
 use Rattle.ptpm_world.proofs.starting.start_clock.Goals as goal
 

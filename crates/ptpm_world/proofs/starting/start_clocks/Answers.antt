@@ -1,5 +1,4 @@
-use Rattle.ptpm_script.specs.NetworkView.{network_value}
-use Rattle.ptpm_world.specs.Starting.{IsStartedClock}
+use Rattle.ptpm_world.proofs.Common.{network_value, IsStartedClock}
 use Rattle.ptpm_world.proofs.StartingLemmas.{grown}
 use Rattle.ptpm_world.proofs.starting.start_clocks.Goals as goal
 

@@ -1,7 +1,4 @@
-use Rattle.std.proofs.Common.{ap, ◌∙◌, refl, length, arith}
-use Rattle.ptpm_manager.specs.Session.{fresh}
-use Rattle.ptpm_script.specs.NetworkValue.{clock_value}
-use Rattle.ptpm_script.specs.NetworkView.{network_value}
+use Rattle.ptpm_world.proofs.Common.{ap, ◌∙◌, refl, length, arith, fresh, clock_value, network_value}
 use Rattle.ptpm_script.proofs.NetworkFacts.{of_text-accepted}
 use Rattle.ptpm_world.proofs.StartingLemmas.{clock_is, get_map, read_at, session_at_clock, session_is, started_session, starts_at, target_below, two_clocks}
 use Rattle.ptpm_world.proofs.starting.start_session.Goals as goal

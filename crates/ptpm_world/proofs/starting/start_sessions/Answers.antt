@@ -1,8 +1,4 @@
-use Rattle.std.proofs.Common.{ap, sym, ◌∙◌}
-use Rattle.std.specs.Prelude.{is_ok}
-use Rattle.std.proofs.lemmas.Bool.{cond-true}
-use Rattle.ptpm_script.specs.NetworkView.{network_value}
-use Rattle.ptpm_world.specs.Starting.{IsStartedSession}
+use Rattle.ptpm_world.proofs.Common.{ap, sym, ◌∙◌, is_ok, cond-true, network_value, IsStartedSession}
 use Rattle.ptpm_world.proofs.StartingLemmas.{grown}
 use Rattle.ptpm_world.proofs.starting.start_sessions.Goals as goal
 

@@ -1,7 +1,4 @@
-use Rattle.std.proofs.Common.{◌≡◌, ℕ, ◌+◌, ◌-◌, ◌<◌, ◌==◌, arith, ap, length, subst, sym, ◌∙◌, if◌then◌else◌}
-use Rattle.std.proofs.lemmas.Bool.{cond-false, cond-true, eq-eqb, ne_eqb}
-use Rattle.ptpm_world.specs.Ends.{IsOfSession}
-use Rattle.ptpm_world.specs.Frames.{HasRoom, held_in, link_ends, origin_of}
+use Rattle.ptpm_world.proofs.Common.{◌≡◌, ℕ, ◌+◌, ◌-◌, ◌<◌, ◌==◌, arith, ap, length, subst, sym, ◌∙◌, if◌then◌else◌, cond-false, cond-true, eq-eqb, ne_eqb, IsOfSession, HasRoom, held_in, link_ends, origin_of}
 use Rattle.ptpm_world.proofs.PostingTurn.{posted-more}
 use Rattle.ptpm_world.proofs.stepping.post_turn.Goals as goal
 use Rattle.ptpm_world.proofs.stepping.post_turn.Goals.{else-port-ingress, then-port-ingress}

@@ -1,9 +1,5 @@
-use Rattle.std.proofs.Common.{◌≡◌, ℕ, ◌-◌, ◌++◌, All, List, take}
-use Rattle.std.specs.Prelude.{flat_map}
-use Rattle.ptpm_network.specs.Replying.{posted_by}
+use Rattle.ptpm_world.proofs.Common.{◌≡◌, ℕ, ◌-◌, ◌++◌, All, List, take, flat_map, posted_by, AreLinks, IsOfSession, IsStoredFrame, HasRoom, held_in, link_ends, origin_of}
 use Rattle.ptpm_table.specs.Outbox.{sent}
-use Rattle.ptpm_world.specs.Ends.{AreLinks, IsOfSession, IsStoredFrame}
-use Rattle.ptpm_world.specs.Frames.{HasRoom, held_in, link_ends, origin_of}
 use Rattle.ptpm_world.proofs.stepping.post_turn.Given as goal
 
 -- the messages so far were posted, and there is room for the others

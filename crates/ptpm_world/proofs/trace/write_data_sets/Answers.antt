@@ -1,10 +1,4 @@
-use Rattle.std.proofs.Common.{arith, subst, length, get_or, ap, ◌∙◌}
-use Rattle.std.specs.Prelude.{flat_map}
-use Rattle.std.specs.Io.KnownBytes.{Appends}
-use Rattle.std.proofs.KnownBytes.{Appends-nil}
-use Rattle.std.proofs.lemmas.List.{take_all}
-use Rattle.ptpm_world.specs.declared.world.RunningClock.{RunningClock}
-use Rattle.ptpm_world.specs.Trace.{clock_lines}
+use Rattle.ptpm_world.proofs.Common.{arith, subst, length, get_or, ap, ◌∙◌, flat_map, Appends, Appends-nil, take_all, RunningClock, clock_lines}
 use Rattle.ptpm_world.proofs.TraceLemmas.{data-written, written-more}
 use Rattle.ptpm_world.proofs.trace.write_data_sets.Goals as goal
 

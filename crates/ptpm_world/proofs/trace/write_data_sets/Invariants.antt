@@ -1,8 +1,4 @@
-use Rattle.std.proofs.Common.{take}
-use Rattle.std.specs.Prelude.{flat_map}
-use Rattle.std.specs.Io.KnownBytes.{Appends}
-use Rattle.ptpm_world.specs.declared.world.RunningClock.{RunningClock}
-use Rattle.ptpm_world.specs.Trace.{clock_lines}
+use Rattle.ptpm_world.proofs.Common.{take, flat_map, Appends, RunningClock, clock_lines}
 use Rattle.ptpm_world.proofs.trace.write_data_sets.Given as goal
 
 -- the clocks so far are written

@@ -1,12 +1,5 @@
-use Rattle.std.proofs.Common.{◌≡◌, ◌≢◌, true, refl, ap, length, subst, sym, ◌∙◌}
-use Rattle.std.specs.Io.KnownBytes.{Appends}
-use Rattle.ptpm_network.specs.RunningNetwork.{RunningNetwork}
-use Rattle.ptpm_script.specs.EventLine.{verb_of}
-use Rattle.ptpm_world.specs.Placed.{names_in, placed}
-use Rattle.ptpm_world.specs.Running.{running}
-use Rattle.ptpm_world.specs.Trace.{event_line, event_text}
+use Rattle.ptpm_world.proofs.Common.{◌≡◌, ◌≢◌, true, refl, ap, length, subst, sym, ◌∙◌, Appends, RunningNetwork, verb_of, names_in, placed, running, event_line, event_text, is_outside}
 use Rattle.ptpm_world.specs.declared.script_error.ScriptError.TheVariants as faults
-use Rattle.ptpm_world.specs.ScriptError.{is_outside}
 use Rattle.ptpm_world.proofs.Answering.{answered}
 use Rattle.ptpm_world.proofs.FaultLemmas.{err-on}
 use Rattle.ptpm_world.proofs.trace.write_event.Goals as goal

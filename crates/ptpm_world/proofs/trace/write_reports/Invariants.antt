@@ -1,8 +1,4 @@
-use Rattle.std.proofs.Common.{take}
-use Rattle.std.specs.Prelude.{flat_map}
-use Rattle.std.specs.Io.KnownBytes.{Appends}
-use Rattle.ptpm_world.specs.declared.world.RunningSession.{RunningSession}
-use Rattle.ptpm_world.specs.Trace.{session_lines}
+use Rattle.ptpm_world.proofs.Common.{take, flat_map, Appends, RunningSession, session_lines}
 use Rattle.ptpm_world.proofs.trace.write_reports.Given as goal
 
 -- the sessions so far are written

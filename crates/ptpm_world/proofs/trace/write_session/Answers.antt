@@ -1,9 +1,4 @@
-use Rattle.std.proofs.Common.{arith, subst, ap}
-use Rattle.std.specs.Prelude.{flat_map}
-use Rattle.std.specs.Io.KnownBytes.{Appends}
-use Rattle.std.proofs.KnownBytes.{Appends-nil}
-use Rattle.std.proofs.lemmas.List.{take_all}
-use Rattle.ptpm_world.specs.Trace.{report_line}
+use Rattle.ptpm_world.proofs.Common.{arith, subst, ap, flat_map, Appends, Appends-nil, take_all, report_line}
 use Rattle.ptpm_world.proofs.TraceLemmas.{written-more}
 use Rattle.ptpm_world.proofs.trace.write_session.Goals as goal
 

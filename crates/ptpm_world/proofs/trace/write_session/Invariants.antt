@@ -1,7 +1,4 @@
-use Rattle.std.proofs.Common.{take}
-use Rattle.std.specs.Prelude.{flat_map}
-use Rattle.std.specs.Io.KnownBytes.{Appends}
-use Rattle.ptpm_world.specs.Trace.{report_line}
+use Rattle.ptpm_world.proofs.Common.{take, flat_map, Appends, report_line}
 use Rattle.ptpm_world.proofs.trace.write_session.Given as goal
 
 -- the reports so far are written

@@ -1,9 +1,4 @@
-use Rattle.std.proofs.Common.{◌≡◌, ◌-◌, arith, length, subst}
-use Rattle.std.specs.Prelude.{flat_map}
-use Rattle.std.specs.List.{range_with_len}
-use Rattle.std.specs.Io.KnownBytes.{Appends}
-use Rattle.std.proofs.KnownBytes.{Appends-nil, Appends-trans}
-use Rattle.ptpm_world.specs.Trace.{port_line}
+use Rattle.ptpm_world.proofs.Common.{◌≡◌, ◌-◌, arith, length, subst, flat_map, range_with_len, Appends, Appends-nil, Appends-trans, port_line}
 use Rattle.ptpm_world.proofs.TraceLemmas.{ports-more}
 use Rattle.ptpm_world.proofs.trace.write_sets.Goals as goal
 

@@ -1,8 +1,4 @@
-use Rattle.std.proofs.Common.{◌-◌}
-use Rattle.std.specs.Prelude.{flat_map}
-use Rattle.std.specs.List.{range_with_len}
-use Rattle.std.specs.Io.KnownBytes.{Appends}
-use Rattle.ptpm_world.specs.Trace.{port_line}
+use Rattle.ptpm_world.proofs.Common.{◌-◌, flat_map, range_with_len, Appends, port_line}
 use Rattle.ptpm_world.proofs.trace.write_sets.Given as goal
 
 -- the ports so far are written

@@ -1,14 +1,5 @@
-use Rattle.std.proofs.Common.{arith, rules, ◌≡◌, ◌+◌, ◌++◌, Bool, List, [], Some, None, true, cond, sym, ap, ◌∙◌, length, map, refl}
-use Rattle.std.specs.Option.{option_copied}
-use Rattle.std.specs.Prelude.{is_ok, vec_len}
-use Rattle.std.proofs.lemmas.List.{append-nil}
-use Rattle.ptpm_network.specs.RunningNetwork.{posted}
+use Rattle.ptpm_world.proofs.Common.{arith, rules, ◌≡◌, ◌+◌, ◌++◌, Bool, List, [], Some, None, true, cond, sym, ap, ◌∙◌, length, map, refl, option_copied, is_ok, vec_len, append-nil, posted, peers, Stored, described_end, held_in, link_ends, origin_of, at_end, others}
 use Rattle.ptpm_network.specs.Network as machine
-use Rattle.ptpm_network.specs.Network.{peers}
-use Rattle.ptpm_world.specs.declared.frames.Stored.{Stored}
-use Rattle.ptpm_world.specs.Described.{described_end}
-use Rattle.ptpm_world.specs.Frames.{held_in, link_ends, origin_of}
-use Rattle.ptpm_world.specs.Stored.{at_end, others}
 use Rattle.ptpm_world.proofs.FrameLemmas.{Posting, few_others, found_peers, link_of, peers_found, posting-count, posting-frames, posting-short, posting-there, posting-within}
 use Rattle.ptpm_world.proofs.frames.Frames.post.Goals as goal
 

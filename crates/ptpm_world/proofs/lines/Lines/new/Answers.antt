@@ -1,6 +1,5 @@
-use Rattle.std.proofs.Common.{◌≡◌, true, refl}
+use Rattle.ptpm_world.proofs.Common.{◌≡◌, true, refl, is_outside}
 use Rattle.ptpm_world.specs.declared.script_error.ScriptError.TheVariants as faults
-use Rattle.ptpm_world.specs.ScriptError.{is_outside}
 use Rattle.ptpm_world.proofs.FaultLemmas.{err-on}
 use Rattle.ptpm_world.proofs.lines.Lines.new.Goals as goal
 

@@ -1,8 +1,4 @@
-use Rattle.std.proofs.Common.{◌<◌, ◌+◌, ◌∷◌, true, ap, arith, subst}
-use Rattle.std.specs.Prelude.{IfNone, OnSome, option_map}
-use Rattle.std.specs.Io.KnownBytes.{Consumes, IsAtEnd}
-use Rattle.ptpm_world.specs.Lines.{given, left_in}
-use Rattle.ptpm_world.specs.ScriptError.{ReadsWhole}
+use Rattle.ptpm_world.proofs.Common.{◌<◌, ◌+◌, ◌∷◌, true, ap, arith, subst, IfNone, OnSome, option_map, Consumes, IsAtEnd, given, left_in, ReadsWhole}
 use Rattle.ptpm_world.proofs.FaultLemmas.{fault-many, whole-line, whole-none}
 use Rattle.ptpm_world.proofs.LineLemmas.{read-line, read-none}
 use Rattle.ptpm_world.proofs.lines.Lines.read.Goals as goal

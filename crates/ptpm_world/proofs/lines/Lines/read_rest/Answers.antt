@@ -1,12 +1,6 @@
-use Rattle.std.specs.Prelude.{IfNone, OnSome}
-use Rattle.std.specs.Io.KnownBytes.{Consumes, IsAtEnd}
-use Rattle.std.proofs.Common.{true, ◌≤◌, ◌+◌, ◌≡◌, ◌++◌, ◌∷◌, [], length, length-append, ap, subst, sym, ◌∙◌, arith, rules}
-use Rattle.std.proofs.lemmas.Bool.{ne_eqb}
-use Rattle.std.specs.Prelude.{option_map}
+use Rattle.ptpm_world.proofs.Common.{IfNone, OnSome, Consumes, IsAtEnd, true, ◌≤◌, ◌+◌, ◌≡◌, ◌++◌, ◌∷◌, [], length, length-append, ap, subst, sym, ◌∙◌, arith, rules, ne_eqb, option_map, ReadsLine, given, left_in, HasNextFault, ReadsWhole}
 use Rattle.std.specs.Io.Buffered.{reader_remaining}
 use Rattle.ptpm_world.specs.declared.script_error.ScriptError.TheVariants as faults
-use Rattle.ptpm_world.specs.Lines.{ReadsLine, given, left_in}
-use Rattle.ptpm_world.specs.ScriptError.{HasNextFault, ReadsWhole}
 use Rattle.ptpm_world.proofs.LineLemmas.{IsRead, NoFeed, empty_is, end-on, no_feed-more, read-end, read-feed, read-first, read-more, some_there}
 use Rattle.ptpm_world.proofs.FaultLemmas.{whole-end, whole-feed, whole-long}
 use Rattle.ptpm_world.proofs.lines.Lines.read_rest.Goals as goal

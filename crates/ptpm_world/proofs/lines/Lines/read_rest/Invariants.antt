@@ -1,7 +1,4 @@
-use Rattle.std.proofs.Common.{◌≡◌, ◌<◌, ◌≤◌, ◌-◌, length, None}
-use Rattle.std.specs.Prelude.{IfNone, OnSome}
-use Rattle.std.specs.Io.KnownBytes.{IsAtEnd}
-use Rattle.ptpm_world.specs.Lines.{left_in}
+use Rattle.ptpm_world.proofs.Common.{◌≡◌, ◌<◌, ◌≤◌, ◌-◌, length, None, IfNone, OnSome, IsAtEnd, left_in}
 use Rattle.ptpm_world.proofs.LineLemmas.{IsRead, NoFeed}
 use Rattle.ptpm_world.proofs.lines.Lines.read_rest.Given as goal
 

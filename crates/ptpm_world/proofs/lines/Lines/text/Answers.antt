@@ -1,4 +1,4 @@
-use Rattle.std.proofs.Common.{subst, sym}
+use Rattle.ptpm_world.proofs.Common.{subst, sym}
 use Rattle.std.specs.Str.{IsUtf8}
 use Rattle.ptpm_world.proofs.FaultLemmas.{text-fault, text-none}
 use Rattle.ptpm_world.proofs.lines.Lines.text.Goals as goal

@@ -1,4 +1,4 @@
-use Rattle.std.proofs.Common.{rules}
+use Rattle.ptpm_world.proofs.Common.{rules}
 use Rattle.std.proofs.Output.{has_written_of_eq}
 use Rattle.ptpm_world.proofs.Answering.{named_text, unnamed_text, none_some}
 use Rattle.ptpm_world.proofs.trace.ErrorTextDisplay.fmt.Goals as goal

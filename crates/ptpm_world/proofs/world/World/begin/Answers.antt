@@ -1,6 +1,4 @@
-use Rattle.std.proofs.Common.{◌≡◌, Some, refl}
-use Rattle.std.proofs.lemmas.Option.{slice_get_read}
-use Rattle.std.specs.Prelude.{slice_get}
+use Rattle.ptpm_world.proofs.Common.{◌≡◌, Some, refl, slice_get_read, slice_get}
 use Rattle.ptpm_world.proofs.Changing.{names-session}
 use Rattle.ptpm_world.proofs.SessionSteps.{begin-error, begin-fine, begin-no_name}
 use Rattle.ptpm_world.proofs.world.World.begin.Goals as goal

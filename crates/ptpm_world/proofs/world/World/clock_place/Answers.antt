@@ -1,6 +1,4 @@
-use Rattle.std.proofs.Common.{ap, ◌∙◌}
-use Rattle.std.specs.Prelude.{bytes_eq, position}
-use Rattle.ptpm_world.specs.declared.world.RunningClock.{RunningClock}
+use Rattle.ptpm_world.proofs.Common.{ap, ◌∙◌, bytes_eq, position, RunningClock}
 use Rattle.ptpm_world.proofs.WorldLemmas.{found_clause, none_clause}
 use Rattle.ptpm_world.proofs.world.World.clock_place.Goals as goal
 

@@ -1,5 +1,4 @@
-use Rattle.std.proofs.Common.{sym, ◌∙◌}
-use Rattle.ptpm_world.specs.Frames.{frame_value}
+use Rattle.ptpm_world.proofs.Common.{sym, ◌∙◌, frame_value}
 use Rattle.ptpm_world.proofs.ClockSteps.{deliver-no_frame, deliver-too_many}
 use Rattle.ptpm_world.proofs.world.World.deliver.Goals as goal
 

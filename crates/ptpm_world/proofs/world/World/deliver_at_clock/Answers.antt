@@ -1,12 +1,5 @@
-use Rattle.std.proofs.Common.{◌≡◌, ◌++◌, ◌∙◌, All, Some, ap, arith, length, refl, subst, sym}
-use Rattle.std.proofs.lemmas.Option.{slice_get_read}
-use Rattle.std.specs.Prelude.{flat_map, slice_get}
-use Rattle.ptpm_network.specs.Events.{frame_at}
-use Rattle.ptpm_network.specs.Replying.{origin_by, posted_by}
-use Rattle.ptpm_network.specs.State.{Origin}
+use Rattle.ptpm_world.proofs.Common.{◌≡◌, ◌++◌, ◌∙◌, All, Some, ap, arith, length, refl, subst, sym, slice_get_read, flat_map, slice_get, frame_at, origin_by, posted_by, Origin, AreLinks, IsStoredFrame, port_counts, frame_value, held_in, link_ends, origin_of}
 use Rattle.ptpm_table.specs.Outbox.{sent}
-use Rattle.ptpm_world.specs.Ends.{AreLinks, IsStoredFrame, port_counts}
-use Rattle.ptpm_world.specs.Frames.{frame_value, held_in, link_ends, origin_of}
 use Rattle.ptpm_world.proofs.Changing.{names-clock}
 use Rattle.ptpm_world.proofs.ClockSteps.{deliver_clock-fine, ports_after, turned_same}
 use Rattle.ptpm_world.proofs.Kept.{kept-clock}

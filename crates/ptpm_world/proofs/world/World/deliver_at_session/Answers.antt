@@ -1,8 +1,4 @@
-use Rattle.std.proofs.Common.{◌≡◌, Some, refl, sym, arith}
-use Rattle.std.proofs.lemmas.Option.{slice_get_read}
-use Rattle.std.specs.Prelude.{slice_get}
-use Rattle.ptpm_network.specs.Events.{frame_at}
-use Rattle.ptpm_world.specs.Frames.{frame_value, held_in}
+use Rattle.ptpm_world.proofs.Common.{◌≡◌, Some, refl, sym, arith, slice_get_read, slice_get, frame_at, frame_value, held_in}
 use Rattle.ptpm_world.proofs.Changing.{names-session}
 use Rattle.ptpm_world.proofs.SessionSteps.{hear-step, hear-unchanged}
 use Rattle.ptpm_world.proofs.There.{at_session, lent_octets, with_octets}

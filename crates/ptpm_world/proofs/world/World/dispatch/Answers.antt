@@ -1,6 +1,5 @@
-use Rattle.std.proofs.Common.{◌∙◌, ap, sym}
+use Rattle.ptpm_world.proofs.Common.{◌∙◌, ap, sym, names_in, place_in, placed}
 use Rattle.ptpm_network.specs.Events as machine
-use Rattle.ptpm_world.specs.Placed.{names_in, place_in, placed}
 use Rattle.ptpm_world.proofs.Ending.{step_at}
 use Rattle.ptpm_world.proofs.world.World.dispatch.Goals as goal
 

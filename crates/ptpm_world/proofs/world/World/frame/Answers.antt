@@ -1,5 +1,4 @@
-use Rattle.ptpm_world.specs.Frames.{frame_value}
-use Rattle.ptpm_world.specs.Running.{running}
+use Rattle.ptpm_world.proofs.Common.{frame_value, running}
 use Rattle.ptpm_world.proofs.Naming.{known-frame}
 use Rattle.ptpm_world.proofs.world.World.frame.Goals as goal
 

@@ -1,13 +1,5 @@
-use Rattle.std.proofs.Common.{◌≡◌, ◌∙◌, All, Some, ap, length, refl, subst, sym}
-use Rattle.std.proofs.lemmas.Option.{same_Some, slice_get_read}
-use Rattle.std.specs.Prelude.{slice_get}
-use Rattle.ptpm_data.specs.Members.{has_port}
-use Rattle.ptpm_network.specs.Replying.{origin_by}
-use Rattle.ptpm_network.specs.State.{Neither}
+use Rattle.ptpm_world.proofs.Common.{◌≡◌, ◌∙◌, All, Some, ap, length, refl, subst, sym, same_Some, slice_get_read, slice_get, has_port, origin_by, Neither, RunningClock, AreLinks, IsStoredFrame, port_counts, held_in, link_ends}
 use Rattle.ptpm_table.specs.Outbox.{sent}
-use Rattle.ptpm_world.specs.declared.world.RunningClock.{RunningClock}
-use Rattle.ptpm_world.specs.Ends.{AreLinks, IsStoredFrame, port_counts}
-use Rattle.ptpm_world.specs.Frames.{held_in, link_ends}
 use Rattle.ptpm_world.proofs.Changing.{names-clock}
 use Rattle.ptpm_world.proofs.ClockSteps.{ports_after, stranger-forges, stranger-no_clock, stranger-no_port, stranger-too_many, stranger-turned, turned_same}
 use Rattle.ptpm_world.proofs.Kept.{kept-clock}

@@ -1,7 +1,4 @@
-use Rattle.std.proofs.Common.{◌||◌, sym, ◌∙◌, ap}
-use Rattle.std.proofs.lemmas.Bool.{or_left}
-use Rattle.std.specs.List.{list_any}
-use Rattle.ptpm_codec.specs.Identity.{same_clock, same_identity}
+use Rattle.ptpm_world.proofs.Common.{◌||◌, sym, ◌∙◌, ap, or_left, list_any, same_clock, same_identity}
 use Rattle.ptpm_world.proofs.Forging.{forged-source, taken}
 use Rattle.ptpm_world.proofs.world.World.is_forged.Goals as goal
 

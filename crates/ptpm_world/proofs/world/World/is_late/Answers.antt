@@ -1,5 +1,4 @@
-use Rattle.std.proofs.Common.{sym, ◌∙◌}
-use Rattle.ptpm_world.specs.Running.{running}
+use Rattle.ptpm_world.proofs.Common.{sym, ◌∙◌, running}
 use Rattle.ptpm_world.proofs.Lateness.{late-after}
 use Rattle.ptpm_world.proofs.Naming.{late-there}
 use Rattle.ptpm_world.proofs.world.World.is_late.Goals as goal

@@ -1,6 +1,4 @@
-use Rattle.std.proofs.Common.{length, refl, sym, ◌∙◌}
-use Rattle.ptpm_world.specs.Ends.{port_counts}
-use Rattle.ptpm_world.specs.Frames.{frame_value}
+use Rattle.ptpm_world.proofs.Common.{length, refl, sym, ◌∙◌, port_counts, frame_value}
 use Rattle.ptpm_world.proofs.WorldLemmas.{origin_there, reply_there, request_there}
 use Rattle.ptpm_world.proofs.world.World.is_overtaken.Goals as goal
 

@@ -1,6 +1,4 @@
-use Rattle.std.proofs.Common.{ap, ◌∙◌, map, arith}
-use Rattle.ptpm_script.specs.NetworkValue.{link_value}
-use Rattle.ptpm_script.specs.NetworkView.{network_value}
+use Rattle.ptpm_world.proofs.Common.{ap, ◌∙◌, map, arith, link_value, network_value}
 use Rattle.ptpm_script.proofs.NetworkFacts.{of_text-accepted}
 use Rattle.ptpm_world.proofs.NetworkFacts.{of_text-network}
 use Rattle.ptpm_world.proofs.StartingLemmas.{are_links, are_names, is_of, none_stored, stands}

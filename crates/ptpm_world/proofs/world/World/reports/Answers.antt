@@ -1,10 +1,5 @@
-use Rattle.std.proofs.Common.{◌≡◌, ◌+◌, ap, sym, subst, ◌∙◌, refl, Some, length}
-use Rattle.std.specs.Prelude.{option_map, slice_get}
-use Rattle.std.proofs.lemmas.Option.{slice_get_read}
-use Rattle.ptpm_network.specs.Machine.{run}
-use Rattle.ptpm_network.specs.State.{initial_state}
+use Rattle.ptpm_world.proofs.Common.{◌≡◌, ◌+◌, ap, sym, subst, ◌∙◌, refl, Some, length, option_map, slice_get, slice_get_read, run, initial_state, RunningSession}
 use Rattle.ptpm_network.specs.Worth.{IsWorth}
-use Rattle.ptpm_world.specs.declared.world.RunningSession.{RunningSession}
 use Rattle.ptpm_world.proofs.Naming.{known-found, unknown-name}
 use Rattle.ptpm_world.proofs.Reporting.{worth-shown}
 use Rattle.ptpm_world.proofs.WorldLemmas.{at_name, of_no_name}

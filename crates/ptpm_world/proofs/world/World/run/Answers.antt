@@ -1,20 +1,7 @@
-use Rattle.std.proofs.Common.{◌≡◌, ◌++◌, ◌<◌, ◌≤◌, ◌∙◌, ap, arith, length, map, option_map, refl, subst, sym, take}
-use Rattle.std.proofs.lemmas.List.{take_all}
-use Rattle.std.proofs.lemmas.Option.{same_Some, slice_get_read}
-use Rattle.std.specs.Prelude.{List}
+use Rattle.ptpm_world.proofs.Common.{◌≡◌, ◌++◌, ◌<◌, ◌≤◌, ◌∙◌, ap, arith, length, map, option_map, refl, subst, sym, take, take_all, same_Some, slice_get_read, List, refusal, RunningNetwork, network_refusal, network_run, StandsAfter, AreInTime, run, taken, Network, initial_state, Names, names_in, placed, IsOf, running, AllHappen, error_of}
 use Rattle.ptpm_network.specs.Events as machine
-use Rattle.ptpm_network.specs.Events.{refusal}
-use Rattle.ptpm_network.specs.RunningNetwork.{RunningNetwork, network_refusal, network_run}
-use Rattle.ptpm_network.specs.Headline.{StandsAfter}
-use Rattle.ptpm_network.specs.Machine.{AreInTime, run, taken}
-use Rattle.ptpm_network.specs.Network.{Network}
-use Rattle.ptpm_network.specs.State.{initial_state}
 use Rattle.ptpm_network.proofs.Promise.{stands-headline}
 use Rattle.ptpm_script.specs.declared.event.Event.{Event}
-use Rattle.ptpm_world.specs.Placed.{Names, names_in, placed}
-use Rattle.ptpm_world.specs.Running.{IsOf, running}
-use Rattle.ptpm_world.specs.Stepping.{AllHappen}
-use Rattle.ptpm_world.specs.Took.{error_of}
 use Rattle.ptpm_world.proofs.Following.{HasGoneOn, gone_on-more, gone_on-none, taken-stops}
 use Rattle.ptpm_world.proofs.Places.{map_more, map_split}
 use Rattle.ptpm_world.proofs.Scheduling.{schedule-more}

@@ -1,13 +1,5 @@
-use Rattle.std.proofs.Common.{◌≡◌, List, map, take}
+use Rattle.ptpm_world.proofs.Common.{◌≡◌, List, map, take, network_run, StandsAfter, AreInTime, run, Network, initial_state, names_in, placed, IsOf, running, AllHappen}
 use Rattle.ptpm_network.specs.Events as machine
-use Rattle.ptpm_network.specs.RunningNetwork.{network_run}
-use Rattle.ptpm_network.specs.Headline.{StandsAfter}
-use Rattle.ptpm_network.specs.Machine.{AreInTime, run}
-use Rattle.ptpm_network.specs.Network.{Network}
-use Rattle.ptpm_network.specs.State.{initial_state}
-use Rattle.ptpm_world.specs.Placed.{names_in, placed}
-use Rattle.ptpm_world.specs.Running.{IsOf, running}
-use Rattle.ptpm_world.specs.Stepping.{AllHappen}
 use Rattle.ptpm_world.proofs.Following.{HasGoneOn}
 use Rattle.ptpm_world.proofs.world.World.run.Given as goal
 

@@ -1,11 +1,4 @@
-use Rattle.std.proofs.Common.{◌≡◌, Some, refl, sym, ◌∙◌, ap, subst, All, length}
-use Rattle.std.proofs.lemmas.Option.{slice_get_read}
-use Rattle.std.specs.Prelude.{slice_get}
-use Rattle.ptpm_manager.specs.Session.{SessionValue}
-use Rattle.ptpm_network.specs.Network.{AtSession}
-use Rattle.ptpm_network.specs.State.{RequestOf}
-use Rattle.ptpm_world.specs.Ends.{AreLinks, IsStoredFrame, port_counts}
-use Rattle.ptpm_world.specs.Frames.{held_in, link_ends}
+use Rattle.ptpm_world.proofs.Common.{◌≡◌, Some, refl, sym, ◌∙◌, ap, subst, All, length, slice_get_read, slice_get, SessionValue, AtSession, RequestOf, AreLinks, IsStoredFrame, port_counts, held_in, link_ends}
 use Rattle.ptpm_world.proofs.Changing.{names-session}
 use Rattle.ptpm_world.proofs.Kept.{kept-session}
 use Rattle.ptpm_world.proofs.SessionSteps.{message_due, posted_same, send-fine, send-no_name, send-refused, send-too_many}

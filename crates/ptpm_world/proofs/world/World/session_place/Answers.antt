@@ -1,6 +1,4 @@
-use Rattle.std.proofs.Common.{ap, ◌∙◌}
-use Rattle.std.specs.Prelude.{bytes_eq, position}
-use Rattle.ptpm_world.specs.declared.world.RunningSession.{RunningSession}
+use Rattle.ptpm_world.proofs.Common.{ap, ◌∙◌, bytes_eq, position, RunningSession}
 use Rattle.ptpm_world.proofs.WorldLemmas.{found_clause, none_clause}
 use Rattle.ptpm_world.proofs.world.World.session_place.Goals as goal
 

@@ -1,7 +1,4 @@
-use Rattle.std.proofs.Common.{ap, sym, ◌∙◌, refl, Some, length}
-use Rattle.std.proofs.lemmas.Option.{slice_get_read}
-use Rattle.ptpm_world.specs.declared.world.RunningClock.{RunningClock}
-use Rattle.ptpm_world.specs.Running.{sets_of}
+use Rattle.ptpm_world.proofs.Common.{ap, sym, ◌∙◌, refl, Some, length, slice_get_read, RunningClock, sets_of}
 use Rattle.ptpm_world.proofs.Naming.{known-found, unknown-name}
 use Rattle.ptpm_world.proofs.WorldLemmas.{at_name, of_no_name}
 use Rattle.ptpm_world.proofs.world.World.sets.Goals as goal

@@ -1,4 +1,4 @@
-use Rattle.ptpm_world.specs.Placed.{names_in}
+use Rattle.ptpm_world.proofs.Common.{names_in}
 use Rattle.ptpm_world.proofs.Following.{step-reason, step-stands, step-taken}
 use Rattle.ptpm_world.proofs.world.World.step.Goals as goal
 
