@@ -1,0 +1,170 @@
+#define _GNU_SOURCE
+#include "common.h"
+#include <arpa/inet.h>
+#include <errno.h>
+#include <net/if.h>
+#include <stdio.h>
+#include <stdlib.h>
+#include <string.h>
+#include <sys/stat.h>
+#include <sys/un.h>
+#include <time.h>
+#include <unistd.h>
+
+enum { GENERAL = 320 };
+
+volatile sig_atomic_t stopped;
+static sigset_t while_waiting;
+static struct sockaddr_un own_path = { .sun_family = AF_UNIX };
+static struct stat own_file;
+
+_Noreturn void give_up(const char *what) { perror(what); exit(2); }
+
+long decimal(const char *text, long most) {
+    long number = 0;
+    if (*text == '\0') return -1;
+    for (; *text != '\0'; text++) {
+        if (*text < '0' || *text > '9') return -1;
+        number = number * 10 + (*text - '0');
+        if (number > most) return -1;
+    }
+    return number;
+}
+
+long read_number(const char *text, long most) {
+    long number = decimal(text, most);
+    if (number < 0) usage();
+    return number;
+}
+
+static int digit(char c) {
+    if (c >= '0' && c <= '9') return c - '0';
+    if (c >= 'a' && c <= 'f') return c - 'a' + 10;
+    return -1;
+}
+
+size_t read_octets(const char **text, uint8_t *octets, size_t most) {
+    size_t count = 0;
+    for (; count < most && digit(**text) >= 0; count++, *text += 2) {
+        int low = digit((*text)[1]);
+        if (low < 0) usage();
+        octets[count] = (uint8_t)(digit(**text) * 16 + low);
+    }
+    return count;
+}
+
+const char *read_identity(const char *text, uint8_t identity[8]) {
+    if (read_octets(&text, identity, 8) != 8) usage();
+    return text;
+}
+
+static void stop(int number) { stopped = number; }
+
+void catch_signals(void) {
+    static const int numbers[] = { SIGHUP, SIGINT, SIGTERM };
+    struct sigaction on_end = { .sa_handler = stop }, before;
+    sigset_t held;
+    sigemptyset(&held);
+    for (size_t i = 0; i < sizeof numbers / sizeof *numbers; i++) {
+        if (sigaction(numbers[i], NULL, &before) == 0 && before.sa_handler == SIG_IGN) continue;
+        sigaction(numbers[i], &on_end, NULL);
+        sigaddset(&held, numbers[i]);
+    }
+    sigprocmask(SIG_BLOCK, &held, &while_waiting);
+}
+
+int wait_for(struct pollfd *waits, nfds_t count, long most) {
+    struct timespec time = { .tv_sec = most / 1000, .tv_nsec = most % 1000 * 1000000 };
+    return ppoll(waits, count, &time, &while_waiting);
+}
+
+long milliseconds(void) {
+    struct timespec now;
+    clock_gettime(CLOCK_MONOTONIC, &now);
+    return now.tv_sec * 1000 + now.tv_nsec / 1000000;
+}
+
+socklen_t group(struct sockaddr_storage *to, int is_six) {
+    memset(to, 0, sizeof *to);
+    if (is_six) {
+        struct sockaddr_in6 *six = (struct sockaddr_in6 *)to;
+        six->sin6_family = AF_INET6;
+        six->sin6_port = htons(GENERAL);
+        inet_pton(AF_INET6, "ff0e::181", &six->sin6_addr);
+        return sizeof *six;
+    }
+    struct sockaddr_in *four = (struct sockaddr_in *)to;
+    four->sin_family = AF_INET;
+    four->sin_port = htons(GENERAL);
+    inet_pton(AF_INET, "224.0.1.129", &four->sin_addr);
+    return sizeof *four;
+}
+
+static void set(int at, int level, int option, const void *value, size_t size, const char *what) {
+    if (setsockopt(at, level, option, value, (socklen_t)size)) give_up(what);
+}
+
+static void join_four(int at, const struct sockaddr_in *address, unsigned interface) {
+    int none = 0;
+    struct sockaddr_in any = { .sin_family = AF_INET, .sin_port = htons(GENERAL) };
+    struct ip_mreqn join = { .imr_multiaddr = address->sin_addr, .imr_ifindex = (int)interface };
+    if (bind(at, (struct sockaddr *)&any, sizeof any)) give_up("bind");
+    set(at, IPPROTO_IP, IP_ADD_MEMBERSHIP, &join, sizeof join, "IP_ADD_MEMBERSHIP");
+    set(at, IPPROTO_IP, IP_MULTICAST_IF, &join, sizeof join, "IP_MULTICAST_IF");
+    set(at, IPPROTO_IP, IP_MULTICAST_LOOP, &none, sizeof none, "IP_MULTICAST_LOOP");
+}
+
+static void join_six(int at, const struct sockaddr_in6 *address, unsigned interface) {
+    int one = 1, none = 0;
+    struct sockaddr_in6 any = { .sin6_family = AF_INET6, .sin6_port = htons(GENERAL) };
+    struct ipv6_mreq join = { .ipv6mr_multiaddr = address->sin6_addr, .ipv6mr_interface = interface };
+    set(at, IPPROTO_IPV6, IPV6_V6ONLY, &one, sizeof one, "IPV6_V6ONLY");
+    if (bind(at, (struct sockaddr *)&any, sizeof any)) give_up("bind");
+    set(at, IPPROTO_IPV6, IPV6_ADD_MEMBERSHIP, &join, sizeof join, "IPV6_ADD_MEMBERSHIP");
+    set(at, IPPROTO_IPV6, IPV6_MULTICAST_IF, &interface, sizeof interface, "IPV6_MULTICAST_IF");
+    set(at, IPPROTO_IPV6, IPV6_MULTICAST_LOOP, &none, sizeof none, "IPV6_MULTICAST_LOOP");
+}
+
+int open_udp(const char *interface, int is_six) {
+    unsigned index = if_nametoindex(interface);
+    if (index == 0) give_up(interface);
+    int at = socket(is_six ? AF_INET6 : AF_INET, SOCK_DGRAM | SOCK_CLOEXEC, 0), one = 1;
+    struct sockaddr_storage to;
+    if (at < 0) give_up(interface);
+    set(at, SOL_SOCKET, SO_REUSEADDR, &one, sizeof one, "SO_REUSEADDR");
+    set(at, SOL_SOCKET, SO_BINDTODEVICE, interface, strlen(interface) + 1, "SO_BINDTODEVICE");
+    group(&to, is_six);
+    if (is_six) join_six(at, (struct sockaddr_in6 *)&to, index);
+    else join_four(at, (struct sockaddr_in *)&to, index);
+    return at;
+}
+
+/* Whether a socket stands at the path, and no program listens at it. */
+static int is_left_over(const struct sockaddr_un *path) {
+    struct stat found;
+    if (lstat(path->sun_path, &found) || !S_ISSOCK(found.st_mode)) return 0;
+    int probe = socket(AF_UNIX, SOCK_DGRAM | SOCK_CLOEXEC, 0);
+    if (probe < 0) give_up(path->sun_path);
+    int is_refused = connect(probe, (const struct sockaddr *)path, sizeof *path) && errno == ECONNREFUSED;
+    close(probe);
+    return is_refused;
+}
+
+/* What stands at the path by now may be another program's. */
+static void remove_own(void) {
+    struct stat found;
+    if (lstat(own_path.sun_path, &found) || found.st_dev != own_file.st_dev || found.st_ino != own_file.st_ino) return;
+    unlink(own_path.sun_path);
+}
+
+int open_unix(const char *path) {
+    if (strlen(path) >= sizeof own_path.sun_path) usage();
+    strcpy(own_path.sun_path, path);
+    if (is_left_over(&own_path)) unlink(path);
+    int at = socket(AF_UNIX, SOCK_DGRAM | SOCK_CLOEXEC, 0);
+    mode_t before = umask(0117);
+    if (at < 0 || bind(at, (struct sockaddr *)&own_path, sizeof own_path)) give_up(path);
+    umask(before);
+    if (lstat(path, &own_file) || atexit(remove_own)) give_up(path);
+    return at;
+}

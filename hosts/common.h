@@ -1,0 +1,53 @@
+/* What clock.c and manage.c share: the words of a command line, signals, time, and the sockets of a port. */
+#ifndef COMMON_H
+#define COMMON_H
+
+#include <poll.h>
+#include <signal.h>
+#include <stddef.h>
+#include <stdint.h>
+#include <sys/socket.h>
+
+/* The program's own: it says how the program is called, and ends it with status 2. */
+_Noreturn void usage(void);
+
+/* Says what went wrong, with the text of errno, and ends the program with status 2. */
+_Noreturn void give_up(const char *what);
+
+/* A number of decimal digits alone, at most `most`; -1 where the text is none. */
+long decimal(const char *text, long most);
+
+/* The same, or `usage`. */
+long read_number(const char *text, long most);
+
+/* Two hexadecimal digits in lower case an octet, as many as there are up to `most`; how many octets they are. */
+size_t read_octets(const char **text, uint8_t *octets, size_t most);
+
+/* A clockIdentity of sixteen such digits, or `usage`; the rest of the text. */
+const char *read_identity(const char *text, uint8_t identity[8]);
+
+/* The signal that asks the program to end, SIGHUP, SIGINT or SIGTERM; 0 before it. */
+extern volatile sig_atomic_t stopped;
+
+/* From now on these signals set `stopped`, and come in while `wait_for` waits and not elsewhere. One that was ignored when
+   the program began stays so. */
+void catch_signals(void);
+
+/* poll, for so many milliseconds at most, and until a signal comes in. */
+int wait_for(struct pollfd *waits, nfds_t count, long milliseconds);
+
+/* A time that no one sets. */
+long milliseconds(void);
+
+/* A socket at UDP port 320 of an interface, and in the group of PTP there (IEEE 1588-2019, annexes C and D); it hears nothing
+   of what this host sends. */
+int open_udp(const char *interface, int is_six);
+
+/* The address of that group, and its size. */
+socklen_t group(struct sockaddr_storage *to, int is_six);
+
+/* A Unix socket at a path, with mode 660, in place of one that a program left there and no program listens at. When the
+   program ends it is removed. One a program. */
+int open_unix(const char *path);
+
+#endif

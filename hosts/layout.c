@@ -1,0 +1,290 @@
+/* layout: whether ptpm.h has its members where the library has them. Each member of each struct gets a value of its own, and
+   what the library then says must have that value at the place that the standard gives it (IEEE 1588-2019, clauses 13.3, 15.4
+   and 15.5). Prints what does not hold and `layout: N passed, M failed`; its status is 1 where one failed. */
+#include "ptpm.h"
+#include <stdio.h>
+#include <stdlib.h>
+#include <string.h>
+
+#define ME "a0a1a2a3a4a5a6a7"
+#define PARENT "b0b1b2b3b4b5b6b7"
+#define GRANDMASTER "c0c1c2c3c4c5c6c7"
+#define MANAGER "d0d1d2d3d4d5d6d7"
+#define OTHER "e0e1e2e3e4e5e6e7"
+
+static struct ptpm_clock clock_held;
+static struct ptpm_session session;
+static struct ptpm_survey survey;
+static struct ptpm_sent sent[PTPM_MOST_SENT];
+static size_t count;
+static unsigned passed, failed;
+
+static void check(int holds, const char *what) {
+    if (holds) {
+        passed++;
+        return;
+    }
+    failed++;
+    printf("layout: failed: %s\n", what);
+}
+
+/* The octets of a text of two hexadecimal digits each; how many they are. */
+static size_t octets_of(const char *text, uint8_t *octets) {
+    size_t size = 0;
+    for (unsigned octet; sscanf(text + 2 * size, "%2x", &octet) == 1; size++) octets[size] = (uint8_t)octet;
+    return size;
+}
+
+static int is_text(const uint8_t *octets, size_t size, const char *text) {
+    uint8_t wanted[PTPM_MOST_OCTETS];
+    return octets_of(text, wanted) == size && memcmp(octets, wanted, size) == 0;
+}
+
+/* A message with one TLV: the octets of 13.3 and 15.4, and behind them the TLV's. */
+static const char *message(unsigned domain, const char *source, unsigned number, const char *target, unsigned hops, unsigned action,
+                           const char *tlv) {
+    static char text[512];
+    snprintf(text, sizeof text, "0d12%04zx%02x000000" "0000000000000000" "00000000" "%s%04x047f%s%04x%02x00%s",
+             48 + strlen(tlv) / 2, domain, source, number, target, hops, action, tlv);
+    return text;
+}
+
+static int reads(uint16_t id, uint16_t port, const char *wanted) {
+    uint8_t octets[PTPM_MOST_READ];
+    size_t size;
+    return ptpm_clock_read(&clock_held, id, port, octets, sizeof octets, &size) == PTPM_READ && is_text(octets, size, wanted);
+}
+
+static uint32_t handle(uint16_t port, const char *text) {
+    uint8_t octets[PTPM_MOST_OCTETS];
+    size_t size = octets_of(text, octets);
+    return ptpm_clock_handle(&clock_held, port, octets, size, sent, PTPM_MOST_SENT, &count);
+}
+
+/* Numbers and identities of a clock's own; no flag is set. */
+static struct ptpm_clock_settings own_values(void) {
+    struct ptpm_clock_settings s = {
+        .offset_from_master = 0x0102030405060708, .mean_path_delay = 0x1112131415161718, .observed_rate = 0x21222324,
+        .variance = 0x3132, .steps_removed = 0x4142, .observed_variance = 0x5152, .grandmaster_variance = 0x6162,
+        .parent_port_number = 0x7172, .utc_offset = 0x1920, .domain = 0x2a, .priority1 = 0x43, .clock_class = 0x44,
+        .clock_accuracy = 0x22, .priority2 = 0x46, .grandmaster_priority1 = 0x53, .grandmaster_class = 0x54,
+        .grandmaster_accuracy = 0x23, .grandmaster_priority2 = 0x56, .time_source = 0x90, .user_description_size = 6,
+        .user_description = "Rack 4 and more",
+    };
+    octets_of(ME, s.identity);
+    octets_of(PARENT, s.parent_port_clock);
+    octets_of(GRANDMASTER, s.grandmaster);
+    return s;
+}
+
+static const struct ptpm_port_settings ports[2] = {
+    { .peer_delay = 0x0a0b0c0d0e0f1a1b, .state = 5, .log_min_delay_req = -11, .log_announce = 3, .receipt_timeout = 7,
+      .log_sync = -6, .delay_mechanism = 2, .log_min_pdelay = 4 },
+    { .peer_delay = 0x7a7b7c7d7e7f6a6b, .state = 8, .log_min_delay_req = 12, .log_announce = -3, .receipt_timeout = 9,
+      .log_sync = 1, .delay_mechanism = 0xfe, .log_min_pdelay = -7 },
+};
+
+/* Three managers, each with one right. */
+static uint32_t start(const struct ptpm_clock_settings *settings) {
+    struct ptpm_manager_settings managers[3] = {
+        { .port = 0x0911, .rights = PTPM_CLOCK_SET }, { .port = 0x0922, .rights = PTPM_PORT_SET },
+        { .port = 0x0933, .rights = PTPM_PORT_COMMAND },
+    };
+    for (int i = 0; i < 3; i++) octets_of(MANAGER, managers[i].clock);
+    return ptpm_clock_start(&clock_held, settings, ports, 2, managers, 3);
+}
+
+static void numbers_and_identities(void) {
+    struct ptpm_clock_settings s = own_values();
+    check(start(&s) == PTPM_STARTED, "a clock starts");
+    check(reads(0x2000, 0, "00000002434422313246" ME "2a00"), "DEFAULT_DATA_SET");
+    check(reads(0x2001, 0, "4142" "0102030405060708" "1112131415161718"), "CURRENT_DATA_SET");
+    check(reads(0x2002, 0, ME "0000" "0000" "5152" "21222324" "434422313246" ME), "PARENT_DATA_SET");
+    check(reads(0x2003, 0, "19200090"), "TIME_PROPERTIES_DATA_SET");
+    check(reads(0x0002, 0, "06" "5261636b2034" "00"), "USER_DESCRIPTION");
+    check(reads(0x2004, 1, ME "0001" "05f5" "0a0b0c0d0e0f1a1b" "0307fa020402"), "PORT_DATA_SET of port 1");
+    check(reads(0x2004, 2, ME "0002" "080c" "7a7b7c7d7e7f6a6b" "fd0901fef902"), "PORT_DATA_SET of port 2");
+}
+
+/* Where one flag is set, and no other, one bit of the three flag octets is. */
+static void flags(void) {
+    static const struct { size_t place; const char *name; unsigned two_step, parent_stats, times; } cases[] = {
+        { offsetof(struct ptpm_clock_settings, two_step), "two_step", 1, 0, 0 },
+        { offsetof(struct ptpm_clock_settings, parent_stats), "parent_stats", 0, 1, 0 },
+        { offsetof(struct ptpm_clock_settings, leap61), "leap61", 0, 0, 0x01 },
+        { offsetof(struct ptpm_clock_settings, leap59), "leap59", 0, 0, 0x02 },
+        { offsetof(struct ptpm_clock_settings, utc_valid), "utc_valid", 0, 0, 0x04 },
+        { offsetof(struct ptpm_clock_settings, ptp_timescale), "ptp_timescale", 0, 0, 0x08 },
+        { offsetof(struct ptpm_clock_settings, time_traceable), "time_traceable", 0, 0, 0x10 },
+        { offsetof(struct ptpm_clock_settings, frequency_traceable), "frequency_traceable", 0, 0, 0x20 },
+    };
+    for (size_t i = 0; i < sizeof cases / sizeof *cases; i++) {
+        struct ptpm_clock_settings s = own_values();
+        char clock[64], parent[80], times[16];
+        ((uint8_t *)&s)[cases[i].place] = 0x80;
+        snprintf(clock, sizeof clock, "%02x000002434422313246" ME "2a00", cases[i].two_step);
+        snprintf(parent, sizeof parent, ME "0000%02x00" "5152" "21222324" "434422313246" ME, cases[i].parent_stats);
+        snprintf(times, sizeof times, "1920%02x90", cases[i].times);
+        check(start(&s) == PTPM_STARTED && reads(0x2000, 0, clock) && reads(0x2002, 0, parent) && reads(0x2003, 0, times),
+              cases[i].name);
+    }
+}
+
+/* Which value of the parent data set is given, and which is the clock's own. */
+static void given_values(void) {
+    static const struct { size_t place; int has_grandmaster; const char *name, *wanted; } cases[] = {
+        { offsetof(struct ptpm_clock_settings, has_parent_port), 0, "has_parent_port",
+          PARENT "7172" "0000" "5152" "21222324" "434422313246" ME },
+        { offsetof(struct ptpm_clock_settings, has_grandmaster), 1, "has_grandmaster",
+          ME "0000" "0000" "5152" "21222324" "434422313246" GRANDMASTER },
+        { offsetof(struct ptpm_clock_settings, has_grandmaster_priority1), 1, "has_grandmaster_priority1",
+          ME "0000" "0000" "5152" "21222324" "534422313246" GRANDMASTER },
+        { offsetof(struct ptpm_clock_settings, has_grandmaster_class), 1, "has_grandmaster_class",
+          ME "0000" "0000" "5152" "21222324" "435422313246" GRANDMASTER },
+        { offsetof(struct ptpm_clock_settings, has_grandmaster_accuracy), 1, "has_grandmaster_accuracy",
+          ME "0000" "0000" "5152" "21222324" "434423313246" GRANDMASTER },
+        { offsetof(struct ptpm_clock_settings, has_grandmaster_variance), 1, "has_grandmaster_variance",
+          ME "0000" "0000" "5152" "21222324" "434422616246" GRANDMASTER },
+        { offsetof(struct ptpm_clock_settings, has_grandmaster_priority2), 1, "has_grandmaster_priority2",
+          ME "0000" "0000" "5152" "21222324" "434422313256" GRANDMASTER },
+    };
+    for (size_t i = 0; i < sizeof cases / sizeof *cases; i++) {
+        struct ptpm_clock_settings s = own_values();
+        s.has_grandmaster = (uint8_t)cases[i].has_grandmaster;
+        ((uint8_t *)&s)[cases[i].place] = 0x80;
+        check(start(&s) == PTPM_STARTED && reads(0x2002, 0, cases[i].wanted), cases[i].name);
+    }
+}
+
+/* A member of a port that is out of range is refused by the number with its name. */
+static void refusals(void) {
+    static const struct { size_t place; uint8_t value; uint32_t number; const char *name; } cases[] = {
+        { offsetof(struct ptpm_port_settings, state), 10, PTPM_BAD_STATE, "PTPM_BAD_STATE" },
+        { offsetof(struct ptpm_port_settings, log_announce), 5, PTPM_BAD_LOG_ANNOUNCE, "PTPM_BAD_LOG_ANNOUNCE" },
+        { offsetof(struct ptpm_port_settings, receipt_timeout), 11, PTPM_BAD_RECEIPT_TIMEOUT, "PTPM_BAD_RECEIPT_TIMEOUT" },
+        { offsetof(struct ptpm_port_settings, log_sync), 2, PTPM_BAD_LOG_SYNC, "PTPM_BAD_LOG_SYNC" },
+        { offsetof(struct ptpm_port_settings, delay_mechanism), 3, PTPM_BAD_DELAY_MECHANISM, "PTPM_BAD_DELAY_MECHANISM" },
+        { offsetof(struct ptpm_port_settings, log_min_pdelay), 6, PTPM_BAD_LOG_MIN_PDELAY, "PTPM_BAD_LOG_MIN_PDELAY" },
+    };
+    struct ptpm_clock_settings s = own_values();
+    struct ptpm_manager_settings none = { .port = 0 };
+    for (size_t i = 0; i < sizeof cases / sizeof *cases; i++) {
+        struct ptpm_port_settings port = ports[0];
+        ((uint8_t *)&port)[cases[i].place] = cases[i].value;
+        check(ptpm_clock_start(&clock_held, &s, &port, 1, &none, 0) == cases[i].number, cases[i].name);
+    }
+    memset(s.identity, 0xff, sizeof s.identity);
+    check(start(&s) == PTPM_BAD_IDENTITY, "PTPM_BAD_IDENTITY");
+    s = own_values();
+    s.clock_accuracy = 0x16;
+    check(start(&s) == PTPM_BAD_CLOCK_ACCURACY, "PTPM_BAD_CLOCK_ACCURACY");
+    s = own_values();
+    s.user_description[5] = 0xff;
+    check(start(&s) == PTPM_BAD_USER_DESCRIPTION, "PTPM_BAD_USER_DESCRIPTION");
+    s = own_values();
+    s.has_grandmaster_class = 1;
+    check(start(&s) == PTPM_GRANDMASTER_DIFFERS, "PTPM_GRANDMASTER_DIFFERS");
+}
+
+/* What each manager may do, and the messages that the clock sends. */
+static void managers(void) {
+    static const char *const sources[3] = { MANAGER "0911", MANAGER "0922", MANAGER "0933" };
+    static const struct { unsigned action; const char *target, *tlv; } asked[3] = {
+        { PTPM_SET, ME "ffff", "0001" "0004" "2005" "6700" }, { PTPM_SET, ME "0001", "0001" "0004" "200b" "fe00" },
+        { PTPM_COMMAND, ME "0002", "0001" "0002" "200e" },
+    };
+    struct ptpm_clock_settings s = own_values();
+    check(start(&s) == PTPM_STARTED, "a clock with three managers starts");
+    check(handle(1, message(0x2a, MANAGER "0944", 1, OTHER "ffff", 0x0503, PTPM_GET, "0001" "0002" "2005")) == PTPM_NOT_ADDRESSED
+          && count == 1 && sent[0].port == 2
+          && is_text(sent[0].octets, sent[0].size, message(0x2a, MANAGER "0944", 1, OTHER "ffff", 0x0502, PTPM_GET, "0001" "0002" "2005")),
+          "a message that is passed on");
+    check(handle(2, message(0x2a, sources[2], 0x1234, ME "ffff", 0x0503, PTPM_GET, "0001" "0002" "200a")) == PTPM_ANSWERED_NEW
+          && count == 2 && sent[0].port == 2 && sent[1].port == 2
+          && is_text(sent[0].octets, sent[0].size, message(0x2a, ME "0001", 0x1234, sources[2], 0x0202, 2, "0001" "0004" "200a" "0700"))
+          && is_text(sent[1].octets, sent[1].size, message(0x2a, ME "0002", 0x1234, sources[2], 0x0202, 2, "0001" "0004" "200a" "0900")),
+          "the answers of two ports");
+    for (unsigned i = 0; i < 9; i++) {
+        unsigned who = i % 3, what = i / 3;
+        uint32_t answer = handle(1, message(0x2a, sources[who], 0x2000 + i, asked[what].target, 0, asked[what].action, asked[what].tlv));
+        check(answer == PTPM_ANSWERED_NEW && count == 1
+              && is_text(sent[0].octets + 48, 2, who == what ? "0001" : "0002"), "a right, or the want of one");
+    }
+    check(handle(1, message(0x2a, MANAGER "0912", 0x3000, ME "ffff", 0, PTPM_SET, asked[0].tlv)) == PTPM_ANSWERED_UNNUMBERED,
+          "the port of a manager");
+}
+
+static struct ptpm_session_settings session_values(void) {
+    struct ptpm_session_settings s = {
+        .port = 0x0a11, .target_ports = 7, .first = 0x3344, .domain = 0x2b, .hops = 9, .attempts = 3,
+    };
+    octets_of(MANAGER, s.clock);
+    octets_of(OTHER, s.target);
+    return s;
+}
+
+static uint32_t session_hears(const char *text) {
+    uint8_t octets[PTPM_MOST_OCTETS];
+    size_t size = octets_of(text, octets);
+    return ptpm_session_receive(&session, octets, size);
+}
+
+static void sessions(void) {
+    struct ptpm_session_settings s = session_values();
+    uint8_t octets[PTPM_MOST_OCTETS], none = 0;
+    size_t size = 0;
+    uint16_t error = 0;
+    check(ptpm_session_start(&session, &s) == PTPM_STARTED, "a session starts");
+    check(ptpm_session_begin(&session, PTPM_GET, 0x200b, 8, &none, 0) == PTPM_NEEDS_PORT
+          && ptpm_session_begin(&session, PTPM_GET, 0x200b, 7, &none, 0) == PTPM_BEGUN, "target_ports");
+    for (int i = 0; i < 3; i++) {
+        check(ptpm_session_send(&session, octets, sizeof octets, &size) == PTPM_SENT
+              && is_text(octets, size, message(0x2b, MANAGER "0a11", 0x3344, OTHER "0007", 0x0909, PTPM_GET, "0001" "0002" "200b")),
+              "the request of a session");
+    }
+    check(ptpm_session_send(&session, octets, sizeof octets, &size) == PTPM_GAVE_UP, "attempts");
+    check(session_hears(message(0x2b, OTHER "0007", 0x3344, MANAGER "0a11", 0, 2, "0001" "0004" "200b" "fd00")) == PTPM_ANSWERED
+          && ptpm_session_report(&session, octets, sizeof octets, &size, &error) == PTPM_VALUE && is_text(octets, size, "fd00"),
+          "a value that is told");
+    check(ptpm_session_begin(&session, PTPM_SET, 0x2005, 0, (const uint8_t[]){ 0x6a, 0 }, 2) == PTPM_BEGUN
+          && ptpm_session_send(&session, octets, sizeof octets, &size) == PTPM_SENT
+          && is_text(octets, size, message(0x2b, MANAGER "0a11", 0x3345, OTHER "ffff", 0x0909, PTPM_SET, "0001" "0004" "2005" "6a00")),
+          "a SET, its dataField and its number");
+    check(session_hears(message(0x2b, OTHER "0001", 0x3345, MANAGER "0a11", 0, 2, "0002" "0008" "0004" "2005" "00000000")) == PTPM_ANSWERED
+          && ptpm_session_report(&session, octets, sizeof octets, &size, &error) == PTPM_REFUSED && error == 0x0004,
+          "a refusal that is told");
+    check(ptpm_session_issued(&session) == 2, "how many requests were begun");
+}
+
+static void surveys(void) {
+    struct ptpm_survey_settings s = { .port = 0x0b22, .number = 0x5566, .id = 0x2006, .domain = 0x2c, .hops = 4 };
+    struct ptpm_source source;
+    uint8_t octets[PTPM_MOST_OCTETS];
+    size_t size = 0;
+    uint16_t error = 0;
+    octets_of(MANAGER, s.clock);
+    check(ptpm_survey_start(&survey, &s) == PTPM_STARTED, "a survey starts");
+    check(ptpm_survey_send(&survey, octets, sizeof octets, &size) == PTPM_SENT
+          && is_text(octets, size, message(0x2c, MANAGER "0b22", 0x5566, "ffffffffffffffffffff", 0x0404, PTPM_GET, "0001" "0002" "2006")),
+          "the GET of a survey");
+    size = octets_of(message(0x2c, OTHER "0c33", 0x5566, MANAGER "0b22", 0, 2, "0001" "0004" "2006" "5b00"), octets);
+    check(ptpm_survey_receive(&survey, octets, size) == PTPM_TAKEN && ptpm_survey_count(&survey) == 1, "an answer that is taken");
+    check(ptpm_survey_answer(&survey, 0, &source, octets, sizeof octets, &size, &error) == PTPM_VALUE
+          && is_text(octets, size, "5b00") && is_text(source.clock, 8, OTHER) && source.port == 0x0c33,
+          "the port that gave it");
+}
+
+int main(void) {
+    numbers_and_identities();
+    flags();
+    given_values();
+    refusals();
+    managers();
+    sessions();
+    surveys();
+    ptpm_clock_stop(&clock_held);
+    ptpm_session_stop(&session);
+    ptpm_survey_stop(&survey);
+    printf("layout: %u passed, %u failed\n", passed, failed);
+    return failed > 0;
+}
