@@ -11,9 +11,16 @@
      library keeps no pointer to it after the call. What a call may write lies apart from everything else that the call is
      given.
    - One thread at a time is in a call with a handle. Calls with different handles may run side by side.
-   - There is one live copy of a handle. The host may move it, and reads and writes nothing inside it.
+   - A handle is all zeros before its first call: a start frees what the handle holds, and any other octets it takes for
+     something to free. There is one live copy of a handle. The host may move it, and reads and writes nothing inside it.
    - malloc, realloc and free come from one allocator, and malloc aligns each block to the greatest power of two up to 16
-     that divides its size. No call is made from a signal handler, or in a forked child of a process with threads. */
+     that divides its size. No call is made from a signal handler, or in a forked child of a process with threads.
+   - A call has the stack that it needs, as the library is built for x86-64: ptpm_clock_start 139,000 octets, ptpm_survey_send
+     1,800, ptpm_clock_handle 1,000, every other call 500; and beyond that what malloc, realloc, free, memcpy, memmove and memset
+     of the host take. No call calls itself.
+
+   Where several refusals hold, a call answers the first. Want of memory can come in place of it, in a call that takes
+   memory. */
 #ifndef PTPM_H
 #define PTPM_H
 
@@ -172,8 +179,11 @@ enum {
     /* why nothing changed */
     PTPM_NO_CLOCK = 32,                 /* the handle holds none */
     PTPM_NO_PORT,                       /* the clock lacks the port */
-    PTPM_NO_ROOM,                       /* room for fewer than PTPM_MOST_SENT messages, or PTPM_MOST_READ octets */
-    PTPM_NO_MEMORY,
+    /* room for fewer than PTPM_MOST_SENT messages (ptpm_clock_handle); for fewer octets than PTPM_MOST_READ (ptpm_clock_read),
+       than PTPM_MOST_OCTETS (ptpm_session_send, ptpm_survey_send), or than the dataField that is told has
+       (ptpm_session_report, ptpm_survey_answer) */
+    PTPM_NO_ROOM,
+    PTPM_NO_MEMORY,                     /* it can come in place of the refusal that holds first */
     PTPM_NOT_READABLE,                  /* the id is not in the table, or permits no GET */
     PTPM_NO_SESSION,                    /* the handle holds none */
     PTPM_BUSY,                          /* a request is not answered yet */
@@ -185,10 +195,10 @@ enum {
     PTPM_GAVE_UP,                       /* no attempts are left */
     PTPM_NO_REPORT,                     /* no request was begun, or the latest is not answered; the survey has no such answer */
     PTPM_NO_SURVEY,                     /* the handle holds none */
-    /* why a clock does not start, the first that holds */
+    /* why a clock does not start, the first that holds, or PTPM_NO_MEMORY */
     PTPM_NO_PORTS = 48, PTPM_TOO_MANY_PORTS, PTPM_GRANDMASTER_DIFFERS, PTPM_TOO_MANY_MANAGERS, PTPM_MANAGER_TWICE,
-    /* why a session does not start, the first that holds; PTPM_NO_PORTS and PTPM_TOO_MANY_PORTS too, behind these. A survey:
-       the first of these alone */
+    /* why a session does not start, the first that holds, or PTPM_NO_MEMORY; PTPM_NO_PORTS and PTPM_TOO_MANY_PORTS too, behind
+       these. A survey: the first of these alone, or PTPM_NO_MEMORY */
     PTPM_MANAGER_IS_EVERY, PTPM_TARGET_IS_EVERY, PTPM_SAME_CLOCK,
     /* a member is out of its range */
     PTPM_BAD_IDENTITY = 64, PTPM_BAD_DOMAIN, PTPM_BAD_USER_DESCRIPTION, PTPM_BAD_TWO_STEP, PTPM_BAD_PRIORITY1,
@@ -208,25 +218,26 @@ void ptpm_clock_defaults(struct ptpm_clock_settings *settings);
 /* Writes all settings over: a port that is MASTER, with this profile's defaults. */
 void ptpm_port_defaults(struct ptpm_port_settings *settings);
 
-/* Starts a clock in place of the one that the handle holds: PTPM_STARTED, or why not, and then the handle holds none. One
-   to eight ports, at most sixteen managers. */
+/* Starts a clock in place of the one that the handle holds, which is freed first: PTPM_STARTED, or why not, and then the
+   handle holds none. One to eight ports, at most sixteen managers. */
 uint32_t ptpm_clock_start(struct ptpm_clock *clock, const struct ptpm_clock_settings *settings,
                           const struct ptpm_port_settings *ports, size_t port_count,
                           const struct ptpm_manager_settings *managers, size_t manager_count);
 
 /* What becomes of a datagram that came in at a port, counted from 1. The first *count places of sent then hold what is to
-   be sent, in this order; room is how many places there are. Takes no memory. */
+   be sent, in this order; room is how many places there are, PTPM_MOST_SENT or more. Takes no memory. */
 uint32_t ptpm_clock_handle(struct ptpm_clock *clock, uint16_t port, const uint8_t *datagram, size_t size,
                            struct ptpm_sent *sent, size_t room, size_t *count);
 
 /* Leaves what a GET of this managementId is answered at the head of octets, *size octets: PTPM_READ, or why not; room is how
-   many octets there are. The port matters for an id of a port alone. Takes no memory. */
+   many octets there are, PTPM_MOST_READ or more. The port matters for an id of a port alone. Takes no memory. */
 uint32_t ptpm_clock_read(struct ptpm_clock *clock, uint16_t id, uint16_t port, uint8_t *octets, size_t room, size_t *size);
 
 /* Ends the clock that the handle holds, if it holds one; the handle then holds none. */
 void ptpm_clock_stop(struct ptpm_clock *clock);
 
-/* Starts a session in place of the one that the handle holds: PTPM_STARTED, or why not, and then the handle holds none. */
+/* Starts a session in place of the one that the handle holds, which is freed first: PTPM_STARTED, or why not, and then the
+   handle holds none. */
 uint32_t ptpm_session_start(struct ptpm_session *session, const struct ptpm_session_settings *settings);
 
 /* Begins a request: PTPM_BEGUN, or why not, and then nothing changes. The port matters for an id of a port alone; octets is
@@ -255,15 +266,15 @@ uint32_t ptpm_session_receive(struct ptpm_session *session, const uint8_t *datag
 uint64_t ptpm_session_issued(struct ptpm_session *session);
 
 /* What the answer to the latest request tells: PTPM_VALUE, with the dataField at the head of octets, *size octets; PTPM_DONE;
-   PTPM_REFUSED, with the managementErrorId in *error; or why nothing is told. room is how many octets there are: a dataField
-   has at most 1,418. Takes no memory. */
+   PTPM_REFUSED, with the managementErrorId in *error; or why nothing is told. room is how many octets there are, as many as
+   the dataField has or more: 1,418 do for each. Takes no memory. */
 uint32_t ptpm_session_report(struct ptpm_session *session, uint8_t *octets, size_t room, size_t *size, uint16_t *error);
 
 /* Ends the session that the handle holds, if it holds one; the handle then holds none. */
 void ptpm_session_stop(struct ptpm_session *session);
 
-/* Starts a survey without answers in place of the one that the handle holds: PTPM_STARTED, or why not, and then the handle
-   holds none. */
+/* Starts a survey without answers in place of the one that the handle holds, which is freed first: PTPM_STARTED, or why not,
+   and then the handle holds none. */
 uint32_t ptpm_survey_start(struct ptpm_survey *survey, const struct ptpm_survey_settings *settings);
 
 /* Leaves the GET at the head of octets, *size octets, the same each time: PTPM_SENT, or why not; room is how many octets there
@@ -279,8 +290,8 @@ size_t ptpm_survey_count(struct ptpm_survey *survey);
 
 /* What the answer at a place tells, counted from 0 in the order in which they came: PTPM_VALUE, with the dataField at the head
    of octets, *size octets; or PTPM_REFUSED, with the managementErrorId in *error; *source is then the port that gave it. Or
-   why nothing is told, and then *source stays as it was. room is how many octets there are: a dataField has at most 1,418.
-   Takes no memory. */
+   why nothing is told, and then *source stays as it was. room is how many octets there are, as many as the dataField has or
+   more: 1,418 do for each. Takes no memory. */
 uint32_t ptpm_survey_answer(struct ptpm_survey *survey, size_t place, struct ptpm_source *source, uint8_t *octets, size_t room,
                             size_t *size, uint16_t *error);
 
