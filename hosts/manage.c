@@ -1,11 +1,13 @@
 /* manage -u PATH -m MANAGER|-i INTERFACE [-m MANAGER] [-d DOMAIN] [-p PORT] [-k FILE] [-a ATTEMPTS] [-t MILLISECONDS]
           [-n TIMES] get|set|command ID [HEX] --to IDENTITY
+   manage .. survey ID
    One request to one clock by a session, over UDP port 320 at an interface (IPv4, IEEE 1588-2019, annex C) or at a Unix
    socket of clock.c; it is sent again where no answer comes in time, and what the answer tells is printed. ID is a name of
    the standard or four hexadecimal digits, HEX the dataField, PORT the clock's port for an id of a port, MANAGER the
    manager's own IDENTITY/PORT, without it the interface's at port 1. -k keeps the number of the next request in a file, as
    number_file.h says; without it numbers start at 0, which a clock may take for old. -n makes the request so many times,
-   for trials. Its status is 0 where the answer is no refusal, 1 where it is one, 2 where nothing was asked or sent, 3 where
+   for trials. `survey` asks every clock and every port of the domain, and prints a line for each that answers: the port, and what
+   it tells. It asks again until two times bring no new answer, or its attempts are used. Its status is 0 where the answer is no refusal, 1 where it is one, 2 where nothing was asked or sent, 3 where
    no answer came, and 128 and the signal where one ended it first. All that decides is the library's; this file moves octets
    and measures time, and is not proved. */
 #define _GNU_SOURCE
@@ -22,7 +24,7 @@
 #include <sys/un.h>
 #include <unistd.h>
 
-enum { DONE = 0, REFUSED = 1, GAVE_UP = 3, BY_SIGNAL = 128 };
+enum { DONE = 0, REFUSED = 1, GAVE_UP = 3, BY_SIGNAL = 128, SURVEY = 255 };     /* SURVEY in place of an action */
 static const struct { uint16_t id; const char *name; } ids[] = {
     { 0x0000, "NULL_PTP_MANAGEMENT" }, { 0x0002, "USER_DESCRIPTION" }, { 0x2000, "DEFAULT_DATA_SET" },
     { 0x2001, "CURRENT_DATA_SET" }, { 0x2002, "PARENT_DATA_SET" }, { 0x2003, "TIME_PROPERTIES_DATA_SET" },
@@ -34,6 +36,7 @@ static const struct { uint16_t id; const char *name; } ids[] = {
 };
 
 static struct ptpm_session session;
+static struct ptpm_survey survey;
 static struct ptpm_session_settings settings = { .port = 1, .target_ports = 8, .hops = 1, .attempts = 30 };
 static struct { uint8_t action; uint16_t id, port; size_t size; uint8_t octets[PTPM_MOST_OCTETS]; } asked;
 static struct sockaddr_storage clock_address;
@@ -44,7 +47,8 @@ static const char *number_file, *way;       /* the path or the interface over wh
 
 _Noreturn void usage(void) {
     fputs("manage -u PATH -m MANAGER|-i INTERFACE [-m MANAGER] [-d DOMAIN] [-p PORT] [-k FILE] [-a ATTEMPTS] [-t MILLISECONDS]\n"
-          "       [-n TIMES] get|set|command ID [HEX] --to IDENTITY\n", stderr);
+          "       [-n TIMES] get|set|command ID [HEX] --to IDENTITY\n"
+          "manage .. survey ID\n", stderr);
     exit(2);
 }
 
@@ -61,6 +65,7 @@ static uint8_t read_action(const char *text) {
     if (strcmp(text, "get") == 0) return PTPM_GET;
     if (strcmp(text, "set") == 0) return PTPM_SET;
     if (strcmp(text, "command") == 0) return PTPM_COMMAND;
+    if (strcmp(text, "survey") == 0) return SURVEY;
     usage();
 }
 
@@ -89,17 +94,36 @@ static void meet_unix(const char *path) {
     at = open_unix(own_path);
 }
 
+/* The next datagram that comes in before a time; -1 where none does. */
+static ssize_t hear(uint8_t octets[65536], long end) {
+    for (long left; (left = end - milliseconds()) > 0 && !stopped;) {
+        struct pollfd waits = { at, POLLIN, 0 };
+        if (wait_for(&waits, 1, left) <= 0) continue;
+        ssize_t size = recv(at, octets, 65536, MSG_DONTWAIT);
+        if (size >= 0) return size;
+    }
+    return -1;
+}
+
 /* Whether the session hears its answer in time. */
 static int is_answered(void) {
     static uint8_t octets[65536];
     long end = milliseconds() + wait_milliseconds;
-    for (long left = wait_milliseconds; left > 0 && !stopped; left = end - milliseconds()) {
-        struct pollfd waits = { at, POLLIN, 0 };
-        if (wait_for(&waits, 1, left) <= 0) continue;
-        ssize_t size = recv(at, octets, sizeof octets, MSG_DONTWAIT);
-        if (size >= 0 && ptpm_session_receive(&session, octets, (size_t)size) == PTPM_ANSWERED) return 1;
+    for (ssize_t size; (size = hear(octets, end)) >= 0;) {
+        if (ptpm_session_receive(&session, octets, (size_t)size) == PTPM_ANSWERED) return 1;
     }
     return 0;
+}
+
+/* How many answers the survey hears in time that are the first of their port. */
+static int taken_in_time(void) {
+    static uint8_t octets[65536];
+    int taken = 0;
+    long end = milliseconds() + wait_milliseconds;
+    for (ssize_t size; (size = hear(octets, end)) >= 0;) {
+        taken += ptpm_survey_receive(&survey, octets, (size_t)size) == PTPM_TAKEN;
+    }
+    return taken;
 }
 
 /* Hands the request to the socket, and waits for no room there: a peer that reads nothing costs the attempt. Where there is
@@ -114,18 +138,60 @@ static void send_out(const uint8_t *octets, size_t size, int is_first) {
     exit(2);
 }
 
+/* Prints what an answer tells. */
+static void print(uint32_t told, uint16_t error, const uint8_t *octets, size_t size) {
+    if (told == PTPM_DONE) printf("done");
+    else if (told == PTPM_REFUSED) printf("refused %04x", error);
+    else printf(size == 0 ? "value -" : "value ");
+    for (size_t i = 0; i < size; i++) printf("%02x", octets[i]);
+    putchar('\n');
+}
+
 /* What the answer tells, printed. */
 static int tell(void) {
     static uint8_t octets[PTPM_MOST_OCTETS];
     size_t size;
     uint16_t error;
     uint32_t told = ptpm_session_report(&session, octets, sizeof octets, &size, &error);
-    if (told == PTPM_DONE) printf("done");
-    else if (told == PTPM_REFUSED) printf("refused %04x", error);
-    else printf(size == 0 ? "value -" : "value ");
-    for (size_t i = 0; i < size; i++) printf("%02x", octets[i]);
-    putchar('\n');
+    print(told, error, octets, size);
     return told == PTPM_REFUSED ? REFUSED : DONE;
+}
+
+/* The answers of a survey in the order in which they came, each behind the port that gave it. */
+static void tell_all(void) {
+    static uint8_t octets[PTPM_MOST_OCTETS];
+    struct ptpm_source source;
+    size_t size;
+    uint16_t error;
+    for (size_t place = 0; place < ptpm_survey_count(&survey); place++) {
+        uint32_t told = ptpm_survey_answer(&survey, place, &source, octets, sizeof octets, &size, &error);
+        for (size_t i = 0; i < sizeof source.clock; i++) printf("%02x", source.clock[i]);
+        printf("/%u ", source.port);
+        print(told, error, octets, size);
+    }
+}
+
+/* Asks every clock and port, until two times bring nothing new. */
+static int carry_out_survey(void) {
+    static uint8_t octets[PTPM_MOST_OCTETS];
+    struct ptpm_survey_settings all = { .port = settings.port, .number = settings.first, .id = asked.id,
+                                        .domain = settings.domain, .hops = settings.hops };
+    size_t size;
+    memcpy(all.clock, settings.clock, sizeof all.clock);
+    uint32_t answer = ptpm_survey_start(&survey, &all);
+    if (answer != PTPM_STARTED || ptpm_survey_send(&survey, octets, sizeof octets, &size) != PTPM_SENT) {
+        fprintf(stderr, "manage: it is not asked: %u\n", answer);
+        return 2;
+    }
+    if (number_file != NULL) keep_number((uint16_t)(settings.first + 1));
+    for (int sends = 0, quiet = 0; sends < settings.attempts && quiet < 2 && !stopped; sends++) {
+        send_out(octets, size, sends == 0);
+        quiet = taken_in_time() > 0 ? 0 : quiet + 1;
+    }
+    tell_all();
+    int status = stopped ? BY_SIGNAL + stopped : ptpm_survey_count(&survey) > 0 ? DONE : GAVE_UP;
+    ptpm_survey_stop(&survey);
+    return status;
 }
 
 /* Sends the request until it is answered, its attempts are used, or a signal comes in. */
@@ -160,13 +226,14 @@ static void read_words(int argc, char **argv) {
         else if (option == 'T') target = optarg;
         else usage();
     }
-    if (target == NULL || (path == NULL) == (interface == NULL) || (interface == NULL && manager == NULL)) usage();
+    if ((path == NULL) == (interface == NULL) || (interface == NULL && manager == NULL)) usage();
     if (argc - optind < 2 || argc - optind > 3) usage();
     asked.action = read_action(argv[optind]);
+    if ((asked.action == SURVEY) != (target == NULL) || (asked.action == SURVEY && argc - optind > 2)) usage();
     asked.id = read_id(argv[optind + 1]);
     const char *field = argc - optind == 3 ? argv[optind + 2] : "";
     asked.size = read_octets(&field, asked.octets, sizeof asked.octets);
-    if (*field != '\0' || *read_identity(target, settings.target) != '\0') usage();
+    if (*field != '\0' || (target != NULL && *read_identity(target, settings.target) != '\0')) usage();
     if (manager != NULL) {
         const char *rest = read_identity(manager, settings.clock);
         if (*rest != '/') usage();
@@ -183,6 +250,7 @@ int main(int argc, char **argv) {
     catch_signals();
     read_words(argc, argv);
     if (number_file != NULL) settings.first = open_number(number_file);
+    if (asked.action == SURVEY) return carry_out_survey();
     uint32_t answer = ptpm_session_start(&session, &settings);
     for (long i = 0; i < times && answer == PTPM_STARTED && (status == DONE || status == REFUSED); i++) {
         answer = ptpm_session_begin(&session, asked.action, asked.id, asked.port, asked.octets, asked.size);
