@@ -49,7 +49,8 @@ fn answer_once<O: Write>(
     answer_datagram(&mut clock, datagram, out)
 }
 
-/// The same for each line of a reader in turn, all of them at one clock. A line that is `nothing` is passed over.
+/// The same for each line of a reader in turn, all of them at one clock. A line that is `nothing` is passed over. What is printed
+/// is flushed before a line that is not at hand.
 #[inline(never)]
 pub fn answer_lines<R: Read + Drop, O: Write>(
     alloc: Global,
@@ -89,10 +90,12 @@ fn answer_each<R: Read + Drop, O: Write>(
         if !lines.read(number)? {
             break;
         }
-        let Some(datagram) = lines.datagram(alloc, number)? else {
-            continue;
-        };
-        answer_datagram(&mut clock, datagram.as_slice(), out)?;
+        if let Some(datagram) = lines.datagram(alloc, number)? {
+            answer_datagram(&mut clock, datagram.as_slice(), out)?;
+        }
+        if !lines.has_next() {
+            out.flush()?;
+        }
     }
     Ok(())
 }

@@ -1,11 +1,13 @@
 //! What ends a command with status 1.
 
-ghost use Rattle.std.specs.Prelude.{◌≡◌};
-ghost use Rattle.ptpm_commands.specs.Faults.{at_line};
+ghost use Rattle.std.specs.Prelude.{◌≡◌, IfSome, OnOk};
+ghost use Rattle.std.specs.Io.KnownBytes.{Appends};
+ghost use Rattle.ptpm_commands.specs.Faults.{at_line, fault_line, is_of_line};
 
 use hex::FromHexError;
 use ptpm_codec::DecodeError;
-use std::io;
+use std::io::Write;
+use std::{fmt, io};
 use thiserror::Error;
 
 /// Why a command was not done. Its text is what follows `ptpm: ` on standard error.
@@ -68,6 +70,21 @@ impl Fault {
             fault => fault,
         }
     }
+
+    /// Whether a line alone is to blame, so that the lines behind it may be read.
+    pub(crate) fn is_of_line(self) -> bool
+        ensures { result ≡ is_of_line self }
+    {
+        matches!(self, Fault::LineTooLong(_) | Fault::BadLine(..))
+    }
+}
+
+/// Names a fault on standard error, in a line of its own.
+pub fn tell<F: fmt::Display, E: Write>(fault: &F, err: &mut E) -> io::Result<()>
+    ensures { OnOk result (IfSome (F.output fault.now)
+        (λ text. Appends (E.contents err.old) (E.contents err.new) (fault_line text))) }
+{
+    writeln!(err, "ptpm: {fault}")
 }
 
 impl From<FromHexError> for Fault {

@@ -11,4 +11,4 @@ mod lines;
 pub mod make;
 pub mod show;
 
-pub use faults::{Fault, LineFault};
+pub use faults::{Fault, LineFault, tell};

@@ -29,8 +29,10 @@ impl<R: Read + Drop> Lines<R> {
 
     /// Reads the next line, which has this number; false where there are no more. The line that was read before is gone.
     ///
-    /// A line ends with a line feed, or with a carriage return and a line feed. The last may lack its end.
+    /// A line ends with a line feed, or with a carriage return and a line feed. The last may lack its end. After LineTooLong
+    /// the line behind the long one is next.
     pub(crate) fn read(&mut self, number: u64) -> Result<bool, Fault> {
+        self.leave_long_line()?;
         self.line.clear();
         let mut next = self.reader.by_ref().take(LINE_OCTETS as u64 + 1);
         next.read_until(b'\n', &mut self.line).map_err(read_fault)?;
@@ -45,10 +47,23 @@ impl<R: Read + Drop> Lines<R> {
         Ok(!self.line.is_empty())
     }
 
+    /// Reads over the rest of a line that is too long.
+    fn leave_long_line(&mut self) -> Result<(), Fault> {
+        if self.line.len() > LINE_OCTETS {
+            self.reader.skip_until(b'\n').map_err(read_fault)?;
+        }
+        Ok(())
+    }
+
     fn drop_return(&mut self) {
         if self.line.last() == Some(&b'\r') {
             self.line.pop();
         }
+    }
+
+    /// Whether the next line, its end too, is at hand, so that reading it waits for nothing.
+    pub(crate) fn has_next(&self) -> bool {
+        self.reader.buffer().contains(&b'\n')
     }
 
     /// The datagram of the line that was read last, which has this number; `None` where the line is `nothing`.

@@ -1,6 +1,6 @@
 //! `ptpm show`: the fields of a message, a line each.
 
-use crate::faults::Fault;
+use crate::faults::{Fault, tell};
 use crate::lines::Lines;
 use ptpm_codec::{ErrorId, View, view};
 use ptpm_data::row;
@@ -15,7 +15,8 @@ pub fn show<O: Write>(alloc: Global, text: &str, out: &mut O) -> Result<(), Faul
     show_datagram(datagram.as_slice(), out)
 }
 
-/// Prints the message of each line of a reader, one after another. A line that is `nothing` is passed over.
+/// Prints the message of each line of a reader, one after another. A line that is `nothing` is passed over; the first that
+/// holds no management message is a fault.
 pub fn show_lines<R: Read + Drop, O: Write>(
     alloc: Global,
     reader: R,
@@ -23,14 +24,54 @@ pub fn show_lines<R: Read + Drop, O: Write>(
 ) -> Result<(), Fault> {
     let mut lines = Lines::new(alloc, reader)?;
     for number in 1..u64::MAX {
-        if !lines.read(number)? {
+        if !show_next(alloc, &mut lines, number, out)? {
             break;
-        }
-        if let Some(datagram) = lines.datagram(alloc, number)? {
-            show_datagram(datagram.as_slice(), out).map_err(|fault| fault.at_line(number))?;
         }
     }
     Ok(())
+}
+
+/// The same, but a line that is too long or holds no management message is told on `err`, as the fault that it would be, and
+/// passed over. What `err` does changes nothing.
+pub fn show_good_lines<R: Read + Drop, O: Write, E: Write>(
+    alloc: Global,
+    reader: R,
+    out: &mut O,
+    err: &mut E,
+) -> Result<(), Fault> {
+    let mut lines = Lines::new(alloc, reader)?;
+    for number in 1..u64::MAX {
+        match show_next(alloc, &mut lines, number, out) {
+            Ok(true) => {}
+            Ok(false) => break,
+            Err(fault) if fault.is_of_line() => {
+                out.flush()?;
+                let _ = tell(&fault, err);
+            }
+            Err(fault) => return Err(fault),
+        }
+    }
+    Ok(())
+}
+
+/// Prints the message of the next line, which has this number; false where there are no more. What is printed is flushed
+/// before a line that is not at hand.
+fn show_next<R: Read + Drop, O: Write>(
+    alloc: Global,
+    lines: &mut Lines<R>,
+    number: u64,
+    out: &mut O,
+) -> Result<bool, Fault> {
+    if !lines.read(number)? {
+        return Ok(false);
+    }
+    if let Some(datagram) = lines.datagram(alloc, number)? {
+        show_datagram(datagram.as_slice(), out).map_err(|fault| fault.at_line(number))?;
+    }
+    if !lines.has_next() {
+        out.flush()?;
+    }
+    Ok(true)
 }
 
 fn show_datagram<O: Write>(datagram: &[u8], out: &mut O) -> Result<(), Fault> {
