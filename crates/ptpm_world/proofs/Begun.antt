@@ -1,11 +1,13 @@
 -- What was written of a script's trace by the time that a fault ends it.
 use Rattle.ptpm_world.proofs.Common.{◌≡◌, ◌≢◌, ℕ, ◌+◌, ◌++◌, ◌⊎◌, inl, inr, true, false, List, [], ◌∷◌, None, Some, Ok, refl, sym, ap, subst, ◌∙◌, append_assoc, IfErr, IfSome, IsErrAnd, Option, Result, Appends, lines, Appends-nil, Appends-trans, Network, RunningNetwork, reading, network_of, NetworkValue, described, BothKnown, Names, names_of, placed, Begins, TakesFirst, event_part, events_from, is_skipped, network_text, after, event_line, event_lines}
+use Rattle.std.specs.Io.KnownBytes.{Keeps}
 use Rattle.ptpm_script.specs.declared.event.Event.{Event}
 use Rattle.ptpm_world.specs.declared.script_error.ScriptError.{ScriptError}
 use Rattle.ptpm_world.specs.declared.script_error.ScriptError.TheVariants as faults
 use Rattle.ptpm_world.specs.Script.{started}
 use Rattle.ptpm_world.proofs.FaultLemmas.{err-on}
 use Rattle.ptpm_world.proofs.Playing.{skipped, taken}
+use Rattle.ptpm_world.proofs.ScriptLemmas.{kept-appended}
 
 -- what was written, and the lines of the events that are left, are those of all events
 abbrev pub Begun : Network
@@ -37,6 +39,13 @@ pub begun-skip : (N : Network) (names : Names) (start now : RunningNetwork)
     → Begun N names start now first written all (n + 1) after
 begun-skip N names start now first written all n before after line e s h =
     (h.0, (ap (λ es. h.0 ++ event_lines N names now es) (sym (ap (events_from n) e ∙ skipped n line after s)) ∙ h.1.0, h.1.1))
+
+pub begun-kept : (N : Network) (names : Names) (start now : RunningNetwork)
+    (first written more : Option (List ℕ)) (all : List (List ℕ)) (n : ℕ) (left : List (List ℕ))
+    → Keeps written more
+    → Begun N names start now first written all n left
+    → Begun N names start now first more all n left
+begun-kept N names start now first written more all n left k h = (h.0, (h.1.0, kept-appended first written more h.0 h.1.1 k))
 
 pub begun-take : (N : Network) (names : Names) (start now next : RunningNetwork)
     (first written more : Option (List ℕ)) (all : List (List ℕ)) (n : ℕ)

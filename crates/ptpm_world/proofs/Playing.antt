@@ -1,5 +1,6 @@
 -- A script as far as it is played: what is left of its lines leads on as all of them did.
-use Rattle.ptpm_world.proofs.Common.{◌≡◌, ℕ, ◌+◌, List, [], ◌∷◌, true, false, None, Some, Ok, sym, ap, subst, ◌∙◌, cond-false, cond-true, Option, IfSome, Appends, lines, Appends-nil, Appends-trans, Network, RunningNetwork, reading, BothKnown, ReadsLine, Names, placed, bad_line_from, bad_or, events_from, is_skipped, numbered, after, after_all, event_line, event_lines}
+use Rattle.ptpm_world.proofs.Common.{◌≡◌, ℕ, ◌+◌, ◌++◌, List, [], ◌∷◌, true, false, None, Some, Ok, sym, ap, subst, ◌∙◌, cond-false, cond-true, Option, IfSome, Appends, lines, Appends-nil, Appends-trans, Network, RunningNetwork, reading, BothKnown, ReadsLine, Names, placed, bad_line_from, bad_or, events_from, is_skipped, numbered, after, after_all, event_line, event_lines}
+use Rattle.std.specs.Io.KnownBytes.{Keeps}
 use Rattle.ptpm_script.specs.declared.event.Event.{Event}
 
 -- ---- lines
@@ -83,6 +84,21 @@ pub last-skip : (N : Network) (names : Names) (start now : RunningNetwork) (all 
     → LeadsOn N names start now all n before
     → LeadsOn N names start now all (n + 1) after
 last-skip N names start now all n before after line e s h = ap (after_all N names now) (sym (ap (events_from n) e ∙ skipped n line after s)) ∙ h
+
+-- ---- what was written is flushed
+
+kept-before : (a b c : Option (List ℕ)) (bs : List ℕ) → Keeps a b → Appends b c bs → Appends a c bs
+kept-before None b c bs k p = tt
+kept-before (Some x) None c bs k p = absurd k
+kept-before (Some x) (Some y) None bs k p = absurd p
+kept-before (Some x) (Some y) (Some z) bs k p = p ∙ ap (λ w. w ++ bs) k
+
+pub text-kept : (N : Network) (names : Names) (start now : RunningNetwork)
+    (first written more : Option (List ℕ)) (all : List (List ℕ)) (n : ℕ) (left : List (List ℕ))
+    → Keeps written more
+    → GoesOn N names start now first written all n left
+    → GoesOn N names start now first more all n left
+text-kept N names start now first written more all n left k h = λ v w. h v (kept-before written more v _ k w)
 
 -- ---- a line is an event, whose line is written
 

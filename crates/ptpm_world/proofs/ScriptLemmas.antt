@@ -137,7 +137,7 @@ some_same xs ys h = cc
 none_some : (xs : List ℕ) → ◌≡◌ {A = Option (List ℕ)} None (Some xs) → ⊥
 none_some xs h = cc
 
-kept-appended : (a b c : Option (List ℕ)) (bs : List ℕ)
+pub kept-appended : (a b c : Option (List ℕ)) (bs : List ℕ)
     → Appends a b bs
     → Keeps b c
     → Appends a c bs

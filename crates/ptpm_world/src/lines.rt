@@ -149,6 +149,11 @@ impl<R: Read + Drop> Lines<R> {
         next_octet(&mut self.reader)
     }
 
+    /// Whether the next line, its end too, is at hand, so that reading it waits for nothing.
+    pub(crate) fn has_next(&self) -> bool {
+        self.reader.buffer().contains(&b'\n')
+    }
+
     /// The line that was read last, without its end.
     pub(crate) fn text(&self) -> Result<&str, ScriptError>
         ensures text { IfOk result (λ text. text.now ≡ self.now.line.items) }

@@ -1,7 +1,7 @@
 //! A script: a network file, a line `%%`, and events, one a line.
 
 ghost use Rattle.std.specs.Prelude.{[], ◌≡◌, ◌≢◌, ◌⊎◌, ◌==◌, ◌+◌, ◌++◌, ◌<◌, ◌≤◌, ℕ, IfErr, IfOk, IfSome, List, None, Ok, OnOk, Option, Some, false, find, length, not, string_bytes, true};
-ghost use Rattle.std.specs.Io.KnownBytes.{Appends};
+ghost use Rattle.std.specs.Io.KnownBytes.{Appends, Keeps};
 ghost use Rattle.std.specs.Option.{option_copied, option_or};
 ghost use Rattle.std.specs.Str.Lines.{lines};
 ghost use Rattle.ptpm_network.specs.Network as machine;
@@ -43,8 +43,8 @@ pub fn one_trace()
 /// is a line of the trace too. Without the divider there are no events.
 ///
 /// All lines before the divider are read before the network is judged; each event's line is written before the next is
-/// read. Ends for every reader, since lines and their octets are bounded. The world that runs lies in a frame of its own, so
-/// that no other subcommand pays for it.
+/// read, and flushed where that may have to be waited for. Ends for every reader, since lines and their octets are bounded. The
+/// world that runs lies in a frame of its own, so that no other subcommand pays for it.
 #[inline(never)]
 pub fn run_script<R: Read + Drop, W: Write>(
     alloc: Global,
@@ -228,20 +228,23 @@ fn play<R: Read + Drop, W: Write>(
     while script.read()? {
         number += 1;
         let line = script.text()?;
+        let is_awaited = !script.has_next();
         if is_skipped(line) {
+            show_written(is_awaited, out)?;
             continue;
         }
         let event = event_of(alloc, number, line)?;
-        play_event(world, number, event, out)?;
+        play_event(world, number, event, is_awaited, out)?;
     }
     Ok(())
 }
 
-/// Lets an event happen and writes its line.
+/// Lets an event happen and writes its line, which is flushed where the next line is awaited.
 fn play_event<W: Write>(
     world: &mut World,
     number: u32,
     event: Event,
+    is_awaited: bool,
     out: &mut W,
 ) -> Result<(), ScriptError>
     ensures line { (N : machine.Network) → IsOf N world.old
@@ -257,7 +260,19 @@ fn play_event<W: Write>(
     ensures kept { IfErr result
         (λ e. e ≢ faults.WriteFault → W.contents out.new ≡ W.contents out.old) }
 {
-    write_event(world, number, &event, out)
+    write_event(world, number, &event, out)?;
+    show_written(is_awaited, out)
+}
+
+/// Flushes what was written, where the next line is awaited.
+fn show_written<W: Write>(is_awaited: bool, out: &mut W) -> Result<(), ScriptError>
+    ensures kept { Keeps (W.contents out.old) (W.contents out.new) }
+    ensures fault { IfErr result (λ e. e ≡ faults.WriteFault) }
+{
+    if is_awaited {
+        out.flush()?;
+    }
+    Ok(())
 }
 
 /// The event of a line.

@@ -12,4 +12,5 @@ mod schedules;
 mod script_faults;
 mod steps;
 mod strangers;
+mod waiting;
 mod worlds;

@@ -1,8 +1,8 @@
 use Rattle.ptpm_world.proofs.Common.{◌≡◌, ◌+◌, arith, refl, rules, true, false, None, Ok, ap, subst, sym, ◌∙◌, Appends, Network, reading, left_in, names_in, placed, IsOf, running, is_outside, reading_fault, text_fault, bad_line_from, events_from, is_skipped, after, after_all, event_line, event_lines}
-use Rattle.ptpm_world.proofs.Begun.{Begun, begun-err, begun-first, begun-skip, begun-take}
+use Rattle.ptpm_world.proofs.Begun.{Begun, begun-err, begun-first, begun-kept, begun-skip, begun-take}
 use Rattle.ptpm_world.proofs.FaultLemmas.{EventsFault, err-on, event-bad, event-read, event-skip, events-bad, events-end, events-first, events-more, events-size, events-text, outside}
 use Rattle.ptpm_world.proofs.NextLine.{NextLine, next_line, next_text}
-use Rattle.ptpm_world.proofs.Playing.{GoesOn, LeadsOn, SameBad, bad-end, bad-first, bad-skip, bad-take, last-end, last-first, last-skip, last-take, line-end, line-on, text-end, text-first, text-skip, text-take}
+use Rattle.ptpm_world.proofs.Playing.{GoesOn, LeadsOn, SameBad, bad-end, bad-first, bad-skip, bad-take, last-end, last-first, last-skip, last-take, line-end, line-on, text-end, text-first, text-kept, text-skip, text-take}
 use Rattle.ptpm_world.proofs.script.play.Goals as goal
 
 pub loop-number-init : goal.loop-number-init
@@ -30,6 +30,8 @@ loop-number-preserved-then-is_skipped g c =
     let now = running c.loop-number.world in
     let first = g.W.Write.contents c.args.out.now in
     let written = g.W.Write.contents c.loop-number.out in
+    let more = g.W.Write.contents c.show_written.new.out in
+    let kept = c.in_ok-show_written.ensures.kept in
     let told = left_in R c.args.script.now in
     let had = left_in R c.loop-number.script in
     let has = left_in R c.read.new.self in
@@ -46,12 +48,14 @@ loop-number-preserved-then-is_skipped g c =
       network = h.network;
       faults = events-more told had has first_number line_number (c.read.new.self.count + 1) n line h.faults came.whole is_text
           (event-skip n line skip) (ap (λ k. k + 1) counted);
-      begun = λ N is. line-on (λ all left. Begun N called start now first written all n left) (λ all left. Begun N called start now first written all (n + 1) left) _ _ _ line
-          (λ all before after e. begun-skip N called start now first written all n before after line e skip) (h.begun N is) came.reads;
+      begun = λ N is. line-on (λ all left. Begun N called start now first written all n left) (λ all left. Begun N called start now first more all (n + 1) left) _ _ _ line
+          (λ all before after e went. begun-kept N called start now first written more all (n + 1) after kept
+          (begun-skip N called start now first written all n before after line e skip went)) (h.begun N is) came.reads;
       events = line-on (λ all left. SameBad all n left) (λ all left. SameBad all (n + 1) left) _ _ _ line
           (λ all before after e. bad-skip all n before after line e skip) h.events came.reads;
-      text = λ N is. line-on (λ all left. GoesOn N called start now first written all n left) (λ all left. GoesOn N called start now first written all (n + 1) left) _ _ _ line
-          (λ all before after e. text-skip N called start now first written all n before after line e skip) (h.text N is) came.reads;
+      text = λ N is. line-on (λ all left. GoesOn N called start now first written all n left) (λ all left. GoesOn N called start now first more all (n + 1) left) _ _ _ line
+          (λ all before after e went. text-kept N called start now first written more all (n + 1) after kept
+          (text-skip N called start now first written all n before after line e skip went)) (h.text N is) came.reads;
       last = λ N is. line-on (λ all left. LeadsOn N called start now all n left) (λ all left. LeadsOn N called start now all (n + 1) left) _ _ _ line
           (λ all before after e. last-skip N called start now all n before after line e skip) (h.last N is) came.reads;
     }
@@ -211,6 +215,13 @@ returns-in_err-play_event-clause-fault g c =
     err-on c.from_residual-in_err-play_event.result c.in_err-play_event.field-0.0 (λ e. is_outside e ≡ false → EventsFault told first_number e) c.from_residual-in_err-play_event.ensures.1
     (λ inside. outside c.in_err-play_event.field-0.0 c.in_err-play_event.ensures.fault inside)
 
+pub returns-in_err-show_written-clause-fault : goal.returns-in_err-show_written-clause-fault
+returns-in_err-show_written-clause-fault g c =
+    let told = left_in g.R.Read.remaining c.args.script.now in
+    let first_number = c.args.script.now.count + 1 in
+    err-on c.from_residual-in_err-show_written.result c.in_err-show_written.field-0.0 (λ e. is_outside e ≡ false → EventsFault told first_number e) c.from_residual-in_err-show_written.ensures.1
+    (λ inside. outside c.in_err-show_written.field-0.0 (ap is_outside c.in_err-show_written.ensures.fault) inside)
+
 pub returns-in_err-read-clause-begun : goal.returns-in_err-read-clause-begun
 returns-in_err-read-clause-begun g c = λ N is.
     begun-err c.from_residual.result c.in_err-read.field-0.0 N (names_in c.args.world.now) (running c.args.world.now) (running c.loop-number.world)
@@ -238,3 +249,10 @@ returns-in_err-play_event-clause-begun g c = λ N is.
     (g.W.Write.contents c.args.out.now) (g.W.Write.contents c.loop-number.out) (g.W.Write.contents c.play_event.new.out)
     (left_in g.R.Read.remaining c.args.script.now) (left_in g.R.Read.remaining c.loop-number.script) (c.loop-number.number + 1)
     c.from_residual-in_err-play_event.ensures.1 c.in_err-play_event.ensures.kept (c.loop-number.invariant.begun N is)
+
+pub returns-in_err-show_written-clause-begun : goal.returns-in_err-show_written-clause-begun
+returns-in_err-show_written-clause-begun g c = λ N is.
+    begun-err c.from_residual-in_err-show_written.result c.in_err-show_written.field-0.0 N (names_in c.args.world.now) (running c.args.world.now) (running c.loop-number.world)
+    (g.W.Write.contents c.args.out.now) (g.W.Write.contents c.loop-number.out) (g.W.Write.contents c.show_written.new.out)
+    (left_in g.R.Read.remaining c.args.script.now) (left_in g.R.Read.remaining c.loop-number.script) (c.loop-number.number + 1)
+    c.from_residual-in_err-show_written.ensures.1 (λ other. absurd (other c.in_err-show_written.ensures.fault)) (c.loop-number.invariant.begun N is)
