@@ -2,11 +2,11 @@
 
 use clap::error::ErrorKind;
 use clap::{Arg, ArgAction, ArgGroup, ArgMatches, Command, value_parser};
-use ptpm_commands::Fault;
 use ptpm_commands::answer::{answer, answer_lines};
 use ptpm_commands::ids::ids;
 use ptpm_commands::make::{RequestWords, make};
-use ptpm_commands::show::{show, show_lines};
+use ptpm_commands::show::{show, show_good_lines, show_lines};
+use ptpm_commands::{Fault, tell};
 use ptpm_world::{ScriptError, run_script};
 use std::alloc::{AllocError, Global};
 use std::fmt;
@@ -26,7 +26,7 @@ pub fn command<R: Read, O: Write, E: Write>(
     out: &mut O,
     err: &mut E,
 ) -> u8 {
-    match run(alloc, words, reader, out) {
+    match run(alloc, words, reader, out, err) {
         Ok(()) => 0,
         Err(Failure::Fault(fault)) => end_at_fault(&fault, out, err),
         Err(Failure::Script(fault)) => end_at_fault(&fault, out, err),
@@ -41,8 +41,8 @@ pub fn command<R: Read, O: Write, E: Write>(
 /// refuses that, a write failed first.
 fn end_at_fault<F: fmt::Display, O: Write, E: Write>(fault: &F, out: &mut O, err: &mut E) -> u8 {
     let _ = match out.flush() {
-        Ok(()) => writeln!(err, "ptpm: {fault}"),
-        Err(_) => writeln!(err, "ptpm: {}", Fault::WriteFault),
+        Ok(()) => tell(fault, err),
+        Err(_) => tell(&Fault::WriteFault, err),
     };
     1
 }
@@ -61,17 +61,19 @@ impl From<Fault> for Failure {
     }
 }
 
-fn run<R: Read, O: Write>(
+fn run<R: Read, O: Write, E: Write>(
     alloc: Global,
     words: &[&str],
     reader: &mut R,
     out: &mut O,
+    err: &mut E,
 ) -> Result<(), Failure> {
     match parse(alloc, words) {
         Ok(Task::Answer(Datagrams::One(text))) => answer(alloc, text, out)?,
         Ok(Task::Answer(Datagrams::Lines)) => answer_lines(alloc, reader, out)?,
         Ok(Task::Show(Datagrams::One(text))) => show(alloc, text, out)?,
         Ok(Task::Show(Datagrams::Lines)) => show_lines(alloc, reader, out)?,
+        Ok(Task::ShowGoodLines) => show_good_lines(alloc, reader, out, err)?,
         Ok(Task::Ids) => ids(out)?,
         Ok(Task::Make(words)) => make(alloc, &words, out)?,
         Ok(Task::Run) => run_script(alloc, reader, out).map_err(Failure::Script)?,
@@ -89,6 +91,8 @@ fn run<R: Read, O: Write>(
 enum Task<'a> {
     Answer(Datagrams<'a>),
     Show(Datagrams<'a>),
+    /// `show --lines --skip`.
+    ShowGoodLines,
     Ids,
     Make(RequestWords<'a>),
     /// `run`, with a script on standard input.
@@ -119,6 +123,7 @@ fn parse<'a>(alloc: Global, words: &'a [&'a str]) -> Result<Task<'a>, clap::Erro
 fn task_of<'a>(name: &str, values: &ArgMatches<'a>) -> Option<Task<'a>> {
     match name {
         "answer" => Some(Task::Answer(datagrams_of(values)?)),
+        "show" if values.get_flag("skip") => Some(Task::ShowGoodLines),
         "show" => Some(Task::Show(datagrams_of(values)?)),
         "ids" => Some(Task::Ids),
         "make" => Some(Task::Make(request_words(values)?)),
@@ -152,7 +157,6 @@ fn command_line<'a>(alloc: Global) -> Result<Command<'a>, AllocError> {
     let answer = Command::new(alloc, "answer").about(
         "Prints what a fresh clock sends for a datagram at its port 1",
     );
-    let show = Command::new(alloc, "show").about("Prints the fields of a management message");
     let ids = Command::new(alloc, "ids").about("Prints the table of management ids");
     let run = Command::new(alloc, "run").about(
         "Runs a network as the script on standard input says, and prints the trace",
@@ -164,7 +168,7 @@ fn command_line<'a>(alloc: Global) -> Result<Command<'a>, AllocError> {
         .disable_help_subcommand(true)
         .subcommand_required(true)
         .subcommand(with_datagrams(alloc, answer)?)?
-        .subcommand(with_datagrams(alloc, show)?)?
+        .subcommand(show_command(alloc)?)?
         .subcommand(ids)?
         .subcommand(make_command(alloc)?)?
         .subcommand(run)
@@ -173,15 +177,28 @@ fn command_line<'a>(alloc: Global) -> Result<Command<'a>, AllocError> {
 /// The command, with a datagram or `--lines`.
 fn with_datagrams<'a>(alloc: Global, command: Command<'a>) -> Result<Command<'a>, AllocError> {
     let datagram = word(alloc, "HEX", "The datagram in hexadecimal digits");
-    let lines = Arg::new(alloc, "lines")
-        .long("lines")
-        .help("Reads a datagram from each line of standard input")
-        .action(ArgAction::SetTrue);
+    let lines = flag(
+        alloc,
+        "lines",
+        "Reads a datagram from each line of standard input",
+    );
     let either = ArgGroup::new(alloc, "datagrams")
         .arg("HEX")?
         .arg("lines")?
         .required(true);
     command.arg(datagram)?.arg(lines)?.group(either)
+}
+
+/// `show`, which takes `--skip` with `--lines` alone: without a datagram `--lines` is required.
+fn show_command<'a>(alloc: Global) -> Result<Command<'a>, AllocError> {
+    let show = Command::new(alloc, "show").about("Prints the fields of a management message");
+    let skip = flag(
+        alloc,
+        "skip",
+        "With --lines: names each line without a management message on standard error and reads on, with status 0",
+    )
+    .conflicts_with("HEX")?;
+    with_datagrams(alloc, show)?.arg(skip)
 }
 
 fn make_command<'a>(alloc: Global) -> Result<Command<'a>, AllocError> {
@@ -231,6 +248,14 @@ fn with_numbers<'a>(alloc: Global, command: Command<'a>) -> Result<Command<'a>, 
 /// A word at its place in the command line.
 fn word<'a>(alloc: Global, id: &'a str, help: &'a str) -> Arg<'a> {
     Arg::new(alloc, id).help(help).action(ArgAction::Set)
+}
+
+/// An option `--NAME` without a value.
+fn flag<'a>(alloc: Global, name: &'a str, help: &'a str) -> Arg<'a> {
+    Arg::new(alloc, name)
+        .long(name)
+        .help(help)
+        .action(ArgAction::SetTrue)
 }
 
 /// An option `--NAME VALUE`.

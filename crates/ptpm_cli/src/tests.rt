@@ -346,7 +346,7 @@ fn refused_command_lines(rt: HostRuntime) {
         (
             &["ptpm", "show", "0g", "00"],
             b"error: unexpected argument '00' found\n\n\
-            Usage: ptpm show <HEX|--lines>\n\n\
+            Usage: ptpm show [OPTIONS] <HEX|--lines>\n\n\
             For more information, try '--help'.\n",
         ),
     ];
@@ -362,11 +362,12 @@ fn help(rt: HostRuntime) {
         rt.alloc(),
         &["ptpm", "show", "--help"],
         b"Prints the fields of a management message\n\n\
-        Usage: ptpm show <HEX|--lines>\n\n\
+        Usage: ptpm show [OPTIONS] <HEX|--lines>\n\n\
         Arguments:\n  \
         [HEX]  The datagram in hexadecimal digits\n\n\
         Options:\n      \
-        --lines  Reads a datagram from each line of standard input\n  \
+        --lines  Reads a datagram from each line of standard input\n      \
+        --skip   With --lines: names each line without a management message on standard error and reads on, with status 0\n  \
         -h, --help   Print help\n",
     );
     prints(&rt, rt.alloc(), &["ptpm", "--version"], b"ptpm 0.1.0\n");

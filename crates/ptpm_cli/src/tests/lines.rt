@@ -10,7 +10,7 @@ use std::io::Read;
 use std::process::Abort;
 use std::test::Fail;
 
-/// The subcommand reads this, ends with this status, and writes this on its two outputs.
+/// The subcommand reads this, ends with status 1 where it tells a fault, and writes this on its two outputs.
 fn reads<R: Read + Drop>(
     rt: &impl Abort,
     alloc: Global,
@@ -19,14 +19,28 @@ fn reads<R: Read + Drop>(
     printed: &[u8],
     told: &str,
 ) {
+    let status = if told.is_empty() { 0 } else { 1 };
+    let words = ["ptpm", name, "--lines"];
+    ends(rt, alloc, &words, reader, status, printed, told);
+}
+
+/// The program reads this, ends with this status, and writes this on its two outputs.
+fn ends<R: Read + Drop>(
+    rt: &impl Abort,
+    alloc: Global,
+    words: &[&str],
+    reader: R,
+    wanted: u8,
+    printed: &[u8],
+    told: &str,
+) {
     let mut out = Vec::new(alloc);
     let mut err = Vec::new(alloc);
     let mut reader = reader;
-    let words = ["ptpm", name, "--lines"];
-    let status = command(alloc, &words, &mut reader, &mut out, &mut err);
-    assert!(rt; out.as_slice() == printed, "{name}");
+    let status = command(alloc, words, &mut reader, &mut out, &mut err);
+    assert!(rt; out.as_slice() == printed, "{words:?}");
     assert_eq!(rt; err.as_slice(), told.as_bytes());
-    assert!(rt; status == if told.is_empty() { 0 } else { 1 });
+    assert!(rt; status == wanted);
 }
 
 /// `answer` reads these lines and prints those.
@@ -136,5 +150,38 @@ fn failing_lines(rt: HostRuntime) -> Result<(), Fail> {
         };
         reads(&rt, alloc, "answer", reader, printed, "ptpm: ReadFault\n");
     }
+    Ok(())
+}
+
+/// An Announce message, of messageType 0xB, with its header and its body (13.3.1, 13.5.1).
+const ANNOUNCE: &str = "0b02004000000000000000000000000000000000\
+    aabbccfffeddee01000100010501\
+    00000000000000000000002500\
+    80f821ffff80aabbccfffeddee01000020";
+
+const SKIPPED: &str = "ptpm: BadLine 2 NotManagement\n\
+    ptpm: BadLine 3 TooShort\n\
+    ptpm: BadLine 4 BadHex\n\
+    ptpm: LineTooLong 5\n\
+    ptpm: BadLine 8 TooShort\n";
+
+/// With `--skip` each line without a management message is told, one that is too long too, and the others are shown. A read
+/// that fails ends it as ever.
+#[test]
+fn skipped_lines(rt: HostRuntime) -> Result<(), Fail> {
+    let alloc = rt.alloc();
+    let words = ["ptpm", "show", "--lines", "--skip"];
+    let long = "0".repeat(alloc, 5_000)?;
+    let input = format!(in alloc; "{REPLY}\n{ANNOUNCE}\n\nx\n{long}\nnothing\n1 {REFUSAL}\r\n00")?;
+    let mut shown = Vec::new(alloc);
+    shown.extend_from_slice(SHOWN_REPLY)?;
+    shown.extend_from_slice(SHOWN_REFUSAL)?;
+    let lines = input.as_bytes();
+    ends(&rt, alloc, &words, lines, 0, shown.as_slice(), SKIPPED);
+    let octets = b"00\n";
+    let left = octets.len();
+    let reader = FailingReader { octets, left };
+    let told = "ptpm: BadLine 1 TooShort\nptpm: ReadFault\n";
+    ends(&rt, alloc, &words, reader, 1, b"", told);
     Ok(())
 }
