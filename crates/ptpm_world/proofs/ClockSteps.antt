@@ -1,5 +1,5 @@
 -- Events at a clock: what the world becomes, and what is answered.
-use Rattle.ptpm_world.proofs.Common.{◌≡◌, ℕ, ◌<◌, ◌≤◌, ◌&&◌, not, List, ◌++◌, Some, None, Ok, Err, true, false, refl, sym, ◌∙◌, ap, subst, length, nat_lt, nat_le, and_from, and_left, and_right, cond-true, cond-false, le-ltb, lt-ltb, slice_get_within, flat_map, map, slice_get, DataSetsValue, has_port, State, Turned, turn, Deliver, Stranger, NoSuchName, NoSuchFrame, Forged, FramesAtMaximum, frames_limit, frame_at, is_forged, no_port, Held, RunningNetwork, after_turn, held, network_step, reaches, reaches_end, seen, turn_frames, strange_frame, AtPort, Network, origin_by, posted_by, Frame, Origin, Neither, World, RunningClock, held_in, link_ends, IsOf, agent_clock, agent_state, running, state_of, IsStep, took, took_at, took_of}
+use Rattle.ptpm_world.proofs.Common.{◌≡◌, ℕ, ◌<◌, ◌≤◌, ◌&&◌, not, List, ◌++◌, Some, None, Ok, Err, true, false, refl, sym, ◌∙◌, ap, subst, length, nat_lt, nat_le, and_from, and_left, and_right, cond-true, cond-false, le-ltb, lt-ltb, slice_get_within, flat_map, map, slice_get, DataSetsValue, has_port, State, Turned, turn, Deliver, Stranger, NoSuchName, NoSuchFrame, Forged, FramesAtMaximum, frames_limit, frame_at, is_forged, no_port, Held, after_turn, held, network_step, reaches, reaches_end, seen, turn_frames, strange_frame, AtPort, Network, origin_by, posted_by, Frame, Origin, Neither, World, RunningClock, held_in, link_ends, IsOf, agent_clock, agent_state, running, state_of, IsStep, took, took_at, took_of, no_frame, network_refusal}
 use Rattle.std.proofs.Math.Nat.{le_refl}
 use Rattle.ptpm_agent.specs.Agent.{IsTurned}
 use Rattle.ptpm_agent.specs.declared.verdict.Verdict.{Verdict}
@@ -9,9 +9,10 @@ use Rattle.ptpm_network.proofs.Posting.{held-turn_frames}
 use Rattle.ptpm_agent.proofs.TurnKeeps.{turn-ports}
 use Rattle.ptpm_world.specs.declared.took.StepError.TheVariants as errors
 use Rattle.ptpm_world.specs.declared.took.Took.TheVariants.{AtClock}
+use Rattle.ptpm_network.specs.Events.{Event}
 use Rattle.ptpm_world.proofs.Changing.{ClockChange, clock_change-network, clock_change-running}
 use Rattle.ptpm_world.proofs.Ending.{step_fine, step_refused}
-use Rattle.ptpm_world.proofs.Refusing.{deliver-absent, deliver-fine, deliver-full, stranger-absent, stranger-fine, stranger-forged, stranger-full}
+use Rattle.ptpm_world.proofs.Refusing.{after_none, deliver-fine, first_some, full, roomy}
 
 -- ---- a turn
 
@@ -20,55 +21,45 @@ state_after : (t : Turned) (verdict : Verdict) (out : List (ℕ × List ℕ)) (n
     → next ≡ t.next
 state_after t verdict out next is = λ i. record { sets = is.sets_are i; entries = is.entries_are i }
 
--- the turn of the agent at a place is that of the network's clock
-same_turn : (N : Network) (old new : World) (c port : ℕ) (x y : RunningClock) (octets : List ℕ)
-    → IsOf N old
-    → ClockChange old new c x y
-    → turn (agent_clock x.agent) (agent_state x.agent) port octets
-    ≡ turn (N.clock c) ((running old).clock c) port octets
-same_turn N old new c port x y octets is change =
-    ap (λ (k : Clock). turn k (agent_state x.agent) port octets) (is.clocks c x change.at).clock
-    ∙ ap (λ (s : State). turn (N.clock c) s port octets) (sym (ap state_of change.at))
+module _ (N : Network) (old new : World) (c port : ℕ) (x y : RunningClock) (f : Frame) (verdict : Verdict) (out : List (ℕ × List ℕ)) (is : IsOf N old) (change : ClockChange old new c x y) (turned : IsTurned (turn (agent_clock x.agent) (agent_state x.agent) port f.octets) verdict out (agent_state y.agent)) where
+  -- the turn of the agent at a place is that of the network's clock
+  same_turn : turn (agent_clock x.agent) (agent_state x.agent) port f.octets
+      ≡ turn (N.clock c) ((running old).clock c) port f.octets
+  same_turn =
+      ap (λ (k : Clock). turn k (agent_state x.agent) port f.octets) (is.clocks c x change.at).clock
+      ∙ ap (λ (s : State). turn (N.clock c) s port f.octets) (sym (ap state_of change.at))
 
-frames_after : (N : Network) (old : World) (c port : ℕ) (s : State) (f : Frame) (verdict : Verdict)
-    (out : List (ℕ × List ℕ)) (next : State)
-    → IsOf N old
-    → IsTurned (turn (N.clock c) s port f.octets) verdict out next
-    → flat_map (posted_by (link_ends old.links.items) c port f.origin (origin_by verdict f.origin))
-    out ≡ map held (turn_frames N s c port f)
-frames_after N old c port s f verdict out next is turned =
-    ap (λ (links : List (List End)). flat_map (posted_by links c port f.origin (origin_by verdict f.origin)) out) is.links
-    ∙ ap (λ (w : Verdict). flat_map (posted_by N.links c port f.origin (origin_by w f.origin)) out) turned.verdict_is
-    ∙ ap (λ (ms : List (ℕ × List ℕ)). flat_map (posted_by N.links c port f.origin (origin_by (turn (N.clock c) s port f.octets).verdict f.origin)) ms) turned.outbox_is
-    ∙ held-turn_frames N s c port f
+  there : IsTurned (turn (N.clock c) ((running old).clock c) port f.octets) verdict out
+      (agent_state y.agent)
+  there = subst (λ (t : Turned). IsTurned t verdict out (agent_state y.agent)) same_turn turned
 
-turn-goes : (N : Network) (old new : World) (c port : ℕ) (x y : RunningClock) (f : Frame)
-    (verdict : Verdict) (out : List (ℕ × List ℕ))
-    → IsOf N old
-    → ClockChange old new c x y
-    → IsTurned (turn (agent_clock x.agent) (agent_state x.agent) port f.octets) verdict out
-    (agent_state y.agent)
-    → held_in new.frames
-    ≡ held_in old.frames
-    ++ flat_map
-    (posted_by (link_ends old.links.items) c port f.origin (origin_by verdict f.origin))
-    out
-    → running new ≡ after_turn N (running old) c port f
-turn-goes N old new c port x y f verdict out is change turned sent =
-    let s : State = (running old).clock c in
-    let there = subst (λ (t : Turned). IsTurned t verdict out (agent_state y.agent)) (same_turn N old new c port x y f.octets is change) turned in
-    clock_change-running old new c x y (turn (N.clock c) s port f.octets).next (held_in old.frames ++ map held (turn_frames N s c port f)) change
-    (state_after (turn (N.clock c) s port f.octets) verdict out (agent_state y.agent) there)
-    (sent ∙ ap (λ (hs : List Held). held_in old.frames ++ hs) (frames_after N old c port s f verdict out (agent_state y.agent) is there))
+  frames_after : flat_map
+      (posted_by (link_ends old.links.items) c port f.origin (origin_by verdict f.origin))
+      out
+      ≡ map held (turn_frames N ((running old).clock c) c port f)
+  frames_after =
+      (λ i. flat_map (posted_by (is.links i) c port f.origin (origin_by (there.verdict_is i) f.origin)) (there.outbox_is i))
+      ∙ held-turn_frames N ((running old).clock c) c port f
 
-told_verdict : (N : Network) (old new : World) (c port : ℕ) (x y : RunningClock) (octets : List ℕ)
-    (verdict : Verdict) (out : List (ℕ × List ℕ)) (next : State)
-    → IsOf N old
-    → ClockChange old new c x y
-    → IsTurned (turn (agent_clock x.agent) (agent_state x.agent) port octets) verdict out next
-    → AtClock verdict ≡ took_at N (running old) octets (AtPort c port)
-told_verdict N old new c port x y octets verdict out next is change turned =
-    ap AtClock turned.verdict_is ∙ ap (λ (t : Turned). AtClock t.verdict) (same_turn N old new c port x y octets is change)
+  -- an event that gives the clock this turn
+  turn-step : (e : Event)
+      → held_in new.frames
+      ≡ held_in old.frames
+      ++ flat_map
+      (posted_by (link_ends old.links.items) c port f.origin (origin_by verdict f.origin))
+      out
+      → after_turn N (running old) c port f ≡ network_step N (running old) e
+      → took_at N (running old) f.octets (AtPort c port) ≡ took N (running old) e
+      → network_refusal N (running old) e ≡ None
+      → IsStep N old new e (Ok (AtClock verdict))
+  turn-step e sent goes tells permitted =
+      let s : State = (running old).clock c in
+      step_fine N old new e (AtClock verdict)
+      (clock_change-running old new c x y (turn (N.clock c) s port f.octets).next (held_in old.frames ++ map held (turn_frames N s c port f)) change
+      (state_after (turn (N.clock c) s port f.octets) verdict out (agent_state y.agent) there)
+      (sent ∙ ap (λ (hs : List Held). held_in old.frames ++ hs) frames_after) ∙ goes)
+      (ap AtClock there.verdict_is ∙ tells) permitted
+      (clock_change-network N old new c x y change is)
 
 -- the clock has as many ports as before
 pub ports_after : (x y : RunningClock) (port : ℕ) (octets : List ℕ) (verdict : Verdict)
@@ -93,20 +84,6 @@ turned_same new mid old some links c port passed reply sent out e m l o =
 
 -- ---- a frame comes in
 
-deliver-goes : (N : Network) (r : RunningNetwork) (n c port : ℕ) (h : Held)
-    → frame_at r.frames n ≡ Some h
-    → h.end ≡ AtPort c port
-    → after_turn N r c port (seen h) ≡ network_step N r (Deliver n)
-unfolding network_step
-deliver-goes N r n c port h e at = sym (ap (reaches_end N r) e ∙ ap (reaches N r h) at)
-
-deliver-tells : (N : Network) (r : RunningNetwork) (n c port : ℕ) (h : Held)
-    → frame_at r.frames n ≡ Some h
-    → h.end ≡ AtPort c port
-    → took_at N r h.octets (AtPort c port) ≡ took N r (Deliver n)
-unfolding took
-deliver-tells N r n c port h e at = sym (ap (took_of N r) e ∙ ap (took_at N r h.octets) at)
-
 pub deliver_clock-fine : (N : Network) (old new : World) (n c port : ℕ) (x y : RunningClock)
     (h : Held) (verdict : Verdict) (out : List (ℕ × List ℕ))
     → IsOf N old
@@ -122,25 +99,28 @@ pub deliver_clock-fine : (N : Network) (old new : World) (n c port : ℕ) (x y :
     (posted_by (link_ends old.links.items) c port h.origin (origin_by verdict h.origin))
     out
     → IsStep N old new (Deliver n) (Ok (AtClock verdict))
+unfolding network_step took
 deliver_clock-fine N old new n c port x y h verdict out is change e at room turned sent =
-    step_fine N old new (Deliver n) (AtClock verdict)
-    (turn-goes N old new c port x y (seen h) verdict out is change turned sent ∙ deliver-goes N (running old) n c port h e at)
-    (told_verdict N old new c port x y h.octets verdict out (agent_state y.agent) is change turned ∙ deliver-tells N (running old) n c port h e at)
+    turn-step N old new c port x y (seen h) verdict out is change turned (Deliver n) sent
+    (sym (ap (reaches_end N (running old)) e ∙ ap (reaches N (running old) h) at))
+    (sym (ap (took_of N (running old)) e ∙ ap (took_at N (running old) h.octets) at))
     (deliver-fine N (running old) n h e room)
-    (clock_change-network N old new c x y change is)
 
 pub deliver-no_frame : (N : Network) (w : World) (n : ℕ)
     → IsOf N w
     → frame_at (held_in w.frames) n ≡ None
     → IsStep N w w (Deliver n) (Err errors.NoSuchFrame)
-deliver-no_frame N w n is e = step_refused N w w (Deliver n) NoSuchFrame (deliver-absent N (running w) n e) is
+unfolding network_refusal
+deliver-no_frame N w n is e = step_refused N w w (Deliver n) NoSuchFrame (first_some _ _ _ (ap no_frame e)) is
 
 pub deliver-too_many : (N : Network) (old new : World) (n : ℕ) (h : Held)
     → IsOf N new
     → frame_at (held_in old.frames) n ≡ Some h
     → nat_lt frames_limit (length (held_in old.frames)) ≡ true
     → IsStep N old new (Deliver n) (Err errors.FramesAtMaximum)
-deliver-too_many N old new n h is e full = step_refused N old new (Deliver n) FramesAtMaximum (deliver-full N (running old) n h e full) is
+unfolding network_refusal
+deliver-too_many N old new n h is e over =
+    step_refused N old new (Deliver n) FramesAtMaximum (after_none _ _ (ap no_frame e) ∙ full (held_in old.frames) over) is
 
 -- ---- a stranger
 
@@ -176,18 +156,15 @@ clock_lacking N w c port is e =
     let past : N.clocks ≤ c = subst (λ n. n ≤ c) (e ∙ is.clock_count) (le_refl c) in
     cond-true _ _ _ (ap not (and_left (nat_lt c N.clocks) (has_port port (N.start c)) (le-ltb c N.clocks past)))
 
-stranger-goes : (N : Network) (r : RunningNetwork) (c port : ℕ) (datagram : List ℕ)
-    → after_turn N r c port (strange_frame c port datagram)
-    ≡ network_step N r (Stranger c port datagram)
-unfolding network_step
-stranger-goes N r c port datagram = refl
+pub stranger-no_clock : (N : Network) (w : World) (c port : ℕ) (datagram : List ℕ)
+    → IsOf N w
+    → c ≡ length w.clocks.items
+    → IsStep N w w (Stranger c port datagram) (Err errors.NoSuchName)
+unfolding network_refusal
+stranger-no_clock N w c port datagram is e =
+    step_refused N w w (Stranger c port datagram) NoSuchName (first_some _ _ _ (clock_lacking N w c port is e)) is
 
-stranger-tells : (N : Network) (r : RunningNetwork) (c port : ℕ) (datagram : List ℕ)
-    → took_at N r datagram (AtPort c port) ≡ took N r (Stranger c port datagram)
-unfolding took
-stranger-tells N r c port datagram = refl
-
-stranger-turned_here : (N : Network) (old new : World) (c port : ℕ) (x y : RunningClock)
+pub stranger-turned : (N : Network) (old new : World) (c port : ℕ) (x y : RunningClock)
     (datagram : List ℕ) (verdict : Verdict) (out : List (ℕ × List ℕ))
     → IsOf N old
     → ClockChange old new c x y
@@ -202,72 +179,31 @@ stranger-turned_here : (N : Network) (old new : World) (c port : ℕ) (x y : Run
     (posted_by (link_ends old.links.items) c port Neither (origin_by verdict Neither))
     out
     → IsStep N old new (Stranger c port datagram) (Ok (AtClock verdict))
-stranger-turned_here N old new c port x y datagram verdict out is change has honest room turned sent =
-    step_fine N old new (Stranger c port datagram) (AtClock verdict)
-    (turn-goes N old new c port x y (strange_frame c port datagram) verdict out is change turned sent ∙ stranger-goes N (running old) c port datagram)
-    (told_verdict N old new c port x y datagram verdict out (agent_state y.agent) is change turned ∙ stranger-tells N (running old) c port datagram)
-    (stranger-fine N (running old) c port datagram (port_there N old c port x is change.at has) honest room)
-    (clock_change-network N old new c x y change is)
+unfolding network_step network_refusal took
+stranger-turned N old new c port x y datagram verdict out is change has honest room turned sent =
+    turn-step N old new c port x y (strange_frame c port datagram) verdict out is change turned (Stranger c port datagram) sent refl refl
+    (after_none _ _ (port_there N old c port x is change.at has) ∙ after_none _ _ (cond-false _ _ _ honest) ∙ roomy (held_in old.frames) room)
 
-pub stranger-turned : (N : Network) (old new : World) (c s port : ℕ) (x y : RunningClock)
-    (datagram : List ℕ) (verdict : Verdict) (out : List (ℕ × List ℕ))
-    → IsOf N old
-    → ClockChange old new c x y
-    → has_port port x.agent.sets ≡ true
-    → is_forged N datagram ≡ false
-    → nat_lt frames_limit (length (held_in old.frames)) ≡ false
-    → IsTurned (turn (agent_clock x.agent) (agent_state x.agent) port datagram) verdict out
-    (agent_state y.agent)
-    → held_in new.frames
-    ≡ held_in old.frames
-    ++ flat_map
-    (posted_by (link_ends old.links.items) c port Neither (origin_by verdict Neither))
-    out
-    → c ≡ s → IsStep N old new (Stranger s port datagram) (Ok (AtClock verdict))
-stranger-turned N old new c s port x y datagram verdict out is change has honest room turned sent at_s =
-    subst (λ k. IsStep N old new (Stranger k port datagram) (Ok (AtClock verdict))) at_s (stranger-turned_here N old new c port x y datagram verdict out is change has honest room turned sent)
+module _ (N : Network) (old new : World) (c port : ℕ) (x : RunningClock) (datagram : List ℕ) (is : IsOf N old) (is_new : IsOf N new) (at : slice_get old.clocks.items c ≡ Some x) where
+  pub stranger-no_port : has_port port x.agent.sets ≡ false
+      → IsStep N old new (Stranger c port datagram) (Err errors.NoSuchName)
+  unfolding network_refusal
+  stranger-no_port lacks =
+      step_refused N old new (Stranger c port datagram) NoSuchName (first_some _ _ _ (port_lacking N old c port x is at lacks)) is_new
 
-pub stranger-no_clock : (N : Network) (w : World) (c port : ℕ) (datagram : List ℕ)
-    → IsOf N w
-    → c ≡ length w.clocks.items
-    → IsStep N w w (Stranger c port datagram) (Err errors.NoSuchName)
-stranger-no_clock N w c port datagram is e = step_refused N w w (Stranger c port datagram) NoSuchName (stranger-absent N (running w) c port datagram (clock_lacking N w c port is e)) is
+  pub stranger-forges : has_port port x.agent.sets ≡ true
+      → is_forged N datagram ≡ true
+      → IsStep N old new (Stranger c port datagram) (Err errors.Forged)
+  unfolding network_refusal
+  stranger-forges has forged =
+      step_refused N old new (Stranger c port datagram) Forged
+      (after_none _ _ (port_there N old c port x is at has) ∙ first_some _ _ _ (cond-true _ _ _ forged)) is_new
 
-pub stranger-no_port : (N : Network) (old new : World) (c s port : ℕ) (x : RunningClock)
-    (datagram : List ℕ)
-    → IsOf N old
-    → IsOf N new
-    → slice_get old.clocks.items c ≡ Some x
-    → has_port port x.agent.sets ≡ false
-    → c ≡ s
-    → IsStep N old new (Stranger s port datagram) (Err errors.NoSuchName)
-stranger-no_port N old new c s port x datagram is is_new at lacks at_s =
-    subst (λ k. IsStep N old new (Stranger k port datagram) (Err errors.NoSuchName)) at_s
-    (step_refused N old new (Stranger c port datagram) NoSuchName (stranger-absent N (running old) c port datagram (port_lacking N old c port x is at lacks)) is_new)
-
-pub stranger-forges : (N : Network) (old new : World) (c s port : ℕ) (x : RunningClock)
-    (datagram : List ℕ)
-    → IsOf N old
-    → IsOf N new
-    → slice_get old.clocks.items c ≡ Some x
-    → has_port port x.agent.sets ≡ true
-    → is_forged N datagram ≡ true
-    → c ≡ s
-    → IsStep N old new (Stranger s port datagram) (Err errors.Forged)
-stranger-forges N old new c s port x datagram is is_new at has forged at_s =
-    subst (λ k. IsStep N old new (Stranger k port datagram) (Err errors.Forged)) at_s
-    (step_refused N old new (Stranger c port datagram) Forged (stranger-forged N (running old) c port datagram (port_there N old c port x is at has) forged) is_new)
-
-pub stranger-too_many : (N : Network) (old new : World) (c s port : ℕ) (x : RunningClock)
-    (datagram : List ℕ)
-    → IsOf N old
-    → IsOf N new
-    → slice_get old.clocks.items c ≡ Some x
-    → has_port port x.agent.sets ≡ true
-    → is_forged N datagram ≡ false
-    → nat_lt frames_limit (length (held_in old.frames)) ≡ true
-    → c ≡ s
-    → IsStep N old new (Stranger s port datagram) (Err errors.FramesAtMaximum)
-stranger-too_many N old new c s port x datagram is is_new at has honest full at_s =
-    subst (λ k. IsStep N old new (Stranger k port datagram) (Err errors.FramesAtMaximum)) at_s
-    (step_refused N old new (Stranger c port datagram) FramesAtMaximum (stranger-full N (running old) c port datagram (port_there N old c port x is at has) honest full) is_new)
+  pub stranger-too_many : has_port port x.agent.sets ≡ true
+      → is_forged N datagram ≡ false
+      → nat_lt frames_limit (length (held_in old.frames)) ≡ true
+      → IsStep N old new (Stranger c port datagram) (Err errors.FramesAtMaximum)
+  unfolding network_refusal
+  stranger-too_many has honest over =
+      step_refused N old new (Stranger c port datagram) FramesAtMaximum
+      (after_none _ _ (port_there N old c port x is at has) ∙ after_none _ _ (cond-false _ _ _ honest) ∙ full (held_in old.frames) over) is_new

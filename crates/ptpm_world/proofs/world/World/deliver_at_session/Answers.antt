@@ -18,8 +18,8 @@ returns-clause-step c = λ N is.
     let e : frame_at (held_in w.frames) c.args.number ≡ Some h = lent_octets _ (frame_value c.in-Some.frame) c.octets.result.now c.in-Some.ensures c.octets.ensures in
     let there = at_session w c.args.number c.args.place h c.requires.frame e in
     let at : slice_get w.sessions.items c.args.place ≡ Some x = slice_get_read w.sessions.items _ c.args.place x refl there.1 c.index_mut.ensures.value in
-    hear-step N w _ c.args.number c.args.place x c.hear.new.self h c.hear.result is (record { at = at; sessions = refl; clocks = refl; links = refl; name = c.hear.ensures.name; identity = c.hear.ensures.identity })
-    e there.0 c.requires.room c.hear.ensures.session c.hear.ensures.reports refl c.hear.ensures.answers c.hear.ensures.refused
+    hear-step N w _ c.args.place x c.hear.new.self is (record { at = at; sessions = refl; clocks = refl; links = refl; name = c.hear.ensures.name; identity = c.hear.ensures.identity })
+    c.args.number h c.hear.result e there.0 c.requires.room c.hear.ensures.session c.hear.ensures.reports refl c.hear.ensures.answers c.hear.ensures.refused
 
 pub returns-clause-unchanged : goal.returns-clause-unchanged
 returns-clause-unchanged c =

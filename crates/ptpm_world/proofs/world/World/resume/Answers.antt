@@ -1,27 +1,32 @@
-use Rattle.ptpm_world.proofs.Common.{◌≡◌, Some, refl, slice_get_read, slice_get}
+use Rattle.ptpm_world.proofs.Common.{◌≡◌, Some, refl, slice_get_read, slice_get, Resume}
 use Rattle.ptpm_world.proofs.Changing.{names-session}
+use Rattle.ptpm_world.proofs.Ending.{step_error, step_named}
 use Rattle.ptpm_world.proofs.SessionSteps.{resume-fine, resume-no_name, resume-refused}
 use Rattle.ptpm_world.proofs.world.World.resume.Goals as goal
+use Rattle.ptpm_world.proofs.world.World.resume.Goals.{After-index_mut}
+
+-- the session of that name
+named : (c : After-index_mut)
+    → slice_get c.args.self.now.sessions.items c.in-Some.place ≡ Some c.index_mut.result.now
+named c = slice_get_read c.args.self.now.sessions.items _ c.in-Some.place c.index_mut.result.now refl c.in-Some.ensures.found.1 c.index_mut.ensures.value
 
 pub returns-in_default-clause-step : goal.returns-in_default-clause-step
-returns-in_default-clause-step c = λ N is. resume-no_name N c.args.self.now _ c.args.attempts is c.in_default.ensures.none
+returns-in_default-clause-step c = λ N is. resume-no_name N c.args.self.now _ is c.in_default.ensures.none c.args.attempts
 
 pub returns-clause-step : goal.returns-clause-step
 returns-clause-step c = λ N is.
-    let x = c.index_mut.result.now in
-    let at : slice_get c.args.self.now.sessions.items c.in-Some.place ≡ Some x = slice_get_read c.args.self.now.sessions.items _ c.in-Some.place x refl c.in-Some.ensures.found.1 c.index_mut.ensures.value in
-    resume-fine N c.args.self.now _ c.in-Some.place _ x _ c.args.attempts is (record { at = at; sessions = refl; clocks = refl; links = refl; name = refl; identity = refl })
-    c.in_ok-resume.ensures.resumed refl refl c.in_ok-resume.ensures.refusal c.in-Some.ensures.found.0
+    let at = named (goal.at.returns-clause-step c).After-index_mut in
+    step_named N c.args.self.now _ (λ k. Resume k c.args.attempts) c.in-Some.place _ _ c.in-Some.ensures.found.0
+    (resume-fine N c.args.self.now _ c.in-Some.place c.index_mut.result.now _ is (record { at = at; sessions = refl; clocks = refl; links = refl; name = refl; identity = refl })
+    c.args.attempts c.in_ok-resume.ensures.refusal c.in_ok-resume.ensures.resumed refl refl)
 
 pub returns-clause-names : goal.returns-clause-names
-returns-clause-names c =
-    let x = c.index_mut.result.now in
-    let at : slice_get c.args.self.now.sessions.items c.in-Some.place ≡ Some x = slice_get_read c.args.self.now.sessions.items _ c.in-Some.place x refl c.in-Some.ensures.found.1 c.index_mut.ensures.value in
-    names-session c.args.self.now c.in-Some.place x _ at refl
+returns-clause-names c = names-session c.args.self.now c.in-Some.place c.index_mut.result.now _ (named (goal.at.returns-clause-names c).After-index_mut) refl
 
 pub returns-in_err-resume-clause-step : goal.returns-in_err-resume-clause-step
 returns-in_err-resume-clause-step c = λ N is.
-    let x = c.index_mut.result.now in
-    let at : slice_get c.args.self.now.sessions.items c.in-Some.place ≡ Some x = slice_get_read c.args.self.now.sessions.items _ c.in-Some.place x refl c.in-Some.ensures.found.1 c.index_mut.ensures.value in
-    resume-refused N c.args.self.now _ c.in-Some.place _ x _ c.args.attempts c.in_err-resume.field-0.0 c.from_residual.result is (record { at = at; sessions = refl; clocks = refl; links = refl; name = refl; identity = refl })
-    c.in_err-resume.ensures.refusal c.from_residual.ensures.1 c.in-Some.ensures.found.0
+    let at = named (goal.at.returns-in_err-resume-clause-step c).After-index_mut in
+    step_named N c.args.self.now _ (λ k. Resume k c.args.attempts) c.in-Some.place _ _ c.in-Some.ensures.found.0
+    (step_error N c.args.self.now _ (Resume c.in-Some.place c.args.attempts) _ c.from_residual.result c.from_residual.ensures.1
+    (resume-refused N c.args.self.now _ c.in-Some.place c.index_mut.result.now _ is (record { at = at; sessions = refl; clocks = refl; links = refl; name = refl; identity = refl })
+    c.args.attempts c.in_err-resume.field-0.0 c.in_err-resume.ensures.refusal))

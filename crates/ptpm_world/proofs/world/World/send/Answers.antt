@@ -1,24 +1,33 @@
-use Rattle.ptpm_world.proofs.Common.{◌≡◌, Some, refl, sym, ◌∙◌, ap, subst, All, length, slice_get_read, slice_get, SessionValue, AtSession, RequestOf, AreLinks, IsStoredFrame, port_counts, held_in, link_ends}
+use Rattle.ptpm_world.proofs.Common.{Send, ◌≡◌, Some, refl, sym, ◌∙◌, ap, subst, All, length, slice_get_read, slice_get, SessionValue, AtSession, RequestOf, AreLinks, IsStoredFrame, port_counts, held_in, link_ends}
 use Rattle.ptpm_world.proofs.Changing.{names-session}
+use Rattle.ptpm_world.proofs.Ending.{step_error, step_named}
 use Rattle.ptpm_world.proofs.Kept.{kept-session}
 use Rattle.ptpm_world.proofs.SessionSteps.{message_due, posted_same, send-fine, send-no_name, send-refused, send-too_many}
 use Rattle.ptpm_world.proofs.world.World.send.Goals as goal
+use Rattle.ptpm_world.proofs.world.World.send.Goals.{After-index_mut}
+
+-- the session of that name
+named : (c : After-index_mut)
+    → slice_get c.args.self.now.sessions.items c.in-Some.place ≡ Some c.index_mut.result.now
+named c = slice_get_read c.args.self.now.sessions.items _ c.in-Some.place c.index_mut.result.now refl c.in-Some.ensures.found.1 c.index_mut.ensures.value
 
 pub returns-in_default-clause-step : goal.returns-in_default-clause-step
 returns-in_default-clause-step c = λ N is. send-no_name N c.args.self.now _ is c.in_default.ensures.none
 
 pub returns-then-is_full-clause-step : goal.returns-then-is_full-clause-step
 returns-then-is_full-clause-step c = λ N is.
-    send-too_many N c.args.self.now _ c.in-Some.place _ is
+    step_named N c.args.self.now _ Send c.in-Some.place _ _ c.in-Some.ensures.found.0
+    (send-too_many N c.args.self.now _ c.in-Some.place is
     (record { clock_count = is.clock_count; clocks = is.clocks; session_count = is.session_count; sessions = is.sessions; links = is.links })
-    c.in-Some.ensures.found.1 (sym c.is_full.ensures ∙ c.if-is_full.true) c.in-Some.ensures.found.0
+    c.in-Some.ensures.found.1 (sym c.is_full.ensures ∙ c.if-is_full.true))
 
 pub returns-in_err-send-clause-step : goal.returns-in_err-send-clause-step
 returns-in_err-send-clause-step c = λ N is.
-    let x = c.index_mut.result.now in
-    let at : slice_get c.args.self.now.sessions.items c.in-Some.place ≡ Some x = slice_get_read c.args.self.now.sessions.items _ c.in-Some.place x refl c.in-Some.ensures.found.1 c.index_mut.ensures.value in
-    send-refused N c.args.self.now _ c.in-Some.place _ x _ c.in_err-send.field-0.0 c.from_residual-in_err-send.result is (record { at = at; sessions = refl; clocks = refl; links = refl; name = refl; identity = refl })
-    (sym c.is_full.ensures ∙ c.if-is_full.false) c.in_err-send.ensures.refusal c.from_residual-in_err-send.ensures.1 c.in-Some.ensures.found.0
+    let at = named (goal.at.returns-in_err-send-clause-step c).After-index_mut in
+    step_named N c.args.self.now _ Send c.in-Some.place _ _ c.in-Some.ensures.found.0
+    (step_error N c.args.self.now _ (Send c.in-Some.place) _ c.from_residual-in_err-send.result c.from_residual-in_err-send.ensures.1
+    (send-refused N c.args.self.now _ c.in-Some.place c.index_mut.result.now _ is (record { at = at; sessions = refl; clocks = refl; links = refl; name = refl; identity = refl })
+    c.in_err-send.field-0.0 (sym c.is_full.ensures ∙ c.if-is_full.false) c.in_err-send.ensures.refusal))
 
 pub post-requires-clause-few : goal.post-requires-clause-few
 post-requires-clause-few c =
@@ -39,16 +48,15 @@ pub returns-clause-step : goal.returns-clause-step
 returns-clause-step c = λ N is.
     let w = c.args.self.now in
     let x = c.index_mut.result.now in
-    let at : slice_get w.sessions.items c.in-Some.place ≡ Some x = slice_get_read w.sessions.items _ c.in-Some.place x refl c.in-Some.ensures.found.1 c.index_mut.ensures.value in
+    let at = named (goal.at.returns-clause-step c).After-index_mut in
     let due = message_due x.session c.in_ok-send.ensures.refusal in
     let count = sym (c.issued.ensures.count ∙ ap (λ (z : SessionValue). z.issued) c.in_ok-send.ensures.sent) in
     let frames = posted_same _ _ (held_in w.frames) (link_ends c.as_slice.result.now) (link_ends w.links.items) (AtSession c.in-Some.place) c.as_slice-2.result.now c.send.new.buffer.items (RequestOf c.in-Some.place c.issued.result)
     c.post.ensures.frames c.in_ok-make_room.ensures.frames (ap link_ends c.as_slice.ensures.value) c.as_slice-2.ensures.value in
-    send-fine N w _ c.in-Some.place _ c.issued.result x _ c.send.new.buffer.items due.0 is (record { at = at; sessions = refl; clocks = refl; links = refl; name = refl; identity = refl })
-    c.in_ok-send.ensures.sent refl count due.1 (c.in_ok-send.ensures.octets due.0 due.1) frames (sym c.is_full.ensures ∙ c.if-is_full.false) c.in_ok-send.ensures.refusal c.in-Some.ensures.found.0
+    step_named N w _ Send c.in-Some.place _ _ c.in-Some.ensures.found.0
+    (send-fine N w _ c.in-Some.place x _ is (record { at = at; sessions = refl; clocks = refl; links = refl; name = refl; identity = refl })
+    c.issued.result c.send.new.buffer.items due.0 (sym c.is_full.ensures ∙ c.if-is_full.false) c.in_ok-send.ensures.refusal count due.1
+    (c.in_ok-send.ensures.octets due.0 due.1) c.in_ok-send.ensures.sent refl frames)
 
 pub returns-clause-names : goal.returns-clause-names
-returns-clause-names c =
-    let x = c.index_mut.result.now in
-    let at : slice_get c.args.self.now.sessions.items c.in-Some.place ≡ Some x = slice_get_read c.args.self.now.sessions.items _ c.in-Some.place x refl c.in-Some.ensures.found.1 c.index_mut.ensures.value in
-    names-session c.args.self.now c.in-Some.place x _ at refl
+returns-clause-names c = names-session c.args.self.now c.in-Some.place c.index_mut.result.now _ (named (goal.at.returns-clause-names c).After-index_mut) refl
