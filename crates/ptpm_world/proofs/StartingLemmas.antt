@@ -1,5 +1,5 @@
 -- A world as it starts is one of its network, and stands where the machine starts.
-use Rattle.ptpm_world.proofs.Common.{suc, zero, arith, ◌≡◌, ◌≢◌, ℕ, ◌+◌, ◌<◌, ◌≤◌, ◌==◌, Bool, true, false, if◌then◌else◌, List, [], ◌∷◌, ◌++◌, Option, Some, None, Result, Ok, refl, ap, sym, ◌∙◌, subst, length, map, get_or, set, slice_get, slice_index_or, All, AllByRecursion, count_by, filter, length-map, length_push, length-filter, slice_get_read, PortIdentity, every_clock, same_clock, DataSetsValue, port_data_set, start_fault, start_of, unless, is_known, IsFresh, clock_with, has_twice, identities, StandsAt, initial_clock_state, Stands, RunningNetwork, initial_state, history, NetworkLink, AreDistinct, CanStart, ClockValue, IsAccepted, IsEndOf, IsLinkOf, NetworkValue, clock_value, first_sets, link_value, Frames, RunningClock, RunningSession, World, clock_at, configured, described, described_end, described_session, no_clock, session_at, with_rights, AreLinks, IsStoredFrame, IsThere, port_counts, frame_in, held_in, link_ends, Names, names_of, IsOf, agent_state, reports_of, session_of, state_of, table_entries, AreStartedClocks, AreStartedSessions, IsStartedClock, IsStartedSession}
+use Rattle.ptpm_world.proofs.Common.{suc, zero, arith, ◌≡◌, ◌≢◌, ℕ, ◌+◌, ◌<◌, ◌≤◌, ◌==◌, Bool, true, false, if◌then◌else◌, List, [], ◌∷◌, ◌++◌, Option, Some, None, Result, Ok, refl, ap, sym, ◌∙◌, subst, length, map, get_or, set, slice_get, slice_index_or, All, AllByRecursion, filter, length-map, length_push, length-filter, slice_get_read, PortIdentity, every_clock, same_clock, DataSetsValue, port_data_set, start_fault, start_of, unless, is_known, IsFresh, clock_with, has_twice, identities, StandsAt, initial_clock_state, Stands, RunningNetwork, initial_state, history, NetworkLink, AreDistinct, CanStart, ClockValue, IsAccepted, IsEndOf, IsLinkOf, NetworkValue, clock_value, first_sets, link_value, Frames, RunningClock, RunningSession, World, clock_at, configured, described, described_end, described_session, no_clock, session_at, with_rights, AreLinks, IsStoredFrame, IsThere, port_counts, frame_in, held_in, link_ends, Names, names_of, IsOf, agent_state, reports_of, session_of, state_of, table_entries, AreStartedClocks, AreStartedSessions, IsStartedClock, IsStartedSession}
 use Rattle.ptpm_codec.specs.declared.identity.ClockIdentity.{ClockIdentity}
 use Rattle.ptpm_codec.proofs.IdentityLaws.{same_clock-true}
 use Rattle.ptpm_data.specs.declared.rights.Rights.{Rights}
@@ -9,7 +9,6 @@ use Rattle.ptpm_data.specs.Start.{started}
 use Rattle.ptpm_table.specs.declared.slot_table.SlotTable.{SlotTable}
 use Rattle.ptpm_table.specs.Managers.{Clock}
 use Rattle.ptpm_table.specs.Slots as slots
-use Rattle.ptpm_agent.specs.declared.agent.Agent.{Agent}
 use Rattle.ptpm_manager.specs.Session as manager
 use Rattle.ptpm_manager.specs.Setup.{AreTwoClocks}
 use Rattle.ptpm_network.proofs.Lists.{all_get}
