@@ -6,7 +6,7 @@ pub use Rattle.std.proofs.lemmas.List.{length-map, length-take, drop-append-le, 
 pub use Rattle.std.proofs.lemmas.List.Sums.{count_by-le-length, length-filter, prefix_len-le-length}
 pub use Rattle.std.proofs.lemmas.Option.{slice_get_within, same_Some, slice_get_past, slice_get_read, slice_get-map, get_or_from_slice_get}
 pub use Rattle.std.specs.Io.KnownBytes.{Appends, Consumes, IsAtEnd, Keeps}
-pub use Rattle.std.specs.List.{AllByRecursion, filter, onto_first, list_any, range_with_len, slice_split, count_by, enumerate_from, position_or_len, prefix_len}
+pub use Rattle.std.specs.List.{AllByRecursion, filter, onto_first, list_any, range_with_len, slice_split, enumerate_from, position_or_len, prefix_len}
 pub use Rattle.std.specs.Option.{option_or, option_copied}
 pub use Rattle.std.specs.Prelude.{IfSome, slice_get, slice_set, flat_map, slice_index_or, OnSome, zip, find, IfNone, Contains, IsSome, bytes_eq, ◌↔◌, position, is_ok, vec_len, vec_capacity, string_bytes}
 pub use Rattle.std.specs.Str.Lines.{lines, lines_of_parts, strip_carriage_return}
