@@ -41,16 +41,14 @@ IsAbove m es d = same_identity m d.manager ≡ true → greatest m es < d.index
 
 -- what is kept stays
 pub kept-joined : (m : PortIdentity) (es : List Accepted) (d : Accepted) (k : ℕ)
-    → IsAbove m es d
-    → k ≤ greatest m es
+    → IsAbove m es d → k ≤ greatest m es
     → kept_reply m k (d ∷ es) ≡ kept_reply m k es
 kept-joined m es d k above le = kept-rest m k d es (by_test (same_identity m d.manager)
     (λ y. let lt : greatest m es < d.index = above y in and_right _ _ (ne_eqb d.index k (λ (q : d.index ≡ k). omega arith)))
     (λ n. and_left _ _ n))
 
 outcomes_kept-joined : (m : PortIdentity) (es : List Accepted) (d : Accepted) (n : ℕ)
-    → IsAbove m es d
-    → n ≤ greatest m es
+    → IsAbove m es d → n ≤ greatest m es
     → outcomes_kept m (d ∷ es) n ≡ outcomes_kept m es n
 outcomes_kept-joined m es d zero above le = refl
 outcomes_kept-joined m es d (suc n) above le =
@@ -59,9 +57,7 @@ outcomes_kept-joined m es d (suc n) above le =
 
 was_accepted-joined : (m : PortIdentity) (begun : List RequestValue) (es : List Accepted)
     (d : Accepted) (k : ℕ)
-    → IsAbove m es d
-    → k ≤ greatest m es
-    → WasAccepted m begun es k
+    → IsAbove m es d → k ≤ greatest m es → WasAccepted m begun es k
     → WasAccepted m begun (d ∷ es) k
 was_accepted-joined m begun es d k above le old = record {
   entry = old.entry;
@@ -80,25 +76,15 @@ pub record JoinsOwn (m : PortIdentity) (begun : List RequestValue) (d : Accepted
 
 -- what joins is the next one
 next_only : (begun reports g index k new : ℕ)
-    → begun ≤ reports + 1
-    → reports ≤ g
-    → g < index
-    → index ≤ begun
-    → new ≡ max index g
-    → k ≤ new
+    → begun ≤ reports + 1 → reports ≤ g → g < index → index ≤ begun → new ≡ max index g → k ≤ new
     → (index ≡ k → ⊥)
     → k ≤ g
 next_only begun reports g index k new a b c d e f ne = omega arith
 
 without_gap-own : (m : PortIdentity) (ports : ℕ) (es : List Accepted) (d : Accepted)
     (s : SessionState)
-    → same_identity m d.manager ≡ true
-    → IsAbove m es d
-    → JoinsOwn m s.begun d
-    → IsInStep m ports es s
-    → (k : ℕ)
-    → 0 < k
-    → k ≤ greatest m (d ∷ es)
+    → same_identity m d.manager ≡ true → IsAbove m es d → JoinsOwn m s.begun d
+    → IsInStep m ports es s → (k : ℕ) → 0 < k → k ≤ greatest m (d ∷ es)
     → WasAccepted m s.begun (d ∷ es) k
 without_gap-own m ports es d s y above own at k p le = ⊎_elim
     (λ (q : d.index ≡ k). record {
@@ -115,8 +101,7 @@ without_gap-own m ports es d s y above own at k p le = ⊎_elim
 
 -- indexes are from 1 on
 from_one-joined : (m : PortIdentity) (es : List Accepted) (d : Accepted)
-    → IsAbove m es d
-    → kept_reply m 0 es ≡ None
+    → IsAbove m es d → kept_reply m 0 es ≡ None
     → kept_reply m 0 (d ∷ es) ≡ None
 from_one-joined m es d above none = kept-rest m 0 d es (by_test (same_identity m d.manager)
     (λ y. let lt : greatest m es < d.index = above y in and_right _ _ (ne_eqb d.index 0 (λ (q : d.index ≡ 0). omega arith)))
@@ -125,8 +110,7 @@ from_one-joined m es d above none = kept-rest m 0 d es (by_test (same_identity m
 -- a manager goes on where one of its requests joins, or one of another manager
 pub in_step-joined : (m : PortIdentity) (ports : ℕ) (es : List Accepted) (d : Accepted)
     (s : SessionState)
-    → IsAbove m es d
-    → (same_identity m d.manager ≡ true → JoinsOwn m s.begun d)
+    → IsAbove m es d → (same_identity m d.manager ≡ true → JoinsOwn m s.begun d)
     → IsInStep m ports es s
     → IsInStep m ports (d ∷ es) s
 in_step-joined m ports es d s above own at = record {
@@ -149,17 +133,9 @@ in_step-joined m ports es d s above own at = record {
 -- it begins its next request, with each answer reported
 pub in_step-begun : (m : PortIdentity) (ports : ℕ) (es : List Accepted) (s : SessionState)
     (q : RequestValue) (n : ℕ)
-    → IsAsked ports q
-    → length s.reports ≡ length s.begun
-    → IsInStep m ports es s
+    → IsAsked ports q → length s.reports ≡ length s.begun → IsInStep m ports es s
     → IsInStep m ports es
-    (record {
-      domain = s.domain;
-      attempts_left = n;
-      begun = s.begun
-          ++ q ∷ [];
-      reports = s.reports;
-    })
+    (record { domain = s.domain; attempts_left = n; begun = s.begun ++ q ∷ []; reports = s.reports })
 in_step-begun m ports es s q n asked idle at = record {
   asked = λ i p e. get_appended (IsAsked ports) s.begun q i p asked (at.asked i) e;
   one_at_a_time = omega (arith, length-append s.begun (q ∷ []));
@@ -197,15 +173,12 @@ abbrev pub report_of : ℕ → Accepted → Answer → Report
 report_of k e a = record { index = k; outcome = outcome_in (answer_body e.reply.action e.reply.id a.outcome) }
 
 reports_of-one : (k : ℕ) (o : Option Accepted) (e : Accepted) (a : Answer)
-    → o ≡ Some e
-    → e.reply.answers ≡ a ∷ []
+    → o ≡ Some e → e.reply.answers ≡ a ∷ []
     → reports_of k o ≡ report_of k e a ∷ []
 reports_of-one k o e a kept one = ap (reports_of k) kept ∙ ap (reports_by k e.reply) one
 
 outcomes_kept-more : (m : PortIdentity) (es : List Accepted) (n k : ℕ) (e : Accepted) (a : Answer)
-    → k ≡ suc n
-    → kept_reply m k es ≡ Some e
-    → e.reply.answers ≡ a ∷ []
+    → k ≡ suc n → kept_reply m k es ≡ Some e → e.reply.answers ≡ a ∷ []
     → outcomes_kept m es k ≡ outcomes_kept m es n ++ report_of k e a ∷ []
 outcomes_kept-more m es n k e a next kept one =
     subst (λ i. kept_reply m i es ≡ Some e → outcomes_kept m es i ≡ outcomes_kept m es n ++ report_of i e a ∷ []) (sym next)
@@ -214,10 +187,10 @@ outcomes_kept-more m es n k e a next kept one =
 -- it is told the answer to its last request, which was accepted
 pub in_step-reported : (m : PortIdentity) (ports : ℕ) (es : List Accepted) (s : SessionState)
     (k : ℕ) (e : Accepted) (a : Answer)
-    → k ≡ length s.begun
-    → (length s.reports ≡ length s.begun → ⊥)
-    → kept_reply m k es ≡ Some e → e.reply.answers ≡ a ∷ [] → IsInStep m ports es s
-    → IsInStep m ports es (record { domain = s.domain; attempts_left = s.attempts_left; begun = s.begun; reports = s.reports ++ report_of k e a ∷ [] })
+    → k ≡ length s.begun → (length s.reports ≡ length s.begun → ⊥) → kept_reply m k es ≡ Some e
+    → e.reply.answers ≡ a ∷ [] → IsInStep m ports es s
+    → IsInStep m ports es
+    (record { domain = s.domain; attempts_left = s.attempts_left; begun = s.begun; reports = s.reports ++ report_of k e a ∷ [] })
 in_step-reported m ports es s k e a last busy kept one at =
     let bound : k ≤ greatest m es = kept-le m k es e kept in
     let more : length (s.reports ++ report_of k e a ∷ []) ≡ length s.reports + 1 = length-append s.reports (report_of k e a ∷ []) in

@@ -22,10 +22,7 @@ record Sent (N : Network) (w : NetworkState) (s : ℕ) : Type 0 where
   pub hops : boundary_hops octets ≡ (N.session s).setup.hops
 
 send-frames : (N : Network) (w : NetworkState) (s : ℕ) (q : RequestValue)
-    → IsNetwork N
-    → IsReached N w
-    → s < N.sessions
-    → unanswered (w.session s) ≡ Some q
+    → IsNetwork N → IsReached N w → s < N.sessions → unanswered (w.session s) ≡ Some q
     → Sent N w s
 send-frames N w s q n r place e =
     let k = issued w s in
@@ -42,8 +39,7 @@ send-frames N w s q n r place e =
     }
 
 send-not_refused : (v : SessionValue)
-    → is_waiting v ≡ true
-    → (v.attempts_left ≡ 0 → ⊥)
+    → is_waiting v ≡ true → (v.attempts_left ≡ 0 → ⊥)
     → send_refusal v ≡ None
 unfolding send_refusal
 send-not_refused v waits ne =
@@ -51,9 +47,7 @@ send-not_refused v waits ne =
     ∙ ap (λ b. first_of ((b, sends.GaveUp) ∷ [])) (ne_eqb v.attempts_left 0 ne)
 
 send-taken : (N : Network) (w : NetworkState) (s : ℕ) (q : RequestValue)
-    → s < N.sessions
-    → HasRoom w
-    → unanswered (w.session s) ≡ Some q
+    → s < N.sessions → HasRoom w → unanswered (w.session s) ≡ Some q
     → ((w.session s).attempts_left ≡ 0 → ⊥)
     → refusal N w (Send s) ≡ None
 unfolding refusal
@@ -68,7 +62,8 @@ module _ (N : Network) (w : NetworkState) (s : ℕ) where
   send-step none = step-taken N w (Send s) none
 
   -- its session is as it was, but for the attempts
-  sent-session : (machine.sends N w s).session s ≡ record (w.session s) { attempts_left = (w.session s).attempts_left - 1 }
+  sent-session : (machine.sends N w s).session s
+      ≡ record (w.session s) { attempts_left = (w.session s).attempts_left - 1 }
   sent-session = with_place-same w.session s (record (w.session s) { attempts_left = (w.session s).attempts_left - 1 }) s (eq-eqb s s refl)
 
 -- its requests, reports and domain are as they were
@@ -89,8 +84,7 @@ same-sent N w s =
     }
 
 same-moved : (w u z : NetworkState) (s : ℕ)
-    → z.session ≡ u.session
-    → IsSameSession w u s
+    → z.session ≡ u.session → IsSameSession w u s
     → IsSameSession w z s
 same-moved w u z s e same = record {
   counted = ap (λ (f : ℕ → SessionState). length (f s).begun) e ∙ same.counted;
@@ -100,8 +94,7 @@ same-moved w u z s e same = record {
 }
 
 reported-since : (w z x : NetworkState) (s : ℕ)
-    → IsSameSession w z s
-    → HasReported z x s
+    → IsSameSession w z s → HasReported z x s
     → HasReported w x s
 reported-since w z x s same h = record {
   report = h.report;
@@ -112,8 +105,7 @@ reported-since w z x s same h = record {
 
 -- copies of it are on their way, and no more than this
 sent-comes : (N : Network) (w : NetworkState) (s : ℕ) (end : End)
-    → Sent N w s
-    → list_any (same_end end) (peers N.links (AtSession s)) ≡ true
+    → Sent N w s → list_any (same_end end) (peers N.links (AtSession s)) ≡ true
     → Comes (machine.sends N w s) end (RequestOf s (issued w s)) (w.session s).domain
     (N.session s).setup.hops
 sent-comes N w s end sent link =
@@ -129,8 +121,7 @@ sent-comes N w s end sent link =
     }
 
 sent-few : (N : Network) (w : NetworkState) (s most : ℕ)
-    → Sent N w s
-    → MakesAtMost N most
+    → Sent N w s → MakesAtMost N most
     → length (machine.sends N w s).frames ≤ length w.frames + most
 sent-few N w s most sent few =
     let ends = peers N.links (AtSession s) in
@@ -147,13 +138,8 @@ record Told (N : Network) (s : ℕ) (z : NetworkState) : Type 0 where
   pub reported : HasReported z (step N z (Deliver number)) s
 
 tell : (N : Network) (s : ℕ) (z : NetworkState) (k domain hops : ℕ)
-    → IsNetwork N
-    → s < N.sessions
-    → IsReached N z
-    → HasRoom z
-    → issued z s ≡ k
-    → is_idle (z.session s) ≡ false
-    → (z.session s).domain ≡ domain
+    → IsNetwork N → s < N.sessions → IsReached N z → HasRoom z → issued z s ≡ k
+    → is_idle (z.session s) ≡ false → (z.session s).domain ≡ domain
     → Comes z (AtSession s) (ReplyTo s k) domain hops
     → Told N s z
 tell N s z k domain hops n place r room is busy here comes =
@@ -181,10 +167,7 @@ record AfterSend (N : Network) (w u : NetworkState) (s : ℕ) (hops : List Hop) 
   pub reported : HasReported w (run N u (handed_in deliveries)) s
 
 after_trip : (N : Network) (w u : NetworkState) (s : ℕ) (hops : List Hop) (to : End) (most : ℕ)
-    → IsNetwork N
-    → s < N.sessions
-    → is_idle (w.session s) ≡ false
-    → IsSameSession w u s
+    → IsNetwork N → s < N.sessions → is_idle (w.session s) ≡ false → IsSameSession w u s
     → length u.frames + made_along most hops ≤ frames_limit
     → Trip N s u most (issued w s) (w.session s).domain 0 hops to (AtSession s)
     → AfterSend N w u s hops to
@@ -204,13 +187,8 @@ after_trip N w u s hops to most n place busy same room trip =
 
 after-send : (N : Network) (w : NetworkState) (s : ℕ) (hops : List Hop) (port most : ℕ)
     (q : RequestValue)
-    → IsNetwork N
-    → IsReached N w
-    → s < N.sessions
-    → MakesAtMost N most
-    → unanswered (w.session s) ≡ Some q
-    → is_idle (w.session s) ≡ false
-    → IsWay N w s hops port
+    → IsNetwork N → IsReached N w → s < N.sessions → MakesAtMost N most
+    → unanswered (w.session s) ≡ Some q → is_idle (w.session s) ≡ false → IsWay N w s hops port
     → length w.frames + (most + made_along most hops) ≤ frames_limit
     → AfterSend N w (machine.sends N w s) s hops (AtPort (N.session s).target port)
 after-send N w s hops port most q n r place few e busy way room =
@@ -234,14 +212,10 @@ not_zero : (n : ℕ) → 0 < n → n ≡ 0 → ⊥
 not_zero n lt e = omega arith
 
 answerable-at : (N : Network) (w : NetworkState) (s : ℕ) (hops : List Hop) (port most : ℕ)
-    → IsNetwork N
-    → IsReached N w
-    → s < N.sessions
-    → MakesAtMost N most
-    → is_idle (w.session s) ≡ false
-    → 0 < (w.session s).attempts_left
-    → IsWay N w s hops port
-    → length w.frames + (most + made_along most hops) ≤ frames_limit → IsAnswerable N w s hops port
+    → IsNetwork N → IsReached N w → s < N.sessions → MakesAtMost N most
+    → is_idle (w.session s) ≡ false → 0 < (w.session s).attempts_left → IsWay N w s hops port
+    → length w.frames + (most + made_along most hops) ≤ frames_limit
+    → IsAnswerable N w s hops port
 answerable-at N w s hops port most n r place few busy attempts way room =
     let at = r.sessions s place in
     let waits = unanswered-some (w.session s) (fewer (length (w.session s).reports) (length (w.session s).begun) (le_trans at.accepted_before at.begun_before) (eqb-false _ _ busy)) in
@@ -250,9 +224,7 @@ answerable-at N w s hops port most n r place few busy attempts way room =
     record { sent = goes; deliveries = after.deliveries; along = after.along; come_in = after.come_in; reported = after.reported }
 
 pub answerable : (N : Network) (es : List Event) (s : ℕ) (hops : List Hop) (port ends : ℕ)
-    → IsNetwork N
-    → AllByRecursion IsInRange es
-    → s < N.sessions
+    → IsNetwork N → AllByRecursion IsInRange es → s < N.sessions
     → is_idle ((run N (initial_state N) es).session s) ≡ false
     → 0 < ((run N (initial_state N) es).session s).attempts_left
     → IsWay N (run N (initial_state N) es) s hops port → LinksHaveAtMost N ends
@@ -286,8 +258,8 @@ answering s ds = Send s ∷ handed_in ds
 pub answer-runs : (N : Network) (w : NetworkState) (s : ℕ) (hops : List Hop) (port : ℕ)
     (a : IsAnswerable N w s hops port)
     → AllByRecursion IsInRange (answering s a.deliveries)
-    × (taken N w (answering s a.deliveries) ≡ answering s a.deliveries)
-    × AreInTime N w (answering s a.deliveries)
+    × (taken N w (answering s a.deliveries) ≡ answering s a.deliveries) × AreInTime N w
+    (answering s a.deliveries)
 answer-runs N w s hops port a = (
   (tt, handed_in-in_range a.deliveries),
   cond-true _ _ _ (ap is_none a.sent) ∙ ap (λ rest. Send s ∷ rest) (come_in-taken N (step N w (Send s)) a.deliveries a.come_in),

@@ -50,8 +50,7 @@ module _ (c : Clock) (h : History) (copy : RequestCopy) (r : ReplyValue) where
 
 pub reply_frames-are : (N : Network) (w : NetworkState) (c : ℕ) (o : Origin)
     (sent : List (ℕ × List ℕ))
-    → IsNetwork N
-    → AllByRecursion (λ m. IsOfOrigin N w m.1 o) sent
+    → IsNetwork N → AllByRecursion (λ m. IsOfOrigin N w m.1 o) sent
     → AllByRecursion (IsFrame N w) (reply_frames N c o sent)
 reply_frames-are N w c o sent n a =
     all_flat (λ m. IsOfOrigin N w m.1 o) (IsFrame N w) _ (λ m p. new_frames-are N w (peers N.links (AtPort c m.0)) m.1 o (has_peers N (AtPort c m.0) n) p) sent a
@@ -85,8 +84,7 @@ pub record KeepsDue (N : Network) (u : NetworkState) (s k : ℕ) (r : ReplyValue
 
 pub keeps_due : (N : Network) (w : NetworkState) (c port : ℕ) (f : Frame) (copy : RequestCopy)
     (r : ReplyValue)
-    → IsReached N (arrives w c (delivery port f))
-    → (of : IsCopyOf N w c port f copy)
+    → IsReached N (arrives w c (delivery port f)) → (of : IsCopyOf N w c port f copy)
     → copy_of (N.clock c) (ports N c) (delivery port f) ≡ Some copy
     → due_reply (N.clock c) (history N w c) copy ≡ Some r
     → KeepsDue N (arrives w c (delivery port f)) of.session of.k r
@@ -112,9 +110,7 @@ keeps_due N w c port f copy r reached of e d =
 -- it is a frame of the reply that is kept for the copy's request
 due-origin : (N : Network) (w : NetworkState) (c port : ℕ) (f : Frame) (copy : RequestCopy)
     (r : ReplyValue)
-    → IsNetwork N
-    → IsReached N (arrives w c (delivery port f))
-    → HasEnd N (AtPort c port)
+    → IsNetwork N → IsReached N (arrives w c (delivery port f)) → HasEnd N (AtPort c port)
     → (of : IsCopyOf N w c port f copy)
     → copy_of (N.clock c) (ports N c) (delivery port f) ≡ Some copy
     → due_reply (N.clock c) (history N w c) copy ≡ Some r
@@ -153,11 +149,8 @@ due-origin N w c port f copy r n reached end of e d =
 
 pub due-frames : (N : Network) (w : NetworkState) (c port : ℕ) (f : Frame) (copy : RequestCopy)
     (o : Option ReplyValue)
-    → IsNetwork N
-    → IsReached N (arrives w c (delivery port f))
-    → HasEnd N (AtPort c port)
-    → IsCopyOf N w c port f copy
-    → copy_of (N.clock c) (ports N c) (delivery port f) ≡ Some copy
+    → IsNetwork N → IsReached N (arrives w c (delivery port f)) → HasEnd N (AtPort c port)
+    → IsCopyOf N w c port f copy → copy_of (N.clock c) (ports N c) (delivery port f) ≡ Some copy
     → due_reply (N.clock c) (history N w c) copy ≡ o
     → AllByRecursion (IsFrame N (arrives w c (delivery port f)))
     (reply_frames N c (reply_origin f.origin) (due_messages (N.clock c) copy o))

@@ -32,12 +32,9 @@ action_of-answer_body action id (reply.Refused error) = refl
 
 copy_of-origin : (N : Network) (w : NetworkState) (c port : ℕ) (f : Frame) (o : Origin)
     (copy : RequestCopy)
-    → f.origin ≡ o
-    → IsNetwork N
-    → IsReached N w
-    → c < N.clocks
-    → IsHeard N w f.octets o
-    → DeliversCopy (N.clock c) (ports N c) (delivery port f) copy → IsCopyOf N w c port f copy
+    → f.origin ≡ o → IsNetwork N → IsReached N w → c < N.clocks → IsHeard N w f.octets o
+    → DeliversCopy (N.clock c) (ports N c) (delivery port f) copy
+    → IsCopyOf N w c port f copy
 copy_of-origin N w c port f (RequestOf t k) copy e n r place i d =
     let says = says_request N w t k f.octets n r i in
     let v : Message = request_at N t k says.domain says.hops says.request in
@@ -75,10 +72,7 @@ copy_of-origin N w c port f Neither copy e n r place i d =
     absurd ((i d.message d.read).1.no_request m.0 m.1 (sym m.2))
 
 pub is_copy_of : (N : Network) (w : NetworkState) (c port : ℕ) (f : Frame) (copy : RequestCopy)
-    → IsNetwork N
-    → IsReached N w
-    → c < N.clocks
-    → IsHeard N w f.octets f.origin
+    → IsNetwork N → IsReached N w → c < N.clocks → IsHeard N w f.octets f.origin
     → copy_of (N.clock c) (ports N c) (delivery port f) ≡ Some copy
     → IsCopyOf N w c port f copy
 is_copy_of N w c port f copy n r place i e =
@@ -88,7 +82,8 @@ is_copy_of N w c port f copy n r place i e =
 
 module _ (N : Network) (w : NetworkState) (c : ℕ) (x : Delivery) where
   -- the copies of a list with one more delivery
-  pub copies-here : copies_at N (arrives w c x) c ≡ copies_at N w c ++ cons_option (copy_of (N.clock c) (ports N c) x) []
+  pub copies-here : copies_at N (arrives w c x) c
+      ≡ copies_at N w c ++ cons_option (copy_of (N.clock c) (ports N c) x) []
   copies-here =
       ap (copies (N.clock c) (ports N c)) (with_place-same w.arrivals c (w.arrivals c ++ x ∷ []) c (eq-eqb c c refl))
       ∙ filter_map-append (copy_of (N.clock c) (ports N c)) (w.arrivals c) (x ∷ [])
@@ -108,7 +103,8 @@ applied_once-arrival c h [] (Some k) = refl
 applied_once-arrival c h (j ∷ js) o = applied_once-arrival c (after_copy c h j) js o
 
 module _ (N : Network) (w : NetworkState) (c : ℕ) (x : Delivery) where
-  pub history-here : history N (arrives w c x) c ≡ after_arrival (N.clock c) (history N w c) (copy_of (N.clock c) (ports N c) x)
+  pub history-here : history N (arrives w c x) c
+      ≡ after_arrival (N.clock c) (history N w c) (copy_of (N.clock c) (ports N c) x)
   history-here =
       ap (applied_once (N.clock c) (initial_history (N.start c))) (copies-here N w c x)
       ∙ applied_once-arrival (N.clock c) (initial_history (N.start c)) (copies_at N w c) (copy_of (N.clock c) (ports N c) x)
@@ -132,10 +128,7 @@ abbrev HereAfter : Network → NetworkState → ℕ → ℕ → Frame → Type 0
 HereAfter N w c port f = (history N (arrives w c (delivery port f)) c ≡ history N w c) ⊎ JoinsAt N w c port f
 
 here_by : (N : Network) (w : NetworkState) (c port : ℕ) (f : Frame) (o : Option RequestCopy)
-    → IsNetwork N
-    → IsReached N w
-    → c < N.clocks
-    → IsHeard N w f.octets f.origin
+    → IsNetwork N → IsReached N w → c < N.clocks → IsHeard N w f.octets f.origin
     → copy_of (N.clock c) (ports N c) (delivery port f) ≡ o
     → HereAfter N w c port f
 here_by N w c port f None n r place i e =
@@ -153,10 +146,7 @@ here_by N w c port f (Some copy) n r place i e =
     (λ f. inl (is ∙ cond-false _ _ _ f))
 
 pub here_after : (N : Network) (w : NetworkState) (c port : ℕ) (f : Frame)
-    → IsNetwork N
-    → IsReached N w
-    → c < N.clocks
-    → IsHeard N w f.octets f.origin
+    → IsNetwork N → IsReached N w → c < N.clocks → IsHeard N w f.octets f.origin
     → HereAfter N w c port f
 here_after N w c port f n r place i = here_by N w c port f (copy_of (N.clock c) (ports N c) (delivery port f)) n r place i refl
 
@@ -189,9 +179,7 @@ abbrev pub StaysOrGains : PortIdentity → List RequestValue → List Accepted �
 StaysOrGains m begun new old = (new ≡ old) ⊎ Gains m begun new old
 
 joins-own : (N : Network) (w : NetworkState) (c port : ℕ) (f : Frame)
-    → IsReached N w
-    → c < N.clocks
-    → (j : JoinsAt N w c port f)
+    → IsReached N w → c < N.clocks → (j : JoinsAt N w c port f)
     → JoinsOwn (manager N j.of.session) (w.session j.of.session).begun
     (accepted_from (N.clock c) (history N w c) j.copy)
 joins-own N w c port f r place j =
@@ -209,7 +197,8 @@ joins-own N w c port f r place j =
     }
 
 module _ (N : Network) (w : NetworkState) (c port : ℕ) (f : Frame) (n : IsNetwork N) (r : IsReached N w) (place : c < N.clocks) (i : IsHeard N w f.octets f.origin) (t : ℕ) (exists : t < N.sessions) where
-  gains-here : StaysOrGains (manager N t) (w.session t).begun (history N (arrives w c (delivery port f)) c).accepted (history N w c).accepted
+  gains-here : StaysOrGains (manager N t) (w.session t).begun
+      (history N (arrives w c (delivery port f)) c).accepted (history N w c).accepted
   gains-here = ⊎_elim
       (λ (e : history N (arrives w c (delivery port f)) c ≡ history N w c). inl (ap (λ (h : History). h.accepted) e))
       (λ (j : JoinsAt N w c port f). inr (record {
@@ -222,7 +211,8 @@ module _ (N : Network) (w : NetworkState) (c port : ℕ) (f : Frame) (n : IsNetw
       }))
       (here_after N w c port f n r place i)
 
-  pub gains : StaysOrGains (manager N t) (w.session t).begun (accepted_at_target N (arrives w c (delivery port f)) t) (accepted_at_target N w t)
+  pub gains : StaysOrGains (manager N t) (w.session t).begun
+      (accepted_at_target N (arrives w c (delivery port f)) t) (accepted_at_target N w t)
   gains = by_test ((N.session t).target == c)
       (λ y. subst (λ d. StaysOrGains (manager N t) (w.session t).begun (history N (arrives w c (delivery port f)) d).accepted (history N w d).accepted)
       (sym (eqb-true (N.session t).target c y)) gains-here)

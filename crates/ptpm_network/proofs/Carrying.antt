@@ -30,22 +30,19 @@ pub in_map : {X Y : Type 0} (f : X → Y) (xs : List X) (x : X) → IsIn xs x �
 in_map f xs x p = (p.0, in_map-at f xs p.0 x p.1)
 
 in_flat-at : {X Y : Type 0} (f : X → List Y) (xs : List X) (i : ℕ) (x : X) (y : Y)
-    → slice_get xs i ≡ Some x
-    → IsIn (f x) y
+    → slice_get xs i ≡ Some x → IsIn (f x) y
     → IsIn (flat_map f xs) y
 in_flat-at f [] i x y e p = absurd (cc)
 in_flat-at f (z ∷ xs) zero x y e p = let q : z ≡ x = cc in in_left (f z) (flat_map f xs) y (subst (λ a. IsIn (f a) y) (sym q) p)
 in_flat-at f (z ∷ xs) (suc i) x y e p = in_right (f z) (flat_map f xs) y (in_flat-at f xs i x y e p)
 
 pub in_flat : {X Y : Type 0} (f : X → List Y) (xs : List X) (x : X) (y : Y)
-    → IsIn xs x
-    → IsIn (f x) y
+    → IsIn xs x → IsIn (f x) y
     → IsIn (flat_map f xs) y
 in_flat f xs x y p q = in_flat-at f xs p.0 x y p.1 q
 
 in_filter-at : {X : Type 0} (test : X → Bool) (xs : List X) (i : ℕ) (x : X)
-    → slice_get xs i ≡ Some x
-    → test x ≡ true
+    → slice_get xs i ≡ Some x → test x ≡ true
     → IsIn (filter test xs) x
 in_filter-at test [] i x e t = absurd (cc)
 in_filter-at test (y ∷ xs) zero x e t =
@@ -58,8 +55,7 @@ in_filter-at test (y ∷ xs) (suc i) x e t =
     (λ h. subst (λ ys. IsIn ys x) (sym (cond-false _ _ _ h)) rest)
 
 pub in_filter : {X : Type 0} (test : X → Bool) (xs : List X) (x : X)
-    → IsIn xs x
-    → test x ≡ true
+    → IsIn xs x → test x ≡ true
     → IsIn (filter test xs) x
 in_filter test xs x p t = in_filter-at test xs p.0 x p.1 t
 
@@ -110,8 +106,7 @@ forwarding-exists q d y = by_test (q == 0)
     between q (length d.ports) (eqb-false q 0 n) (slice_get_within d.ports (q - 1) some.0 some.1))
 
 egress-in : (p q : ℕ) (d : DataSetsValue)
-    → (q ≡ p → ⊥)
-    → may_forward q d ≡ true
+    → (q ≡ p → ⊥) → may_forward q d ≡ true
     → IsIn (egress_ports p d) q
 egress-in p q d ne y =
     let exists = forwarding-exists q d y in
@@ -171,8 +166,7 @@ pub few-made : (N : Network) (ends : ℕ)
 few-made N ends all e = let few = few-peers ends N.links e all in omega (arith, few)
 
 pub few-forwarded : (N : Network) (most c : ℕ) (f : Frame) (sent : List (ℕ × List ℕ))
-    → MakesAtMost N most
-    → length sent ≤ 8
+    → MakesAtMost N most → length sent ≤ 8
     → length (forwarded_frames N c f sent) ≤ most
 few-forwarded N most c f sent few le =
     at_most-made (length (forwarded_frames N c f sent)) (length sent) most
@@ -233,8 +227,7 @@ pub record MayPass (d : DataSetsValue) (p q : ℕ) (octets : List ℕ) : Type 0 
   pub egress : may_forward q d ≡ true
 
 passing-forwarded : (me : ClockIdentity) (p q : ℕ) (d : DataSetsValue) (octets : List ℕ)
-    → IsPassing me octets
-    → MayPass d p q octets
+    → IsPassing me octets → MayPass d p q octets
     → forwarded me p d octets ≡ map (λ port. (port, with_less_hop octets)) (egress_ports p d)
 unfolding forwarded
 passing-forwarded me p q d octets v may =
@@ -267,8 +260,7 @@ passing-not_read c d p octets v =
     (or_from (is_for_this_clock c m) (same_clock m.target.clock every_clock) (clocks_apart m.target.clock c.identity v.target) (clocks_apart m.target.clock every_clock v.every)))))))
 
 made-passing : (N : Network) (w : NetworkState) (c p q : ℕ) (f : Frame)
-    → IsPassing (N.clock c).identity f.octets
-    → MayPass (history N w c).sets p q f.octets
+    → IsPassing (N.clock c).identity f.octets → MayPass (history N w c).sets p q f.octets
     → made_frames N c (history N w c) p f
     ≡ forwarded_frames N c f
     (map (λ port. (port, with_less_hop f.octets)) (egress_ports p (history N w c).sets))
@@ -294,8 +286,7 @@ abbrev pub passed_copy : Frame → End → Frame
 passed_copy f e = record { end = e; octets = with_less_hop f.octets; origin = f.origin; first_hops = f.first_hops; forwardings = f.forwardings + 1 }
 
 pub passing-made : (N : Network) (w : NetworkState) (c p q : ℕ) (f : Frame) (e : End)
-    → IsPassing (N.clock c).identity f.octets
-    → MayPass (history N w c).sets p q f.octets
+    → IsPassing (N.clock c).identity f.octets → MayPass (history N w c).sets p q f.octets
     → list_any (same_end e) (peers N.links (AtPort c q)) ≡ true
     → IsIn (delivered_at_clock N w c p f).frames (passed_copy f e)
 passing-made N w c p q f e v may link =
@@ -314,10 +305,8 @@ few-ports : (n : ℕ) (d : DataSetsValue) → AreDataSets n d → length d.ports
 few-ports n d sets = let eight = sets.at_most_eight in let are = sets.ports_are in omega (arith, eight, are)
 
 pub passing-few : (N : Network) (w : NetworkState) (most c p q : ℕ) (f : Frame)
-    → MakesAtMost N most
-    → AreDataSets (ports N c) (history N w c).sets
-    → IsPassing (N.clock c).identity f.octets
-    → MayPass (history N w c).sets p q f.octets
+    → MakesAtMost N most → AreDataSets (ports N c) (history N w c).sets
+    → IsPassing (N.clock c).identity f.octets → MayPass (history N w c).sets p q f.octets
     → length (delivered_at_clock N w c p f).frames ≤ length w.frames + most
 passing-few N w most c p q f few sets v may =
     let d = (history N w c).sets in

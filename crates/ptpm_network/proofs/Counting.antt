@@ -50,9 +50,7 @@ reply_frames-few N c o sent n = flat-few _ (λ m. frames_to-few N (AtPort c m.0)
 -- at most seven copies are passed on
 forwarded_by-few : (me : ClockIdentity) (port : ℕ) (d : DataSetsValue) (octets : List ℕ)
     (o : Option Message)
-    → 1 ≤ port
-    → port ≤ length d.ports
-    → length d.ports ≤ 8
+    → 1 ≤ port → port ≤ length d.ports → length d.ports ≤ 8
     → length (forwarded_by me port d octets o) ≤ 7
 forwarded_by-few me port d octets None low high eight = omega arith
 forwarded_by-few me port d octets (Some v) low high eight = by_test (is_forwarded me port d v)
@@ -61,9 +59,7 @@ forwarded_by-few me port d octets (Some v) low high eight = by_test (is_forwarde
     (λ n. subst (λ (sent : List (ℕ × List ℕ)). length sent ≤ 7) (sym (cond-false _ _ _ n)) (omega arith))
 
 forwarded-few : (me : ClockIdentity) (port : ℕ) (d : DataSetsValue) (octets : List ℕ)
-    → 1 ≤ port
-    → port ≤ length d.ports
-    → length d.ports ≤ 8
+    → 1 ≤ port → port ≤ length d.ports → length d.ports ≤ 8
     → length (forwarded me port d octets) ≤ 7
 unfolding forwarded
 forwarded-few me port d octets low high eight = forwarded_by-few me port d octets (message_of octets) low high eight
@@ -76,8 +72,7 @@ length-rendered me heard r ingress = length-map r.answers _
 -- the reply that is due to a numbered copy has one answer
 due-few : (N : Network) (w : NetworkState) (c port : ℕ) (f : Frame) (copy : RequestCopy)
     (o : Option ReplyValue)
-    → IsReached N (arrives w c (delivery port f))
-    → IsCopyOf N w c port f copy
+    → IsReached N (arrives w c (delivery port f)) → IsCopyOf N w c port f copy
     → copy_of (N.clock c) (ports N c) (delivery port f) ≡ Some copy
     → due_reply (N.clock c) (history N w c) copy ≡ o
     → length (due_messages (N.clock c) copy o) ≤ 8
@@ -98,31 +93,20 @@ read-few c d port (Some v) eight = by_test (is_read c d v)
     (λ n. subst (λ (sent : List (ℕ × List ℕ)). length sent ≤ 8) (sym (cond-false _ _ _ n)) (omega arith))
 
 answers-few : (N : Network) (w : NetworkState) (c port : ℕ) (f : Frame) (o : Option RequestCopy)
-    → IsNetwork N
-    → IsReached N w
-    → c < N.clocks
-    → IsHeard N w f.octets f.origin
-    → length (history N w c).sets.ports ≤ 8
-    → copy_of (N.clock c) (ports N c) (delivery port f) ≡ o
+    → IsNetwork N → IsReached N w → c < N.clocks → IsHeard N w f.octets f.origin
+    → length (history N w c).sets.ports ≤ 8 → copy_of (N.clock c) (ports N c) (delivery port f) ≡ o
     → length (answer_messages (N.clock c) (history N w c) port f.octets o) ≤ 8
 answers-few N w c port f None n r place i eight e = read-few (N.clock c) (history N w c).sets port (message_of f.octets) eight
 answers-few N w c port f (Some copy) n r place i eight e =
     due-few N w c port f copy (due_reply (N.clock c) (history N w c) copy) (arrives-reached N w c port f n r place i) (is_copy_of N w c port f copy n r place i e) e refl
 
 all_few : (made a b sent told : ℕ)
-    → made ≡ a + b
-    → a ≤ 15 * sent
-    → b ≤ 15 * told
-    → sent ≤ 7
-    → told ≤ 8
+    → made ≡ a + b → a ≤ 15 * sent → b ≤ 15 * told → sent ≤ 7 → told ≤ 8
     → made ≤ 225
 all_few made a b sent told e x y p q = omega arith
 
 made-few : (N : Network) (w : NetworkState) (c port : ℕ) (f : Frame)
-    → IsNetwork N
-    → IsReached N w
-    → HasEnd N (AtPort c port)
-    → IsHeard N w f.octets f.origin
+    → IsNetwork N → IsReached N w → HasEnd N (AtPort c port) → IsHeard N w f.octets f.origin
     → length (made_frames N c (history N w c) port f) ≤ 225
 made-few N w c port f n r end i =
     let h = history N w c in
@@ -148,18 +132,13 @@ no_more : (n : ℕ) → n ≤ n + 225
 no_more n = omega arith
 
 delivered_at-few : (N : Network) (w : NetworkState) (f : Frame) (e : End)
-    → IsNetwork N
-    → IsReached N w
-    → IsFrame N w f
-    → HasEnd N e
+    → IsNetwork N → IsReached N w → IsFrame N w f → HasEnd N e
     → length (delivered_at N w f e).frames ≤ length w.frames + 225
 delivered_at-few N w f (AtPort c port) n r i end = more w.frames _ (made-few N w c port f n r end (heard-frame N w f.octets f.origin i.origin))
 delivered_at-few N w f (AtSession s) n r i end = no_more (length w.frames)
 
 delivered-few : (N : Network) (w : NetworkState) (k : ℕ) (o : Option Frame)
-    → IsNetwork N
-    → IsReached N w
-    → frame_at w.frames k ≡ o
+    → IsNetwork N → IsReached N w → frame_at w.frames k ≡ o
     → length (delivered N w o).frames ≤ length w.frames + 225
 delivered-few N w k None n r e = no_more (length w.frames)
 delivered-few N w k (Some f) n r e = let i = frame_at-is N w k f r e in delivered_at-few N w f f.end n r i i.end
@@ -168,10 +147,7 @@ at_most_fifteen : (n : ℕ) → n ≤ 15 → n ≤ 225
 at_most_fifteen n h = omega arith
 
 happens-few : (N : Network) (w : NetworkState) (e : Event)
-    → IsNetwork N
-    → IsReached N w
-    → IsInRange e
-    → refusal N w e ≡ None
+    → IsNetwork N → IsReached N w → IsInRange e → refusal N w e ≡ None
     → length (happens N w e).frames ≤ length w.frames + 225
 unfolding refusal happens
 happens-few N w (Begin s a) n r i none = no_more (length w.frames)
@@ -196,11 +172,7 @@ filled old new a b = omega arith
 
 -- an event that adds frames has room for them
 happens-within : (N : Network) (w : NetworkState) (e : Event)
-    → IsNetwork N
-    → IsReached N w
-    → IsInRange e
-    → refusal N w e ≡ None
-    → length w.frames ≤ 400000
+    → IsNetwork N → IsReached N w → IsInRange e → refusal N w e ≡ None → length w.frames ≤ 400000
     → length (happens N w e).frames ≤ 400000
 unfolding refusal happens
 happens-within N w (Begin s a) n r i none within = within
@@ -219,20 +191,13 @@ happens-within N w (Stranger c port datagram) n r i none within =
     filled (length w.frames) _ (room w.frames q.1) (happens-few N w (Stranger c port datagram) n r i none)
 
 step_by-within : (N : Network) (w : NetworkState) (e : Event) (o : Option Refusal)
-    → refusal N w e ≡ o
-    → IsNetwork N
-    → IsReached N w
-    → IsInRange e
-    → length w.frames ≤ 400000
+    → refusal N w e ≡ o → IsNetwork N → IsReached N w → IsInRange e → length w.frames ≤ 400000
     → length (step_by o N w e).frames ≤ 400000
 step_by-within N w e None h n r i within = happens-within N w e n r i h within
 step_by-within N w e (Some reason) h n r i within = within
 
 run-within : (N : Network) (w : NetworkState) (es : List Event)
-    → IsNetwork N
-    → IsReached N w
-    → AllByRecursion IsInRange es
-    → length w.frames ≤ 400000
+    → IsNetwork N → IsReached N w → AllByRecursion IsInRange es → length w.frames ≤ 400000
     → length (run N w es).frames ≤ 400000
 run-within N w [] n r i within = within
 run-within N w (e ∷ es) n r i within =
@@ -241,16 +206,13 @@ run-within N w (e ∷ es) n r i within =
 -- ---- from where a list of events leads
 
 pub event-few : (N : Network) (es : List Event) (e : Event)
-    → IsNetwork N
-    → AllByRecursion IsInRange es
-    → IsInRange e
+    → IsNetwork N → AllByRecursion IsInRange es → IsInRange e
     → refusal N (run N (initial_state N) es) e ≡ None
     → length (happens N (run N (initial_state N) es) e).frames
     ≤ length (run N (initial_state N) es).frames + 225
 event-few N es e n i range none = happens-few N (run N (initial_state N) es) e n (reached N es n i) range none
 
 pub ever-within : (N : Network) (es : List Event)
-    → IsNetwork N
-    → AllByRecursion IsInRange es
+    → IsNetwork N → AllByRecursion IsInRange es
     → length (run N (initial_state N) es).frames ≤ 400000
 ever-within N es n i = run-within N (initial_state N) es n (first-reached N n) i (omega arith)

@@ -16,9 +16,7 @@ same_request-refl q =
 
 -- the copy of a frame is of the session that the frame is of
 copy_at-of : (N : Network) (w : NetworkState) (n c port : ℕ) (f : Frame) (copy : RequestCopy)
-    → IsNetwork N
-    → IsReached N w
-    → IsCopyAt N w n c port f copy
+    → IsNetwork N → IsReached N w → IsCopyAt N w n c port f copy
     → IsCopyOf N w c port f copy
 copy_at-of N w n c port f copy is r at =
     let frame = frame_at-is N w n f r at.frame in
@@ -36,8 +34,7 @@ pub record KeepsLatest (c : Clock) (h : History) (copy : RequestCopy) : Type 0 w
   pub request : kept.request ≡ copy.request
 
 keeps-latest : (N : Network) (w : NetworkState) (c port : ℕ) (f : Frame) (copy : RequestCopy)
-    → IsReached N w
-    → IsCopyOf N w c port f copy
+    → IsReached N w → IsCopyOf N w c port f copy
     → greatest copy.heard.source (history N w c).accepted ≡ copy.index
     → KeepsLatest (N.clock c) (history N w c) copy
 keeps-latest N w c port f copy r of latest =
@@ -55,8 +52,7 @@ keeps-latest N w c port f copy r of latest =
     }
 
 due-latest : (c : Clock) (h : History) (copy : RequestCopy)
-    → greatest copy.heard.source h.accepted ≡ copy.index
-    → (keeps : KeepsLatest c h copy)
+    → greatest copy.heard.source h.accepted ≡ copy.index → (keeps : KeepsLatest c h copy)
     → due_reply c h copy ≡ Some keeps.kept.reply
 due-latest c h copy latest keeps =
     let same : same_request keeps.kept.request copy.request ≡ true =
@@ -67,14 +63,11 @@ due-latest c h copy latest keeps =
     ∙ cond-true _ _ _ same
 
 pub latest-kept : (N : Network) (es : List Event) (n c port : ℕ) (f : Frame) (copy : RequestCopy)
-    → IsNetwork N
-    → AllByRecursion IsInRange es
+    → IsNetwork N → AllByRecursion IsInRange es
     → IsCopyAt N (run N (initial_state N) es) n c port f copy
     → greatest copy.heard.source (history N (run N (initial_state N) es) c).accepted ≡ copy.index
     → (kept : Accepted)
-    × (kept_reply copy.heard.source copy.index
-    (history N (run N (initial_state N) es) c).accepted ≡ Some kept)
-    × (due_reply (N.clock c) (history N (run N (initial_state N) es) c) copy ≡ Some kept.reply)
+    × (kept_reply copy.heard.source copy.index (history N (run N (initial_state N) es) c).accepted ≡ Some kept) × (due_reply (N.clock c) (history N (run N (initial_state N) es) c) copy ≡ Some kept.reply)
 latest-kept N es n c port f copy is i at latest =
     let w : NetworkState = run N (initial_state N) es in
     let r = reached N es is i in
@@ -112,8 +105,7 @@ pub copy-delivered : (N : Network) (w : NetworkState) (n c port : ℕ) (f : Fram
     (copy : RequestCopy)
     → IsCopyAt N w n c port f copy
     → (happens N w (Deliver n)).frames
-    ≡ w.frames
-    ++ reply_frames N c (reply_origin f.origin)
+    ≡ w.frames ++ reply_frames N c (reply_origin f.origin)
     (due_messages (N.clock c) copy (due_reply (N.clock c) (history N w c) copy))
 unfolding happens
 copy-delivered N w n c port f copy at =

@@ -18,8 +18,7 @@ module _ (N : Network) (w : NetworkState) (n : ℕ) (f : Frame) where
   delivery-taken e room = ap (λ o. option_or (no_frame o) (no_room w.frames)) e ∙ is_room w room
 
   happens-delivery : (end : End)
-      → frame_at w.frames n ≡ Some f
-      → f.end ≡ end
+      → frame_at w.frames n ≡ Some f → f.end ≡ end
       → happens N w (Deliver n) ≡ delivered_at N w f end
   unfolding happens
   happens-delivery end e q = ap (delivered N w) e ∙ ap (delivered_at N w f) q
@@ -30,9 +29,7 @@ pub step-taken : (N : Network) (w : NetworkState) (e : Event)
 step-taken N w e none = ap (λ o. step_by o N w e) none
 
 pub delivery-step : (N : Network) (w : NetworkState) (n : ℕ) (f : Frame) (end : End)
-    → frame_at w.frames n ≡ Some f
-    → f.end ≡ end
-    → HasRoom w
+    → frame_at w.frames n ≡ Some f → f.end ≡ end → HasRoom w
     → step N w (Deliver n) ≡ delivered_at N w f end
 delivery-step N w n f end e q room = step-taken N w (Deliver n) (delivery-taken N w n f e room) ∙ happens-delivery N w n f end e q
 
@@ -59,9 +56,7 @@ port-named p q asked = by_test (is_of_port q.id)
     (λ n. or_left _ _ (eq-eqb q.port every_port (asked.every n)))
 
 request-is_copy : (N : Network) (s k domain hops : ℕ) (q : RequestValue)
-    → IsNetwork N
-    → s < N.sessions
-    → IsAsked (ports N (N.session s).target) q
+    → IsNetwork N → s < N.sessions → IsAsked (ports N (N.session s).target) q
     → is_copy (N.clock (N.session s).target) (ports N (N.session s).target)
     (request_at N s k domain hops q) ≡ true
 request-is_copy N s k domain hops q n place asked =
@@ -95,8 +90,7 @@ same_request-same a b e = subst (λ (x : RequestValue). same_request a x ≡ tru
 
 due-latest : (c : Clock) (h : History) (x : RequestCopy) (e : Accepted)
     → greatest x.heard.source h.accepted ≡ x.index
-    → kept_reply x.heard.source x.index h.accepted ≡ Some e
-    → e.request ≡ x.request
+    → kept_reply x.heard.source x.index h.accepted ≡ Some e → e.request ≡ x.request
     → due_reply c h x ≡ Some e.reply
 due-latest c h x e g kept same =
     cond-false _ _ _ (and_right (x.heard.domain == h.sets.default.domain) (nat_lt (greatest x.heard.source h.accepted) x.index) (le-ltb (greatest x.heard.source h.accepted) x.index (omega (arith, g))))
@@ -105,8 +99,7 @@ due-latest c h x e g kept same =
     ∙ cond-true _ _ _ (same_request-same e.request x.request same)
 
 due-new : (c : Clock) (h : History) (x : RequestCopy)
-    → x.heard.domain ≡ h.sets.default.domain
-    → greatest x.heard.source h.accepted < x.index
+    → x.heard.domain ≡ h.sets.default.domain → greatest x.heard.source h.accepted < x.index
     → due_reply c h x ≡ Some (reply_to x.request (c.rights x.heard.source) h.sets)
 due-new c h x domain above = cond-true _ _ _ (and_from (x.heard.domain == h.sets.default.domain) (nat_lt (greatest x.heard.source h.accepted) x.index) (eq-eqb _ _ domain) (lt-ltb _ _ above))
 
@@ -147,10 +140,7 @@ module _ (N : Network) (w : NetworkState) (s : ℕ) (octets : List ℕ) (x : Req
       (_, due-new (N.clock (N.session s).target) (history N w (N.session s).target) x (of.domain ∙ domain) (subst (λ (m : PortIdentity). greatest m (accepted_at_target N w s) < x.index) (sym of.source) above))
 
 due-to : (N : Network) (w : NetworkState) (s : ℕ) (octets : List ℕ) (x : RequestCopy)
-    → IsReached N w
-    → s < N.sessions
-    → IsLatestCopy N w s octets x
-    → IsHeardBy N w s octets
+    → IsReached N w → s < N.sessions → IsLatestCopy N w s octets x → IsHeardBy N w s octets
     → IsDueTo (N.clock (N.session s).target) (history N w (N.session s).target) x
 due-to N w s octets x r place of heard = ⊎_elim
     (λ (g : greatest_accepted N w s ≡ issued w s). due-repeat N w s octets x r place of g)
@@ -171,15 +161,9 @@ pub record IsReplyMessage (me : ClockIdentity) (x : RequestCopy) (r : ReplyValue
 
 reply-message : (N : Network) (w : NetworkState) (s port : ℕ) (f : Frame) (x : RequestCopy)
     (r : ReplyValue)
-    → IsNetwork N
-    → IsReached N w
-    → s < N.sessions
-    → HasEnd N (AtPort (N.session s).target port)
-    → f.origin ≡ RequestOf s (issued w s)
-    → IsOfOrigin N w f.octets f.origin
-    → IsLatestCopy N w s f.octets x
-    → x.ingress ≡ port
-    → x.heard.number < 2 ^ 16
+    → IsNetwork N → IsReached N w → s < N.sessions → HasEnd N (AtPort (N.session s).target port)
+    → f.origin ≡ RequestOf s (issued w s) → IsOfOrigin N w f.octets f.origin
+    → IsLatestCopy N w s f.octets x → x.ingress ≡ port → x.heard.number < 2 ^ 16
     → copy_of (N.clock (N.session s).target) (ports N (N.session s).target) (delivery port f)
     ≡ Some x
     → due_reply (N.clock (N.session s).target) (history N w (N.session s).target) x ≡ Some r
@@ -211,16 +195,12 @@ reply-message N w s port f x r n reached place end origin i of ingress number e 
 
 -- what its canonical spelling says
 pub said-domain : (v : Message) (domain : ℕ)
-    → IsValid v
-    → Fits v
-    → v.domain ≡ domain
+    → IsValid v → Fits v → v.domain ≡ domain
     → domain_number (canonical v) ≡ domain
 said-domain v domain valid fits e = sym (canonical_spells v valid fits).domain ∙ e
 
 pub said-hops : (v : Message) (hops : ℕ)
-    → IsValid v
-    → Fits v
-    → v.hops ≡ hops
+    → IsValid v → Fits v → v.hops ≡ hops
     → boundary_hops (canonical v) ≡ hops
 said-hops v hops valid fits e = sym (canonical_spells v valid fits).hops ∙ e
 
@@ -229,16 +209,15 @@ said-hops v hops valid fits e = sym (canonical_spells v valid fits).hops ∙ e
 -- all that the target makes of the copy is the reply
 made-reply : (N : Network) (w : NetworkState) (s port : ℕ) (f : Frame) (x : RequestCopy)
     (v : Message) (r : ReplyValue)
-    → f.origin ≡ RequestOf s (issued w s)
-    → message_of f.octets ≡ Some v
+    → f.origin ≡ RequestOf s (issued w s) → message_of f.octets ≡ Some v
     → is_for_this_clock (N.clock (N.session s).target) v ≡ true
     → copy_of (N.clock (N.session s).target) (ports N (N.session s).target) (delivery port f)
     ≡ Some x
     → due_reply (N.clock (N.session s).target) (history N w (N.session s).target) x ≡ Some r
-    → x.ingress ≡ port
-    → (m : IsReplyMessage (N.clock (N.session s).target).identity x r)
+    → x.ingress ≡ port → (m : IsReplyMessage (N.clock (N.session s).target).identity x r)
     → made_frames N (N.session s).target (history N w (N.session s).target) port f
-    ≡ new_frames (peers N.links (AtPort (N.session s).target port)) (canonical (reply_message (N.clock (N.session s).target).identity x.heard r.action r.id x.ingress m.answer)) (ReplyTo s (issued w s))
+    ≡ new_frames (peers N.links (AtPort (N.session s).target port))
+    (canonical (reply_message (N.clock (N.session s).target).identity x.heard r.action r.id x.ingress m.answer)) (ReplyTo s (issued w s))
 made-reply N w s port f x v r origin e here is due ingress m =
     let c = (N.session s).target in
     let h : History = history N w c in
@@ -253,20 +232,15 @@ made-reply N w s port f x v r origin e here is due ingress m =
 
 replied-by : (N : Network) (w : NetworkState) (s port : ℕ) (f : Frame) (reply : List ℕ)
     → made_frames N (N.session s).target (history N w (N.session s).target) port f
-    ≡ new_frames (peers N.links (AtPort (N.session s).target port)) reply
-    (ReplyTo s (issued w s))
+    ≡ new_frames (peers N.links (AtPort (N.session s).target port)) reply (ReplyTo s (issued w s))
     → domain_number reply ≡ domain_number f.octets
     → boundary_hops reply ≡ (N.session s).setup.hops - boundary_hops f.octets
     → HasReplied N w (delivered_at_clock N w (N.session s).target port f) s port f.octets
 replied-by N w s port f reply made domain hops = record { reply = reply; frames = ap (λ fs. w.frames ++ fs) made; domain = domain; hops = hops }
 
 pub replied : (N : Network) (w : NetworkState) (s port : ℕ) (f : Frame)
-    → IsNetwork N
-    → IsReached N w
-    → s < N.sessions
-    → IsFrame N w f
-    → f.end ≡ AtPort (N.session s).target port
-    → f.origin ≡ RequestOf s (issued w s)
+    → IsNetwork N → IsReached N w → s < N.sessions → IsFrame N w f
+    → f.end ≡ AtPort (N.session s).target port → f.origin ≡ RequestOf s (issued w s)
     → IsHeardBy N w s f.octets
     → HasReplied N w (delivered_at_clock N w (N.session s).target port f) s port f.octets
 replied N w s port f n r place i end origin heard =
@@ -289,33 +263,24 @@ replied N w s port f n r place i end origin heard =
 -- ---- the session reports
 
 told-in_domain : (state : SessionState) (octets : List ℕ) (v : Message)
-    → message_of octets ≡ Some v
-    → domain_number octets ≡ state.domain
+    → message_of octets ≡ Some v → domain_number octets ≡ state.domain
     → told_by state (message_of octets)
     ≡ Some (record { index = length state.begun; outcome = outcome_in v.body })
 told-in_domain state octets v e domain = ap (told_by state) e ∙ cond-true _ _ _ (eq-eqb v.domain state.domain (message-domain v octets e ∙ domain))
 
 answer-is : (s : ℕ) (state : SessionState) (o : Origin)
-    → o ≡ ReplyTo s (length state.begun)
-    → is_idle state ≡ false
+    → o ≡ ReplyTo s (length state.begun) → is_idle state ≡ false
     → is_answer s state o ≡ true
 answer-is s state o origin busy = ap (is_answer s state) origin ∙ and_from _ _ (eq-eqb s s refl) (and_from _ _ (eq-eqb (length state.begun) (length state.begun) refl) (ap not busy))
 
 all_reported : (reports begun more : ℕ)
-    → begun ≤ reports + 1
-    → reports ≤ begun
-    → (reports ≡ begun → ⊥)
-    → more ≡ reports + 1
+    → begun ≤ reports + 1 → reports ≤ begun → (reports ≡ begun → ⊥) → more ≡ reports + 1
     → more ≡ begun
 all_reported reports begun more a b ne d = omega arith
 
 pub reports-answer : (N : Network) (w : NetworkState) (s : ℕ) (f : Frame)
-    → IsNetwork N
-    → IsReached N w
-    → s < N.sessions
-    → IsFrame N w f
-    → f.origin ≡ ReplyTo s (issued w s)
-    → is_idle (w.session s) ≡ false
+    → IsNetwork N → IsReached N w → s < N.sessions → IsFrame N w f
+    → f.origin ≡ ReplyTo s (issued w s) → is_idle (w.session s) ≡ false
     → domain_number f.octets ≡ (w.session s).domain
     → HasReported w (delivered_at N w f (AtSession s)) s
 reports-answer N w s f n r place i origin busy domain =
@@ -345,9 +310,7 @@ pub never-late : (w : NetworkState) (s : ℕ)
 never-late w s = let now = le-ltb (issued w s + 32768) (issued w s) (omega arith) in (now, now)
 
 pub copy-replied : (N : Network) (es : List Event) (n s port : ℕ) (f : Frame)
-    → IsNetwork N
-    → AllByRecursion IsInRange es
-    → s < N.sessions
+    → IsNetwork N → AllByRecursion IsInRange es → s < N.sessions
     → frame_at (run N (initial_state N) es).frames n ≡ Some f
     → f.end ≡ AtPort (N.session s).target port
     → f.origin ≡ RequestOf s (issued (run N (initial_state N) es) s)
@@ -361,11 +324,8 @@ copy-replied N es n s port f net range place e end origin heard room =
     (replied N w s port f net r place (frame_at-is N w n f r e) end origin heard)
 
 pub reply-reported : (N : Network) (es : List Event) (n s : ℕ) (f : Frame)
-    → IsNetwork N
-    → AllByRecursion IsInRange es
-    → s < N.sessions
-    → frame_at (run N (initial_state N) es).frames n ≡ Some f
-    → f.end ≡ AtSession s
+    → IsNetwork N → AllByRecursion IsInRange es → s < N.sessions
+    → frame_at (run N (initial_state N) es).frames n ≡ Some f → f.end ≡ AtSession s
     → f.origin ≡ ReplyTo s (issued (run N (initial_state N) es) s)
     → is_idle ((run N (initial_state N) es).session s) ≡ false
     → domain_number f.octets ≡ ((run N (initial_state N) es).session s).domain

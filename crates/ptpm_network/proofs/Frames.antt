@@ -22,9 +22,7 @@ up_to : (k n : ℕ) → 0 < k → k - 1 < n → k ≤ n
 up_to k n p h = omega arith
 
 pub says_request : (N : Network) (w : NetworkState) (s k : ℕ) (octets : List ℕ)
-    → IsNetwork N
-    → IsReached N w
-    → IsOfOrigin N w octets (RequestOf s k)
+    → IsNetwork N → IsReached N w → IsOfOrigin N w octets (RequestOf s k)
     → SaysRequest N w s k octets
 says_request N w s k octets n r (place, i) =
     let asked = (r.sessions s place).asked (k - 1) i.request i.begun_as in
@@ -55,9 +53,7 @@ pub record SaysKept (N : Network) (w : NetworkState) (s k : ℕ) (e : Accepted) 
   pub within : k ≤ issued w s
 
 pub says_kept : (N : Network) (w : NetworkState) (s k : ℕ) (e : Accepted)
-    → IsReached N w
-    → s < N.sessions
-    → 0 < k
+    → IsReached N w → s < N.sessions → 0 < k
     → kept_reply (manager N s) k (accepted_at_target N w s) ≡ Some e
     → SaysKept N w s k e
 says_kept N w s k e r place positive kept =
@@ -96,15 +92,12 @@ number-fits : (n first k : ℕ) → n ≡ number_of first k → n < 2 ^ 16
 number-fits n first k e = omega arith
 
 pub sendable-one : (q : RequestValue) (e : Accepted) (a : Answer)
-    → e.reply.answers ≡ a ∷ []
-    → Answers q e.reply
+    → e.reply.answers ≡ a ∷ [] → Answers q e.reply
     → IsSendable a
 sendable-one q e a one answers = (subst (AllByRecursion IsSendable) one answers.sendable).0
 
 pub says_reply : (N : Network) (w : NetworkState) (s k : ℕ) (octets : List ℕ)
-    → IsNetwork N
-    → IsReached N w
-    → IsOfOrigin N w octets (ReplyTo s k)
+    → IsNetwork N → IsReached N w → IsOfOrigin N w octets (ReplyTo s k)
     → SaysReply N w s k octets
 says_reply N w s k octets n r (place, i) =
     let session = n.are_sessions s place in
@@ -154,18 +147,14 @@ heard-frame N w octets Neither i = λ v e.
 
 -- the message that a request's frame, or a reply's, is of
 pub same_read : (octets : List ℕ) (v u : Message)
-    → IsMessage octets u
-    → message_of octets ≡ Some v
+    → IsMessage octets u → message_of octets ≡ Some v
     → v ≡ u
 same_read octets v u m e = same_Some v u (sym e ∙ m.read)
 
 -- ---- with one hop less
 
 pub passed_on-origin : (N : Network) (w : NetworkState) (octets : List ℕ) (o : Origin) (v : Message)
-    → IsNetwork N
-    → IsReached N w
-    → IsHeard N w octets o
-    → message_of octets ≡ Some v
+    → IsNetwork N → IsReached N w → IsHeard N w octets o → message_of octets ≡ Some v
     → IsOfOrigin N w (with_less_hop octets) o
 passed_on-origin N w octets (RequestOf s k) v n r i e =
     let says = says_request N w s k octets n r i in (
@@ -204,20 +193,14 @@ passed_on-origin N w octets Neither v n r i e =
     record { message = record v { hops = v.hops - 1 }; is = less_hop-message v octets e p.0; foreign = record { no_request = p.1.no_request; no_reply = p.1.no_reply } }
 
 one_hop : (before after' forwardings first hops : ℕ)
-    → before + forwardings ≡ first
-    → hops ≡ before
-    → 0 < hops
-    → after' ≡ before - 1
+    → before + forwardings ≡ first → hops ≡ before → 0 < hops → after' ≡ before - 1
     → after' + (forwardings + 1) ≡ first
 one_hop before after' forwardings first hops a b c d = omega arith
 
 -- what a clock passes on of a frame is of the frame's origin, with a hop less and a forwarding more
 passed_on-frames : (N : Network) (w : NetworkState) (c : ℕ) (f : Frame)
-    → IsNetwork N
-    → IsReached N w
-    → IsHeard N w f.octets f.origin
-    → boundary_hops f.octets + f.forwardings ≡ f.first_hops
-    → (m : ℕ × List ℕ)
+    → IsNetwork N → IsReached N w → IsHeard N w f.octets f.origin
+    → boundary_hops f.octets + f.forwardings ≡ f.first_hops → (m : ℕ × List ℕ)
     → IsPassedOn f.octets m
     → AllByRecursion (IsFrame N w)
     (frames_to (peers N.links (AtPort c m.0)) m.1 f.origin f.first_hops (f.forwardings + 1))
@@ -233,11 +216,8 @@ passed_on-frames N w c f n r i hops m p =
 
 pub forwarded_frames-are : (N : Network) (w : NetworkState) (c port : ℕ) (f : Frame)
     (sent : List (ℕ × List ℕ))
-    → AllByRecursion (IsPassedOn f.octets) sent
-    → IsNetwork N
-    → IsReached N w
-    → IsHeard N w f.octets f.origin
-    → boundary_hops f.octets + f.forwardings ≡ f.first_hops
+    → AllByRecursion (IsPassedOn f.octets) sent → IsNetwork N → IsReached N w
+    → IsHeard N w f.octets f.origin → boundary_hops f.octets + f.forwardings ≡ f.first_hops
     → AllByRecursion (IsFrame N w) (forwarded_frames N c f sent)
 forwarded_frames-are N w c port f sent a n r i hops =
     all_flat (IsPassedOn f.octets) (IsFrame N w) _ (λ m p. passed_on-frames N w c f n r i hops m p) sent a

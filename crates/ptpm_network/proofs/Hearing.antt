@@ -16,10 +16,7 @@ too_few : (reports begun more : ℕ) → more ≡ begun + 1 → reports ≤ begu
 too_few reports begun more e le h = omega arith
 
 all_told : (reports begun more : ℕ)
-    → more ≡ reports + 1
-    → (reports ≡ begun → ⊥)
-    → begun ≤ reports + 1
-    → reports ≤ begun
+    → more ≡ reports + 1 → (reports ≡ begun → ⊥) → begun ≤ reports + 1 → reports ≤ begun
     → more ≡ begun
 all_told reports begun more e busy one le = omega arith
 
@@ -43,8 +40,7 @@ begun-value start s q le =
 
 -- one that was told the answer to its last request waits for none
 answered-value : (start : SessionStart) (s : SessionState) (report : Report)
-    → (length s.reports ≡ length s.begun → ⊥)
-    → length s.begun ≤ length s.reports + 1
+    → (length s.reports ≡ length s.begun → ⊥) → length s.begun ≤ length s.reports + 1
     → length s.reports ≤ length s.begun
     → answered (session_value start s) ≡ session_value start (reported s (Some report))
 answered-value start s report busy one le =
@@ -64,9 +60,7 @@ answered-value start s report busy one le =
 -- a session that reports nothing has another value
 pub session-stands : (N : Network) (first : PortIdentity → ℕ) (r : RunningNetwork)
     (w : NetworkState) (s : ℕ) (v : SessionValue) (state : SessionState)
-    → Stands N first r w
-    → s < N.sessions
-    → v ≡ session_value (N.session s) state
+    → Stands N first r w → s < N.sessions → v ≡ session_value (N.session s) state
     → state.reports ≡ (w.session s).reports
     → Stands N first (with_session_value r s v) (with_session w s state)
 session-stands N first r w s v state at place value reports = record {
@@ -104,9 +98,7 @@ module _ (N : Network) (first : PortIdentity → ℕ) (r : RunningNetwork) (w : 
 
 answered-stands : (N : Network) (first : PortIdentity → ℕ) (r : RunningNetwork) (w : NetworkState)
     (s : ℕ) (report : Report)
-    → Stands N first r w
-    → s < N.sessions
-    → InStep N w s (w.session s)
+    → Stands N first r w → s < N.sessions → InStep N w s (w.session s)
     → (length (w.session s).reports ≡ length (w.session s).begun → ⊥)
     → Stands N first (hears r s (received.Answered report))
     (with_session w s (reported (w.session s) (Some report)))
@@ -124,12 +116,8 @@ answered-stands N first r w s report at place step busy =
 -- what the session hears of the frame is what the machine reports of it
 pub hears-stands : (N : Network) (first : PortIdentity → ℕ) (r : RunningNetwork) (w : NetworkState)
     (s : ℕ) (f : Frame) (x : Received) (o : Option Report)
-    → IsNetwork N
-    → IsReached N w
-    → Stands N first r w
-    → s < N.sessions
-    → IsOfOrigin N w f.octets f.origin
-    → is_late w f.origin ≡ false
+    → IsNetwork N → IsReached N w → Stands N first r w → s < N.sessions
+    → IsOfOrigin N w f.octets f.origin → is_late w f.origin ≡ false
     → received_of (session_value (N.session s) (w.session s)) f.octets ≡ x
     → report_from s (w.session s) f ≡ o
     → Stands N first (hears r s x) (with_session w s (reported (w.session s) o))

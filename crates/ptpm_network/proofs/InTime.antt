@@ -15,9 +15,7 @@ module _ (g h k begun : ℕ) where
   not_behind a b late = omega arith
 
 copy-window : (N : Network) (w : NetworkState) (c port : ℕ) (f : Frame) (copy : RequestCopy)
-    → IsReached N w
-    → is_late w f.origin ≡ false
-    → IsCopyOf N w c port f copy
+    → IsReached N w → is_late w f.origin ≡ false → IsCopyOf N w c port f copy
     → InWindow (greatest copy.heard.source (history N w c).accepted) copy.index
 copy-window N w c port f copy r late of =
     let at : InStep N w of.session (w.session of.session) = r.sessions of.session of.says.place in
@@ -42,10 +40,7 @@ module _ (first : PortIdentity → ℕ) (N : Network) (w : NetworkState) (c port
   }
 
   pub in_window : IsNetwork N
-      → IsReached N w
-      → c < N.clocks
-      → IsHeard N w f.octets f.origin
-      → is_late w f.origin ≡ false
+      → IsReached N w → c < N.clocks → IsHeard N w f.octets f.origin → is_late w f.origin ≡ false
       → copy_of (N.clock c) (ports N c) (delivery port f) ≡ Some copy
       → IsInTime first (history N w c) copy
   in_window n r place i late e =
@@ -55,11 +50,8 @@ module _ (first : PortIdentity → ℕ) (N : Network) (w : NetworkState) (c port
 -- a frame that was sent
 pub frame-in_window : (N : Network) (es : List Event) (first : PortIdentity → ℕ) (k c port : ℕ)
     (f : Frame) (copy : RequestCopy)
-    → IsNetwork N
-    → AllByRecursion IsInRange es
-    → AreFirsts N first
-    → frame_at (run N (initial_state N) es).frames k ≡ Some f
-    → f.end ≡ AtPort c port
+    → IsNetwork N → AllByRecursion IsInRange es → AreFirsts N first
+    → frame_at (run N (initial_state N) es).frames k ≡ Some f → f.end ≡ AtPort c port
     → is_late (run N (initial_state N) es) f.origin ≡ false
     → copy_of (N.clock c) (ports N c) (delivery port f) ≡ Some copy
     → IsInTime first (history N (run N (initial_state N) es) c) copy
@@ -72,8 +64,7 @@ frame-in_window N es first k c port f copy n i firsts e end late is =
 -- ---- all copies that came in at a clock
 
 window-append : (c : Clock) (h : History) (ks : List RequestCopy) (k : RequestCopy)
-    → KeepsWindow c h ks
-    → IsInWindow (applied_once c h ks) k
+    → KeepsWindow c h ks → IsInWindow (applied_once c h ks) k
     → KeepsWindow c h (ks ++ k ∷ [])
 window-append c h [] k keeps new = (new, tt)
 window-append c h (j ∷ js) k keeps new = (keeps.0, window-append c (after_copy c h j) js k keeps.1 new)
@@ -88,12 +79,8 @@ Keeps N first A w = (c : ℕ) → c < N.clocks → Keeping N first A c (copies_a
 
 keeping-by : (N : Network) (first : PortIdentity → ℕ) (A : Type 0) (w : NetworkState) (c port : ℕ)
     (f : Frame) (o : Option RequestCopy)
-    → IsNetwork N
-    → IsReached N w
-    → c < N.clocks
-    → IsHeard N w f.octets f.origin
-    → (A → is_late w f.origin ≡ false)
-    → copy_of (N.clock c) (ports N c) (delivery port f) ≡ o
+    → IsNetwork N → IsReached N w → c < N.clocks → IsHeard N w f.octets f.origin
+    → (A → is_late w f.origin ≡ false) → copy_of (N.clock c) (ports N c) (delivery port f) ≡ o
     → Keeping N first A c (copies_at N w c)
     → Keeping N first A c (copies_at N w c ++ cons_option o [])
 keeping-by N first A w c port f None n r place i late e keeps = subst (Keeping N first A c) (sym (append-nil (copies_at N w c))) keeps
@@ -106,10 +93,7 @@ keeping-by N first A w c port f (Some copy) n r place i late e keeps =
 
 keeps-arriving : (N : Network) (first : PortIdentity → ℕ) (A : Type 0) (w : NetworkState)
     (d port : ℕ) (f : Frame)
-    → IsNetwork N
-    → IsReached N w
-    → IsHeard N w f.octets f.origin
-    → (A → is_late w f.origin ≡ false)
+    → IsNetwork N → IsReached N w → IsHeard N w f.octets f.origin → (A → is_late w f.origin ≡ false)
     → Keeps N first A w
     → Keeps N first A (arrives w d (delivery port f))
 keeps-arriving N first A w d port f n r i late keeps c place =
@@ -124,10 +108,7 @@ keeps-arriving N first A w d port f n r i late keeps c place =
 
 keeps-delivered_at : (N : Network) (first : PortIdentity → ℕ) (A : Type 0) (w : NetworkState)
     (f : Frame) (e : End)
-    → IsNetwork N
-    → IsReached N w
-    → IsFrame N w f
-    → (A → is_late w f.origin ≡ false)
+    → IsNetwork N → IsReached N w → IsFrame N w f → (A → is_late w f.origin ≡ false)
     → Keeps N first A w
     → Keeps N first A (delivered_at N w f e)
 keeps-delivered_at N first A w f (AtPort d port) n r i late keeps c place = keeps-arriving N first A w d port f n r (heard-frame N w f.octets f.origin i.origin) late keeps c place
@@ -135,22 +116,15 @@ keeps-delivered_at N first A w f (AtSession s) n r i late keeps c place = keeps 
 
 keeps-delivered : (N : Network) (first : PortIdentity → ℕ) (A : Type 0) (w : NetworkState) (k : ℕ)
     (o : Option Frame)
-    → IsNetwork N
-    → IsReached N w
-    → frame_at w.frames k ≡ o
-    → (A → is_late_frame w o ≡ false)
+    → IsNetwork N → IsReached N w → frame_at w.frames k ≡ o → (A → is_late_frame w o ≡ false)
     → Keeps N first A w
     → Keeps N first A (delivered N w o)
 keeps-delivered N first A w k None n r e late keeps = keeps
 keeps-delivered N first A w k (Some f) n r e late keeps = keeps-delivered_at N first A w f f.end n r (frame_at-is N w k f r e) late keeps
 
 keeps-happens : (N : Network) (first : PortIdentity → ℕ) (A : Type 0) (w : NetworkState) (e : Event)
-    → IsNetwork N
-    → IsReached N w
-    → IsInRange e
-    → refusal N w e ≡ None
-    → (A → is_late_delivery w e ≡ false)
-    → Keeps N first A w
+    → IsNetwork N → IsReached N w → IsInRange e → refusal N w e ≡ None
+    → (A → is_late_delivery w e ≡ false) → Keeps N first A w
     → Keeps N first A (happens N w e)
 unfolding refusal happens
 keeps-happens N first A w (Begin s q) n r i e late keeps = keeps
@@ -166,22 +140,15 @@ keeps-happens N first A w (Stranger d port datagram) n r i e late keeps =
 
 keeps-step_by : (N : Network) (first : PortIdentity → ℕ) (A : Type 0) (w : NetworkState) (e : Event)
     (o : Option Refusal)
-    → refusal N w e ≡ o
-    → IsNetwork N
-    → IsReached N w
-    → IsInRange e
-    → (A → refusal N w e ≡ None → is_late_delivery w e ≡ false)
-    → Keeps N first A w
+    → refusal N w e ≡ o → IsNetwork N → IsReached N w → IsInRange e
+    → (A → refusal N w e ≡ None → is_late_delivery w e ≡ false) → Keeps N first A w
     → Keeps N first A (step_by o N w e)
 keeps-step_by N first A w e None h n r i late keeps = keeps-happens N first A w e n r i h (λ a. late a h) keeps
 keeps-step_by N first A w e (Some refused) h n r i late keeps = keeps
 
 keeps-run : (N : Network) (first : PortIdentity → ℕ) (A : Type 0) (w : NetworkState)
     (es : List Event)
-    → IsNetwork N
-    → IsReached N w
-    → AllByRecursion IsInRange es
-    → (A → AreInTime N w es)
+    → IsNetwork N → IsReached N w → AllByRecursion IsInRange es → (A → AreInTime N w es)
     → Keeps N first A w
     → Keeps N first A (run N w es)
 keeps-run N first A w [] n r i late keeps = keeps
@@ -194,18 +161,12 @@ keeps-first : (N : Network) (first : PortIdentity → ℕ) (A : Type 0)
 keeps-first N first A c place = record { numbered = λ firsts. tt; window = λ a. tt }
 
 pub copies-numbered : (N : Network) (es : List Event) (first : PortIdentity → ℕ) (c : ℕ)
-    → IsNetwork N
-    → AllByRecursion IsInRange es
-    → AreFirsts N first
-    → c < N.clocks
+    → IsNetwork N → AllByRecursion IsInRange es → AreFirsts N first → c < N.clocks
     → AreNumbered first (copies_at N (run N (initial_state N) es) c)
 copies-numbered N es first c n i firsts place = (keeps-run N first ⊥ (initial_state N) es n (first-reached N n) i (λ a. absurd a) (keeps-first N first ⊥) c place).numbered firsts
 
 pub copies-in_window : (N : Network) (es : List Event) (c : ℕ)
-    → IsNetwork N
-    → AllByRecursion IsInRange es
-    → AreInTime N (initial_state N) es
-    → c < N.clocks
+    → IsNetwork N → AllByRecursion IsInRange es → AreInTime N (initial_state N) es → c < N.clocks
     → KeepsWindow (N.clock c) (initial_history (N.start c))
     (copies_at N (run N (initial_state N) es) c)
 copies-in_window N es c n i late place =
@@ -213,12 +174,8 @@ copies-in_window N es c n i late place =
     (keeps-first N (λ m. 0) (AreInTime N (initial_state N) es)) c place).window late
 
 pub turns-once : (N : Network) (es : List Event) (first : PortIdentity → ℕ) (c : ℕ)
-    → IsNetwork N
-    → AllByRecursion IsInRange es
-    → AreFirsts N first
-    → AreInTime N (initial_state N) es
-    → c < N.clocks
-    → (turns (N.clock c) (initial_clock_state (N.start c)) ((run N (initial_state N) es).arrivals c)).sets
-    ≡ (history N (run N (initial_state N) es) c).sets
+    → IsNetwork N → AllByRecursion IsInRange es → AreFirsts N first
+    → AreInTime N (initial_state N) es → c < N.clocks
+    → (turns (N.clock c) (initial_clock_state (N.start c)) ((run N (initial_state N) es).arrivals c)).sets ≡ (history N (run N (initial_state N) es) c).sets
 turns-once N es first c n i firsts late place =
     sets_once (N.clock c) first (N.start c) ((run N (initial_state N) es).arrivals c) (copies-numbered N es first c n i firsts place) (copies-in_window N es c n i late place)

@@ -7,42 +7,32 @@ use Rattle.ptpm_network.specs.Machine.{with_place}
 use Rattle.ptpm_network.proofs.Tests.{by_test}
 
 pub all_weaker : {X : Type 0} (P Q : X → Type 0)
-    → ((x : X) → P x → Q x)
-    → (xs : List X)
-    → AllByRecursion P xs
+    → ((x : X) → P x → Q x) → (xs : List X) → AllByRecursion P xs
     → AllByRecursion Q xs
 all_weaker P Q f [] a = tt
 all_weaker P Q f (x ∷ xs) a = (f x a.0, all_weaker P Q f xs a.1)
 
 pub all_append : {X : Type 0} (P : X → Type 0)
-    → (xs ys : List X)
-    → AllByRecursion P xs
-    → AllByRecursion P ys
+    → (xs ys : List X) → AllByRecursion P xs → AllByRecursion P ys
     → AllByRecursion P (xs ++ ys)
 all_append P [] ys a b = b
 all_append P (x ∷ xs) ys a b = (a.0, all_append P xs ys a.1 b)
 
 -- what is made of elements of which P holds
 pub all_made : {X Y : Type 0} (P : X → Type 0) (Q : Y → Type 0) (make : X → Y)
-    → ((x : X) → P x → Q (make x))
-    → (xs : List X)
-    → AllByRecursion P xs
+    → ((x : X) → P x → Q (make x)) → (xs : List X) → AllByRecursion P xs
     → AllByRecursion Q (map make xs)
 all_made P Q make f [] a = tt
 all_made P Q make f (x ∷ xs) a = (f x a.0, all_made P Q make f xs a.1)
 
 pub all_flat : {X Y : Type 0} (P : X → Type 0) (Q : Y → Type 0) (make : X → List Y)
-    → ((x : X) → P x → AllByRecursion Q (make x))
-    → (xs : List X)
-    → AllByRecursion P xs
+    → ((x : X) → P x → AllByRecursion Q (make x)) → (xs : List X) → AllByRecursion P xs
     → AllByRecursion Q (flat_map make xs)
 all_flat P Q make f [] a = tt
 all_flat P Q make f (x ∷ xs) a = all_append Q (make x) (flat_map make xs) (f x a.0) (all_flat P Q make f xs a.1)
 
 pub all_get : {X : Type 0} (P : X → Type 0)
-    → (xs : List X) (i : ℕ) (x : X)
-    → AllByRecursion P xs
-    → slice_get xs i ≡ Some x
+    → (xs : List X) (i : ℕ) (x : X) → AllByRecursion P xs → slice_get xs i ≡ Some x
     → P x
 all_get P [] i x a e = absurd (cc)
 all_get P (y ∷ ys) zero x a e = let q : y ≡ x = cc in subst P q a.0
@@ -57,9 +47,7 @@ get_append (y ∷ xs) ys (suc i) x e = get_append xs ys i x e
 
 -- the element that was appended, or one that was there
 pub get_appended : {X : Type 0} (P : X → Type 0) (xs : List X) (y : X) (i : ℕ) (x : X)
-    → P y
-    → ((z : X) → slice_get xs i ≡ Some z → P z)
-    → slice_get (xs ++ y ∷ []) i ≡ Some x
+    → P y → ((z : X) → slice_get xs i ≡ Some z → P z) → slice_get (xs ++ y ∷ []) i ≡ Some x
     → P x
 get_appended P [] y zero x new old e = let q : y ≡ x = cc in subst P q new
 get_appended P [] y (suc i) x new old e = absurd (cc)
@@ -82,8 +70,7 @@ with_place-other f i v j n = cond-false _ _ _ n
 
 -- what holds where one place has another value
 pub at_place : {B : Type 0} (P : ℕ → B → Type 0) (g : ℕ → B) (i : ℕ) (b : B) (j : ℕ)
-    → P i b
-    → P j (g j)
+    → P i b → P j (g j)
     → P j (with_place g i b j)
 at_place P g i b j new old = by_test (j == i)
     (λ y. subst (P j) (sym (with_place-same g i b j y)) (subst (λ k. P k b) (sym (eqb-true j i y)) new))
@@ -91,8 +78,7 @@ at_place P g i b j new old = by_test (j == i)
 
 pub at_places : {A B : Type 0} (P : ℕ → A → B → Type 0) (f : ℕ → A) (g : ℕ → B) (i : ℕ) (a : A)
     (b : B) (j : ℕ)
-    → P i a b
-    → P j (f j) (g j)
+    → P i a b → P j (f j) (g j)
     → P j (with_place f i a j) (with_place g i b j)
 at_places P f g i a b j new old = by_test (j == i)
     (λ y. subst (λ x. P j x (with_place g i b j)) (sym (with_place-same f i a j y))
@@ -124,8 +110,7 @@ filter-fewer test (x ∷ xs) some = by_test (test x)
 
 -- of each at most fifteen
 pub flat-few : {X Y : Type 0} (make : X → List Y)
-    → ((x : X) → length (make x) ≤ 15)
-    → (xs : List X)
+    → ((x : X) → length (make x) ≤ 15) → (xs : List X)
     → length (flat_map make xs) ≤ 15 * length xs
 flat-few make few [] = omega arith
 flat-few make few (x ∷ xs) = omega (arith, length-append (make x) (flat_map make xs), few x, flat-few make few xs)

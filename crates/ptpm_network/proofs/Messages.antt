@@ -1,5 +1,5 @@
 -- What requests and replies say as octets, and what stays of them as they are passed on.
-use Rattle.ptpm_network.proofs.Common.{by_test, arith, ◌≡◌, ℕ, ◌<◌, ◌-◌, ◌^◌, ◌==◌, ◌&&◌, nat_lt, not, List, [], ◌∷◌, Option, Some, None, Bool, true, refl, sym, ◌∙◌, ap, subst, length, take, and_parts, cond-true, cond-false, ltb-true, append-nil, get_or-set_other, get_or-set_same, length-set, take_all, map, slice_set, unwrap_or, AllByRecursion, ErrorId, ClockIdentity, Action, Message, canonical, same_clock, boundary_hops, message_length, message_octets, BodyFits, Fits, IsReplyAction, IsValid, IsValidBody, error_number, is_reply, message_of, Spells, canonical_octets, canonical_spells, number_at-octets, octet-take, message_of-some, message_of-spells, message_size, spells-message_of, DataSetsValue, may_forward, Answer, Outcome, ReplyValue, RequestValue, Heard, reply_action-is_reply, answer_body, reply_message, egress_ports, forwarded, forwarded_by, is_forwarded, with_less_hop, request_message, Answers, IsPort, IsSendable, IsSendableOutcome, IsAsked, IsMessage, IsNetwork, Network, ports}
+use Rattle.ptpm_network.proofs.Common.{by_test, arith, ◌≡◌, ℕ, ◌<◌, ◌-◌, ◌^◌, ◌==◌, ◌&&◌, nat_lt, not, List, [], ◌∷◌, Option, Some, None, Bool, true, refl, sym, ◌∙◌, ap, subst, length, take, and_parts, cond-true, cond-false, ltb-true, append-nil, get_or-set_other, get_or-set_same, length-set, take_all, map, slice_set, unwrap_or, AllByRecursion, ErrorId, ClockIdentity, Action, Message, canonical, same_clock, boundary_hops, message_length, message_octets, BodyFits, Fits, IsReplyAction, IsValid, IsValidBody, error_number, is_reply, message_of, Spells, canonical_octets, canonical_spells, number_at-octets, octet-take, message_of-some, message_of-spells, message_size, spells-message_of, DataSetsValue, may_forward, Answer, Outcome, ReplyValue, RequestValue, Heard, reply_action-is_reply, answer_body, reply_message, egress_ports, forwarded, forwarded_by, is_forwarded, with_less_hop, request_message, Answers, IsPort, IsSendable, IsSendableOutcome, IsAsked, IsMessage, IsNetwork, Network}
 use Rattle.ptpm_codec.specs.declared.error.ErrorId.TheVariants as errors
 use Rattle.ptpm_codec.proofs.RewritingLaws.{less_hop_message, set_hops}
 use Rattle.ptpm_data.specs.Reply as reply
@@ -24,8 +24,7 @@ message-hops v d e =
     (message_of-spells v d e).hops ∙ octet-take 45 (message_length d) d (omega arith)
 
 pub less_hop-canonical : (v : Message)
-    → IsValid v
-    → Fits v
+    → IsValid v → Fits v
     → with_less_hop (canonical v) ≡ canonical (record v { hops = v.hops - 1 })
 less_hop-canonical v valid fits =
     ap (λ m. slice_set m 45 (boundary_hops (canonical v) - 1)) (canonical-message v valid fits).whole
@@ -64,8 +63,7 @@ pub record IsPassedOn (d : List ℕ) (sent : ℕ × List ℕ) : Type 0 where
   pub octets : sent.1 ≡ with_less_hop d
 
 all_pairs : {X Y : Type 0} (P : X × Y → Type 0) (y : Y)
-    → ((x : X) → P (x, y))
-    → (xs : List X)
+    → ((x : X) → P (x, y)) → (xs : List X)
     → AllByRecursion P (map (λ x. (x, y)) xs)
 all_pairs P y f [] = tt
 all_pairs P y f (x ∷ xs) = (f x, all_pairs P y f xs)
@@ -100,8 +98,7 @@ module _ (N : Network) (s k domain hops ports : ℕ) (q : RequestValue) where
   request-valid asked = record { sdo = omega arith; body = (asked.action, asked.octets) }
 
   pub request-fits : IsNetwork N
-      → s < N.sessions
-      → IsAsked ports q
+      → s < N.sessions → IsAsked ports q
       → Fits (request_at N s k domain hops q)
   request-fits n place asked =
       let session = n.are_sessions s place in
@@ -125,8 +122,7 @@ error_number-fits errors.NotSupported = omega arith
 error_number-fits errors.GeneralError = omega arith
 
 answer_body-valid : (action : Action) (id : ℕ) (o : Outcome)
-    → IsReplyAction action
-    → IsSendableOutcome o
+    → IsReplyAction action → IsSendableOutcome o
     → IsValidBody (answer_body action id o)
 answer_body-valid action id (reply.Value octets) a s = (a, s)
 answer_body-valid action id reply.Done a s = (a, record { even = refl; small = omega arith })
@@ -140,8 +136,7 @@ answer_body-fits action id reply.Done h = h
 answer_body-fits action id (reply.Refused error) h = (error_number-fits error, h)
 
 port-fits : (o : Option ℕ) (ingress : ℕ)
-    → IsPort o
-    → ingress < 2 ^ 16
+    → IsPort o → ingress < 2 ^ 16
     → unwrap_or o ingress < 2 ^ 16
 port-fits None ingress o h = h
 port-fits (Some port) ingress o h = o
@@ -158,13 +153,8 @@ module _ (me : ClockIdentity) (heard : Heard) (q : RequestValue) (r : ReplyValue
   }
 
   pub reply-fits : length me.0 ≡ 8
-      → length heard.source.clock.0 ≡ 8
-      → heard.source.port < 2 ^ 16
-      → heard.number < 2 ^ 16
-      → ingress < 2 ^ 16
-      → q.id < 2 ^ 16
-      → Answers q r
-      → IsSendable a
+      → length heard.source.clock.0 ≡ 8 → heard.source.port < 2 ^ 16 → heard.number < 2 ^ 16
+      → ingress < 2 ^ 16 → q.id < 2 ^ 16 → Answers q r → IsSendable a
       → Fits (reply_at me heard r ingress hops a)
   reply-fits identity source port number in' id answers sendable = record {
     source = record { clock = identity; port = port-fits a.port ingress sendable.port in' };

@@ -46,14 +46,15 @@ reply_origins N c due told replies cases = ⊎_elim
     (λ (same : told ≡ due). ap (λ (o : Origin). flat_map (λ m. posted (peers N.links (AtPort c m.0)) m.1 o) replies) (sym same))
     cases
 
-told_or_none : (N : Network) (s : State) (c ingress : ℕ) (f : Frame) →
-    ((turn (N.clock c) s ingress f.octets).replies ≡ []) ⊎ (origin_by (turn (N.clock c) s ingress f.octets).verdict f.origin ≡ answer_origin f.origin (copy_of (N.clock c) (length s.sets.ports) (delivery ingress f)))
+told_or_none : (N : Network) (s : State) (c ingress : ℕ) (f : Frame)
+    → ((turn (N.clock c) s ingress f.octets).replies ≡ [])
+    ⊎ (origin_by (turn (N.clock c) s ingress f.octets).verdict f.origin ≡ answer_origin f.origin (copy_of (N.clock c) (length s.sets.ports) (delivery ingress f)))
 told_or_none N s c ingress f = ⊎_elim (λ none. inl none) (λ told. inr (told f.origin)) (reply-origin (N.clock c) s (delivery ingress f))
 
 -- the frames of a turn are those of its outbox, each message by the port that it leaves at
-pub held-turn_frames : (N : Network) (s : State) (c ingress : ℕ) (f : Frame) →
-    flat_map (posted_by N.links c ingress f.origin (origin_by (turn (N.clock c) s ingress f.octets).verdict f.origin)) (outbox_of (turn (N.clock c) s ingress f.octets))
-    ≡ map held (turn_frames N s c ingress f)
+pub held-turn_frames : (N : Network) (s : State) (c ingress : ℕ) (f : Frame)
+    → flat_map
+    (posted_by N.links c ingress f.origin (origin_by (turn (N.clock c) s ingress f.octets).verdict f.origin)) (outbox_of (turn (N.clock c) s ingress f.octets)) ≡ map held (turn_frames N s c ingress f)
 held-turn_frames N s c ingress f =
     let t : Turned = turn (N.clock c) s ingress f.octets in
     let told : Origin = origin_by t.verdict f.origin in

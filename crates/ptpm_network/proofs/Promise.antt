@@ -16,9 +16,7 @@ none_below : {X : Type 0} (s : ℕ) → s < 0 → X
 none_below s h = absurd (omega arith)
 
 first_of-session : (N : Network) (n s : ℕ)
-    → IsNetwork N
-    → n ≤ N.sessions
-    → s < n
+    → IsNetwork N → n ≤ N.sessions → s < n
     → first_of_sessions N n (manager N s) ≡ (N.session s).setup.first
 unfolding first_of_sessions
 first_of-session N zero s is le below = none_below s below
@@ -52,8 +50,7 @@ told-begins m accepted (suc g) n le = ⊎_elim
     (cases_eq n (suc g))
 
 reached-headline : (N : Network) (first : PortIdentity → ℕ) (w : NetworkState) (r : RunningNetwork)
-    → IsReached N w
-    → Stands N first r w
+    → IsReached N w → Stands N first r w
     → Headline N w r
 reached-headline N first w r reached at = record {
   sets = λ c place. (at.clocks c place).sets;
@@ -91,8 +88,7 @@ stands-first N n = record {
 
 -- the premises hold of more events
 promised-more : (N : Network) (past es : List Event)
-    → IsPromised N past
-    → AllByRecursion IsInRange es
+    → IsPromised N past → AllByRecursion IsInRange es
     → AreInTime N (run N (initial_state N) past) es
     → IsPromised N (past ++ es)
 promised-more N past es p range time = record {
@@ -102,9 +98,7 @@ promised-more N past es p range time = record {
 }
 
 pub stands-network_step : (N : Network) (past : List Event) (r : RunningNetwork) (e : Event)
-    → StandsAfter N past r
-    → IsInRange e
-    → refusal N (run N (initial_state N) past) e ≡ None
+    → StandsAfter N past r → IsInRange e → refusal N (run N (initial_state N) past) e ≡ None
     → is_late_delivery (run N (initial_state N) past) e ≡ false
     → StandsAfter N (past ++ e ∷ []) (network_step N r e)
 stands-network_step N past r e at range none late =
@@ -123,9 +117,7 @@ some_none reason h = absurd (cc)
 
 pub stands-refused : (N : Network) (past : List Event) (r : RunningNetwork) (e : Event)
     (reason : Refusal)
-    → StandsAfter N past r
-    → IsInRange e
-    → refusal N (run N (initial_state N) past) e ≡ Some reason
+    → StandsAfter N past r → IsInRange e → refusal N (run N (initial_state N) past) e ≡ Some reason
     → StandsAfter N (past ++ e ∷ []) r
 stands-refused N past r e reason at range some =
     let p = at.promised in
@@ -138,8 +130,7 @@ stands-refused N past r e reason at range some =
     }
 
 pub stands-network_run : (N : Network) (past : List Event) (r : RunningNetwork) (es : List Event)
-    → StandsAfter N past r
-    → AllByRecursion IsInRange es
+    → StandsAfter N past r → AllByRecursion IsInRange es
     → AreInTime N (run N (initial_state N) past) (taken N (run N (initial_state N) past) es)
     → StandsAfter N (past ++ taken N (run N (initial_state N) past) es) (network_run N r es)
 stands-network_run N past r es at range time =

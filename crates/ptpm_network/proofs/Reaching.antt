@@ -23,19 +23,20 @@ pub record Reports (N : Network) (w : NetworkState) (s : ℕ) (report : Report) 
 pub no_report : {X : Type 0} (r : Report) → None ≡ Some r → X
 no_report r e = absurd (cc)
 
-told-by : (state : SessionState) (v : Message) (r : Report) → told_by state (Some v) ≡ Some r → r ≡ record { index = length state.begun; outcome = outcome_in v.body }
+told-by : (state : SessionState) (v : Message) (r : Report)
+    → told_by state (Some v) ≡ Some r
+    → r ≡ record { index = length state.begun; outcome = outcome_in v.body }
 told-by state v r e = by_test (v.domain == state.domain)
     (λ y. sym (same_Some _ r (sym (cond-true _ _ _ y) ∙ e)))
     (λ n. no_report r (sym (cond-false _ _ _ n) ∙ e))
 
-pub told-message : (state : SessionState) (o : Option Message) (v : Message) (r : Report) → o ≡ Some v → told_by state o ≡ Some r → r ≡ record { index = length state.begun; outcome = outcome_in v.body }
+pub told-message : (state : SessionState) (o : Option Message) (v : Message) (r : Report)
+    → o ≡ Some v → told_by state o ≡ Some r
+    → r ≡ record { index = length state.begun; outcome = outcome_in v.body }
 told-message state o v r e h = told-by state v r (ap (told_by state) (sym e) ∙ h)
 
 reports-by : (N : Network) (w : NetworkState) (s : ℕ) (octets : List ℕ) (o : Origin) (r : Report)
-    → IsNetwork N
-    → IsReached N w
-    → IsOfOrigin N w octets o
-    → is_answer s (w.session s) o ≡ true
+    → IsNetwork N → IsReached N w → IsOfOrigin N w octets o → is_answer s (w.session s) o ≡ true
     → told_by (w.session s) (message_of octets) ≡ Some r
     → Reports N w s r
 reports-by N w s octets (RequestOf t k) r n reached i y e = absurd (cc)
@@ -59,9 +60,7 @@ reports-by N w s octets (ReplyTo t k) r n reached i y e =
     }
 
 pub reports_of_frame : (N : Network) (w : NetworkState) (s : ℕ) (f : Frame) (r : Report)
-    → IsNetwork N
-    → IsReached N w
-    → IsOfOrigin N w f.octets f.origin
+    → IsNetwork N → IsReached N w → IsOfOrigin N w f.octets f.origin
     → report_from s (w.session s) f ≡ Some r
     → Reports N w s r
 reports_of_frame N w s f r n reached i e = by_test (is_answer s (w.session s) f.origin)
@@ -69,10 +68,7 @@ reports_of_frame N w s f r n reached i e = by_test (is_answer s (w.session s) f.
     (λ no'. no_report r (sym (cond-false _ _ _ no') ∙ e))
 
 reported-reached : (N : Network) (w : NetworkState) (s : ℕ) (f : Frame) (o : Option Report)
-    → IsNetwork N
-    → IsReached N w
-    → s < N.sessions
-    → IsOfOrigin N w f.octets f.origin
+    → IsNetwork N → IsReached N w → s < N.sessions → IsOfOrigin N w f.octets f.origin
     → report_from s (w.session s) f ≡ o
     → IsReached N (with_session w s (reported (w.session s) o))
 reported-reached N w s f None n r place i e = session-changes N w s (w.session s) (λ j q h. h) (r.sessions s place) r
@@ -85,11 +81,7 @@ reported-reached N w s f (Some report) n r place i e =
 -- ---- a frame comes in
 
 delivered_at-reached : (N : Network) (w : NetworkState) (f : Frame) (e : End)
-    → f.end ≡ e
-    → IsNetwork N
-    → IsReached N w
-    → IsFrame N w f
-    → HasEnd N e
+    → f.end ≡ e → IsNetwork N → IsReached N w → IsFrame N w f → HasEnd N e
     → IsReached N (delivered_at N w f e)
 delivered_at-reached N w f (AtPort c port) q n r i h = delivered_at_clock-reached N w c port f n r h (heard-frame N w f.octets f.origin i.origin) i.hops
 delivered_at-reached N w f (AtSession s) q n r i h = reported-reached N w s f (report_from s (w.session s) f) n r h i.origin refl
@@ -101,9 +93,7 @@ module _ (N : Network) (w : NetworkState) (k : ℕ) where
       (λ n. all_get (IsFrame N w) w.frames (k - 1) f r.frames (sym (cond-false _ _ _ n) ∙ e))
 
   delivered-reached : (o : Option Frame)
-      → IsNetwork N
-      → IsReached N w
-      → frame_at w.frames k ≡ o
+      → IsNetwork N → IsReached N w → frame_at w.frames k ≡ o
       → IsReached N (delivered N w o)
   delivered-reached None n r e = r
   delivered-reached (Some f) n r e =
@@ -122,11 +112,7 @@ port-exists N c port e =
     (ltb-true c N.clocks outer.0, leb-true 1 port inner.0, leb-true port (ports N c) inner.1)
 
 begins-reached : (N : Network) (w : NetworkState) (s : ℕ) (a : Ask)
-    → IsNetwork N
-    → IsReached N w
-    → s < N.sessions
-    → a.id < 2 ^ 16
-    → begin_refused N w s a ≡ None
+    → IsNetwork N → IsReached N w → s < N.sessions → a.id < 2 ^ 16 → begin_refused N w s a ≡ None
     → IsReached N (happens N w (Begin s a))
 unfolding happens
 begins-reached N w s a n r place id e =
@@ -141,10 +127,7 @@ begins-reached N w s a n r place id e =
     (in_step-begun (manager N s) (ports N (N.session s).target) (accepted_at_target N w s) (w.session s) (ask.request_of a) (N.session s).setup.attempts asked (eqb-true _ _ idle) at) r
 
 strange-reached : (N : Network) (w : NetworkState) (c port : ℕ) (datagram : List ℕ)
-    → IsNetwork N
-    → IsReached N w
-    → IsInRange (Stranger c port datagram)
-    → no_port N c port ≡ None
+    → IsNetwork N → IsReached N w → IsInRange (Stranger c port datagram) → no_port N c port ≡ None
     → forged N datagram ≡ None
     → IsReached N (happens N w (Stranger c port datagram))
 unfolding happens
@@ -154,10 +137,7 @@ strange-reached N w c port datagram n r octets p e =
     (λ v h. strange-message N datagram v octets honest h) (omega arith)
 
 happens-reached : (N : Network) (w : NetworkState) (e : Event)
-    → IsNetwork N
-    → IsReached N w
-    → IsInRange e
-    → refusal N w e ≡ None
+    → IsNetwork N → IsReached N w → IsInRange e → refusal N w e ≡ None
     → IsReached N (happens N w e)
 unfolding refusal happens
 happens-reached N w (Begin s q) n r i e =
@@ -174,10 +154,7 @@ happens-reached N w (Stranger c port datagram) n r i e =
 
 module _ (N : Network) (w : NetworkState) (e : Event) where
   step_by-reached : (o : Option Refusal)
-      → refusal N w e ≡ o
-      → IsNetwork N
-      → IsReached N w
-      → IsInRange e
+      → refusal N w e ≡ o → IsNetwork N → IsReached N w → IsInRange e
       → IsReached N (step_by o N w e)
   step_by-reached None h n r i = happens-reached N w e n r i h
   step_by-reached (Some refused) h n r i = r
@@ -186,9 +163,7 @@ module _ (N : Network) (w : NetworkState) (e : Event) where
   step-reached n i r = step_by-reached (refusal N w e) refl n r i
 
 pub run-reached : (N : Network) (w : NetworkState) (es : List Event)
-    → IsNetwork N
-    → AllByRecursion IsInRange es
-    → IsReached N w
+    → IsNetwork N → AllByRecursion IsInRange es → IsReached N w
     → IsReached N (run N w es)
 run-reached N w [] n i r = r
 run-reached N w (e ∷ es) n i r = run-reached N (step N w e) es n i.1 (step-reached N w e n i.0 r)

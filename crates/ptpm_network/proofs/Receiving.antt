@@ -24,22 +24,16 @@ pub record IsAccepted (s : SessionValue) (v : Message) : Type 0 where
   pub content : is_content s.unanswered (action_of v.body) (id_of v.body) ≡ true
 
 all_pass : {A : Type 0} (a b c d e f g : Bool) (p q r s t u v : A)
-    → a ≡ true
-    → b ≡ true
-    → c ≡ true
-    → d ≡ true
-    → e ≡ true
-    → f ≡ true
-    → g ≡ true
+    → a ≡ true → b ≡ true → c ≡ true → d ≡ true → e ≡ true → f ≡ true → g ≡ true
     → first_of
-    ((not a, p) ∷ (not b, q) ∷ (not c, r) ∷ (not d, s) ∷ (not e, t) ∷ (not f, u)
-    ∷ (not g, v) ∷ []) ≡ None
+    ((not a, p) ∷ (not b, q) ∷ (not c, r) ∷ (not d, s) ∷ (not e, t) ∷ (not f, u) ∷ (not g, v) ∷ [])
+    ≡ None
 all_pass a b c d e f g p q r s t u v h1 h2 h3 h4 h5 h6 h7 = rw (h1, h2, h3, h4, h5, h6, h7) refl
 
 each_passes : {A : Type 0} (a b c d e f g : Bool) (p q r s t u v : A)
     → first_of
-    ((not a, p) ∷ (not b, q) ∷ (not c, r) ∷ (not d, s) ∷ (not e, t) ∷ (not f, u)
-    ∷ (not g, v) ∷ []) ≡ None
+    ((not a, p) ∷ (not b, q) ∷ (not c, r) ∷ (not d, s) ∷ (not e, t) ∷ (not f, u) ∷ (not g, v) ∷ [])
+    ≡ None
     → (a ≡ true) × (b ≡ true) × (c ≡ true) × (d ≡ true) × (e ≡ true) × (f ≡ true) × (g ≡ true)
 each_passes a b c d e f g p q r s t u v h =
     let h1 = first_of-none (not a) p ((not b, q) ∷ (not c, r) ∷ (not d, s) ∷ (not e, t) ∷ (not f, u) ∷ (not g, v) ∷ []) h in
@@ -118,7 +112,8 @@ module _ (N : Network) (w : NetworkState) (s : ℕ) (octets : List ℕ) (says : 
   unanswered-said = cond-false _ _ _ busy ∙ says.says.begun_as
 
   answer-accepted : says.heard.domain == (w.session s).domain ≡ true
-      → IsAccepted (session_value (N.session s) (w.session s)) (message_said N w s (issued w s) octets says)
+      → IsAccepted (session_value (N.session s) (w.session s))
+      (message_said N w s (issued w s) octets says)
   answer-accepted domain =
       let asked = unanswered-said in
       let r = says.entry.reply in
@@ -136,26 +131,21 @@ module _ (N : Network) (w : NetworkState) (s : ℕ) (octets : List ℕ) (says : 
 
 -- what is received of a message that passes
 received-message : (s : SessionValue) (octets : List ℕ) (v : Message)
-    → message_of octets ≡ Some v
-    → reason_of s v ≡ None
+    → message_of octets ≡ Some v → reason_of s v ≡ None
     → received_of s octets
     ≡ received.Answered (record { index = s.issued; outcome = outcome_in v.body })
 received-message s octets v e none =
     ap (answer_to s) (reading-message_of octets v e) ∙ ap (λ (o : Option Reason). answer_by o s v) none
 
 told-domain : (state : SessionState) (o : Option Message) (v : Message) (r : Report)
-    → o ≡ Some v
-    → told_by state o ≡ Some r
+    → o ≡ Some v → told_by state o ≡ Some r
     → v.domain == state.domain ≡ true
 told-domain state o v r e h = by_test (v.domain == state.domain)
     (λ y. y)
     (λ n. no_report r (sym (ap (told_by state) e ∙ cond-false _ _ _ n) ∙ h))
 
 received-by : (N : Network) (w : NetworkState) (s : ℕ) (octets : List ℕ) (o : Origin) (r : Report)
-    → IsNetwork N
-    → IsReached N w
-    → IsOfOrigin N w octets o
-    → is_answer s (w.session s) o ≡ true
+    → IsNetwork N → IsReached N w → IsOfOrigin N w octets o → is_answer s (w.session s) o ≡ true
     → told_by (w.session s) (message_of octets) ≡ Some r
     → received_of (session_value (N.session s) (w.session s)) octets ≡ received.Answered r
 received-by N w s octets (RequestOf t k) r n reached i y e = absurd (false≢true y)
@@ -190,25 +180,19 @@ pub record Takes (s : SessionValue) (octets : List ℕ) (r : Report) : Type 0 wh
   pub is : record { index = s.issued; outcome = outcome_in message.body } ≡ r
 
 takes-message : (s : SessionValue) (octets : List ℕ) (v : Message) (r : Report) (o : Option Reason)
-    → reason_of s v ≡ o
-    → message_of octets ≡ Some v
-    → answer_by o s v ≡ received.Answered r
+    → reason_of s v ≡ o → message_of octets ≡ Some v → answer_by o s v ≡ received.Answered r
     → Takes s octets r
 takes-message s octets v r (Some reason) h e a = no_answer reason r a
 takes-message s octets v r None h e a = record { message = v; read = e; accepted = is_accepted s v h; is = same_reports _ r a }
 
 takes-by : (s : SessionValue) (octets : List ℕ) (r : Report) (o : Result Message DecodeError)
-    → reading octets ≡ o
-    → answer_to s o ≡ received.Answered r
+    → reading octets ≡ o → answer_to s o ≡ received.Answered r
     → Takes s octets r
 takes-by s octets r (Err cause) h a = no_answer (reasons.Malformed cause) r a
 takes-by s octets r (Ok v) h a = takes-message s octets v r (reason_of s v) refl (message_of-reading octets v h) a
 
 same_number : (first k n : ℕ)
-    → 0 < k
-    → k ≤ n
-    → n ≤ k + 32768
-    → number_of first k ≡ number_of first n
+    → 0 < k → k ≤ n → n ≤ k + 32768 → number_of first k ≡ number_of first n
     → k ≡ n
 same_number first k n p le late e = omega arith
 
@@ -220,11 +204,7 @@ not_idle start s h = by_test (is_idle s)
     (λ n. n)
 
 takes-answer : (N : Network) (w : NetworkState) (s : ℕ) (octets : List ℕ) (o : Origin) (r : Report)
-    → IsNetwork N
-    → IsReached N w
-    → s < N.sessions
-    → IsOfOrigin N w octets o
-    → is_late w o ≡ false
+    → IsNetwork N → IsReached N w → s < N.sessions → IsOfOrigin N w octets o → is_late w o ≡ false
     → Takes (session_value (N.session s) (w.session s)) octets r
     → is_answer s (w.session s) o ≡ true
 takes-answer N w s octets (RequestOf t k) r n reached place i late takes =
@@ -263,14 +243,9 @@ takes-told start state octets r takes =
 -- ---- both
 
 pub received-as_reported : (N : Network) (w : NetworkState) (s : ℕ) (f : Frame) (r : Report)
-    → IsNetwork N
-    → IsReached N w
-    → s < N.sessions
-    → IsOfOrigin N w f.octets f.origin
+    → IsNetwork N → IsReached N w → s < N.sessions → IsOfOrigin N w f.octets f.origin
     → is_late w f.origin ≡ false
-    → (report_from s (w.session s) f ≡ Some r
-    → received_of (session_value (N.session s) (w.session s)) f.octets ≡ received.Answered r)
-    × (received_of (session_value (N.session s) (w.session s)) f.octets ≡ received.Answered r → report_from s (w.session s) f ≡ Some r)
+    → (report_from s (w.session s) f ≡ Some r → received_of (session_value (N.session s) (w.session s)) f.octets ≡ received.Answered r) × (received_of (session_value (N.session s) (w.session s)) f.octets ≡ received.Answered r → report_from s (w.session s) f ≡ Some r)
 received-as_reported N w s f r n reached place i late = (
   λ e. by_test (is_answer s (w.session s) f.origin)
       (λ y. received-by N w s f.octets f.origin r n reached i y (sym (cond-true _ _ _ y) ∙ e))
@@ -281,15 +256,10 @@ received-as_reported N w s f r n reached place i late = (
 )
 
 pub frame-as_reported : (N : Network) (es : List Event) (k s : ℕ) (f : Frame) (r : Report)
-    → IsNetwork N
-    → AllByRecursion IsInRange es
-    → frame_at (run N (initial_state N) es).frames k ≡ Some f
-    → f.end ≡ AtSession s
+    → IsNetwork N → AllByRecursion IsInRange es
+    → frame_at (run N (initial_state N) es).frames k ≡ Some f → f.end ≡ AtSession s
     → is_late (run N (initial_state N) es) f.origin ≡ false
-    → (report_from s ((run N (initial_state N) es).session s) f ≡ Some r
-    → received_of (session_value (N.session s) ((run N (initial_state N) es).session s))
-    f.octets ≡ received.Answered r)
-    × (received_of (session_value (N.session s) ((run N (initial_state N) es).session s)) f.octets ≡ received.Answered r → report_from s ((run N (initial_state N) es).session s) f ≡ Some r)
+    → (report_from s ((run N (initial_state N) es).session s) f ≡ Some r → received_of (session_value (N.session s) ((run N (initial_state N) es).session s)) f.octets ≡ received.Answered r) × (received_of (session_value (N.session s) ((run N (initial_state N) es).session s)) f.octets ≡ received.Answered r → report_from s ((run N (initial_state N) es).session s) f ≡ Some r)
 frame-as_reported N es k s f r n i e end late =
     let w : NetworkState = run N (initial_state N) es in
     let reached' = reached N es n i in

@@ -17,9 +17,7 @@ every_port_fits : (p : ℕ) → p ≡ every_port → p < 2 ^ 16
 every_port_fits p e = omega arith
 
 pub asked-not_refused : (ports : ℕ) (a : Ask)
-    → ports ≤ 8
-    → a.id < 2 ^ 16
-    → ask_refusal ports a ≡ None
+    → ports ≤ 8 → a.id < 2 ^ 16 → ask_refusal ports a ≡ None
     → IsAsked ports (request_of a)
 asked-not_refused ports a few id e =
     let asked = request_of-permitted ports a e in
@@ -57,8 +55,7 @@ last_below reports begun a b = omega arith
 
 -- a session that does not wait has each request reported
 pub idle-not_waiting : (start : SessionStart) (s : SessionState)
-    → length s.reports ≤ length s.begun
-    → is_waiting (session_value start s) ≡ false
+    → length s.reports ≤ length s.begun → is_waiting (session_value start s) ≡ false
     → is_idle s ≡ true
 idle-not_waiting start s le w = by_test (is_idle s)
     (λ y. y)

@@ -42,9 +42,7 @@ idle-waiting start s le = by_test (is_waiting (session_value start s))
 
 resume-refused : (N : Network) (first : PortIdentity → ℕ) (r : RunningNetwork) (w : NetworkState)
     (s : ℕ)
-    → IsReached N w
-    → Stands N first r w
-    → s < N.sessions
+    → IsReached N w → Stands N first r w → s < N.sessions
     → nothing_to_resume (r.session s) ≡ resume_refused w s
 resume-refused N first r w s reached at place =
     let step = reached.sessions s place in
@@ -54,8 +52,7 @@ resume-refused N first r w s reached at place =
 
 pub network_refusal-as : (N : Network) (first : PortIdentity → ℕ) (r : RunningNetwork)
     (w : NetworkState) (e : Event)
-    → IsReached N w
-    → Stands N first r w
+    → IsReached N w → Stands N first r w
     → network_refusal N r e ≡ refusal N w e
 unfolding network_refusal refusal
 network_refusal-as N first r w (Begin s a) reached at =

@@ -11,8 +11,7 @@ use Rattle.ptpm_network.proofs.Worth.{report-index, report-worth}
 
 -- the reports of a session are those of the machine
 reports-after : (N : Network) (past : List Event) (r : RunningNetwork) (s : ℕ)
-    → StandsAfter N past r
-    → s < N.sessions
+    → StandsAfter N past r → s < N.sessions
     → r.reports s ≡ ((run N (initial_state N) past).session s).reports
 reports-after N past r s at place = (at.stands (first_of_sessions N N.sessions) (firsts N at.promised.network)).reports s place
 
@@ -34,9 +33,7 @@ idle-not_waiting N s x idle = ap is_some (cond-true _ _ _ idle)
 
 runs-to_report : (N : Network) (first : PortIdentity → ℕ) (r : RunningNetwork) (w : NetworkState)
     (s : ℕ) (hops : List Hop) (port : ℕ)
-    → s < N.sessions
-    → Stands N first r w
-    → (a : IsAnswerable N w s hops port)
+    → s < N.sessions → Stands N first r w → (a : IsAnswerable N w s hops port)
     → Stands N first (network_run N r (answering s a.deliveries))
     (run N w (answering s a.deliveries))
     → RunsToReport N r s hops port
@@ -50,15 +47,11 @@ runs-to_report N first r w s hops port place at a next = record {
 
 pub running-answered : (N : Network) (es : List Event) (first : PortIdentity → ℕ)
     (r : RunningNetwork) (s : ℕ) (hops : List Hop) (port ends : ℕ)
-    → IsNetwork N
-    → AllByRecursion IsInRange es
-    → AreFirsts N first
-    → Stands N first r (run N (initial_state N) es)
-    → s < N.sessions
+    → IsNetwork N → AllByRecursion IsInRange es → AreFirsts N first
+    → Stands N first r (run N (initial_state N) es) → s < N.sessions
     → is_idle ((run N (initial_state N) es).session s) ≡ false
     → 0 < ((run N (initial_state N) es).session s).attempts_left
-    → IsWay N (run N (initial_state N) es) s hops port
-    → LinksHaveAtMost N ends
+    → IsWay N (run N (initial_state N) es) s hops port → LinksHaveAtMost N ends
     → length (run N (initial_state N) es).frames + made_each_way ends hops ≤ frames_limit
     → RunsToReport N r s hops port
 running-answered N es first r s hops port ends n range firsts at place busy attempts way all room =
@@ -71,12 +64,10 @@ running-answered N es first r s hops port ends n range firsts at place busy atte
 
 pub answered-after : (N : Network) (past : List Event) (r : RunningNetwork) (s : ℕ)
     (hops : List Hop) (port ends : ℕ)
-    → StandsAfter N past r
-    → s < N.sessions
+    → StandsAfter N past r → s < N.sessions
     → is_idle ((run N (initial_state N) past).session s) ≡ false
     → 0 < ((run N (initial_state N) past).session s).attempts_left
-    → IsWay N (run N (initial_state N) past) s hops port
-    → LinksHaveAtMost N ends
+    → IsWay N (run N (initial_state N) past) s hops port → LinksHaveAtMost N ends
     → length (run N (initial_state N) past).frames + made_each_way ends hops ≤ frames_limit
     → RunsToReport N r s hops port
 answered-after N past r s hops port ends at place busy attempts way all room =

@@ -122,8 +122,7 @@ one_answer q reply one = record {
 }
 
 pub once : (q : RequestValue) (r : Rights) (ports : ℕ) (d : DataSetsValue)
-    → AreDataSets ports d
-    → IsForOne ports q
+    → AreDataSets ports d → IsForOne ports q
     → HasOneAnswer q (reply_to q r d)
 unfolding reply_to
 once q r ports d s one =

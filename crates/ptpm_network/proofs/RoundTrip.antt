@@ -14,8 +14,7 @@ run-append N w [] ys = refl
 run-append N w (d ∷ ds) ys = run-append N (step N w (Deliver d.0)) ds ys
 
 pub come_in-append : (N : Network) (w : NetworkState) (xs ys : List (ℕ × End))
-    → ComeIn N w xs
-    → ComeIn N (run N w (handed_in xs)) ys
+    → ComeIn N w xs → ComeIn N (run N w (handed_in xs)) ys
     → ComeIn N w (xs ++ ys)
 come_in-append N w [] ys a b = b
 come_in-append N w (d ∷ ds) ys a b = (a.0, come_in-append N (step N w (Deliver d.0)) ds ys a.1 b)
@@ -36,8 +35,7 @@ add_both a b c x y p q = omega arith
 
 module _ (N : Network) (s : ℕ) (w u : NetworkState) where
   moved-then : (z : NetworkState) (a b : ℕ)
-      → Moved N s w u a
-      → Moved N s u z b
+      → Moved N s w u a → Moved N s u z b
       → Moved N s w z (a + b)
   moved-then z a b p q = record {
     reached = q.reached;
@@ -70,10 +68,7 @@ pub in_time : (w : NetworkState) (s k : ℕ) → issued w s ≡ k → is_late w 
 in_time w s k e = le-ltb (k + 32768) (issued w s) (omega (arith, e))
 
 pub one-delivery : (N : Network) (w : NetworkState) (n : ℕ) (f : Frame) (end : End)
-    → frame_at w.frames n ≡ Some f
-    → f.end ≡ end
-    → HasRoom w
-    → is_late w f.origin ≡ false
+    → frame_at w.frames n ≡ Some f → f.end ≡ end → HasRoom w → is_late w f.origin ≡ false
     → ComesIn N w n end
 one-delivery N w n f end e q room late = record { frame = f; is = e; at_end = q; not_refused = delivery-taken N w n f e room; in_time = late }
 
@@ -96,18 +91,9 @@ record CanPass (N : Network) (w : NetworkState) (c p q : ℕ) (e : End) (domain 
 
 pass : (N : Network) (s : ℕ) (w : NetworkState) (most c p q : ℕ) (e : End) (o : Origin)
     (domain hops : ℕ)
-    → IsNetwork N
-    → MakesAtMost N most
-    → IsReached N w
-    → HasRoom w
-    → is_late w o ≡ false
-    → ((octets : List ℕ)
-    → c < N.clocks
-    → IsOfOrigin N w octets o
-    → IsPassing (N.clock c).identity octets)
-    → CanPass N w c p q e domain
-    → 0 < hops
-    → Comes w (AtPort c p) o domain hops
+    → IsNetwork N → MakesAtMost N most → IsReached N w → HasRoom w → is_late w o ≡ false
+    → ((octets : List ℕ) → c < N.clocks → IsOfOrigin N w octets o → IsPassing (N.clock c).identity octets)
+    → CanPass N w c p q e domain → 0 < hops → Comes w (AtPort c p) o domain hops
     → Passed N s w most (AtPort c p) e o domain (hops - 1)
 pass N s w most c p q e o domain hops n few r room late passing can hop comes =
     let f = comes.frame in
@@ -162,9 +148,7 @@ abbrev pub Hears : Network → NetworkState → ℕ → ℕ → ℕ → Type 0
 Hears N w s k domain = ((history N w (N.session s).target).sets.default.domain ≡ domain) ⊎ (greatest_accepted N w s ≡ k)
 
 heard-by : (N : Network) (w : NetworkState) (s k domain : ℕ) (octets : List ℕ)
-    → issued w s ≡ k
-    → domain_number octets ≡ domain
-    → Hears N w s k domain
+    → issued w s ≡ k → domain_number octets ≡ domain → Hears N w s k domain
     → IsHeardBy N w s octets
 heard-by N w s k domain octets e d h = ⊎_elim
     (λ (same : (history N w (N.session s).target).sets.default.domain ≡ domain). inl (d ∙ sym same))
@@ -179,16 +163,9 @@ within x most le = omega arith
 
 -- at the target
 turn_back : (N : Network) (s : ℕ) (w : NetworkState) (most k domain hops lost port : ℕ) (from : End)
-    → IsNetwork N
-    → s < N.sessions
-    → MakesAtMost N most
-    → IsReached N w
-    → HasRoom w
-    → issued w s ≡ k
-    → lost + hops ≡ (N.session s).setup.hops
-    → AreLinked N from (AtPort (N.session s).target port)
-    → Hears N w s k domain
-    → Comes w (AtPort (N.session s).target port) (RequestOf s k) domain hops
+    → IsNetwork N → s < N.sessions → MakesAtMost N most → IsReached N w → HasRoom w → issued w s ≡ k
+    → lost + hops ≡ (N.session s).setup.hops → AreLinked N from (AtPort (N.session s).target port)
+    → Hears N w s k domain → Comes w (AtPort (N.session s).target port) (RequestOf s k) domain hops
     → Trip N s w most k domain lost [] (AtPort (N.session s).target port) from
 turn_back N s w most k domain hops lost port from n place few r room e sum link hears comes =
     let f = comes.frame in
@@ -239,8 +216,7 @@ leads-first N [] from to leads = leads
 leads-first N (h ∷ hops) from to leads = leads.0
 
 pub passes-stays : (N : Network) (w u : NetworkState) (target domain : ℕ) (h : Hop)
-    → history N u h.clock ≡ history N w h.clock
-    → PassesOn N w target domain h
+    → history N u h.clock ≡ history N w h.clock → PassesOn N w target domain h
     → PassesOn N u target domain h
 passes-stays N w u target domain h same p = record {
   other = p.other;
@@ -251,8 +227,7 @@ passes-stays N w u target domain h same p = record {
 }
 
 hears-stays : (N : Network) (w u : NetworkState) (s k domain : ℕ)
-    → history N u (N.session s).target ≡ history N w (N.session s).target
-    → Hears N w s k domain
+    → history N u (N.session s).target ≡ history N w (N.session s).target → Hears N w s k domain
     → Hears N u s k domain
 hears-stays N w u s k domain same h = ⊎_elim
     (λ (d : (history N w (N.session s).target).sets.default.domain ≡ domain). inl (ap (λ (x : History). x.sets.default.domain) same ∙ d))
@@ -262,8 +237,7 @@ hears-stays N w u s k domain same h = ⊎_elim
 module _ (N : Network) (s : ℕ) (w : NetworkState) (most k domain hops : ℕ) (h : Hop) (e : End) (n : IsNetwork N) (few : MakesAtMost N most) (r : IsReached N w) (room : HasRoom w) (is : issued w s ≡ k) where
   -- a clock passes a request on to the far side, and the reply back to the near one
   pass_there : PassesOn N w (N.session s).target domain h
-      → list_any (same_end e) (peers N.links (AtPort h.clock h.far)) ≡ true
-      → 0 < hops
+      → list_any (same_end e) (peers N.links (AtPort h.clock h.far)) ≡ true → 0 < hops
       → Comes w (AtPort h.clock h.near) (RequestOf s k) domain hops
       → Passed N s w most (AtPort h.clock h.near) e (RequestOf s k) domain (hops - 1)
   pass_there p link hop comes =
@@ -272,8 +246,7 @@ module _ (N : Network) (s : ℕ) (w : NetworkState) (most k domain hops : ℕ) (
       (record { two_ports = λ q. p.two_ports (sym q); domain_is = p.in_domain; ingress = p.near; egress = p.far; link = link }) hop comes
 
   pass_back : PassesOn N w (N.session s).target domain h
-      → list_any (same_end e) (peers N.links (AtPort h.clock h.near)) ≡ true
-      → 0 < hops
+      → list_any (same_end e) (peers N.links (AtPort h.clock h.near)) ≡ true → 0 < hops
       → Comes w (AtPort h.clock h.far) (ReplyTo s k) domain hops
       → Passed N s w most (AtPort h.clock h.far) e (ReplyTo s k) domain (hops - 1)
   pass_back p link hop comes =
@@ -316,10 +289,7 @@ record Behind (N : Network) (s : ℕ) (w : NetworkState) (most k domain lost : �
 
 come_back : (N : Network) (s : ℕ) (w : NetworkState) (most k domain lost : ℕ) (h : Hop)
     (hops : List Hop) (to from : End)
-    → IsNetwork N
-    → MakesAtMost N most
-    → issued w s ≡ k
-    → PassesOn N w (N.session s).target domain h
+    → IsNetwork N → MakesAtMost N most → issued w s ≡ k → PassesOn N w (N.session s).target domain h
     → AreLinked N from (AtPort h.clock h.near)
     → length w.frames + made_along most (h ∷ hops) ≤ frames_limit
     → Behind N s w most k domain lost h hops to
@@ -348,17 +318,10 @@ come_back N s w most k domain lost h hops to from n few is p link room b =
 
 pub round_trip : (N : Network) (s : ℕ) (hops : List Hop) (w : NetworkState)
     (most k domain left lost port : ℕ) (from : End)
-    → IsNetwork N
-    → s < N.sessions
-    → MakesAtMost N most
-    → IsReached N w
-    → issued w s ≡ k
-    → length w.frames + made_along most hops ≤ frames_limit
-    → lost + left ≡ (N.session s).setup.hops
-    → length hops ≤ left
-    → Leads N from hops (AtPort (N.session s).target port)
-    → AllByRecursion (PassesOn N w (N.session s).target domain) hops
-    → Hears N w s k domain
+    → IsNetwork N → s < N.sessions → MakesAtMost N most → IsReached N w → issued w s ≡ k
+    → length w.frames + made_along most hops ≤ frames_limit → lost + left ≡ (N.session s).setup.hops
+    → length hops ≤ left → Leads N from hops (AtPort (N.session s).target port)
+    → AllByRecursion (PassesOn N w (N.session s).target domain) hops → Hears N w s k domain
     → Comes w (first_end hops (AtPort (N.session s).target port)) (RequestOf s k) domain left
     → Trip N s w most k domain lost hops (AtPort (N.session s).target port) from
 round_trip N s [] w most k domain left lost port from n place few r is room sum le leads passes hears comes =

@@ -16,13 +16,8 @@ use Rattle.ptpm_network.proofs.Taking.{is_none-none, run-append}
 
 reaches-stands : (N : Network) (first : PortIdentity → ℕ) (r : RunningNetwork) (w : NetworkState)
     (f : Frame) (e : End)
-    → AreFirsts N first
-    → IsNetwork N
-    → IsReached N w
-    → Stands N first r w
-    → IsFrame N w f
-    → HasEnd N e
-    → is_late w f.origin ≡ false
+    → AreFirsts N first → IsNetwork N → IsReached N w → Stands N first r w → IsFrame N w f
+    → HasEnd N e → is_late w f.origin ≡ false
     → Stands N first (reaches N r (held f) e) (delivered_at N w f e)
 reaches-stands N first r w f (AtPort c port) firsts n reached at i end late =
     subst (λ (x : RunningNetwork). Stands N first x (delivered_at_clock N w c port f)) (sym (turned-seen N r c port f))
@@ -33,11 +28,7 @@ reaches-stands N first r w f (AtSession s) firsts n reached at i end late =
 
 reaches_end-stands : (N : Network) (first : PortIdentity → ℕ) (r : RunningNetwork)
     (w : NetworkState) (k : ℕ) (o : Option Frame)
-    → AreFirsts N first
-    → IsNetwork N
-    → IsReached N w
-    → Stands N first r w
-    → frame_at w.frames k ≡ o
+    → AreFirsts N first → IsNetwork N → IsReached N w → Stands N first r w → frame_at w.frames k ≡ o
     → is_late_frame w o ≡ false
     → Stands N first (reaches_end N r (option_map held o)) (delivered N w o)
 reaches_end-stands N first r w k None firsts n reached at e late = at
@@ -49,10 +40,7 @@ reaches_end-stands N first r w k (Some f) firsts n reached at e late =
 
 begins-stand : (N : Network) (first : PortIdentity → ℕ) (r : RunningNetwork) (w : NetworkState)
     (s : ℕ) (a : Ask)
-    → IsReached N w
-    → Stands N first r w
-    → s < N.sessions
-    → begin_refused N w s a ≡ None
+    → IsReached N w → Stands N first r w → s < N.sessions → begin_refused N w s a ≡ None
     → Stands N first (network_step N r (Begin s a)) (happens N w (Begin s a))
 unfolding network_step happens
 begins-stand N first r w s a reached at place e =
@@ -63,13 +51,8 @@ begins-stand N first r w s a reached at place e =
 
 strange-stands : (N : Network) (first : PortIdentity → ℕ) (r : RunningNetwork) (w : NetworkState)
     (c port : ℕ) (datagram : List ℕ)
-    → AreFirsts N first
-    → IsNetwork N
-    → IsReached N w
-    → Stands N first r w
-    → IsInRange (Stranger c port datagram)
-    → no_port N c port ≡ None
-    → forged N datagram ≡ None
+    → AreFirsts N first → IsNetwork N → IsReached N w → Stands N first r w
+    → IsInRange (Stranger c port datagram) → no_port N c port ≡ None → forged N datagram ≡ None
     → Stands N first (network_step N r (Stranger c port datagram))
     (happens N w (Stranger c port datagram))
 unfolding network_step happens
@@ -81,13 +64,8 @@ strange-stands N first r w c port datagram firsts n reached at octets p e =
 
 network_step-stands : (N : Network) (first : PortIdentity → ℕ) (r : RunningNetwork)
     (w : NetworkState) (e : Event)
-    → AreFirsts N first
-    → IsNetwork N
-    → IsReached N w
-    → Stands N first r w
-    → IsInRange e
-    → refusal N w e ≡ None
-    → is_late_delivery w e ≡ false
+    → AreFirsts N first → IsNetwork N → IsReached N w → Stands N first r w → IsInRange e
+    → refusal N w e ≡ None → is_late_delivery w e ≡ false
     → Stands N first (network_step N r e) (happens N w e)
 unfolding refusal network_step happens
 network_step-stands N first r w (Begin s a) firsts n reached at i e late =
@@ -115,12 +93,8 @@ network_step-stands N first r w (Stranger c port datagram) firsts n reached at i
 
 pub network_run-stands : (N : Network) (first : PortIdentity → ℕ) (r : RunningNetwork)
     (w : NetworkState) (es : List Event)
-    → AreFirsts N first
-    → IsNetwork N
-    → IsReached N w
-    → Stands N first r w
-    → AllByRecursion IsInRange es
-    → AreInTime N w (taken N w es)
+    → AreFirsts N first → IsNetwork N → IsReached N w → Stands N first r w
+    → AllByRecursion IsInRange es → AreInTime N w (taken N w es)
     → Stands N first (network_run N r es) (run N w (taken N w es))
 network_run-stands N first r w [] firsts n reached at i time = at
 network_run-stands N first r w (e ∷ es) firsts n reached at i time = by_test (is_none (refusal N w e))
@@ -146,8 +120,7 @@ module _ (N : Network) (es : List Event) (first : PortIdentity → ℕ) (r : Run
   network_refusal-running at = network_refusal-as N first r (run N (initial_state N) es) e (reached N es n i) at
 
   pub network_step-running : AreFirsts N first
-      → Stands N first r (run N (initial_state N) es)
-      → IsInRange e
+      → Stands N first r (run N (initial_state N) es) → IsInRange e
       → refusal N (run N (initial_state N) es) e ≡ None
       → is_late_delivery (run N (initial_state N) es) e ≡ false
       → Stands N first (network_step N r e) (happens N (run N (initial_state N) es) e)
@@ -155,11 +128,8 @@ module _ (N : Network) (es : List Event) (first : PortIdentity → ℕ) (r : Run
 
 pub network_run-running : (N : Network) (past es : List Event) (first : PortIdentity → ℕ)
     (r : RunningNetwork)
-    → IsNetwork N
-    → AllByRecursion IsInRange past
-    → AreFirsts N first
-    → Stands N first r (run N (initial_state N) past)
-    → AllByRecursion IsInRange es
+    → IsNetwork N → AllByRecursion IsInRange past → AreFirsts N first
+    → Stands N first r (run N (initial_state N) past) → AllByRecursion IsInRange es
     → AreInTime N (run N (initial_state N) past) (taken N (run N (initial_state N) past) es)
     → Stands N first (network_run N r es)
     (run N (initial_state N) (past ++ taken N (run N (initial_state N) past) es))

@@ -9,9 +9,7 @@ module _ (N : Network) (es : List Event) where
   reached n i = run-reached N (initial_state N) es n i (first-reached N n)
 
   at : (s : ℕ)
-      → IsNetwork N
-      → AllByRecursion IsInRange es
-      → s < N.sessions
+      → IsNetwork N → AllByRecursion IsInRange es → s < N.sessions
       → InStep N (run N (initial_state N) es) s ((run N (initial_state N) es).session s)
   at s n i place = (reached n i).sessions s place
 
@@ -19,10 +17,12 @@ one_more : (begun reports g : ℕ) → begun ≤ reports + 1 → reports ≤ g �
 one_more begun reports g a b = omega arith
 
 module _ (N : Network) (es : List Event) (s : ℕ) (n : IsNetwork N) (i : AllByRecursion IsInRange es) (place : s < N.sessions) where
-  pub accepted_begun : greatest_accepted N (run N (initial_state N) es) s ≤ issued (run N (initial_state N) es) s
+  pub accepted_begun : greatest_accepted N (run N (initial_state N) es) s
+      ≤ issued (run N (initial_state N) es) s
   accepted_begun = (at N es s n i place).begun_before
 
-  pub begun_accepted : issued (run N (initial_state N) es) s ≤ greatest_accepted N (run N (initial_state N) es) s + 1
+  pub begun_accepted : issued (run N (initial_state N) es) s
+      ≤ greatest_accepted N (run N (initial_state N) es) s + 1
   begun_accepted = let p = at N es s n i place in one_more _ _ _ p.one_at_a_time p.accepted_before
 
 -- an index from 1 on
@@ -34,14 +34,8 @@ positive-kept zero N w s e none some = let absurd_path : None ≡ Some e = sym n
 positive-kept (suc k) N w s e none some = omega arith
 
 pub accepted_exactly : (N : Network) (es : List Event) (s k : ℕ)
-    → IsNetwork N
-    → AllByRecursion IsInRange es
-    → s < N.sessions
-    → (((0 < k) × (k ≤ greatest_accepted N (run N (initial_state N) es) s))
-    → (e : Accepted)
-    × (kept_reply (manager N s) k (accepted_at_target N (run N (initial_state N) es) s)
-    ≡ Some e))
-    × (((e : Accepted) × (kept_reply (manager N s) k (accepted_at_target N (run N (initial_state N) es) s) ≡ Some e)) → (0 < k) × (k ≤ greatest_accepted N (run N (initial_state N) es) s))
+    → IsNetwork N → AllByRecursion IsInRange es → s < N.sessions
+    → (((0 < k) × (k ≤ greatest_accepted N (run N (initial_state N) es) s)) → (e : Accepted) × (kept_reply (manager N s) k (accepted_at_target N (run N (initial_state N) es) s) ≡ Some e)) × (((e : Accepted) × (kept_reply (manager N s) k (accepted_at_target N (run N (initial_state N) es) s) ≡ Some e)) → (0 < k) × (k ≤ greatest_accepted N (run N (initial_state N) es) s))
 accepted_exactly N es s k n i place =
     let p = at N es s n i place in
     let w : NetworkState = run N (initial_state N) es in (
@@ -50,24 +44,23 @@ accepted_exactly N es s k n i place =
     )
 
 module _ (N : Network) (es : List Event) (s : ℕ) (n : IsNetwork N) (i : AllByRecursion IsInRange es) (place : s < N.sessions) where
-  pub reported_begun : length ((run N (initial_state N) es).session s).reports ≤ issued (run N (initial_state N) es) s
+  pub reported_begun : length ((run N (initial_state N) es).session s).reports
+      ≤ issued (run N (initial_state N) es) s
   reported_begun = let p = at N es s n i place in le_trans p.accepted_before p.begun_before
 
-  pub begun_reported : issued (run N (initial_state N) es) s ≤ length ((run N (initial_state N) es).session s).reports + 1
+  pub begun_reported : issued (run N (initial_state N) es) s
+      ≤ length ((run N (initial_state N) es).session s).reports + 1
   begun_reported = (at N es s n i place).one_at_a_time
 
 pub reports : (N : Network) (es : List Event) (s : ℕ)
-    → IsNetwork N
-    → AllByRecursion IsInRange es
-    → s < N.sessions
+    → IsNetwork N → AllByRecursion IsInRange es → s < N.sessions
     → ((run N (initial_state N) es).session s).reports
     ≡ outcomes_kept (manager N s) (accepted_at_target N (run N (initial_state N) es) s)
     (length ((run N (initial_state N) es).session s).reports)
 reports N es s n i place = (at N es s n i place).reports
 
 hops_and_forwardings : (N : Network) (es : List Event) (k : ℕ) (f : Frame)
-    → IsNetwork N
-    → AllByRecursion IsInRange es
+    → IsNetwork N → AllByRecursion IsInRange es
     → frame_at (run N (initial_state N) es).frames k ≡ Some f
     → boundary_hops f.octets + f.forwardings ≡ f.first_hops
 hops_and_forwardings N es k f n i e = (frame_at-is N (run N (initial_state N) es) k f (reached N es n i) e).hops

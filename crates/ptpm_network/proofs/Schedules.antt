@@ -50,7 +50,9 @@ abbrev sent_once : NetworkState
 sent_once = run one_clock (initial_state one_clock) (Begin 0 get_priority1 ∷ Send 0 ∷ [])
 
 -- the request goes to the other end of the session's link
-first_script-sent : sent_once.frames ≡ record { end = AtPort 0 1; octets = get_octets; origin = RequestOf 0 1; first_hops = 1; forwardings = 0 } ∷ []
+first_script-sent : sent_once.frames
+    ≡ record
+    { end = AtPort 0 1; octets = get_octets; origin = RequestOf 0 1; first_hops = 1; forwardings = 0 } ∷ []
 unfolding refusal happens begin_refusal send_refusal ask_refusal target_port row_of port_identity_octets tlv_octets
 first_script-sent = refl
 
@@ -82,7 +84,8 @@ unfolding refusal happens begin_refusal send_refusal ask_refusal target_port row
 first_script-frames = refl
 
 -- it is reported once
-first_script-reports : (whole_script.session 0).reports ≡ record { index = 1; outcome = outcomes.Value (0x80 ∷ 0x00 ∷ []) } ∷ []
+first_script-reports : (whole_script.session 0).reports
+    ≡ record { index = 1; outcome = outcomes.Value (0x80 ∷ 0x00 ∷ []) } ∷ []
 unfolding refusal happens begin_refusal send_refusal ask_refusal target_port row_of port_identity_octets tlv_octets message_of frame_refusal tlv_refusal text_refusal body_at number_at port_identity_at changed_by row_refusal forwarded answer clock_field_of reply_of reply_to read_reply_to rendered
 first_script-reports = refl
 
@@ -144,16 +147,15 @@ abbrev get_log_sync_interval : Ask
 get_log_sync_interval = record { action = actions.Get; id = 0x200b; port = None; octets = [] }
 
 refused_events : map (refused [])
-    (Send 0 ∷ Send 1 ∷ Deliver 1 ∷ Stranger 0 1 get_octets ∷ Stranger 0 2 (0 ∷ [])
-    ∷ Begin 0 get_log_sync_interval ∷ Retune 1 0 ∷ Stranger 0 3 [] ∷ Stranger 1 1 [] ∷ [])
-    ≡ Some (SendRefused sends.Idle) ∷ Some NoSuchName ∷ Some NoSuchFrame ∷ Some Forged ∷ None ∷ Some (BeginRefused begins.NeedsPort) ∷ Some NoSuchName ∷ Some NoSuchName ∷ Some NoSuchName ∷ []
+    (Send 0 ∷ Send 1 ∷ Deliver 1 ∷ Stranger 0 1 get_octets ∷ Stranger 0 2 (0 ∷ []) ∷ Begin 0 get_log_sync_interval ∷ Retune 1 0 ∷ Stranger 0 3 [] ∷ Stranger 1 1 [] ∷ []) ≡ Some (SendRefused sends.Idle) ∷ Some NoSuchName ∷ Some NoSuchFrame ∷ Some Forged ∷ None ∷ Some (BeginRefused begins.NeedsPort) ∷ Some NoSuchName ∷ Some NoSuchName ∷ Some NoSuchName ∷ []
 unfolding refusal begin_refusal send_refusal ask_refusal row_of number_at port_identity_at
 refused_events = refl
 
 -- no second request while the first is unanswered, and no third sending of it
 refused_after : map (refused (Begin 0 get_priority1 ∷ Send 0 ∷ Send 0 ∷ []))
     (Begin 0 get_priority1 ∷ Send 0 ∷ Resume 0 1 ∷ Deliver 0 ∷ Deliver 2 ∷ Deliver 3 ∷ [])
-    ≡ Some (BeginRefused begins.Busy) ∷ Some (SendRefused sends.GaveUp) ∷ None ∷ Some NoSuchFrame ∷ None ∷ Some NoSuchFrame ∷ []
+    ≡ Some (BeginRefused begins.Busy) ∷ Some (SendRefused sends.GaveUp) ∷ None ∷ Some NoSuchFrame
+    ∷ None ∷ Some NoSuchFrame ∷ []
 unfolding refusal happens begin_refusal send_refusal ask_refusal target_port row_of
 refused_after = refl
 
@@ -161,8 +163,7 @@ refused_after = refl
 
 -- between two sendings of a request its domain changes, and no other octet
 retune-sent : map (λ f. f.octets)
-    (run one_clock (initial_state one_clock) (Begin 0 get_priority1 ∷ Send 0 ∷ Retune 0 5 ∷ Send 0 ∷ [])).frames
-    ≡ get_octets ∷ slice_set get_octets 4 5 ∷ []
+    (run one_clock (initial_state one_clock) (Begin 0 get_priority1 ∷ Send 0 ∷ Retune 0 5 ∷ Send 0 ∷ [])).frames ≡ get_octets ∷ slice_set get_octets 4 5 ∷ []
 unfolding refusal happens begin_refusal send_refusal ask_refusal target_port row_of port_identity_octets tlv_octets
 retune-sent = refl
 
@@ -174,7 +175,8 @@ other_domain = run one_clock (initial_state one_clock) (
     ∷ Begin 0 get_priority1 ∷ Send 0 ∷ Deliver 5 ∷ Retune 0 5 ∷ Send 0 ∷ Deliver 6 ∷ Deliver 2 ∷ Deliver 7 ∷ [])
 
 retune-reports : (other_domain.session 0).reports
-    ≡ record { index = 1; outcome = outcomes.Value (0x05 ∷ 0x00 ∷ []) } ∷ record { index = 2; outcome = outcomes.Value (0x80 ∷ 0x00 ∷ []) } ∷ []
+    ≡ record { index = 1; outcome = outcomes.Value (0x05 ∷ 0x00 ∷ []) } ∷ record
+    { index = 2; outcome = outcomes.Value (0x80 ∷ 0x00 ∷ []) } ∷ []
 unfolding refusal happens begin_refusal send_refusal ask_refusal target_port row_of port_identity_octets tlv_octets message_of frame_refusal tlv_refusal text_refusal body_at number_at port_identity_at changed_by row_refusal is_set_length is_set_value set_of set_members forwarded answer clock_field_of reply_of reply_to read_reply_to rendered
 retune-reports = refl
 
@@ -214,14 +216,15 @@ seen f = (f.end, octet 45 f.octets, f.forwardings, f.origin)
 -- its port 2, where the copy came in, with as many hops as the copy had lost
 ring_of_three_clocks-frames : map seen
     (in_ring (Begin 0 get_priority1 ∷ Send 0 ∷ Deliver 1 ∷ Deliver 3 ∷ Deliver 4 ∷ [])).frames
-    ≡ (AtPort 0 1, 2, 0, RequestOf 0 1) ∷ (AtPort 1 1, 1, 1, RequestOf 0 1) ∷ (AtPort 2 1, 1, 1, RequestOf 0 1) ∷ (AtPort 1 2, 0, 2, RequestOf 0 1) ∷ (AtPort 2 2, 2, 0, ReplyTo 0 1) ∷ []
+    ≡ (AtPort 0 1, 2, 0, RequestOf 0 1) ∷ (AtPort 1 1, 1, 1, RequestOf 0 1)
+    ∷ (AtPort 2 1, 1, 1, RequestOf 0 1) ∷ (AtPort 1 2, 0, 2, RequestOf 0 1)
+    ∷ (AtPort 2 2, 2, 0, ReplyTo 0 1) ∷ []
 unfolding refusal happens begin_refusal send_refusal ask_refusal target_port row_of port_identity_octets tlv_octets message_of frame_refusal tlv_refusal text_refusal body_at number_at port_identity_at changed_by row_refusal forwarded answer clock_field_of reply_of reply_to read_reply_to rendered
 ring_of_three_clocks-frames = refl
 
 -- both ways it comes to clock 1, which accepts it once
 ring_of_three_clocks-accepted : map by_whom
-    (history ring_of_three_clocks (in_ring (Begin 0 get_priority1 ∷ Send 0 ∷ Deliver 1 ∷ Deliver 2 ∷ Deliver 3 ∷ Deliver 4 ∷ [])) 1).accepted
-    ≡ (manager_m, 1) ∷ []
+    (history ring_of_three_clocks (in_ring (Begin 0 get_priority1 ∷ Send 0 ∷ Deliver 1 ∷ Deliver 2 ∷ Deliver 3 ∷ Deliver 4 ∷ [])) 1).accepted ≡ (manager_m, 1) ∷ []
 unfolding refusal happens begin_refusal send_refusal ask_refusal target_port row_of port_identity_octets tlv_octets message_of frame_refusal tlv_refusal text_refusal body_at number_at port_identity_at changed_by row_refusal forwarded answer clock_field_of reply_of reply_to read_reply_to rendered
 ring_of_three_clocks-accepted = refl
 

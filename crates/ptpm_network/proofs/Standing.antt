@@ -10,9 +10,7 @@ use Rattle.ptpm_network.proofs.Turning.{turn-answers, turn-passes_on}
 -- a clock after a delivery, of which there is a copy in time or none
 stands_by : (first : PortIdentity → ℕ) (c : Clock) (ports : ℕ) (s : State) (h : History)
     (x : Delivery) (o : Option RequestCopy)
-    → length h.sets.ports ≡ ports
-    → copy_of c ports x ≡ o
-    → StandsAt first s h
+    → length h.sets.ports ≡ ports → copy_of c ports x ≡ o → StandsAt first s h
     → ((k : RequestCopy) → copy_of c ports x ≡ Some k → IsInTime first h k)
     → StandsAt first (turn c s x.ingress x.datagram).next (after_arrival c h o)
 stands_by first c ports s h x None many e at time = stands-other first c ports s h x many e at
@@ -21,11 +19,8 @@ stands_by first c ports s h x (Some k) many e at time = stands-copy first c port
 -- they are the frames that the machine makes
 turn_frames-made : (N : Network) (first : PortIdentity → ℕ) (s : State) (h : History) (c port : ℕ)
     (f : Frame)
-    → StandsAt first s h
-    → length h.sets.ports ≡ ports N c
-    → ((k : RequestCopy)
-    → copy_of (N.clock c) (ports N c) (delivery port f) ≡ Some k
-    → IsInTime first h k)
+    → StandsAt first s h → length h.sets.ports ≡ ports N c
+    → ((k : RequestCopy) → copy_of (N.clock c) (ports N c) (delivery port f) ≡ Some k → IsInTime first h k)
     → turn_frames N s c port f ≡ made_frames N c h port f
 turn_frames-made N first s h c port f at many time =
     ap (λ sent. forwarded_frames N c f sent ++ reply_frames N c (answer_origin f.origin (copy_of (N.clock c) (length s.sets.ports) (delivery port f))) (turn (N.clock c) s port f.octets).replies) (turn-passes_on (N.clock c) first s h port f at)
@@ -38,7 +33,8 @@ turn_frames-made N first s h c port f at many time =
 module _ (N : Network) (first : PortIdentity → ℕ) (r : RunningNetwork) (w : NetworkState) (c port : ℕ) (f : Frame) (at : Stands N first r w) (place : c < N.clocks) (time : ((k : RequestCopy) → copy_of (N.clock c) (ports N c) (delivery port f) ≡ Some k → IsInTime first (history N w c) k)) where
   clock-stands : (d : ℕ)
       → d < N.clocks
-      → StandsAt first (with_place r.clock c (turn (N.clock c) (r.clock c) port f.octets).next d) (history N (arrives w c (delivery port f)) d)
+      → StandsAt first (with_place r.clock c (turn (N.clock c) (r.clock c) port f.octets).next d)
+      (history N (arrives w c (delivery port f)) d)
   clock-stands d there = by_test (d == c)
       (λ y. subst (λ (s : State). StandsAt first s (history N (arrives w c (delivery port f)) d)) (sym (with_place-same r.clock c (turn (N.clock c) (r.clock c) port f.octets).next d y))
       (subst (λ j. StandsAt first (turn (N.clock c) (r.clock c) port f.octets).next (history N (arrives w c (delivery port f)) j)) (sym (eqb-true d c y))
@@ -60,12 +56,9 @@ module _ (N : Network) (first : PortIdentity → ℕ) (r : RunningNetwork) (w : 
 -- a running network that stands where a schedule leads stands there after a turn, too
 pub stands-delivered : (N : Network) (es : List Event) (first : PortIdentity → ℕ)
     (r : RunningNetwork) (k c port : ℕ) (f : Frame)
-    → IsNetwork N
-    → AllByRecursion IsInRange es
-    → AreFirsts N first
+    → IsNetwork N → AllByRecursion IsInRange es → AreFirsts N first
     → Stands N first r (run N (initial_state N) es)
-    → frame_at (run N (initial_state N) es).frames k ≡ Some f
-    → f.end ≡ AtPort c port
+    → frame_at (run N (initial_state N) es).frames k ≡ Some f → f.end ≡ AtPort c port
     → is_late (run N (initial_state N) es) f.origin ≡ false
     → Stands N first (after_turn N r c port f)
     (delivered_at_clock N (run N (initial_state N) es) c port f)

@@ -79,9 +79,7 @@ module _ (N : Network) (w u : NetworkState) (begun : BegunStays w u) (kept : Kep
 -- ---- one session changes
 
 begun-stays : (w : NetworkState) (s : ℕ) (v : SessionState)
-    → ((i : ℕ) (q : RequestValue)
-    → slice_get (w.session s).begun i ≡ Some q
-    → slice_get v.begun i ≡ Some q)
+    → ((i : ℕ) (q : RequestValue) → slice_get (w.session s).begun i ≡ Some q → slice_get v.begun i ≡ Some q)
     → BegunStays w (with_session w s v)
 begun-stays w s v g t i q e = by_test (t == s)
     (λ y. subst (λ (x : SessionState). slice_get x.begun i ≡ Some q) (sym (with_place-same w.session s v t y))
@@ -92,11 +90,8 @@ abbrev pub InStep : Network → NetworkState → ℕ → SessionState → Type 0
 InStep N w s v = IsInStep (manager N s) (ports N (N.session s).target) (accepted_at_target N w s) v
 
 pub session-changes : (N : Network) (w : NetworkState) (s : ℕ) (v : SessionState)
-    → ((i : ℕ) (q : RequestValue)
-    → slice_get (w.session s).begun i ≡ Some q
-    → slice_get v.begun i ≡ Some q)
-    → InStep N w s v
-    → IsReached N w
+    → ((i : ℕ) (q : RequestValue) → slice_get (w.session s).begun i ≡ Some q → slice_get v.begun i ≡ Some q)
+    → InStep N w s v → IsReached N w
     → IsReached N (with_session w s v)
 session-changes N w s v g at r = record {
   sessions = λ t place. by_test (t == s)
@@ -107,7 +102,10 @@ session-changes N w s v g at r = record {
 }
 
 -- its domain and attempts alone
-pub session-set : (N : Network) (w : NetworkState) (s domain attempts : ℕ) → s < N.sessions → IsReached N w → IsReached N (with_session w s (record { domain = domain; attempts_left = attempts; begun = (w.session s).begun; reports = (w.session s).reports }))
+pub session-set : (N : Network) (w : NetworkState) (s domain attempts : ℕ)
+    → s < N.sessions → IsReached N w
+    → IsReached N
+    (with_session w s (record { domain = domain; attempts_left = attempts; begun = (w.session s).begun; reports = (w.session s).reports }))
 session-set N w s domain attempts place r =
     session-changes N w s _ (λ i q e. e)
     (in_step-set (manager N s) (ports N (N.session s).target) (accepted_at_target N w s) (w.session s) domain attempts (r.sessions s place)) r
@@ -115,8 +113,7 @@ session-set N w s domain attempts place r =
 -- ---- more frames
 
 pub more-frames : (N : Network) (w : NetworkState) (fs : List Frame)
-    → AllByRecursion (IsFrame N w) fs
-    → IsReached N w
+    → AllByRecursion (IsFrame N w) fs → IsReached N w
     → IsReached N (with_frames w fs)
 more-frames N w fs a r = record {
   sessions = r.sessions;
@@ -127,8 +124,7 @@ more-frames N w fs a r = record {
 -- the frames of a message that is sent for the first time
 pub new_frames-are : (N : Network) (w : NetworkState) (ends : List End) (octets : List ℕ)
     (o : Origin)
-    → AllByRecursion (HasEnd N) ends
-    → IsOfOrigin N w octets o
+    → AllByRecursion (HasEnd N) ends → IsOfOrigin N w octets o
     → AllByRecursion (IsFrame N w) (new_frames ends octets o)
 new_frames-are N w ends octets o a i = all_made (HasEnd N) (IsFrame N w) _ (λ e h. record { end = h; origin = i; hops = omega arith }) ends a
 
@@ -145,10 +141,10 @@ positive n h = omega arith
 
 module _ (N : Network) (w : NetworkState) (s : ℕ) where
   sent_frames-are : (o : Option RequestValue)
-      → s < N.sessions
-      → AllByRecursion (HasEnd N) (peers N.links (AtSession s))
+      → s < N.sessions → AllByRecursion (HasEnd N) (peers N.links (AtSession s))
       → unanswered (w.session s) ≡ o
-      → AllByRecursion (IsFrame N w) (sent_frames (peers N.links (AtSession s)) s (length (w.session s).begun) (option_map (request_message (N.session s).setup (w.session s).domain (length (w.session s).begun)) o))
+      → AllByRecursion (IsFrame N w)
+      (sent_frames (peers N.links (AtSession s)) s (length (w.session s).begun) (option_map (request_message (N.session s).setup (w.session s).domain (length (w.session s).begun)) o))
   sent_frames-are None place ends e = tt
   sent_frames-are (Some q) place ends e =
       let last = unanswered-last (w.session s) q e in

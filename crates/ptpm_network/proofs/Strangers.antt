@@ -8,8 +8,7 @@ number-fits : (place : ℕ) (m : List ℕ) → IsOctets m → number_at place m 
 number-fits place m h = let high = h place in let low = h (place + 1) in omega (arith, number_at-octets place m, high, low)
 
 identity-fits : (place : ℕ) (m : List ℕ)
-    → IsOctets m
-    → place + 10 ≤ length m
+    → IsOctets m → place + 10 ≤ length m
     → PortIdentityFits (port_identity_at place m)
 unfolding port_identity_at
 identity-fits place m h long = record {
@@ -36,9 +35,7 @@ spelled-fits v m h s =
 -- ---- identities
 
 none_of_range : (test : ℕ → Bool) (n a i : ℕ)
-    → list_any test (range_with_len a n) ≡ false
-    → a ≤ i
-    → i < a + n
+    → list_any test (range_with_len a n) ≡ false → a ≤ i → i < a + n
     → test i ≡ false
 none_of_range test zero a i e le lt = absurd (omega arith)
 none_of_range test (suc n) a i e le lt =
@@ -49,8 +46,7 @@ none_of_range test (suc n) a i e le lt =
     (cases_eq a i)
 
 not_taken-clock : (who : PortIdentity) (clock : ClockIdentity)
-    → same_clock who.clock clock ≡ false
-    → who.clock ≡ clock
+    → same_clock who.clock clock ≡ false → who.clock ≡ clock
     → ⊥
 not_taken-clock who clock n h = true≢false (sym (same_clock-refl who.clock) ∙ (ap (same_clock who.clock) h ∙ n))
 
@@ -61,8 +57,7 @@ below : (i n : ℕ) → i < n → i < 0 + n
 below i n h = omega arith
 
 untaken : (N : Network) (v : Message) (who : PortIdentity)
-    → v.source ≡ who
-    → is_taken N who ≡ false
+    → v.source ≡ who → is_taken N who ≡ false
     → IsForeign N v
 untaken N v who e none =
     let parts = or_parts (list_any (λ c. same_clock who.clock (N.clock c).identity) (range_with_len 0 N.clocks)) (list_any (λ s. same_identity who (manager N s)) (range_with_len 0 N.sessions)) none in
@@ -96,9 +91,7 @@ message-source v d e =
     (message_of-spells v d e).source ∙ port_identity-take (message_length d) d (omega arith)
 
 pub strange-message : (N : Network) (d : List ℕ) (v : Message)
-    → IsOctets d
-    → is_forged N d ≡ false
-    → message_of d ≡ Some v
+    → IsOctets d → is_forged N d ≡ false → message_of d ≡ Some v
     → Fits v × IsForeign N v
 strange-message N d v octets honest e =
     let size = message_size d (message_of-some d v e).0 in

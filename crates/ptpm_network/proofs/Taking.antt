@@ -13,8 +13,7 @@ run-append N w [] fs = refl
 run-append N w (e ∷ es) fs = run-append N (step N w e) es fs
 
 pub in_time-append : (N : Network) (w : NetworkState) (es fs : List Event)
-    → AreInTime N w es
-    → AreInTime N (run N w es) fs
+    → AreInTime N w es → AreInTime N (run N w es) fs
     → AreInTime N w (es ++ fs)
 in_time-append N w [] fs front rest = rest
 in_time-append N w (e ∷ es) fs front rest = (front.0, in_time-append N (step N w e) es fs front.1 rest)
@@ -29,9 +28,7 @@ in_time-parts N w (e ∷ es) fs time = let p = in_time-parts N (step N w e) es f
 
 -- the whole list, where no event of it is refused in its turn
 pub taken-whole : (N : Network) (w : NetworkState) (es : List Event)
-    → ((front rest : List Event) (e : Event)
-    → es ≡ front ++ e ∷ rest
-    → refusal N (run N w front) e ≡ None)
+    → ((front rest : List Event) (e : Event) → es ≡ front ++ e ∷ rest → refusal N (run N w front) e ≡ None)
     → taken N w es ≡ es
 taken-whole N w [] none = refl
 taken-whole N w (e ∷ es) none =

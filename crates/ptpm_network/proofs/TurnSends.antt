@@ -108,28 +108,33 @@ is_copy-unnumbered c s v n = not_copy (v.sdo == 0) (is_own c v) (is_known v.sour
 
 -- what is told to a numbered request, by what it is
 look_by-copy : (c : Clock) (s : State) (ingress : ℕ) (v : Message) (k : RequestCopy) (z : Serial)
-    (same : Bool) →
-    IsToCopy (verdict_at (look_by z same)) (reply_messages c ingress (heard_of v) (reply_by (verdict_at (look_by z same)) c s v)) (Some k)
+    (same : Bool)
+    → IsToCopy (verdict_at (look_by z same))
+    (reply_messages c ingress (heard_of v) (reply_by (verdict_at (look_by z same)) c s v)) (Some k)
 look_by-copy c s ingress v k serials.Same true = inr (λ o. refl)
 look_by-copy c s ingress v k serials.Same false = inl refl
 look_by-copy c s ingress v k serials.Newer same = inr (λ o. refl)
 look_by-copy c s ingress v k serials.Older same = inl refl
 
 look_at-copy : (c : Clock) (s : State) (ingress : ℕ) (v : Message) (k : RequestCopy)
-    (e : Option Entry) →
-    IsToCopy (verdict_at (look_at e v.number (request_of v))) (reply_messages c ingress (heard_of v) (reply_by (verdict_at (look_at e v.number (request_of v))) c s v)) (Some k)
+    (e : Option Entry)
+    → IsToCopy (verdict_at (look_at e v.number (request_of v)))
+    (reply_messages c ingress (heard_of v) (reply_by (verdict_at (look_at e v.number (request_of v))) c s v)) (Some k)
 look_at-copy c s ingress v k None = inr (λ o. refl)
 look_at-copy c s ingress v k (Some e) = look_by-copy c s ingress v k (serial_of e.number v.number) (same_request e.request (request_of v))
 
 numbered-copy : (c : Clock) (s : State) (ingress : ℕ) (v : Message) (k : RequestCopy)
-    → is_numbered c v ≡ true →
-    IsToCopy (verdict_at (look c s v)) (reply_messages c ingress (heard_of v) (reply_by (verdict_at (look c s v)) c s v)) (Some k)
+    → is_numbered c v ≡ true
+    → IsToCopy (verdict_at (look c s v))
+    (reply_messages c ingress (heard_of v) (reply_by (verdict_at (look c s v)) c s v)) (Some k)
 numbered-copy c s ingress v k n =
     subst (λ (l : Look). IsToCopy (verdict_at l) (reply_messages c ingress (heard_of v) (reply_by (verdict_at l) c s v)) (Some k)) (sym (cond-true _ _ _ n))
     (look_at-copy c s ingress v k (get s.entries v.source))
 
-message-copy : (c : Clock) (s : State) (x : Delivery) (v : Message) →
-    IsToCopy (judged c s v) (reply_messages c x.ingress (heard_of v) (reply_by (judged c s v) c s v)) (copy_by c (length s.sets.ports) x (Some v))
+message-copy : (c : Clock) (s : State) (x : Delivery) (v : Message)
+    → IsToCopy (judged c s v)
+    (reply_messages c x.ingress (heard_of v) (reply_by (judged c s v) c s v))
+    (copy_by c (length s.sets.ports) x (Some v))
 message-copy c s x v =
     judged-each (λ (w : Verdict). IsToCopy w (reply_messages c x.ingress (heard_of v) (reply_by w c s v)) (copy_by c (length s.sets.ports) x (Some v))) c s v
     (inl refl) (inl refl) (inl refl) (inl refl)
@@ -142,15 +147,17 @@ message-copy c s x v =
     ∙ sym (ap (answer_origin origin) (copy_by-none c s x v (is_copy-unnumbered c s v n))))))
 
 turn_by-copy : (c : Clock) (s : State) (x : Delivery) (r : Result Message DecodeError)
-    → reading x.datagram ≡ r →
-    IsToCopy (turn_by c s x.ingress x.datagram r).verdict (turn_by c s x.ingress x.datagram r).replies (copy_of c (length s.sets.ports) x)
+    → reading x.datagram ≡ r
+    → IsToCopy (turn_by c s x.ingress x.datagram r).verdict
+    (turn_by c s x.ingress x.datagram r).replies (copy_of c (length s.sets.ports) x)
 turn_by-copy c s x (Err cause) e = inl refl
 turn_by-copy c s x (Ok v) e =
     subst (λ (m : Option Message). IsToCopy (judged c s v) (reply_messages c x.ingress (heard_of v) (reply_by (judged c s v) c s v)) (copy_by c (length s.sets.ports) x m))
     (sym (message_of-reading x.datagram v e)) (message-copy c s x v)
 
 -- where a clock replies, its verdict says whether it is to a numbered copy
-pub reply-origin : (c : Clock) (s : State) (x : Delivery) →
-    ((turn c s x.ingress x.datagram).replies ≡ []) ⊎ ((o : Origin) → origin_by (turn c s x.ingress x.datagram).verdict o ≡ answer_origin o (copy_of c (length s.sets.ports) x))
+pub reply-origin : (c : Clock) (s : State) (x : Delivery)
+    → ((turn c s x.ingress x.datagram).replies ≡ [])
+    ⊎ ((o : Origin) → origin_by (turn c s x.ingress x.datagram).verdict o ≡ answer_origin o (copy_of c (length s.sets.ports) x))
 unfolding turn
 reply-origin c s x = turn_by-copy c s x (reading x.datagram) refl

@@ -8,9 +8,7 @@ use Rattle.ptpm_agent.specs.Turn.{is_in_domain}
 
 -- where the verdict sends nothing, nothing is read
 says_nothing : (c : Clock) (s : State) (ingress : ℕ) (v : Message) (w : Verdict)
-    → judged c s v ≡ w
-    → reply_by w c s v ≡ None
-    → is_read c s.sets v ≡ false
+    → judged c s v ≡ w → reply_by w c s v ≡ None → is_read c s.sets v ≡ false
     → reply_messages c ingress (heard_of v) (reply_by (judged c s v) c s v)
     ≡ read_messages c s.sets ingress (Some v)
 says_nothing c s ingress v w j e n =
@@ -35,11 +33,7 @@ is_read-reply a b o d q x e = and_right a _ (and_right b _ (and_right (not o) _ 
 
 -- known, for this clock and at a port that it has, such a request is a copy
 is_copy-bits : (a o k t p q e : Bool)
-    → a ≡ true
-    → o ≡ false
-    → (k && t) ≡ true
-    → ((t || e) && p) ≡ true
-    → q ≡ true
+    → a ≡ true → o ≡ false → (k && t) ≡ true → ((t || e) && p) ≡ true → q ≡ true
     → (a && (not o && (k && (t && (p && q))))) ≡ true
 is_copy-bits a o k t p q e h1 h2 h3 h4 h5 =
     let kt = and_parts k t h3 in
@@ -56,11 +50,8 @@ in_domain false b r y e = absurd (true≢false (sym y))
 
 -- a request that is not numbered is read
 says_read : (c : Clock) (s : State) (ingress : ℕ) (v : Message)
-    → is_in_domain c s v ≡ true
-    → is_own c v ≡ false
-    → is_addressed c s.sets v ≡ true
-    → is_request v ≡ true
-    → is_numbered c v ≡ false
+    → is_in_domain c s v ≡ true → is_own c v ≡ false → is_addressed c s.sets v ≡ true
+    → is_request v ≡ true → is_numbered c v ≡ false
     → reply_messages c ingress (heard_of v) (reply_by (judged c s v) c s v)
     ≡ read_messages c s.sets ingress (Some v)
 says_read c s ingress v d o a q n =
@@ -73,9 +64,9 @@ says_read c s ingress v d o a q n =
 
 module _ (c : Clock) (s : State) (ingress : ℕ) (v : Message) (n : is_copy c (length s.sets.ports) v ≡ false) where
   says_request_or_nothing : is_in_domain c s v ≡ true
-      → is_own c v ≡ false
-      → is_addressed c s.sets v ≡ true
-      → reply_messages c ingress (heard_of v) (reply_by (judged c s v) c s v) ≡ read_messages c s.sets ingress (Some v)
+      → is_own c v ≡ false → is_addressed c s.sets v ≡ true
+      → reply_messages c ingress (heard_of v) (reply_by (judged c s v) c s v)
+      ≡ read_messages c s.sets ingress (Some v)
   says_request_or_nothing d o a = by_test (is_request v)
       (λ q. by_test (is_numbered c v)
       (λ y. absurd (true≢false (sym
@@ -85,7 +76,8 @@ module _ (c : Clock) (s : State) (ingress : ℕ) (v : Message) (n : is_copy c (l
       (λ q. says_nothing c s ingress v verdicts.NotARequest (judged-reply c s v d o a q) refl
       (is_read-reply (v.sdo == 0) (v.domain == s.sets.default.domain) (is_own c v) (is_addressed c s.sets v) (is_request v) (not (is_numbered c v)) q))
 
-  says_as_read : reply_messages c ingress (heard_of v) (reply_by (judged c s v) c s v) ≡ read_messages c s.sets ingress (Some v)
+  says_as_read : reply_messages c ingress (heard_of v) (reply_by (judged c s v) c s v)
+      ≡ read_messages c s.sets ingress (Some v)
   says_as_read = by_test (is_in_domain c s v)
       (λ d. by_test (is_own c v)
       (λ o. says_nothing c s ingress v verdicts.OwnMessage (judged-own c s v d o) refl
@@ -106,14 +98,12 @@ unfolding turn
 turn-refused c s ingress d cause e = ap (λ (r : Result Message DecodeError). turn_by c s ingress d r) e
 
 not_both : {X : Type 0} (cause : DecodeError) (v : Message) (r : Result Message DecodeError)
-    → r ≡ Err cause
-    → r ≡ Ok v
+    → r ≡ Err cause → r ≡ Ok v
     → X
 not_both cause v r e h = let q : Err cause ≡ Ok v = sym e ∙ h in absurd (cc)
 
 no_message : (d : List ℕ) (cause : DecodeError) (o : Option Message)
-    → message_of d ≡ o
-    → reading d ≡ Err cause
+    → message_of d ≡ o → reading d ≡ Err cause
     → o ≡ None
 no_message d cause None m e = refl
 no_message d cause (Some v) m e = not_both cause v (reading d) e (reading-message_of d v m)
@@ -130,8 +120,7 @@ unfolding turn
 turn-forwards c s ingress d = turn_by-forwards c s ingress d (reading d)
 
 turn-reads : (c : Clock) (s : State) (x : Delivery) (r : Result Message DecodeError)
-    → reading x.datagram ≡ r
-    → copy_of c (length s.sets.ports) x ≡ None
+    → reading x.datagram ≡ r → copy_of c (length s.sets.ports) x ≡ None
     → (turn c s x.ingress x.datagram).replies
     ≡ read_messages c s.sets x.ingress (message_of x.datagram)
 turn-reads c s x (Err cause) e none =
@@ -154,9 +143,7 @@ turn-passes_on c first s h ingress f at = turn-forwards c s ingress f.octets ∙
 answers-by : (c : Clock) (first : PortIdentity → ℕ) (s : State) (h : History) (ingress : ℕ)
     (f : Frame) (o : Option RequestCopy)
     → StandsAt first s h
-    → ((k : RequestCopy)
-    → copy_of c (length h.sets.ports) (delivery ingress f) ≡ Some k
-    → IsInTime first h k)
+    → ((k : RequestCopy) → copy_of c (length h.sets.ports) (delivery ingress f) ≡ Some k → IsInTime first h k)
     → copy_of c (length h.sets.ports) (delivery ingress f) ≡ o
     → (turn c s ingress f.octets).replies ≡ answer_messages c h ingress f.octets o
 answers-by c first s h ingress f None at time e =
@@ -167,10 +154,7 @@ answers-by c first s h ingress f (Some k) at time e = (turns_as first c s h (del
 pub turn-answers : (c : Clock) (first : PortIdentity → ℕ) (s : State) (h : History) (ingress : ℕ)
     (f : Frame)
     → StandsAt first s h
-    → ((k : RequestCopy)
-    → copy_of c (length h.sets.ports) (delivery ingress f) ≡ Some k
-    → IsInTime first h k)
+    → ((k : RequestCopy) → copy_of c (length h.sets.ports) (delivery ingress f) ≡ Some k → IsInTime first h k)
     → (turn c s ingress f.octets).replies
-    ≡ answer_messages c h ingress f.octets
-    (copy_of c (length h.sets.ports) (delivery ingress f))
+    ≡ answer_messages c h ingress f.octets (copy_of c (length h.sets.ports) (delivery ingress f))
 turn-answers c first s h ingress f at time = answers-by c first s h ingress f (copy_of c (length h.sets.ports) (delivery ingress f)) at time refl

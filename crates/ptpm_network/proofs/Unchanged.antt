@@ -14,11 +14,9 @@ of_nothing s k e = absurd (cc)
 -- what belongs to nothing is no copy
 strange-no_copy : (N : Network) (w : NetworkState) (c port : ℕ) (datagram : List ℕ)
     (o : Option RequestCopy)
-    → IsNetwork N
-    → IsReached N w
-    → c < N.clocks
-    → IsHeard N w datagram Neither
-    → copy_of (N.clock c) (ports N c) (delivery port (strange_frame c port datagram)) ≡ o → o ≡ None
+    → IsNetwork N → IsReached N w → c < N.clocks → IsHeard N w datagram Neither
+    → copy_of (N.clock c) (ports N c) (delivery port (strange_frame c port datagram)) ≡ o
+    → o ≡ None
 strange-no_copy N w c port datagram None n r place i e = refl
 strange-no_copy N w c port datagram (Some copy) n r place i e =
     let of = is_copy_of N w c port (strange_frame c port datagram) copy n r place i e in
@@ -47,18 +45,14 @@ module _ (N : Network) (w : NetworkState) (c port : ℕ) (datagram : List ℕ) (
 
 strange-step_by : (N : Network) (w : NetworkState) (c port : ℕ) (datagram : List ℕ) (d : ℕ)
     (o : Option Refusal)
-    → refusal N w (Stranger c port datagram) ≡ o
-    → IsNetwork N
-    → IsReached N w
+    → refusal N w (Stranger c port datagram) ≡ o → IsNetwork N → IsReached N w
     → IsInRange (Stranger c port datagram)
     → history N (step_by o N w (Stranger c port datagram)) d ≡ history N w d
 strange-step_by N w c port datagram d None e n r octets = strange-happens N w c port datagram d n r octets e
 strange-step_by N w c port datagram d (Some reason) e n r octets = refl
 
 pub strangers-leave : (N : Network) (es : List Event) (c port : ℕ) (datagram : List ℕ) (d : ℕ)
-    → IsNetwork N
-    → AllByRecursion IsInRange es
-    → IsInRange (Stranger c port datagram)
+    → IsNetwork N → AllByRecursion IsInRange es → IsInRange (Stranger c port datagram)
     → history N (step N (run N (initial_state N) es) (Stranger c port datagram)) d
     ≡ history N (run N (initial_state N) es) d
 strangers-leave N es c port datagram d n i octets =
@@ -74,9 +68,7 @@ no_copy-leaves N w c x none = history-here N w c x ∙ ap (after_arrival (N.cloc
 
 pub refused-copy : (c : Clock) (h : History) (copy : RequestCopy) (r : ReplyValue) (a : Answer)
     (error : ErrorId)
-    → due_reply c h copy ≡ Some r
-    → Contains r.answers a
-    → a.outcome ≡ Refused error
+    → due_reply c h copy ≡ Some r → Contains r.answers a → a.outcome ≡ Refused error
     → (after_copy c h copy).sets ≡ h.sets
 refused-copy c h copy r a error due has refused = by_test (joins h copy)
     (λ y. let same : (accepted_from c h copy).reply ≡ r = same_Some _ r (sym (cond-true _ _ _ y) ∙ due) in
@@ -88,8 +80,7 @@ refused-copy c h copy r a error due has refused = by_test (joins h copy)
 pub refused-leaves : (N : Network) (w : NetworkState) (c : ℕ) (x : Delivery) (copy : RequestCopy)
     (r : ReplyValue) (a : Answer) (error : ErrorId)
     → copy_of (N.clock c) (ports N c) x ≡ Some copy
-    → due_reply (N.clock c) (history N w c) copy ≡ Some r
-    → Contains r.answers a
+    → due_reply (N.clock c) (history N w c) copy ≡ Some r → Contains r.answers a
     → a.outcome ≡ Refused error
     → (history N (arrives w c x) c).sets ≡ (history N w c).sets
 refused-leaves N w c x copy r a error is due has refused =

@@ -12,10 +12,7 @@ use Rattle.ptpm_network.proofs.Steps.{KeptStays, more-frames, origin-stays}
 
 -- its fields are in their ranges
 message-fits : (N : Network) (w : NetworkState) (octets : List ℕ) (o : Origin) (v : Message)
-    → IsNetwork N
-    → IsReached N w
-    → IsHeard N w octets o
-    → message_of octets ≡ Some v
+    → IsNetwork N → IsReached N w → IsHeard N w octets o → message_of octets ≡ Some v
     → Fits v
 message-fits N w octets (RequestOf s k) v n r i e = let says = says_request N w s k octets n r i in subst Fits (sym (same_read octets v _ says.message e)) says.message.fits
 message-fits N w octets (ReplyTo s k) v n r i e = let says = says_reply N w s k octets n r i in subst Fits (sym (same_read octets v _ says.message e)) says.message.fits
@@ -33,8 +30,7 @@ pub record ReadParts (c : Clock) (ports : Bool) (v : Message) : Type 0 where
   pub not_numbered : is_numbered c v ≡ false
 
 read_parts : (c : Clock) (a b d p e f g : Bool)
-    → f ≡ f
-    → (a && (b && (d && ((g && p) && (e && not f))))) ≡ true
+    → f ≡ f → (a && (b && (d && ((g && p) && (e && not f))))) ≡ true
     → ((g && p) ≡ true) × (e ≡ true) × (f ≡ false)
 read_parts c a b d p e f g _ y =
     let one = and_parts a (b && (d && ((g && p) && (e && not f)))) y in
@@ -50,10 +46,7 @@ or_cases_ false b y = inr y
 
 -- a session's own request is numbered at its target, and goes nowhere else
 request-numbered : (N : Network) (c : ℕ) (t : ℕ) (v : Message) (named : Bool)
-    → IsNetwork N
-    → c < N.clocks
-    → t < N.sessions
-    → v.source ≡ manager N t
+    → IsNetwork N → c < N.clocks → t < N.sessions → v.source ≡ manager N t
     → v.target.clock ≡ (N.session t).setup.target
     → ((is_for_this_clock (N.clock c) v || same_clock v.target.clock every_clock) && named) ≡ true
     → is_numbered (N.clock c) v ≡ true
@@ -74,13 +67,9 @@ request-numbered N c t v named n place exists source target addressed =
 -- what is not numbered is of no session
 no_session : (N : Network) (w : NetworkState) (c : ℕ) (octets : List ℕ) (o : Origin) (v : Message)
     (named : Bool)
-    → IsNetwork N
-    → IsReached N w
-    → c < N.clocks
-    → IsHeard N w octets o
-    → message_of octets ≡ Some v
-    → ReadParts (N.clock c) named v
-    → (s : ℕ) → s < N.sessions → v.source ≡ manager N s → ⊥
+    → IsNetwork N → IsReached N w → c < N.clocks → IsHeard N w octets o → message_of octets ≡ Some v
+    → ReadParts (N.clock c) named v → (s : ℕ) → s < N.sessions → v.source ≡ manager N s
+    → ⊥
 no_session N w c octets (RequestOf t k) v named n r place i e p s exists h =
     let says = says_request N w t k octets n r i in
     let same = same_read octets v (request_at N t k says.domain says.hops says.request) says.message e in
@@ -99,11 +88,8 @@ no_session N w c octets Neither v named n r place i e p s exists h = (i v e).1.n
 -- ---- the reply to it
 
 foreign-reply : (N : Network) (c : ℕ) (v u : Message)
-    → IsNetwork N
-    → c < N.clocks
-    → ((s : ℕ) → s < N.sessions → v.source ≡ manager N s → ⊥)
-    → u.source.clock ≡ (N.clock c).identity
-    → u.target ≡ v.source
+    → IsNetwork N → c < N.clocks → ((s : ℕ) → s < N.sessions → v.source ≡ manager N s → ⊥)
+    → u.source.clock ≡ (N.clock c).identity → u.target ≡ v.source
     → IsForeign N u
 foreign-reply N c v u n place none source target = record {
   no_request = λ s exists h. n.no_clock s c exists place (sym (ap (λ (m : PortIdentity). m.clock) h) ∙ source);
@@ -112,13 +98,8 @@ foreign-reply N c v u n place none source target = record {
 
 read-origin : (N : Network) (w : NetworkState) (c port : ℕ) (octets : List ℕ) (o : Origin)
     (v : Message) (named : Bool)
-    → IsNetwork N
-    → IsReached N w
-    → HasEnd N (AtPort c port)
-    → IsHeard N w octets o
-    → message_of octets ≡ Some v
-    → ReadParts (N.clock c) named v
-    → (r : ReplyValue)
+    → IsNetwork N → IsReached N w → HasEnd N (AtPort c port) → IsHeard N w octets o
+    → message_of octets ≡ Some v → ReadParts (N.clock c) named v → (r : ReplyValue)
     → Answers (request_of v) r
     → AllByRecursion (λ m. IsForeignFrame N m.1) (rendered (N.clock c).identity (heard_of v) r port)
 read-origin N w c port octets o v named n reached end i e p r answers =
@@ -139,10 +120,7 @@ read-origin N w c port octets o v named n reached end i e p r answers =
 
 read-by : (N : Network) (w : NetworkState) (c port : ℕ) (octets : List ℕ) (o : Origin)
     (q : Option Message)
-    → IsNetwork N
-    → IsReached N w
-    → HasEnd N (AtPort c port)
-    → IsHeard N w octets o
+    → IsNetwork N → IsReached N w → HasEnd N (AtPort c port) → IsHeard N w octets o
     → message_of octets ≡ q
     → AllByRecursion (λ m. IsForeignFrame N m.1)
     (read_messages (N.clock c) (history N w c).sets port q)
@@ -159,8 +137,7 @@ read-by N w c port octets o (Some v) n r end i e =
 -- ---- all frames that a clock makes
 
 heard-stays : (N : Network) (w u : NetworkState) (octets : List ℕ) (o : Origin)
-    → ((s i : ℕ) → (w.session s).begun ≡ (u.session s).begun)
-    → KeptStays N w u
+    → ((s i : ℕ) → (w.session s).begun ≡ (u.session s).begun) → KeptStays N w u
     → IsHeard N w octets o
     → IsHeard N u octets o
 heard-stays N w u octets (RequestOf s k) same kept i = origin-stays N w u (λ t j q e. subst (λ b. slice_get b j ≡ Some q) (same t j) e) kept octets (RequestOf s k) i
@@ -169,11 +146,8 @@ heard-stays N w u octets Neither same kept i = i
 
 answering-frames : (N : Network) (w : NetworkState) (c port : ℕ) (f : Frame)
     (o : Option RequestCopy)
-    → IsNetwork N
-    → IsReached N w
-    → IsReached N (arrives w c (delivery port f))
-    → HasEnd N (AtPort c port)
-    → IsHeard N w f.octets f.origin
+    → IsNetwork N → IsReached N w → IsReached N (arrives w c (delivery port f))
+    → HasEnd N (AtPort c port) → IsHeard N w f.octets f.origin
     → copy_of (N.clock c) (ports N c) (delivery port f) ≡ o
     → AllByRecursion (IsFrame N (arrives w c (delivery port f)))
     (answering_frames N c (history N w c) port f o)
@@ -184,10 +158,7 @@ answering-frames N w c port f None n r reached end i e =
     (read-by N w c port f.octets f.origin (message_of f.octets) n r end i refl)
 
 pub delivered_at_clock-reached : (N : Network) (w : NetworkState) (c port : ℕ) (f : Frame)
-    → IsNetwork N
-    → IsReached N w
-    → HasEnd N (AtPort c port)
-    → IsHeard N w f.octets f.origin
+    → IsNetwork N → IsReached N w → HasEnd N (AtPort c port) → IsHeard N w f.octets f.origin
     → boundary_hops f.octets + f.forwardings ≡ f.first_hops
     → IsReached N (delivered_at_clock N w c port f)
 delivered_at_clock-reached N w c port f n r end i hops =

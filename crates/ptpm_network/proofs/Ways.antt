@@ -27,7 +27,6 @@ ring-way = record {
 }
 
 -- sent once, handed in at clock 0, at clock 1, at clock 0 on the way back and at the session: the request is reported
-ring-reports : ((in_ring (Begin 0 get_priority1 ∷ Send 0 ∷ Deliver 1 ∷ Deliver 2 ∷ Deliver 4 ∷ Deliver 5 ∷ [])).session 0).reports
-    ≡ record { index = 1; outcome = outcomes.Value (0x80 ∷ 0x00 ∷ []) } ∷ []
+ring-reports : ((in_ring (Begin 0 get_priority1 ∷ Send 0 ∷ Deliver 1 ∷ Deliver 2 ∷ Deliver 4 ∷ Deliver 5 ∷ [])).session 0).reports ≡ record { index = 1; outcome = outcomes.Value (0x80 ∷ 0x00 ∷ []) } ∷ []
 unfolding refusal happens begin_refusal send_refusal ask_refusal target_port row_of port_identity_octets tlv_octets message_of frame_refusal tlv_refusal text_refusal body_at number_at port_identity_at changed_by row_refusal forwarded answer clock_field_of reply_of reply_to read_reply_to rendered
 ring-reports = refl

@@ -25,8 +25,7 @@ abbrev pub AreOnce : List Accepted → Type 0
 AreOnce es = (m : PortIdentity) (k : ℕ) → length (entries_of m k es) ≤ 1
 
 once-joined : (es : List Accepted) (d : Accepted)
-    → greatest d.manager es < d.index
-    → AreOnce es
+    → greatest d.manager es < d.index → AreOnce es
     → AreOnce (d ∷ es)
 once-joined es d above once m k = by_test (same_identity m d.manager && d.index == k)
     (λ y. let parts = and_parts (same_identity m d.manager) (d.index == k) y in
@@ -70,8 +69,7 @@ alone e [] es is few = is
 alone e (d ∷ rest) es is few = let size : length es ≡ suc (suc (length rest)) = ap length is in absurd (omega arith)
 
 only-entry : (m : PortIdentity) (k : ℕ) (es : List Accepted) (e : Accepted)
-    → AreOnce es
-    → kept_reply m k es ≡ Some e
+    → AreOnce es → kept_reply m k es ≡ Some e
     → entries_of m k es ≡ e ∷ []
 only-entry m k es e once kept = let first = first-entry m k es e kept in alone e first.0 (entries_of m k es) first.1 (once m k)
 
@@ -129,8 +127,7 @@ carried_out-from c start xs [] all = subst (AllCarriedOut c start) (sym (append-
 carried_out-from c start xs (y ∷ ys) all = subst (AllCarriedOut c start) (append_assoc xs (y ∷ []) ys) (carried_out-from c start (xs ++ y ∷ []) ys (carried_out-next c start xs y all))
 
 found : (P : Accepted → Type 0) (test : Accepted → Bool) (es : List Accepted) (e : Accepted)
-    → AllByRecursion P es
-    → find test es ≡ Some e
+    → AllByRecursion P es → find test es ≡ Some e
     → P e
 found P test [] e all is = absurd (cc)
 found P test (d ∷ es) e all is = by_test (test d)
@@ -175,8 +172,7 @@ reports_of-was : (m : PortIdentity) (begun : List RequestValue) (es : List Accep
 reports_of-was m begun es k was = ap (reports_of k) was.is ∙ ap (reports_by k was.entry.reply) was.one.is
 
 outcomes-length : (m : PortIdentity) (begun : List RequestValue) (es : List Accepted) (n : ℕ)
-    → AreAccepted m begun es
-    → n ≤ greatest m es
+    → AreAccepted m begun es → n ≤ greatest m es
     → length (outcomes_kept m es n) ≡ n
 outcomes-length m begun es zero all le = refl
 outcomes-length m begun es (suc n) all le =
@@ -186,9 +182,7 @@ outcomes-length m begun es (suc n) all le =
     omega (arith, more, outcomes-length m begun es n all (omega arith))
 
 told_at : (m : PortIdentity) (begun : List RequestValue) (es : List Accepted) (n i : ℕ) (r : Report)
-    → AreAccepted m begun es
-    → n ≤ greatest m es
-    → slice_get (outcomes_kept m es n) i ≡ Some r
+    → AreAccepted m begun es → n ≤ greatest m es → slice_get (outcomes_kept m es n) i ≡ Some r
     → IsTold m begun es (suc i) r
 told_at m begun es zero i r all le e = absurd (cc)
 told_at m begun es (suc n) i r all le e =
@@ -203,9 +197,7 @@ told_at m begun es (suc n) i r all le e =
     (get_appended-cases (outcomes_kept m es n) (report_of (suc n) was.entry was.one.answer) i r last)
 
 told : (N : Network) (w : NetworkState) (s i : ℕ) (r : Report)
-    → IsReached N w
-    → s < N.sessions
-    → slice_get (w.session s).reports i ≡ Some r
+    → IsReached N w → s < N.sessions → slice_get (w.session s).reports i ≡ Some r
     → IsTold (manager N s) (w.session s).begun (accepted_at_target N w s) (suc i) r
 told N w s i r reached place e =
     let at = reached.sessions s place in
@@ -266,8 +258,7 @@ unanswered-some s lt =
     (last.0, cond-false _ _ _ (ne_eqb (length s.reports) (length s.begun) (not_equal (length s.reports) (length s.begun) lt)) ∙ last.1)
 
 pub begins-busy : (N : Network) (w : NetworkState) (s : ℕ) (a : Ask)
-    → s < N.sessions
-    → length (w.session s).reports < issued w s
+    → s < N.sessions → length (w.session s).reports < issued w s
     → refusal N w (Begin s a) ≡ Some (BeginRefused begins.Busy)
 unfolding refusal
 begins-busy N w s a place lt =
@@ -279,9 +270,7 @@ last_one : (reports begun k : ℕ) → begun ≤ reports + 1 → reports < k →
 last_one reports begun k a b c = omega arith
 
 pub unreported-last : (N : Network) (es : List Event) (s k : ℕ)
-    → IsNetwork N
-    → AllByRecursion IsInRange es
-    → s < N.sessions
+    → IsNetwork N → AllByRecursion IsInRange es → s < N.sessions
     → length ((run N (initial_state N) es).session s).reports < k
     → k ≤ issued (run N (initial_state N) es) s
     → k ≡ issued (run N (initial_state N) es) s
