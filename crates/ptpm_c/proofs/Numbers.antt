@@ -1,10 +1,11 @@
--- A begin, or a start, that was refused, and not for want of memory, has the number of its first reason.
-use Rattle.std.proofs.Common.{◌≡◌, ◌≢◌, ℕ, Option, Some, ap, ◌∙◌}
+-- A start that was refused, and not for want of memory, has the number of its first reason; a start or a begin that was refused
+-- for no reason, that of want of memory.
+use Rattle.std.proofs.Common.{◌≡◌, ◌≢◌, ℕ, Option, None, Some, ap, ◌∙◌}
 use Rattle.ptpm_manager.specs.declared.error.BeginError.{BeginError}
-use Rattle.ptpm_manager.specs.declared.error.BeginError.TheVariants.{OutOfMemory}
+use Rattle.ptpm_manager.specs.declared.error.BeginError.TheVariants as begins
 use Rattle.ptpm_host.specs.declared.refusal.StartRefusal.{StartRefusal}
 use Rattle.ptpm_host.specs.declared.refusal.StartRefusal.TheVariants as starts
-use Rattle.ptpm_host.specs.Numbers.{start_number}
+use Rattle.ptpm_host.specs.Numbers.{no_memory, start_number}
 use Rattle.ptpm_host.specs.SessionNumbers.{begin_number}
 
 one_reason : {E : Type 0} (first : Option E) (r e : E)
@@ -13,20 +14,29 @@ one_reason : {E : Type 0} (first : Option E) (r e : E)
     → r ≡ e
 one_reason first r e p q = cc
 
-pub number_of_refusal : (first : Option BeginError) (r e : BeginError) (number : ℕ)
-    → (r ≢ OutOfMemory → first ≡ Some r)
-    → number ≡ begin_number r
-    → number ≢ 35
-    → first ≡ Some e → number ≡ begin_number e
-number_of_refusal first r e number told numbered not_memory is_e =
-    let is_r : first ≡ Some r = told (λ memory. not_memory (numbered ∙ ap begin_number memory)) in
-    numbered ∙ ap begin_number (one_reason first r e is_r is_e)
+no_reason : {A E : Type 0} (first : Option E) (r : E) → first ≡ Some r → first ≡ None → A
+no_reason first r p q = absurd (cc)
 
 pub number_of_start_refusal : (first : Option StartRefusal) (r e : StartRefusal) (number : ℕ)
     → (r ≢ starts.OutOfMemory → first ≡ Some r)
     → number ≡ start_number r
-    → number ≢ 35
+    → number ≢ no_memory
     → first ≡ Some e → number ≡ start_number e
 number_of_start_refusal first r e number told numbered not_memory is_e =
     let is_r : first ≡ Some r = told (λ memory. not_memory (numbered ∙ ap start_number memory)) in
     numbered ∙ ap start_number (one_reason first r e is_r is_e)
+
+pub memory_of_start_refusal : (first : Option StartRefusal) (r : StartRefusal) (number : ℕ)
+    → (r ≢ starts.OutOfMemory → first ≡ Some r)
+    → number ≡ start_number r
+    → first ≡ None → number ≡ no_memory
+memory_of_start_refusal first (starts.Values fault) number told numbered none = no_reason first _ (told (λ memory. cc)) none
+memory_of_start_refusal first (starts.Managers fault) number told numbered none = no_reason first _ (told (λ memory. cc)) none
+memory_of_start_refusal first starts.OutOfMemory number told numbered none = numbered
+
+pub memory_of_refusal : (first : Option BeginError) (r : BeginError) (number : ℕ)
+    → (r ≢ begins.OutOfMemory → first ≡ Some r)
+    → number ≡ begin_number r
+    → first ≡ None → number ≡ no_memory
+memory_of_refusal first begins.OutOfMemory number told numbered none = numbered
+memory_of_refusal first r number told numbered none = no_reason first _ (told (λ memory. cc)) none

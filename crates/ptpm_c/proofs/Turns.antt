@@ -1,6 +1,6 @@
 -- A turn of the clock in a box is a turn of the clock that the handle held.
 use Rattle.std.proofs.Common.{◌≡◌, ℕ, List, Option, Some, ap, sym, subst, ◌∙◌}
-use Rattle.std.specs.Prelude.{IfSome}
+use Rattle.std.specs.Prelude.{IsSomeAnd}
 use Rattle.ptpm_agent.specs.declared.verdict.Verdict.{Verdict}
 use Rattle.ptpm_agent.specs.Agent.{IsTurned}
 use Rattle.ptpm_host.specs.declared.clock.HostedClock.{HostedClock}
@@ -20,7 +20,7 @@ pub turned_to : (held left : Option HostedClock) (b c d : HostedClock) (port : �
     → messages ≡ d.outbox
     → clock_in d ≡ clock_in b
     → left ≡ Some d
-    → IfSome left (λ e. IsTurnedTo c port datagram number messages e)
+    → IsSomeAnd left (λ e. IsTurnedTo c port datagram number messages e)
 turned_to held left b c d port datagram verdict number messages is_b is_c turned numbered handed clock is_d =
     let same : b ≡ c = one_value held b c is_b is_c in
     let at_b : IsTurnedTo b port datagram number messages d = record {
@@ -30,5 +30,5 @@ turned_to held left b c d port datagram verdict number messages is_b is_c turned
       entries_are = turned.entries_are;
       clock_is = clock;
     } in
-    subst (λ (o : Option HostedClock). IfSome o (λ e. IsTurnedTo c port datagram number messages e)) (sym is_d)
+    subst (λ (o : Option HostedClock). IsSomeAnd o (λ e. IsTurnedTo c port datagram number messages e)) (sym is_d)
     (subst (λ (x : HostedClock). IsTurnedTo x port datagram number messages d) same at_b)

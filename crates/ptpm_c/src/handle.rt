@@ -1,6 +1,6 @@
 //! What a host in C keeps of a clock, a session or a survey.
 
-ghost use Rattle.std.specs.Prelude.{◌≡◌, IfNone, IfSome, None, is_some};
+ghost use Rattle.std.specs.Prelude.{◌≡◌, IfNone, IfSome, None, OnSome, is_some};
 ghost use Rattle.ptpm_c.specs.declared.kept.Hosted.TheVariants.{Clock, Nothing, Session, Survey};
 ghost use Rattle.ptpm_c.specs.Held.{clock_held, held, session_held, survey_held};
 
@@ -44,6 +44,7 @@ impl Handle {
     /// Takes the clock out, and the box that it is to be kept in again. What is no clock stays.
     pub fn take_clock(&mut self, alloc: Global) -> Option<(Box<Kept>, Box<HostedClock>)>
         ensures some { IfSome result (λ taken. held self.old.keeping ≡ Clock taken.1) }
+        ensures left { OnSome result (held self.new.keeping ≡ Nothing) }
         ensures none { IfNone result (clock_held self.old.keeping ≡ None) }
         ensures unchanged { IfNone result (held self.new.keeping ≡ held self.old.keeping) }
     {
@@ -60,6 +61,7 @@ impl Handle {
     /// Takes the session out, in the same way.
     pub fn take_session(&mut self, alloc: Global) -> Option<(Box<Kept>, Box<HostedSession>)>
         ensures some { IfSome result (λ taken. held self.old.keeping ≡ Session taken.1) }
+        ensures left { OnSome result (held self.new.keeping ≡ Nothing) }
         ensures none { IfNone result (session_held self.old.keeping ≡ None) }
         ensures unchanged { IfNone result (held self.new.keeping ≡ held self.old.keeping) }
     {
@@ -76,6 +78,7 @@ impl Handle {
     /// Takes the survey out, in the same way.
     pub fn take_survey(&mut self, alloc: Global) -> Option<(Box<Kept>, Box<HostedSurvey>)>
         ensures some { IfSome result (λ taken. held self.old.keeping ≡ Survey taken.1) }
+        ensures left { OnSome result (held self.new.keeping ≡ Nothing) }
         ensures none { IfNone result (survey_held self.old.keeping ≡ None) }
         ensures unchanged { IfNone result (held self.new.keeping ≡ held self.old.keeping) }
     {

@@ -2,7 +2,7 @@
 //! `hosts/ptpm.h` is its header.
 #![tactic(auto)]
 
-ghost use Rattle.std.specs.Prelude.{◌≡◌, ◌≢◌, ◌≤◌, IfNone, IfSome, None, Ok, Some, length, take};
+ghost use Rattle.std.specs.Prelude.{◌≡◌, ◌≢◌, ◌≤◌, IfNone, IfSome, IsSomeAnd, None, Ok, Some, drop, length, take};
 ghost use Rattle.ptpm_data.specs.DataField.{data_field_of_id};
 ghost use Rattle.ptpm_data.specs.Members.{has_port};
 ghost use Rattle.ptpm_data.specs.Start.{default_clock, default_port};
@@ -11,7 +11,7 @@ ghost use Rattle.ptpm_host.specs.declared.refusal.HandleRefusal.{HandleRefusal};
 ghost use Rattle.ptpm_host.specs.declared.refusal.ReadRefusal.{ReadRefusal};
 ghost use Rattle.ptpm_host.specs.declared.refusal.StartRefusal.{StartRefusal};
 ghost use Rattle.ptpm_host.specs.Clock.{IsFreshClock, handle_refusal, messages_in, start_by, start_refusal};
-ghost use Rattle.ptpm_host.specs.Numbers.{handle_number, no_clock, read_number, start_number};
+ghost use Rattle.ptpm_host.specs.Numbers.{handle_number, no_clock, no_memory, read_number, start_number};
 ghost use Rattle.ptpm_host.specs.Reading.{read_refusal};
 ghost use Rattle.ptpm_host.specs.Settings.{clock_start, default_identity, port_start};
 ghost use Rattle.ptpm_c.specs.declared.kept.Hosted.TheVariants.{Nothing};
@@ -27,8 +27,8 @@ mod survey;
 use crate::handle::Handle;
 use crate::kept::{Hosted, Kept};
 use ptpm_host::{
-    ClockSettings, HostedClock, ManagerSettings, NO_CLOCK, PortSettings, Sent, handle_number,
-    read_number, start_number, verdict_number,
+    ClockSettings, HostedClock, ManagerSettings, NO_CLOCK, NO_MEMORY, PortSettings, Sent,
+    handle_number, read_number, start_number, verdict_number,
 };
 use std::alloc::Global;
 
@@ -49,8 +49,8 @@ pub extern "C" fn ptpm_port_defaults(settings: &mut PortSettings)
 }
 
 /// Starts a clock in a handle, in place of the one that it holds: 0. Where it is refused, by the number of the refusal, the
-/// handle holds none.
-#[tactic(auto, using(crate::proofs::Numbers::number_of_start_refusal))]
+/// handle holds none. Want of memory can come in place of any other refusal.
+#[tactic(auto, using(crate::proofs::Numbers::number_of_start_refusal, crate::proofs::Numbers::memory_of_start_refusal))]
 #[unsafe(no_mangle)]
 pub extern "C" fn ptpm_clock_start(
     alloc: Global,
@@ -67,8 +67,11 @@ pub extern "C" fn ptpm_clock_start(
         ((1 ≤ result) × (held handle.new.keeping ≡ Nothing)) }
     ensures number { (e : StartRefusal)
         → start_refusal settings.now ports.now managers.now ≡ Some e
-        → result ≢ 35
+        → result ≢ no_memory
         → result ≡ start_number e }
+    ensures memory { start_refusal settings.now ports.now managers.now ≡ None
+        → result ≢ 0
+        → result ≡ no_memory }
 {
     handle.end(alloc);
     let clock = match HostedClock::start(alloc, settings, ports, managers) {
@@ -76,10 +79,10 @@ pub extern "C" fn ptpm_clock_start(
         Err(refusal) => return start_number(refusal),
     };
     let Ok(kept) = Box::new(alloc, Kept::of(Hosted::Nothing)) else {
-        return 35;
+        return NO_MEMORY;
     };
     let Ok(clock) = Box::new(alloc, clock) else {
-        return 35;
+        return NO_MEMORY;
     };
     *handle = Handle::of(kept, Hosted::Clock(clock));
     0
@@ -100,7 +103,7 @@ pub extern "C" fn ptpm_clock_handle(
     ensures turned { (c : HostedClock)
         → clock_held handle.old.keeping ≡ Some c
         → handle_refusal (has_port port c.agent.sets) (length sent.old) ≡ None
-        → IfSome (clock_held handle.new.keeping)
+        → IsSomeAnd (clock_held handle.new.keeping)
         (λ d. IsTurnedTo c port datagram.now result (messages_in (take count.new sent.new)) d) }
     ensures refused { (c : HostedClock) (e : HandleRefusal)
         → clock_held handle.old.keeping ≡ Some c
@@ -127,8 +130,8 @@ pub extern "C" fn ptpm_clock_handle(
     number
 }
 
-/// Leaves what a GET of this id is answered at the head of `octets`, `size` octets: 0, or the number of the refusal. The port
-/// matters for an id of a port alone. Takes no memory.
+/// Leaves what a GET of this id is answered at the head of `octets`, `size` octets: 0, or the number of the refusal. What
+/// stands behind them stays. The port matters for an id of a port alone. Takes no memory.
 #[unsafe(no_mangle)]
 pub extern "C" fn ptpm_clock_read(
     alloc: Global,
@@ -142,6 +145,8 @@ pub extern "C" fn ptpm_clock_read(
     ensures field { (c : HostedClock) → clock_held handle.old.keeping ≡ Some c →
         read_refusal id port (length octets.old) c.agent.sets ≡ None →
         (result ≡ 0) × (take size.new octets.new ≡ data_field_of_id id port c.agent.sets) }
+    ensures within { size.new ≤ length octets.new }
+    ensures behind { drop size.new octets.new ≡ drop size.new octets.old }
     ensures refused { (c : HostedClock) (e : ReadRefusal)
         → clock_held handle.old.keeping ≡ Some c
         → read_refusal id port (length octets.old) c.agent.sets ≡ Some e

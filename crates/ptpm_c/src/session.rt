@@ -1,9 +1,10 @@
 //! The calls of a session for hosts in C, each one of `ptpm_host`.
 
-ghost use Rattle.std.specs.Prelude.{◌≡◌, ◌≢◌, ◌≤◌, false, true, IfNone, IfSome, None, Some, length, take};
+ghost use Rattle.std.specs.Prelude.{◌≡◌, ◌≢◌, ◌≤◌, false, true, IfNone, IfSome, IsSomeAnd, None, Some, drop, length, take};
 ghost use Rattle.ptpm_codec.specs.declared.message.Message.{Message};
 ghost use Rattle.ptpm_codec.specs.Canonical.{canonical};
 ghost use Rattle.ptpm_manager.specs.declared.error.BeginError.{BeginError};
+ghost use Rattle.ptpm_manager.specs.declared.error.SendError.{SendError};
 ghost use Rattle.ptpm_manager.specs.declared.report.Report.{Report};
 ghost use Rattle.ptpm_manager.specs.Receiving.{NeedsMemory, received_of};
 ghost use Rattle.ptpm_manager.specs.Session.{begin_refusal, due_message, is_waiting, resumed, retuned, sent};
@@ -11,8 +12,9 @@ ghost use Rattle.ptpm_host.specs.declared.refusal.ReportRefusal.{ReportRefusal};
 ghost use Rattle.ptpm_host.specs.declared.refusal.SendRefusal.{SendRefusal};
 ghost use Rattle.ptpm_host.specs.declared.refusal.SessionRefusal.{SessionRefusal};
 ghost use Rattle.ptpm_host.specs.declared.session.HostedSession.{HostedSession};
+ghost use Rattle.ptpm_host.specs.Numbers.{no_memory};
 ghost use Rattle.ptpm_host.specs.Session.{ask_of, hand_refusal, heard_of, report_refusal};
-ghost use Rattle.ptpm_host.specs.SessionNumbers.{begin_number, heard_number, no_session, report_number, send_number, session_number, told_number};
+ghost use Rattle.ptpm_host.specs.SessionNumbers.{begin_number, heard_number, no_session, report_number, resume_number, send_number, session_number, told_number};
 ghost use Rattle.ptpm_host.specs.SessionSettings.{session_refusal, session_start};
 ghost use Rattle.ptpm_host.specs.Told.{told_error, told_octets, told_of};
 ghost use Rattle.ptpm_c.specs.declared.kept.Hosted.TheVariants.{Nothing};
@@ -22,8 +24,8 @@ ghost use Rattle.ptpm_c.specs.Session.{HasBegun, HasHeard, IsAt};
 use crate::handle::Handle;
 use crate::kept::{Hosted, Kept};
 use ptpm_host::{
-    HostedSession, NO_SESSION, SessionSettings, begin_number, heard_number, report_number,
-    resume_number, send_number, session_number, told_number,
+    HostedSession, NO_MEMORY, NO_SESSION, SessionSettings, begin_number, heard_number,
+    report_number, resume_number, send_number, session_number, told_number,
 };
 use std::alloc::Global;
 
@@ -42,6 +44,7 @@ pub extern "C" fn ptpm_session_start(
     ensures number { (e : SessionRefusal)
         → session_refusal settings.now ≡ Some e
         → result ≡ session_number e }
+    ensures memory { session_refusal settings.now ≡ None → result ≢ 0 → result ≡ no_memory }
 {
     handle.end(alloc);
     let session = match HostedSession::start(alloc, settings) {
@@ -49,17 +52,18 @@ pub extern "C" fn ptpm_session_start(
         Err(refusal) => return session_number(refusal),
     };
     let Ok(kept) = Box::new(alloc, Kept::of(Hosted::Nothing)) else {
-        return 35;
+        return NO_MEMORY;
     };
     let Ok(session) = Box::new(alloc, session) else {
-        return 35;
+        return NO_MEMORY;
     };
     *handle = Handle::of(kept, Hosted::Session(session));
     0
 }
 
-/// Begins a request: 0. Where it is refused, by the number of the refusal, nothing changes.
-#[tactic(auto, using(crate::proofs::Numbers::number_of_refusal))]
+/// Begins a request: 0. Where it is refused, by the number of the refusal, nothing changes. Memory is asked for where nothing
+/// else refuses it.
+#[tactic(auto, using(crate::proofs::Numbers::memory_of_refusal))]
 #[unsafe(no_mangle)]
 pub extern "C" fn ptpm_session_begin(
     alloc: Global,
@@ -72,7 +76,7 @@ pub extern "C" fn ptpm_session_begin(
     ensures begun { (s : HostedSession)
         → session_held handle.old.keeping ≡ Some s
         → result ≡ 0
-        → IfSome (session_held handle.new.keeping)
+        → IsSomeAnd (session_held handle.new.keeping)
         (λ t. HasBegun s (ask_of action id port octets.now) t) }
     ensures permitted { (s : HostedSession)
         → session_held handle.old.keeping ≡ Some s
@@ -81,8 +85,12 @@ pub extern "C" fn ptpm_session_begin(
     ensures number { (s : HostedSession) (e : BeginError)
         → session_held handle.old.keeping ≡ Some s
         → begin_refusal s.session (ask_of action id port octets.now) ≡ Some e
-        → result ≢ 35
         → result ≡ begin_number e }
+    ensures memory { (s : HostedSession)
+        → session_held handle.old.keeping ≡ Some s
+        → begin_refusal s.session (ask_of action id port octets.now) ≡ None
+        → result ≢ 0
+        → result ≡ no_memory }
     ensures unchanged { (s : HostedSession)
         → session_held handle.old.keeping ≡ Some s
         → result ≢ 0
@@ -93,7 +101,7 @@ pub extern "C" fn ptpm_session_begin(
     let Some((kept, mut session)) = handle.take_session(alloc) else {
         return NO_SESSION;
     };
-    let number = match session.begin(alloc, action, id, port, octets) {
+    let number = match session.begin(action, id, port, octets) {
         Ok(()) => 0,
         Err(refusal) => begin_number(refusal),
     };
@@ -101,7 +109,8 @@ pub extern "C" fn ptpm_session_begin(
     number
 }
 
-/// Leaves the unanswered request at the head of `octets`, `size` octets: 0, or the number of the refusal. Takes no memory.
+/// Leaves the unanswered request at the head of `octets`, `size` octets: 0, or the number of the refusal. What stands behind
+/// them stays. Takes no memory.
 #[unsafe(no_mangle)]
 pub extern "C" fn ptpm_session_send(
     alloc: Global,
@@ -113,16 +122,18 @@ pub extern "C" fn ptpm_session_send(
         → session_held handle.old.keeping ≡ Some s
         → hand_refusal (length octets.old) s.session ≡ None
         → (result ≡ 0)
-        × IfSome (session_held handle.new.keeping) (λ t. IsAt t (sent s.session) s.report) }
+        × IsSomeAnd (session_held handle.new.keeping) (λ t. IsAt t (sent s.session) s.report) }
     ensures octets { (s : HostedSession) (v : Message) → session_held handle.old.keeping ≡ Some s →
         hand_refusal (length octets.old) s.session ≡ None → due_message s.session ≡ Some v →
         take size.new octets.new ≡ canonical v }
+    ensures within { size.new ≤ length octets.new }
+    ensures behind { drop size.new octets.new ≡ drop size.new octets.old }
     ensures refused { (s : HostedSession) (e : SendRefusal)
         → session_held handle.old.keeping ≡ Some s
         → hand_refusal (length octets.old) s.session ≡ Some e
         → (result ≡ send_number e)
         × ((size.new ≡ 0)
-        × IfSome (session_held handle.new.keeping) (λ t. IsAt t s.session s.report)) }
+        × IsSomeAnd (session_held handle.new.keeping) (λ t. IsAt t s.session s.report)) }
     ensures empty { session_held handle.old.keeping ≡ None
         → (result ≡ no_session)
         × ((size.new ≡ 0) × (held handle.new.keeping ≡ held handle.old.keeping)) }
@@ -149,12 +160,12 @@ pub extern "C" fn ptpm_session_resume(alloc: Global, handle: &mut Handle, attemp
         → session_held handle.old.keeping ≡ Some s
         → is_waiting s.session ≡ true
         → (result ≡ 0)
-        × IfSome (session_held handle.new.keeping)
+        × IsSomeAnd (session_held handle.new.keeping)
         (λ t. IsAt t (resumed s.session attempts) s.report) }
     ensures idle { (s : HostedSession)
         → session_held handle.old.keeping ≡ Some s
         → is_waiting s.session ≡ false
-        → (result ≡ 43) × (session_held handle.new.keeping ≡ Some s) }
+        → (result ≡ resume_number SendError.Idle) × (session_held handle.new.keeping ≡ Some s) }
     ensures empty { session_held handle.old.keeping ≡ None →
         (result ≡ no_session) × (held handle.new.keeping ≡ held handle.old.keeping) }
 {
@@ -175,7 +186,7 @@ pub extern "C" fn ptpm_session_retune(alloc: Global, handle: &mut Handle, domain
     ensures retuned { (s : HostedSession)
         → session_held handle.old.keeping ≡ Some s
         → (result ≡ 0)
-        × IfSome (session_held handle.new.keeping)
+        × IsSomeAnd (session_held handle.new.keeping)
         (λ t. IsAt t (retuned s.session domain) s.report) }
     ensures empty { session_held handle.old.keeping ≡ None →
         (result ≡ no_session) × (held handle.new.keeping ≡ held handle.old.keeping) }
@@ -194,14 +205,14 @@ pub extern "C" fn ptpm_session_retune(alloc: Global, handle: &mut Handle, domain
 pub extern "C" fn ptpm_session_receive(alloc: Global, handle: &mut Handle, datagram: &[u8]) -> u32
     ensures heard { (s : HostedSession)
         → session_held handle.old.keeping ≡ Some s
-        → result ≢ 35
+        → result ≢ no_memory
         → (result ≡ heard_number (heard_of (received_of s.session datagram.now)))
-        × IfSome (session_held handle.new.keeping)
+        × IsSomeAnd (session_held handle.new.keeping)
         (λ t. HasHeard s (received_of s.session datagram.now) t) }
     ensures refused { (s : HostedSession)
         → session_held handle.old.keeping ≡ Some s
         → result ≢ heard_number (heard_of (received_of s.session datagram.now))
-        → (result ≡ 35)
+        → (result ≡ no_memory)
         × (NeedsMemory (received_of s.session datagram.now)
         × (session_held handle.new.keeping ≡ Some s)) }
     ensures empty { session_held handle.old.keeping ≡ None →
@@ -212,7 +223,7 @@ pub extern "C" fn ptpm_session_receive(alloc: Global, handle: &mut Handle, datag
     };
     let number = match session.receive(datagram) {
         Ok(heard) => heard_number(heard),
-        Err(_) => 35,
+        Err(_) => NO_MEMORY,
     };
     *handle = Handle::of(kept, Hosted::Session(session));
     number
@@ -236,7 +247,7 @@ pub extern "C" fn ptpm_session_issued(alloc: Global, handle: &mut Handle) -> u64
 }
 
 /// What the answer to the latest request tells, as a number; a dataField is left at the head of `octets`, `size` octets, and
-/// a managementErrorId in `error`. Takes no memory.
+/// a managementErrorId in `error`. Where none is told, they are 0. What stands behind a dataField stays. Takes no memory.
 #[unsafe(no_mangle)]
 pub extern "C" fn ptpm_session_report(
     alloc: Global,
@@ -257,12 +268,14 @@ pub extern "C" fn ptpm_session_report(
         → s.report ≡ Some r
         → report_refusal (length octets.old) s.report ≡ None
         → error.new ≡ told_error (told_of r.outcome) }
+    ensures within { size.new ≤ length octets.new }
+    ensures behind { drop size.new octets.new ≡ drop size.new octets.old }
     ensures refused { (s : HostedSession) (e : ReportRefusal)
         → session_held handle.old.keeping ≡ Some s
         → report_refusal (length octets.old) s.report ≡ Some e
-        → (result ≡ report_number e) × (size.new ≡ 0) }
+        → (result ≡ report_number e) × ((size.new ≡ 0) × (error.new ≡ 0)) }
     ensures empty { session_held handle.old.keeping ≡ None
-        → (result ≡ no_session) × (size.new ≡ 0) }
+        → (result ≡ no_session) × ((size.new ≡ 0) × (error.new ≡ 0)) }
 {
     *size = 0;
     *error = 0;

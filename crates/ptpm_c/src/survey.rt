@@ -1,6 +1,6 @@
 //! The calls of a survey for hosts in C, each one of `ptpm_host`.
 
-ghost use Rattle.std.specs.Prelude.{◌≡◌, ◌≢◌, ◌≤◌, ◌++◌, ◌∷◌, [], ℕ, List, IfNone, IfSome, None, Some, length, slice_get, take};
+ghost use Rattle.std.specs.Prelude.{◌≡◌, ◌≢◌, ◌≤◌, ◌++◌, ◌∷◌, [], ℕ, List, IfNone, IfSome, IsSomeAnd, None, Some, drop, length, slice_get, take};
 ghost use Rattle.ptpm_codec.specs.Canonical.{canonical};
 ghost use Rattle.ptpm_manager.specs.declared.receiving.Surveyed.{Surveyed};
 ghost use Rattle.ptpm_manager.specs.Answers.{Answer, first_of_each_source, heard, surveyed_by};
@@ -9,6 +9,7 @@ ghost use Rattle.ptpm_host.specs.declared.refusal.ReportRefusal.{ReportRefusal};
 ghost use Rattle.ptpm_host.specs.declared.refusal.SendRefusal.{SendRefusal};
 ghost use Rattle.ptpm_host.specs.declared.refusal.SessionRefusal.{SessionRefusal};
 ghost use Rattle.ptpm_host.specs.declared.survey.HostedSurvey.{HostedSurvey};
+ghost use Rattle.ptpm_host.specs.Numbers.{no_memory};
 ghost use Rattle.ptpm_host.specs.Session.{message_refusal};
 ghost use Rattle.ptpm_host.specs.SessionNumbers.{report_number, send_number, session_number, told_number};
 ghost use Rattle.ptpm_host.specs.Survey.{answer_refusal, source_of};
@@ -22,8 +23,8 @@ ghost use Rattle.ptpm_c.specs.Survey.{HasSurveyed, IsAt};
 use crate::handle::Handle;
 use crate::kept::{Hosted, Kept};
 use ptpm_host::{
-    HostedSurvey, NO_SURVEY, Source, SurveySettings, report_number, send_number, session_number,
-    surveyed_number, told_number,
+    HostedSurvey, NO_MEMORY, NO_SURVEY, Source, SurveySettings, report_number, send_number,
+    session_number, surveyed_number, told_number,
 };
 use std::alloc::Global;
 
@@ -42,6 +43,7 @@ pub extern "C" fn ptpm_survey_start(
     ensures number { (e : SessionRefusal)
         → survey_refusal settings.now ≡ Some e
         → result ≡ session_number e }
+    ensures memory { survey_refusal settings.now ≡ None → result ≢ 0 → result ≡ no_memory }
 {
     handle.end(alloc);
     let survey = match HostedSurvey::start(alloc, settings) {
@@ -49,16 +51,17 @@ pub extern "C" fn ptpm_survey_start(
         Err(refusal) => return session_number(refusal),
     };
     let Ok(kept) = Box::new(alloc, Kept::of(Hosted::Nothing)) else {
-        return 35;
+        return NO_MEMORY;
     };
     let Ok(survey) = Box::new(alloc, survey) else {
-        return 35;
+        return NO_MEMORY;
     };
     *handle = Handle::of(kept, Hosted::Survey(survey));
     0
 }
 
-/// Leaves the GET at the head of `octets`, `size` octets: 0, or the number of the refusal. Takes no memory.
+/// Leaves the GET at the head of `octets`, `size` octets: 0, or the number of the refusal. What stands behind them stays. Takes
+/// no memory.
 #[unsafe(no_mangle)]
 pub extern "C" fn ptpm_survey_send(
     alloc: Global,
@@ -71,6 +74,8 @@ pub extern "C" fn ptpm_survey_send(
         → survey_held handle.old.keeping ≡ Some s
         → message_refusal (length octets.old) ≡ None
         → (result ≡ 0) × (take size.new octets.new ≡ canonical (survey_message s.survey.enquiry)) }
+    ensures within { size.new ≤ length octets.new }
+    ensures behind { drop size.new octets.new ≡ drop size.new octets.old }
     ensures refused { (s : HostedSurvey) (e : SendRefusal)
         → survey_held handle.old.keeping ≡ Some s
         → message_refusal (length octets.old) ≡ Some e
@@ -97,17 +102,17 @@ pub extern "C" fn ptpm_survey_send(
 pub extern "C" fn ptpm_survey_receive(alloc: Global, handle: &mut Handle, datagram: &[u8]) -> u32
     ensures surveyed { (s : HostedSurvey)
         → survey_held handle.old.keeping ≡ Some s
-        → result ≢ 35
+        → result ≢ no_memory
         → (result
         ≡ surveyed_number
         (surveyed_by s.survey.answers (heard s.survey.enquiry datagram.now)))
-        × IfSome (survey_held handle.new.keeping) (λ t. HasSurveyed s datagram.now t) }
+        × IsSomeAnd (survey_held handle.new.keeping) (λ t. HasSurveyed s datagram.now t) }
     // Answers that are the first of each source of some datagrams, are so with this one.
     ensures first { (s : HostedSurvey) (datagrams : List (List ℕ))
         → survey_held handle.old.keeping ≡ Some s
-        → result ≢ 35
+        → result ≢ no_memory
         → s.survey.answers ≡ first_of_each_source s.survey.enquiry datagrams
-        → IfSome (survey_held handle.new.keeping)
+        → IsSomeAnd (survey_held handle.new.keeping)
         (λ t.
         t.survey.answers
         ≡ first_of_each_source s.survey.enquiry (datagrams ++ datagram.now ∷ [])) }
@@ -115,7 +120,7 @@ pub extern "C" fn ptpm_survey_receive(alloc: Global, handle: &mut Handle, datagr
         → survey_held handle.old.keeping ≡ Some s
         → result
         ≢ surveyed_number (surveyed_by s.survey.answers (heard s.survey.enquiry datagram.now))
-        → (result ≡ 35)
+        → (result ≡ no_memory)
         × ((surveyed_by s.survey.answers (heard s.survey.enquiry datagram.now) ≡ Surveyed.Taken)
         × (survey_held handle.new.keeping ≡ Some s)) }
     ensures empty { survey_held handle.old.keeping ≡ None
@@ -126,7 +131,7 @@ pub extern "C" fn ptpm_survey_receive(alloc: Global, handle: &mut Handle, datagr
     };
     let number = match survey.receive(datagram) {
         Ok(surveyed) => surveyed_number(surveyed),
-        Err(_) => 35,
+        Err(_) => NO_MEMORY,
     };
     *handle = Handle::of(kept, Hosted::Survey(survey));
     number
@@ -150,7 +155,8 @@ pub extern "C" fn ptpm_survey_count(alloc: Global, handle: &mut Handle) -> usize
 }
 
 /// What the answer at a place tells, as a number, counted from 0, and who gave it; a dataField is left at the head of
-/// `octets`, `size` octets, and a managementErrorId in `error`. Takes no memory.
+/// `octets`, `size` octets, and a managementErrorId in `error`. Where none is told, they are 0. What stands behind a dataField
+/// stays. Takes no memory.
 #[unsafe(no_mangle)]
 pub extern "C" fn ptpm_survey_answer(
     alloc: Global,
@@ -172,12 +178,16 @@ pub extern "C" fn ptpm_survey_answer(
         → slice_get s.survey.answers place ≡ Some a
         → answer_refusal (length octets.old) (slice_get s.survey.answers place) ≡ None
         → (source.new ≡ source_of a.0) × (error.new ≡ told_error (told_of a.1)) }
+    ensures within { size.new ≤ length octets.new }
+    ensures behind { drop size.new octets.new ≡ drop size.new octets.old }
     ensures refused { (s : HostedSurvey) (e : ReportRefusal)
         → survey_held handle.old.keeping ≡ Some s
         → answer_refusal (length octets.old) (slice_get s.survey.answers place) ≡ Some e
-        → (result ≡ report_number e) × ((size.new ≡ 0) × (source.new ≡ source.old)) }
+        → (result ≡ report_number e)
+        × ((size.new ≡ 0) × ((error.new ≡ 0) × (source.new ≡ source.old))) }
     ensures empty { survey_held handle.old.keeping ≡ None
-        → (result ≡ no_survey) × ((size.new ≡ 0) × (source.new ≡ source.old)) }
+        → (result ≡ no_survey)
+        × ((size.new ≡ 0) × ((error.new ≡ 0) × (source.new ≡ source.old))) }
 {
     *size = 0;
     *error = 0;

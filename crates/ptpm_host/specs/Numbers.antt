@@ -50,6 +50,10 @@ verdict_number verdicts.AnsweredUnnumbered = 9
 abbrev pub no_clock : ℕ
 no_clock = 32
 
+-- memory was refused
+abbrev pub no_memory : ℕ
+no_memory = 35
+
 abbrev pub handle_number : HandleRefusal → ℕ
 handle_number handles.NoPort = 33
 handle_number handles.NoRoom = 34
@@ -109,9 +113,9 @@ values_number (starts.BadValue member) = 64 + member_number member
 abbrev pub managers_number : TableError → ℕ
 managers_number tables.TooMany = 51
 managers_number tables.Twice = 52
-managers_number tables.OutOfMemory = 35
+managers_number tables.OutOfMemory = no_memory
 
 abbrev pub start_number : StartRefusal → ℕ
 start_number (refusals.Values fault) = values_number fault
 start_number (refusals.Managers fault) = managers_number fault
-start_number refusals.OutOfMemory = 35
+start_number refusals.OutOfMemory = no_memory

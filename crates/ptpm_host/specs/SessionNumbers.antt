@@ -17,7 +17,7 @@ use Rattle.ptpm_host.specs.declared.session.Heard.{Heard}
 use Rattle.ptpm_host.specs.declared.session.Heard.TheVariants as heard
 use Rattle.ptpm_host.specs.declared.told.Told.{Told}
 use Rattle.ptpm_host.specs.declared.told.Told.TheVariants as told
-use Rattle.ptpm_host.specs.Numbers.{cause_number}
+use Rattle.ptpm_host.specs.Numbers.{cause_number, no_memory}
 
 -- ---- what became of a datagram
 
@@ -50,7 +50,7 @@ abbrev pub no_session : ℕ
 no_session = 37
 
 abbrev pub begin_number : BeginError → ℕ
-begin_number begins.OutOfMemory = 35
+begin_number begins.OutOfMemory = no_memory
 begin_number begins.Busy = 38
 begin_number begins.NeedsPort = 39
 begin_number begins.NotPermitted = 40

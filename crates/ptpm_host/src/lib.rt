@@ -17,7 +17,7 @@ mod survey_settings;
 mod told;
 
 pub use clock::{Handled, HostedClock, MOST_SENT};
-pub use numbers::{NO_CLOCK, handle_number, read_number, start_number, verdict_number};
+pub use numbers::{NO_CLOCK, NO_MEMORY, handle_number, read_number, start_number, verdict_number};
 pub use refusal::{
     HandleRefusal, ReadRefusal, ReportRefusal, SendRefusal, SessionRefusal, StartRefusal,
 };

@@ -12,6 +12,9 @@ use ptpm_table::TableError;
 /// No clock stands behind a handle.
 pub const NO_CLOCK: u32 = 32;
 
+/// Memory was refused.
+pub const NO_MEMORY: u32 = 35;
+
 /// What became of a datagram, 1 to 24.
 pub fn verdict_number(verdict: Verdict) -> u32
     ensures { result ≡ verdict_number verdict }
@@ -76,7 +79,7 @@ pub fn start_number(refusal: StartRefusal) -> u32
     match refusal {
         StartRefusal::Values(fault) => values_number(fault),
         StartRefusal::Managers(fault) => managers_number(fault),
-        StartRefusal::OutOfMemory => 35,
+        StartRefusal::OutOfMemory => NO_MEMORY,
     }
 }
 
@@ -99,7 +102,7 @@ fn managers_number(fault: TableError) -> u32
     match fault {
         TableError::TooMany => 51,
         TableError::Twice => 52,
-        TableError::OutOfMemory => 35,
+        TableError::OutOfMemory => NO_MEMORY,
     }
 }
 

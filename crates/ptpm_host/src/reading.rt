@@ -1,6 +1,6 @@
 //! The data sets of a clock, by managementId.
 
-ghost use Rattle.std.specs.Prelude.{◌≡◌, None, Some, IfOk, MatchResult, OnErr, length, take};
+ghost use Rattle.std.specs.Prelude.{◌≡◌, ◌≤◌, None, Some, IfOk, MatchResult, OnErr, drop, length, take};
 ghost use Rattle.ptpm_codec.specs.declared.message.Action.TheVariants.{Get};
 ghost use Rattle.ptpm_data.specs.DataField.{data_field_of_id, permits};
 ghost use Rattle.ptpm_data.specs.ManagementId.{is_of_port};
@@ -12,11 +12,13 @@ use bitflags::Flags;
 use ptpm_data::{Actions, Scope, Value, row};
 
 impl HostedClock {
-    /// Leaves what a GET of this id is answered at the head of `octets`, and answers how many octets that is. The port
-    /// matters for an id of a port alone. Where it is refused, nothing is written. Takes no memory.
+    /// Leaves what a GET of this id is answered at the head of `octets`, and answers how many octets that is. What stands
+    /// behind it stays. The port matters for an id of a port alone. Where it is refused, nothing is written. Takes no memory.
     pub fn read(&self, id: u16, port: u16, octets: &mut [u8]) -> Result<usize, ReadRefusal>
         ensures field { IfOk result
             (λ n. take n octets.new ≡ data_field_of_id id port self.now.agent.sets) }
+        ensures within { IfOk result (λ n. n ≤ length octets.new) }
+        ensures behind { IfOk result (λ n. drop n octets.new ≡ drop n octets.old) }
         ensures size { length octets.new ≡ length octets.old }
         ensures refusal { MatchResult result
             (λ _. read_refusal id port (length octets.old) self.now.agent.sets ≡ None)

@@ -1,6 +1,6 @@
 //! A session with the request that it sends and the answer that it heard, as a host keeps it.
 
-ghost use Rattle.std.specs.Prelude.{◌≡◌, ◌≢◌, false, true, None, Some, IfErr, IfOk, MatchResult, OnErr, OnOk, length, take};
+ghost use Rattle.std.specs.Prelude.{◌≡◌, ◌≢◌, ◌≤◌, false, true, Err, None, Some, IfErr, IfOk, MatchResult, OnErr, OnOk, drop, length, take};
 ghost use Rattle.ptpm_codec.specs.declared.message.Message.{Message};
 ghost use Rattle.ptpm_codec.specs.Canonical.{canonical};
 ghost use Rattle.ptpm_manager.specs.declared.error.BeginError.{BeginError};
@@ -16,8 +16,8 @@ ghost use Rattle.ptpm_host.specs.Told.{told_octets, told_of, told_size};
 use crate::refusal::{ReportRefusal, SendRefusal, SessionRefusal};
 use crate::session_settings::SessionSettings;
 use crate::told::{Told, tell};
-use ptpm_codec::{Action, Buffer, ClockIdentity, MESSAGE_OCTETS, Octets, OutOfMemory};
-use ptpm_manager::{Ask, BeginError, Reason, Received, Report, SendError, Session};
+use ptpm_codec::{Action, Buffer, ClockIdentity, MESSAGE_OCTETS, OutOfMemory};
+use ptpm_manager::{BeginError, Reason, Received, Report, SendError, Session};
 use std::alloc::Global;
 
 /// A session, room for the request that it sends, and the answer to the latest request.
@@ -90,46 +90,39 @@ impl HostedSession {
 
     /// Begins a request, with all its attempts before it: 0 GET, 1 SET or 3 COMMAND of a managementId, with this dataField.
     /// The port matters for an id of a port alone. The answer to an earlier request is let go. The first reason that holds
-    /// is why it is refused, and then nothing changes; want of memory can come in place of any other.
-    pub fn begin(
-        &mut self,
-        alloc: Global,
-        action: u8,
-        id: u16,
-        port: u16,
-        octets: &[u8],
-    ) -> Result<(), BeginError>
+    /// is why it is refused, and then nothing changes. Memory is asked for the request's own copy of the dataField alone,
+    /// and only where nothing else refuses it.
+    pub fn begin(&mut self, action: u8, id: u16, port: u16, octets: &[u8]) -> Result<(), BeginError>
         ensures begun { OnOk result
             (self.new.session
             ≡ begun self.old.session (request_of (ask_of action id port octets.now))) }
         ensures report { OnOk result (self.new.report ≡ None) }
         ensures permitted { OnOk result
             (begin_refusal self.old.session (ask_of action id port octets.now) ≡ None) }
-        ensures refused { IfErr result (λ e. e ≢ BeginError.OutOfMemory →
+        ensures refused { (e : BeginError)
+            → begin_refusal self.old.session (ask_of action id port octets.now) ≡ Some e
+            → result ≡ Err e }
+        ensures no_other { IfErr result (λ e. e ≢ BeginError.OutOfMemory →
             begin_refusal self.old.session (ask_of action id port octets.now) ≡ Some e) }
         ensures unchanged { OnErr result (self.new ≡ self.old) }
     {
-        let Ok(octets) = Octets::copy_of(alloc, octets) else {
-            return Err(BeginError::OutOfMemory);
-        };
-        self.session.begin(&Ask {
-            action: asked_action(action),
-            id,
-            port: Some(port),
-            octets,
-        })?;
+        let action = asked_action(action);
+        self.session.begin_with(action, id, Some(port), octets)?;
         self.report = None;
         Ok(())
     }
 
     /// Leaves the unanswered request at the head of `octets`, uses one of its attempts, and answers how many octets it has.
-    /// Until `retune` they are the same each time. Where it is refused, nothing changes. Takes no memory.
+    /// Until `retune` they are the same each time. What stands behind them stays. Where it is refused, nothing changes. Takes
+    /// no memory.
     pub fn send(&mut self, octets: &mut [u8]) -> Result<usize, SendRefusal>
         ensures refusal { MatchResult result
             (λ _. hand_refusal (length octets.old) self.old.session ≡ None)
             (λ e. hand_refusal (length octets.old) self.old.session ≡ Some e) }
         ensures octets { (v : Message) → due_message self.old.session ≡ Some v →
             IfOk result (λ n. take n octets.new ≡ canonical v) }
+        ensures within { IfOk result (λ n. n ≤ length octets.new) }
+        ensures behind { IfOk result (λ n. drop n octets.new ≡ drop n octets.old) }
         ensures sent { OnOk result (self.new.session ≡ sent self.old.session) }
         ensures report { self.new.report ≡ self.old.report }
         ensures size { length octets.new ≡ length octets.old }
@@ -190,8 +183,8 @@ impl HostedSession {
         }
     }
 
-    /// What the answer to the latest request tells; a dataField is left at the head of `octets`. Where it is refused, nothing
-    /// is written. Takes no memory.
+    /// What the answer to the latest request tells; a dataField is left at the head of `octets`, and what stands behind it
+    /// stays. Where it is refused, nothing is written. Takes no memory.
     pub fn report(&self, octets: &mut [u8]) -> Result<Told, ReportRefusal>
         ensures refusal { MatchResult result
             (λ _. report_refusal (length octets.old) self.now.report ≡ None)
@@ -201,6 +194,9 @@ impl HostedSession {
             → IfOk result (λ t. t ≡ told_of r.outcome) }
         ensures octets { (r : Report) → self.now.report ≡ Some r →
             IfOk result (λ t. take (told_size t) octets.new ≡ told_octets r.outcome) }
+        ensures within { IfOk result (λ t. told_size t ≤ length octets.new) }
+        ensures behind { IfOk result
+            (λ t. drop (told_size t) octets.new ≡ drop (told_size t) octets.old) }
         ensures size { length octets.new ≡ length octets.old }
         ensures untouched { OnErr result (octets.new ≡ octets.old) }
     {

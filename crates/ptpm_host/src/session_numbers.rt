@@ -3,7 +3,7 @@
 ghost use Rattle.std.specs.Prelude.{◌≡◌, ◌≤◌};
 ghost use Rattle.ptpm_host.specs.SessionNumbers.{begin_number, heard_number, reason_number, report_number, resume_number, send_number, session_number, told_number};
 
-use crate::numbers::cause_number;
+use crate::numbers::{NO_MEMORY, cause_number};
 use crate::refusal::{ReportRefusal, SendRefusal, SessionRefusal};
 use crate::session::Heard;
 use crate::told::Told;
@@ -55,7 +55,7 @@ pub fn begin_number(refusal: BeginError) -> u32
     ensures some { 1 ≤ result }
 {
     match refusal {
-        BeginError::OutOfMemory => 35,
+        BeginError::OutOfMemory => NO_MEMORY,
         BeginError::Busy => 38,
         BeginError::NeedsPort => 39,
         BeginError::NotPermitted => 40,

@@ -1,6 +1,6 @@
 //! A survey, as a host keeps it.
 
-ghost use Rattle.std.specs.Prelude.{◌≡◌, ◌++◌, ◌∷◌, [], ℕ, List, None, Some, IfOk, MatchResult, OnErr, OnOk, length, slice_get, take};
+ghost use Rattle.std.specs.Prelude.{◌≡◌, ◌≤◌, ◌++◌, ◌∷◌, [], ℕ, List, None, Some, IfOk, MatchResult, OnErr, OnOk, drop, length, slice_get, take};
 ghost use Rattle.ptpm_codec.specs.Canonical.{canonical};
 ghost use Rattle.ptpm_manager.specs.declared.receiving.Surveyed.{Surveyed};
 ghost use Rattle.ptpm_manager.specs.Answers.{Answer, first_of_each_source, heard, kept_by, surveyed_by};
@@ -78,13 +78,15 @@ impl HostedSurvey {
         })
     }
 
-    /// Leaves the GET at the head of `octets`, and answers how many octets it has, the same each time. Where there is too
-    /// little room, nothing is written. Takes no memory.
+    /// Leaves the GET at the head of `octets`, and answers how many octets it has, the same each time. What stands behind it
+    /// stays. Where there is too little room, nothing is written. Takes no memory.
     pub fn send(&self, octets: &mut [u8]) -> Result<usize, SendRefusal>
         ensures refusal { MatchResult result (λ _. message_refusal (length octets.old) ≡ None)
             (λ e. message_refusal (length octets.old) ≡ Some e) }
         ensures octets { IfOk result
             (λ n. take n octets.new ≡ canonical (survey_message self.now.survey.enquiry)) }
+        ensures within { IfOk result (λ n. n ≤ length octets.new) }
+        ensures behind { IfOk result (λ n. drop n octets.new ≡ drop n octets.old) }
         ensures size { length octets.new ≡ length octets.old }
         ensures untouched { OnErr result (octets.new ≡ octets.old) }
     {
@@ -132,8 +134,8 @@ impl HostedSurvey {
         self.survey.answers().len()
     }
 
-    /// The answer at a place, counted from 0 in the order in which they came; a dataField is left at the head of `octets`.
-    /// Where it is refused, nothing is written. Takes no memory.
+    /// The answer at a place, counted from 0 in the order in which they came; a dataField is left at the head of `octets`, and
+    /// what stands behind it stays. Where it is refused, nothing is written. Takes no memory.
     pub fn answer(&self, place: usize, octets: &mut [u8]) -> Result<SurveyAnswer, ReportRefusal>
         ensures refusal { MatchResult result
             (λ _.
@@ -147,6 +149,9 @@ impl HostedSurvey {
             IfOk result (λ t. t.told ≡ told_of a.1) }
         ensures octets { (a : Answer) → slice_get self.now.survey.answers place ≡ Some a →
             IfOk result (λ t. take (told_size t.told) octets.new ≡ told_octets a.1) }
+        ensures within { IfOk result (λ t. told_size t.told ≤ length octets.new) }
+        ensures behind { IfOk result
+            (λ t. drop (told_size t.told) octets.new ≡ drop (told_size t.told) octets.old) }
         ensures size { length octets.new ≡ length octets.old }
         ensures untouched { OnErr result (octets.new ≡ octets.old) }
     {

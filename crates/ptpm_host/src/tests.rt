@@ -179,15 +179,8 @@ fn hears(session: &mut HostedSession, datagram: &[u8]) -> u32 {
 }
 
 /// The number of the refusal of a request; 0 where it is begun.
-fn begins(
-    alloc: Global,
-    session: &mut HostedSession,
-    action: u8,
-    id: u16,
-    port: u16,
-    octets: &[u8],
-) -> u32 {
-    match session.begin(alloc, action, id, port, octets) {
+fn begins(session: &mut HostedSession, action: u8, id: u16, port: u16, octets: &[u8]) -> u32 {
+    match session.begin(action, id, port, octets) {
         Ok(()) => 0,
         Err(refusal) => begin_number(refusal),
     }
@@ -220,17 +213,17 @@ fn requests_of_a_session(rt: HostRuntime) {
         Ok(mut session) => {
             sends_nothing(&rt, &mut session, 1472, 43);
             assert!(rt; session.resume(1).is_err());
-            assert_eq!(rt; begins(alloc, &mut session, 0, 0x200b, 0, &[]), 39);
-            assert_eq!(rt; begins(alloc, &mut session, 2, 0x2005, 0, &[]), 40);
-            assert_eq!(rt; begins(alloc, &mut session, 255, 0x2005, 0, &[]), 40);
-            assert_eq!(rt; begins(alloc, &mut session, 1, 0x2005, 0, &[100]), 41);
+            assert_eq!(rt; begins(&mut session, 0, 0x200b, 0, &[]), 39);
+            assert_eq!(rt; begins(&mut session, 2, 0x2005, 0, &[]), 40);
+            assert_eq!(rt; begins(&mut session, 255, 0x2005, 0, &[]), 40);
+            assert_eq!(rt; begins(&mut session, 1, 0x2005, 0, &[100]), 41);
             assert_eq!(rt; session.issued(), 0);
-            assert_eq!(rt; begins(alloc, &mut session, 0, 0x2005, 0, &[]), 0);
+            assert_eq!(rt; begins(&mut session, 0, 0x2005, 0, &[]), 0);
             sends_nothing(&rt, &mut session, 1471, 34);
             sends(&rt, &mut session, REQUEST);
             sends(&rt, &mut session, REQUEST);
             sends_nothing(&rt, &mut session, 1472, 44);
-            assert_eq!(rt; begins(alloc, &mut session, 0, 0x2005, 0, &[]), 38);
+            assert_eq!(rt; begins(&mut session, 0, 0x2005, 0, &[]), 38);
             assert!(rt; session.resume(1).is_ok());
             sends(&rt, &mut session, REQUEST);
             assert_eq!(rt; session.issued(), 1);
@@ -246,7 +239,7 @@ fn answers_at_a_session(rt: HostRuntime) {
     match HostedSession::start(alloc, &SESSION) {
         Ok(mut session) => {
             assert_eq!(rt; hears(&mut session, REPLY), 13);
-            assert_eq!(rt; begins(alloc, &mut session, 0, 0x2005, 0, &[]), 0);
+            assert_eq!(rt; begins(&mut session, 0, 0x2005, 0, &[]), 0);
             assert_eq!(rt; hears(&mut session, &REPLY[..53]), 16);
             assert_eq!(rt; hears(&mut session, DONE), 14);
             assert!(rt; matches!(session.report(&mut octets), Err(ReportRefusal::NoReport)));
@@ -254,13 +247,13 @@ fn answers_at_a_session(rt: HostRuntime) {
             assert!(rt; matches!(session.report(&mut octets[..1]), Err(ReportRefusal::NoRoom)));
             assert!(rt; matches!(session.report(&mut octets), Ok(Told::Value(2))));
             assert_eq!(rt; octets, [0x80, 0, 0xee, 0xee]);
-            assert_eq!(rt; begins(alloc, &mut session, 3, 0x200e, 2, &[]), 0);
+            assert_eq!(rt; begins(&mut session, 3, 0x200e, 2, &[]), 0);
             assert!(rt; matches!(session.report(&mut octets), Err(ReportRefusal::NoReport)));
             sends(&rt, &mut session, COMMAND);
             assert_eq!(rt; hears(&mut session, REPLY), 12);
             assert_eq!(rt; hears(&mut session, DONE), 0);
             assert!(rt; matches!(session.report(&mut octets), Ok(Told::Done)));
-            assert_eq!(rt; begins(alloc, &mut session, 1, 0x2000, 0, &[]), 0);
+            assert_eq!(rt; begins(&mut session, 1, 0x2000, 0, &[]), 0);
             session.retune(5);
             sends(&rt, &mut session, SET);
             assert_eq!(rt; hears(&mut session, NOT_SETABLE), 0);
@@ -321,10 +314,10 @@ fn session_after_refused_memory(rt: HostRuntime) {
     let mut octets = [0; 2];
     match HostedSession::start(alloc, &SESSION) {
         Ok(mut session) => {
-            if let Err(refusal) = session.begin(alloc, 1, 0x2005, 0, &[100, 0]) {
+            if let Err(refusal) = session.begin(1, 0x2005, 0, &[100, 0]) {
                 assert_eq!(rt; refusal, BeginError::OutOfMemory);
                 assert_eq!(rt; session.issued(), 0);
-                assert_eq!(rt; session.begin(alloc, 1, 0x2005, 0, &[100, 0]), Ok(()));
+                assert_eq!(rt; session.begin(1, 0x2005, 0, &[100, 0]), Ok(()));
             }
             sends(&rt, &mut session, SET_PRIORITY1);
             if session.receive(REPLY).is_err() {

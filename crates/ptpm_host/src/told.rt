@@ -1,6 +1,6 @@
 //! What an answer tells, as a host takes it over.
 
-ghost use Rattle.std.specs.Prelude.{◌≡◌, None, Some, IfOk, MatchResult, OnErr, length, take};
+ghost use Rattle.std.specs.Prelude.{◌≡◌, ◌≤◌, None, Some, IfOk, MatchResult, OnErr, drop, length, take};
 ghost use Rattle.ptpm_host.specs.Told.{room_refusal, told_error, told_octets, told_of, told_size};
 
 use crate::refusal::ReportRefusal;
@@ -39,13 +39,17 @@ impl Told {
     }
 }
 
-/// What an answer tells; a dataField is left at the head of `octets`. Where it is refused, nothing is written.
+/// What an answer tells; a dataField is left at the head of `octets`, and what stands behind it stays. Where it is refused,
+/// nothing is written.
 pub(crate) fn tell(outcome: &Outcome, octets: &mut [u8]) -> Result<Told, ReportRefusal>
     ensures refusal { MatchResult result
         (λ _. room_refusal (length octets.old) outcome.now ≡ None)
         (λ e. room_refusal (length octets.old) outcome.now ≡ Some e) }
     ensures told { IfOk result (λ t. t ≡ told_of outcome.now) }
     ensures octets { IfOk result (λ t. take (told_size t) octets.new ≡ told_octets outcome.now) }
+    ensures within { IfOk result (λ t. told_size t ≤ length octets.new) }
+    ensures behind { IfOk result
+        (λ t. drop (told_size t) octets.new ≡ drop (told_size t) octets.old) }
     ensures size { length octets.new ≡ length octets.old }
     ensures untouched { OnErr result (octets.new ≡ octets.old) }
 {

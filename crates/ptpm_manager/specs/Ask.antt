@@ -1,5 +1,6 @@
 -- What is asked of a session, and the request that it makes of it.
 use Rattle.std.specs.Prelude.{◌≡◌, ◌≤◌, ℕ, ◌&&◌, Bool, true, false, not, nat_le, List, [], ◌∷◌, Option, Some, None, if◌then◌else◌}
+use Rattle.ptpm_codec.specs.declared.message.Action.{Action}
 use Rattle.ptpm_codec.specs.Identity.{every_port}
 use Rattle.ptpm_codec.specs.Message.{is_reply, is_data_field, IsDataField, IsRequestAction}
 use Rattle.ptpm_data.specs.ManagementId.{is_of_port}
@@ -23,6 +24,10 @@ named_port (Some port) = port
 -- profile)
 unfoldable pub target_port : ℕ → Option ℕ → ℕ
 target_port id port = if is_of_port id then named_port port else every_port
+
+-- what is asked, by its parts
+abbrev pub ask_of : Action → ℕ → Option ℕ → List ℕ → Ask
+ask_of action id port octets = record { action = action; id = id; port = port; octets = octets }
 
 -- the request that is made of an ask
 abbrev pub request_of : Ask → RequestValue

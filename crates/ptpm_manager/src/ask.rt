@@ -3,7 +3,7 @@
 ghost use Rattle.std.specs.Prelude.{◌≡◌, ◌≢◌, None, Some, IfErr, IfOk, MatchResult};
 ghost use Rattle.ptpm_data.specs.ManagementId.{is_of_port};
 ghost use Rattle.ptpm_manager.specs.declared.error.BeginError.{BeginError};
-ghost use Rattle.ptpm_manager.specs.Ask.{ask_refusal, names_port, pending_request, request_of, target_port};
+ghost use Rattle.ptpm_manager.specs.Ask.{ask_of, ask_refusal, names_port, pending_request, request_of, target_port};
 ghost use Rattle.ptpm_manager.specs.Receiving.{is_content};
 
 use crate::error::BeginError;
@@ -36,40 +36,52 @@ pub(crate) struct Pending {
     pub(crate) octets: Octets,
 }
 
-impl Ask {
-    /// Judges an ask by itself, at a clock of this many ports.
-    #[tactic(auto, unfolding(crate::specs::Ask::ask_refusal))]
-    pub(crate) fn judge(&self, ports: u16) -> Result<(), BeginError>
-        ensures refusal { MatchResult result (λ _. ask_refusal ports self.now ≡ None)
-            (λ e. ask_refusal ports self.now ≡ Some e) }
-        ensures not_busy { IfErr result (λ e. e ≢ BeginError.Busy) }
-    {
-        if is_of_port(self.id) && !names_port(ports, self.port) {
-            return Err(BeginError::NeedsPort);
-        }
-        if self.action.is_reply() {
-            return Err(BeginError::NotPermitted);
-        }
-        if !is_data_field(self.octets.as_slice()) {
-            return Err(BeginError::BadValue);
-        }
-        Ok(())
+/// Judges what is asked by itself, at a clock of this many ports.
+#[tactic(auto, unfolding(crate::specs::Ask::ask_refusal))]
+pub(crate) fn judge(
+    ports: u16,
+    action: Action,
+    id: u16,
+    port: Option<u16>,
+    octets: &[u8],
+) -> Result<(), BeginError>
+    ensures refusal { MatchResult result
+        (λ _. ask_refusal ports (ask_of action id port octets.now) ≡ None)
+        (λ e. ask_refusal ports (ask_of action id port octets.now) ≡ Some e) }
+    ensures not_busy { IfErr result (λ e. e ≢ BeginError.Busy) }
+{
+    if is_of_port(id) && !names_port(ports, port) {
+        return Err(BeginError::NeedsPort);
     }
-
-    /// The request that is made of it, with octets of its own.
-    pub(crate) fn pending(&self, alloc: Global) -> Result<Pending, OutOfMemory>
-        ensures { IfOk result (λ p. pending_request p ≡ request_of self.now) }
-    {
-        Ok(Pending {
-            action: self.action,
-            id: self.id,
-            port: target_port(self.id, self.port),
-            octets: Octets::copy_of(alloc, self.octets.as_slice())?,
-        })
+    if action.is_reply() {
+        return Err(BeginError::NotPermitted);
     }
+    if !is_data_field(octets) {
+        return Err(BeginError::BadValue);
+    }
+    Ok(())
 }
 
 impl Pending {
+    /// The request that is made of what is asked, with octets of its own.
+    pub(crate) fn of(
+        alloc: Global,
+        action: Action,
+        id: u16,
+        port: Option<u16>,
+        octets: &[u8],
+    ) -> Result<Pending, OutOfMemory>
+        ensures { IfOk result
+            (λ p. pending_request p ≡ request_of (ask_of action id port octets.now)) }
+    {
+        Ok(Pending {
+            action,
+            id,
+            port: target_port(id, port),
+            octets: Octets::copy_of(alloc, octets)?,
+        })
+    }
+
     /// Whether a reply of this action and id is the answer.
     pub(crate) fn is_answered_by(&self, action: Action, id: u16) -> bool
         ensures { result ≡ is_content (Some (pending_request self.now)) action id }

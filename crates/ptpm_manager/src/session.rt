@@ -8,14 +8,14 @@ ghost use Rattle.ptpm_manager.specs.declared.error.BeginError.{BeginError};
 ghost use Rattle.ptpm_manager.specs.declared.error.SendError.{SendError};
 ghost use Rattle.ptpm_manager.specs.declared.receiving.Reason.{Reason};
 ghost use Rattle.ptpm_manager.specs.declared.receiving.Received.{Received};
-ghost use Rattle.ptpm_manager.specs.Ask.{IsRequestTo, request_of};
+ghost use Rattle.ptpm_manager.specs.Ask.{IsRequestTo, ask_of, request_of};
 
-use crate::ask::{Ask, Pending};
+use crate::ask::{Ask, Pending, judge};
 use crate::error::{BeginError, SendError};
 use crate::receiving::{Reason, Received, is_in_domain};
 use crate::report::{Report, outcome_in};
 use crate::setup::Setup;
-use ptpm_codec::{Buffer, ClockIdentity, OutOfMemory, PortIdentity, View, encode, view};
+use ptpm_codec::{Action, Buffer, ClockIdentity, OutOfMemory, PortIdentity, View, encode, view};
 use std::alloc::Global;
 use std::marker::Model;
 
@@ -108,7 +108,6 @@ impl Session {
 
     /// Begins a request, with all its attempts before it; the ask's octets are copied. The first reason that holds is why
     /// it is refused, and then the session stays as it was.
-    #[tactic(auto, unfolding(crate::specs::Session::begin_refusal))]
     pub fn begin(&mut self, ask: &Ask) -> Result<(), BeginError>
         ensures begun { OnOk result (self.new ≡ begun self.old (request_of ask.now)) }
         ensures permitted { OnOk result (begin_refusal self.old ask.now ≡ None) }
@@ -122,14 +121,45 @@ impl Session {
             (λ e. e ≢ BeginError.OutOfMemory → begin_refusal self.old ask.now ≡ Some e) }
         ensures unchanged { OnErr result (self.new ≡ self.old) }
     {
+        self.begin_with(ask.action, ask.id, ask.port, ask.octets.as_slice())
+    }
+
+    /// Does what `begin` does, of an ask by its parts, with the dataField lent. Memory is asked for a copy of it alone, and
+    /// only where nothing else refuses the request.
+    #[tactic(auto, unfolding(crate::specs::Session::begin_refusal))]
+    pub fn begin_with(
+        &mut self,
+        action: Action,
+        id: u16,
+        port: Option<u16>,
+        octets: &[u8],
+    ) -> Result<(), BeginError>
+        ensures begun { OnOk result
+            (self.new ≡ begun self.old (request_of (ask_of action id port octets.now))) }
+        ensures permitted { OnOk result
+            (begin_refusal self.old (ask_of action id port octets.now) ≡ None) }
+        ensures request { OnOk result
+            (IsRequestTo self.old.setup.ports
+            (request_of (ask_of action id port octets.now))) }
+        ensures counted { OnOk result (answered_count self.new ≡ answered_count self.old) }
+        ensures busy { IsErrOf result BeginError.Busy ↔ (is_waiting self.old ≡ true) }
+        ensures refused { (e : BeginError)
+            → begin_refusal self.old (ask_of action id port octets.now) ≡ Some e
+            → result ≡ Err e }
+        ensures no_other { IfErr result
+            (λ e.
+            e ≢ BeginError.OutOfMemory
+            → begin_refusal self.old (ask_of action id port octets.now) ≡ Some e) }
+        ensures unchanged { OnErr result (self.new ≡ self.old) }
+    {
         if let State::Waiting(_) = &self.state {
             return Err(BeginError::Busy);
         }
-        ask.judge(self.setup.ports)?;
+        judge(self.setup.ports, action, id, port, octets)?;
         if self.issued >= REQUESTS {
             return Err(BeginError::CountAtMaximum);
         }
-        match ask.pending(self.alloc) {
+        match Pending::of(self.alloc, action, id, port, octets) {
             Ok(pending) => {
                 self.issued += 1;
                 self.state = State::Waiting(pending);
