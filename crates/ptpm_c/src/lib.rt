@@ -109,11 +109,13 @@ pub extern "C" fn ptpm_clock_handle(
         → clock_held handle.old.keeping ≡ Some c
         → handle_refusal (has_port port c.agent.sets) (length sent.old) ≡ Some e
         → (result ≡ handle_number e)
-        × ((count.new ≡ 0) × (clock_held handle.new.keeping ≡ Some c)) }
+        × ((count.new ≡ 0)
+        × ((sent.new ≡ sent.old) × (clock_held handle.new.keeping ≡ Some c))) }
     ensures within { count.new ≤ length sent.new }
     ensures empty { clock_held handle.old.keeping ≡ None
         → (result ≡ no_clock)
-        × ((count.new ≡ 0) × (held handle.new.keeping ≡ held handle.old.keeping)) }
+        × ((count.new ≡ 0)
+        × ((sent.new ≡ sent.old) × (held handle.new.keeping ≡ held handle.old.keeping))) }
 {
     *count = 0;
     let Some((kept, mut clock)) = handle.take_clock(alloc) else {
