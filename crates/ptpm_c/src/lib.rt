@@ -3,6 +3,7 @@
 #![tactic(auto)]
 
 ghost use Rattle.std.specs.Prelude.{◌≡◌, ◌≢◌, ◌≤◌, IfNone, IfSome, IsSomeAnd, None, Ok, Some, drop, length, take};
+ghost use Rattle.std.specs.List.{AllZip};
 ghost use Rattle.ptpm_data.specs.DataField.{data_field_of_id};
 ghost use Rattle.ptpm_data.specs.Members.{has_port};
 ghost use Rattle.ptpm_data.specs.Start.{default_clock, default_port};
@@ -10,7 +11,7 @@ ghost use Rattle.ptpm_host.specs.declared.clock.HostedClock.{HostedClock};
 ghost use Rattle.ptpm_host.specs.declared.refusal.HandleRefusal.{HandleRefusal};
 ghost use Rattle.ptpm_host.specs.declared.refusal.ReadRefusal.{ReadRefusal};
 ghost use Rattle.ptpm_host.specs.declared.refusal.StartRefusal.{StartRefusal};
-ghost use Rattle.ptpm_host.specs.Clock.{IsFreshClock, handle_refusal, messages_in, start_by, start_refusal};
+ghost use Rattle.ptpm_host.specs.Clock.{IsFreshClock, KeepsBehind, handle_refusal, messages_in, start_by, start_refusal};
 ghost use Rattle.ptpm_host.specs.Numbers.{handle_number, no_clock, no_memory, read_number, start_number};
 ghost use Rattle.ptpm_host.specs.Reading.{read_refusal};
 ghost use Rattle.ptpm_host.specs.Settings.{clock_start, default_identity, port_start};
@@ -89,8 +90,9 @@ pub extern "C" fn ptpm_clock_start(
 }
 
 /// What becomes of a datagram that comes in at a port: the number of the verdict, or of the refusal. The first `count`
-/// places of `sent` get what the clock sends. Takes no memory.
-#[tactic(auto, using(crate::proofs::Turns::turned_to))]
+/// places of `sent` get what the clock sends; the places behind them stay as they are, and so does what stands behind each
+/// message. Takes no memory.
+#[tactic(auto, using(crate::proofs::Turns::turned_to, ptpm_host::proofs::Behind::kept_at_first))]
 #[unsafe(no_mangle)]
 pub extern "C" fn ptpm_clock_handle(
     alloc: Global,
@@ -112,6 +114,8 @@ pub extern "C" fn ptpm_clock_handle(
         × ((count.new ≡ 0)
         × ((sent.new ≡ sent.old) × (clock_held handle.new.keeping ≡ Some c))) }
     ensures within { count.new ≤ length sent.new }
+    ensures places { drop count.new sent.new ≡ drop count.new sent.old }
+    ensures behind { AllZip KeepsBehind sent.old sent.new }
     ensures empty { clock_held handle.old.keeping ≡ None
         → (result ≡ no_clock)
         × ((count.new ≡ 0)

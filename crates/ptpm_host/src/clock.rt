@@ -1,11 +1,12 @@
 //! A clock with the messages that it sends, as a host keeps it.
 
-ghost use Rattle.std.specs.Prelude.{◌≡◌, ◌≢◌, ◌≤◌, Ok, None, Some, IfErr, IfOk, MatchResult, OnErr, OnOk, length, take};
+ghost use Rattle.std.specs.Prelude.{◌≡◌, ◌≢◌, ◌≤◌, Ok, None, Some, IfErr, IfOk, MatchResult, OnErr, OnOk, drop, length, take};
+ghost use Rattle.std.specs.List.{AllZip};
 ghost use Rattle.ptpm_data.specs.Members.{has_port};
 ghost use Rattle.ptpm_table.specs.Managers.{IsFresh};
 ghost use Rattle.ptpm_agent.specs.Agent.{IsTurned};
 ghost use Rattle.ptpm_agent.specs.Turn.{turn};
-ghost use Rattle.ptpm_host.specs.Clock.{clock_in, handle_refusal, messages_in, start_by, start_refusal, state_in};
+ghost use Rattle.ptpm_host.specs.Clock.{KeepsBehind, clock_in, handle_refusal, messages_in, start_by, start_refusal, state_in};
 ghost use Rattle.ptpm_host.specs.Settings.{configured};
 
 use crate::refusal::{HandleRefusal, StartRefusal};
@@ -82,7 +83,9 @@ impl HostedClock {
     }
 
     /// What becomes of a datagram that comes in at a port: one turn of the clock. What it sends is copied into the first
-    /// places of `room`. Where it is refused, nothing changes. Takes no memory.
+    /// places of `room`; the places behind them stay as they are, and so does what stands behind each message. Where it is
+    /// refused, nothing changes. Takes no memory.
+    #[tactic(auto, using(crate::proofs::Behind::kept_at_first))]
     pub fn handle(
         &mut self,
         port: u16,
@@ -96,6 +99,8 @@ impl HostedClock {
         ensures messages { IfOk result
             (λ h. messages_in (take h.count room.new) ≡ self.new.outbox) }
         ensures count { IfOk result (λ h. h.count ≤ length room.new) }
+        ensures places { IfOk result (λ h. drop h.count room.new ≡ drop h.count room.old) }
+        ensures behind { AllZip KeepsBehind room.old room.new }
         ensures refusal { MatchResult result
             (λ _. handle_refusal (has_port port self.old.agent.sets) (length room.old) ≡ None)
             (λ e. handle_refusal (has_port port self.old.agent.sets) (length room.old) ≡ Some e) }

@@ -1,8 +1,9 @@
 //! Messages as a host in C takes them over.
 
-ghost use Rattle.std.specs.Prelude.{◌≡◌, ◌≤◌, [], length, take};
+ghost use Rattle.std.specs.Prelude.{◌≡◌, ◌≤◌, [], drop, length, take};
+ghost use Rattle.std.specs.List.{AllZip};
 ghost use Rattle.ptpm_table.specs.Outbox.{sent};
-ghost use Rattle.ptpm_host.specs.Clock.{message_in, messages_in};
+ghost use Rattle.ptpm_host.specs.Clock.{KeepsBehind, message_in, messages_in};
 
 use ptpm_codec::Buffer;
 
@@ -33,7 +34,8 @@ impl Sent {
 
     /// Puts a message in place of the one that stands here.
     fn put(&mut self, port: u16, message: &Buffer)
-        ensures { message_in self.new ≡ (port, message.now.items) }
+        ensures message { message_in self.new ≡ (port, message.now.items) }
+        ensures behind { KeepsBehind self.old self.new }
     {
         let octets = message.as_slice();
         self.port = port;
@@ -42,10 +44,14 @@ impl Sent {
     }
 }
 
-/// Copies messages into the first places.
+/// Copies messages into the first places. The places behind them stay as they are, and so does what stands behind each
+/// message.
+#[tactic(auto, using(crate::proofs::Behind::kept_at_first, crate::proofs::Behind::kept_at_write))]
 pub fn hand_out(messages: &[(u16, Buffer)], room: &mut [Sent])
     requires room { length messages.now ≤ length room.old }
     ensures messages { messages_in (take (length messages.now) room.new) ≡ sent messages.now }
+    ensures places { drop (length messages.now) room.new ≡ drop (length messages.now) room.old }
+    ensures behind { AllZip KeepsBehind room.old room.new }
     ensures size { length room.new ≡ length room.old }
 {
     for place in 0..messages.len() {
