@@ -32,16 +32,24 @@ pub enum DraftBody<'a> {
     },
 }
 
-/// A message whose octets are lent. Contracts see it as the `Message` of the same fields.
+/// A message whose octets are lent, to be encoded where it is `valid`. Contracts see it as the `Message` of the same fields.
 #[derive(Debug, Drop)]
 pub struct Draft<'a> {
+    /// sdoId, of twelve bits: 0xFFF at most.
     pub sdo: u16,
+    /// domainNumber.
     pub domain: u8,
+    /// sourcePortIdentity.
     pub source: PortIdentity,
+    /// sequenceId.
     pub number: u16,
+    /// targetPortIdentity; all ones is every clock, and 0xFFFF every port.
     pub target: PortIdentity,
+    /// startingBoundaryHops.
     pub starting_hops: u8,
+    /// boundaryHops.
     pub hops: u8,
+    /// An even number of octets, 1,418 at most, or a text of 255 at most; its action suits the variant.
     pub body: DraftBody<'a>,
 }
 

@@ -24,8 +24,8 @@ pub type Buffer = ArrayVec<u8, MESSAGE_OCTETS>;
 /// Room for what stands before the dataField or the displayData: it is put together here, and appended in one piece.
 type Head = ArrayVec<u8, 60>;
 
-/// Leaves the canonical spelling of the draft in the buffer, and nothing else. Free octets are sent as this project's
-/// profile has them: minorVersionPTP 1, controlField 0x04, logMessageInterval 0x7F, all others 0; an empty text has no
+/// Leaves the canonical spelling of a valid draft in the buffer, and nothing else: 54 to 1,472 octets. Free octets are sent
+/// as this project's profile has them: minorVersionPTP 1, controlField 0x04, logMessageInterval 0x7F, all others 0; an empty text has no
 /// displayData. Takes no memory.
 pub fn encode(draft: &Draft<'_>, buffer: &mut Buffer)
     requires { IsValid draft.now }

@@ -7,7 +7,8 @@ ghost use Rattle.ptpm_codec.specs.PtpText.{is_ptp_text, ptp_text, ptp_text_octet
 use crate::buffers::put;
 use arrayvec::ArrayVec;
 
-/// Appends a text as a PTPText.
+/// Appends a text of at most 255 octets as a PTPText, to a buffer that has room for it: one octet more than the text, rounded
+/// up to an even number. The octets of the text are not judged. Takes no memory.
 #[tactic(auto, unfolding(crate::specs::PtpText::ptp_text_octets))]
 pub fn put_ptp_text<const N: usize>(buffer: &mut ArrayVec<u8, N>, text: &[u8])
     requires small { length text.now ≤ 255 }

@@ -39,11 +39,18 @@ pub struct CurrentDataSet {
 /// parentDS (8.2.3).
 #[derive(Clone, Copy, Debug, PartialEq, Eq)]
 pub struct ParentDataSet {
+    /// parentPortIdentity: the port of the master that the clock is synchronized to; port 0 of the clock itself where it is
+    /// its own grandmaster.
     pub parent_port: PortIdentity,
+    /// Whether the two observed members are measured values.
     pub parent_stats: bool,
+    /// observedParentOffsetScaledLogVariance (7.6.3): log2 of a variance in seconds squared, times 2^8, plus 0x8000; 0xFFFF
+    /// where it was not computed.
     pub observed_variance: u16,
+    /// observedParentClockPhaseChangeRate: seconds a second, times 2^40; 0x7FFFFFFF where it was not computed.
     pub observed_rate: i32,
     pub grandmaster: ClockIdentity,
+    /// grandmasterPriority1 and 2, and grandmasterClockQuality.
     pub precedence: ClockPrecedence,
 }
 
@@ -65,13 +72,18 @@ pub struct TimePropertiesDataSet {
 #[derive(Clone, Copy, Debug, PartialEq, Eq)]
 pub struct PortDataSet {
     pub state: PortState,
+    /// logMinDelayReqInterval, log2 of seconds.
     pub log_min_delay_req: i8,
-    /// A TimeInterval, in nanoseconds times 2^16.
+    /// meanLinkDelay: a TimeInterval, in nanoseconds times 2^16.
     pub peer_delay: i64,
+    /// logAnnounceInterval, log2 of seconds: -4 to 4 (this project's profile).
     pub log_announce: i8,
+    /// announceReceiptTimeout, in announce intervals: 2 to 10 (this project's profile).
     pub receipt_timeout: u8,
+    /// logSyncInterval, log2 of seconds: -8 to 1 (this project's profile).
     pub log_sync: i8,
     pub delay_mechanism: DelayMechanism,
+    /// logMinPdelayReqInterval, log2 of seconds: -8 to 5 (this project's profile).
     pub log_min_pdelay: i8,
 }
 

@@ -61,23 +61,24 @@ pub struct ClockStart {
     pub time_source: u8,
 }
 
-/// The start values of a port.
+/// The start values of a port. Intervals are log2 of seconds.
 #[derive(Clone, Copy, Debug, PartialEq, Eq)]
 pub struct PortStart {
-    /// portState, 1 to 9.
+    /// portState, 1 to 9 (8.2.15.3.1).
     pub state: u8,
+    /// logMinDelayReqInterval, log2 of seconds, of any value.
     pub log_min_delay_req: i8,
-    /// A TimeInterval, in nanoseconds times 2^16.
+    /// meanLinkDelay: a TimeInterval, in nanoseconds times 2^16.
     pub peer_delay: i64,
-    /// logAnnounceInterval, -4 to 4.
+    /// logAnnounceInterval, log2 of seconds, -4 to 4: announce messages 16 a second to one in 16 seconds.
     pub log_announce: i8,
-    /// announceReceiptTimeout, 2 to 10.
+    /// announceReceiptTimeout, 2 to 10 announce intervals.
     pub receipt_timeout: u8,
-    /// logSyncInterval, -8 to 1.
+    /// logSyncInterval, log2 of seconds, -8 to 1: sync messages 256 a second to one in 2 seconds.
     pub log_sync: i8,
-    /// delayMechanism, 1, 2 or 0xFE.
+    /// delayMechanism: 1 is end-to-end, 2 peer-to-peer, 0xFE none.
     pub delay_mechanism: u8,
-    /// logMinPdelayReqInterval, -8 to 5.
+    /// logMinPdelayReqInterval, log2 of seconds, -8 to 5.
     pub log_min_pdelay: i8,
 }
 

@@ -57,8 +57,10 @@ impl Session {
     ghost use Rattle.ptpm_manager.specs.Session.{answered_count, begin_refusal, begun, count_limit, due_message, fresh, is_waiting, resumed, retuned, send_refusal, sent};
     ghost use Rattle.ptpm_manager.specs.Setup.{AreTwoClocks};
 
-    /// A session that has begun nothing. Its k-th request, counted from 1, has sequence number (first + k - 1) mod 65,536;
-    /// each has `hops` in both hop fields, and may be sent `attempts` times. Takes no memory.
+    /// A session of `me` that has begun nothing, with a target of one to eight ports, in a domain. Neither clock is all ones,
+    /// and they are two. The k-th request, counted from 1, has sequence number (first + k - 1) mod 65,536; each has `hops` in
+    /// both hop fields, and may be sent `attempts` times, 0 to 255. Takes no memory: `alloc` is kept for the octets of
+    /// requests and answers.
     pub fn new(
         alloc: Global,
         me: PortIdentity,

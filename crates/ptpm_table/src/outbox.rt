@@ -61,7 +61,7 @@ impl Outbox {
         self.count = 0;
     }
 
-    /// Appends a copy of these octets for a port.
+    /// Appends a copy of these octets, at most 1,472, for a port, where the outbox has fewer than fifteen messages.
     pub fn push(&mut self, port: u16, octets: &[u8])
         requires room { length self.old < 15 }
         requires small { length octets.now ≤ MESSAGE_OCTETS }
