@@ -149,9 +149,10 @@ impl<R: Read + Drop> Lines<R> {
         next_octet(&mut self.reader)
     }
 
-    /// Whether the next line, its end too, is at hand, so that reading it waits for nothing.
+    /// Whether the next line, its end too, is at hand, or so many octets that it is too long: reading it waits for nothing.
     pub(crate) fn has_next(&self) -> bool {
-        self.reader.buffer().contains(&b'\n')
+        let ahead = self.reader.buffer();
+        ahead.len() > LINE_OCTETS || ahead.contains(&b'\n')
     }
 
     /// The line that was read last, without its end.
