@@ -17,11 +17,8 @@ struct PieceReader<'a> {
 
 impl Read for PieceReader<'_> {
     fn read(&mut self, buffer: &mut [u8]) -> io::Result<usize> {
+        let piece = self.pieces.get(self.noted.len()).copied().unwrap_or("");
         self.noted.push(self.shown.get())?;
-        let Some((piece, rest)) = self.pieces.split_first() else {
-            return Ok(0);
-        };
-        self.pieces = rest;
         let octets = piece.as_bytes();
         let Some(place) = buffer.get_mut(..octets.len()) else {
             return Ok(0);
