@@ -19,8 +19,8 @@
      1,800, ptpm_clock_handle 1,000, every other call 500; and beyond that what malloc, realloc, free, memcpy, memmove and memset
      of the host take. No call calls itself.
 
-   Where several refusals hold, a call answers the first. Want of memory can come in place of it, in a call that takes
-   memory. */
+   Where several refusals hold, a call answers the first. Want of memory can come in place of it in ptpm_clock_start alone; every
+   other call asks for memory where nothing else refuses. */
 #ifndef PTPM_H
 #define PTPM_H
 
@@ -183,7 +183,7 @@ enum {
        than PTPM_MOST_OCTETS (ptpm_session_send, ptpm_survey_send), or than the dataField that is told has
        (ptpm_session_report, ptpm_survey_answer) */
     PTPM_NO_ROOM,
-    PTPM_NO_MEMORY,                     /* it can come in place of the refusal that holds first */
+    PTPM_NO_MEMORY,                     /* in ptpm_clock_start it can come in place of the refusal that holds first */
     PTPM_NOT_READABLE,                  /* the id is not in the table, or permits no GET */
     PTPM_NO_SESSION,                    /* the handle holds none */
     PTPM_BUSY,                          /* a request is not answered yet */
@@ -197,8 +197,8 @@ enum {
     PTPM_NO_SURVEY,                     /* the handle holds none */
     /* why a clock does not start, the first that holds, or PTPM_NO_MEMORY */
     PTPM_NO_PORTS = 48, PTPM_TOO_MANY_PORTS, PTPM_GRANDMASTER_DIFFERS, PTPM_TOO_MANY_MANAGERS, PTPM_MANAGER_TWICE,
-    /* why a session does not start, the first that holds, or PTPM_NO_MEMORY; PTPM_NO_PORTS and PTPM_TOO_MANY_PORTS too, behind
-       these. A survey: the first of these alone, or PTPM_NO_MEMORY */
+    /* why a session does not start, the first that holds; PTPM_NO_PORTS and PTPM_TOO_MANY_PORTS too, behind these. A survey: the
+       first of these alone. PTPM_NO_MEMORY where none of them holds */
     PTPM_MANAGER_IS_EVERY, PTPM_TARGET_IS_EVERY, PTPM_SAME_CLOCK,
     /* a member is out of its range */
     PTPM_BAD_IDENTITY = 64, PTPM_BAD_DOMAIN, PTPM_BAD_USER_DESCRIPTION, PTPM_BAD_TWO_STEP, PTPM_BAD_PRIORITY1,
