@@ -1,16 +1,15 @@
--- The clock of `ptpm answer` as the definitions of a turn see it.
+-- The clock of `ptpm answer` as the definitions of a turn see it: by what its table of sixteen slots shows of itself.
+use denote.Param.{number}
+use Rattle.ptpm_agent.specs.Agent.{clock_of, state_of}
 use Rattle.ptpm_agent.specs.declared.agent.Agent.{Agent}
 use Rattle.ptpm_agent.specs.Turn.{Clock, State}
-use Rattle.ptpm_codec.specs.Identity.{identity_cmp}
+use Rattle.ptpm_table.specs.contracts.slot_table.SlotTableReplyTable.TheImpl.{ghosts}
 use Rattle.ptpm_table.specs.declared.slot_table.SlotTable.{SlotTable}
-use Rattle.ptpm_table.specs.Managers.{clock_with}
-use Rattle.ptpm_table.specs.Slots.{configured, used}
-use Rattle.std.specs.FinMap.{from_entries}
 
--- its identity, and its managers with their rights
+-- its identity, and its managers with their rights: `ReplyTable`'s owner
 abbrev pub clock_shown : Agent (SlotTable 16) → Clock
-clock_shown a = clock_with a.table.clock (configured a.table.slots.items)
+clock_shown a = clock_of (ghosts (number 16)).owner a
 
--- its data sets, and what it keeps of its managers
+-- its data sets, and what it keeps of its managers: `ReplyTable`'s entries
 abbrev pub state_shown : Agent (SlotTable 16) → State
-state_shown a = record { sets = a.sets; entries = from_entries {R = identity_cmp} (used a.table.slots.items) }
+state_shown a = state_of (ghosts (number 16)).entries a
