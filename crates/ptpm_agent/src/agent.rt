@@ -92,10 +92,10 @@ impl<T: ReplyTable + Drop> Agent<T> {
                 return Ok(Verdict::Malformed(cause));
             }
         };
-        let verdict = self.judge(&message);
+        let (verdict, rights) = self.judge(&message);
         match verdict {
             Verdict::AnsweredNew => {
-                let reply = self.try_accept(&message)?;
+                let reply = self.try_accept(&message, rights)?;
                 self.send(&reply, ingress, &message, out);
             }
             _ => self.answer(verdict, ingress, datagram, &message, out),
@@ -103,40 +103,44 @@ impl<T: ReplyTable + Drop> Agent<T> {
         Ok(verdict)
     }
 
-    /// The verdict on a message.
+    /// The verdict on a message, and the rights of its source where it is a new request.
     #[tactic(auto, unfolding(crate::specs::Turn::judged))]
-    fn judge(&self, message: &View<'_>) -> Verdict
-        ensures verdict { result ≡ judged
+    fn judge(&self, message: &View<'_>) -> (Verdict, Rights)
+        ensures verdict { result.0 ≡ judged
             (clock_of T.owner self.now) (state_of T.entries self.now) message.now }
-        ensures repeat { result ≡ Verdict.AnsweredRepeat →
+        ensures repeat { result.0 ≡ Verdict.AnsweredRepeat →
             CanResend (T.entries self.now.table) message.now.source message.now.number }
+        ensures rights { result.0 ≡ Verdict.AnsweredNew →
+            result.1 ≡ (clock_of T.owner self.now).rights message.now.source }
     {
         if message.sdo() != 0 {
-            return Verdict::OtherDomain;
+            return (Verdict::OtherDomain, Rights::NONE);
         }
         if message.domain() != self.sets.domain() {
             return if self.is_accepted_repeat(message) {
-                Verdict::AnsweredRepeat
+                (Verdict::AnsweredRepeat, Rights::NONE)
             } else {
-                Verdict::OtherDomain
+                (Verdict::OtherDomain, Rights::NONE)
             };
         }
         if message.source().clock == self.table.clock() {
-            return Verdict::OwnMessage;
+            return (Verdict::OwnMessage, Rights::NONE);
         }
         if !self.is_addressed(message) {
-            return Verdict::NotAddressed;
+            return (Verdict::NotAddressed, Rights::NONE);
         }
         if message.action().is_reply() {
-            return Verdict::NotARequest;
+            return (Verdict::NotARequest, Rights::NONE);
         }
-        match self.look(message) {
+        let (look, rights) = self.look(message);
+        let verdict = match look {
             Look::Unknown => Verdict::AnsweredUnnumbered,
             Look::New => Verdict::AnsweredNew,
             Look::Repeat => Verdict::AnsweredRepeat,
             Look::Conflict => Verdict::DroppedConflict,
             Look::Old => Verdict::DroppedOld,
-        }
+        };
+        (verdict, rights)
     }
 
     /// Whether it is the latest accepted request of its manager once more.
@@ -149,7 +153,7 @@ impl<T: ReplyTable + Drop> Agent<T> {
         message.source().clock != self.table.clock()
             && self.is_addressed(message)
             && !message.action().is_reply()
-            && self.look(message) == Look::Repeat
+            && self.look(message).0 == Look::Repeat
     }
 
     /// Whether it is for this clock or every clock, at a port that the clock has.
@@ -161,19 +165,21 @@ impl<T: ReplyTable + Drop> Agent<T> {
             && (target.port == PortIdentity::EVERY_PORT || self.sets.has_port(target.port))
     }
 
-    /// What a numbered request is to the table; unknown is any other.
+    /// What a numbered request is to the table, with the rights of its manager; unknown is any other.
     #[inline(always)]
-    fn look(&self, message: &View<'_>) -> Look
-        ensures look { result ≡ look
+    fn look(&self, message: &View<'_>) -> (Look, Rights)
+        ensures look { result.0 ≡ look
             (clock_of T.owner self.now) (state_of T.entries self.now) message.now }
-        ensures repeat { result ≡ Look.Repeat →
+        ensures repeat { result.0 ≡ Look.Repeat →
             CanResend (T.entries self.now.table) message.now.source message.now.number }
+        ensures rights { result.0 ≡ Look.New →
+            result.1 ≡ (clock_of T.owner self.now).rights message.now.source }
     {
         if message.target().clock != self.table.clock() {
-            return Look::Unknown;
+            return (Look::Unknown, Rights::NONE);
         }
         self.table
-            .look(&message.source(), message.number(), &request_of(message))
+            .look_with_rights(&message.source(), message.number(), &request_of(message))
     }
 
     /// Leaves in the outbox what is sent for a message that is not carried out, and nothing else.
@@ -258,10 +264,11 @@ impl<T: ReplyTable + Drop> Agent<T> {
     }
 
     /// Carries out a new request and keeps it with its reply. Where memory is refused, nothing changes.
-    fn try_accept(&mut self, message: &View<'_>) -> Result<Reply, OutOfMemory>
+    fn try_accept(&mut self, message: &View<'_>, rights: Rights) -> Result<Reply, OutOfMemory>
         requires new { judged
             (clock_of T.owner self.old) (state_of T.entries self.old) message.now
             ≡ Verdict.AnsweredNew }
+        requires rights { rights ≡ (clock_of T.owner self.old).rights message.now.source }
         requires valid { IsValid message.now }
         ensures reply { IfOk result (λ r. r ≡ new_reply
             (clock_of T.owner self.old) (state_of T.entries self.old) message.now) }
@@ -276,7 +283,7 @@ impl<T: ReplyTable + Drop> Agent<T> {
         let request = request_of(message);
         data_sets_law(&self.sets);
         let mut sets = self.sets.copy();
-        let reply = sets.decide(&request, self.table.rights(&source));
+        let reply = sets.decide(&request, rights);
         self.table
             .keep(&source, message.number(), &request, &reply)?;
         self.sets = sets;
@@ -331,9 +338,9 @@ impl<T: SureTable + Drop> Agent<T> {
                 return Verdict::Malformed(cause);
             }
         };
-        let verdict = self.judge(&message);
+        let (verdict, rights) = self.judge(&message);
         match verdict {
-            Verdict::AnsweredNew => self.accept(ingress, &message, out),
+            Verdict::AnsweredNew => self.accept(ingress, &message, rights, out),
             _ => self.answer(verdict, ingress, datagram, &message, out),
         }
         verdict
@@ -378,10 +385,11 @@ impl<T: SureTable + Drop> Agent<T> {
     }
 
     /// Carries out a new request, keeps it with its reply, and leaves the messages of the reply in the outbox, and nothing else.
-    fn accept(&mut self, ingress: u16, message: &View<'_>, out: &mut Outbox)
+    fn accept(&mut self, ingress: u16, message: &View<'_>, rights: Rights, out: &mut Outbox)
         requires new { judged
             (clock_of T.owner self.old) (state_of T.entries self.old) message.now
             ≡ Verdict.AnsweredNew }
+        requires rights { rights ≡ (clock_of T.owner self.old).rights message.now.source }
         requires valid { IsValid message.now }
         ensures accepted { state_of T.entries self.new ≡ carried_out
             (clock_of T.owner self.old) (state_of T.entries self.old) message.now }
@@ -394,7 +402,6 @@ impl<T: SureTable + Drop> Agent<T> {
         let heard = heard_of(message);
         let request = request_of(message);
         data_sets_law(&self.sets);
-        let rights = self.table.rights(&heard.source);
         self.sets.decide_into(&request, rights, &mut self.scratch);
         out.clear();
         self.table

@@ -57,6 +57,21 @@ pub trait ReplyTable {
             (fin.get (entries self.now) who.now) number request.now }
         ensures repeat { result ≡ Look.Repeat → CanResend (entries self.now) who.now number };
 
+    /// What `look` and `rights` answer. A table that finds its manager once for both has a body of its own.
+    fn look_with_rights(
+        &self,
+        who: &PortIdentity,
+        number: u16,
+        request: &Request<'_>,
+    ) -> (Look, Rights)
+        ensures look { result.0 ≡ look_of (is_known who.now (owner self.now).managers)
+            (fin.get (entries self.now) who.now) number request.now }
+        ensures repeat { result.0 ≡ Look.Repeat → CanResend (entries self.now) who.now number }
+        ensures rights { result.1 ≡ (owner self.now).rights who.now }
+    {
+        (self.look(who, number, request), self.rights(who))
+    }
+
     /// Puts number, request and reply in place of what is kept of the manager; of no other manager anything changes.
     /// Where memory is refused, nothing changes. The manager is known; the request is a GET, SET or COMMAND with an even number
     /// of octets, 1,418 at most; and the reply fits it: it has the answering action and the id, one answer without a port for

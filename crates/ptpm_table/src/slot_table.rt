@@ -234,14 +234,24 @@ impl<const SLOTS: usize> ReplyTable for SlotTable<SLOTS> {
     }
 
     fn look(&self, who: &PortIdentity, number: u16, request: &Request<'_>) -> Look {
+        self.look_with_rights(who, number, request).0
+    }
+
+    fn look_with_rights(
+        &self,
+        who: &PortIdentity,
+        number: u16,
+        request: &Request<'_>,
+    ) -> (Look, Rights) {
         match slot_at(self.slots.as_slice(), who) {
-            None => Look::Unknown,
+            None => (Look::Unknown, Rights::NONE),
             Some(slot) => {
-                if slot.taken {
+                let look = if slot.taken {
                     judge(slot.kept.number(), &slot.kept.request(), number, request)
                 } else {
                     Look::New
-                }
+                };
+                (look, slot.rights)
             }
         }
     }

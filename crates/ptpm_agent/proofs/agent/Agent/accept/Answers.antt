@@ -30,13 +30,13 @@ answer-requires-clause-action g c =
 pub answer-requires-clause-fits : goal.answer-requires-clause-fits
 answer-requires-clause-fits g c =
     let p = new_parts _ _ _ c.requires.new in
-    fits_numbered c.request_of-request.result c.rights-rights.result c.args.self.now.sets c.args.message.now c.decide_into.new.reply
+    fits_numbered c.request_of-request.result c.args.rights c.args.self.now.sets c.args.message.now c.decide_into.new.reply
     c.request_of-request.ensures c.data_sets_law.ensures.sized p.request p.port c.requires.valid c.decide_into.ensures.reply
 
 pub answer-requires-clause-room : goal.answer-requires-clause-room
 answer-requires-clause-room g c =
     let p = new_parts _ _ _ c.requires.new in
     let few = fitting_few c.request_of-request.result c.decide_into.new.reply
-    (fits_numbered c.request_of-request.result c.rights-rights.result c.args.self.now.sets c.args.message.now c.decide_into.new.reply
+    (fits_numbered c.request_of-request.result c.args.rights c.args.self.now.sets c.args.message.now c.decide_into.new.reply
     c.request_of-request.ensures c.data_sets_law.ensures.sized p.request p.port c.requires.valid c.decide_into.ensures.reply) in
     omega (arith, few, ap length c.clear.ensures)

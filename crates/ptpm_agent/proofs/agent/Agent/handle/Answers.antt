@@ -14,7 +14,7 @@ pub returns-in-AnsweredNew-clause-turned : goal.returns-in-AnsweredNew-clause-tu
 returns-in-AnsweredNew-clause-turned g c =
     let clock = g.T.ReplyTable.owner c.args.self.now.table in
     let state = state_of g.T.ReplyTable.entries c.args.self.now in
-    turned_new clock state c.args.ingress c.args.datagram.now c.in-Ok.message c.judge-verdict.result c.accept.new.out
+    turned_new clock state c.args.ingress c.args.datagram.now c.in-Ok.message c.judge-verdict.result.0 c.accept.new.out
     (state_of g.T.ReplyTable.entries c.accept.new.self)
     (sym c.view.ensures.exact ∙ c.in-Ok.is) c.judge-verdict.ensures.verdict c.in-AnsweredNew.is c.accept.ensures.sent c.accept.ensures.accepted
 
@@ -23,7 +23,7 @@ returns-in_default g c = record {
   turned =
       turned_other (g.T.ReplyTable.owner c.args.self.now.table)
       (state_of g.T.ReplyTable.entries c.args.self.now) c.args.ingress c.args.datagram.now c.in-Ok.message
-      c.judge-verdict.result c.answer.new.out (state_of g.T.ReplyTable.entries c.answer.new.self)
+      c.judge-verdict.result.0 c.answer.new.out (state_of g.T.ReplyTable.entries c.answer.new.self)
       (sym c.view.ensures.exact ∙ c.in-Ok.is) c.judge-verdict.ensures.verdict c.in_default.not-AnsweredNew c.answer.ensures.sent
       (λ i. record { sets = c.answer.ensures.sets i; entries = g.T.ReplyTable.entries (c.answer.ensures.table i) });
   clock =

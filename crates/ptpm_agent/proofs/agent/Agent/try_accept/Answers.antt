@@ -34,14 +34,14 @@ keep-requires-clause-action g c =
 pub keep-requires-clause-fits : goal.keep-requires-clause-fits
 keep-requires-clause-fits g c =
     let p = new_parts _ _ _ c.requires.new in
-    fits_numbered c.request_of-request.result c.rights.result c.args.self.now.sets c.args.message.now c.decide-reply.result
+    fits_numbered c.request_of-request.result c.args.rights c.args.self.now.sets c.args.message.now c.decide-reply.result
     c.request_of-request.ensures c.data_sets_law.ensures.sized p.request p.port c.requires.valid
-    (c.decide-reply.ensures.reply ∙ ap (reply_to c.request_of-request.result c.rights.result) c.copy-sets.ensures)
+    (c.decide-reply.ensures.reply ∙ ap (reply_to c.request_of-request.result c.args.rights) c.copy-sets.ensures)
 
 pub returns-clause-sendable : goal.returns-clause-sendable
 returns-clause-sendable g c =
     let p = new_parts _ _ _ c.requires.new in
     fitting_sendable c.request_of-request.result c.decide-reply.result
-    (fits_numbered c.request_of-request.result c.rights.result c.args.self.now.sets c.args.message.now c.decide-reply.result
+    (fits_numbered c.request_of-request.result c.args.rights c.args.self.now.sets c.args.message.now c.decide-reply.result
     c.request_of-request.ensures c.data_sets_law.ensures.sized p.request p.port c.requires.valid
-    (c.decide-reply.ensures.reply ∙ ap (reply_to c.request_of-request.result c.rights.result) c.copy-sets.ensures))
+    (c.decide-reply.ensures.reply ∙ ap (reply_to c.request_of-request.result c.args.rights) c.copy-sets.ensures))

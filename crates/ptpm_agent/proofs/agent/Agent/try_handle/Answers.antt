@@ -16,7 +16,7 @@ pub returns-in_ok-reply-in-AnsweredNew-clause-turned : goal.returns-in_ok-reply-
 returns-in_ok-reply-in-AnsweredNew-clause-turned g c =
     turned_new (g.T.ReplyTable.owner c.args.self.now.table)
     (state_of g.T.ReplyTable.entries c.args.self.now) c.args.ingress c.args.datagram.now c.in-Ok.message
-    c.judge-verdict.result c.send.new.out
+    c.judge-verdict.result.0 c.send.new.out
     (state_of g.T.ReplyTable.entries c.try_accept.new.self)
     (sym c.view.ensures.exact ∙ c.in-Ok.is) c.judge-verdict.ensures.verdict c.in-AnsweredNew.is
     (c.send.ensures ∙ (λ i. rendered (c.in_ok-reply-in-AnsweredNew.ensures.clock i).identity (heard_of c.in-Ok.message) (c.in_ok-reply-in-AnsweredNew.ensures.reply i) c.args.ingress))
@@ -27,7 +27,7 @@ returns-in_default g c = record {
   turned =
       turned_other (g.T.ReplyTable.owner c.args.self.now.table)
       (state_of g.T.ReplyTable.entries c.args.self.now) c.args.ingress c.args.datagram.now c.in-Ok.message
-      c.judge-verdict.result c.answer.new.out (state_of g.T.ReplyTable.entries c.answer.new.self)
+      c.judge-verdict.result.0 c.answer.new.out (state_of g.T.ReplyTable.entries c.answer.new.self)
       (sym c.view.ensures.exact ∙ c.in-Ok.is) c.judge-verdict.ensures.verdict c.in_default.not-AnsweredNew c.answer.ensures.sent
       (λ i. record { sets = c.answer.ensures.sets i; entries = g.T.ReplyTable.entries (c.answer.ensures.table i) });
   refused = tt;
@@ -42,4 +42,4 @@ returns-in_err-reply-in-AnsweredNew-clause-only_new g c =
     on_err _ _
     (verdict_new (g.T.ReplyTable.owner c.args.self.now.table)
     (state_of g.T.ReplyTable.entries c.args.self.now) c.args.datagram.now c.in-Ok.message
-    c.judge-verdict.result (sym c.view.ensures.exact ∙ c.in-Ok.is) c.judge-verdict.ensures.verdict c.in-AnsweredNew.is)
+    c.judge-verdict.result.0 (sym c.view.ensures.exact ∙ c.in-Ok.is) c.judge-verdict.ensures.verdict c.in-AnsweredNew.is)
