@@ -1,8 +1,8 @@
 /* PTP management (IEEE 1588-2019, clause 15) for a host in C. An agent: the data sets of one clock, and what becomes of each
    management message that comes in at its ports. And a session of a manager: one request at a time to one clock; such an
    agent carries it out once, however often it is sent. And a survey: one GET to every clock, and the first answer of each
-   port. The library opens no socket, reads no clock and starts no thread. Link libptpm_c.a, and liblibc_c.a of the toolchain,
-   whose heap.c calls malloc, realloc and free.
+   port. The library opens no socket, reads no clock and starts no thread. Link libptpm.a alone, which calls malloc, realloc
+   and free of the host. This file is C11, and C++17.
 
    What is proved of a call is proved of callers that keep to this:
 
@@ -24,9 +24,19 @@
 #ifndef PTPM_H
 #define PTPM_H
 
+#include <assert.h>
 #include <stdbool.h>
 #include <stddef.h>
 #include <stdint.h>
+
+#ifdef __cplusplus
+extern "C" {
+#endif
+
+/* The version of this file and of its library, as `ptpm --version` prints it; and the same as a number, 10,000 times the first
+   part, 100 times the second, and the third. */
+#define PTPM_VERSION "0.1.0"
+#define PTPM_VERSION_NUMBER 100
 
 /* A clock, about 58,000 octets behind one pointer. All zeros hold no clock: struct ptpm_clock clock = { 0 }; */
 struct ptpm_clock { void *at; bool live; };
@@ -144,12 +154,12 @@ struct ptpm_source {
     uint16_t port;
 };
 
-_Static_assert(sizeof(struct ptpm_clock) == 16 && sizeof(struct ptpm_clock_settings) == 216
-               && sizeof(struct ptpm_port_settings) == 16 && sizeof(struct ptpm_manager_settings) == 12
-               && sizeof(struct ptpm_sent) == 1476 && sizeof(struct ptpm_session) == 16
-               && sizeof(struct ptpm_session_settings) == 26 && sizeof(struct ptpm_survey) == 16
-               && sizeof(struct ptpm_survey_settings) == 16 && sizeof(struct ptpm_source) == 10,
-               "the library was made for other sizes");
+static_assert(sizeof(struct ptpm_clock) == 16 && sizeof(struct ptpm_clock_settings) == 216
+              && sizeof(struct ptpm_port_settings) == 16 && sizeof(struct ptpm_manager_settings) == 12
+              && sizeof(struct ptpm_sent) == 1476 && sizeof(struct ptpm_session) == 16
+              && sizeof(struct ptpm_session_settings) == 26 && sizeof(struct ptpm_survey) == 16
+              && sizeof(struct ptpm_survey_settings) == 16 && sizeof(struct ptpm_source) == 10,
+              "the library was made for other sizes");
 
 /* A clock sends at most so many messages for a datagram, and a dataField of its own has at most so many octets; a message
    has at most so many, its dataField included. */
@@ -297,5 +307,9 @@ uint32_t ptpm_survey_answer(struct ptpm_survey *survey, size_t place, struct ptp
 
 /* Ends the survey that the handle holds, if it holds one; the handle then holds none. */
 void ptpm_survey_stop(struct ptpm_survey *survey);
+
+#ifdef __cplusplus
+}
+#endif
 
 #endif
