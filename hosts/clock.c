@@ -6,6 +6,7 @@
    messages were dropped. */
 #define _GNU_SOURCE
 #include "common.h"
+#include "identity.h"
 #include "ptpm.h"
 #include <getopt.h>
 #include <stdio.h>
@@ -28,7 +29,7 @@ struct peer { struct sockaddr_un address; socklen_t size; };
 
 static const char words[] =
     "clock [-6] [-f] [-u PATH] [-m MANAGER]... [-d DOMAIN] [-n SECONDS] [-v] IDENTITY INTERFACE...\n"
-    "  IDENTITY        clockIdentity of the clock, sixteen hexadecimal digits in lower case\n"
+    "  IDENTITY        clockIdentity of the clock: aabbccfffeddee01, or aabbcc.fffe.ddee01\n"
     "  INTERFACE       its ports 1, 2 and on, eight at most; none with -u alone\n"
     "  -6              IPv6 in place of IPv4\n"
     "  -u PATH         a Unix socket for programs of this host, which counts as port 1\n"
@@ -47,9 +48,10 @@ _Noreturn void usage(void) {
 /* IDENTITY/PORT, with every right. */
 static struct ptpm_manager_settings read_manager(const char *text) {
     struct ptpm_manager_settings manager = { .rights = PTPM_CLOCK_SET | PTPM_PORT_SET | PTPM_PORT_COMMAND };
-    const char *rest = read_identity(text, manager.clock);
-    if (*rest != '/') usage();
-    manager.port = (uint16_t)read_number(rest + 1, 65535);
+    const char *rest = identity_at(text, manager.clock);
+    long port = rest == NULL ? -1 : port_behind(rest, 65535);
+    if (port < 0) usage();
+    manager.port = (uint16_t)port;
     return manager;
 }
 
@@ -151,7 +153,8 @@ int main(int argc, char **argv) {
         else if (option == 'h') return fputs(words, stdout) < 0;
         else usage();
     }
-    if (optind >= argc || argc - optind > PORTS + 1 || *read_identity(argv[optind], settings.identity) != '\0') usage();
+    const char *rest = optind < argc ? identity_at(argv[optind], settings.identity) : NULL;
+    if (rest == NULL || *rest != '\0' || argc - optind > PORTS + 1) usage();
     catch_signals();
     sigaction(SIGUSR1, &on_ask, NULL);
     for (int i = optind + 1; i < argc; i++) port_sockets[port_count++] = open_udp(argv[i], is_six);

@@ -40,22 +40,16 @@ long read_number(const char *text, long most) {
 static int digit(char c) {
     if (c >= '0' && c <= '9') return c - '0';
     if (c >= 'a' && c <= 'f') return c - 'a' + 10;
+    if (c >= 'A' && c <= 'F') return c - 'A' + 10;
     return -1;
 }
 
 size_t read_octets(const char **text, uint8_t *octets, size_t most) {
     size_t count = 0;
-    for (; count < most && digit(**text) >= 0; count++, *text += 2) {
-        int low = digit((*text)[1]);
-        if (low < 0) usage();
-        octets[count] = (uint8_t)(digit(**text) * 16 + low);
+    for (; count < most && digit((*text)[0]) >= 0 && digit((*text)[1]) >= 0; count++, *text += 2) {
+        octets[count] = (uint8_t)(digit((*text)[0]) * 16 + digit((*text)[1]));
     }
     return count;
-}
-
-const char *read_identity(const char *text, uint8_t identity[8]) {
-    if (read_octets(&text, identity, 8) != 8) usage();
-    return text;
 }
 
 static void stop(int number) { stopped = number; }

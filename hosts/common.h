@@ -1,4 +1,4 @@
-/* What clock.c and manage.c share: the words of a command line, signals, time, and the sockets of a port. */
+/* What the programs of a clock and of a manager share: the words of a command line, signals, time, and the sockets of a port. */
 #ifndef COMMON_H
 #define COMMON_H
 
@@ -20,11 +20,8 @@ long decimal(const char *text, long most);
 /* The same, or `usage`. */
 long read_number(const char *text, long most);
 
-/* Two hexadecimal digits in lower case an octet, as many as there are up to `most`; how many octets they are. */
+/* Two hexadecimal digits in either case an octet, as many as there are up to `most`; how many octets they are. */
 size_t read_octets(const char **text, uint8_t *octets, size_t most);
-
-/* A clockIdentity of sixteen such digits, or `usage`; the rest of the text. */
-const char *read_identity(const char *text, uint8_t identity[8]);
 
 /* The signal that asks the program to end, SIGHUP, SIGINT or SIGTERM; 0 before it. */
 extern volatile sig_atomic_t stopped;

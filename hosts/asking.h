@@ -1,0 +1,18 @@
+/* A task, carried out by a session or a survey of the library. */
+#ifndef ASKING_H
+#define ASKING_H
+
+#include "task.h"
+
+/* The status with which the program ends. */
+enum status { ANSWERED = 0, REFUSED = 1, NOT_ASKED = 2, NOT_ANSWERED = 3, NOT_WRITTEN = 4, BY_SIGNAL = 128 };
+
+/* Makes the task's request so many times as it says, one behind the other, each sent until it is answered or its attempts are
+   used, and prints what each answer tells; the program's status. */
+int ask_clock(const struct task *task);
+
+/* Asks every clock and every port until two times bring no new answer, or the attempts are used, and prints what each answer
+   tells behind the port that gave it; the program's status. */
+int ask_every_clock(const struct task *task);
+
+#endif

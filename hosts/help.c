@@ -1,0 +1,68 @@
+#include "help.h"
+#include "names.h"
+#include <stdio.h>
+#include <stdlib.h>
+#include <string.h>
+
+enum { WIDTH = 98 };        /* columns */
+
+static const char text[] =
+    "ptpm-manage [OPTION].. --target IDENTITY[-PORT] get ID\n"
+    "ptpm-manage [OPTION].. --target IDENTITY[-PORT] set ID VALUE\n"
+    "ptpm-manage [OPTION].. --target IDENTITY[-PORT] command ID\n"
+    "ptpm-manage [OPTION].. survey ID\n"
+    "\n"
+    "Asks a PTP clock for a data set, sets a value, or has a command carried out, and prints what the\n"
+    "clock answers. The request is sent again until it is answered. survey asks every clock and port.\n"
+    "\n"
+    "The way to the clock:\n"
+    "  -i, --interface NAME    over UDP at this interface, to every clock there, with IPv4\n"
+    "      --ipv6              with IPv6\n"
+    "      --udp ADDRESS       over UDP to this address, also without --interface\n"
+    "  -u, --unix PATH         at a Unix socket, as /var/run/ptp4l\n"
+    "\n"
+    "What is asked of whom:\n"
+    "  -T, --target IDENTITY   the clock, as aabbccfffeddee01 or aabbcc.fffe.ddee01, and behind it its\n"
+    "                          port, as /1 or -1, for an id of a port\n"
+    "  -p, --port PORT         the clock's port, named apart\n"
+    "  -d, --domain N          domainNumber, 0 to 255 (0)\n"
+    "  -b, --hops N            how many boundary clocks pass the request on, 0 to 255 (1)\n"
+    "  -x, --hexadecimal       VALUE and answers are octets of the dataField in hexadecimal\n"
+    "      --text              VALUE is a text, for USER_DESCRIPTION\n"
+    "\n"
+    "Who asks, and how often:\n"
+    "  -m, --manager ID-PORT   the manager's own identity and port; else that of the interface, at\n"
+    "                          port 1, and at a Unix socket clock 0 and this process\n"
+    "  -k, --numbers FILE      keeps the number of the next request; else numbers begin at 0, which a\n"
+    "                          clock may take for old\n"
+    "  -a, --attempts N        how often a request is sent at most, 1 to 255 (30)\n"
+    "  -t, --timeout MILLIS    how long each answer is waited for, in milliseconds (200)\n"
+    "  -n, --times N           makes the request so many times, for trials (1)\n"
+    "  -q, --quiet             shows no progress, as where standard error is no terminal\n"
+    "  -h, --help              this text\n"
+    "\n";
+
+static const char end[] =
+    "Exit status: 0 answered; 1 the clock refuses; 2 nothing was asked or sent; 3 no answer came;\n"
+    "4 the answer could not be printed; 128 and its number where a signal ended it.\n";
+
+/* The names of all ids, in their order. */
+static void print_ids(void) {
+    int column = WIDTH;
+    for (unsigned id = 0; id <= UINT16_MAX; id++) {
+        const char *name = id_name((uint16_t)id);
+        if (name == NULL) continue;
+        int size = (int)strlen(name) + 1;
+        if (column + size > WIDTH) column = printf("\n ") - 1;
+        column += size;
+        printf(" %s", name);
+    }
+}
+
+_Noreturn void help(void) {
+    fputs(text, stdout);
+    printf("ID, in either case, or four hexadecimal digits:");
+    print_ids();
+    printf("\n\n%s", end);
+    exit(fflush(stdout) == 0 ? 0 : 4);
+}

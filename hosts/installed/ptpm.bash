@@ -1,0 +1,61 @@
+# Completion of ptpm, ptpm-manage and ptpm-clock for bash. The programs themselves say what there is: options by --help, and the
+# names of the management ids by `ptpm ids`.
+
+# The options that the words given have in their help.
+_ptpm_options() {
+    "$@" --help 2>&1 < /dev/null | grep -oE -- '(^|[][ ,|])--?[a-zA-Z0-9][a-z0-9-]*' | grep -oE -- '--?[a-zA-Z0-9].*' | sort -u
+}
+
+# Whether in the help of the program $1 the option $2 has a word in capitals behind it: then what stands at the cursor is that.
+_ptpm_takes() { [[ $2 = -* ]] && "$1" --help 2>&1 < /dev/null | grep -qE -- "(^|[][ ,|])$2(, --[a-z0-9-]+)? <?[A-Z]"; }
+
+_ptpm_ids() { ptpm ids 2> /dev/null | cut -d ' ' -f 2; }
+
+# Offers those of the words that begin as the word at the cursor does, or as it does in capitals.
+_ptpm_offer() {
+    local word=${COMP_WORDS[COMP_CWORD]}
+    mapfile -t COMPREPLY < <(compgen -W "$1" -- "$word")
+    [[ ${#COMPREPLY[@]} -gt 0 ]] || mapfile -t COMPREPLY < <(compgen -W "$1" -- "${word^^}")
+}
+
+# Of the words before the cursor the last that is one of those given.
+_ptpm_last() {
+    local k
+    for ((k = COMP_CWORD - 1; k > 0; k--)); do
+        [[ " $1 " != *" ${COMP_WORDS[k]} "* ]] || { echo "${COMP_WORDS[k]}"; return; }
+    done
+}
+
+_ptpm() {
+    local before=${COMP_WORDS[COMP_CWORD - 1]} commands="answer show ids make run" command
+    command=$(_ptpm_last "$commands")
+    case $command,$before,${COMP_WORDS[COMP_CWORD]} in
+    ,*) _ptpm_offer "$commands --help --version" ;;
+    *,*,-*) _ptpm_offer "$(_ptpm_options ptpm "$command")" ;;
+    make,make,*) _ptpm_offer "get set command" ;;
+    make,get,* | make,set,* | make,command,*) _ptpm_offer "$(_ptpm_ids)" ;;
+    esac
+}
+
+_ptpm_manage() {
+    local before=${COMP_WORDS[COMP_CWORD - 1]} actions="get set command survey"
+    case $before,${COMP_WORDS[COMP_CWORD]} in
+    *,-*) _ptpm_offer "$(_ptpm_options ptpm-manage)" ;;
+    get,* | set,* | command,* | survey,*) _ptpm_offer "$(_ptpm_ids)" ;;
+    -i,* | --interface,*) _ptpm_offer "$(cd /sys/class/net && echo *)" ;;
+    *) _ptpm_takes ptpm-manage "$before" || [[ -n $(_ptpm_last "$actions") ]] || _ptpm_offer "$actions" ;;
+    esac
+}
+
+# What is no option is an interface, but for the first, the clock's identity.
+_ptpm_clock() {
+    case ${COMP_WORDS[COMP_CWORD]} in
+    -*) _ptpm_offer "$(_ptpm_options ptpm-clock)" ;;
+    *) _ptpm_takes ptpm-clock "${COMP_WORDS[COMP_CWORD - 1]}" || _ptpm_offer "$(cd /sys/class/net && echo *)" ;;
+    esac
+}
+
+# Where none is offered the words are paths.
+complete -o default -F _ptpm ptpm
+complete -o default -F _ptpm_manage ptpm-manage
+complete -o default -F _ptpm_clock ptpm-clock

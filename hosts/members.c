@@ -1,0 +1,215 @@
+#define _GNU_SOURCE
+#include "members.h"
+#include "common.h"
+#include "identity.h"
+#include "names.h"
+#include "text.h"
+#include <stdio.h>
+#include <string.h>
+#include <strings.h>
+
+/* How a member stands in its octets, and how it is printed. */
+enum kind { UNSIGNED, HEXADECIMAL, SIGNED, FLAG, VERSION, INTERVAL, CLOCK, PORT, STATE, MECHANISM, TEXT };
+
+struct member { const char *name; enum kind kind; uint8_t at, size, mask; };
+
+enum { MOST_MEMBERS = 10, NO_VALUE = 256 };
+
+/* The dataField of an id: its size, 0 for that of a text, and its members. */
+struct field { const char *id; uint8_t size; struct member members[MOST_MEMBERS]; };
+
+struct word { uint8_t number; const char *text; };
+
+static const struct field fields[] = {
+    { "USER_DESCRIPTION", 0, { { "userDescription", TEXT, 0, 0, 0 } } },
+    { "DEFAULT_DATA_SET", 20, {
+        { "twoStepFlag", FLAG, 0, 1, 1 }, { "slaveOnly", FLAG, 0, 1, 2 }, { "numberPorts", UNSIGNED, 2, 2, 0 },
+        { "priority1", UNSIGNED, 4, 1, 0 }, { "clockQuality.clockClass", UNSIGNED, 5, 1, 0 },
+        { "clockQuality.clockAccuracy", HEXADECIMAL, 6, 1, 0 }, { "clockQuality.offsetScaledLogVariance", HEXADECIMAL, 7, 2, 0 },
+        { "priority2", UNSIGNED, 9, 1, 0 }, { "clockIdentity", CLOCK, 10, 8, 0 }, { "domainNumber", UNSIGNED, 18, 1, 0 } } },
+    { "CURRENT_DATA_SET", 18, {
+        { "stepsRemoved", UNSIGNED, 0, 2, 0 }, { "offsetFromMaster", INTERVAL, 2, 8, 0 }, { "meanDelay", INTERVAL, 10, 8, 0 } } },
+    { "PARENT_DATA_SET", 32, {
+        { "parentPortIdentity", PORT, 0, 10, 0 }, { "parentStats", FLAG, 10, 1, 1 },
+        { "observedParentOffsetScaledLogVariance", HEXADECIMAL, 12, 2, 0 },
+        { "observedParentClockPhaseChangeRate", SIGNED, 14, 4, 0 }, { "grandmasterPriority1", UNSIGNED, 18, 1, 0 },
+        { "grandmasterClockQuality.clockClass", UNSIGNED, 19, 1, 0 },
+        { "grandmasterClockQuality.clockAccuracy", HEXADECIMAL, 20, 1, 0 },
+        { "grandmasterClockQuality.offsetScaledLogVariance", HEXADECIMAL, 21, 2, 0 },
+        { "grandmasterPriority2", UNSIGNED, 23, 1, 0 }, { "grandmasterIdentity", CLOCK, 24, 8, 0 } } },
+    { "TIME_PROPERTIES_DATA_SET", 4, {
+        { "currentUtcOffset", SIGNED, 0, 2, 0 }, { "leap61", FLAG, 2, 1, 1 }, { "leap59", FLAG, 2, 1, 2 },
+        { "currentUtcOffsetValid", FLAG, 2, 1, 4 }, { "ptpTimescale", FLAG, 2, 1, 8 }, { "timeTraceable", FLAG, 2, 1, 16 },
+        { "frequencyTraceable", FLAG, 2, 1, 32 }, { "timeSource", HEXADECIMAL, 3, 1, 0 } } },
+    { "PORT_DATA_SET", 26, {
+        { "portIdentity", PORT, 0, 10, 0 }, { "portState", STATE, 10, 1, 0 }, { "logMinDelayReqInterval", SIGNED, 11, 1, 0 },
+        { "meanLinkDelay", INTERVAL, 12, 8, 0 }, { "logAnnounceInterval", SIGNED, 20, 1, 0 },
+        { "announceReceiptTimeout", UNSIGNED, 21, 1, 0 }, { "logSyncInterval", SIGNED, 22, 1, 0 },
+        { "delayMechanism", MECHANISM, 23, 1, 0 }, { "logMinPdelayReqInterval", SIGNED, 24, 1, 0 },
+        { "versionNumber", VERSION, 25, 1, 0 } } },
+    { "UTC_PROPERTIES", 4, {
+        { "currentUtcOffset", SIGNED, 0, 2, 0 }, { "leap61", FLAG, 2, 1, 1 }, { "leap59", FLAG, 2, 1, 2 },
+        { "currentUtcOffsetValid", FLAG, 2, 1, 4 } } },
+    { "PRIORITY1", 2, { { "priority1", UNSIGNED, 0, 1, 0 } } },
+    { "PRIORITY2", 2, { { "priority2", UNSIGNED, 0, 1, 0 } } },
+    { "DOMAIN", 2, { { "domainNumber", UNSIGNED, 0, 1, 0 } } },
+    { "SLAVE_ONLY", 2, { { "slaveOnly", FLAG, 0, 1, 3 } } },        /* bit 0; ptp4l has it in bit 1, which else is 0 */
+    { "LOG_ANNOUNCE_INTERVAL", 2, { { "logAnnounceInterval", SIGNED, 0, 1, 0 } } },
+    { "ANNOUNCE_RECEIPT_TIMEOUT", 2, { { "announceReceiptTimeout", UNSIGNED, 0, 1, 0 } } },
+    { "LOG_SYNC_INTERVAL", 2, { { "logSyncInterval", SIGNED, 0, 1, 0 } } },
+    { "VERSION_NUMBER", 2, { { "versionNumber", VERSION, 0, 1, 0 } } },
+    { "CLOCK_ACCURACY", 2, { { "clockAccuracy", HEXADECIMAL, 0, 1, 0 } } },
+    { "DELAY_MECHANISM", 2, { { "delayMechanism", MECHANISM, 0, 1, 0 } } },
+    { "LOG_MIN_PDELAY_REQ_INTERVAL", 2, { { "logMinPdelayReqInterval", SIGNED, 0, 1, 0 } } },
+};
+
+static const char *const without_members[] = { "NULL_PTP_MANAGEMENT", "ENABLE_PORT", "DISABLE_PORT" };
+
+static const struct word states[] = {
+    { 1, "INITIALIZING" }, { 2, "FAULTY" }, { 3, "DISABLED" }, { 4, "LISTENING" }, { 5, "PRE_MASTER" }, { 6, "MASTER" },
+    { 7, "PASSIVE" }, { 8, "UNCALIBRATED" }, { 9, "SLAVE" }, { 0, NULL },
+};
+static const struct word mechanisms[] = { { 1, "E2E" }, { 2, "P2P" }, { 0xfe, "NO_MECHANISM" }, { 0, NULL } };
+static const struct word flags[] = { { 0, "false" }, { 1, "true" }, { 0, NULL } };
+
+static const struct field *field_of(uint16_t id) {
+    const char *name = id_name(id);
+    for (size_t i = 0; name != NULL && i < sizeof fields / sizeof *fields; i++) {
+        if (strcmp(fields[i].id, name) == 0) return &fields[i];
+    }
+    return NULL;
+}
+
+int has_one_member(uint16_t id) {
+    const struct field *field = field_of(id);
+    return field != NULL && field->size == 2;
+}
+
+int has_text(uint16_t id) {
+    const struct field *field = field_of(id);
+    return field != NULL && field->members[0].kind == TEXT;
+}
+
+int has_no_member(uint16_t id) {
+    const char *name = id_name(id);
+    for (size_t i = 0; name != NULL && i < sizeof without_members / sizeof *without_members; i++) {
+        if (strcmp(without_members[i], name) == 0) return 1;
+    }
+    return 0;
+}
+
+/* Big-endian (5.2). */
+static uint64_t number_at(const uint8_t *octets, size_t size) {
+    uint64_t number = 0;
+    for (size_t i = 0; i < size; i++) number = number << 8 | octets[i];
+    return number;
+}
+
+static int64_t signed_at(const uint8_t *octets, size_t size) {
+    uint64_t number = number_at(octets, size), sign = (uint64_t)1 << (8 * size - 1);
+    return (int64_t)((number ^ sign) - sign);
+}
+
+/* A TimeInterval, in nanoseconds times 2^16, as nanoseconds with all digits of their fraction. */
+static void print_interval(int64_t interval) {
+    uint64_t size = interval < 0 ? -(uint64_t)interval : (uint64_t)interval, fraction = size & 0xffff;
+    printf("%s%llu.", interval < 0 ? "-" : "", (unsigned long long)(size >> 16));
+    do {
+        fraction *= 10;
+        putchar('0' + (int)(fraction >> 16));
+        fraction &= 0xffff;
+    } while (fraction != 0);
+}
+
+/* The number's word, or the number where it has none. */
+static void print_word(const struct word *words, uint8_t number) {
+    while (words->text != NULL && words->number != number) words++;
+    if (words->text != NULL) fputs(words->text, stdout);
+    else printf("%u", number);
+}
+
+static void print_identity(const uint8_t *octets) {
+    char text[IDENTITY_TEXT];
+    write_identity(text, octets);
+    fputs(text, stdout);
+}
+
+static void print_member(const struct member *member, const uint8_t *octets) {
+    const uint8_t *at = octets + member->at;
+    switch (member->kind) {
+    case UNSIGNED: printf("%llu", (unsigned long long)number_at(at, member->size)); break;
+    case HEXADECIMAL: printf("0x%0*llx", 2 * member->size, (unsigned long long)number_at(at, member->size)); break;
+    case SIGNED: printf("%lld", (long long)signed_at(at, member->size)); break;
+    case FLAG: print_word(flags, (*at & member->mask) != 0); break;
+    case VERSION: printf("%u", *at & 15); break;
+    case INTERVAL: print_interval(signed_at(at, member->size)); break;
+    case CLOCK: print_identity(at); break;
+    case PORT:
+        print_identity(at);
+        printf("/%llu", (unsigned long long)number_at(at + 8, 2));
+        break;
+    case STATE: print_word(states, *at); break;
+    case MECHANISM: print_word(mechanisms, *at); break;
+    case TEXT: print_text(at + 1, *at); break;
+    }
+}
+
+void print_octets(const char *lead, const uint8_t *octets, size_t size) {
+    printf(size == 0 ? "%svalue -" : "%svalue ", lead);
+    for (size_t i = 0; i < size; i++) printf("%02x", octets[i]);
+    putchar('\n');
+}
+
+void print_members(const char *lead, uint16_t id, const uint8_t *octets, size_t size) {
+    const struct field *field = field_of(id);
+    size_t wanted = field == NULL || size == 0 ? 0 : field->size != 0 ? field->size : (size_t)(octets[0] + 2) / 2 * 2;
+    if (size == 0 || size != wanted) {
+        print_octets(lead, octets, size);
+        return;
+    }
+    for (size_t i = 0; i < MOST_MEMBERS && field->members[i].name != NULL; i++) {
+        printf("%s%s ", lead, field->members[i].name);
+        print_member(&field->members[i], octets);
+        putchar('\n');
+    }
+}
+
+/* The number of a word, in either case; -1 where it is none of these. */
+static long word_number(const struct word *words, const char *text) {
+    for (; words->text != NULL; words++) {
+        if (strcasecmp(text, words->text) == 0) return words->number;
+    }
+    return -1;
+}
+
+/* The value of a member of one octet; NO_VALUE where the text is none. */
+static long value_of(enum kind kind, const char *text) {
+    uint8_t octet;
+    long number = kind == FLAG ? word_number(flags, text) : kind == MECHANISM ? word_number(mechanisms, text) : -1;
+    if (number >= 0) return number;
+    if (kind == SIGNED && *text == '-') return (number = decimal(text + 1, 128)) < 0 ? NO_VALUE : -number;
+    if (kind == SIGNED) return (number = decimal(text, 127)) < 0 ? NO_VALUE : number;
+    if (kind == FLAG) return (number = decimal(text, 1)) < 0 ? NO_VALUE : number;
+    if (strncasecmp(text, "0x", 2) != 0) return (number = decimal(text, 255)) < 0 ? NO_VALUE : number;
+    text += 2;
+    return strlen(text) == 2 && read_octets(&text, &octet, 1) == 1 ? octet : NO_VALUE;
+}
+
+const char *read_member(uint16_t id, const char *text, uint8_t octets[2]) {
+    const enum kind kind = field_of(id)->members[0].kind;
+    const long value = value_of(kind, text);
+    octets[0] = (uint8_t)value;
+    octets[1] = 0;
+    if (value != NO_VALUE) return NULL;
+    return kind == SIGNED ? "a number from -128 to 127" : kind == FLAG ? "true or false"
+           : kind == MECHANISM ? "E2E, P2P, NO_MECHANISM or a number from 0 to 255"
+           : "a number from 0 to 255, or 0x and two hexadecimal digits";
+}
+
+size_t text_field(const char *text, uint8_t octets[MOST_TEXT + 2]) {
+    size_t size = strlen(text);
+    memset(octets, 0, MOST_TEXT + 2);
+    octets[0] = (uint8_t)size;
+    memcpy(octets + 1, text, size);
+    return (size + 2) / 2 * 2;
+}

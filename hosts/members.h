@@ -1,0 +1,33 @@
+/* The members of a dataField (IEEE 1588-2019, 15.5.3) as an operator reads and writes them. */
+#ifndef MEMBERS_H
+#define MEMBERS_H
+
+#include <stddef.h>
+#include <stdint.h>
+
+enum { MOST_TEXT = 128 };       /* octets of a userDescription */
+
+/* Prints what the dataField of an id tells: behind `lead` a line for each member, its name and its value. A dataField that is
+   empty, of an id whose members are not known here, or of another length than the id's is printed as by `print_octets`. */
+void print_members(const char *lead, uint16_t id, const uint8_t *octets, size_t size);
+
+/* Prints a line of a dataField as it is: `value` and its octets in hexadecimal, or `-` where it has none. */
+void print_octets(const char *lead, const uint8_t *octets, size_t size);
+
+/* Whether an id has one member of one octet, so that a SET takes its value as a word. */
+int has_one_member(uint16_t id);
+
+/* Whether an id has a text, and nothing else. */
+int has_text(uint16_t id);
+
+/* Whether a SET of the id has a dataField without octets. */
+int has_no_member(uint16_t id);
+
+/* The dataField of an id with one member, of two octets, for a value: a decimal number, 0x and hexadecimal digits, and also
+   true and false for a flag, E2E, P2P and NO_MECHANISM for a delayMechanism. NULL, or what is taken in place of the text. */
+const char *read_member(uint16_t id, const char *text, uint8_t octets[2]);
+
+/* The dataField of an id that has a text, a PTPText (5.3.9), for a text of at most MOST_TEXT octets; how many octets it has. */
+size_t text_field(const char *text, uint8_t octets[MOST_TEXT + 2]);
+
+#endif

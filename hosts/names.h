@@ -1,0 +1,21 @@
+/* Names of the standard and of ptpm.h for numbers, and numbers for names. They stand here alone, so that manage.c says no
+   number of its own. */
+#ifndef NAMES_H
+#define NAMES_H
+
+#include <stdint.h>
+
+/* The managementId (IEEE 1588-2019, 15.5.2.3) of a name, in either case, or of four hexadecimal digits, with or without 0x
+   before them; -1 where the text is neither. */
+long id_named(const char *text);
+
+/* The name of a managementId of this profile; NULL where it has none. */
+const char *id_name(uint16_t id);
+
+/* The name of a managementErrorId (15.5.4.3); NULL where the standard has none. */
+const char *error_name(uint16_t error);
+
+/* The name of why the library starts or begins nothing: that of the constant in ptpm.h, without PTPM_. */
+const char *answer_name(uint32_t answer);
+
+#endif

@@ -1,0 +1,177 @@
+#define _GNU_SOURCE
+#include "task.h"
+#include "common.h"
+#include "help.h"
+#include "identity.h"
+#include "members.h"
+#include "names.h"
+#include "notices.h"
+#include <getopt.h>
+#include <stdlib.h>
+#include <string.h>
+#include <strings.h>
+
+/* Options without a letter of their own, and a word that is none: getopt's for a string that begins with a hyphen. */
+enum { WORD = 1, UDP = 256, IPV6, TEXT };
+
+enum { MOST_WORDS = 3, MOST_FIELD = 1418, NOT_NAMED = -1 };
+
+static const struct option options[] = {
+    { "interface", required_argument, NULL, 'i' }, { "udp", required_argument, NULL, UDP }, { "ipv6", no_argument, NULL, IPV6 },
+    { "unix", required_argument, NULL, 'u' }, { "target", required_argument, NULL, 'T' }, { "to", required_argument, NULL, 'T' },
+    { "port", required_argument, NULL, 'p' }, { "domain", required_argument, NULL, 'd' }, { "hops", required_argument, NULL, 'b' },
+    { "manager", required_argument, NULL, 'm' }, { "numbers", required_argument, NULL, 'k' },
+    { "attempts", required_argument, NULL, 'a' }, { "timeout", required_argument, NULL, 't' },
+    { "times", required_argument, NULL, 'n' }, { "hexadecimal", no_argument, NULL, 'x' }, { "text", no_argument, NULL, TEXT },
+    { "quiet", no_argument, NULL, 'q' }, { "help", no_argument, NULL, 'h' }, { NULL, 0, NULL, 0 },
+};
+
+/* The words of the command line, and what options say of them that a later one may change. */
+struct words {
+    const char *at[MOST_WORDS + 1];
+    int count, is_text, has_target;
+    long port, target_port;
+};
+
+static long number(const char *option, const char *text, long least, long most) {
+    long found = decimal(text, most);
+    if (found < least) refuse("--%s %s: it takes a number from %ld to %ld", option, text, least, most);
+    return found;
+}
+
+/* The clock that is asked, and the port behind it, if one is named there. */
+static void read_target(struct task *task, struct words *words, const char *text) {
+    const char *rest = identity_at(text, task->settings.target);
+    words->has_target = 1;
+    if (rest == NULL) refuse("--target %s: it takes aabbccfffeddee01 or aabbcc.fffe.ddee01, and -1 behind it for port 1", text);
+    words->target_port = *rest == '\0' ? NOT_NAMED : port_behind(rest, 65535);
+    if (*rest != '\0' && words->target_port < 0) refuse("--target %s: %s is no port", text, rest);
+}
+
+static void read_manager(struct task *task, const char *text) {
+    const char *rest = identity_at(text, task->settings.clock);
+    long port = rest == NULL ? -1 : port_behind(rest, 65534);
+    if (port < 0) refuse("--manager %s: it takes aabbccfffeddee01/1 or aabbcc.fffe.ddee01-1", text);
+    task->settings.port = (uint16_t)port;
+    task->has_manager = 1;
+}
+
+static void take_option(struct task *task, struct words *words, int option, const char *value) {
+    switch (option) {
+    case 'i': task->interface = value; break;
+    case UDP: task->address = value; break;
+    case IPV6: task->is_six = 1; break;
+    case 'u': task->path = value; break;
+    case 'T': read_target(task, words, value); break;
+    case 'p': words->port = number("port", value, 0, 65535); break;
+    case 'd': task->settings.domain = (uint8_t)number("domain", value, 0, 255); break;
+    case 'b': task->settings.hops = (uint8_t)number("hops", value, 0, 255); break;
+    case 'm': read_manager(task, value); break;
+    case 'k': task->numbers = value; break;
+    case 'a': task->settings.attempts = (uint8_t)number("attempts", value, 1, 255); break;
+    case 't': task->milliseconds = number("timeout", value, 1, 100000); break;
+    case 'n': task->times = number("times", value, 1, 1000000); break;
+    case 'x': task->is_in_octets = 1; break;
+    case TEXT: words->is_text = 1; break;
+    case 'q': be_quiet(); break;
+    case 'h': help(); break;
+    default: refuse("see ptpm-manage --help");
+    }
+}
+
+static void take_word(struct words *words, const char *word) {
+    if (words->count == MOST_WORDS) refuse("%s: there is a word too many; see ptpm-manage --help", word);
+    words->at[words->count++] = word;
+}
+
+/* A value below 0 is a word, and no option. */
+static int is_negative(const char *word) { return word[0] == '-' && word[1] >= '0' && word[1] <= '9'; }
+
+static void read_words(struct task *task, struct words *words, int argc, char **argv) {
+    for (;;) {
+        if (optind < argc && is_negative(argv[optind])) {
+            take_word(words, argv[optind++]);
+            continue;
+        }
+        int option = getopt_long(argc, argv, "-i:u:T:p:d:b:m:k:a:t:n:xqh", options, NULL);
+        if (option == -1) break;
+        if (option == WORD) take_word(words, optarg);
+        else take_option(task, words, option, optarg);
+    }
+    while (optind < argc) take_word(words, argv[optind++]);
+}
+
+static void read_verb(struct task *task, const char *verb) {
+    static const struct { const char *name; uint8_t action; } actions[] = {
+        { "get", PTPM_GET }, { "set", PTPM_SET }, { "command", PTPM_COMMAND },
+    };
+    task->is_survey = strcasecmp(verb, "survey") == 0;
+    for (size_t i = 0; i < sizeof actions / sizeof *actions; i++) {
+        if (strcasecmp(verb, actions[i].name) != 0) continue;
+        task->action = actions[i].action;
+        return;
+    }
+    if (!task->is_survey) refuse("%s: it is none of get, set, command and survey", verb);
+}
+
+static void read_id(struct task *task, const char *text) {
+    long id = id_named(text);
+    if (id < 0) refuse("%s: it is no managementId of the list in ptpm-manage --help, and not four hexadecimal digits", text);
+    task->id = (uint16_t)id;
+}
+
+static void read_octets_of(struct task *task, const char *text) {
+    const char *rest = text;
+    if (strlen(text) > 2 * MOST_FIELD) refuse("the dataField has over %d octets", MOST_FIELD);
+    task->size = read_octets(&rest, task->octets, sizeof task->octets);
+    if (*rest != '\0' || task->size % 2 != 0) refuse("%s: it is no even number of octets in hexadecimal", text);
+}
+
+static void read_value(struct task *task, const struct words *words) {
+    const char *id = words->at[1], *text = words->count > 2 ? words->at[2] : NULL, *wanted;
+    int is_set = !task->is_survey && task->action == PTPM_SET;
+    if (text == NULL && is_set && !has_no_member(task->id)) refuse("set %s: it takes a value behind it", id);
+    if (text == NULL) return;
+    if (task->is_survey) refuse("survey %s: it takes no value", id);
+    if (words->is_text) {
+        if (!has_text(task->id)) refuse("--text: %s has no text", id);
+        if (strlen(text) > MOST_TEXT) refuse("the text has over %d octets", MOST_TEXT);
+        task->size = text_field(text, task->octets);
+    } else if (is_set && !task->is_in_octets && has_one_member(task->id)) {
+        wanted = read_member(task->id, text, task->octets);
+        if (wanted != NULL) refuse("set %s %s: it takes %s", id, text, wanted);
+        task->size = 2;
+    } else {
+        read_octets_of(task, text);
+    }
+}
+
+/* Whether what is said of the clock and the way to it is whole, and said once. */
+static void judge(const struct task *task, const struct words *words) {
+    if (task->path == NULL && task->interface == NULL && task->address == NULL) {
+        refuse("the way to the clock is missing: --interface NAME, --udp ADDRESS or --unix PATH");
+    }
+    if (task->path != NULL && (task->interface != NULL || task->address != NULL || task->is_six)) {
+        refuse("--unix stands without --interface, --udp and --ipv6");
+    }
+    if (task->is_survey && words->has_target) refuse("survey asks every clock: it takes no --target");
+    if (!task->is_survey && !words->has_target) refuse("--target is missing: the clock that is asked; survey asks every clock");
+    if (words->port >= 0 && words->target_port >= 0 && words->port != words->target_port) {
+        refuse("--port %ld and --target name two ports", words->port);
+    }
+}
+
+void read_task(struct task *task, int argc, char **argv) {
+    struct words words = { .port = NOT_NAMED, .target_port = NOT_NAMED };
+    *task = (struct task){
+        .settings = { .port = 1, .target_ports = 8, .hops = 1, .attempts = 30 }, .milliseconds = 200, .times = 1,
+    };
+    read_words(task, &words, argc, argv);
+    if (words.count < 2) refuse("it takes get, set, command or survey, and a managementId; see ptpm-manage --help");
+    read_verb(task, words.at[0]);
+    read_id(task, words.at[1]);
+    read_value(task, &words);
+    judge(task, &words);
+    long port = words.port >= 0 ? words.port : words.target_port;
+    task->port = port < 0 ? 0 : (uint16_t)port;
+}

@@ -1,0 +1,28 @@
+/* What a command line of ptpm-manage asks for. */
+#ifndef TASK_H
+#define TASK_H
+
+#include "ptpm.h"
+#include <stdint.h>
+
+struct task {
+    int is_survey;
+    uint8_t action;                             /* PTPM_GET, PTPM_SET or PTPM_COMMAND, where it is no survey */
+    uint16_t id;
+    uint16_t port;                              /* the clock's, of an id of a port; 0 where none is named */
+    size_t size;
+    uint8_t octets[PTPM_MOST_OCTETS];           /* the dataField */
+    struct ptpm_session_settings settings;      /* but for the number of the first request */
+    int has_manager;                            /* whether settings name the manager */
+    const char *interface, *address, *path;     /* the way: an interface, an address or both, or a Unix socket */
+    int is_six;                                 /* IPv6 */
+    const char *numbers;                        /* the file of the next request's number, or NULL */
+    long milliseconds;                          /* how long an answer is waited for */
+    long times;                                 /* how often the request is made anew */
+    int is_in_octets;                           /* answers are printed as octets */
+};
+
+/* Reads it from a command line. Ends the program with status 2 where it is none, and with 0 behind --help. */
+void read_task(struct task *task, int argc, char **argv);
+
+#endif

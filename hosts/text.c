@@ -1,0 +1,42 @@
+#include "text.h"
+#include <stdio.h>
+
+/* How many octets the character at the head has, and its number; 0 where there is no well-formed one (RFC 3629). */
+static size_t character(const uint8_t *octets, size_t size, uint32_t *number) {
+    static const uint32_t least[] = { 0, 0, 0x80, 0x800, 0x10000 };
+    uint8_t head = octets[0];
+    size_t count = head < 0x80 ? 1 : head >> 5 == 6 ? 2 : head >> 4 == 14 ? 3 : head >> 3 == 30 ? 4 : 0;
+    if (count == 0 || count > size) return 0;
+    *number = count == 1 ? head : head & (0xffu >> (count + 1));
+    for (size_t i = 1; i < count; i++) {
+        if (octets[i] >> 6 != 2) return 0;
+        *number = *number << 6 | (octets[i] & 63u);
+    }
+    return *number < least[count] || *number > 0x10ffff || (*number >= 0xd800 && *number < 0xe000) ? 0 : count;
+}
+
+/* Control characters, and those that are unseen or turn the direction of what stands behind them. */
+static int is_shown(uint32_t number) {
+    static const struct { uint32_t first, last; } hidden[] = {
+        { 0, 0x1f }, { '\\', '\\' }, { 0x7f, 0x9f }, { 0xad, 0xad }, { 0x61c, 0x61c }, { 0x200b, 0x200f }, { 0x2028, 0x202e },
+        { 0x2060, 0x206f }, { 0xfeff, 0xfeff }, { 0xfff9, 0xfffb }, { 0xe0000, 0x10ffff },
+    };
+    for (size_t i = 0; i < sizeof hidden / sizeof *hidden; i++) {
+        if (number >= hidden[i].first && number <= hidden[i].last) return 0;
+    }
+    return 1;
+}
+
+void print_text(const uint8_t *octets, size_t size) {
+    for (size_t i = 0; i < size;) {
+        uint32_t number = 0;
+        size_t count = character(octets + i, size - i, &number);
+        int is_plain = count > 0 && is_shown(number);
+        if (count == 0) count = 1;
+        for (size_t k = i; k < i + count; k++) {
+            if (is_plain) putchar(octets[k]);
+            else printf("\\x%02x", octets[k]);
+        }
+        i += count;
+    }
+}

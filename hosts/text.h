@@ -1,0 +1,12 @@
+/* Texts that came in from a network. */
+#ifndef TEXT_H
+#define TEXT_H
+
+#include <stddef.h>
+#include <stdint.h>
+
+/* Prints a text of UTF-8 so that it stays on its line and moves nothing on a terminal: a backslash, and each octet that is no
+   UTF-8 or belongs to a control or format character, as \x and two hexadecimal digits. */
+void print_text(const uint8_t *octets, size_t size);
+
+#endif
