@@ -42,17 +42,17 @@ pub use Rattle.ptpm_script.specs.declared.network.NetworkLink.{NetworkLink}
 pub use Rattle.ptpm_world.specs.Described.{clock_at, configured, described, described_end, described_session, no_clock, session_at, with_rights}
 pub use Rattle.ptpm_world.specs.Ends.{AreLinks, IsOfSession, IsStoredFrame, IsThere, port_counts}
 pub use Rattle.ptpm_world.specs.Frames.{HasRoom, ends_of, frame_in, frame_value, held_in, link_ends, origin_of}
-pub use Rattle.ptpm_world.specs.Lines.{BothKnown, ReadsLine, given, left_in, whole_lines}
+pub use Rattle.ptpm_world.specs.Lines.{BothKnown, given, left_in, whole_lines}
 pub use Rattle.ptpm_world.specs.Placed.{Names, names_in, names_of, place_in, placed}
 pub use Rattle.ptpm_world.specs.Running.{IsClockOf, IsOf, agent_clock, agent_state, is_late_held, is_late_of, reports_of, running, session_of, sets_of, state_of, table_entries}
-pub use Rattle.ptpm_world.specs.Script.{Begins, Prints, StandsFor, TakesFirst, bad_line_from, bad_or, begins_comment, event_part, events_from, is_divider, is_skipped, network_text, numbered, started_session}
-pub use Rattle.ptpm_world.specs.ScriptError.{HasNextFault, ReadsWhole, event_fault, events_fault, file_fault, is_outside, network_fault, next_fault, reading_fault, script_fault, size_fault, text_fault}
+pub use Rattle.ptpm_world.specs.Script.{HasPlayed, HasPrinted, HasStopped, Played, Prints, StandsFor, TakesFirst, begins_comment, behind, closed, closing, ends, event_of, from_file, in_network, is_divider, is_skipped, network_text, played, played_by, read_as, scripted, scripted_from, started, started_session, unless_fault}
+pub use Rattle.ptpm_world.specs.ScriptError.{HasNextFault, ReadsWhole, is_outside, line_fault, next_fault, size_fault, text_fault}
 pub use Rattle.ptpm_world.specs.Starting.{AreStartedClocks, AreStartedSessions, IsStartedClock, IsStartedSession}
 pub use Rattle.ptpm_world.specs.Stepping.{AllHappen, IsStep}
 pub use Rattle.ptpm_world.specs.Stored.{IsShort, IsWithin, at_end, is_same, others}
 pub use Rattle.ptpm_world.specs.Took.{begin_error, error_of, heard, reports_in, took_at, took_of}
 unfoldable pub use Rattle.ptpm_world.specs.Took.{took}
-pub use Rattle.ptpm_world.specs.Trace.{after, after_all, after_by, answer, answer_by, clock_lines, data_lines, event_line, event_lines, is_out_of_memory, line_feed, report_lines, session_lines, trace}
+pub use Rattle.ptpm_world.specs.Trace.{after, after_by, answer, answer_by, clock_lines, data_lines, event_line, is_out_of_memory, line_feed, report_lines, session_lines}
 unfoldable pub use Rattle.ptpm_world.specs.Trace.{error_text, event_text, port_line, report_line}
 pub use Rattle.ptpm_world.specs.declared.frames.Frames.{Frames}
 pub use Rattle.ptpm_world.specs.declared.frames.Stored.{Stored}

@@ -24,8 +24,6 @@ pub mod TraceLemmas
 pub mod Answering
 pub mod Playing
 pub mod LineLemmas
-pub mod NextLine
 pub mod FaultLemmas
 pub mod StartedWorld
-pub mod Begun
 pub mod ScriptLemmas

@@ -1,5 +1,5 @@
 -- Lines of octets that come one by one.
-use Rattle.ptpm_world.proofs.Common.{◌≡◌, ℕ, ◌<◌, ◌≤◌, ◌++◌, List, [], ◌∷◌, length, Bool, true, false, None, Some, refl, sym, ap, ◌∙◌, subst, take, append_assoc, append-nil, rules, arith, IfNone, IfSome, OnSome, Option, option_map, cond, slice_get, ◌==◌, onto_first, slice_split, Consumes, IsAtEnd, Keeps, same_Some, lines, lines_of_parts, strip_carriage_return, BothKnown, ReadsLine, given}
+use Rattle.ptpm_world.proofs.Common.{◌≡◌, ℕ, ◌<◌, ◌≤◌, ◌++◌, List, [], ◌∷◌, length, Bool, true, false, None, Some, refl, sym, ap, ◌∙◌, subst, take, append_assoc, rules, arith, IfNone, IfSome, OnSome, Option, cond, slice_get, ◌==◌, onto_first, slice_split, Consumes, IsAtEnd, Keeps, same_Some, lines, lines_of_parts, strip_carriage_return, BothKnown, given}
 use Rattle.std.specs.Io.{StartsWith}
 use Rattle.std.specs.Io.BufRead.{DropsConsumable}
 use Rattle.std.proofs.BufReadLemmas.{Consumes_shown}
@@ -78,28 +78,6 @@ read-more (Some xs) (Some ys) None first octet line next h k = absurd k
 read-more (Some xs) (Some ys) (Some zs) first octet line next h k =
     h ∙ ap (λ l. line ++ (octet ∷ l)) k ∙ sym (append_assoc line (octet ∷ []) (given next ++ zs))
 
-pub read-feed : (a b : Option (List ℕ)) (first octet : ℕ) (line stripped : List ℕ)
-    → IsRead a b first line (Some octet)
-    → octet ≡ 10
-    → NoFeed line
-    → stripped ≡ strip_carriage_return line
-    → ReadsLine (option_map (λ octets. first ∷ octets) a) true stripped b
-read-feed None b first octet line stripped h e n s = tt
-read-feed (Some xs) None first octet line stripped h e n s = absurd h
-read-feed (Some xs) (Some ys) first octet line stripped h e n s =
-    ap lines (h ∙ ap (λ o. line ++ (o ∷ ys)) e) ∙ line_ends line ys n ∙ ap (λ l. l ∷ lines ys) (sym s)
-
-pub read-end : (a b : Option (List ℕ)) (first : ℕ) (line : List ℕ)
-    → IsRead a b first line None
-    → OnSome a (IsAtEnd b)
-    → NoFeed line
-    → 0 < length line
-    → ReadsLine (option_map (λ octets. first ∷ octets) a) true line b
-read-end None b first line h e n some = tt
-read-end (Some xs) None first line h e n some = absurd h
-read-end (Some xs) (Some ys) first line h e n some =
-    ap lines (h ∙ ap (λ l. line ++ l) e ∙ append-nil line) ∙ last_line line n some ∙ ap (λ l. line ∷ lines l) (sym e)
-
 -- the reader's end, as the first octet's reader knew it
 pub end-on : (a b c : Option (List ℕ)) (first octet : ℕ) (line : List ℕ) (next : Option ℕ)
     → IsRead a b first line (Some octet)
@@ -139,23 +117,6 @@ pub octet-none : (a b : Option (List ℕ)) (shown : List ℕ)
 octet-none None b shown h end kept = tt
 octet-none (Some xs) None shown h end kept = absurd kept
 octet-none (Some xs) (Some ys) shown h end kept = kept ∙ end (shown_none shown h)
-
--- ---- a line with its first octet
-
-pub read-line : (a b c : Option (List ℕ)) (first : ℕ) (line : List ℕ) → Consumes a b (first ∷ [])
-    → ReadsLine (option_map (λ octets. first ∷ octets) b) true line c → ReadsLine a true line c
-read-line None b c first line h k = tt
-read-line (Some xs) None c first line h k = absurd h
-read-line (Some xs) (Some ys) None first line h k = absurd k
-read-line (Some xs) (Some ys) (Some zs) first line h k = ap lines h ∙ k
-
-pub read-none : (a b : Option (List ℕ)) (line : List ℕ)
-    → Consumes a b []
-    → OnSome a (IsAtEnd b)
-    → ReadsLine a false line b
-read-none None b line h e = tt
-read-none (Some xs) None line h e = absurd h
-read-none (Some xs) (Some ys) line h e = (ap lines (h ∙ e), ap lines e)
 
 pub empty_is : (l : List ℕ) → length l ≡ 0 → l ≡ []
 empty_is [] h = refl

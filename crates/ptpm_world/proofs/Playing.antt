@@ -1,202 +1,349 @@
--- A script as far as it is played: what is left of its lines leads on as all of them did.
-use Rattle.ptpm_world.proofs.Common.{◌≡◌, ℕ, ◌+◌, ◌++◌, List, [], ◌∷◌, true, false, None, Some, Ok, sym, ap, subst, ◌∙◌, cond-false, cond-true, Option, IfSome, Appends, lines, Appends-nil, Appends-trans, Network, RunningNetwork, reading, BothKnown, ReadsLine, Names, placed, bad_line_from, bad_or, events_from, is_skipped, numbered, after, after_all, event_line, event_lines}
-use Rattle.std.specs.Io.KnownBytes.{Keeps}
+-- A script as far as it is played: what is left of its lines comes to what all of them do, behind what was written.
+use Rattle.ptpm_world.proofs.Common.{◌≡◌, ◌≢◌, ℕ, ◌+◌, ◌++◌, List, [], ◌∷◌, Bool, true, false, None, Some, Ok, Err, refl, sym, ap, subst, ◌∙◌, append_assoc, append-nil, cond-false, cond-true, IfSome, IsErrAnd, Option, Result, if◌then◌else◌, option_or, Appends, Keeps, Appends-nil, Appends-trans, Network, RunningNetwork, BothKnown, HasNextFault, ReadsWhole, whole_lines, Names, HasPlayed, HasStopped, Played, behind, ends, event_of, from_file, is_divider, is_outside, is_skipped, line_fault, next_fault, played, played_by, read_as, reading, size_fault, text_fault, unless_fault}
 use Rattle.ptpm_script.specs.declared.event.Event.{Event}
+use Rattle.ptpm_world.specs.declared.script_error.ScriptError.{ScriptError}
+use Rattle.ptpm_world.specs.declared.script_error.ScriptError.TheVariants as faults
 
--- ---- lines
+-- ---- what a reader tells, call after call
 
--- no line before the n-th of all is bad: those that are left have the first bad one
-abbrev pub SameBad : List (List ℕ) → ℕ → List (List ℕ) → Type 0
-SameBad all n left = bad_line_from n left ≡ bad_line_from 1 all
+pub both-on : {P Q R : List ℕ → List ℕ → Type 0} (a b c : Option (List ℕ))
+    → ((xs ys zs : List ℕ) → P xs ys → Q ys zs → R xs zs)
+    → BothKnown a b P → BothKnown b c Q → BothKnown a c R
+both-on None b c on p q = tt
+both-on (Some xs) None c on p q = absurd p
+both-on (Some xs) (Some ys) None on p q = absurd q
+both-on (Some xs) (Some ys) (Some zs) on p q = on xs ys zs p q
 
--- what the lines that are left write goes on from what was written
-abbrev pub GoesOn : Network
-    → Names
-    → RunningNetwork
-    → RunningNetwork
-    → Option (List ℕ)
-    → Option (List ℕ)
-    → List (List ℕ)
-    → ℕ
-    → List (List ℕ)
-    → Type 0
-GoesOn N names start now first written all n left = (v : Option (List ℕ))
-    → Appends written v (event_lines N names now (events_from n left))
-    → Appends first v (event_lines N names start (events_from 1 all))
+pub both-some : {P : List ℕ → List ℕ → Type 0} {Q R : List ℕ → Type 0} (a b : Option (List ℕ))
+    → ((xs ys : List ℕ) → P xs ys → Q ys → R xs)
+    → BothKnown a b P → IfSome b Q → IfSome a R
+both-some None b on p q = tt
+both-some (Some xs) None on p q = absurd p
+both-some (Some xs) (Some ys) on p q = on xs ys p q
 
--- they lead where all lead
-abbrev pub LeadsOn : Network
-    → Names
-    → RunningNetwork
-    → RunningNetwork
-    → List (List ℕ)
-    → ℕ
-    → List (List ℕ)
-    → Type 0
-LeadsOn N names start now all n left = after_all N names now (events_from n left) ≡ after_all N names start (events_from 1 all)
+pub both-is : {P Q : List ℕ → List ℕ → Type 0} (a b : Option (List ℕ))
+    → ((xs ys : List ℕ) → P xs ys → Q xs ys)
+    → BothKnown a b P → BothKnown a b Q
+both-is None b on p = tt
+both-is (Some xs) None on p = absurd p
+both-is (Some xs) (Some ys) on p = on xs ys p
 
--- ---- one line more
+pub some-is : {Q R : List ℕ → Type 0} (a : Option (List ℕ))
+    → ((xs : List ℕ) → Q xs → R xs) → IfSome a Q → IfSome a R
+some-is None on q = tt
+some-is (Some xs) on q = on xs q
 
-pub skipped : (n : ℕ) (line : List ℕ) (left : List (List ℕ))
-    → is_skipped line ≡ true
-    → events_from n (line ∷ left) ≡ events_from (n + 1) left
-skipped n line left e = cond-true _ _ _ e
+pub both-end : {P Q : List ℕ → List ℕ → Type 0} {R : List ℕ → Type 0} (a b c : Option (List ℕ))
+    → ((xs ys zs : List ℕ) → P xs ys → Q ys zs → R xs)
+    → BothKnown a b P → BothKnown b c Q → IfSome a R
+both-end None b c on p q = tt
+both-end (Some xs) None c on p q = absurd p
+both-end (Some xs) (Some ys) None on p q = absurd q
+both-end (Some xs) (Some ys) (Some zs) on p q = on xs ys zs p q
 
-pub taken : (n : ℕ) (line : List ℕ) (left : List (List ℕ)) (event : Event)
+pub left-some : {P : List ℕ → List ℕ → Type 0} {R : List ℕ → Type 0} (a b : Option (List ℕ))
+    → ((xs ys : List ℕ) → P xs ys → R xs)
+    → BothKnown a b P → IfSome a R
+left-some None b on p = tt
+left-some (Some xs) None on p = absurd p
+left-some (Some xs) (Some ys) on p = on xs ys p
+
+both-same : (P : List ℕ → List ℕ → Type 0) (a : Option (List ℕ))
+    → ((xs : List ℕ) → P xs xs) → BothKnown a a P
+both-same P None on = tt
+both-same P (Some xs) on = on xs
+
+-- an error that `?` hands on
+pub err-is : {A : Type 0} (r : Result A ScriptError) (e : ScriptError)
+    (Q : Result A ScriptError → Type 0)
+    → IsErrAnd r (λ x. x ≡ e)
+    → Q (Err e)
+    → Q r
+err-is (Ok a) e Q h q = absurd h
+err-is (Err x) e Q h q = subst (λ y. Q (Err y)) (sym h) q
+
+-- ---- the next line
+
+-- the next line of those that are left, and the fault that it has by itself
+pub record NextIs (n : ℕ) (fault : Option ScriptError) (line : List ℕ) (had has : Option (List ℕ)) : Type 0 where
+  pub is : BothKnown had has (λ xs ys.
+      (octets : List ℕ) × ((whole_lines xs ≡ (line, octets) ∷ whole_lines ys) × (line_fault n (line, octets) ≡ fault)))
+
+-- there is none
+pub record NoneIs (had has : Option (List ℕ)) : Type 0 where
+  pub is : BothKnown had has (λ xs ys. (whole_lines xs ≡ []) × (whole_lines ys ≡ []))
+
+pub next-is : (n k : ℕ) (fault : Option ScriptError) (had has : Option (List ℕ)) (answer : Bool) (line : List ℕ)
+    → answer ≡ true
+    → ReadsWhole n had answer line has
+    → k ≡ n
+    → text_fault k line ≡ fault → NextIs n fault line had has
+next-is n k fault had has answer line e r counted text = record {
+  is = both-is had has
+      (λ xs ys h.
+      let size : size_fault n h.1.0 ≡ None = sym (ap (next_fault n) h.1.1) ∙ h.0 in
+      (h.1.0, (h.1.1, ap (λ f. option_or f (text_fault n line)) size ∙ ap (λ j. text_fault j line) (sym counted) ∙ text)))
+      (subst (λ more. ReadsWhole n had more line has) e r);
+}
+
+pub none-is : (n : ℕ) (had has : Option (List ℕ)) (answer : Bool) (line : List ℕ)
+    → answer ≡ false
+    → ReadsWhole n had answer line has
+    → NoneIs had has
+none-is n had has answer line e r = record { is = both-is had has (λ xs ys h. h.1) (subst (λ more. ReadsWhole n had more line has) e r) }
+
+-- ---- what lines come to that are told one by one, each behind its own fault
+
+abbrev pub Guards : {A : Type 0} → (ℕ → List (List ℕ × List ℕ) → Played A) → (ℕ → List ℕ → List (List ℕ × List ℕ) → Played A) → Type 0
+Guards {A} comes others = (n : ℕ) (line : List ℕ × List ℕ) (rest : List (List ℕ × List ℕ))
+    → comes n (line ∷ rest) ≡ unless_fault (line_fault n line) (others n line.0 rest)
+
+guarded : {A : Type 0} (comes : ℕ → List (List ℕ × List ℕ) → Played A) (others : ℕ → List ℕ → List (List ℕ × List ℕ) → Played A)
+    (f : Option ScriptError) (n : ℕ) (line : List ℕ) (xs ys : List ℕ)
+    → Guards comes others
+    → (octets : List ℕ) × ((whole_lines xs ≡ (line, octets) ∷ whole_lines ys) × (line_fault n (line, octets) ≡ f))
+    → comes n (whole_lines xs) ≡ unless_fault f (others n line (whole_lines ys))
+guarded comes others f n line xs ys guards h =
+    ap (comes n) h.1.0 ∙ guards n (line, h.0) (whole_lines ys) ∙ ap (λ x. unless_fault x (others n line (whole_lines ys))) h.1.1
+
+none_fault : (e : ScriptError) → ◌≡◌ {A = Option ScriptError} None (Some e) → ⊥
+none_fault e h = cc
+
+size_ends : {A : Type 0} (comes : ℕ → List (List ℕ × List ℕ) → Played A) (others : ℕ → List ℕ → List (List ℕ × List ℕ) → Played A)
+    (n : ℕ) (ls : List (List ℕ × List ℕ)) (e : ScriptError)
+    → Guards comes others
+    → next_fault n ls ≡ Some e
+    → comes n ls ≡ ends (Err e)
+size_ends comes others n [] e guards h = absurd (none_fault e h)
+size_ends comes others n (line ∷ rest) e guards h =
+    guards n line rest ∙ ap (λ f. unless_fault (option_or f (text_fault n line.0)) (others n line.0 rest)) h
+
+-- the size of the next line is a fault
+pub at-size : {A : Type 0} (comes : ℕ → List (List ℕ × List ℕ) → Played A) (others : ℕ → List ℕ → List (List ℕ × List ℕ) → Played A)
+    (n : ℕ) (had : Option (List ℕ)) (e : ScriptError)
+    → Guards comes others
+    → HasNextFault n had e
+    → IfSome had (λ xs. comes n (whole_lines xs) ≡ ends (Err e))
+at-size comes others n had e guards h = some-is had (λ xs fault. size_ends comes others n (whole_lines xs) e guards fault) h
+
+-- its text is
+pub at-line : {A : Type 0} (comes : ℕ → List (List ℕ × List ℕ) → Played A) (others : ℕ → List ℕ → List (List ℕ × List ℕ) → Played A)
+    (n : ℕ) (line : List ℕ) (had has : Option (List ℕ)) (e : ScriptError)
+    → Guards comes others
+    → NextIs n (Some e) line had has
+    → IfSome had (λ xs. comes n (whole_lines xs) ≡ ends (Err e))
+at-line comes others n line had has e guards h =
+    left-some had has (λ xs ys at. guarded comes others (Some e) n line xs ys guards at) h.is
+
+-- ---- lines of events
+
+abbrev pub others_played : Network → Names → RunningNetwork → ℕ → ℕ → List ℕ → List (List ℕ × List ℕ) → Played RunningNetwork
+others_played N names r place n line rest =
+    played_by (event_of place line) N names r place (λ next. played N names next (n + 1) (place + 1) rest)
+
+abbrev pub playing : Network → Names → RunningNetwork → ℕ → ℕ → List (List ℕ × List ℕ) → Played RunningNetwork
+playing N names r place n ls = played N names r n place ls
+
+pub play-guards : (N : Network) (names : Names) (r : RunningNetwork) (place : ℕ)
+    → Guards (playing N names r place) (others_played N names r place)
+play-guards N names r place = λ n line rest. refl
+
+pub event-skip : (place : ℕ) (line : List ℕ) → is_skipped line ≡ true → event_of place line ≡ Ok None
+event-skip place line s = cond-true _ _ _ s
+
+pub event-read : (place : ℕ) (line : List ℕ) (x : Result (Option Event) ScriptError)
     → is_skipped line ≡ false
-    → reading line ≡ Ok event
-    → events_from n (line ∷ left) ≡ (n, event) ∷ events_from (n + 1) left
-taken n line left event e r = cond-false _ _ _ e ∙ ap (λ x. numbered n x (events_from (n + 1) left)) r
+    → read_as place (reading line) ≡ x
+    → event_of place line ≡ x
+event-read place line x s r = cond-false _ _ _ s ∙ r
 
-bad_skipped : (n : ℕ) (line : List ℕ) (left : List (List ℕ))
-    → is_skipped line ≡ true
-    → bad_line_from n (line ∷ left) ≡ bad_line_from (n + 1) left
-bad_skipped n line left e = cond-true _ _ _ e
+-- all lines from the k-th on come to what is left of them from the n-th on, behind what was written
+pub record Plays (N : Network) (names : Names) (start now : RunningNetwork)
+    (first written : Option (List ℕ)) (k n place : ℕ) (xs ys : List ℕ) : Type 0 where
+  pub text : List ℕ
+  pub comes : played N names start k 1 (whole_lines xs) ≡ behind text (played N names now n place (whole_lines ys))
+  pub is : Appends first written text
 
-bad_taken : (n : ℕ) (line : List ℕ) (left : List (List ℕ)) (event : Event)
-    → is_skipped line ≡ false
-    → reading line ≡ Ok event
-    → bad_line_from n (line ∷ left) ≡ bad_line_from (n + 1) left
-bad_taken n line left event e r = cond-false _ _ _ e ∙ ap (λ x. bad_or n x (bad_line_from (n + 1) left)) r
+pub record PlaysOn (N : Network) (names : Names) (start now : RunningNetwork)
+    (first written : Option (List ℕ)) (k n place : ℕ) (a b : Option (List ℕ)) : Type 0 where
+  pub each : BothKnown a b (Plays N names start now first written k n place)
 
--- ---- a line is skipped
+pub plays-first : (N : Network) (names : Names) (start : RunningNetwork) (first : Option (List ℕ))
+    (k : ℕ) (a : Option (List ℕ))
+    → PlaysOn N names start start first first k k 1 a a
+plays-first N names start first k a = record {
+  each = both-same (Plays N names start start first first k k 1) a (λ xs. record { text = []; comes = refl; is = Appends-nil first });
+}
 
-pub bad-skip : (all : List (List ℕ)) (n : ℕ) (before after : List (List ℕ)) (line : List ℕ)
-    → before ≡ line ∷ after
-    → is_skipped line ≡ true
-    → SameBad all n before → SameBad all (n + 1) after
-bad-skip all n before after line e s h = sym (bad_skipped n line after s) ∙ ap (bad_line_from n) (sym e) ∙ h
+pub keeps-nil : (a b : Option (List ℕ)) → Keeps a b → Appends a b []
+keeps-nil None b k = tt
+keeps-nil (Some x) None k = absurd k
+keeps-nil (Some x) (Some y) k = k ∙ sym (append-nil x)
 
-pub text-skip : (N : Network) (names : Names) (start now : RunningNetwork)
-    (first written : Option (List ℕ)) (all : List (List ℕ)) (n : ℕ) (before after : List (List ℕ))
-    (line : List ℕ)
-    → before ≡ line ∷ after
-    → is_skipped line ≡ true
-    → GoesOn N names start now first written all n before
-    → GoesOn N names start now first written all (n + 1) after
-text-skip N names start now first written all n before after line e s h = λ v w.
-    h v (subst (λ es. Appends written v (event_lines N names now es)) (sym (ap (events_from n) e ∙ skipped n line after s)) w)
+-- a line more, for which this was written
+pub plays-more : {N : Network} {names : Names} {start now next : RunningNetwork}
+    {first written more : Option (List ℕ)} {a b c : Option (List ℕ)} {k n m place : ℕ} {line : List ℕ}
+    (one : List ℕ)
+    (x : Result (Option Event) ScriptError)
+    → PlaysOn N names start now first written k n place a b
+    → NextIs n None line b c
+    → event_of place line ≡ x
+    → ((others : RunningNetwork → Played RunningNetwork)
+    → played_by x N names now place others ≡ behind one (others next))
+    → Appends written more one → m ≡ n + 1
+    → PlaysOn N names start next first more k m (place + 1) a c
+plays-more {N} {names} {start} {now} {next} {first} {written} {more} {a} {b} {c} {k} {n} {m} {place} {line} one x h is read goes wrote e = record { each = both-on a b c more_of h.each is.is }
+  where
+    rest : List ℕ → RunningNetwork → Played RunningNetwork
+    rest zs r = played N names r (n + 1) (place + 1) (whole_lines zs)
 
-pub last-skip : (N : Network) (names : Names) (start now : RunningNetwork) (all : List (List ℕ))
-    (n : ℕ) (before after : List (List ℕ)) (line : List ℕ)
-    → before ≡ line ∷ after
-    → is_skipped line ≡ true
-    → LeadsOn N names start now all n before
-    → LeadsOn N names start now all (n + 1) after
-last-skip N names start now all n before after line e s h = ap (after_all N names now) (sym (ap (events_from n) e ∙ skipped n line after s)) ∙ h
+    step : (ys zs : List ℕ)
+        → (octets : List ℕ) × ((whole_lines ys ≡ (line, octets) ∷ whole_lines zs) × (line_fault n (line, octets) ≡ None))
+        → played N names now n place (whole_lines ys) ≡ behind one (rest zs next)
+    step ys zs at =
+        guarded (playing N names now place) (others_played N names now place) None n line ys zs (play-guards N names now place) at
+        ∙ ap (λ y. played_by y N names now place (rest zs)) read ∙ goes (rest zs)
 
--- ---- what was written is flushed
+    more_of : (xs ys zs : List ℕ)
+        → Plays N names start now first written k n place xs ys
+        → (octets : List ℕ) × ((whole_lines ys ≡ (line, octets) ∷ whole_lines zs) × (line_fault n (line, octets) ≡ None))
+        → Plays N names start next first more k m (place + 1) xs zs
+    more_of xs ys zs p at = record {
+      text = p.text ++ one;
+      comes = p.comes ∙ ap (behind p.text) (step ys zs at)
+          ∙ (λ i. record { text = (sym (append_assoc p.text one (rest zs next).text)) i; end = (rest zs next).end })
+          ∙ ap (λ j. behind (p.text ++ one) (played N names next j (place + 1) (whole_lines zs))) (sym e);
+      is = Appends-trans first written more p.text one p.is wrote;
+    }
 
-kept-before : (a b c : Option (List ℕ)) (bs : List ℕ) → Keeps a b → Appends b c bs → Appends a c bs
-kept-before None b c bs k p = tt
-kept-before (Some x) None c bs k p = absurd k
-kept-before (Some x) (Some y) None bs k p = absurd p
-kept-before (Some x) (Some y) (Some z) bs k p = p ∙ ap (λ w. w ++ bs) k
+-- no line more
+pub plays-end : {N : Network} {names : Names} {start now : RunningNetwork}
+    {first written : Option (List ℕ)} {a b c : Option (List ℕ)} {k n place : ℕ}
+    → PlaysOn N names start now first written k n place a b
+    → NoneIs b c
+    → IfSome a (λ xs. ((played N names start k 1 (whole_lines xs)).end ≡ Ok now) × Appends first written (played N names start k 1 (whole_lines xs)).text)
+plays-end {N} {names} {start} {now} {first} {written} {a} {b} {c} {k} {n} {place} h none =
+    both-end a b c
+    (λ xs ys zs p none.
+    let is : played N names start k 1 (whole_lines xs) ≡ record { text = p.text ++ []; end = Ok now } =
+    p.comes ∙ ap (λ ls. behind p.text (played N names now n place ls)) none.0 in
+    (ap (λ x. x.end) is, subst (Appends first written) (sym (append-nil p.text) ∙ sym (ap (λ x. x.text) is)) p.is))
+    h.each none.is
 
-pub text-kept : (N : Network) (names : Names) (start now : RunningNetwork)
-    (first written more : Option (List ℕ)) (all : List (List ℕ)) (n : ℕ) (left : List (List ℕ))
-    → Keeps written more
-    → GoesOn N names start now first written all n left
-    → GoesOn N names start now first more all n left
-text-kept N names start now first written more all n left k h = λ v w. h v (kept-before written more v _ k w)
+-- an error, which the lines that are left come to
+pub plays-err : {A : Type 0} (r : Result A ScriptError) (e : ScriptError) (last : RunningNetwork)
+    {N : Network} {names : Names} {start now : RunningNetwork}
+    {first written : Option (List ℕ)} (more : Option (List ℕ)) {a b : Option (List ℕ)} {k n place : ℕ}
+    → IsErrAnd r (λ x. x ≡ e)
+    → PlaysOn N names start now first written k n place a b
+    → (e ≢ faults.WriteFault → more ≡ written)
+    → (is_outside e ≡ false → IfSome b (λ ys. played N names now n place (whole_lines ys) ≡ ends (Err e)))
+    → IfSome a (λ xs. HasPlayed (played N names start k 1 (whole_lines xs)) last first more r)
+plays-err r e last {N} {names} {start} {now} {first} {written} more {a} {b} {k} {n} {place} given h kept fault =
+    err-is r e (λ r. IfSome a (λ xs. HasPlayed (played N names start k 1 (whole_lines xs)) last first more r)) given
+    (stopped a b h.each fault)
+  where
+    stopped : (a b : Option (List ℕ))
+        → BothKnown a b (Plays N names start now first written k n place)
+        → (is_outside e ≡ false → IfSome b (λ ys. played N names now n place (whole_lines ys) ≡ ends (Err e)))
+        → IfSome a (λ xs. HasStopped (played N names start k 1 (whole_lines xs)) first more e)
+    stopped None b p f = tt
+    stopped (Some xs) None p f = absurd p
+    stopped (Some xs) (Some ys) p f = (
+      λ inside. ap (λ x. x.end) p.comes ∙ ap (λ x. x.end) (f inside),
+      λ other. (
+        p.text,
+        ((played N names now n place (whole_lines ys)).text, (sym (ap (λ x. x.text) p.comes), subst (λ w. Appends first w p.text) (sym (kept other)) p.is)),
+      ),
+    )
 
--- ---- a line is an event, whose line is written
+-- it is no event
+pub at-event : (N : Network) (names : Names) (now : RunningNetwork) {n : ℕ} (place : ℕ) {line : List ℕ}
+    {b c : Option (List ℕ)} (e : ScriptError)
+    → NextIs n None line b c
+    → event_of place line ≡ Err e
+    → IfSome b (λ ys. played N names now n place (whole_lines ys) ≡ ends (Err e))
+at-event N names now {n} place {line} {b} {c} e is bad =
+    left-some b c
+    (λ ys zs at.
+    guarded (playing N names now place) (others_played N names now place) None n line ys zs (play-guards N names now place) at
+    ∙ ap (λ y. played_by y N names now place (λ next. played N names next (n + 1) (place + 1) (whole_lines zs))) bad)
+    is.is
 
-pub bad-take : (all : List (List ℕ)) (n : ℕ) (before after : List (List ℕ)) (line : List ℕ)
-    (event : Event)
-    → before ≡ line ∷ after
-    → is_skipped line ≡ false
-    → reading line ≡ Ok event → SameBad all n before → SameBad all (n + 1) after
-bad-take all n before after line event e s r h = sym (bad_taken n line after event s r) ∙ ap (bad_line_from n) (sym e) ∙ h
+-- ---- lines of a network file
 
-pub text-take : (N : Network) (names : Names) (start now next : RunningNetwork)
-    (first written more : Option (List ℕ)) (all : List (List ℕ)) (n : ℕ)
-    (before later : List (List ℕ))
-    (line : List ℕ) (event : Event) → before ≡ line ∷ later → is_skipped line ≡ false → reading line ≡ Ok event
-    → next ≡ after N now (placed names event)
-    → Appends written more (event_line N names now n event)
-    → GoesOn N names start now first written all n before
-    → GoesOn N names start next first more all (n + 1) later
-text-take N names start now next first written more all n before later line event e s r went line_written h = λ v w.
-    let rest = subst (λ x. Appends more v (event_lines N names x (events_from (n + 1) later))) went w in
-    let both = Appends-trans written more v _ _ line_written rest in
-    h v (subst (λ es. Appends written v (event_lines N names now es)) (sym (ap (events_from n) e ∙ taken n line later event s r)) both)
+abbrev pub others_of_file : (ℕ → List (List ℕ × List ℕ) → Played (List ℕ)) → ℕ → List ℕ → List (List ℕ × List ℕ) → Played (List ℕ)
+others_of_file others n line rest = if is_divider line then others (n + 1) rest else from_file others (n + 1) rest
 
-pub last-take : (N : Network) (names : Names) (start now next : RunningNetwork)
-    (all : List (List ℕ)) (n : ℕ) (before later : List (List ℕ)) (line : List ℕ) (event : Event)
-    → before ≡ line ∷ later
-    → is_skipped line ≡ false
-    → reading line ≡ Ok event
-    → next ≡ after N now (placed names event)
-    → LeadsOn N names start now all n before → LeadsOn N names start next all (n + 1) later
-last-take N names start now next all n before later line event e s r went h =
-    ap (λ x. after_all N names x (events_from (n + 1) later)) went
-    ∙ ap (after_all N names now) (sym (ap (events_from n) e ∙ taken n line later event s r)) ∙ h
+pub file-guards : (others : ℕ → List (List ℕ × List ℕ) → Played (List ℕ))
+    → Guards (from_file others) (others_of_file others)
+file-guards others = λ n line rest. refl
 
--- ---- no line is left
+-- all lines come to what those come to that are left
+abbrev pub FileGoes : Option (List ℕ) → ℕ → Option (List ℕ) → ℕ → Type 0
+FileGoes first n now m = BothKnown first now (λ xs ys.
+    (others : ℕ → List (List ℕ × List ℕ) → Played (List ℕ)) → from_file others n (whole_lines xs) ≡ from_file others m (whole_lines ys))
 
-pub bad-end : (all : List (List ℕ)) (n : ℕ) (left : List (List ℕ))
-    → left ≡ []
-    → SameBad all n left
-    → bad_line_from 1 all ≡ None
-bad-end all n left e h = sym h ∙ ap (bad_line_from n) e
+-- and to what others behind them do
+abbrev pub FileEnds : Option (List ℕ) → ℕ → Option (List ℕ) → ℕ → Type 0
+FileEnds first n now m = BothKnown first now (λ xs ys.
+    (others : ℕ → List (List ℕ × List ℕ) → Played (List ℕ)) → from_file others n (whole_lines xs) ≡ others m (whole_lines ys))
 
-pub text-end : (N : Network) (names : Names) (start now : RunningNetwork)
-    (first written : Option (List ℕ)) (all : List (List ℕ)) (n : ℕ) (left : List (List ℕ))
-    → left ≡ []
-    → GoesOn N names start now first written all n left
-    → Appends first written (event_lines N names start (events_from 1 all))
-text-end N names start now first written all n left e h =
-    h written (subst (λ ls. Appends written written (event_lines N names now (events_from n ls))) (sym e) (Appends-nil written))
+abbrev pub FileFault : Option (List ℕ) → ℕ → ScriptError → Type 0
+FileFault first n e = IfSome first (λ xs.
+    (others : ℕ → List (List ℕ × List ℕ) → Played (List ℕ)) → from_file others n (whole_lines xs) ≡ ends (Err e))
 
-pub last-end : (N : Network) (names : Names) (start now : RunningNetwork) (all : List (List ℕ))
-    (n : ℕ) (left : List (List ℕ))
-    → left ≡ []
-    → LeadsOn N names start now all n left → now ≡ after_all N names start (events_from 1 all)
-last-end N names start now all n left e h = sym (ap (λ ls. after_all N names now (events_from n ls)) e) ∙ h
+pub file-first : (n : ℕ) (a : Option (List ℕ)) → FileGoes a n a n
+file-first n a =
+    both-same (λ xs ys. (others : ℕ → List (List ℕ × List ℕ) → Played (List ℕ)) → from_file others n (whole_lines xs) ≡ from_file others n (whole_lines ys)) a
+    (λ xs others. refl)
 
--- ---- from what the reader tells
+pub file-more : (n m k : ℕ) (line : List ℕ) (a b c : Option (List ℕ))
+    → FileGoes a n b m
+    → NextIs m None line b c
+    → is_divider line ≡ false → k ≡ m + 1 → FileGoes a n c k
+file-more n m k line a b c h is d e =
+    both-on a b c
+    (λ xs ys zs p at others.
+    p others ∙ guarded (from_file others) (others_of_file others) None m line ys zs (file-guards others) at
+    ∙ cond-false _ _ _ d ∙ ap (λ j. from_file others j (whole_lines zs)) (sym e))
+    h is.is
 
-pub bad-first : (a : Option (List ℕ)) (n : ℕ)
-    → n ≡ 1
-    → BothKnown a a (λ xs ys. SameBad (lines xs) n (lines ys))
-bad-first None n e = tt
-bad-first (Some xs) n e = ap (λ k. bad_line_from k (lines xs)) e
+pub file-divider : (n m k : ℕ) (line : List ℕ) (a b c : Option (List ℕ))
+    → FileGoes a n b m
+    → NextIs m None line b c
+    → is_divider line ≡ true → k ≡ m + 1 → FileEnds a n c k
+file-divider n m k line a b c h is d e =
+    both-on a b c
+    (λ xs ys zs p at others.
+    p others ∙ guarded (from_file others) (others_of_file others) None m line ys zs (file-guards others) at
+    ∙ cond-true _ _ _ d ∙ ap (λ j. others j (whole_lines zs)) (sym e))
+    h is.is
 
-pub text-first : (N : Network) (names : Names) (start : RunningNetwork) (first : Option (List ℕ))
-    (a : Option (List ℕ)) (n : ℕ)
-    → n ≡ 1
-    → BothKnown a a (λ xs ys. GoesOn N names start start first first (lines xs) n (lines ys))
-text-first N names start first None n e = tt
-text-first N names start first (Some xs) n e = λ v w. subst (λ k. Appends first v (event_lines N names start (events_from k (lines xs)))) e w
+pub file-end : (n m k : ℕ) (a b c : Option (List ℕ))
+    → FileGoes a n b m
+    → NoneIs b c
+    → k ≡ m → FileEnds a n c k
+file-end n m k a b c h none e =
+    both-on a b c
+    (λ xs ys zs p none others.
+    p others ∙ ap (from_file others m) none.0 ∙ ap (others m) (sym none.1) ∙ ap (λ j. others j (whole_lines zs)) (sym e))
+    h none.is
 
-pub last-first : (N : Network) (names : Names) (start : RunningNetwork) (a : Option (List ℕ))
-    (n : ℕ)
-    → n ≡ 1
-    → BothKnown a a (λ xs ys. LeadsOn N names start start (lines xs) n (lines ys))
-last-first N names start None n e = tt
-last-first N names start (Some xs) n e = ap (λ k. after_all N names start (events_from k (lines xs))) e
+pub file-size : (n m : ℕ) (e : ScriptError) (a b : Option (List ℕ))
+    → FileGoes a n b m
+    → HasNextFault m b e
+    → FileFault a n e
+file-size n m e a b h r =
+    both-some a b
+    (λ xs ys p fault others. p others ∙ size_ends (from_file others) (others_of_file others) m (whole_lines ys) e (file-guards others) fault)
+    h r
 
--- a fact of what was left leads to one of what is left behind the next line
-pub line-on : (P Q : List (List ℕ) → List (List ℕ) → Type 0) (a b c : Option (List ℕ))
-    (line : List ℕ)
-    → ((all before after : List (List ℕ)) → before ≡ line ∷ after → P all before → Q all after)
-    → BothKnown a b (λ xs ys. P (lines xs) (lines ys))
-    → ReadsLine b true line c
-    → BothKnown a c (λ xs zs. Q (lines xs) (lines zs))
-line-on P Q None b c line on h r = tt
-line-on P Q (Some xs) None c line on h r = absurd h
-line-on P Q (Some xs) (Some ys) None line on h r = absurd r
-line-on P Q (Some xs) (Some ys) (Some zs) line on h r = on (lines xs) (lines ys) (lines zs) r h
-
--- and where no line is left, to one of all lines
-pub line-end : (P : List (List ℕ) → List (List ℕ) → Type 0) (Q : List (List ℕ) → Type 0)
-    (a b c : Option (List ℕ)) (line : List ℕ)
-    → ((all left : List (List ℕ)) → left ≡ [] → P all left → Q all)
-    → BothKnown a b (λ xs ys. P (lines xs) (lines ys))
-    → ReadsLine b false line c
-    → IfSome a (λ xs. Q (lines xs))
-line-end P Q None b c line on h r = tt
-line-end P Q (Some xs) None c line on h r = absurd h
-line-end P Q (Some xs) (Some ys) None line on h r = absurd r
-line-end P Q (Some xs) (Some ys) (Some zs) line on h r = on (lines xs) (lines ys) r.0 h
+pub file-text : (n m : ℕ) (line : List ℕ) (e : ScriptError) (a b c : Option (List ℕ))
+    → FileGoes a n b m
+    → NextIs m (Some e) line b c
+    → FileFault a n e
+file-text n m line e a b c h is =
+    both-end a b c
+    (λ xs ys zs p at others. p others ∙ guarded (from_file others) (others_of_file others) (Some e) m line ys zs (file-guards others) at)
+    h is.is

@@ -9,6 +9,6 @@ pub mod Took
 pub mod Stepping
 pub mod TookText
 pub mod Trace
-pub mod Script
 pub mod Lines
 pub mod ScriptError
+pub mod Script

@@ -15,14 +15,6 @@ BothKnown None after P = ⊤
 BothKnown (Some xs) None P = ⊥
 BothKnown (Some xs) (Some ys) P = P xs ys
 
--- the next line came, and is gone from what is left; or none came, as none was left and none is
-abbrev pub IsNextLine : Bool → List ℕ → List (List ℕ) → List (List ℕ) → Type 0
-IsNextLine true line before after = before ≡ line ∷ after
-IsNextLine false line before after = (before ≡ []) × (after ≡ [])
-
-abbrev pub ReadsLine : Option (List ℕ) → Bool → List ℕ → Option (List ℕ) → Type 0
-ReadsLine before more line after = BothKnown before after (λ xs ys. IsNextLine more line (lines xs) (lines ys))
-
 -- each line beside all that stands before its line feed, a carriage return too
 abbrev pub whole_lines : List ℕ → List (List ℕ × List ℕ)
 whole_lines octets = zip (lines octets) (slice_split (λ octet. octet == 10) octets)

@@ -1,5 +1,5 @@
--- What the lines of a script ask for (this project's profile): a network file, a line `%%`, and events, one a line.
-use Rattle.std.specs.Prelude.{◌≡◌, ◌<◌, ◌⊎◌, ℕ, ◌+◌, ◌==◌, length, not, slice_get, Bool, true, bytes_eq, codes, find, List, [], ◌∷◌, ◌++◌, Option, Some, None, Result, Ok, Err, if◌then◌else◌}
+-- What the lines of a script come to (this project's profile): a network file, a line `%%`, and events, one a line.
+use Rattle.std.specs.Prelude.{◌≡◌, ◌≢◌, ◌<◌, ◌⊎◌, ℕ, ◌+◌, ◌==◌, length, not, slice_get, Bool, true, false, bytes_eq, codes, find, List, [], ◌∷◌, ◌++◌, Option, Some, None, Result, Ok, Err, if◌then◌else◌}
 use Rattle.std.specs.Io.KnownBytes.{Appends}
 use Rattle.ptpm_agent.specs.Laws.{initial_clock_state}
 use Rattle.ptpm_manager.specs.Session.{SessionValue, fresh as fresh_session}
@@ -7,32 +7,36 @@ use Rattle.ptpm_network.specs.Network.{Network}
 use Rattle.ptpm_network.specs.RunningNetwork.{RunningNetwork}
 use Rattle.ptpm_script.specs.declared.event.Event.{Event}
 use Rattle.ptpm_script.specs.declared.event.EventError.{EventError}
+use Rattle.ptpm_script.specs.declared.net_error.NetError.{NetError}
 use Rattle.ptpm_script.specs.EventLine.{reading}
 use Rattle.ptpm_script.specs.NetworkText.{network_of}
 use Rattle.ptpm_script.specs.declared.network.NetworkSession.{NetworkSession}
 use Rattle.ptpm_script.specs.NetworkValue.{NetworkValue, first_sets}
 use Rattle.ptpm_script.specs.Words.{space}
+use Rattle.ptpm_world.specs.declared.script_error.ScriptError.{ScriptError}
+use Rattle.ptpm_world.specs.declared.script_error.ScriptError.TheVariants.{BadLine, BadNetwork, WriteFault}
 use Rattle.ptpm_world.specs.Described.{clock_at, described, described_session}
-use Rattle.ptpm_world.specs.Placed.{Names, names_of}
+use Rattle.ptpm_world.specs.Lines.{whole_lines}
+use Rattle.ptpm_world.specs.Placed.{Names, names_of, placed}
 use Rattle.ptpm_world.specs.Running.{no_session}
-use Rattle.ptpm_world.specs.Trace.{event_lines, line_feed, trace}
+use Rattle.ptpm_world.specs.ScriptError.{is_outside, line_fault}
+use Rattle.ptpm_world.specs.Trace.{after, data_lines, event_line, line_feed, report_lines}
 
--- ---- around the divider
+-- ---- the network file
 
 abbrev pub is_divider : List ℕ → Bool
 is_divider line = bytes_eq line (codes "%%")
 
 -- the lines before the divider, each followed by a line feed; all lines where there is none
-abbrev pub network_text : List (List ℕ) → List ℕ
+abbrev pub network_text : List (List ℕ × List ℕ) → List ℕ
 network_text [] = []
-network_text (line ∷ lines) = if is_divider line then [] else line ++ line_feed ++ network_text lines
+network_text (line ∷ lines) = if is_divider line.0 then [] else line.0 ++ line_feed ++ network_text lines
 
--- the lines after it
-abbrev pub event_part : List (List ℕ) → List (List ℕ)
-event_part [] = []
-event_part (line ∷ lines) = if is_divider line then lines else event_part lines
+-- What is kept of a text: all of it, or of one that is too long for a network file so much that it is still too long.
+abbrev pub StandsFor : List ℕ → List ℕ → Type 0
+StandsFor kept whole = (kept ≡ whole) ⊎ ((262144 < length kept) × (262144 < length whole))
 
--- ---- events
+-- ---- a line behind it
 
 -- the first octet that is no space, if there is one, is `#`
 abbrev pub begins_comment : Option ℕ → Bool
@@ -43,25 +47,59 @@ begins_comment (Some octet) = octet == 35
 abbrev pub is_skipped : List ℕ → Bool
 is_skipped line = begins_comment (find (λ octet. not (octet == space)) line)
 
-abbrev pub numbered : ℕ → Result Event EventError → List (ℕ × Event) → List (ℕ × Event)
-numbered number (Ok event) events = (number, event) ∷ events
-numbered number (Err error) events = []
+-- by its number after the divider, and what it is read as
+abbrev pub read_as : ℕ → Result Event EventError → Result (Option Event) ScriptError
+read_as place (Ok event) = Ok (Some event)
+read_as place (Err error) = Err (BadLine place error)
 
--- the events of lines with their numbers, of which this is the first: up to the first line that is no event
-abbrev pub events_from : ℕ → List (List ℕ) → List (ℕ × Event)
-events_from number [] = []
-events_from number (line ∷ lines) =
-    if is_skipped line then events_from (number + 1) lines else numbered number (reading line) (events_from (number + 1) lines)
+-- its event, none where it is skipped, or that it is no event
+abbrev pub event_of : ℕ → List ℕ → Result (Option Event) ScriptError
+event_of place line = if is_skipped line then Ok None else read_as place (reading line)
 
-abbrev pub bad_or : ℕ → Result Event EventError → Option (ℕ × EventError) → Option (ℕ × EventError)
-bad_or number (Ok event) more = more
-bad_or number (Err error) more = Some (number, error)
+-- ---- what lines come to
 
--- the first line that is no event, and why
-abbrev pub bad_line_from : ℕ → List (List ℕ) → Option (ℕ × EventError)
-bad_line_from number [] = None
-bad_line_from number (line ∷ lines) =
-    if is_skipped line then bad_line_from (number + 1) lines else bad_or number (reading line) (bad_line_from (number + 1) lines)
+-- the lines of their events, one after another, whether these are refused or not; and behind them where they lead, or the first
+-- fault, in the order in which lines are read
+pub record Played (A : Type 0) : Type 0 where
+  pub text : List ℕ
+  pub end : Result A ScriptError
+
+abbrev pub ends : {A : Type 0} → Result A ScriptError → Played A
+ends end = record { text = []; end = end }
+
+abbrev pub behind : {A : Type 0} → List ℕ → Played A → Played A
+behind text p = record { text = text ++ p.text; end = p.end }
+
+-- a line's own fault ends them
+abbrev pub unless_fault : {A : Type 0} → Option ScriptError → Played A → Played A
+unless_fault None p = p
+unless_fault (Some fault) p = ends (Err fault)
+
+-- a line, and what the others come to from where its event leads
+abbrev pub played_by : Result (Option Event) ScriptError
+    → Network
+    → Names
+    → RunningNetwork
+    → ℕ
+    → (RunningNetwork → Played RunningNetwork)
+    → Played RunningNetwork
+played_by (Ok None) N names r place others = others r
+played_by (Ok (Some event)) N names r place others =
+    behind (event_line N names r place event) (others (after N r (placed names event)))
+played_by (Err fault) N names r place others = ends (Err fault)
+
+-- lines of events from this one on, by its numbers in all that is read and after the divider
+abbrev pub played : Network
+    → Names
+    → RunningNetwork
+    → ℕ
+    → ℕ
+    → List (List ℕ × List ℕ)
+    → Played RunningNetwork
+played N names r number place [] = ends (Ok r)
+played N names r number place (line ∷ lines) =
+    unless_fault (line_fault number line)
+    (played_by (event_of place line.0) N names r place (λ next. played N names next (number + 1) (place + 1) lines))
 
 -- ---- the network as it starts
 
@@ -81,36 +119,72 @@ started n = record {
 
 -- ---- the whole
 
--- What is kept of a text: all of it, or of one that is too long for a network file so much that it is still too long.
-abbrev pub StandsFor : List ℕ → List ℕ → Type 0
-StandsFor kept whole = (kept ≡ whole) ⊎ ((262144 < length kept) × (262144 < length whole))
+-- behind the lines of the events the lines of the reports and of the data sets, as the network stands where the events lead
+abbrev pub closing : Names → Result RunningNetwork ScriptError → Result (List ℕ) ScriptError
+closing names (Ok r) = Ok (report_lines names r ++ data_lines names r)
+closing names (Err fault) = Err fault
 
--- Lines are a script, which prints this text: the lines before the divider are a network file, each line after it is an event or
--- is skipped, and the text is the trace of these events in that network, from its start on.
-pub record Prints (script : List (List ℕ)) (text : List ℕ) : Type 0 where
-  pub network : NetworkValue
-  pub is_network : network_of (network_text script) ≡ Ok network
-  pub are_events : bad_line_from 1 (event_part script) ≡ None
-  pub is_trace : text
-      ≡ trace (described network) (names_of network) (started network)
-      (events_from 1 (event_part script))
+abbrev pub closed : Names → Played RunningNetwork → Played (List ℕ)
+closed names p = record { text = p.text; end = closing names p.end }
 
--- Lines have a network file, and this text is the beginning of the lines of their events.
-pub record Begins (script : List (List ℕ)) (text : List ℕ) : Type 0 where
-  pub network : NetworkValue
-  pub rest : List ℕ
-  pub is_network : network_of (network_text script) ≡ Ok network
-  pub is_begun : text ++ rest
-      ≡ event_lines (described network) (names_of network) (started network)
-      (events_from 1 (event_part script))
+-- lines of events, where the file before them is this network, from its start on; the fault that it has is met before them
+abbrev pub in_network : Result NetworkValue NetError → ℕ → List (List ℕ × List ℕ) → Played (List ℕ)
+in_network (Ok n) number lines = closed (names_of n) (played (described n) (names_of n) (started n) number 1 lines)
+in_network (Err error) number lines = ends (Err (BadNetwork error))
 
--- a writer took the beginning of the lines of these events
-abbrev pub TakesFirst : Network
-    → Names
+-- lines of a network file from this one on, and what those behind the divider come to
+abbrev pub from_file : (ℕ → List (List ℕ × List ℕ) → Played (List ℕ))
+    → ℕ
+    → List (List ℕ × List ℕ)
+    → Played (List ℕ)
+from_file others number [] = others number []
+from_file others number (line ∷ lines) =
+    unless_fault (line_fault number line)
+    (if is_divider line.0 then others (number + 1) lines else from_file others (number + 1) lines)
+
+-- a script, whose first line has this number
+abbrev pub scripted_from : ℕ → List ℕ → Played (List ℕ)
+scripted_from number octets =
+    from_file (in_network (network_of (network_text (whole_lines octets)))) number (whole_lines octets)
+
+abbrev pub scripted : List ℕ → Played (List ℕ)
+scripted input = scripted_from 1 input
+
+-- A script prints this text: the lines before the divider are a network file, each line after it is an event or is skipped, and
+-- the text is the trace of these events in that network, from its start on.
+abbrev pub Prints : List ℕ → List ℕ → Type 0
+Prints input text = (last : List ℕ) × (((scripted input).end ≡ Ok last) × (text ≡ (scripted input).text ++ last))
+
+-- ---- what a call does that plays lines
+
+-- a writer took the beginning of a text
+abbrev pub TakesFirst : List ℕ → Option (List ℕ) → Option (List ℕ) → Type 0
+TakesFirst whole before after =
+    (text : List ℕ) × ((rest : List ℕ) × ((text ++ rest ≡ whole) × Appends before after text))
+
+-- it ends early: with the lines' first fault, unless reading, writing or memory failed; and, where writing did not fail, a beginning
+-- of the lines of their events was written
+abbrev pub HasStopped : {A : Type 0} → Played A → Option (List ℕ) → Option (List ℕ) → ScriptError → Type 0
+HasStopped p before after e =
+    (is_outside e ≡ false → p.end ≡ Err e) × (e ≢ WriteFault → TakesFirst p.text before after)
+
+-- the lines of all events were written, and they lead here
+abbrev pub HasPlayed : {A : Type 0}
+    → Played RunningNetwork
     → RunningNetwork
-    → List (ℕ × Event)
     → Option (List ℕ)
     → Option (List ℕ)
+    → Result A ScriptError
     → Type 0
-TakesFirst N names r events before after =
-    (text : List ℕ) × ((rest : List ℕ) × ((text ++ rest ≡ event_lines N names r events) × Appends before after text))
+HasPlayed p r before after (Ok done) = (p.end ≡ Ok r) × Appends before after p.text
+HasPlayed p r before after (Err e) = HasStopped p before after e
+
+-- a script was run: it has no fault, and the text that it prints was written
+abbrev pub HasPrinted : {A : Type 0}
+    → List ℕ
+    → Option (List ℕ)
+    → Option (List ℕ)
+    → Result A ScriptError
+    → Type 0
+HasPrinted input before after (Ok done) = (text : List ℕ) × (Prints input text × Appends before after text)
+HasPrinted input before after (Err e) = HasStopped (scripted input) before after e

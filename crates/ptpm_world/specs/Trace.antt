@@ -81,16 +81,6 @@ event_line N names r number e =
     let event = placed names e in
     event_text number (verb_of e) (answer N r event) (is_late_event r event) (length r.frames) (length (after N r event).frames)
 
--- the lines of numbered events, one after another, whether they are refused or not
-abbrev pub event_lines : Network → Names → RunningNetwork → List (ℕ × Event) → List ℕ
-event_lines N names r [] = []
-event_lines N names r (e ∷ es) = event_line N names r e.0 e.1 ++ event_lines N names (after N r (placed names e.1)) es
-
--- where they lead
-abbrev pub after_all : Network → Names → RunningNetwork → List (ℕ × Event) → RunningNetwork
-after_all N names r [] = r
-after_all N names r (e ∷ es) = after_all N names (after N r (placed names e.1)) es
-
 -- ---- reports
 
 -- the standard's name of a managementErrorId (15.5.4.3), or its four hexadecimal digits
@@ -145,11 +135,3 @@ clock_lines clock sets = data_set_lines clock sets ++ flat_map (port_line clock 
 
 abbrev pub data_lines : Names → RunningNetwork → List ℕ
 data_lines names r = flat_map (λ c. clock_lines c.1 (r.clock c.0).sets) (enumerate_from 0 names.clocks)
-
--- ---- the whole
-
--- the lines of the events from a running network on, and the reports and data sets of where they lead
-abbrev pub trace : Network → Names → RunningNetwork → List (ℕ × Event) → List ℕ
-trace N names r es =
-    let last = after_all N names r es in
-    event_lines N names r es ++ report_lines names last ++ data_lines names last

@@ -28,7 +28,7 @@ pub(crate) struct Lines<R> {
 }
 
 impl<R: Read + Drop> Lines<R> {
-    ghost use Rattle.ptpm_world.specs.Lines.{ReadsLine, given, left_in};
+    ghost use Rattle.ptpm_world.specs.Lines.{given, left_in};
     ghost use Rattle.ptpm_world.specs.ScriptError.{HasNextFault, ReadsWhole, is_outside, text_fault};
 
     /// The lines of a reader. Takes the memory for one line and for the reader's buffer.
@@ -52,11 +52,8 @@ impl<R: Read + Drop> Lines<R> {
     /// A line ends with a line feed, or with a carriage return and a line feed. The last may lack its end, and then a carriage
     /// return stays.
     pub(crate) fn read(&mut self) -> Result<bool, ScriptError>
-        ensures line { IfOk result
-            (λ more.
-            ReadsLine (left_in R.remaining self.old) more self.new.line.items
-            (left_in R.remaining self.new)) }
         ensures count { result ≡ Ok true → self.new.count ≡ self.old.count + 1 }
+        ensures same { result ≡ Ok false → self.new.count ≡ self.old.count }
         ensures whole { IfOk result
             (λ more.
             ReadsWhole (self.old.count + 1) (left_in R.remaining self.old) more
@@ -83,9 +80,6 @@ impl<R: Read + Drop> Lines<R> {
     /// Reads the rest of a line, after its first octet.
     fn read_rest(&mut self, first: u8) -> Result<(), ScriptError>
         requires { length self.old.line.items ≡ 0 }
-        ensures line { OnOk result
-            (ReadsLine (option_map (λ octets. first ∷ octets) (left_in R.remaining self.old)) true
-            self.new.line.items (left_in R.remaining self.new)) }
         ensures count { self.new.count ≡ self.old.count }
         ensures whole { OnOk result
             (ReadsWhole self.old.count

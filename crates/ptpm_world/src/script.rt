@@ -1,22 +1,20 @@
 //! A script: a network file, a line `%%`, and events, one a line.
 
-ghost use Rattle.std.specs.Prelude.{[], ◌≡◌, ◌≢◌, ◌⊎◌, ◌==◌, ◌+◌, ◌++◌, ◌<◌, ◌≤◌, ℕ, IfErr, IfOk, IfSome, List, None, Ok, OnOk, Option, Some, false, find, length, not, string_bytes, true};
+ghost use Rattle.std.specs.Prelude.{◌≡◌, ◌≢◌, ◌==◌, ◌+◌, ◌++◌, ◌<◌, ◌≤◌, ℕ, Err, IfErr, IfOk, IfSome, List, None, Ok, OnOk, Option, Some, false, find, length, not, string_bytes, true};
 ghost use Rattle.std.specs.Io.KnownBytes.{Appends, Keeps};
-ghost use Rattle.std.specs.Option.{option_copied, option_or};
-ghost use Rattle.std.specs.Str.Lines.{lines};
+ghost use Rattle.std.specs.Option.{option_copied};
 ghost use Rattle.ptpm_network.specs.Network as machine;
 ghost use Rattle.ptpm_script.specs.EventLine.{reading};
 ghost use Rattle.ptpm_script.specs.NetworkText.{network_of};
 ghost use Rattle.ptpm_script.specs.NetworkView.{network_value};
 ghost use Rattle.ptpm_script.specs.Words.{space};
-ghost use Rattle.ptpm_world.specs.declared.script_error.ScriptError.{ScriptError};
 ghost use Rattle.ptpm_world.specs.declared.script_error.ScriptError.TheVariants as faults;
 ghost use Rattle.ptpm_world.specs.Lines.{BothKnown, left_in, whole_lines};
 ghost use Rattle.ptpm_world.specs.Placed.{names_in, placed};
 ghost use Rattle.ptpm_world.specs.Running.{IsOf, running};
-ghost use Rattle.ptpm_world.specs.Script.{Begins, Prints, StandsFor, TakesFirst, bad_line_from, event_part, events_from, is_divider, is_skipped, network_text};
-ghost use Rattle.ptpm_world.specs.ScriptError.{events_fault, file_fault, is_outside, network_fault, reading_fault, script_fault};
-ghost use Rattle.ptpm_world.specs.Trace.{after, after_all, event_line, event_lines, line_feed};
+ghost use Rattle.ptpm_world.specs.Script.{HasPlayed, HasPrinted, Played, Prints, StandsFor, ends, from_file, in_network, is_divider, is_skipped, network_text, played, read_as, scripted_from};
+ghost use Rattle.ptpm_world.specs.ScriptError.{is_outside};
+ghost use Rattle.ptpm_world.specs.Trace.{after, event_line, line_feed};
 
 use crate::lines::Lines;
 use crate::script_error::ScriptError;
@@ -32,9 +30,9 @@ const DIVIDER: &str = "%%";
 
 /// The lines of a script print one text at most.
 pub fn one_trace()
-    ensures { (script : List (List ℕ)) (first second : List ℕ)
-        → Prints script first
-        → Prints script second
+    ensures { (input first second : List ℕ)
+        → Prints input first
+        → Prints input second
         → first ≡ second }
 {}
 
@@ -51,24 +49,8 @@ pub fn run_script<R: Read + Drop, W: Write>(
     reader: R,
     out: &mut W,
 ) -> Result<(), ScriptError>
-    ensures trace { OnOk result
-        (IfSome (R.remaining reader)
-        (λ input.
-        (text : List ℕ) × Prints (lines input) text
-        × Appends (W.contents out.old) (W.contents out.new) text)) }
-    ensures none { OnOk result (IfSome (R.remaining reader) (λ input. script_fault input ≡ None)) }
-    ensures fault { IfErr result
-        (λ e.
-        is_outside e ≡ false
-        → IfSome (R.remaining reader) (λ input. script_fault input ≡ Some e)) }
-    ensures begun { IfErr result
-        (λ e.
-        e ≢ faults.WriteFault
-        → IfSome (R.remaining reader)
-        (λ input.
-        (text : List ℕ)
-        × (((text ≡ []) ⊎ Begins (lines input) text)
-        × Appends (W.contents out.old) (W.contents out.new) text))) }
+    ensures { IfSome (R.remaining reader)
+        (λ input. HasPrinted input (W.contents out.old) (W.contents out.new) result) }
 {
     let mut script = Lines::new(alloc, reader)?;
     let network = read_network(alloc, &mut script)?;
@@ -89,20 +71,13 @@ fn read_network<R: Read + Drop>(
         (λ network.
         BothKnown (left_in R.remaining script.old) (left_in R.remaining script.new)
         (λ before after.
-        (network_of (network_text (lines before)) ≡ Ok (network_value network))
-        × (lines after ≡ event_part (lines before)))) }
-    ensures none { OnOk result
-        (BothKnown (left_in R.remaining script.old) (left_in R.remaining script.new)
-        (λ before after.
-        file_fault None (script.old.count + 1) (whole_lines before)
-        ≡ events_fault (script.new.count + 1) 1 (whole_lines after))) }
+        scripted_from (script.old.count + 1) before
+        ≡ in_network (Ok (network_value network)) (script.new.count + 1) (whole_lines after))) }
     ensures fault { IfErr result
         (λ e.
         is_outside e ≡ false
         → IfSome (left_in R.remaining script.old)
-        (λ octets.
-        file_fault (network_fault (network_of (network_text (lines octets))))
-        (script.old.count + 1) (whole_lines octets) ≡ Some e)) }
+        (λ octets. scripted_from (script.old.count + 1) octets ≡ ends (Err e))) }
 {
     let text = read_text(alloc, script)?;
     network_of_text(alloc, text.as_str())
@@ -112,7 +87,10 @@ fn read_network<R: Read + Drop>(
 fn network_of_text(alloc: Global, text: &str) -> Result<Network, ScriptError>
     ensures network { IfOk result (λ network. network_of text.now ≡ Ok (network_value network)) }
     ensures fault { IfErr result
-        (λ e. is_outside e ≡ false → network_fault (network_of text.now) ≡ Some e) }
+        (λ e.
+        is_outside e ≡ false
+        → (number : ℕ) (lines : List (List ℕ × List ℕ))
+        → in_network (network_of text.now) number lines ≡ ends (Err e)) }
 {
     match Network::from_toml(alloc, text) {
         Ok(network) => Ok(network),
@@ -128,23 +106,17 @@ fn read_text<R: Read + Drop>(alloc: Global, script: &mut Lines<R>) -> Result<Str
         (λ text.
         BothKnown (left_in R.remaining script.old) (left_in R.remaining script.new)
         (λ before after.
-        StandsFor (string_bytes text) (network_text (lines before))
-        × (lines after ≡ event_part (lines before)))) }
-    ensures none { OnOk result
-        (BothKnown (left_in R.remaining script.old) (left_in R.remaining script.new)
-        (λ before after.
-        (network : Option ScriptError)
-        → file_fault network (script.old.count + 1) (whole_lines before)
-        ≡ option_or network
-        (events_fault (script.new.count + 1) 1 (whole_lines after)))) }
+        StandsFor (string_bytes text) (network_text (whole_lines before))
+        × ((others : ℕ → List (List ℕ × List ℕ) → Played (List ℕ))
+        → from_file others (script.old.count + 1) (whole_lines before)
+        ≡ others (script.new.count + 1) (whole_lines after)))) }
     ensures fault { IfErr result
         (λ e.
         is_outside e ≡ false
         → IfSome (left_in R.remaining script.old)
         (λ octets.
-        (network : Option ScriptError)
-        → file_fault network (script.old.count + 1) (whole_lines octets)
-        ≡ Some e)) }
+        (others : ℕ → List (List ℕ × List ℕ) → Played (List ℕ))
+        → from_file others (script.old.count + 1) (whole_lines octets) ≡ ends (Err e))) }
 {
     let mut text = String::new(alloc);
     while script.read()? {
@@ -185,44 +157,15 @@ fn play<R: Read + Drop, W: Write>(
     world: &mut World,
     out: &mut W,
 ) -> Result<(), ScriptError>
-    ensures events { OnOk result
-        (IfSome (left_in R.remaining script.old)
-        (λ octets. bad_line_from 1 (lines octets) ≡ None)) }
-    ensures text { (N : machine.Network)
+    ensures played { (N : machine.Network)
         → IsOf N world.old
-        → OnOk result
-        (IfSome (left_in R.remaining script.old)
+        → IfSome (left_in R.remaining script.old)
         (λ octets.
-        Appends (W.contents out.old) (W.contents out.new)
-        (event_lines N (names_in world.old) (running world.old)
-        (events_from 1 (lines octets))))) }
-    ensures last { (N : machine.Network)
-        → IsOf N world.old
-        → OnOk result
-        (IfSome (left_in R.remaining script.old)
-        (λ octets.
-        running world.new
-        ≡ after_all N (names_in world.old) (running world.old)
-        (events_from 1 (lines octets)))) }
+        HasPlayed
+        (played N (names_in world.old) (running world.old) (script.old.count + 1) 1
+        (whole_lines octets)) (running world.new) (W.contents out.old) (W.contents out.new)
+        result) }
     ensures names { OnOk result (names_in world.new ≡ names_in world.old) }
-    ensures none { OnOk result (IfSome (left_in R.remaining script.old) (λ octets.
-        events_fault (script.old.count + 1) 1 (whole_lines octets) ≡ None)) }
-    ensures fault { IfErr result
-        (λ e.
-        is_outside e ≡ false
-        → IfSome (left_in R.remaining script.old)
-        (λ octets.
-        events_fault (script.old.count + 1) 1 (whole_lines octets) ≡ Some e)) }
-    ensures begun { (N : machine.Network)
-        → IsOf N world.old
-        → IfErr result
-        (λ e.
-        e ≢ faults.WriteFault
-        → IfSome (left_in R.remaining script.old)
-        (λ octets.
-        TakesFirst N (names_in world.old) (running world.old)
-        (events_from 1 (lines octets)) (W.contents out.old)
-        (W.contents out.new))) }
 {
     let mut number = 0;
     while script.read()? {
@@ -277,9 +220,9 @@ fn show_written<W: Write>(is_awaited: bool, out: &mut W) -> Result<(), ScriptErr
 
 /// The event of a line.
 fn event_of(alloc: Global, number: u32, line: &str) -> Result<Event, ScriptError>
-    ensures event { IfOk result (λ event. reading line.now ≡ Ok event) }
+    ensures event { IfOk result (λ event. read_as number (reading line.now) ≡ Ok (Some event)) }
     ensures fault { IfErr result
-        (λ e. is_outside e ≡ false → reading_fault number (reading line.now) ≡ Some e) }
+        (λ e. is_outside e ≡ false → read_as number (reading line.now) ≡ Err e) }
 {
     match read_event(alloc, line) {
         Ok(event) => Ok(event),

@@ -1,5 +1,5 @@
 use Rattle.ptpm_world.proofs.Common.{◌+◌, ◌-◌, string_bytes, left_in}
-use Rattle.ptpm_world.proofs.FaultLemmas.{FileGoes}
+use Rattle.ptpm_world.proofs.Playing.{FileGoes}
 use Rattle.ptpm_world.proofs.ScriptLemmas.{Kept}
 use Rattle.ptpm_world.proofs.script.read_text.Given as goal
 
@@ -10,7 +10,7 @@ invariant-loop-text g l =
     let now = left_in g.R.Read.remaining l.script in
     record {
       kept : Kept first now (string_bytes l.text);
-      faults : FileGoes first (l.initial.script.count + 1) now (l.script.count + 1);
+      goes : FileGoes first (l.initial.script.count + 1) now (l.script.count + 1);
     }
 
 abbrev pub decreases-loop-text : goal.decreases-loop-text

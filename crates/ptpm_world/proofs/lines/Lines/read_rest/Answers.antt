@@ -1,7 +1,7 @@
-use Rattle.ptpm_world.proofs.Common.{IfNone, OnSome, Consumes, IsAtEnd, true, ◌≤◌, ◌+◌, ◌≡◌, ◌++◌, ◌∷◌, [], length, length-append, ap, subst, sym, ◌∙◌, arith, rules, ne_eqb, option_map, ReadsLine, given, left_in, HasNextFault, ReadsWhole}
+use Rattle.ptpm_world.proofs.Common.{IfNone, OnSome, Consumes, IsAtEnd, true, ◌≤◌, ◌+◌, ◌≡◌, ◌++◌, ◌∷◌, [], length, length-append, ap, subst, sym, ◌∙◌, arith, rules, ne_eqb, option_map, given, left_in, HasNextFault, ReadsWhole}
 use Rattle.std.specs.Io.Buffered.{reader_remaining}
 use Rattle.ptpm_world.specs.declared.script_error.ScriptError.TheVariants as faults
-use Rattle.ptpm_world.proofs.LineLemmas.{IsRead, NoFeed, empty_is, end-on, no_feed-more, read-end, read-feed, read-first, read-more, some_there}
+use Rattle.ptpm_world.proofs.LineLemmas.{IsRead, NoFeed, empty_is, end-on, no_feed-more, read-first, read-more, some_there}
 use Rattle.ptpm_world.proofs.FaultLemmas.{whole-end, whole-feed, whole-long}
 use Rattle.ptpm_world.proofs.lines.Lines.read_rest.Goals as goal
 
@@ -16,16 +16,6 @@ loop-next-init g c =
       at_end = search rules;
       count = search rules;
     }
-
-pub returns-then-octet-eq10-clause-line : goal.returns-then-octet-eq10-clause-line
-returns-then-octet-eq10-clause-line g c =
-    let R = g.R.Read.remaining in
-    let h = c.loop-next.invariant in
-    let read = subst (IsRead (left_in R c.args.self.now) (left_in R c.loop-next.self) c.args.first c.loop-next.self.line.items) c.in-Some.is h.read in
-    let whole = read-feed (left_in R c.args.self.now) (left_in R c.loop-next.self) c.args.first c.in-Some.octet _ c.drop_return.new.self.line.items read
-    c.if-octet-eq10.true h.free c.drop_return.ensures.line in
-    subst (λ r. ReadsLine (option_map (λ octets. c.args.first ∷ octets) (left_in R c.args.self.now)) true c.drop_return.new.self.line.items (reader_remaining R r))
-    (sym c.drop_return.ensures.reader) whole
 
 pub loop-next-preserved : goal.loop-next-preserved
 loop-next-preserved g c =
@@ -49,16 +39,6 @@ loop-next-preserved g c =
           (subst (λ r. IfNone next (OnSome (reader_remaining R r) (IsAtEnd (left_in R c.read_octet.new.self)))) c.in_ok-keep.ensures.reader c.in_ok-next.ensures.end);
       count = c.in_ok-next.ensures.count ∙ c.in_ok-keep.ensures.count ∙ h.count;
     }
-
-pub returns-clause-line : goal.returns-clause-line
-returns-clause-line g c =
-    let R = g.R.Read.remaining in
-    let h = c.loop-next.invariant in
-    let before = left_in R c.args.self.now in
-    let after = left_in R c.loop-next.self in
-    let read = subst (IsRead before after c.args.first c.loop-next.self.line.items) c.in_default.is h.read in
-    let end = subst (λ o. IfNone o (OnSome before (IsAtEnd after))) c.in_default.is h.at_end in
-    read-end before after c.args.first c.loop-next.self.line.items read end h.free (h.some c.in_default.is)
 
 pub returns-then-octet-eq10-clause-whole : goal.returns-then-octet-eq10-clause-whole
 returns-then-octet-eq10-clause-whole g c =
