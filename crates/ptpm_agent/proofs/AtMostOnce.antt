@@ -1,10 +1,9 @@
--- At-most-once execution: what a turn does with a copy of a request is what the history says, and so for lists.
-use Rattle.std.proofs.Common.{arith, ◌≡◌, ℕ, ◌<◌, ◌≤◌, ◌==◌, List, [], ◌∷◌, ◌++◌, Option, Some, None, Ok, Bool, true, false, length, refl, sym, ◌∙◌, ap, subst, ⊎_elim}
+-- At-most-once execution: what a turn does with a copy of a request is what the history says.
+use Rattle.std.proofs.Common.{arith, ◌≡◌, ℕ, ◌<◌, ◌≤◌, ◌==◌, List, [], ◌∷◌, Option, Some, None, Ok, Bool, true, false, length, refl, sym, ◌∙◌, ap, subst, ⊎_elim}
 use Rattle.std.proofs.lemmas.Bool.{cases_Bool, cases_eq, cases_order, and_from, and_left, and_right, or_left, or_right, or_from, eq-eqb, ne_eqb, lt-ltb, le-ltb, cond-true, cond-false, true≢false, false≢true}
 use Rattle.std.proofs.lemmas.Bool.Decides.{nat_tests}
 use Rattle.std.proofs.lemmas.Option.{none-some, cond_some}
 use Rattle.std.specs.FinMap.{get, get-empty}
-use Rattle.std.specs.List.{cons_option}
 use Rattle.ptpm_codec.specs.declared.identity.PortIdentity.{PortIdentity}
 use Rattle.ptpm_codec.specs.declared.message.Message.{Message}
 use Rattle.ptpm_codec.specs.Identity.{identity_cmp}
@@ -20,11 +19,11 @@ use Rattle.ptpm_table.specs.Serial.{order_of, serial_of}
 use Rattle.ptpm_agent.specs.declared.verdict.Verdict.{Verdict}
 use Rattle.ptpm_agent.specs.declared.verdict.Verdict.TheVariants as verdicts
 use Rattle.ptpm_agent.specs.Addressing.{heard_of, request_of}
-use Rattle.ptpm_agent.specs.Turn.{Clock, State, Turned, is_repeat, judged, kept_reply_of, look, next_by, outbox_of, reply_by, reply_messages, turn, turn_by, verdict_at}
-use Rattle.ptpm_agent.specs.Once.{Delivery, RequestCopy, History, after_copy, applied_once, copies, initial_history, copy_by, copy_from, copy_of, due_reply, greatest, is_copy, joins, kept_for, kept_reply}
+use Rattle.ptpm_agent.specs.Turn.{Clock, State, Turned, is_repeat, judged, kept_reply_of, look, next_by, reply_by, reply_messages, turn, turn_by, verdict_at}
+use Rattle.ptpm_agent.specs.Once.{Delivery, RequestCopy, History, after_copy, applied_once, initial_history, copy_by, copy_from, copy_of, due_reply, greatest, is_copy, joins, kept_for, kept_reply}
 use Rattle.ptpm_codec.specs.SequenceNumber.{number_of}
-use Rattle.ptpm_agent.specs.Window.{AreNumbered, IsInTime, IsInWindow, IsNumbered, KeepsWindow}
-use Rattle.ptpm_agent.specs.Laws.{IsKept, IsLatest, StandsAt, due_messages, initial_clock_state, turns}
+use Rattle.ptpm_agent.specs.Window.{IsInTime, IsNumbered}
+use Rattle.ptpm_agent.specs.Laws.{IsKept, IsLatest, StandsAt, due_messages, initial_clock_state}
 use Rattle.ptpm_agent.proofs.Entries.{StandsAt-joined, accepted_at}
 use Rattle.ptpm_agent.proofs.Numbers.{serial_of-number_of}
 use Rattle.ptpm_agent.proofs.Turns.{CopyParts, copy_parts, forwarded-copy, judged-elsewhere, judged-numbered, look-copy, next_by-no_copy, turn-message, turn-next}
@@ -109,7 +108,7 @@ goes_still first c s h x v w stays at j reply = record {
 
 -- ---- what is due
 
-joins-below : (h : History) (k : RequestCopy)
+pub joins-below : (h : History) (k : RequestCopy)
     → k.index ≤ greatest k.heard.source h.accepted
     → joins h k ≡ false
 joins-below h k le = and_right _ _ (le-ltb _ _ le)
@@ -359,7 +358,7 @@ pub turn-no_copy : (c : Clock) (s : State) (x : Delivery)
 turn-no_copy c s x none =
     turn-next (λ (n : State). n ≡ s) c s x.ingress x.datagram refl (λ v r. next_by-no_copy c s v (no_copy c (length s.sets.ports) x v none r))
 
--- ---- lists
+-- ---- where a clock begins, and its number of ports
 
 pub stands-initial_history : (first : PortIdentity → ℕ) (d : DataSetsValue)
     → StandsAt first (initial_clock_state d) (initial_history d)
@@ -369,7 +368,7 @@ stands-initial_history first d = record {
 }
 
 -- what was accepted leaves as many ports
-after_copy-ports : (c : Clock) (h : History) (k : RequestCopy)
+pub after_copy-ports : (c : Clock) (h : History) (k : RequestCopy)
     → length (after_copy c h k).sets.ports ≡ length h.sets.ports
 after_copy-ports c h k = ⊎_elim
     (λ (y : joins h k ≡ true).
@@ -381,148 +380,6 @@ pub applied_once-ports : (c : Clock) (h : History) (ks : List RequestCopy)
     → length (applied_once c h ks).sets.ports ≡ length h.sets.ports
 applied_once-ports c h [] = refl
 applied_once-ports c h (k ∷ ks) = applied_once-ports c (after_copy c h k) ks ∙ after_copy-ports c h k
-
--- a delivery at a clock that stands at a history, and has its number of ports
-pub stands-other : (first : PortIdentity → ℕ) (c : Clock) (ports : ℕ) (s : State) (h : History)
-    (x : Delivery)
-    → length h.sets.ports ≡ ports
-    → copy_of c ports x ≡ None
-    → StandsAt first s h
-    → StandsAt first (turn c s x.ingress x.datagram).next h
-stands-other first c ports s h x many e at =
-    subst (λ (t : State). StandsAt first t h)
-    (sym (turn-no_copy c s x (ap (λ (d : DataSetsValue). copy_of c (length d.ports) x) at.sets ∙ (ap (λ p. copy_of c p x) many ∙ e)))) at
-
-pub stands-copy : (first : PortIdentity → ℕ) (c : Clock) (ports : ℕ) (s : State) (h : History)
-    (x : Delivery) (k : RequestCopy)
-    → length h.sets.ports ≡ ports
-    → copy_of c ports x ≡ Some k
-    → StandsAt first s h
-    → IsInTime first h k
-    → StandsAt first (turn c s x.ingress x.datagram).next (after_copy c h k)
-stands-copy first c ports s h x k many e at time = (turns_as first c s h x k at (ap (λ p. copy_of c p x) many ∙ e) time).stands
-
--- a clock stands where the copies ks, which are left of all, go on from
-record GoesOn (first : PortIdentity → ℕ) (c : Clock) (ports : ℕ) (s : State) (h : History) (ks all : List RequestCopy) : Type 0 where
-  pub before : History
-  pub as_many : length before.sets.ports ≡ ports
-  pub stands : StandsAt first s before
-  pub numbered : AreNumbered first ks
-  pub window : KeepsWindow c before ks
-  pub is : applied_once c before ks ≡ applied_once c h all
-
--- so it does after a delivery, of which there is a copy or none
-goes_on : (first : PortIdentity → ℕ) (c : Clock) (ports : ℕ) (s : State) (h : History)
-    (x : Delivery) (o : Option RequestCopy) (ks : List RequestCopy)
-    → length h.sets.ports ≡ ports
-    → copy_of c ports x ≡ o
-    → StandsAt first s h
-    → AreNumbered first (cons_option o ks)
-    → KeepsWindow c h (cons_option o ks)
-    → GoesOn first c ports (turn c s x.ingress x.datagram).next h ks (cons_option o ks)
-goes_on first c ports s h x None ks many e at numbered window = record {
-  before = h;
-  as_many = many;
-  stands = stands-other first c ports s h x many e at;
-  numbered = numbered;
-  window = window;
-  is = refl;
-}
-goes_on first c ports s h x (Some k) ks many e at numbered window = record {
-  before = after_copy c h k;
-  as_many = after_copy-ports c h k ∙ many;
-  stands = stands-copy first c ports s h x k many e at (record { numbered = numbered.0; window = window.0 });
-  numbered = numbered.1;
-  window = window.1;
-  is = refl;
-}
-
-pub stands_turns : (first : PortIdentity → ℕ) (c : Clock) (ports : ℕ) (s : State) (h : History)
-    (xs : List Delivery)
-    → length h.sets.ports ≡ ports
-    → StandsAt first s h
-    → AreNumbered first (copies c ports xs)
-    → KeepsWindow c h (copies c ports xs)
-    → StandsAt first (turns c s xs) (applied_once c h (copies c ports xs))
-stands_turns first c ports s h [] many at numbered window = at
-stands_turns first c ports s h (x ∷ xs) many at numbered window =
-    let on : GoesOn first c ports (turn c s x.ingress x.datagram).next h (copies c ports xs) (copies c ports (x ∷ xs)) =
-    goes_on first c ports s h x (copy_of c ports x) (copies c ports xs) many refl at numbered window in
-    subst (λ (g : History). StandsAt first (turns c (turn c s x.ingress x.datagram).next xs) g) on.is
-    (stands_turns first c ports (turn c s x.ingress x.datagram).next on.before xs on.as_many on.stands on.numbered on.window)
-
--- a list with one more copy
-numbered_parts : (first : PortIdentity → ℕ) (ks : List RequestCopy) (k : RequestCopy)
-    → AreNumbered first (ks ++ k ∷ [])
-    → AreNumbered first ks × IsNumbered first k
-numbered_parts first [] k numbered = (tt, numbered.0)
-numbered_parts first (j ∷ js) k numbered = let rest = numbered_parts first js k numbered.1 in ((numbered.0, rest.0), rest.1)
-
-window_parts : (c : Clock) (h : History) (ks : List RequestCopy) (k : RequestCopy)
-    → KeepsWindow c h (ks ++ k ∷ [])
-    → KeepsWindow c h ks × IsInWindow (applied_once c h ks) k
-window_parts c h [] k window = (tt, window.0)
-window_parts c h (j ∷ js) k window = let rest = window_parts c (after_copy c h j) js k window.1 in ((window.0, rest.0), rest.1)
-
-turns-append : (c : Clock) (s : State) (xs : List Delivery) (x : Delivery)
-    → turns c s (xs ++ x ∷ []) ≡ (turn c (turns c s xs) x.ingress x.datagram).next
-turns-append c s [] x = refl
-turns-append c s (y ∷ ys) x = turns-append c (turn c s y.ingress y.datagram).next ys x
-
-pub sets_once : (c : Clock) (first : PortIdentity → ℕ) (d : DataSetsValue) (xs : List Delivery)
-    → AreNumbered first (copies c (length d.ports) xs)
-    → KeepsWindow c (initial_history d) (copies c (length d.ports) xs)
-    → (turns c (initial_clock_state d) xs).sets
-    ≡ (applied_once c (initial_history d) (copies c (length d.ports) xs)).sets
-sets_once c first d xs numbered window =
-    (stands_turns first c (length d.ports) (initial_clock_state d) (initial_history d) xs refl (stands-initial_history first d) numbered window).sets
-
-turns_as_next : (c : Clock) (first : PortIdentity → ℕ) (ports : ℕ) (s : State) (h : History)
-    (xs : List Delivery)
-    (x : Delivery) (k : RequestCopy) → length h.sets.ports ≡ ports → StandsAt first s h → copy_of c ports x ≡ Some k
-    → AreNumbered first (copies c ports xs ++ k ∷ [])
-    → KeepsWindow c h (copies c ports xs ++ k ∷ [])
-    → TurnsAs first c (turns c s xs) (applied_once c h (copies c ports xs)) x k
-turns_as_next c first ports s h xs x k many at e numbered window =
-    let n = numbered_parts first (copies c ports xs) k numbered in
-    let w = window_parts c h (copies c ports xs) k window in
-    turns_as first c (turns c s xs) (applied_once c h (copies c ports xs)) x k
-    (stands_turns first c ports s h xs many at n.0 w.0)
-    (ap (λ p. copy_of c p x) (applied_once-ports c h (copies c ports xs) ∙ many) ∙ e)
-    (record { numbered = n.1; window = w.1 })
-
-pub outbox_due-at : (c : Clock) (first : PortIdentity → ℕ) (ports : ℕ) (s : State) (h : History)
-    (xs : List Delivery)
-    (x : Delivery) (k : RequestCopy) → length h.sets.ports ≡ ports → StandsAt first s h → copy_of c ports x ≡ Some k
-    → AreNumbered first (copies c ports xs ++ k ∷ [])
-    → KeepsWindow c h (copies c ports xs ++ k ∷ [])
-    → outbox_of (turn c (turns c s xs) x.ingress x.datagram)
-    ≡ due_messages c k (due_reply c (applied_once c h (copies c ports xs)) k)
-outbox_due-at c first ports s h xs x k many at e numbered window =
-    let as' = turns_as_next c first ports s h xs x k many at e numbered window in
-    ap (λ (f : List (ℕ × List ℕ)). f ++ (turn c (turns c s xs) x.ingress x.datagram).replies) as'.forwards ∙ as'.replies
-
-pub outbox_due : (c : Clock) (first : PortIdentity → ℕ) (d : DataSetsValue) (xs : List Delivery)
-    (x : Delivery) (k : RequestCopy)
-    → copy_of c (length d.ports) x ≡ Some k
-    → AreNumbered first (copies c (length d.ports) xs ++ k ∷ [])
-    → KeepsWindow c (initial_history d) (copies c (length d.ports) xs ++ k ∷ [])
-    → outbox_of (turn c (turns c (initial_clock_state d) xs) x.ingress x.datagram)
-    ≡ due_messages c k
-    (due_reply c (applied_once c (initial_history d) (copies c (length d.ports) xs)) k)
-outbox_due c first d xs x k e numbered window =
-    outbox_due-at c first (length d.ports) (initial_clock_state d) (initial_history d) xs x k refl (stands-initial_history first d) e numbered window
-
-pub turns-repeat : (c : Clock) (first : PortIdentity → ℕ) (d : DataSetsValue) (xs : List Delivery)
-    (x : Delivery) (k : RequestCopy)
-    → copy_of c (length d.ports) x ≡ Some k
-    → AreNumbered first (copies c (length d.ports) xs ++ k ∷ [])
-    → KeepsWindow c (initial_history d) (copies c (length d.ports) xs ++ k ∷ [])
-    → joins (applied_once c (initial_history d) (copies c (length d.ports) xs)) k ≡ false
-    → turns c (initial_clock_state d) (xs ++ x ∷ []) ≡ turns c (initial_clock_state d) xs
-turns-repeat c first d xs x k e numbered window j =
-    turns-append c (initial_clock_state d) xs x
-    ∙ (turns_as_next c first (length d.ports) (initial_clock_state d) (initial_history d) xs x k refl (stands-initial_history first d) e numbered window).stays j
 
 -- a copy is never passed on, in the window or not
 pub forwards-copy : (c : Clock) (s : State) (x : Delivery) (k : RequestCopy)

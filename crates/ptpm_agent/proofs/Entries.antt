@@ -53,17 +53,17 @@ greatest_same : (m : PortIdentity) (a : Accepted) (rest : List Accepted)
     → greatest m (a ∷ rest) ≡ a.index
 greatest_same m a rest same above = cond-true _ _ _ same ∙ omega arith
 
-greatest_other : (m : PortIdentity) (a : Accepted) (rest : List Accepted)
+pub greatest_other : (m : PortIdentity) (a : Accepted) (rest : List Accepted)
     → same_identity m a.manager ≡ false
     → greatest m (a ∷ rest) ≡ greatest m rest
 greatest_other m a rest other = cond-false _ _ _ other
 
-kept_same : (m : PortIdentity) (a : Accepted) (rest : List Accepted)
+pub kept_same : (m : PortIdentity) (a : Accepted) (rest : List Accepted)
     → same_identity m a.manager ≡ true
     → kept_reply m a.index (a ∷ rest) ≡ Some a
 kept_same m a rest same = cond-true _ _ _ (and_from _ _ same (eq-eqb a.index a.index refl))
 
-kept_other : (m : PortIdentity) (k : ℕ) (a : Accepted) (rest : List Accepted)
+pub kept_other : (m : PortIdentity) (k : ℕ) (a : Accepted) (rest : List Accepted)
     → same_identity m a.manager ≡ false
     → kept_reply m k (a ∷ rest) ≡ kept_reply m k rest
 kept_other m k a rest other = cond-false _ _ _ (and_left _ _ other)

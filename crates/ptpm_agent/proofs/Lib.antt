@@ -3,6 +3,8 @@ pub mod Numbers
 pub mod Entries
 pub mod Turns
 pub mod AtMostOnce
+pub mod Deliveries
+pub mod KeptReplies
 pub mod Fitting
 pub mod Refused
 pub mod Lists

@@ -4,5 +4,6 @@ pub mod Turn
 pub mod Once
 pub mod Window
 pub mod Laws
+pub mod Observing
 pub mod Agent
 pub mod VerdictText

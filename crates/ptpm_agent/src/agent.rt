@@ -7,12 +7,15 @@ ghost use Rattle.ptpm_codec.specs.Message.{IsValid};
 ghost use Rattle.ptpm_codec.specs.Reading.{reading};
 ghost use Rattle.ptpm_codec.specs.Spelling.{Spells};
 ghost use Rattle.ptpm_data.specs.Members.{HasPort};
+ghost use Rattle.ptpm_data.specs.Observation.{left_disabled, observation_refusal};
+ghost use Rattle.ptpm_data.specs.Start.{unless};
 ghost use Rattle.ptpm_table.specs.Entries.{CanResend};
 ghost use Rattle.ptpm_table.specs.Managers.{IsFresh, has_twice, identities, most_managers};
 ghost use Rattle.ptpm_table.specs.Rendering.{IsSendable, rendered};
 ghost use Rattle.ptpm_agent.specs.Agent.{IsTurned, clock_of, state_of};
 ghost use Rattle.ptpm_agent.specs.Forwarding.{forwarded};
 ghost use Rattle.ptpm_agent.specs.Laws.{StandsAt, after_each, datagrams_of, due_messages, last_sent};
+ghost use Rattle.ptpm_agent.specs.Observing.{moved_state};
 ghost use Rattle.ptpm_agent.specs.Once.{Delivery, History, RequestCopy, applied_once, copies, copy_of, due_reply};
 ghost use Rattle.ptpm_agent.specs.Window.{AreNumbered, KeepsWindow};
 ghost use Rattle.ptpm_agent.specs.Addressing.{heard_of, is_addressed, request_of};
@@ -21,7 +24,10 @@ ghost use Rattle.ptpm_agent.specs.Turn.{carried_out, is_accepted_repeat, judged,
 use crate::forwarding::forward;
 use crate::verdict::Verdict;
 use ptpm_codec::{ClockIdentity, Octets, OutOfMemory, PortIdentity, View, view};
-use ptpm_data::{DataSets, Reply, Request, Rights, data_sets_law};
+use ptpm_data::{
+    ClockObservation, DataSets, ObservationError, PortObservation, PortsLeftDisabled, Reply,
+    Request, Rights, data_sets_law,
+};
 use ptpm_table::{Heard, Look, Outbox, ReplyTable, SlotTable, SureTable, render};
 
 /// A clock's data sets and its reply table, and what becomes of the datagrams that come in at its ports.
@@ -101,6 +107,28 @@ impl<T: ReplyTable + Drop> Agent<T> {
             _ => self.answer(verdict, ingress, datagram, &message, out),
         }
         Ok(verdict)
+    }
+
+    /// Takes what the clock's host observed. The data sets move as `DataSets::observe` has them, and what is kept of each manager
+    /// stays: so each request is carried out once all the same, and a copy of the latest gets the reply that was kept. The
+    /// answer tells the ports that are DISABLED and were left so. Takes no memory.
+    ///
+    /// Refused with the first `ObservationError` that holds, judged on the data sets as they would be; then nothing changes.
+    pub fn observe(
+        &mut self,
+        clock: &ClockObservation,
+        ports: &[PortObservation],
+    ) -> Result<PortsLeftDisabled, ObservationError>
+        ensures answer { result
+            ≡ unless (observation_refusal clock.now ports.now self.old.sets)
+            (left_disabled ports.now self.old.sets.ports) }
+        ensures moved { state_of T.entries self.new
+            ≡ moved_state clock.now ports.now (state_of T.entries self.old) }
+        ensures refused { OnErr result
+            (state_of T.entries self.new ≡ state_of T.entries self.old) }
+        ensures table { self.new.table ≡ self.old.table }
+    {
+        self.sets.observe(clock, ports)
     }
 
     /// The verdict on a message, and the rights of its source where it is a new request.

@@ -1,17 +1,19 @@
 //! What a clock's agent promises over whole lists of datagrams. Each law is the contract of a function that does nothing,
 //! and speaks of the definitions alone.
 
-ghost use Rattle.std.specs.Prelude.{◌≡◌, ◌∷◌, [], ◌++◌, ℕ, false, length, List, None, Some};
+ghost use Rattle.std.specs.Prelude.{◌≡◌, ◌∷◌, [], ◌++◌, ℕ, true, false, length, List, None, Some};
 ghost use Rattle.std.specs.List.{Contains};
 ghost use Rattle.ptpm_codec.specs.declared.error.ErrorId.{ErrorId};
 ghost use Rattle.ptpm_codec.specs.declared.identity.PortIdentity.{PortIdentity};
 ghost use Rattle.ptpm_codec.specs.declared.message.Message.{Message};
 ghost use Rattle.ptpm_codec.specs.Reading.{message_of};
 ghost use Rattle.ptpm_data.specs.Members.{DataSetsValue};
+ghost use Rattle.ptpm_data.specs.Replies.{reply_to};
 ghost use Rattle.ptpm_data.specs.Reply.{Answer, Refused, ReplyValue};
 ghost use Rattle.ptpm_agent.specs.Turn.{Clock, State, judged, outbox_of, reply_by, turn};
-ghost use Rattle.ptpm_agent.specs.Once.{Delivery, History, RequestCopy, after_copy, applied_once, copies, copy_of, due_reply, initial_history, joins};
+ghost use Rattle.ptpm_agent.specs.Once.{Delivery, History, RequestCopy, after_copy, applied_once, copies, copy_of, due_reply, greatest, initial_history, joins};
 ghost use Rattle.ptpm_agent.specs.Window.{AreNumbered, IsInTime, KeepsWindow};
+ghost use Rattle.ptpm_agent.specs.Observing.{AreOfOneRequest, ComeInTime, Delivered, Happening, after_happenings, applied_in_place, deliveries_alone};
 ghost use Rattle.ptpm_agent.specs.Laws.{AreOfManagers, StandsAt, due_messages, initial_clock_state, turns};
 
 /// At-most-once execution. Whatever list of datagrams comes in at a fresh clock, where each copy of a manager's request among
@@ -42,6 +44,55 @@ pub fn at_most_once()
         KeepsWindow c (initial_history d) (came_in ++ k ∷ []) →
         joins (applied_once c (initial_history d) came_in) k ≡ false →
         turns c (initial_clock_state d) (xs ++ x ∷ []) ≡ turns c (initial_clock_state d) xs }
+{}
+
+/// At-most-once execution at a clock whose host observes. Whatever list of deliveries and observations there is at a fresh
+/// clock, where each copy of a manager's request among them comes in time, as in `at_most_once`:
+/// - the data sets are those after the accepted requests, each applied once, in order of first acceptance, to the data sets as
+///   they stood then, with each observation in its place among them;
+/// - each copy is sent the reply that is due to it, and nothing else is sent for it;
+/// - a copy of a request that is not newly accepted changes neither data sets nor entries.
+///
+/// A copy of the latest accepted request of its manager is due the one reply that was made from the data sets as they stood when
+/// the request was accepted, whatever has happened since: the reply to a GET tells what was true then. A list of deliveries
+/// without observations is the case of which `at_most_once` speaks.
+pub fn at_most_once_observed()
+    ensures sets { (c : Clock) (first : PortIdentity → ℕ) (d : DataSetsValue)
+        (xs : List Happening) →
+        ComeInTime first c (length d.ports) (initial_history d) xs →
+        (after_happenings c (initial_clock_state d) xs).sets
+        ≡ (applied_in_place c (length d.ports) (initial_history d) xs).sets }
+    ensures outbox { (c : Clock) (first : PortIdentity → ℕ) (d : DataSetsValue)
+        (xs : List Happening) (x : Delivery) (k : RequestCopy) →
+        copy_of c (length d.ports) x ≡ Some k →
+        ComeInTime first c (length d.ports) (initial_history d) (xs ++ Delivered x ∷ []) →
+        outbox_of (turn c (after_happenings c (initial_clock_state d) xs) x.ingress x.datagram)
+        ≡ due_messages c k
+        (due_reply c (applied_in_place c (length d.ports) (initial_history d) xs) k) }
+    ensures repeats { (c : Clock) (first : PortIdentity → ℕ) (d : DataSetsValue)
+        (xs : List Happening) (x : Delivery) (k : RequestCopy) →
+        copy_of c (length d.ports) x ≡ Some k →
+        ComeInTime first c (length d.ports) (initial_history d) (xs ++ Delivered x ∷ []) →
+        joins (applied_in_place c (length d.ports) (initial_history d) xs) k ≡ false →
+        after_happenings c (initial_clock_state d) (xs ++ Delivered x ∷ [])
+        ≡ after_happenings c (initial_clock_state d) xs }
+    ensures kept { (c : Clock) (ports : ℕ) (h : History) (k j : RequestCopy) (xs : List Happening) →
+        let since = applied_in_place c ports (after_copy c h k) xs in
+        joins h k ≡ true → AreOfOneRequest k j → greatest k.heard.source since.accepted ≡ k.index →
+        due_reply c since j ≡ Some (reply_to k.request (c.rights k.heard.source) h.sets) }
+    ensures stands { (c : Clock) (first : PortIdentity → ℕ) (s : State) (h : History)
+        (xs : List Happening) →
+        StandsAt first s h → ComeInTime first c (length h.sets.ports) h xs →
+        StandsAt first (after_happenings c s xs)
+        (applied_in_place c (length h.sets.ports) h xs) }
+    ensures turns_alone { (c : Clock) (s : State) (xs : List Delivery) →
+        after_happenings c s (deliveries_alone xs) ≡ turns c s xs }
+    ensures applied_alone { (c : Clock) (ports : ℕ) (h : History) (xs : List Delivery) →
+        applied_in_place c ports h (deliveries_alone xs) ≡ applied_once c h (copies c ports xs) }
+    ensures time_alone { (first : PortIdentity → ℕ) (c : Clock) (ports : ℕ) (h : History)
+        (xs : List Delivery) →
+        AreNumbered first (copies c ports xs) → KeepsWindow c h (copies c ports xs) →
+        ComeInTime first c ports h (deliveries_alone xs) }
 {}
 
 /// One delivery at a clock that stands at a history: a copy in time takes it to where the history goes, and is sent what

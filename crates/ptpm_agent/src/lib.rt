@@ -9,8 +9,8 @@ mod verdict;
 
 pub use agent::Agent;
 pub use laws::{
-    at_most_once, no_copy_forwarded, one_delivery, only_managers, ports_stay,
-    refused_changes_no_data,
+    at_most_once, at_most_once_observed, no_copy_forwarded, one_delivery, only_managers,
+    ports_stay, refused_changes_no_data,
 };
 pub use verdict::Verdict;
 

@@ -13,3 +13,5 @@ pub mod OwnFields
 pub mod OwnOctets
 pub mod PlainMap
 pub mod MapLemmas
+pub mod Observing
+pub mod Observed

@@ -18,3 +18,5 @@ pub mod Changes
 pub mod Replies
 pub mod RequestLaws
 pub mod SetLaws
+pub mod Observation
+pub mod ObservationLaws

@@ -1,18 +1,24 @@
 //! What holds of the table of management ids, of every clock's data sets, and of every reply, for whoever proves something
 //! over them. Each law is the contract of a function that does nothing.
 
-ghost use Rattle.std.specs.Prelude.{◌≡◌, ◌<◌, ◌≤◌, ◌^◌, length, map, option_map, Some};
+ghost use Rattle.std.specs.Prelude.{◌≡◌, ◌<◌, ◌≤◌, ◌^◌, List, length, map, option_map, None, Some};
 ghost use Rattle.std.specs.List.{All, Contains};
+ghost use Rattle.std.specs.Option.{option_or};
 ghost use Rattle.ptpm_codec.specs.declared.error.ErrorId.{ErrorId};
 ghost use Rattle.ptpm_codec.specs.declared.message.Action.TheVariants.{Get};
 ghost use Rattle.ptpm_codec.specs.Message.{IsRequestAction};
 ghost use Rattle.ptpm_data.specs.declared.members.Member.TheVariants.{ClockAccuracy, GrandmasterAccuracy, GrandmasterPriority1, GrandmasterPriority2, Priority1, Priority2};
+ghost use Rattle.ptpm_data.specs.declared.observation.ClockObservation.{ClockObservation};
+ghost use Rattle.ptpm_data.specs.declared.observation.ObservationError.{ObservationError};
+ghost use Rattle.ptpm_data.specs.declared.observation.PortObservation.{PortObservation};
 ghost use Rattle.ptpm_data.specs.declared.rights.Rights.{Rights};
 ghost use Rattle.ptpm_data.specs.Changes.{changed_by, IsTargetPort};
 ghost use Rattle.ptpm_data.specs.ManagementId.{id_table, row_of, row_named};
 ghost use Rattle.ptpm_data.specs.MemberMap.{Place, plain, value_of};
 ghost use Rattle.ptpm_data.specs.Members.{DataSetsValue, IsConsistent};
 ghost use Rattle.ptpm_codec.specs.Message.{reply_action};
+ghost use Rattle.ptpm_data.specs.Observation.{is_disabled, observation_refusal, observed};
+ghost use Rattle.ptpm_data.specs.ObservationLaws.{IsSizedObservation, observed_value};
 ghost use Rattle.ptpm_data.specs.Replies.{read_reply_to, reply_to};
 ghost use Rattle.ptpm_data.specs.Reply.{Answer, Refused, Value};
 ghost use Rattle.ptpm_data.specs.Request.{RequestValue};
@@ -22,6 +28,7 @@ ghost use Rattle.ptpm_data.specs.SetLaws.{AreOctets, get_of, IsAcceptedSet, Move
 
 use crate::data_sets::DataSets;
 use crate::management_id::MANAGEMENT_IDS;
+use crate::observation::{ClockObservation, ObservedGrandmaster};
 use ptpm_codec::{ClockIdentity, PortIdentity};
 
 /// Each entry of the table is found by its id and by its name: so ids are distinct, and so are names. `MANAGEMENT_IDS` are
@@ -174,3 +181,38 @@ pub fn grandmaster_law()
         → MovesWithGrandmaster ClockAccuracy GrandmasterAccuracy (octet 0 q.octets) d
         (changed_by q rights d) }
 {}
+
+/// What an observation moves, in terms of the map of members: a member that is observed has the observed value afterwards,
+/// and every other stays; where the observation is refused, each stays. The clock's identity and the number of its ports
+/// stay, and so does which of its ports are disabled.
+pub fn observation_law()
+    ensures observed { (o : ClockObservation) (ports : List PortObservation) (d : DataSetsValue) (place : Place)
+        → observation_refusal o ports d ≡ None
+        → value_of place (observed o ports d) ≡ option_or (observed_value place o ports d) (value_of place d) }
+    ensures stays { (o : ClockObservation) (ports : List PortObservation) (d : DataSetsValue) (place : Place)
+        → observed_value place o ports d ≡ None
+        → value_of place (observed o ports d) ≡ value_of place d }
+    ensures refused { (o : ClockObservation) (ports : List PortObservation) (d : DataSetsValue) (error : ObservationError)
+        → observation_refusal o ports d ≡ Some error
+        → observed o ports d ≡ d }
+    ensures identity { (o : ClockObservation) (ports : List PortObservation) (d : DataSetsValue)
+        → (observed o ports d).default.identity ≡ d.default.identity }
+    ensures ports { (o : ClockObservation) (ports : List PortObservation) (d : DataSetsValue)
+        → length (observed o ports d).ports ≡ length d.ports }
+    ensures disabled { (o : ClockObservation) (ports : List PortObservation) (d : DataSetsValue)
+        → map (λ p. is_disabled p.state) (observed o ports d).ports ≡ map (λ p. is_disabled p.state) d.ports }
+    ensures sized { (o : ClockObservation) (ports : List PortObservation) (d : DataSetsValue)
+        → IsSizedObservation o
+        → IsSized d
+        → IsSized (observed o ports d) }
+{}
+
+/// A grandmaster that is observed has identities of eight octets.
+pub fn sized_observation_law(clock: &ClockObservation)
+    ensures { IsSizedObservation clock.now }
+{
+    if let Some(ObservedGrandmaster::Announced(announced)) = &clock.grandmaster {
+        identity_law(&announced.identity);
+        identity_law(&announced.parent_port.clock);
+    }
+}

@@ -10,6 +10,7 @@ mod deciding;
 mod laws;
 mod management_id;
 mod members;
+mod observation;
 mod port_change;
 mod port_state;
 mod precedence_change;
@@ -29,11 +30,15 @@ pub use data_sets::{
     TimePropertiesDataSet,
 };
 pub use laws::{
-    change_law, data_sets_law, grandmaster_law, id_table_law, member_map_law, plain_map_law,
-    read_reply_law, reply_law, set_law,
+    change_law, data_sets_law, grandmaster_law, id_table_law, member_map_law, observation_law,
+    plain_map_law, read_reply_law, reply_law, set_law, sized_observation_law,
 };
 pub use management_id::{Layout, MANAGEMENT_IDS, Row, Scope, by_id as row, by_name};
 pub use members::Member;
+pub use observation::{
+    AnnouncedGrandmaster, ClockObservation, ObservationError, ObservedGrandmaster, PortObservation,
+    PortsLeftDisabled,
+};
 pub use port_state::{DelayMechanism, PortState};
 pub use reply::{PortAnswer, Reply, Value, What};
 pub use request::Request;

@@ -1,6 +1,7 @@
 //! The clocks of the tests.
 
 mod management_id;
+mod observation;
 mod requests;
 mod start;
 

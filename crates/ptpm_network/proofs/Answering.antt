@@ -1,6 +1,6 @@
 -- The frames that a clock makes of one that comes in keep the invariant.
-use Rattle.ptpm_network.proofs.Common.{by_test, arith, ◌≡◌, ℕ, ◌<◌, ◌≤◌, ◌^◌, ◌==◌, List, [], ◌∷◌, Option, Some, None, true, false, refl, sym, ◌∙◌, ap, subst, and_from, cond-true, cond-false, eq-eqb, same_Some, map, AllByRecursion, ClockIdentity, PortIdentity, canonical, Answer, ReplyValue, Heard, same_request, hops_passed, rendered, reply_message, due_messages, Accepted, History, RequestCopy, accepted_from, after_copy, copy_of, due_reply, greatest, joins, kept_for, kept_reply, Clock, same_identity-refl, IsSendable, IsFrame, IsOfOrigin, IsReached, arrives, delivery, reply_frames, reply_origin, AtPort, HasEnd, IsNetwork, Network, manager, peers, ports, Frame, NetworkState, Origin, ReplyTo, accepted_at_target, history, all_flat, all_made}
-use Rattle.ptpm_network.proofs.Arriving.{IsCopyOf, after_arrival, history-here}
+use Rattle.ptpm_network.proofs.Common.{by_test, arith, ◌≡◌, ℕ, ◌<◌, ◌≤◌, ◌^◌, ◌==◌, List, [], ◌∷◌, Option, Some, None, true, false, refl, sym, ◌∙◌, ap, subst, and_from, cond-true, cond-false, eq-eqb, same_Some, map, AllByRecursion, ClockIdentity, PortIdentity, canonical, Answer, ReplyValue, Heard, same_request, hops_passed, rendered, reply_message, due_messages, Accepted, History, RequestCopy, accepted_from, after_arrival, after_copy, copy_of, due_reply, greatest, joins, kept_for, kept_reply, Clock, same_identity-refl, IsSendable, IsFrame, IsOfOrigin, IsReached, arrives, delivery, reply_frames, reply_origin, AtPort, HasEnd, IsNetwork, Network, manager, peers, ports, Frame, NetworkState, Origin, ReplyTo, accepted_at_target, history, all_flat, all_made}
+use Rattle.ptpm_network.proofs.Arriving.{IsCopyOf, history-here}
 use Rattle.ptpm_network.proofs.Frames.{SaysKept, says_kept}
 use Rattle.ptpm_network.proofs.Steps.{has_peers, new_frames-are}
 

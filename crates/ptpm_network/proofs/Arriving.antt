@@ -1,5 +1,5 @@
 -- What a delivery at a clock does to what the clock accepted.
-use Rattle.ptpm_network.proofs.Common.{by_test, ◌≡◌, ℕ, ◌<◌, ◌≤◌, ◌-◌, ◌==◌, nat_lt, List, [], ◌∷◌, ◌++◌, Option, Some, None, true, false, refl, sym, ◌∙◌, ap, subst, ⊎_elim, ◌⊎◌, inl, inr, length, and_parts, cond-true, cond-false, eq-eqb, eqb-true, ltb-true, not-true, true≢false, same_Some, cons_option, slice_get, PortIdentity, Action, Message, same_identity, action_of, is_reply, message_of, Outcome, RequestValue, answer_body, Accepted, Delivery, History, RequestCopy, accepted_from, after_copy, applied_once, copies, initial_history, copy_from, copy_of, greatest, is_copy, joined, joins, kept_reply, Clock, DeliversCopy, applied_once-ports, delivers_copy, same_identity-true, copy_parts, number_of, AreDataSets, IsForOne, IsInStep, IsReached, arrives, delivery, index_of, IsNetwork, Network, manager, ports, Frame, NetworkState, Origin, RequestOf, ReplyTo, Neither, accepted_at_target, copies_at, history, reply_action-is_reply, with_place-other, with_place-same}
+use Rattle.ptpm_network.proofs.Common.{by_test, ◌≡◌, ℕ, ◌<◌, ◌≤◌, ◌-◌, ◌==◌, nat_lt, List, [], ◌∷◌, ◌++◌, Option, Some, None, true, false, refl, sym, ◌∙◌, ap, subst, ⊎_elim, ◌⊎◌, inl, inr, length, and_parts, cond-true, cond-false, eq-eqb, eqb-true, ltb-true, not-true, true≢false, same_Some, cons_option, slice_get, PortIdentity, Action, Message, same_identity, action_of, is_reply, message_of, Outcome, RequestValue, answer_body, Accepted, Delivery, History, RequestCopy, accepted_from, after_arrival, after_copy, applied_once, copies, initial_history, copy_from, copy_of, greatest, is_copy, joined, joins, kept_reply, Clock, DeliversCopy, applied_once-ports, delivers_copy, same_identity-true, copy_parts, number_of, AreDataSets, IsForOne, IsInStep, IsReached, arrives, delivery, index_of, IsNetwork, Network, manager, ports, Frame, NetworkState, Origin, RequestOf, ReplyTo, Neither, accepted_at_target, copies_at, history, reply_action-is_reply, with_place-other, with_place-same}
 use Rattle.std.proofs.lemmas.List.Elements.{filter_map-append}
 use Rattle.ptpm_data.specs.Reply as reply
 use Rattle.ptpm_network.proofs.Accepting.{IsAbove, JoinsOwn, in_step-joined, kept-joined, kept-le}
@@ -90,11 +90,6 @@ module _ (N : Network) (w : NetworkState) (c : ℕ) (x : Delivery) where
 
   pub copies-elsewhere : (d : ℕ) → d == c ≡ false → copies_at N (arrives w c x) d ≡ copies_at N w d
   copies-elsewhere d n = ap (copies (N.clock d) (ports N d)) (with_place-other w.arrivals c (w.arrivals c ++ x ∷ []) d n)
-
--- where a delivery leads, of which there is a copy or none
-abbrev pub after_arrival : Clock → History → Option RequestCopy → History
-after_arrival c h None = h
-after_arrival c h (Some copy) = after_copy c h copy
 
 applied_once-arrival : (c : Clock) (h : History) (ks : List RequestCopy) (o : Option RequestCopy)
     → applied_once c h (ks ++ cons_option o []) ≡ after_arrival c (applied_once c h ks) o

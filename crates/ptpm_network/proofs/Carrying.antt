@@ -1,7 +1,7 @@
 -- What a clock on the way does with a copy of a request, or of the reply: it passes it on, and nothing else changes.
-use Rattle.ptpm_network.proofs.Common.{by_test, suc, zero, arith, ◌≡◌, ℕ, ◌<◌, ◌≤◌, ◌+◌, ◌-◌, ◌*◌, ◌/◌, ◌==◌, ◌&&◌, ◌||◌, Bool, List, [], ◌∷◌, ◌++◌, Option, Some, None, true, refl, sym, ◌∙◌, ap, subst, ⊎_elim, length, length-append, and_from, and_left, and_parts, and_right, cond-false, cond-true, eq-eqb, eqb-false, eqb-true, false≢true, lt-ltb, ne_eqb, or_cases, or_from, append-nil, slice_get_within, flat_map, map, nat_lt, not, slice_get, AllByRecursion, filter, list_any, range_with_len, ClockIdentity, PortIdentity, Message, every_clock, same_clock, boundary_hops, domain_number, Fits, message_of, DataSetsValue, is_forwarding_port, may_forward, is_known, egress_ports, forwarded, forwarded_by, with_less_hop, History, RequestCopy, copy_by, copy_of, is_addressed, is_for_this_clock, is_own, names_port, Clock, AreDataSets, IsOfOrigin, IsReached, answering_frames, arrives, delivered_at_clock, delivery, forwarded_frames, made_frames, read_messages, reply_frames, AtPort, AtSession, End, IsNetwork, Network, manager, peers, ports, same_end, Frame, NetworkState, RequestOf, ReplyTo, Neither, frames_to, history, LinksHaveAtMost, passed_at_most, get_append, le_trans, filter-few, length-range_with_len}
+use Rattle.ptpm_network.proofs.Common.{by_test, suc, zero, arith, ◌≡◌, ℕ, ◌<◌, ◌≤◌, ◌+◌, ◌-◌, ◌*◌, ◌/◌, ◌==◌, ◌&&◌, ◌||◌, Bool, List, [], ◌∷◌, ◌++◌, Option, Some, None, true, refl, sym, ◌∙◌, ap, subst, ⊎_elim, length, length-append, and_from, and_left, and_parts, and_right, cond-false, cond-true, eq-eqb, eqb-false, eqb-true, false≢true, lt-ltb, ne_eqb, or_cases, or_from, append-nil, slice_get_within, flat_map, map, nat_lt, not, slice_get, AllByRecursion, filter, list_any, range_with_len, ClockIdentity, PortIdentity, Message, every_clock, same_clock, boundary_hops, domain_number, Fits, message_of, DataSetsValue, is_forwarding_port, may_forward, is_known, egress_ports, forwarded, forwarded_by, with_less_hop, History, RequestCopy, copy_by, copy_of, is_addressed, is_for_this_clock, is_own, names_port, Clock, AreDataSets, IsOfOrigin, IsReached, answering_frames, arrives, delivered_at_clock, delivery, forwarded_frames, made_frames, read_messages, reply_frames, AtPort, AtSession, End, IsNetwork, Network, manager, peers, ports, same_end, Frame, NetworkState, RequestOf, ReplyTo, Neither, frames_to, history, LinksHaveAtMost, passed_at_most, get_append, le_trans, filter-few, length-range_with_len, after_arrival}
 use Rattle.ptpm_data.specs.declared.data_sets.PortDataSet.{PortDataSet}
-use Rattle.ptpm_network.proofs.Arriving.{after_arrival, history-elsewhere, history-here}
+use Rattle.ptpm_network.proofs.Arriving.{history-elsewhere, history-here}
 use Rattle.ptpm_network.proofs.Exchanging.{clocks_apart, message-domain}
 use Rattle.ptpm_network.proofs.Frames.{says_reply, says_request}
 use Rattle.ptpm_network.proofs.Messages.{less_hop-hops, less_hop-message, message-hops, reply_at, request_at}

@@ -60,10 +60,12 @@ pub use Rattle.ptpm_agent.specs.Forwarding.{egress_ports, forwarded_by, is_forwa
 unfoldable pub use Rattle.ptpm_agent.specs.Forwarding.{forwarded}
 pub use Rattle.ptpm_agent.specs.Laws.{due_messages, initial_clock_state, StandsAt, turns}
 pub use Rattle.ptpm_agent.specs.Once.{Accepted, accepted_from, after_copy, applied_once, copies, copy_by, copy_from, copy_of, Delivery, due_reply, greatest, History, initial_history, is_copy, joined, joins, kept_for, kept_reply, RequestCopy}
+pub use Rattle.ptpm_agent.specs.Observing.{after_arrival}
 pub use Rattle.ptpm_agent.specs.Turn.{Clock, is_accepted_repeat, is_repeat, look, outbox_of, reply_by, reply_messages, State, turn_by, Turned, verdict_at}
 unfoldable pub use Rattle.ptpm_agent.specs.Turn.{judged, turn}
 pub use Rattle.ptpm_agent.specs.Window.{AreNumbered, IsInTime, IsInWindow, IsNumbered, KeepsWindow}
-pub use Rattle.ptpm_agent.proofs.AtMostOnce.{applied_once-ports, delivers_copy, DeliversCopy, no_copy, sets_once, stands-copy, stands-initial_history, stands-other, turns_as}
+pub use Rattle.ptpm_agent.proofs.AtMostOnce.{applied_once-ports, delivers_copy, DeliversCopy, no_copy, stands-initial_history, turns_as}
+pub use Rattle.ptpm_agent.proofs.Deliveries.{sets_once, stands-arrival}
 pub use Rattle.ptpm_agent.proofs.Turns.{copy_parts, forwarded-copy, is_copy-numbered, judged-each, judged-foreign, judged-request, message_of-reading, reading-message_of, turn-message, verdict_at-unnumbered, judged-away, judged-own, judged-reply}
 pub use Rattle.ptpm_manager.specs.declared.ask.Ask.{Ask}
 pub use Rattle.ptpm_manager.specs.declared.report.Report.{Report}

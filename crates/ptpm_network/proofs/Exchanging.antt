@@ -1,7 +1,7 @@
 -- What one copy of a session's last request brings about at its target, and one of the reply at the session.
-use Rattle.ptpm_network.proofs.Common.{by_test, arith, ◌≡◌, ℕ, ◌<◌, ◌≤◌, ◌+◌, ◌-◌, ◌^◌, ◌==◌, List, [], ◌∷◌, ◌++◌, Option, Some, None, true, false, refl, sym, ◌∙◌, ap, subst, ⊎_elim, length, length-append, and_from, and_right, cases_eq, cond-false, cond-true, eq-eqb, eqb-false, false_from_ne_true, le-leb, le-ltb, lt-ltb, or_left, or_right, append-nil, same_Some, bytes_eq-Decides, nat_le, nat_lt, not, AllByRecursion, option_or, ClockIdentity, PortIdentity, Message, canonical, every_port, same_clock, boundary_hops, domain_number, message_length, Fits, IsValid, first_of, message_of, canonical_spells, same_clock-refl, same_clock-true, octet-take, message_of-some, message_of-spells, message_size, is_of_port, reply_to, Answer, ReplyValue, RequestValue, is_known, same_request, hops_passed, reply_message, due_messages, Accepted, History, RequestCopy, after_copy, copy_by, copy_from, copy_of, due_reply, greatest, is_copy, kept_for, kept_reply, is_for_this_clock, is_own, is_request, names_port, Clock, Report, outcome_in, Deliver, Event, FramesAtMaximum, IsInRange, frame_at, frames_limit, no_frame, no_room, refusal, HasReplied, HasReported, HasRoom, IsHeardBy, IsAsked, IsFrame, IsOfOrigin, IsReached, answering_frames, arrives, delivered, delivered_at, delivered_at_clock, delivery, forwarded_frames, happens, index_of, is_answer, made_frames, reply_frames, reply_origin, report_from, reported, run, step, step_by, told_by, AtPort, AtSession, End, HasEnd, IsNetwork, Network, manager, peers, ports, Frame, NetworkState, Origin, RequestOf, ReplyTo, SessionState, accepted_at_target, initial_state, greatest_accepted, history, is_idle, is_late, issued, new_frames, with_place-same, le_trans, forwarded-copy}
+use Rattle.ptpm_network.proofs.Common.{by_test, arith, ◌≡◌, ℕ, ◌<◌, ◌≤◌, ◌+◌, ◌-◌, ◌^◌, ◌==◌, List, [], ◌∷◌, ◌++◌, Option, Some, None, true, false, refl, sym, ◌∙◌, ap, subst, ⊎_elim, length, length-append, and_from, and_right, cases_eq, cond-false, cond-true, eq-eqb, eqb-false, false_from_ne_true, le-leb, le-ltb, lt-ltb, or_left, or_right, append-nil, same_Some, bytes_eq-Decides, nat_le, nat_lt, not, AllByRecursion, option_or, ClockIdentity, PortIdentity, Message, canonical, every_port, same_clock, boundary_hops, domain_number, message_length, Fits, IsValid, first_of, message_of, canonical_spells, same_clock-refl, same_clock-true, octet-take, message_of-some, message_of-spells, message_size, is_of_port, reply_to, Answer, ReplyValue, RequestValue, is_known, same_request, hops_passed, reply_message, due_messages, Accepted, History, RequestCopy, after_arrival, after_copy, copy_by, copy_from, copy_of, due_reply, greatest, is_copy, kept_for, kept_reply, is_for_this_clock, is_own, is_request, names_port, Clock, Report, outcome_in, Deliver, Event, FramesAtMaximum, IsInRange, frame_at, frames_limit, no_frame, no_room, refusal, HasReplied, HasReported, HasRoom, IsHeardBy, IsAsked, IsFrame, IsOfOrigin, IsReached, answering_frames, arrives, delivered, delivered_at, delivered_at_clock, delivery, forwarded_frames, happens, index_of, is_answer, made_frames, reply_frames, reply_origin, report_from, reported, run, step, step_by, told_by, AtPort, AtSession, End, HasEnd, IsNetwork, Network, manager, peers, ports, Frame, NetworkState, Origin, RequestOf, ReplyTo, SessionState, accepted_at_target, initial_state, greatest_accepted, history, is_idle, is_late, issued, new_frames, with_place-same, le_trans, forwarded-copy}
 use Rattle.ptpm_network.proofs.Answering.{is_due, rendered-one, small}
-use Rattle.ptpm_network.proofs.Arriving.{after_arrival, arrives-reached, history-here}
+use Rattle.ptpm_network.proofs.Arriving.{arrives-reached, history-here}
 use Rattle.ptpm_network.proofs.Frames.{SaysRequest, heard-frame, says_kept, says_reply, says_request, sendable-one}
 use Rattle.ptpm_network.proofs.Messages.{message-hops, reply-fits, reply-valid, reply_at, request_at}
 use Rattle.ptpm_network.proofs.Reaching.{frame_at-is}

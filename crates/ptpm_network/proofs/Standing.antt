@@ -1,20 +1,11 @@
 -- A clock that takes its turn at a frame goes where the machine goes.
-use Rattle.ptpm_network.proofs.Common.{by_test, ◌≡◌, ℕ, ◌<◌, ◌==◌, List, ◌++◌, Some, false, refl, sym, ◌∙◌, ap, subst, length, Option, None, eqb-true, map-append, map, AllByRecursion, PortIdentity, DataSetsValue, forwarded, StandsAt, Delivery, History, RequestCopy, copy_of, Clock, State, turn, IsInTime, stands-copy, stands-initial_history, stands-other, Event, IsInRange, frame_at, answer_messages, answer_origin, arrives, delivered_at_clock, delivery, forwarded_frames, made_frames, reply_frames, run, with_place, AtPort, HasEnd, IsNetwork, Network, ports, AreFirsts, Stands, RunningNetwork, after_turn, held, initial_network, turn_frames, Frame, NetworkState, initial_state, history, is_late, with_place-other, with_place-same}
-use Rattle.ptpm_network.proofs.Arriving.{after_arrival, history-elsewhere, history-here, history-ports}
+use Rattle.ptpm_network.proofs.Common.{by_test, ◌≡◌, ℕ, ◌<◌, ◌==◌, List, ◌++◌, Some, false, refl, sym, ◌∙◌, ap, subst, length, Option, None, eqb-true, map-append, map, AllByRecursion, PortIdentity, DataSetsValue, forwarded, StandsAt, Delivery, History, RequestCopy, copy_of, Clock, State, turn, IsInTime, stands-arrival, stands-initial_history, Event, IsInRange, frame_at, answer_messages, answer_origin, arrives, delivered_at_clock, delivery, forwarded_frames, made_frames, reply_frames, run, with_place, AtPort, HasEnd, IsNetwork, Network, ports, AreFirsts, Stands, RunningNetwork, after_turn, held, initial_network, turn_frames, Frame, NetworkState, initial_state, history, is_late, with_place-other, with_place-same, after_arrival}
+use Rattle.ptpm_network.proofs.Arriving.{history-elsewhere, history-here, history-ports}
 use Rattle.ptpm_network.proofs.Frames.{heard-frame}
 use Rattle.ptpm_network.proofs.InTime.{in_window}
 use Rattle.ptpm_network.proofs.Reaching.{frame_at-is}
 use Rattle.ptpm_network.proofs.Schedule.{reached}
 use Rattle.ptpm_network.proofs.Turning.{turn-answers, turn-passes_on}
-
--- a clock after a delivery, of which there is a copy in time or none
-stands_by : (first : PortIdentity → ℕ) (c : Clock) (ports : ℕ) (s : State) (h : History)
-    (x : Delivery) (o : Option RequestCopy)
-    → length h.sets.ports ≡ ports → copy_of c ports x ≡ o → StandsAt first s h
-    → ((k : RequestCopy) → copy_of c ports x ≡ Some k → IsInTime first h k)
-    → StandsAt first (turn c s x.ingress x.datagram).next (after_arrival c h o)
-stands_by first c ports s h x None many e at time = stands-other first c ports s h x many e at
-stands_by first c ports s h x (Some k) many e at time = stands-copy first c ports s h x k many e at (time k e)
 
 -- they are the frames that the machine makes
 turn_frames-made : (N : Network) (first : PortIdentity → ℕ) (s : State) (h : History) (c port : ℕ)
@@ -39,7 +30,7 @@ module _ (N : Network) (first : PortIdentity → ℕ) (r : RunningNetwork) (w : 
       (λ y. subst (λ (s : State). StandsAt first s (history N (arrives w c (delivery port f)) d)) (sym (with_place-same r.clock c (turn (N.clock c) (r.clock c) port f.octets).next d y))
       (subst (λ j. StandsAt first (turn (N.clock c) (r.clock c) port f.octets).next (history N (arrives w c (delivery port f)) j)) (sym (eqb-true d c y))
       (subst (StandsAt first (turn (N.clock c) (r.clock c) port f.octets).next) (sym (history-here N w c (delivery port f)))
-      (stands_by first (N.clock c) (ports N c) (r.clock c) (history N w c) (delivery port f) (copy_of (N.clock c) (ports N c) (delivery port f)) (history-ports N w c) refl (at.clocks c place) time))))
+      (stands-arrival first (N.clock c) (ports N c) (r.clock c) (history N w c) (delivery port f) (copy_of (N.clock c) (ports N c) (delivery port f)) (history-ports N w c) refl (at.clocks c place) time))))
       (λ n. subst (λ (s : State). StandsAt first s (history N (arrives w c (delivery port f)) d)) (sym (with_place-other r.clock c (turn (N.clock c) (r.clock c) port f.octets).next d n))
       (subst (StandsAt first (r.clock d)) (sym (history-elsewhere N w c (delivery port f) d n)) (at.clocks d there)))
 

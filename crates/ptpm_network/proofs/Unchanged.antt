@@ -1,6 +1,6 @@
 -- What leaves a clock as it was: a stranger's datagram, and a request that is refused.
-use Rattle.ptpm_network.proofs.Common.{by_test, ◌≡◌, ℕ, ◌<◌, ◌==◌, List, [], Option, Some, None, refl, sym, ◌∙◌, ap, subst, cond-true, cond-false, eqb-true, same_Some, AllByRecursion, Contains, first_of-none, option_or-none, ErrorId, Answer, Refused, ReplyValue, refused_answer, Delivery, History, RequestCopy, accepted_from, after_copy, copy_of, due_reply, joins, Clock, Event, Forged, IsInRange, Refusal, Stranger, forged, is_forged, no_port, no_room, refusal, IsReached, arrives, delivery, happens, run, step, step_by, strange_frame, IsNetwork, Network, ports, NetworkState, Neither, RequestOf, initial_state, history}
-use Rattle.ptpm_network.proofs.Arriving.{after_arrival, history-elsewhere, history-here, is_copy_of}
+use Rattle.ptpm_network.proofs.Common.{by_test, ◌≡◌, ℕ, ◌<◌, ◌==◌, List, [], Option, Some, None, refl, sym, ◌∙◌, ap, subst, cond-true, cond-false, eqb-true, same_Some, AllByRecursion, Contains, first_of-none, option_or-none, ErrorId, Answer, Refused, ReplyValue, refused_answer, Delivery, History, RequestCopy, accepted_from, after_arrival, after_copy, copy_of, due_reply, joins, Clock, Event, Forged, IsInRange, Refusal, Stranger, forged, is_forged, no_port, no_room, refusal, IsReached, arrives, delivery, happens, run, step, step_by, strange_frame, IsNetwork, Network, ports, NetworkState, Neither, RequestOf, initial_state, history}
+use Rattle.ptpm_network.proofs.Arriving.{history-elsewhere, history-here, is_copy_of}
 use Rattle.ptpm_network.proofs.Frames.{IsHeard}
 use Rattle.ptpm_network.proofs.Reaching.{port-exists}
 use Rattle.ptpm_network.proofs.Schedule.{reached}

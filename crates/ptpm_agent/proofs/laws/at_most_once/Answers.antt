@@ -1,4 +1,4 @@
-use Rattle.ptpm_agent.proofs.AtMostOnce as law
+use Rattle.ptpm_agent.proofs.Deliveries as law
 use Rattle.ptpm_agent.proofs.laws.at_most_once.Goals as goal
 
 pub returns-clause-sets : goal.returns-clause-sets

@@ -5,7 +5,7 @@ use Rattle.ptpm_data.specs.Members.{DataSetsValue, HasPort}
 use Rattle.ptpm_agent.specs.Laws.{StandsAt, after_each, datagrams_of, last_sent}
 use Rattle.ptpm_agent.specs.Once.{History, applied_once, copies}
 use Rattle.ptpm_agent.specs.Turn.{State, Turned, outbox_of, turn}
-use Rattle.ptpm_agent.proofs.AtMostOnce.{outbox_due-at, stands_turns}
+use Rattle.ptpm_agent.proofs.Deliveries.{outbox_due-at, stands_turns}
 use Rattle.ptpm_agent.proofs.Lists.{after_each-append, after_each-datagrams, datagrams_of-append, last_sent-append, state_after}
 use Rattle.ptpm_agent.proofs.TurnKeeps.{turn-ports}
 use Rattle.ptpm_agent.proofs.agent.Agent.handle_each.Goals as goal
