@@ -75,8 +75,8 @@ static int no_answer(const struct task *task, long sent) {
         complain("%snothing was sent%s%s", end, stopped ? "" : ": no message is taken at ", stopped ? "" : way_name());
         return stopped ? BY_SIGNAL + stopped : NOT_ASKED;
     }
-    complain("%sno answer at %s to %ld message%s%s", end, way_name(), sent, sent == 1 ? "" : "s",
-             task->action == PTPM_GET ? "" : ": the request may have been carried out");
+    complain("%sno answer at %s in domain %u to %ld message%s%s", end, way_name(), task->settings.domain, sent,
+             sent == 1 ? "" : "s", task->action == PTPM_GET ? "" : ": the request may have been carried out");
     int is_known = task->path == NULL || task->has_manager;       /* else the manager is another one in each run */
     if (!stopped && !task->is_survey && is_known && task->numbers == NULL) {
         complain("numbers began at 0, which a clock may take for old: see --numbers");

@@ -102,7 +102,7 @@ static void join_four(int at, const struct sockaddr_in *address, unsigned interf
     int none = 0;
     struct sockaddr_in any = { .sin_family = AF_INET, .sin_port = htons(GENERAL) };
     struct ip_mreqn join = { .imr_multiaddr = address->sin_addr, .imr_ifindex = (int)interface };
-    if (bind(at, (struct sockaddr *)&any, sizeof any)) give_up("bind");
+    if (bind(at, (struct sockaddr *)&any, sizeof any)) give_up("UDP port 320");
     set(at, IPPROTO_IP, IP_ADD_MEMBERSHIP, &join, sizeof join, "IP_ADD_MEMBERSHIP");
     set(at, IPPROTO_IP, IP_MULTICAST_IF, &join, sizeof join, "IP_MULTICAST_IF");
     set(at, IPPROTO_IP, IP_MULTICAST_LOOP, &none, sizeof none, "IP_MULTICAST_LOOP");
@@ -113,7 +113,7 @@ static void join_six(int at, const struct sockaddr_in6 *address, unsigned interf
     struct sockaddr_in6 any = { .sin6_family = AF_INET6, .sin6_port = htons(GENERAL) };
     struct ipv6_mreq join = { .ipv6mr_multiaddr = address->sin6_addr, .ipv6mr_interface = interface };
     set(at, IPPROTO_IPV6, IPV6_V6ONLY, &one, sizeof one, "IPV6_V6ONLY");
-    if (bind(at, (struct sockaddr *)&any, sizeof any)) give_up("bind");
+    if (bind(at, (struct sockaddr *)&any, sizeof any)) give_up("UDP port 320");
     set(at, IPPROTO_IPV6, IPV6_ADD_MEMBERSHIP, &join, sizeof join, "IPV6_ADD_MEMBERSHIP");
     set(at, IPPROTO_IPV6, IPV6_MULTICAST_IF, &interface, sizeof interface, "IPV6_MULTICAST_IF");
     set(at, IPPROTO_IPV6, IPV6_MULTICAST_LOOP, &none, sizeof none, "IPV6_MULTICAST_LOOP");

@@ -1,6 +1,7 @@
 /* layout: whether ptpm.h has its members where the library has them. Each member of each struct gets a value of its own, and
    what the library then says must have that value at the place that the standard gives it (IEEE 1588-2019, clauses 13.3, 15.4
-   and 15.5). Prints what does not hold and `layout: N passed, M failed`; its status is 1 where one failed. */
+   and 15.5). And each constant of an answer must have its name, and ids theirs. Prints what does not hold and `layout: N passed, M
+   failed`; its status is 1 where one failed. */
 #include "ptpm.h"
 #include <stdio.h>
 #include <stdlib.h>
@@ -274,6 +275,62 @@ static void surveys(void) {
           "the port that gave it");
 }
 
+/* Each constant of an answer has its own name, and no other number below 200 has one. */
+static void answer_names(void) {
+#define ANSWER(name) { PTPM_##name, #name }
+    static const struct { uint32_t number; const char *name; } answers[] = {
+        ANSWER(AGAIN), ANSWER(FULL), ANSWER(DONE), ANSWER(REFUSED), ANSWER(OTHER_DOMAIN), ANSWER(OWN_MESSAGE),
+        ANSWER(NOT_ADDRESSED), ANSWER(NOT_A_REQUEST), ANSWER(ANSWERED_NEW), ANSWER(ANSWERED_REPEAT), ANSWER(DROPPED_OLD),
+        ANSWER(DROPPED_CONFLICT), ANSWER(ANSWERED_UNNUMBERED), ANSWER(NOT_A_REPLY), ANSWER(OTHER_TARGET),
+        ANSWER(OTHER_SOURCE), ANSWER(NOTHING_ASKED), ANSWER(OTHER_NUMBER), ANSWER(OTHER_CONTENT), ANSWER(TOO_SHORT),
+        ANSWER(NOT_MANAGEMENT), ANSWER(BAD_VERSION), ANSWER(BAD_LENGTH), ANSWER(BAD_ACTION), ANSWER(BAD_TLV_TYPE),
+        ANSWER(BAD_TLV_LENGTH), ANSWER(BAD_TEXT), ANSWER(NO_CLOCK), ANSWER(NO_PORT), ANSWER(NO_ROOM), ANSWER(NO_MEMORY),
+        ANSWER(NOT_READABLE), ANSWER(NO_SESSION), ANSWER(BUSY), ANSWER(NEEDS_PORT), ANSWER(NOT_PERMITTED),
+        ANSWER(BAD_VALUE), ANSWER(COUNT_AT_MAXIMUM), ANSWER(IDLE), ANSWER(GAVE_UP), ANSWER(NO_REPORT), ANSWER(NO_SURVEY),
+        ANSWER(NO_PORTS), ANSWER(TOO_MANY_PORTS), ANSWER(GRANDMASTER_DIFFERS), ANSWER(TOO_MANY_MANAGERS),
+        ANSWER(MANAGER_TWICE), ANSWER(MANAGER_IS_EVERY), ANSWER(TARGET_IS_EVERY), ANSWER(SAME_CLOCK), ANSWER(BAD_IDENTITY),
+        ANSWER(BAD_DOMAIN), ANSWER(BAD_USER_DESCRIPTION), ANSWER(BAD_TWO_STEP), ANSWER(BAD_PRIORITY1),
+        ANSWER(BAD_CLOCK_CLASS), ANSWER(BAD_CLOCK_ACCURACY), ANSWER(BAD_VARIANCE), ANSWER(BAD_PRIORITY2),
+        ANSWER(BAD_STEPS_REMOVED), ANSWER(BAD_OFFSET_FROM_MASTER), ANSWER(BAD_MEAN_PATH_DELAY), ANSWER(BAD_PARENT_PORT),
+        ANSWER(BAD_PARENT_STATS), ANSWER(BAD_OBSERVED_VARIANCE), ANSWER(BAD_OBSERVED_RATE),
+        ANSWER(BAD_GRANDMASTER_PRIORITY1), ANSWER(BAD_GRANDMASTER_CLASS), ANSWER(BAD_GRANDMASTER_ACCURACY),
+        ANSWER(BAD_GRANDMASTER_VARIANCE), ANSWER(BAD_GRANDMASTER_PRIORITY2), ANSWER(BAD_GRANDMASTER),
+        ANSWER(BAD_UTC_OFFSET), ANSWER(BAD_LEAP61), ANSWER(BAD_LEAP59), ANSWER(BAD_UTC_VALID), ANSWER(BAD_PTP_TIMESCALE),
+        ANSWER(BAD_TIME_TRACEABLE), ANSWER(BAD_FREQUENCY_TRACEABLE), ANSWER(BAD_TIME_SOURCE), ANSWER(BAD_STATE),
+        ANSWER(BAD_LOG_MIN_DELAY_REQ), ANSWER(BAD_PEER_DELAY), ANSWER(BAD_LOG_ANNOUNCE), ANSWER(BAD_RECEIPT_TIMEOUT),
+        ANSWER(BAD_LOG_SYNC), ANSWER(BAD_DELAY_MECHANISM), ANSWER(BAD_LOG_MIN_PDELAY),
+    };
+#undef ANSWER
+    size_t named = 0, all = sizeof answers / sizeof *answers;
+    char text[PTPM_MOST_NAME];
+    for (size_t i = 0; i < all; i++) {
+        size_t size = ptpm_answer_name(answers[i].number, text, sizeof text);
+        check(size == strlen(answers[i].name) && memcmp(text, answers[i].name, size) == 0, answers[i].name);
+    }
+    for (uint32_t number = 0; number < 200; number++) named += ptpm_answer_name(number, text, sizeof text) > 0;
+    check(named == all, "a number that is no answer has no name");
+}
+
+/* Each id by its name in either case, and its name in capitals; and what is no name, or has no room. */
+static void id_names(void) {
+    static const struct { uint16_t id; const char *name, *small; } ids[] = {
+        { 0x0000, "NULL_PTP_MANAGEMENT", "null_ptp_management" }, { 0x2005, "PRIORITY1", "Priority1" },
+        { 0x2003, "TIME_PROPERTIES_DATA_SET", "time_properties_data_set" }, { 0x2011, "UTC_PROPERTIES", "utc_Properties" },
+        { 0x6001, "LOG_MIN_PDELAY_REQ_INTERVAL", "log_min_pdelay_req_interval" },
+    };
+    char text[PTPM_MOST_NAME + 1];
+    for (size_t i = 0; i < sizeof ids / sizeof *ids; i++) {
+        size_t size = strlen(ids[i].name);
+        memset(text, '.', sizeof text);
+        check(ptpm_id_named(ids[i].name, size) == ids[i].id && ptpm_id_named(ids[i].small, size) == ids[i].id, ids[i].small);
+        check(ptpm_id_name(ids[i].id, text, size) == size && memcmp(text, ids[i].name, size) == 0 && text[size] == '.', ids[i].name);
+        check(ptpm_id_name(ids[i].id, text, size - 1) == 0, "a name without room");
+    }
+    check(ptpm_id_named("PRIORITY", 8) == PTPM_NO_ID && ptpm_id_named("PRIORITY1", 8) == PTPM_NO_ID
+          && ptpm_id_named("", 0) == PTPM_NO_ID && ptpm_id_named("0x2005", 6) == PTPM_NO_ID, "what is no name");
+    check(ptpm_id_name(0x2fff, text, sizeof text) == 0, "an id without a name");
+}
+
 int main(void) {
     numbers_and_identities();
     flags();
@@ -282,6 +339,8 @@ int main(void) {
     managers();
     sessions();
     surveys();
+    answer_names();
+    id_names();
     ptpm_clock_stop(&clock_held);
     ptpm_session_stop(&session);
     ptpm_survey_stop(&survey);

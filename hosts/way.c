@@ -72,6 +72,7 @@ static void identity_of(const char *interface, uint8_t identity[8]) {
 static void meet_udp(struct task *task) {
     int is_six = task->address != NULL ? read_address(task->address) : task->is_six;
     const char *interface = task->interface != NULL ? task->interface : interface_to(task->address);
+    if (if_nametoindex(interface) == 0) refuse("nothing was sent: %s: %s", interface, strerror(errno));
     name = task->address != NULL ? task->address : interface;
     at = open_udp(interface, is_six);
     if (task->address == NULL) clock_size = group(&clock_address, is_six);

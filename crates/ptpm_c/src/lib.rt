@@ -22,6 +22,7 @@ ghost use Rattle.ptpm_c.specs.Turned.{IsTurnedTo};
 mod handle;
 mod keeping;
 mod kept;
+mod names;
 mod session;
 mod survey;
 

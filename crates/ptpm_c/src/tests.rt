@@ -1,6 +1,7 @@
 //! The calls of a host in C, one after another.
 
 use crate::handle::Handle;
+use crate::names::*;
 use crate::session::*;
 use crate::survey::*;
 use crate::*;
@@ -155,4 +156,52 @@ fn a_survey_from_start_to_stop(rt: HostRuntime) {
     assert!(rt; answer == 45 && size == 0);
     ptpm_survey_stop(alloc, &mut handle);
     assert!(rt; ptpm_survey_count(alloc, &mut handle) == 0);
+}
+
+/// The ids' names are the standard's (15.5.2.3), in either case. Memory is ample, and none is taken.
+#[test]
+fn ids_by_name_and_back(rt: HostRuntime) {
+    for (name, id) in [
+        (b"PRIORITY1".as_slice(), 0x2005),
+        (b"priority1".as_slice(), 0x2005),
+        (b"Log_Min_pDelay_Req_Interval".as_slice(), 0x6001),
+        (b"NULL_PTP_MANAGEMENT".as_slice(), 0x0000),
+        (b"".as_slice(), 65_536),
+        (b"PRIORITY".as_slice(), 65_536),
+        (b"PRIORITY1 ".as_slice(), 65_536),
+        (b"PRIORITY\x11".as_slice(), 65_536),
+        (b"GRANDMASTER_CLUSTER_TABLE".as_slice(), 65_536),
+    ] {
+        assert!(rt; ptpm_id_named(name) == id);
+    }
+    let mut octets = [0x2e; 12];
+    assert!(rt; ptpm_id_name(0x2005, &mut octets) == 9);
+    assert!(rt; octets.as_slice() == b"PRIORITY1...".as_slice());
+    assert!(rt; ptpm_id_name(0x2008, &mut octets[..10]) == 10);
+    assert!(rt; octets.as_slice() == b"SLAVE_ONLY..".as_slice());
+    assert!(rt; ptpm_id_name(0x2005, &mut octets[..8]) == 0);
+    assert!(rt; ptpm_id_name(0x2fff, &mut octets) == 0);
+    assert!(rt; octets.as_slice() == b"SLAVE_ONLY..".as_slice());
+}
+
+/// Of each kind one, by the header for C. Memory is ample, and none is taken.
+#[test]
+fn names_of_answers(rt: HostRuntime) {
+    let mut octets = [0; 32];
+    for (number, name) in [
+        (5, b"ANSWERED_NEW".as_slice()),
+        (10, b"NOT_A_REPLY".as_slice()),
+        (21, b"BAD_TLV_TYPE".as_slice()),
+        (26, b"REFUSED".as_slice()),
+        (39, b"NEEDS_PORT".as_slice()),
+        (55, b"SAME_CLOCK".as_slice()),
+        (84, b"BAD_GRANDMASTER_PRIORITY2".as_slice()),
+        (101, b"BAD_LOG_MIN_PDELAY".as_slice()),
+        (0, b"".as_slice()),
+        (24, b"".as_slice()),
+        (102, b"".as_slice()),
+    ] {
+        assert!(rt; ptpm_answer_name(number, &mut octets) == name.len());
+        assert!(rt; octets.starts_with(name));
+    }
 }

@@ -9,3 +9,5 @@ pub mod SessionNumbers
 pub mod SurveySettings
 pub mod Survey
 pub mod SurveyNumbers
+pub mod Names
+pub mod AnswerNames

@@ -2,7 +2,11 @@
 //! messages to send come out.
 #![tactic(auto)]
 
+mod answer_names;
 mod clock;
+mod id_names;
+mod laws;
+mod names;
 mod numbers;
 mod reading;
 mod refusal;
@@ -16,7 +20,11 @@ mod survey_numbers;
 mod survey_settings;
 mod told;
 
+pub use answer_names::answer_name;
 pub use clock::{Handled, HostedClock, MOST_SENT};
+pub use id_names::{NO_ID, id_name, id_named};
+pub use laws::names_law;
+pub use names::hand_out_name;
 pub use numbers::{NO_CLOCK, NO_MEMORY, handle_number, read_number, start_number, verdict_number};
 pub use refusal::{
     HandleRefusal, ReadRefusal, ReportRefusal, SendRefusal, SessionRefusal, StartRefusal,

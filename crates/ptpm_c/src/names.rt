@@ -1,0 +1,42 @@
+//! Names for hosts in C: of managementIds, and of what calls answer. No call here takes a handle or memory.
+
+ghost use Rattle.std.specs.Prelude.{◌≡◌, ◌≢◌, ℕ, Some, drop, length, take};
+ghost use Rattle.ptpm_host.specs.AnswerNames.{answer_name};
+ghost use Rattle.ptpm_host.specs.Names.{capitals, id_name, name_within, no_id};
+
+use ptpm_host::{NO_ID, answer_name, hand_out_name, id_name, id_named};
+
+/// The managementId that has this name of ASCII letters in either case, as `PRIORITY1` or `priority1`; 65,536, which no id is,
+/// where no id has it.
+#[unsafe(no_mangle)]
+pub extern "C" fn ptpm_id_named(name: &[u8]) -> u32
+    ensures named { result ≢ no_id → id_name result ≡ Some (capitals name.now) }
+    ensures found { (id : ℕ) → id_name id ≡ Some (capitals name.now) → result ≡ id }
+{
+    match id_named(name) {
+        Some(id) => u32::from(id),
+        None => NO_ID,
+    }
+}
+
+/// Leaves the standard's name of a managementId at the head of `octets`, and answers how many octets it has: 0 where this
+/// profile lacks the id, or there is no room for the whole name. What stands behind it stays.
+#[unsafe(no_mangle)]
+pub extern "C" fn ptpm_id_name(id: u16, octets: &mut [u8]) -> usize
+    ensures size { result ≡ length (name_within (length octets.old) (id_name id)) }
+    ensures name { take result octets.new ≡ name_within (length octets.old) (id_name id) }
+    ensures behind { drop result octets.new ≡ drop result octets.old }
+{
+    hand_out_name(id_name(id), octets)
+}
+
+/// Leaves the name of the number that a call answered at the head of `octets`, and answers how many octets it has: 0 where the
+/// number has none, or there is no room for the whole name. What stands behind it stays.
+#[unsafe(no_mangle)]
+pub extern "C" fn ptpm_answer_name(number: u32, octets: &mut [u8]) -> usize
+    ensures size { result ≡ length (name_within (length octets.old) (answer_name number)) }
+    ensures name { take result octets.new ≡ name_within (length octets.old) (answer_name number) }
+    ensures behind { drop result octets.new ≡ drop result octets.old }
+{
+    hand_out_name(answer_name(number), octets)
+}

@@ -1,0 +1,14 @@
+use Rattle.ptpm_host.proofs.AnswersNamed.{verdict_named, reason_named, begin_named, send_named, member_named}
+use Rattle.ptpm_host.proofs.NameSizes.{id_size, answer_size}
+use Rattle.ptpm_host.proofs.laws.names_law.Goals as goal
+
+pub returns : goal.returns
+returns c = record {
+  verdict = verdict_named;
+  reason = reason_named;
+  begin = begin_named;
+  send = send_named;
+  member = member_named;
+  id_size = id_size;
+  answer_size = answer_size;
+}

@@ -1,0 +1,21 @@
+-- The names of management ids as a user of a host writes and reads them, and how a name is handed out.
+use Rattle.std.specs.Prelude.{ℕ, nat_lt, if◌then◌else◌, List, [], length, map, Option, Some, None, option_map}
+use Rattle.std.specs.Char.{to_ascii_uppercase}
+use Rattle.ptpm_data.specs.ManagementId.{row_of}
+
+-- a name in capitals (ASCII); any other octet stays
+abbrev pub capitals : List ℕ → List ℕ
+capitals name = map to_ascii_uppercase name
+
+-- the standard's name of a managementId (15.5.2.3), in capitals, where this profile has the id
+abbrev pub id_name : ℕ → Option (List ℕ)
+id_name id = option_map (λ e. e.name) (row_of id)
+
+-- stands for no id: an id has 16 bits
+abbrev pub no_id : ℕ
+no_id = 65536
+
+-- what of a name is left in so many octets: all of it, and nothing where there is none or too little room
+abbrev pub name_within : ℕ → Option (List ℕ) → List ℕ
+name_within room None = []
+name_within room (Some name) = if nat_lt room (length name) then [] else name

@@ -1,0 +1,49 @@
+//! Management ids by name, and names of them.
+
+ghost use Rattle.std.specs.Prelude.{◌≡◌, ℕ, IfSome, Some, option_map};
+ghost use Rattle.ptpm_data.specs.ManagementId.{if_named, row_named, row_of, row_value};
+ghost use Rattle.ptpm_host.specs.Names.{capitals, id_name};
+
+use ptpm_data::{MANAGEMENT_IDS, Row, row};
+
+/// Stands for no managementId: an id has 16 bits.
+pub const NO_ID: u32 = 65_536;
+
+/// The standard's name of a managementId, as `PRIORITY1`; `None` where this profile lacks the id.
+pub fn id_name(id: u16) -> Option<&'static str>
+    ensures { option_map (λ name. name.now) result ≡ id_name id }
+{
+    Some(row(id)?.name)
+}
+
+/// The managementId of a name in ASCII, in either case, as `priority1`; `None` where no id has it.
+pub fn id_named(name: &[u8]) -> Option<u16>
+    ensures named { IfSome result (λ id. id_name id ≡ Some (capitals name.now)) }
+    ensures found { (id : ℕ) → id_name id ≡ Some (capitals name.now) → result ≡ Some id }
+{
+    match row_named(name) {
+        Some(row) => Some(row.id),
+        None => None,
+    }
+}
+
+fn row_named(name: &[u8]) -> Option<Row>
+    ensures { option_map row_value result ≡ row_named (capitals name.now) }
+{
+    for id in &MANAGEMENT_IDS {
+        if let Some(row) = row_if_named(*id, name) {
+            return Some(row);
+        }
+    }
+    None
+}
+
+/// The row of an id, where it has that name.
+fn row_if_named(id: u16, name: &[u8]) -> Option<Row>
+    ensures { option_map row_value result ≡ if_named (capitals name.now) (row_of id) }
+{
+    match row(id) {
+        Some(row) if row.name.as_bytes().eq_ignore_ascii_case(name) => Some(row),
+        _ => None,
+    }
+}
