@@ -1,7 +1,6 @@
 -- What an event did, or why it was refused, and where it led, as its line tells it.
-use Rattle.ptpm_world.proofs.Common.{ne_eqb, true≢false, ◌≡◌, ◌≢◌, ℕ, false, None, Some, Ok, Err, Result, refl, sym, ap, ◌∙◌, IfErr, IfOk, OnErr, OnOk, Option, option_map, Refusal, RunningNetwork, network_refusal, network_step, Network, StepError, Took, ◌==◌, error_of, took, after, after_by, answer, answer_by, error_text, is_out_of_memory}
+use Rattle.ptpm_world.proofs.Common.{ne_eqb, true≢false, ◌≡◌, ℕ, false, None, Some, Ok, Err, Result, refl, sym, ap, ◌∙◌, OnErr, Option, option_map, Refusal, RunningNetwork, network_refusal, Network, StepError, Took, World, IsStep, running, ◌==◌, error_of, after, after_by, answer, answer_by, error_text, is_out_of_memory}
 use Rattle.ptpm_network.specs.Events.{Event}
-use Rattle.ptpm_world.specs.declared.took.StepError.TheVariants.{OutOfMemory}
 use Rattle.std.specs.Int.{to_be_bytes, w16}
 use Rattle.ptpm_codec.specs.declared.error.ErrorId.{ErrorId}
 use Rattle.ptpm_codec.specs.declared.error.ErrorId.TheVariants as errors
@@ -18,18 +17,16 @@ named : (N : Network) (r : RunningNetwork) (e : Event) (why : Option Refusal) (x
 named N r e None x h = absurd (cc)
 named N r e (Some y) x h = (ap Err (some_is (error_of y) x h), refl)
 
-pub answered : (N : Network) (r next : RunningNetwork) (e : Event) (result : Result Took StepError)
+pub answered : (N : Network) (old new : World) (e : Event) (result : Result Took StepError)
     → is_out_of_memory result ≡ false
-    → OnOk result (next ≡ network_step N r e)
-    → IfOk result (λ t. t ≡ took N r e)
-    → OnOk result (network_refusal N r e ≡ None)
-    → IfErr result (λ x. x ≢ OutOfMemory → option_map error_of (network_refusal N r e) ≡ Some x)
-    → OnErr result (next ≡ r)
-    → (result ≡ answer N r e) × (next ≡ after N r e)
-answered N r next e (Ok t) memory goes is permitted why same =
-    (ap Ok is ∙ ap (λ w. answer_by w N r e) (sym permitted), goes ∙ ap (λ w. after_by w N r e) (sym permitted))
-answered N r next e (Err x) memory goes is permitted why same =
-    let both = named N r e (network_refusal N r e) x (why (λ o. true≢false (sym (ap (λ y. is_out_of_memory (Err y)) o) ∙ memory))) in
+    → IsStep N old new e result
+    → OnErr result (running new ≡ running old)
+    → (result ≡ answer N (running old) e) × (running new ≡ after N (running old) e)
+answered N old new e (Ok t) memory step same =
+    (ap Ok step.answers ∙ ap (λ w. answer_by w N (running old) e) (sym step.permitted), step.goes ∙ ap (λ w. after_by w N (running old) e) (sym step.permitted))
+answered N old new e (Err x) memory step same =
+    let r = running old in
+    let both = named N r e (network_refusal N r e) x (step.refuses (λ o. true≢false (sym (ap (λ y. is_out_of_memory (Err y)) o) ∙ memory))) in
     (both.0, same ∙ both.1)
 
 -- ---- managementErrorIds

@@ -1,43 +1,31 @@
 -- From where a list of events led, a world goes on as the machine does.
-use Rattle.ptpm_world.proofs.Common.{◌≡◌, ◌≢◌, Result, Ok, Err, List, [], ◌∷◌, ◌++◌, Option, Some, None, false, refl, sym, ◌∙◌, ap, subst, cond-true, cond-false, append-nil, append_assoc, IfErr, OnOk, is_none, option_map, IsInRange, Refusal, refusal, StandsAfter, AreInTime, is_late_delivery, run, step, taken, Network, RunningNetwork, NetworkState, initial_state, StepError, Took, World, running, IsStep, error_of}
+use Rattle.ptpm_world.proofs.Common.{◌≡◌, Result, Ok, Err, List, [], ◌∷◌, ◌++◌, Option, Some, None, false, refl, sym, ◌∙◌, ap, subst, cond-true, cond-false, append-nil, append_assoc, is_none, option_map, IsInRange, Refusal, refusal, StandsAfter, AreInTime, is_late_delivery, run, step, taken, Network, RunningNetwork, NetworkState, initial_state, StepError, Took, World, running, IsStep, error_of}
 use Rattle.ptpm_network.specs.Events.{Event}
 use Rattle.ptpm_network.proofs.Promise.{stands-network_step, stands-judged}
 use Rattle.ptpm_network.proofs.Taking.{in_time-parts, run-append, taken-append}
-use Rattle.ptpm_world.specs.declared.took.StepError.TheVariants as errors
+use Rattle.ptpm_world.specs.Stepping.{IsMachineStep}
 
 -- ---- a step
 
-pub step-stands : (N : Network) (past : List Event) (old new : World) (e : Event)
+pub step-machine : (N : Network) (past : List Event) (old new : World) (e : Event)
     (result : Result Took StepError)
     → IsStep N old new e result
     → StandsAfter N past (running old)
     → IsInRange e
-    → is_late_delivery (run N (initial_state N) past) e ≡ false
-    → OnOk result (StandsAfter N (past ++ e ∷ []) (running new))
-step-stands N past old new e (Ok t) step at range prompt =
-    subst (λ (r : RunningNetwork). StandsAfter N (past ++ e ∷ []) r) (sym step.goes)
-    (stands-network_step N past (running old) e at range (sym (stands-judged N past (running old) e at) ∙ step.permitted) prompt)
-step-stands N past old new e (Err why) step at range prompt = tt
-
-pub step-taken : (N : Network) (past : List Event) (old new : World) (e : Event)
-    (result : Result Took StepError)
-    → IsStep N old new e result
-    → StandsAfter N past (running old)
-    → OnOk result (refusal N (run N (initial_state N) past) e ≡ None)
-step-taken N past old new e (Ok t) step at = sym (stands-judged N past (running old) e at) ∙ step.permitted
-step-taken N past old new e (Err why) step at = tt
-
-pub step-reason : (N : Network) (past : List Event) (old new : World) (e : Event)
-    (result : Result Took StepError)
-    → IsStep N old new e result
-    → StandsAfter N past (running old)
-    → IfErr result
-    (λ x.
-    x ≢ errors.OutOfMemory
-    → option_map error_of (refusal N (run N (initial_state N) past) e) ≡ Some x)
-step-reason N past old new e (Ok t) step at = tt
-step-reason N past old new e (Err why) step at = λ other.
-    ap (option_map error_of) (sym (stands-judged N past (running old) e at)) ∙ step.refuses other
+    → IsMachineStep N past new e result
+step-machine N past old new e (Ok t) step at range =
+    let none : refusal N (run N (initial_state N) past) e ≡ None = sym (stands-judged N past (running old) e at) ∙ step.permitted in
+    record {
+      stands = λ prompt.
+          subst (λ (r : RunningNetwork). StandsAfter N (past ++ e ∷ []) r) (sym step.goes) (stands-network_step N past (running old) e at range none prompt);
+      taken = none;
+      reason = tt;
+    }
+step-machine N past old new e (Err why) step at range = record {
+  stands = λ prompt. tt;
+  taken = tt;
+  reason = λ other. ap (option_map error_of) (sym (stands-judged N past (running old) e at)) ∙ step.refuses other;
+}
 
 -- ---- what was carried out so far
 

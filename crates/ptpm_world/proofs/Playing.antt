@@ -298,27 +298,24 @@ file-first n a =
     both-same (λ xs ys. (others : ℕ → List (List ℕ × List ℕ) → Played (List ℕ)) → from_file others n (whole_lines xs) ≡ from_file others n (whole_lines ys)) a
     (λ xs others. refl)
 
-pub file-more : (n m k : ℕ) (line : List ℕ) (a b c : Option (List ℕ))
+-- behind the next line
+file_line : (n m : ℕ) (line : List ℕ) (a b c : Option (List ℕ))
     → FileGoes a n b m
     → NextIs m None line b c
-    → is_divider line ≡ false → k ≡ m + 1 → FileGoes a n c k
-file-more n m k line a b c h is d e =
-    both-on a b c
-    (λ xs ys zs p at others.
-    p others ∙ guarded (from_file others) (others_of_file others) None m line ys zs (file-guards others) at
-    ∙ cond-false _ _ _ d ∙ ap (λ j. from_file others j (whole_lines zs)) (sym e))
-    h is.is
+    → BothKnown a c (λ xs zs.
+    (others : ℕ → List (List ℕ × List ℕ) → Played (List ℕ)) → from_file others n (whole_lines xs) ≡ others_of_file others m line (whole_lines zs))
+file_line n m line a b c h is =
+    both-on a b c (λ xs ys zs p at others. p others ∙ guarded (from_file others) (others_of_file others) None m line ys zs (file-guards others) at) h is.is
 
-pub file-divider : (n m k : ℕ) (line : List ℕ) (a b c : Option (List ℕ))
-    → FileGoes a n b m
-    → NextIs m None line b c
-    → is_divider line ≡ true → k ≡ m + 1 → FileEnds a n c k
+pub file-more : (n m k : ℕ) (line : List ℕ) (a b c : Option (List ℕ)) → FileGoes a n b m
+    → NextIs m None line b c → is_divider line ≡ false → k ≡ m + 1 → FileGoes a n c k
+file-more n m k line a b c h is d e =
+    both-is a c (λ xs zs p others. p others ∙ cond-false _ _ _ d ∙ ap (λ j. from_file others j (whole_lines zs)) (sym e)) (file_line n m line a b c h is)
+
+pub file-divider : (n m k : ℕ) (line : List ℕ) (a b c : Option (List ℕ)) → FileGoes a n b m
+    → NextIs m None line b c → is_divider line ≡ true → k ≡ m + 1 → FileEnds a n c k
 file-divider n m k line a b c h is d e =
-    both-on a b c
-    (λ xs ys zs p at others.
-    p others ∙ guarded (from_file others) (others_of_file others) None m line ys zs (file-guards others) at
-    ∙ cond-true _ _ _ d ∙ ap (λ j. others j (whole_lines zs)) (sym e))
-    h is.is
+    both-is a c (λ xs zs p others. p others ∙ cond-true _ _ _ d ∙ ap (λ j. others j (whole_lines zs)) (sym e)) (file_line n m line a b c h is)
 
 pub file-end : (n m k : ℕ) (a b c : Option (List ℕ))
     → FileGoes a n b m

@@ -9,22 +9,19 @@ ghost use Rattle.ptpm_agent.specs.Agent.{IsTurned};
 ghost use Rattle.ptpm_agent.specs.Turn.{turn};
 ghost use Rattle.ptpm_table.specs.Outbox.{sent};
 ghost use Rattle.ptpm_network.specs.Events as machine;
-ghost use Rattle.ptpm_network.specs.Events.{frame_at, is_forged, refusal};
-ghost use Rattle.ptpm_network.specs.RunningNetwork.{network_refusal, network_run, network_step};
-ghost use Rattle.ptpm_network.specs.Headline.{Headline, StandsAfter};
-ghost use Rattle.ptpm_network.specs.Machine.{AreInTime, is_late_delivery, run, taken};
+ghost use Rattle.ptpm_network.specs.Events.{frame_at, is_forged};
+ghost use Rattle.ptpm_network.specs.Headline.{StandsAfter};
+ghost use Rattle.ptpm_network.specs.Machine.{AreInTime, state_after};
 ghost use Rattle.ptpm_network.specs.Network.{Network};
 ghost use Rattle.ptpm_network.specs.Network as net;
 ghost use Rattle.ptpm_network.specs.Replying.{origin_by, posted_by};
-ghost use Rattle.ptpm_network.specs.State.{initial_state};
-ghost use Rattle.ptpm_script.specs.declared.event.Event.{Event};
+ghost use Rattle.ptpm_world.specs.Stepping.{IsMachineRun, IsMachineStep, IsRun, IsStep, carried_out};
 ghost use Rattle.ptpm_world.specs.declared.took.StepError.{StepError};
 ghost use Rattle.ptpm_world.specs.Frames.{HasRoom, held_in, link_ends, origin_of};
 ghost use Rattle.ptpm_world.specs.Placed.{names_in, place_in, placed};
 ghost use Rattle.ptpm_world.specs.Running.{AreLinks, IsOf, IsOfSession, IsStoredFrame, agent_clock, agent_state, running};
-ghost use Rattle.ptpm_world.specs.Stepping.{AllHappen, IsStep, events_carried_out};
 ghost use Rattle.ptpm_manager.specs.Receiving.{left_by, received_of};
-ghost use Rattle.ptpm_world.specs.Took.{error_of, heard, reports_in, took};
+ghost use Rattle.ptpm_world.specs.Took.{heard, reports_in};
 
 use crate::frames::{FRAMES_LIMIT, Frames, Origin};
 use crate::network_laws::placed_event;
@@ -43,54 +40,15 @@ impl World {
     /// Where no frame was delivered late before, and none is now, it stands where the event leads the network machine, and
     /// refuses what that refuses, for the same reason.
     pub fn step(&mut self, event: &Event) -> Result<Took, StepError>
-        ensures happened { (N : Network)
+        ensures step { (N : Network)
             → IsOf N self.old
-            → OnOk result
-            (running self.new
-            ≡ network_step N (running self.old) (placed (names_in self.old) event.now)) }
-        ensures took { (N : Network)
-            → IsOf N self.old
-            → IfOk result
-            (λ t. t ≡ took N (running self.old) (placed (names_in self.old) event.now)) }
-        ensures permitted { (N : Network)
-            → IsOf N self.old
-            → OnOk result
-            (network_refusal N (running self.old) (placed (names_in self.old) event.now)
-            ≡ None) }
-        ensures refused { (N : Network)
-            → IsOf N self.old
-            → IfErr result
-            (λ e.
-            e ≢ StepError.OutOfMemory
-            → option_map error_of
-            (network_refusal N (running self.old)
-            (placed (names_in self.old) event.now)) ≡ Some e) }
-        ensures stands { (N : Network) (past : List machine.Event)
+            → IsStep N self.old self.new (placed (names_in self.old) event.now) result }
+        ensures machine { (N : Network) (past : List machine.Event)
             → IsOf N self.old
             → StandsAfter N past (running self.old)
-            → is_late_delivery (run N (initial_state N) past) (placed (names_in self.old) event.now)
-            ≡ false
-            → OnOk result
-            (StandsAfter N (past ++ placed (names_in self.old) event.now ∷ [])
-            (running self.new)) }
-        ensures taken { (N : Network) (past : List machine.Event)
-            → IsOf N self.old
-            → StandsAfter N past (running self.old)
-            → OnOk result
-            (refusal N (run N (initial_state N) past) (placed (names_in self.old) event.now)
-            ≡ None) }
-        ensures reason { (N : Network) (past : List machine.Event)
-            → IsOf N self.old
-            → StandsAfter N past (running self.old)
-            → IfErr result
-            (λ e.
-            e ≢ StepError.OutOfMemory
-            → option_map error_of
-            (refusal N (run N (initial_state N) past)
-            (placed (names_in self.old) event.now)) ≡ Some e) }
+            → IsMachineStep N past self.new (placed (names_in self.old) event.now) result }
         ensures unchanged { OnErr result (running self.new ≡ running self.old) }
         ensures names { names_in self.new ≡ names_in self.old }
-        ensures network { (N : Network) → IsOf N self.old → IsOf N self.new }
     {
         // it is in the range that the laws of networks ask for
         placed_event(event);
@@ -105,75 +63,16 @@ impl World {
     /// first acceptance; repeats of the latest get the one reply kept, older ones none; each manager reports those replies;
     /// strangers and refused SETs change no data set (`Headline`).
     pub fn run(&mut self, events: &[Event]) -> Result<(), (usize, StepError)>
-        ensures ran { (N : Network)
+        ensures run { (N : Network)
             → IsOf N self.old
-            → OnOk result
-            (running self.new
-            ≡ network_run N (running self.old)
-            (map (placed (names_in self.old)) events.now)) }
-        ensures happened { (N : Network)
-            → IsOf N self.old
-            → OnOk result
-            (AllHappen N (running self.old) (map (placed (names_in self.old)) events.now)) }
+            → IsRun N self.old self.new events.now result }
         ensures place { IfErr result (λ e. e.0 < length events.now) }
-        ensures stopped { (N : Network)
-            → IsOf N self.old
-            → IfErr result
-            (λ e.
-            running self.new
-            ≡ network_run N (running self.old)
-            (map (placed (names_in self.old)) (take e.0 events.now))) }
-        ensures before { (N : Network)
-            → IsOf N self.old
-            → IfErr result
-            (λ e.
-            AllHappen N (running self.old)
-            (map (placed (names_in self.old)) (take e.0 events.now))) }
-        ensures refused { (N : Network)
-            → IsOf N self.old
-            → IfErr result
-            (λ e.
-            e.1 ≢ StepError.OutOfMemory
-            → (event : Event)
-            → slice_get events.now e.0 ≡ Some event
-            → option_map error_of
-            (network_refusal N (running self.new)
-            (placed (names_in self.old) event)) ≡ Some e.1) }
-        ensures stands { (N : Network) (past : List machine.Event)
+        ensures machine { (N : Network) (past : List machine.Event)
             → IsOf N self.old
             → StandsAfter N past (running self.old)
-            → let es = map (placed (names_in self.old)) (events_carried_out result events.now) in AreInTime
-            N (run N (initial_state N) past) es
-            → StandsAfter N (past ++ es) (running self.new) }
-        ensures headline { (N : Network) (past : List machine.Event)
-            → IsOf N self.old
-            → StandsAfter N past (running self.old)
-            → let es = map (placed (names_in self.old)) (events_carried_out result events.now) in AreInTime
-            N (run N (initial_state N) past) es
-            → Headline N (run N (initial_state N) (past ++ es)) (running self.new) }
-        ensures taken { (N : Network) (past : List machine.Event)
-            → IsOf N self.old
-            → StandsAfter N past (running self.old)
-            → let es = map (placed (names_in self.old)) (events_carried_out result events.now) in AreInTime
-            N (run N (initial_state N) past) es
-            → IfErr result (λ e. e.1 ≢ StepError.OutOfMemory)
-            → taken N (run N (initial_state N) past) (map (placed (names_in self.old)) events.now)
-            ≡ es }
-        ensures reason { (N : Network) (past : List machine.Event)
-            → IsOf N self.old
-            → StandsAfter N past (running self.old)
-            → let es = map (placed (names_in self.old)) (events_carried_out result events.now) in AreInTime
-            N (run N (initial_state N) past) es
-            → IfErr result
-            (λ e.
-            e.1 ≢ StepError.OutOfMemory
-            → (event : Event)
-            → slice_get events.now e.0 ≡ Some event
-            → option_map error_of
-            (refusal N (run N (initial_state N) (past ++ es))
-            (placed (names_in self.old) event)) ≡ Some e.1) }
+            → AreInTime N (state_after N past) (carried_out self.old result events.now)
+            → IsMachineRun N past self.old self.new events.now result }
         ensures names { names_in self.new ≡ names_in self.old }
-        ensures network { (N : Network) → IsOf N self.old → IsOf N self.new }
     {
         for place in 0..events.len() {
             if let Err(error) = self.step(&events[place]) {

@@ -46,15 +46,12 @@ returns-then-is_divider-clause-text g c =
 
 pub returns-clause-text : goal.returns-clause-text
 returns-clause-text g c =
-    let told = left_in g.R.Read.remaining c.args.script.now in
-    let had = left_in g.R.Read.remaining c.loop-text.script in
-    let has = left_in g.R.Read.remaining c.read.new.self in
-    let first = c.args.script.now.count + 1 in
-    let n = c.loop-text.script.count + 1 in
-    let next = c.read.new.self.count + 1 in
-    let none = none-is n had has _ c.read.new.self.line.items c.if-branch.false c.in_ok-read.ensures.whole in
-    read-whole told had has first next (string_bytes c.loop-text.text) c.loop-text.invariant.kept none
-    (file-end first n next told had has c.loop-text.invariant.goes none (ap (λ k. k + 1) (c.in_ok-read.ensures.same (ap Ok c.if-branch.false))))
+    let R = g.R.Read.remaining in
+    let k = c.read.new.self.count + 1 in
+    let none = none-is (c.loop-text.script.count + 1) (left_in R c.loop-text.script) (left_in R c.read.new.self) _ c.read.new.self.line.items c.if-branch.false c.in_ok-read.ensures.whole in
+    read-whole (left_in R c.args.script.now) _ _ (c.args.script.now.count + 1) k (string_bytes c.loop-text.text) c.loop-text.invariant.kept none
+    (file-end (c.args.script.now.count + 1) (c.loop-text.script.count + 1) k (left_in R c.args.script.now) _ _ c.loop-text.invariant.goes none
+    (ap (λ j. j + 1) (c.in_ok-read.ensures.same (ap Ok c.if-branch.false))))
 
 pub returns-in_err-read-clause-fault : goal.returns-in_err-read-clause-fault
 returns-in_err-read-clause-fault g c =

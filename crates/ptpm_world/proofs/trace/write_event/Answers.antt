@@ -9,8 +9,7 @@ returns-clause-line g c = λ N is.
     let r = running c.args.world.now in
     let event = placed (names_in c.args.world.now) c.args.event.now in
     let s = c.step-took.ensures in
-    let both = answered N r (running c.step-took.new.self) event c.step-took.result (sym c.is_out_of_memory.ensures ∙ c.if-is_out_of_memory.false)
-    (s.happened N is) (s.took N is) (s.permitted N is) (s.refused N is) s.unchanged in
+    let both = answered N c.args.world.now c.step-took.new.self event c.step-took.result (sym c.is_out_of_memory.ensures ∙ c.if-is_out_of_memory.false) (s.step N is) s.unchanged in
     let made = c.frames-after.ensures.count ∙ ap (λ (x : RunningNetwork). length x.frames) both.1 in
     let same : event_text c.args.number (verb_of c.args.event.now) c.step-took.result c.is_late_delivery-is_late.result c.frames-before.result c.frames-after.result
     ≡ event_line N (names_in c.args.world.now) r c.args.number c.args.event.now =
@@ -20,9 +19,8 @@ returns-clause-line g c = λ N is.
 pub returns-clause-after : goal.returns-clause-after
 returns-clause-after g c = λ N is.
     let s = c.step-took.ensures in
-    let both = answered N (running c.args.world.now) (running c.step-took.new.self) (placed (names_in c.args.world.now) c.args.event.now) c.step-took.result
-    (sym c.is_out_of_memory.ensures ∙ c.if-is_out_of_memory.false) (s.happened N is) (s.took N is) (s.permitted N is) (s.refused N is) s.unchanged in
-    both.1
+    (answered N c.args.world.now c.step-took.new.self (placed (names_in c.args.world.now) c.args.event.now) c.step-took.result
+    (sym c.is_out_of_memory.ensures ∙ c.if-is_out_of_memory.false) (s.step N is) s.unchanged).1
 
 pub returns-in_err-write_line-clause-fault : goal.returns-in_err-write_line-clause-fault
 returns-in_err-write_line-clause-fault g c = err-on c.from_residual.result faults.WriteFault (λ e. is_outside e ≡ true) c.from_residual.ensures.1 refl
@@ -34,3 +32,12 @@ returns-in_err-write_line-clause-kept g c =
 
 pub returns-then-is_out_of_memory-clause-kept : goal.returns-then-is_out_of_memory-clause-kept
 returns-then-is_out_of_memory-clause-kept g c = λ other. refl
+
+pub returns-clause-network : goal.returns-clause-network
+returns-clause-network g c = λ N is. (c.step-took.ensures.step N is).network
+
+pub returns-in_err-write_line-clause-network : goal.returns-in_err-write_line-clause-network
+returns-in_err-write_line-clause-network g c = λ N is. (c.step-took.ensures.step N is).network
+
+pub returns-then-is_out_of_memory-clause-network : goal.returns-then-is_out_of_memory-clause-network
+returns-then-is_out_of_memory-clause-network g c = λ N is. (c.step-took.ensures.step N is).network
