@@ -187,6 +187,92 @@ static void refusals(void) {
     check(start(&s) == PTPM_GRANDMASTER_DIFFERS, "PTPM_GRANDMASTER_DIFFERS");
 }
 
+/* A value for each member that a host observes of its clock; none has its flag. */
+static struct ptpm_observed_clock observed_values(void) {
+    struct ptpm_observed_clock o = {
+        .offset_from_master = 0x0203040506070809, .mean_path_delay = 0x1213141516171819, .observed_rate = 0x25262728,
+        .variance = 0x3334, .steps_removed = 0x4445, .observed_variance = 0x5455, .grandmaster_variance = 0x6465,
+        .parent_port_number = 0x7475, .utc_offset = 0x2122, .clock_class = 0x64, .clock_accuracy = 0x24, .parent_stats = 0x80,
+        .grandmaster_priority1 = 0x63, .grandmaster_class = 0x65, .grandmaster_accuracy = 0x25, .grandmaster_priority2 = 0x66,
+        .leap61 = 0x80, .leap59 = 0x80, .utc_valid = 0x80, .ptp_timescale = 0x80, .time_traceable = 0x80,
+        .frequency_traceable = 0x80, .time_source = 0x40,
+    };
+    octets_of(PARENT, o.parent_port_clock);
+    octets_of(GRANDMASTER, o.grandmaster);
+    return o;
+}
+
+/* Where one member of a clock is observed, and no other, it moves. */
+static void observed_of_a_clock(void) {
+    static const struct { size_t place; const char *name; uint16_t id; const char *wanted; } cases[] = {
+        { offsetof(struct ptpm_observed_clock, has_clock_class), "has_clock_class", 0x2000, "00000002436422313246" ME "2a00" },
+        { offsetof(struct ptpm_observed_clock, has_clock_accuracy), "has_clock_accuracy", 0x2000, "00000002434424313246" ME "2a00" },
+        { offsetof(struct ptpm_observed_clock, has_variance), "has_variance", 0x2000, "00000002434422333446" ME "2a00" },
+        { offsetof(struct ptpm_observed_clock, has_steps_removed), "has_steps_removed", 0x2001,
+          "4445" "0102030405060708" "1112131415161718" },
+        { offsetof(struct ptpm_observed_clock, has_offset_from_master), "has_offset_from_master", 0x2001,
+          "4142" "0203040506070809" "1112131415161718" },
+        { offsetof(struct ptpm_observed_clock, has_mean_path_delay), "has_mean_path_delay", 0x2001,
+          "4142" "0102030405060708" "1213141516171819" },
+        { offsetof(struct ptpm_observed_clock, has_parent_stats), "has_parent_stats", 0x2002,
+          ME "0000" "0100" "5152" "21222324" "434422313246" ME },
+        { offsetof(struct ptpm_observed_clock, has_observed_variance), "has_observed_variance", 0x2002,
+          ME "0000" "0000" "5455" "21222324" "434422313246" ME },
+        { offsetof(struct ptpm_observed_clock, has_observed_rate), "has_observed_rate", 0x2002,
+          ME "0000" "0000" "5152" "25262728" "434422313246" ME },
+        { offsetof(struct ptpm_observed_clock, has_grandmaster), "has_grandmaster", 0x2002,
+          PARENT "7475" "0000" "5152" "21222324" "636525646566" GRANDMASTER },
+        { offsetof(struct ptpm_observed_clock, has_utc_offset), "has_utc_offset", 0x2003, "21220090" },
+        { offsetof(struct ptpm_observed_clock, has_leap61), "has_leap61", 0x2003, "19200190" },
+        { offsetof(struct ptpm_observed_clock, has_leap59), "has_leap59", 0x2003, "19200290" },
+        { offsetof(struct ptpm_observed_clock, has_utc_valid), "has_utc_valid", 0x2003, "19200490" },
+        { offsetof(struct ptpm_observed_clock, has_ptp_timescale), "has_ptp_timescale", 0x2003, "19200890" },
+        { offsetof(struct ptpm_observed_clock, has_time_traceable), "has_time_traceable", 0x2003, "19201090" },
+        { offsetof(struct ptpm_observed_clock, has_frequency_traceable), "has_frequency_traceable", 0x2003, "19202090" },
+        { offsetof(struct ptpm_observed_clock, has_time_source), "has_time_source", 0x2003, "19200040" },
+    };
+    const struct ptpm_observed_port none = { .peer_delay = 0 };
+    struct ptpm_clock_settings s = own_values();
+    uint8_t left;
+    for (size_t i = 0; i < sizeof cases / sizeof *cases; i++) {
+        struct ptpm_observed_clock o = observed_values();
+        ((uint8_t *)&o)[cases[i].place] = 0x80;
+        check(start(&s) == PTPM_STARTED && ptpm_clock_observe(&clock_held, &o, &none, 0, &left) == PTPM_OBSERVED
+              && reads(cases[i].id, 0, cases[i].wanted), cases[i].name);
+    }
+    struct ptpm_observed_clock o = observed_values();
+    o.has_grandmaster = 1;
+    check(ptpm_clock_observe(&clock_held, &o, &none, 0, &left) == PTPM_OBSERVED, "another grandmaster");
+    o.is_grandmaster = 0x80;
+    check(ptpm_clock_observe(&clock_held, &o, &none, 0, &left) == PTPM_OBSERVED
+          && reads(0x2002, 0, ME "0000" "0000" "5152" "21222324" "434422313246" ME), "is_grandmaster");
+}
+
+/* The same of ports, and which of them stay disabled. */
+static void observed_of_ports(void) {
+    const struct ptpm_observed_clock o = observed_values();
+    const struct ptpm_observed_port states[2] = {
+        { .peer_delay = 0x5a5b5c5d5e5f4a4b, .state = 9, .has_state = 0x80 }, { .state = 3 },
+    };
+    const struct ptpm_observed_port delays[3] = {
+        { .peer_delay = 0x5a5b5c5d5e5f4a4b, .state = 9, .has_peer_delay = 0x80 }, { .state = 10, .has_state = 1 },
+        { .state = 9 },
+    };
+    struct ptpm_clock_settings s = own_values();
+    uint8_t left = 0xff;
+    check(start(&s) == PTPM_STARTED && ptpm_clock_observe(&clock_held, &o, states, 2, &left) == PTPM_OBSERVED && left == 0
+          && reads(0x2004, 1, ME "0001" "09f5" "0a0b0c0d0e0f1a1b" "0307fa020402"), "has_state");
+    check(ptpm_clock_observe(&clock_held, &o, delays, 1, &left) == PTPM_OBSERVED
+          && reads(0x2004, 1, ME "0001" "09f5" "5a5b5c5d5e5f4a4b" "0307fa020402"), "has_peer_delay");
+    check(ptpm_clock_observe(&clock_held, &o, delays, 2, &left) == PTPM_BAD_STATE && left == 0, "a number of no state");
+    check(ptpm_clock_observe(&clock_held, &o, delays, 3, &left) == PTPM_NO_PORT, "a port too many");
+    check(handle(1, message(0x2a, MANAGER "0933", 1, ME "0002", 0, PTPM_COMMAND, "0001" "0002" "200e")) == PTPM_ANSWERED_NEW
+          && ptpm_clock_observe(&clock_held, &o, delays, 2, &left) == PTPM_OBSERVED && left == 2
+          && reads(0x2004, 2, ME "0002" "030c" "7a7b7c7d7e7f6a6b" "fd0901fef902"), "a port that stays disabled");
+    ptpm_clock_stop(&clock_held);
+    check(ptpm_clock_observe(&clock_held, &o, delays, 2, &left) == PTPM_NO_CLOCK && left == 0, "no clock is observed");
+}
+
 /* What each manager may do, and the messages that the clock sends. */
 static void managers(void) {
     static const char *const sources[3] = { MANAGER "0911", MANAGER "0922", MANAGER "0933" };
@@ -336,6 +422,8 @@ int main(void) {
     flags();
     given_values();
     refusals();
+    observed_of_a_clock();
+    observed_of_ports();
     managers();
     sessions();
     surveys();

@@ -97,6 +97,68 @@ struct ptpm_port_settings {
     int8_t log_min_pdelay;              /* -8 to 5 */
 };
 
+/* What a host observes of its clock: its servo, its port state machines and its best master clock algorithm find it (clause
+   8.2 of IEEE 1588-2019). Start from all zeros, struct ptpm_observed_clock observed = { 0 }; a member without its has_ flag
+   stays. A flag is set where it is not 0. A grandmaster is observed whole: where is_grandmaster is set, the clock itself, and
+   the members of a grandmaster and of the parent port do not count; else, where has_grandmaster is set, the one that they name.
+   Where neither is set, the quality of a clock that is its own grandmaster is shown as its grandmaster's too. What managers
+   alone set is not observed; clock_accuracy, utc_offset, the two leaps and utc_valid are what the later of both said. */
+struct ptpm_observed_clock {
+    int64_t offset_from_master;         /* in nanoseconds times 2^16 */
+    int64_t mean_path_delay;            /* in nanoseconds times 2^16 */
+    int32_t observed_rate;
+    uint16_t variance;                  /* of the clock itself, as clock_class and clock_accuracy */
+    uint16_t steps_removed;
+    uint16_t observed_variance;
+    uint16_t grandmaster_variance;
+    uint16_t parent_port_number;
+    int16_t utc_offset;
+    uint8_t parent_port_clock[8];
+    uint8_t grandmaster[8];
+    uint8_t clock_class;
+    uint8_t clock_accuracy;             /* 0x17 to 0x31, or 0xFE */
+    uint8_t parent_stats;
+    uint8_t grandmaster_priority1;
+    uint8_t grandmaster_class;
+    uint8_t grandmaster_accuracy;
+    uint8_t grandmaster_priority2;
+    uint8_t leap61;                     /* not both of the two afterwards */
+    uint8_t leap59;
+    uint8_t utc_valid;
+    uint8_t ptp_timescale;
+    uint8_t time_traceable;
+    uint8_t frequency_traceable;
+    uint8_t time_source;
+    uint8_t has_clock_class;
+    uint8_t has_clock_accuracy;
+    uint8_t has_variance;
+    uint8_t has_steps_removed;
+    uint8_t has_offset_from_master;
+    uint8_t has_mean_path_delay;
+    uint8_t has_parent_stats;
+    uint8_t has_observed_variance;
+    uint8_t has_observed_rate;
+    uint8_t is_grandmaster;
+    uint8_t has_grandmaster;
+    uint8_t has_utc_offset;
+    uint8_t has_leap61;
+    uint8_t has_leap59;
+    uint8_t has_utc_valid;
+    uint8_t has_ptp_timescale;
+    uint8_t has_time_traceable;
+    uint8_t has_frequency_traceable;
+    uint8_t has_time_source;
+};
+
+/* What a host observes of a port. State 3, DISABLED, is entered and left by commands of managers alone: an enabled port is not
+   observed in it, and a disabled port stays in it. A number of no state counts as 3. */
+struct ptpm_observed_port {
+    int64_t peer_delay;                 /* in nanoseconds times 2^16 */
+    uint8_t state;                      /* portState, 1 to 9 */
+    uint8_t has_state;
+    uint8_t has_peer_delay;
+};
+
 enum { PTPM_CLOCK_SET = 1, PTPM_PORT_SET = 2, PTPM_PORT_COMMAND = 4 };
 
 /* Who may change the clock, and what. */
@@ -155,10 +217,11 @@ struct ptpm_source {
 };
 
 static_assert(sizeof(struct ptpm_clock) == 16 && sizeof(struct ptpm_clock_settings) == 216
-              && sizeof(struct ptpm_port_settings) == 16 && sizeof(struct ptpm_manager_settings) == 12
-              && sizeof(struct ptpm_sent) == 1476 && sizeof(struct ptpm_session) == 16
-              && sizeof(struct ptpm_session_settings) == 26 && sizeof(struct ptpm_survey) == 16
-              && sizeof(struct ptpm_survey_settings) == 16 && sizeof(struct ptpm_source) == 10,
+               && sizeof(struct ptpm_port_settings) == 16 && sizeof(struct ptpm_observed_clock) == 88
+               && sizeof(struct ptpm_observed_port) == 16 && sizeof(struct ptpm_manager_settings) == 12
+               && sizeof(struct ptpm_sent) == 1476 && sizeof(struct ptpm_session) == 16
+               && sizeof(struct ptpm_session_settings) == 26 && sizeof(struct ptpm_survey) == 16
+               && sizeof(struct ptpm_survey_settings) == 16 && sizeof(struct ptpm_source) == 10,
               "the library was made for other sizes");
 
 /* A clock sends at most so many messages for a datagram, and a dataField of its own has at most so many octets; a message
@@ -170,7 +233,7 @@ enum { PTPM_MOST_ANSWERS = 512 };
 
 /* What a call answers. */
 enum {
-    PTPM_STARTED = 0, PTPM_READ = 0, PTPM_BEGUN = 0, PTPM_SENT = 0, PTPM_RESUMED = 0, PTPM_RETUNED = 0,
+    PTPM_STARTED = 0, PTPM_READ = 0, PTPM_OBSERVED = 0, PTPM_BEGUN = 0, PTPM_SENT = 0, PTPM_RESUMED = 0, PTPM_RETUNED = 0,
     /* what became of a datagram at a session: it answers the request, or it is ignored, as below */
     PTPM_ANSWERED = 0,
     /* what became of a datagram at a survey: it is the first answer of its port, a further one, or the first of one port too
@@ -205,7 +268,8 @@ enum {
     PTPM_GAVE_UP,                       /* no attempts are left */
     PTPM_NO_REPORT,                     /* no request was begun, or the latest is not answered; the survey has no such answer */
     PTPM_NO_SURVEY,                     /* the handle holds none */
-    /* why a clock does not start, the first that holds, or PTPM_NO_MEMORY */
+    /* why a clock does not start, the first that holds, or PTPM_NO_MEMORY; an observation is refused by PTPM_NO_PORT, by
+       PTPM_BAD_CLOCK_ACCURACY, PTPM_BAD_LEAP59 or PTPM_BAD_STATE, or by PTPM_GRANDMASTER_DIFFERS, the first that holds */
     PTPM_NO_PORTS = 48, PTPM_TOO_MANY_PORTS, PTPM_GRANDMASTER_DIFFERS, PTPM_TOO_MANY_MANAGERS, PTPM_MANAGER_TWICE,
     /* why a session does not start, the first that holds; PTPM_NO_PORTS and PTPM_TOO_MANY_PORTS too, behind these. A survey: the
        first of these alone. PTPM_NO_MEMORY where none of them holds */
@@ -238,6 +302,13 @@ uint32_t ptpm_clock_start(struct ptpm_clock *clock, const struct ptpm_clock_sett
    be sent, in this order; room is how many places there are, PTPM_MOST_SENT or more. Takes no memory. */
 uint32_t ptpm_clock_handle(struct ptpm_clock *clock, uint16_t port, const uint8_t *datagram, size_t size,
                            struct ptpm_sent *sent, size_t room, size_t *count);
+
+/* Moves what the host observes of its clock and of its ports, the first of which is port 1, and nothing else: PTPM_OBSERVED, or
+   why not, and then nothing changes. There may be fewer places than ports, and none; more are PTPM_NO_PORT. What is judged is
+   how the data sets would be afterwards. *left gets the disabled ports at which a state was observed, and which stay disabled:
+   1 for port 1, 2 for port 2, 4 for port 3, and so on, summed up; the host stops them. Takes no memory. */
+uint32_t ptpm_clock_observe(struct ptpm_clock *clock, const struct ptpm_observed_clock *observed,
+                            const struct ptpm_observed_port *ports, size_t port_count, uint8_t *left);
 
 /* Leaves what a GET of this managementId is answered at the head of octets, *size octets: PTPM_READ, or why not; room is how
    many octets there are, PTPM_MOST_READ or more. The port matters for an id of a port alone. Takes no memory. */

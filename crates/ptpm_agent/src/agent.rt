@@ -127,6 +127,7 @@ impl<T: ReplyTable + Drop> Agent<T> {
         ensures refused { OnErr result
             (state_of T.entries self.new ≡ state_of T.entries self.old) }
         ensures table { self.new.table ≡ self.old.table }
+        ensures unchanged { OnErr result (self.new ≡ self.old) }
     {
         self.sets.observe(clock, ports)
     }

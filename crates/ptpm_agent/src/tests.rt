@@ -8,6 +8,7 @@ mod hostile;
 mod lists;
 mod memory;
 mod numbering;
+mod observing;
 mod places;
 mod refusals;
 mod refusing;

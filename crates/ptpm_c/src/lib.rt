@@ -7,12 +7,14 @@ ghost use Rattle.std.specs.List.{AllZip};
 ghost use Rattle.ptpm_data.specs.DataField.{data_field_of_id};
 ghost use Rattle.ptpm_data.specs.Members.{has_port};
 ghost use Rattle.ptpm_data.specs.Start.{default_clock, default_port};
+ghost use Rattle.ptpm_data.specs.declared.observation.ObservationError.{ObservationError};
 ghost use Rattle.ptpm_host.specs.declared.clock.HostedClock.{HostedClock};
 ghost use Rattle.ptpm_host.specs.declared.refusal.HandleRefusal.{HandleRefusal};
 ghost use Rattle.ptpm_host.specs.declared.refusal.ReadRefusal.{ReadRefusal};
 ghost use Rattle.ptpm_host.specs.declared.refusal.StartRefusal.{StartRefusal};
 ghost use Rattle.ptpm_host.specs.Clock.{IsFreshClock, KeepsBehind, handle_refusal, messages_in, start_by, start_refusal};
-ghost use Rattle.ptpm_host.specs.Numbers.{handle_number, no_clock, no_memory, read_number, start_number};
+ghost use Rattle.ptpm_host.specs.Numbers.{handle_number, no_clock, no_memory, observe_number, read_number, start_number};
+ghost use Rattle.ptpm_host.specs.Observing.{IsObserved, left_number, observe_refusal, ports_left};
 ghost use Rattle.ptpm_host.specs.Reading.{read_refusal};
 ghost use Rattle.ptpm_host.specs.Settings.{clock_start, default_identity, port_start};
 ghost use Rattle.ptpm_c.specs.declared.kept.Hosted.TheVariants.{Nothing};
@@ -29,8 +31,9 @@ mod survey;
 use crate::handle::Handle;
 use crate::kept::{Hosted, Kept};
 use ptpm_host::{
-    ClockSettings, HostedClock, ManagerSettings, NO_CLOCK, NO_MEMORY, PortSettings, Sent,
-    handle_number, read_number, start_number, verdict_number,
+    ClockSettings, HostedClock, ManagerSettings, NO_CLOCK, NO_MEMORY, ObservedClock, ObservedPort,
+    PortSettings, Sent, handle_number, left_number, observe_number, read_number, start_number,
+    verdict_number,
 };
 use std::alloc::Global;
 
@@ -132,6 +135,49 @@ pub extern "C" fn ptpm_clock_handle(
             verdict_number(handled.verdict)
         }
         Err(refusal) => handle_number(refusal),
+    };
+    *handle = Handle::of(kept, Hosted::Clock(clock));
+    number
+}
+
+/// Moves what the host observes of its clock, and of the clock's ports from 1 on, and nothing else: 0, or the number of the
+/// refusal, and then nothing changes. A state that is observed at a disabled port is not taken; `left` gets these ports, 1 for
+/// port 1, 2 for port 2, 4 for port 3, and so on, summed up. Takes no memory.
+#[unsafe(no_mangle)]
+pub extern "C" fn ptpm_clock_observe(
+    alloc: Global,
+    handle: &mut Handle,
+    observed: &ObservedClock,
+    ports: &[ObservedPort],
+    left: &mut u8,
+) -> u32
+    ensures observed { (c : HostedClock)
+        → clock_held handle.old.keeping ≡ Some c
+        → IsSomeAnd (clock_held handle.new.keeping)
+        (λ d. IsObserved observed.now ports.now c d) }
+    ensures accepted { (c : HostedClock)
+        → clock_held handle.old.keeping ≡ Some c
+        → observe_refusal observed.now ports.now c ≡ None
+        → (result ≡ 0) × (left.new ≡ left_number (ports_left ports.now c)) }
+    ensures refused { (c : HostedClock) (e : ObservationError)
+        → clock_held handle.old.keeping ≡ Some c
+        → observe_refusal observed.now ports.now c ≡ Some e
+        → (result ≡ observe_number e)
+        × ((left.new ≡ 0) × (clock_held handle.new.keeping ≡ Some c)) }
+    ensures empty { clock_held handle.old.keeping ≡ None
+        → (result ≡ no_clock)
+        × ((left.new ≡ 0) × (held handle.new.keeping ≡ held handle.old.keeping)) }
+{
+    *left = 0;
+    let Some((kept, mut clock)) = handle.take_clock(alloc) else {
+        return NO_CLOCK;
+    };
+    let number = match clock.observe(observed, ports) {
+        Ok(stayed) => {
+            *left = left_number(&stayed);
+            0
+        }
+        Err(refusal) => observe_number(refusal),
     };
     *handle = Handle::of(kept, Hosted::Clock(clock));
     number

@@ -1,6 +1,5 @@
 -- The words of what an observation moves and keeps, in terms of the map of members (this project's profile).
 use Rattle.std.specs.Prelude.{◌≡◌, ◌==◌, ℕ, ◌-◌, ⊤, Bool, true, false, if◌then◌else◌, List, length, slice_get, Option, Some, None, option_and_then}
-use Rattle.std.specs.Option.{option_or}
 use Rattle.ptpm_data.specs.declared.members.Member.{Member}
 use Rattle.ptpm_data.specs.declared.members.Member.TheVariants as members
 use Rattle.ptpm_data.specs.declared.port_state.PortState.{PortState}

@@ -320,6 +320,7 @@ fn grandmaster_differs(default: &DefaultDataSet, parent: &ParentDataSet) -> bool
 }
 
 impl DataSets {
+    ghost use Rattle.std.specs.Prelude.{OnErr};
     ghost use Rattle.ptpm_data.specs.Start.{unless};
     ghost use Rattle.ptpm_data.specs.Observation.{observation_refusal, observed};
 
@@ -364,6 +365,7 @@ impl DataSets {
             ≡ unless (observation_refusal clock.now ports.now self.old)
             (left_disabled ports.now self.old.ports) }
         ensures moved { self.new ≡ observed clock.now ports.now self.old }
+        ensures unchanged { OnErr result (self.new ≡ self.old) }
     {
         self.judge_observation(clock, ports)?;
         let left = left_disabled(ports, self.ports.as_slice());

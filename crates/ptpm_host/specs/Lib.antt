@@ -11,3 +11,4 @@ pub mod Survey
 pub mod SurveyNumbers
 pub mod Names
 pub mod AnswerNames
+pub mod Observing

@@ -5,6 +5,8 @@ use Rattle.ptpm_codec.specs.declared.error.DecodeError.{DecodeError}
 use Rattle.ptpm_codec.specs.declared.error.DecodeError.TheVariants as causes
 use Rattle.ptpm_data.specs.declared.members.Member.{Member}
 use Rattle.ptpm_data.specs.declared.members.Member.TheVariants as members
+use Rattle.ptpm_data.specs.declared.observation.ObservationError.{ObservationError}
+use Rattle.ptpm_data.specs.declared.observation.ObservationError.TheVariants as observations
 use Rattle.ptpm_data.specs.declared.start.StartError.{StartError}
 use Rattle.ptpm_data.specs.declared.start.StartError.TheVariants as starts
 use Rattle.ptpm_table.specs.declared.error.TableError.{TableError}
@@ -103,6 +105,11 @@ member_number members.ReceiptTimeout = 34
 member_number members.LogSync = 35
 member_number members.DelayMechanism = 36
 member_number members.LogMinPdelay = 37
+
+abbrev pub observe_number : ObservationError → ℕ
+observe_number observations.NoPort = 33
+observe_number observations.GrandmasterDiffers = 50
+observe_number (observations.BadValue member) = 64 + member_number member
 
 abbrev pub values_number : StartError → ℕ
 values_number starts.NoPorts = 48

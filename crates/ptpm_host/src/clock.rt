@@ -7,14 +7,17 @@ ghost use Rattle.ptpm_table.specs.Managers.{IsFresh};
 ghost use Rattle.ptpm_agent.specs.Agent.{IsTurned};
 ghost use Rattle.ptpm_agent.specs.Turn.{turn};
 ghost use Rattle.ptpm_host.specs.Clock.{KeepsBehind, clock_in, handle_refusal, messages_in, start_by, start_refusal, state_in};
+ghost use Rattle.ptpm_host.specs.Observing.{IsObserved, observe_refusal, ports_left};
 ghost use Rattle.ptpm_host.specs.Settings.{configured};
+ghost use Rattle.ptpm_data.specs.Start.{unless};
 
+use crate::observing::{ObservedClock, ObservedPort, port_observations};
 use crate::refusal::{HandleRefusal, StartRefusal};
 use crate::sent::{Sent, hand_out};
 use crate::settings::{ClockSettings, ManagerSettings, PortSettings, configured, port_starts};
 use ptpm_agent::{Agent, Verdict};
 use ptpm_codec::ClockIdentity;
-use ptpm_data::DataSets;
+use ptpm_data::{DataSets, ObservationError, PortsLeftDisabled};
 use ptpm_table::{BoundTable, Outbox, ReplyTable};
 use std::alloc::Global;
 
@@ -121,5 +124,26 @@ impl HostedClock {
             verdict,
             count: messages.len(),
         })
+    }
+
+    /// What the host observes of its clock and of its ports from 1 on: the observed members move, and no other; but for the
+    /// state of a disabled port, which stays and is told, and for the quality of a grandmaster that is the clock itself. What
+    /// is kept of each manager stays. Refused by the first reason that holds, and then nothing changes. Takes no memory.
+    #[tactic(auto, using(crate::proofs::Places::no_port, crate::proofs::Places::same_clock))]
+    pub fn observe(
+        &mut self,
+        clock: &ObservedClock,
+        ports: &[ObservedPort],
+    ) -> Result<PortsLeftDisabled, ObservationError>
+        ensures answer { result
+            ≡ unless (observe_refusal clock.now ports.now self.old) (ports_left ports.now self.old) }
+        ensures observed { IsObserved clock.now ports.now self.old self.new }
+        ensures unchanged { OnErr result (self.new ≡ self.old) }
+    {
+        if ports.len() > self.agent.sets().port_count() as usize {
+            return Err(ObservationError::NoPort);
+        }
+        let ports = port_observations(ports);
+        self.agent.observe(&clock.observation(), ports.as_slice())
     }
 }

@@ -8,6 +8,7 @@ mod id_names;
 mod laws;
 mod names;
 mod numbers;
+mod observing;
 mod reading;
 mod refusal;
 mod sent;
@@ -25,7 +26,10 @@ pub use clock::{Handled, HostedClock, MOST_SENT};
 pub use id_names::{NO_ID, id_name, id_named};
 pub use laws::names_law;
 pub use names::hand_out_name;
-pub use numbers::{NO_CLOCK, NO_MEMORY, handle_number, read_number, start_number, verdict_number};
+pub use numbers::{
+    NO_CLOCK, NO_MEMORY, handle_number, observe_number, read_number, start_number, verdict_number,
+};
+pub use observing::{ObservedClock, ObservedPort, left_number};
 pub use refusal::{
     HandleRefusal, ReadRefusal, ReportRefusal, SendRefusal, SessionRefusal, StartRefusal,
 };

@@ -1,12 +1,12 @@
 //! The numbers that stand for what a call answers.
 
 ghost use Rattle.std.specs.Prelude.{◌≡◌, ◌≤◌};
-ghost use Rattle.ptpm_host.specs.Numbers.{cause_number, handle_number, managers_number, member_number, read_number, start_number, values_number, verdict_number};
+ghost use Rattle.ptpm_host.specs.Numbers.{cause_number, handle_number, managers_number, member_number, observe_number, read_number, start_number, values_number, verdict_number};
 
 use crate::refusal::{HandleRefusal, ReadRefusal, StartRefusal};
 use ptpm_agent::Verdict;
 use ptpm_codec::DecodeError;
-use ptpm_data::{Member, StartError};
+use ptpm_data::{Member, ObservationError, StartError};
 use ptpm_table::TableError;
 
 /// No clock stands behind a handle.
@@ -68,6 +68,18 @@ pub fn read_number(refusal: ReadRefusal) -> u32
         ReadRefusal::NotReadable => 36,
         ReadRefusal::NoPort => 33,
         ReadRefusal::NoRoom => 34,
+    }
+}
+
+/// Why an observation is refused, 33, 50 or 64 to 101.
+pub fn observe_number(refusal: ObservationError) -> u32
+    ensures number { result ≡ observe_number refusal }
+    ensures some { 1 ≤ result }
+{
+    match refusal {
+        ObservationError::NoPort => 33,
+        ObservationError::GrandmasterDiffers => 50,
+        ObservationError::BadValue(member) => 64 + member_number(member),
     }
 }
 

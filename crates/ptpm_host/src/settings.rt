@@ -256,7 +256,7 @@ impl PortSettings {
 }
 
 /// A value, where it is given.
-fn given<T: Copy>(flag: u8, value: T) -> Option<T>
+pub(crate) fn given<T: Copy>(flag: u8, value: T) -> Option<T>
     ensures { result ≡ given flag value }
 {
     if flag == 0 { None } else { Some(value) }

@@ -1,4 +1,4 @@
-use Rattle.std.proofs.Common.{◌∙◌, arith, refl, sym, rules}
+use Rattle.std.proofs.Common.{◌∙◌, arith, sym, rules}
 use Rattle.ptpm_data.specs.Observation.{left_disabled}
 use Rattle.ptpm_data.proofs.Observing.{left_more}
 use Rattle.ptpm_data.proofs.observation.left_disabled.Goals as goal

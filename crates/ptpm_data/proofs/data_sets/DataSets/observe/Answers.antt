@@ -1,4 +1,4 @@
-use Rattle.std.proofs.Common.{◌≡◌, ◌∙◌, ap, sym, arith, length, List, None}
+use Rattle.std.proofs.Common.{◌≡◌, ◌∙◌, ap, sym, length, List, None}
 use Rattle.std.specs.List.{refill}
 use Rattle.ptpm_data.specs.declared.data_sets.PortDataSet.{PortDataSet}
 use Rattle.ptpm_data.specs.Members.{DataSetsValue, data_sets_value}
