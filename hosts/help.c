@@ -1,5 +1,6 @@
 #include "help.h"
 #include "names.h"
+#include "ptpm.h"
 #include <stdio.h>
 #include <stdlib.h>
 #include <string.h>
@@ -40,6 +41,7 @@ static const char text[] =
     "  -n, --times N           makes the request so many times, for trials (1)\n"
     "  -q, --quiet             shows no progress, as where standard error is no terminal\n"
     "  -h, --help              this text\n"
+    "      --version           the version\n"
     "\n";
 
 static const char end[] =
@@ -64,5 +66,10 @@ _Noreturn void help(void) {
     printf("ID, in either case, or four hexadecimal digits:");
     print_ids();
     printf("\n\n%s", end);
+    exit(fflush(stdout) == 0 ? 0 : 4);
+}
+
+_Noreturn void version(void) {
+    puts("ptpm-manage " PTPM_VERSION);
     exit(fflush(stdout) == 0 ? 0 : 4);
 }

@@ -1,5 +1,5 @@
-/* Names of the standard and of ptpm.h for numbers, and numbers for names. They stand here alone, so that manage.c says no
-   number of its own. */
+/* Names for numbers, and numbers for names: those of managementIds and of answers are the library's, those of managementErrorIds
+   stand here alone. A name that was given stands until the next call of its function. */
 #ifndef NAMES_H
 #define NAMES_H
 

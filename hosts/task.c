@@ -12,7 +12,7 @@
 #include <strings.h>
 
 /* Options without a letter of their own, and a word that is none: getopt's for a string that begins with a hyphen. */
-enum { WORD = 1, UDP = 256, IPV6, TEXT };
+enum { WORD = 1, UDP = 256, IPV6, TEXT, VERSION };
 
 enum { MOST_WORDS = 3, MOST_FIELD = 1418, NOT_NAMED = -1 };
 
@@ -23,7 +23,8 @@ static const struct option options[] = {
     { "manager", required_argument, NULL, 'm' }, { "numbers", required_argument, NULL, 'k' },
     { "attempts", required_argument, NULL, 'a' }, { "timeout", required_argument, NULL, 't' },
     { "times", required_argument, NULL, 'n' }, { "hexadecimal", no_argument, NULL, 'x' }, { "text", no_argument, NULL, TEXT },
-    { "quiet", no_argument, NULL, 'q' }, { "help", no_argument, NULL, 'h' }, { NULL, 0, NULL, 0 },
+    { "quiet", no_argument, NULL, 'q' }, { "help", no_argument, NULL, 'h' }, { "version", no_argument, NULL, VERSION },
+    { NULL, 0, NULL, 0 },
 };
 
 /* The words of the command line, and what options say of them that a later one may change. */
@@ -75,6 +76,7 @@ static void take_option(struct task *task, struct words *words, int option, cons
     case TEXT: words->is_text = 1; break;
     case 'q': be_quiet(); break;
     case 'h': help(); break;
+    case VERSION: version(); break;
     default: refuse("see ptpm-manage --help");
     }
 }

@@ -22,7 +22,7 @@ struct task {
     int is_in_octets;                           /* answers are printed as octets */
 };
 
-/* Reads it from a command line. Ends the program with status 2 where it is none, and with 0 behind --help. */
+/* Reads it from a command line. Ends the program with status 2 where it is none, and with 0 behind --help and --version. */
 void read_task(struct task *task, int argc, char **argv);
 
 #endif
