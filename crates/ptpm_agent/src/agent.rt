@@ -124,8 +124,6 @@ impl<T: ReplyTable + Drop> Agent<T> {
             (left_disabled ports.now self.old.sets.ports) }
         ensures moved { state_of T.entries self.new
             ≡ moved_state clock.now ports.now (state_of T.entries self.old) }
-        ensures refused { OnErr result
-            (state_of T.entries self.new ≡ state_of T.entries self.old) }
         ensures table { self.new.table ≡ self.old.table }
         ensures unchanged { OnErr result (self.new ≡ self.old) }
     {

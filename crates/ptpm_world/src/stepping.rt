@@ -1,6 +1,6 @@
 //! One event after another.
 
-ghost use Rattle.std.specs.Prelude.{◌≡◌, ◌≢◌, ◌<◌, ◌≤◌, ◌++◌, ◌∷◌, [], ℕ, All, IfErr, IfOk, IsSomeAnd, List, None, OnErr, OnOk, Some, false, flat_map, length, map, nat_lt, option_map, slice_get, take};
+ghost use Rattle.std.specs.Prelude.{◌≡◌, ◌<◌, ◌≤◌, ◌++◌, ℕ, All, IfErr, IfOk, IsSomeAnd, List, OnErr, OnOk, false, flat_map, length, nat_lt};
 ghost use Rattle.std.specs.List.{list_any};
 ghost use Rattle.ptpm_codec.specs.Identity.{same_clock, same_identity};
 ghost use Rattle.ptpm_codec.specs.Layout.{source_port_identity};
