@@ -9,3 +9,4 @@ pub mod Fitting
 pub mod Refused
 pub mod Lists
 pub mod TurnKeeps
+pub mod SentReplies

@@ -28,15 +28,13 @@ use ptpm_data::{
     ClockObservation, DataSets, ObservationError, PortObservation, PortsLeftDisabled, Reply,
     Request, Rights, data_sets_law,
 };
-use ptpm_table::{Heard, Look, Outbox, ReplyTable, SlotTable, SureTable, render};
+use ptpm_table::{Heard, Look, Outbox, ReplyTable, Sender, SlotTable, SureTable, render};
 
 /// A clock's data sets and its reply table, and what becomes of the datagrams that come in at its ports.
 #[derive(Drop)]
 pub struct Agent<T: ReplyTable + Drop> {
     sets: DataSets,
     table: T,
-    /// Where a reply is made, so that none is made anew and moved.
-    scratch: Reply,
 }
 
 impl<T: ReplyTable + Drop> Agent<T> {
@@ -47,12 +45,7 @@ impl<T: ReplyTable + Drop> Agent<T> {
         ensures sets { result.sets ≡ sets }
         ensures table { result.table ≡ table }
     {
-        let scratch = Reply::empty();
-        Agent {
-            sets,
-            table,
-            scratch,
-        }
+        Agent { sets, table }
     }
 
     /// The data sets as they stand.
@@ -266,15 +259,10 @@ impl<T: ReplyTable + Drop> Agent<T> {
         match verdict {
             Verdict::AnsweredRepeat => self.table.resend(&heard_of(message), ingress, out),
             Verdict::AnsweredUnnumbered => {
-                data_sets_law(&self.sets);
-                self.sets.read_into(&request_of(message), &mut self.scratch);
-                render(
-                    &self.table.clock(),
-                    &heard_of(message),
-                    &self.scratch,
-                    ingress,
-                    out,
-                );
+                let request = request_of(message);
+                let heard = heard_of(message);
+                let mut sender = Sender::new(&self.table.clock(), &heard, &request, ingress, out);
+                self.sets.read_into(&request, &mut sender);
             }
             _ => {}
         }
@@ -318,7 +306,7 @@ impl<T: ReplyTable + Drop> Agent<T> {
     }
 }
 
-const _: () = prove!(size_of::<Agent<SlotTable<1>>>() == 3_880);
+const _: () = prove!(size_of::<Agent<SlotTable<1>>>() == 2_584);
 
 impl<const SLOTS: usize> Agent<SlotTable<SLOTS>> {
     /// A clock that has heard nothing yet and has no managers. It is never inlined: whoever keeps it has it made where it is
@@ -429,10 +417,11 @@ impl<T: SureTable + Drop> Agent<T> {
         let heard = heard_of(message);
         let request = request_of(message);
         data_sets_law(&self.sets);
-        self.sets.decide_into(&request, rights, &mut self.scratch);
         out.clear();
-        self.table
-            .answer(&heard, &request, &self.scratch, ingress, out);
+        let mut sender = Sender::new(&self.table.clock(), &heard, &request, ingress, out);
+        self.sets.decide_into(&request, rights, &mut sender);
+        let of_port = sender.of_port();
+        self.table.keep_sent(&heard, &request, of_port, out);
     }
 }
 

@@ -7,5 +7,6 @@ pub mod ViewLaws
 pub mod CanonicalLaws
 pub mod RewritingLaws
 pub mod PiecewiseLaws
+pub mod EnvelopeLaws
 pub mod IdentityLaws
 pub mod MessageLaws

@@ -5,6 +5,7 @@ pub mod PtpText
 pub mod Draft
 pub mod Spelling
 pub mod Canonical
+pub mod Envelope
 pub mod Ordered
 pub mod Refusal
 pub mod Reading

@@ -22,7 +22,7 @@ pub const MESSAGE_OCTETS: usize = 1472;
 pub type Buffer = ArrayVec<u8, MESSAGE_OCTETS>;
 
 /// Room for what stands before the dataField or the displayData: it is put together here, and appended in one piece.
-type Head = ArrayVec<u8, 60>;
+pub(crate) type Head = ArrayVec<u8, 60>;
 
 /// Leaves the canonical spelling of a valid draft in the buffer, and nothing else: 54 to 1,472 octets. Free octets are sent
 /// as this project's profile has them: minorVersionPTP 1, controlField 0x04, logMessageInterval 0x7F, all others 0; an empty text has no
@@ -34,40 +34,15 @@ pub fn encode(draft: &Draft<'_>, buffer: &mut Buffer)
         → Spells draft.now (message_octets (buffer.new.items ++ rest)) }
     ensures fits { Fits draft.now }
 {
-    replace(draft, buffer);
-}
-
-/// Leaves the canonical spelling of the draft, as `encode` has it, in a buffer of any size, and nothing else, where there
-/// must be room: 48 octets, and those of the TLV. What the buffer held is written over. Takes no memory.
-pub fn replace<const N: usize>(draft: &Draft<'_>, buffer: &mut ArrayVec<u8, N>)
-    requires valid { IsValid draft.now }
-    requires room { 48 + length (tlv_octets draft.now.body) ≤ N }
-    ensures items { buffer.new.items ≡ canonical draft.now }
-    ensures fits { Fits draft.now }
-{
     let mut head = Head::new();
     put_front(&mut head, draft, 48 + tlv_size(&draft.body) as u16);
     put_middle(&mut head, draft);
     leave_tlv(buffer, &mut head, &draft.body);
 }
 
-/// Appends the canonical spelling of the draft, as `encode` has it, to what the buffer holds, where there must be room: 48
-/// octets, and those of the TLV. Takes no memory.
-pub fn append<const N: usize>(draft: &Draft<'_>, buffer: &mut ArrayVec<u8, N>)
-    requires valid { IsValid draft.now }
-    requires room { array_vec_len buffer.old + 48 + length (tlv_octets draft.now.body) ≤ N }
-    ensures items { buffer.new.items ≡ buffer.old.items ++ canonical draft.now }
-    ensures fits { Fits draft.now }
-{
-    let mut head = Head::new();
-    put_front(&mut head, draft, 48 + tlv_size(&draft.body) as u16);
-    put_middle(&mut head, draft);
-    put_tlv(buffer, &mut head, &draft.body);
-}
-
 /// Octets 0 to 29: up to the source.
 #[inline(always)]
-fn put_front(head: &mut Head, draft: &Draft<'_>, size: u16)
+pub(crate) fn put_front(head: &mut Head, draft: &Draft<'_>, size: u16)
     requires sdo { draft.now.sdo < 4096 }
     requires room { array_vec_len head.old + 30 ≤ 60 }
     ensures items { head.new.items
@@ -87,7 +62,7 @@ fn put_front(head: &mut Head, draft: &Draft<'_>, size: u16)
 
 /// Octets 30 to 47: from sequenceId to before the TLV.
 #[inline(always)]
-fn put_middle(head: &mut Head, draft: &Draft<'_>)
+pub(crate) fn put_middle(head: &mut Head, draft: &Draft<'_>)
     requires { array_vec_len head.old + 18 ≤ 60 }
     ensures items { head.new.items
         ≡ head.old.items
@@ -117,37 +92,13 @@ fn put_identity<const N: usize>(buffer: &mut ArrayVec<u8, N>, identity: &PortIde
     put_u16(buffer, identity.port);
 }
 
-/// Appends the head, which holds the 48 octets before the TLV, and the TLV. What the head held is lost.
-#[inline(always)]
-#[tactic(auto, unfolding(crate::specs::Canonical::tlv_octets))]
-fn put_tlv<const N: usize>(buffer: &mut ArrayVec<u8, N>, head: &mut Head, body: &DraftBody<'_>)
-    requires valid { IsValidBody (body_of body.now) }
-    requires header { array_vec_len head.old ≡ 48 }
-    requires room { array_vec_len buffer.old + 48 + length (tlv_octets (body_of body.now)) ≤ N }
-    ensures items { buffer.new.items
-        ≡ buffer.old.items ++ (head.old.items ++ tlv_octets (body_of body.now)) }
-    ensures fits { BodyFits (body_of body.now) }
-{
-    match body {
-        DraftBody::Request { id, octets, .. } | DraftBody::Answer { id, octets, .. } => {
-            put_management(buffer, head, *id, octets);
-        }
-        DraftBody::Fault {
-            error,
-            id,
-            text,
-            ..
-        } => put_error_status(buffer, head, *error, *id, text),
-    }
-}
-
 /// Leaves the head, which holds the 48 octets before the TLV, and the TLV, and nothing else. What the head held is lost.
 #[inline(always)]
 #[tactic(auto, unfolding(crate::specs::Canonical::tlv_octets))]
-fn leave_tlv<const N: usize>(buffer: &mut ArrayVec<u8, N>, head: &mut Head, body: &DraftBody<'_>)
+fn leave_tlv(buffer: &mut Buffer, head: &mut Head, body: &DraftBody<'_>)
     requires valid { IsValidBody (body_of body.now) }
     requires header { array_vec_len head.old ≡ 48 }
-    requires room { 48 + length (tlv_octets (body_of body.now)) ≤ N }
+    requires room { 48 + length (tlv_octets (body_of body.now)) ≤ MESSAGE_OCTETS }
     ensures items { buffer.new.items ≡ head.old.items ++ tlv_octets (body_of body.now) }
     ensures fits { BodyFits (body_of body.now) }
 {
@@ -168,27 +119,9 @@ fn leave_tlv<const N: usize>(buffer: &mut ArrayVec<u8, N>, head: &mut Head, body
     }
 }
 
-#[inline(always)]
-fn put_management<const N: usize>(
-    buffer: &mut ArrayVec<u8, N>,
-    head: &mut Head,
-    id: u16,
-    octets: &[u8],
-)
-    requires small { length octets.now ≤ 1418 }
-    requires header { array_vec_len head.old ≡ 48 }
-    requires room { array_vec_len buffer.old + 54 + length octets.now ≤ N }
-    ensures items { buffer.new.items
-        ≡ buffer.old.items ++ (head.old.items ++ management_octets id octets.now) }
-{
-    put_management_head(head, id, octets.len() as u16);
-    put(buffer, head.as_slice());
-    put(buffer, octets);
-}
-
 /// Octets 48 to 53: a MANAGEMENT TLV up to its dataField, of this size.
 #[inline(always)]
-fn put_management_head(head: &mut Head, id: u16, size: u16)
+pub(crate) fn put_management_head(head: &mut Head, id: u16, size: u16)
     requires small { size ≤ 1418 }
     requires header { array_vec_len head.old ≡ 48 }
     ensures items { head.new.items
@@ -201,8 +134,8 @@ fn put_management_head(head: &mut Head, id: u16, size: u16)
     put_u16(head, id);
 }
 
-fn put_error_status<const N: usize>(
-    buffer: &mut ArrayVec<u8, N>,
+pub(crate) fn put_error_status(
+    buffer: &mut Buffer,
     head: &mut Head,
     error: u16,
     id: u16,
@@ -210,7 +143,7 @@ fn put_error_status<const N: usize>(
 )
     requires small { length text.now ≤ 255 }
     requires header { array_vec_len head.old ≡ 48 }
-    requires room { array_vec_len buffer.old + 60 + length (text_octets text.now) ≤ N }
+    requires room { array_vec_len buffer.old + 60 + length (text_octets text.now) ≤ MESSAGE_OCTETS }
     ensures items { buffer.new.items
         ≡ buffer.old.items ++ (head.old.items ++ error_status_octets error id text.now) }
 {
@@ -224,9 +157,9 @@ fn put_error_status<const N: usize>(
 }
 
 #[tactic(auto, unfolding(crate::specs::Canonical::text_octets))]
-fn put_text<const N: usize>(buffer: &mut ArrayVec<u8, N>, text: &[u8])
+fn put_text(buffer: &mut Buffer, text: &[u8])
     requires small { length text.now ≤ 255 }
-    requires room { array_vec_len buffer.old + length (text_octets text.now) ≤ N }
+    requires room { array_vec_len buffer.old + length (text_octets text.now) ≤ MESSAGE_OCTETS }
     ensures items { buffer.new.items ≡ buffer.old.items ++ text_octets text.now }
 {
     if text.is_empty() {

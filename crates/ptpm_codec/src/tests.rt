@@ -169,11 +169,10 @@ fn refused_memory_leaves_nothing_behind(rt: HostRuntime) -> Result<(), Fail> {
     Ok(())
 }
 
-/// Whatever a buffer held, `overwrite` and `replace` leave their octets alone there, and `append` puts its own behind.
+/// Whatever a buffer held, `overwrite` and `encode` leave their octets alone there.
 #[test]
-#[tactic(auto, unfolding(crate::specs::Canonical::tlv_octets))]
 fn buffers_are_written_over(rt: HostRuntime) {
-    let mut buffer = ArrayVec::<u8, 64>::new();
+    let mut buffer = Buffer::new();
     overwrite(&mut buffer, REFUSAL);
     assert_eq!(rt; buffer.as_slice(), REFUSAL.as_slice());
     overwrite(&mut buffer, REQUEST);
@@ -201,15 +200,8 @@ fn buffers_are_written_over(rt: HostRuntime) {
             octets: &[],
         },
     };
-    replace(&draft, &mut buffer);
+    encode(&draft, &mut buffer);
     assert_eq!(rt; buffer.as_slice(), REQUEST.as_slice());
-    let mut both = ArrayVec::<u8, 110>::new();
-    overwrite(&mut both, REPLY);
-    append(&draft, &mut both);
-    assert_eq!(rt;
-        both.as_slice().split_at(56),
-        (REPLY.as_slice(), REQUEST.as_slice())
-    );
 }
 
 #[test]

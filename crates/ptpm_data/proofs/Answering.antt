@@ -1,10 +1,11 @@
 -- The reply and the data sets after a request, for an id of the table and for any other.
-use Rattle.std.proofs.Common.{◌≡◌, true, false, ◌∙◌, refl, sym, ap, ℕ, [], ◌∷◌, Option, Some, None}
+use Rattle.std.proofs.Common.{◌≡◌, true, false, ◌∙◌, refl, sym, ap, ℕ, [], ◌∷◌, Option, Some, None, length, map}
 use Rattle.std.specs.Option.{option_map}
 use Rattle.ptpm_codec.specs.declared.error.ErrorId.{ErrorId}
 use Rattle.ptpm_codec.specs.declared.error.ErrorId.TheVariants.{NoSuchId, NotSupported}
 use Rattle.ptpm_codec.specs.Message.{reply_action}
 use Rattle.ptpm_data.specs.declared.management_id.Row.{Row}
+use Rattle.ptpm_data.specs.declared.management_id.Scope.TheVariants as scopes
 use Rattle.ptpm_data.specs.declared.rights.Rights.{Rights}
 use Rattle.ptpm_data.specs.ManagementId.{RowValue, row_value, row_of}
 use Rattle.ptpm_data.specs.Members.{DataSetsValue}
@@ -14,7 +15,7 @@ use Rattle.ptpm_data.specs.Refusals.{row_refusal, refusal_at}
 use Rattle.ptpm_data.specs.Changes.{applied, changed_at, changed_by, unless_refused}
 use Rattle.ptpm_data.specs.Rights.{no_rights}
 use Rattle.ptpm_data.specs.DataField.{data_field_of, field_of_row}
-use Rattle.ptpm_data.specs.Replies.{answer, outcome, reply_of, reply_to, is_get, read_reply_to}
+use Rattle.ptpm_data.specs.Replies.{answer, named_ports, outcome, reply_of, reply_to, is_get, read_reply_to}
 
 pub no_entry : {r : Option Row} {e : Option RowValue} → option_map row_value r ≡ e → r ≡ None → e ≡ None
 no_entry {r = None} is gone = sym is
@@ -103,3 +104,29 @@ module _ (q : RequestValue) (d : DataSetsValue) where
   pub read-other : is_get q.action ≡ false → reply_of q (Some NotSupported) d ≡ read_reply_to q d
   unfolding read_reply_to
   read-other other = rw other refl
+
+-- ---- by what the id is of
+
+pub reply_of-clock : (q : RequestValue) (refusal : Option ErrorId) (d : DataSetsValue) (e : RowValue)
+    → row_of q.id ≡ Some e
+    → e.scope ≡ scopes.Clock
+    → answer q refusal d None ∷ [] ≡ (reply_of q refusal d).answers
+unfolding reply_of
+reply_of-clock q refusal d e is clock = rw (is, clock) refl
+
+pub reply_of-ports : (q : RequestValue) (refusal : Option ErrorId) (d : DataSetsValue) (e : RowValue)
+    → row_of q.id ≡ Some e
+    → e.scope ≡ scopes.Port
+    → map (answer q refusal d) (map Some (named_ports q.port (length d.ports))) ≡ (reply_of q refusal d).answers
+unfolding reply_of
+reply_of-ports q refusal d e is ports = rw (is, ports) refl
+
+pub reply_to-parts : (q : RequestValue) (rights : Rights) (d : DataSetsValue)
+    → record { action = reply_action q.action; id = q.id; answers = (reply_to q rights d).answers } ≡ reply_to q rights d
+unfolding reply_to reply_of
+reply_to-parts q rights d = refl
+
+pub read_reply_to-parts : (q : RequestValue) (d : DataSetsValue)
+    → record { action = reply_action q.action; id = q.id; answers = (read_reply_to q d).answers } ≡ read_reply_to q d
+unfolding read_reply_to reply_of
+read_reply_to-parts q d = refl

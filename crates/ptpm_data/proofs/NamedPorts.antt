@@ -4,13 +4,11 @@ use Rattle.std.specs.List.{filter, range_with_len, enumerate_from}
 use Rattle.std.proofs.lemmas.Bool.{cond-false, cond-true, or_from, ne_eqb, eq-eqb, cases_lt}
 use Rattle.ptpm_data.specs.Changes.{is_named, IsTargetOf, changed_if, named_changed}
 use Rattle.ptpm_data.specs.declared.data_sets.PortDataSet.{PortDataSet}
-use Rattle.std.proofs.lemmas.List.{map-append, drop_all}
-use Rattle.std.proofs.lemmas.List.FromFn.{map-range_with_len_more}
+use Rattle.std.proofs.lemmas.List.{length-map, map-append, drop_all}
+use Rattle.std.proofs.lemmas.List.FromFn.{length-range_with_len, map-range_with_len_more}
 use Rattle.ptpm_codec.specs.declared.error.ErrorId.{ErrorId}
-use Rattle.ptpm_data.specs.declared.reply.PortAnswer.{PortAnswer}
 use Rattle.ptpm_data.specs.Members.{DataSetsValue}
 use Rattle.ptpm_data.specs.Request.{RequestValue}
-use Rattle.ptpm_data.specs.Reply.{answer_of}
 use Rattle.ptpm_data.specs.Replies.{named_ports, answer}
 
 -- ---- which numbers are named
@@ -78,15 +76,18 @@ named_ports-one port n other target =
 
 -- ---- the answers of so many ports, one after another
 
-module _ (q : RequestValue) (refusal : Option ErrorId) (d : DataSetsValue) where
-  pub answers-after : (items items' : List PortAnswer) (first n m port : ℕ) → first + n ≡ port
-      → m ≡ n + 1
-      → map answer_of items ≡ map (answer q refusal d) (map Some (range_with_len first n))
-      → map answer_of items' ≡ map answer_of items ++ answer q refusal d (Some port) ∷ []
-      → map answer_of items' ≡ map (answer q refusal d) (map Some (range_with_len first m))
-  answers-after items items' first n m port here one before after =
-      let ports : map Some (range_with_len first m) ≡ map Some (range_with_len first n) ++ Some port ∷ [] = rw one (map-range_with_len_more (λ k. Some k) first n port here) in
-      after ∙ rw (ports, map-append (answer q refusal d) (map Some (range_with_len first n)) (Some port ∷ []), before) refl
+pub answers-after : (q : RequestValue) (refusal : Option ErrorId) (d : DataSetsValue) (first n m port : ℕ)
+    → first + n ≡ port
+    → m ≡ n + 1
+    → map (answer q refusal d) (map Some (range_with_len first n)) ++ answer q refusal d (Some port) ∷ []
+    ≡ map (answer q refusal d) (map Some (range_with_len first m))
+answers-after q refusal d first n m port here one =
+    let ports : map Some (range_with_len first m) ≡ map Some (range_with_len first n) ++ Some port ∷ [] = rw one (map-range_with_len_more (λ k. Some k) first n port here) in
+    sym (rw ports (map-append (answer q refusal d) (map Some (range_with_len first n)) (Some port ∷ [])))
+
+pub answers-count : (q : RequestValue) (refusal : Option ErrorId) (d : DataSetsValue) (first n : ℕ)
+    → length (map (answer q refusal d) (map Some (range_with_len first n))) ≡ n
+answers-count q refusal d first n = length-map (map Some (range_with_len first n)) (answer q refusal d) ∙ (length-map (range_with_len first n) (λ k. Some k) ∙ length-range_with_len first n)
 
 -- ---- a change of the named ports
 

@@ -3,6 +3,7 @@ pub mod PortState
 pub mod Ranges
 pub mod Request
 pub mod Reply
+pub mod AnswerLaws
 pub mod MemberNames
 pub mod Members
 pub mod DataField

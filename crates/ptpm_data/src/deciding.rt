@@ -1,5 +1,6 @@
 //! What a numbered request changes and is answered (clause 15).
 
+use crate::answers::Answers;
 use crate::data_sets::DataSets;
 use crate::management_id::by_id;
 use crate::reply::Reply;
@@ -8,7 +9,7 @@ use crate::rights::Rights;
 use ptpm_codec::ErrorId;
 
 impl DataSets {
-    ghost use Rattle.std.specs.Prelude.{◌≡◌};
+    ghost use Rattle.std.specs.Prelude.{◌≡◌, ◌≤◌, ◌+◌};
     ghost use Rattle.ptpm_codec.specs.Message.{IsDataField, IsRequestAction};
     ghost use Rattle.ptpm_data.specs.Changes.{changed_by, IsTargetPort};
     ghost use Rattle.ptpm_data.specs.Replies.{reply_to};
@@ -30,24 +31,30 @@ impl DataSets {
         ensures reply { result ≡ reply_to request.now rights self.old }
         ensures changed { self.new ≡ changed_by request.now rights self.old }
     {
-        let mut reply = Reply::empty();
+        let mut reply = Reply::to(request);
         self.decide_into(request, rights, &mut reply);
         reply
     }
 
-    /// Does what `decide` does, and leaves the answer in place of another reply.
-    pub fn decide_into(&mut self, request: &Request<'_>, rights: Rights, reply: &mut Reply)
+    /// Does what `decide` does, and puts the answers where they go: one of the clock, or up to eight of ports.
+    pub fn decide_into<A: Answers>(
+        &mut self,
+        request: &Request<'_>,
+        rights: Rights,
+        answers: &mut A,
+    )
         requires action { IsRequestAction request.now.action }
         requires port { IsTargetPort request.now.port self.old }
         requires octets { IsDataField request.now.octets }
-        ensures reply { reply.new ≡ reply_to request.now rights self.old }
+        requires room { A.count answers.old + 8 ≤ A.most }
+        ensures reply { A.taken answers.old (reply_to request.now rights self.old).answers answers.new }
         ensures changed { self.new ≡ changed_by request.now rights self.old }
     {
         let Some(row) = by_id(request.id) else {
-            reply.refuse_by_clock(request, ErrorId::NoSuchId);
+            answers.take_refusal(None, ErrorId::NoSuchId);
             return;
         };
         let refusal = self.carry_out(&row, request, rights);
-        self.put_reply(&row, request, refusal, reply);
+        self.put_reply(&row, request, refusal, answers);
     }
 }

@@ -3,6 +3,7 @@
 #![tactic(auto)]
 
 mod actions;
+mod answers;
 mod changes;
 mod data_field;
 mod data_sets;
@@ -25,6 +26,7 @@ mod set_field;
 mod start;
 
 pub use actions::Actions;
+pub use answers::Answers;
 pub use data_sets::{
     ClockPrecedence, CurrentDataSet, DataSets, DefaultDataSet, ParentDataSet, PortDataSet,
     TimePropertiesDataSet,

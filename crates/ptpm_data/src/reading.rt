@@ -1,8 +1,9 @@
 //! What a request that is not numbered is answered (this project's profile).
 
-ghost use Rattle.std.specs.Prelude.{◌≡◌};
+ghost use Rattle.std.specs.Prelude.{◌≡◌, ◌≤◌, ◌+◌};
 ghost use Rattle.ptpm_data.specs.Replies.{is_get};
 
+use crate::answers::Answers;
 use crate::data_sets::DataSets;
 use crate::management_id::by_id;
 use crate::refusals::refusal;
@@ -28,17 +29,18 @@ impl DataSets {
         requires octets { IsDataField request.now.octets }
         ensures { result ≡ read_reply_to request.now self.now }
     {
-        let mut reply = Reply::empty();
+        let mut reply = Reply::to(request);
         self.read_into(request, &mut reply);
         reply
     }
 
-    /// Does what `read` does, and leaves the answer in place of another reply.
-    pub fn read_into(&self, request: &Request<'_>, reply: &mut Reply)
+    /// Does what `read` does, and puts the answers where they go: one of the clock, or up to eight of ports.
+    pub fn read_into<A: Answers>(&self, request: &Request<'_>, answers: &mut A)
         requires action { IsRequestAction request.now.action }
         requires port { IsTargetPort request.now.port self.now }
         requires octets { IsDataField request.now.octets }
-        ensures { reply.new ≡ read_reply_to request.now self.now }
+        requires room { A.count answers.old + 8 ≤ A.most }
+        ensures { A.taken answers.old (read_reply_to request.now self.now).answers answers.new }
     {
         let get = is_get(request.action);
         let Some(row) = by_id(request.id) else {
@@ -47,7 +49,7 @@ impl DataSets {
             } else {
                 ErrorId::NotSupported
             };
-            reply.refuse_by_clock(request, error);
+            answers.take_refusal(None, error);
             return;
         };
         let refusal = if get {
@@ -55,7 +57,7 @@ impl DataSets {
         } else {
             Some(ErrorId::NotSupported)
         };
-        self.put_reply(&row, request, refusal, reply);
+        self.put_reply(&row, request, refusal, answers);
     }
 }
 

@@ -1,7 +1,9 @@
 //! What a clock answers to a request.
 
+use crate::answers::Answers;
+use crate::request::Request;
 use arrayvec::ArrayVec;
-use ptpm_codec::{Action, ErrorId};
+use ptpm_codec::{Action, ErrorId, put};
 use std::marker::Model;
 
 /// Room for the dataField of an answer.
@@ -57,4 +59,73 @@ impl Model for Reply {
     ghost Value = { ReplyValue };
 
     ghost view = { reply_value };
+}
+
+impl Answers for Reply {
+    ghost use Rattle.std.specs.Prelude.{◌≡◌, length};
+    ghost use Rattle.ptpm_data.specs.AnswerLaws.{answered_count, answered_more, answered_none, answered_twice};
+
+    ghost most = { 8 };
+
+    ghost count = { λ r. length r.answers };
+
+    ghost taken = { λ a xs b. b ≡ answered_more a xs };
+
+    ghost none_taken = { answered_none };
+
+    ghost taken_after = { answered_twice };
+
+    ghost counted = { answered_count };
+
+    fn take_value(&mut self, port: Option<u16>, octets: &[u8]) {
+        let mut value = Value::new();
+        put(&mut value, octets);
+        self.push(port, What::Value(value));
+    }
+
+    fn take_done(&mut self, port: Option<u16>) {
+        self.push(port, What::Done);
+    }
+
+    fn take_refusal(&mut self, port: Option<u16>, error: ErrorId) {
+        self.push(port, What::Refused(error));
+    }
+}
+
+impl Reply {
+    ghost use Rattle.std.specs.Prelude.{[], ◌∷◌, ◌<◌, ◌≡◌, length};
+    ghost use Rattle.ptpm_codec.specs.Message.{reply_action};
+    ghost use Rattle.ptpm_data.specs.AnswerLaws.{answered_more};
+    ghost use Rattle.ptpm_data.specs.Reply.{outcome_of};
+
+    /// A reply without answers, to be written over.
+    pub fn empty() -> Reply
+        ensures { result ≡ record { action = Action.Response; id = 0; answers = [] } }
+    {
+        Reply {
+            action: Action::Response,
+            id: 0,
+            answers: ArrayVec::new(),
+        }
+    }
+
+    /// A reply to this request that has no answers yet.
+    pub fn to(request: &Request<'_>) -> Reply
+        ensures { result
+            ≡ record { action = reply_action request.now.action; id = request.now.id; answers = [] } }
+    {
+        Reply {
+            action: request.action.reply(),
+            id: request.id,
+            answers: ArrayVec::new(),
+        }
+    }
+
+    fn push(&mut self, port: Option<u16>, what: What)
+        requires { length self.old.answers < 8 }
+        ensures { self.new
+            ≡ answered_more self.old (record { port = port; outcome = outcome_of what } ∷ []) }
+    {
+        self.answers.push(PortAnswer { port, what });
+    }
 }

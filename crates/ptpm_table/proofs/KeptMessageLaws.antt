@@ -24,44 +24,42 @@ use Rattle.std.specs.Prelude.{is_some}
 use Rattle.ptpm_table.proofs.ListLemmas.{All-unmap}
 use Rattle.ptpm_codec.specs.Message.{reply_action}
 use Rattle.ptpm_table.specs.Entries.{FitsAnswer, FitsCount, FitsOutcome, FitsRequest}
-use Rattle.ptpm_table.specs.KeptMessages.{AreSizes, EachKept, Envelope, IsKeptMessage, IsKeptReply, answer_in, error_of_number, first_copy, has_port, kept_message, outcome_in, outcome_of_body, pieces, port_for, port_in, renewed, source_port}
+use Rattle.ptpm_table.specs.KeptMessages.{AreSizes, EachKept, Envelope, IsCopyOf, IsKeptMessage, IsKeptReply, answer_in, error_of_number, first_copy, has_port, kept_message, outcome_in, outcome_of_body, pieces, port_for, port_in, renewed, sent_message, source_port}
 use Rattle.ptpm_table.specs.Rendering.{answer_body, hops_passed, rendered, reply_message}
-
--- the copy that is answered is of the request whose reply is kept
-pub record IsCopyOf (e : Envelope) (heard : Heard) : Type 0 where
-  pub source_is : heard.source ≡ e.manager
-  pub number_is : heard.number ≡ e.number
 
 -- ---- written over
 
-renewed_of_clock : (e : Envelope) (heard : Heard) (ingress : ℕ) (o : Outcome)
+renewed_of_clock : (e : Envelope) (first : Heard) (at : ℕ) (heard : Heard) (ingress : ℕ) (o : Outcome)
+    → IsCopyOf e first
     → IsCopyOf e heard
     → ingress < 2 ^ 16
-    → Fits (kept_message e (record { port = None; outcome = o }))
+    → Fits (sent_message e first at (record { port = None; outcome = o }))
     → renewed heard.domain (Some ingress) (hops_passed heard)
-    (canonical (kept_message e (record { port = None; outcome = o })))
+    (canonical (sent_message e first at (record { port = None; outcome = o })))
     ≡ canonical (reply_message e.clock heard e.action e.id ingress (record { port = None; outcome = o }))
-renewed_of_clock e heard ingress o copy low fits =
-    set_all (kept_message e (record { port = None; outcome = o })) heard.domain ingress (hops_passed heard) (hops_passed heard) fits low
+renewed_of_clock e first at heard ingress o own copy low fits =
+    set_all (sent_message e first at (record { port = None; outcome = o })) heard.domain ingress (hops_passed heard) (hops_passed heard) fits low
     ∙ (λ i. canonical (record {
       sdo = 0;
       domain = heard.domain;
       source = record { clock = e.clock; port = ingress };
-      number = sym copy.number_is i;
-      target = sym copy.source_is i;
+      number = (own.number_is ∙ sym copy.number_is) i;
+      target = (own.source_is ∙ sym copy.source_is) i;
       starting_hops = hops_passed heard;
       hops = hops_passed heard;
       body = answer_body e.action e.id o;
     }))
 
-renewed_of_port : (e : Envelope) (heard : Heard) (ingress port : ℕ) (o : Outcome) → IsCopyOf e heard
-    → Fits (kept_message e (record { port = Some port; outcome = o }))
+renewed_of_port : (e : Envelope) (first : Heard) (at : ℕ) (heard : Heard) (ingress port : ℕ) (o : Outcome)
+    → IsCopyOf e first
+    → IsCopyOf e heard
+    → Fits (sent_message e first at (record { port = Some port; outcome = o }))
     → renewed heard.domain None (hops_passed heard)
-    (canonical (kept_message e (record { port = Some port; outcome = o })))
+    (canonical (sent_message e first at (record { port = Some port; outcome = o })))
     ≡ canonical (reply_message e.clock heard e.action e.id ingress (record { port = Some port; outcome = o }))
-renewed_of_port e heard ingress port o copy fits =
+renewed_of_port e first at heard ingress port o own copy fits =
     let h : ℕ = hops_passed heard in
-    let v : Message = kept_message e (record { port = Some port; outcome = o }) in
+    let v : Message = sent_message e first at (record { port = Some port; outcome = o }) in
     let v1 : Message = record v { domain = heard.domain } in
     let v2 : Message = record v1 { starting_hops = h } in
     let fits1 : Fits v1 = record { source = fits.source; number = fits.number; target = fits.target; body = fits.body } in
@@ -73,8 +71,8 @@ renewed_of_port e heard ingress port o copy fits =
       sdo = 0;
       domain = heard.domain;
       source = record { clock = e.clock; port = port };
-      number = sym copy.number_is i;
-      target = sym copy.source_is i;
+      number = (own.number_is ∙ sym copy.number_is) i;
+      target = (own.source_is ∙ sym copy.source_is) i;
       starting_hops = h;
       hops = h;
       body = answer_body e.action e.id o;
@@ -88,10 +86,10 @@ renewed_one : (of_port : Bool) (e : Envelope) (heard : Heard) (ingress : ℕ) (m
     ≡ canonical (reply_message e.clock heard e.action e.id ingress (answer_in of_port m))
 renewed_one false e heard ingress m copy low kept =
     ap (renewed heard.domain (Some ingress) (hops_passed heard)) kept.spelled
-    ∙ renewed_of_clock e heard ingress (outcome_in (message_of m)) copy low kept.fits
+    ∙ renewed_of_clock e kept.first kept.at heard ingress (outcome_in (message_of m)) kept.copy copy low kept.fits
 renewed_one true e heard ingress m copy low kept =
     ap (renewed heard.domain None (hops_passed heard)) kept.spelled
-    ∙ renewed_of_port e heard ingress (source_port (message_of m)) (outcome_in (message_of m)) copy kept.fits
+    ∙ renewed_of_port e kept.first kept.at heard ingress (source_port (message_of m)) (outcome_in (message_of m)) kept.copy copy kept.fits
 
 -- the kept messages written over are the reply, rendered for the copy
 pub renewed_reply : (of_port : Bool) (e : Envelope) (heard : Heard) (ingress : ℕ)
@@ -140,35 +138,39 @@ message_back v valid fits =
     spells-message_of v (canonical v) (subst (λ (m : List ℕ). Spells v m) (sym alone) (canonical_spells v valid fits))
 
 -- the answer of a kept message
-pub answer_back : (of_port : Bool) (e : Envelope) (request : Action) (a : Answer)
+pub answer_back : (of_port : Bool) (e : Envelope) (first : Heard) (at : ℕ) (request : Action) (a : Answer)
     → e.action ≡ reply_action request
     → IsRequestAction request
-    → FitsAnswer of_port request a → IsValid (kept_message e a) → Fits (kept_message e a)
-    → answer_in of_port (canonical (kept_message e a)) ≡ a
-answer_back false e request a action asks suits valid fits =
-    let read = message_back (kept_message e a) valid fits in
-    let outcome : outcome_in (message_of (canonical (kept_message e a))) ≡ a.outcome =
+    → FitsAnswer of_port request a → IsValid (sent_message e first at a) → Fits (sent_message e first at a)
+    → answer_in of_port (canonical (sent_message e first at a)) ≡ a
+answer_back false e first at request a action asks suits valid fits =
+    let read = message_back (sent_message e first at a) valid fits in
+    let outcome : outcome_in (message_of (canonical (sent_message e first at a))) ≡ a.outcome =
     ap outcome_in read ∙ (ap (λ (x : Action). outcome_of_body (answer_body x e.id a.outcome)) action ∙ outcome_back request e.id 130 a.outcome asks suits.1) in
     (λ i. record { port = sym suits.0 i; outcome = outcome i })
-answer_back true e request a action asks suits valid fits =
-    let read = message_back (kept_message e a) valid fits in
-    let outcome : outcome_in (message_of (canonical (kept_message e a))) ≡ a.outcome =
+answer_back true e first at request a action asks suits valid fits =
+    let read = message_back (sent_message e first at a) valid fits in
+    let outcome : outcome_in (message_of (canonical (sent_message e first at a))) ≡ a.outcome =
     ap outcome_in read ∙ (ap (λ (x : Action). outcome_of_body (answer_body x e.id a.outcome)) action ∙ outcome_back request e.id 26 a.outcome asks suits.1) in
-    let port : port_in true (message_of (canonical (kept_message e a))) ≡ a.port =
-    ap (port_in true) read ∙ subst (λ (p : Option ℕ). Some (unwrap_or p 0) ≡ p) (sym suits.0.1) refl in
+    let port : port_in true (message_of (canonical (sent_message e first at a))) ≡ a.port =
+    ap (port_in true) read ∙ subst (λ (p : Option ℕ). Some (unwrap_or p at) ≡ p) (sym suits.0.1) refl in
     (λ i. record { port = port i; outcome = outcome i })
 
 -- a message that was encoded is kept
-pub kept_back : (of_port : Bool) (e : Envelope) (request : Action) (a : Answer)
+pub kept_back : (of_port : Bool) (e : Envelope) (first : Heard) (at : ℕ) (request : Action) (a : Answer)
     → e.action ≡ reply_action request
     → IsRequestAction request
-    → FitsAnswer of_port request a → IsValid (kept_message e a) → Fits (kept_message e a)
-    → IsKeptMessage e of_port (canonical (kept_message e a))
-kept_back of_port e request a action asks suits valid fits =
-    let back = answer_back of_port e request a action asks suits valid fits in
+    → FitsAnswer of_port request a → IsValid (sent_message e first at a) → Fits (sent_message e first at a)
+    → IsCopyOf e first
+    → IsKeptMessage e of_port (canonical (sent_message e first at a))
+kept_back of_port e first at request a action asks suits valid fits own =
+    let back = answer_back of_port e first at request a action asks suits valid fits in
     record {
-      spelled = ap (λ (x : Answer). canonical (kept_message e x)) (sym back);
-      fits = subst (λ (x : Answer). Fits (kept_message e x)) (sym back) fits;
+      first = first;
+      at = at;
+      copy = own;
+      spelled = ap (λ (x : Answer). canonical (sent_message e first at x)) (sym back);
+      fits = subst (λ (x : Answer). Fits (sent_message e first at x)) (sym back) fits;
     }
 
 -- ---- cutting
@@ -241,20 +243,20 @@ tlv_small : (of_port : Bool) (request action : Action) (id : ℕ) (a : Answer)
 tlv_small false request action id a suits = omega (arith, body_length request action id 130 a.outcome (omega arith) suits.1)
 tlv_small true request action id a suits = omega (arith, body_length request action id 26 a.outcome (omega arith) suits.1)
 
-pub kept_length : (of_port : Bool) (e : Envelope) (request : Action) (a : Answer)
+pub kept_length : (of_port : Bool) (e : Envelope) (first : Heard) (at : ℕ) (request : Action) (a : Answer)
     → FitsAnswer of_port request a
-    → Fits (kept_message e a)
-    → length (canonical (kept_message e a)) ≤ most_octets of_port
-kept_length false e request a suits fits =
-    omega (arith, canonical_length (kept_message e a) fits, body_length request e.action e.id 130 a.outcome (omega arith) suits.1)
-kept_length true e request a suits fits =
-    omega (arith, canonical_length (kept_message e a) fits, body_length request e.action e.id 26 a.outcome (omega arith) suits.1)
+    → Fits (sent_message e first at a)
+    → length (canonical (sent_message e first at a)) ≤ most_octets of_port
+kept_length false e first at request a suits fits =
+    omega (arith, canonical_length (sent_message e first at a) fits, body_length request e.action e.id 130 a.outcome (omega arith) suits.1)
+kept_length true e first at request a suits fits =
+    omega (arith, canonical_length (sent_message e first at a) fits, body_length request e.action e.id 26 a.outcome (omega arith) suits.1)
 
-pub kept_least : (e : Envelope) (a : Answer)
-    → IsValid (kept_message e a)
-    → Fits (kept_message e a)
-    → 54 ≤ length (canonical (kept_message e a))
-kept_least e a valid fits = (canonical_size (kept_message e a) valid fits).at_least
+pub kept_least : (e : Envelope) (first : Heard) (at : ℕ) (a : Answer)
+    → IsValid (sent_message e first at a)
+    → Fits (sent_message e first at a)
+    → 54 ≤ length (canonical (sent_message e first at a))
+kept_least e first at a valid fits = (canonical_size (sent_message e first at a) valid fits).at_least
 
 -- there is room for one more
 pub has_room : (of_port : Bool) (count done filled size : ℕ)
@@ -283,20 +285,21 @@ pub record IsEncoded (of_port : Bool) (e : Envelope) (a : Answer) (v : Message) 
   pub small : length (canonical v) ≤ most_octets of_port
   pub least : 54 ≤ length (canonical v)
 
-pub encoded : (of_port : Bool) (e : Envelope) (request : Action) (a : Answer) (v : Message)
-    → kept_message e a ≡ v
+pub encoded : (of_port : Bool) (e : Envelope) (first : Heard) (at : ℕ) (request : Action) (a : Answer) (v : Message)
+    → IsCopyOf e first
+    → sent_message e first at a ≡ v
     → e.action ≡ reply_action request
     → IsRequestAction request
     → FitsAnswer of_port request a
     → IsValid v
     → Fits v
     → IsEncoded of_port e a v
-encoded of_port e request a v message action asks suits =
+encoded of_port e first at request a v own message action asks suits =
     subst (λ (w : Message). IsValid w → Fits w → IsEncoded of_port e a w) message (λ valid fits. record {
-      kept = kept_back of_port e request a action asks suits valid fits;
-      back = answer_back of_port e request a action asks suits valid fits;
-      small = kept_length of_port e request a suits fits;
-      least = kept_least e a valid fits;
+      kept = kept_back of_port e first at request a action asks suits valid fits own;
+      back = answer_back of_port e first at request a action asks suits valid fits;
+      small = kept_length of_port e first at request a suits fits;
+      least = kept_least e first at a valid fits;
     })
 
 pub answers_more : (of_port : Bool) (ms : List (List ℕ)) (m : List ℕ) (xs : List PortAnswer) (i : ℕ)
@@ -346,7 +349,7 @@ made of_port e request action answers i item v is inside suit message chosen own
     let suits = suit_at of_port request answers i item is inside suit in
     let same : kept_message e (answer_of item) ≡ v =
     ap (λ (x : Action). reply_message e.clock (first_copy e) x e.id 0 (answer_of item)) (own ∙ sym chosen) ∙ sym message in
-    encoded of_port e request (answer_of item) v same own asks suits valid fits
+    encoded of_port e (first_copy e) 0 request (answer_of item) v (record { source_is = refl; number_is = refl }) same own asks suits valid fits
 
 -- what is kept after one more answer
 pub record IsFilled (of_port : Bool) (e : Envelope) (answers : List PortAnswer) (sizes octets : List ℕ) (i : ℕ) : Type 0 where
@@ -383,17 +386,6 @@ pub filled_after : (of_port : Bool) (e : Envelope) (answers : List PortAnswer)
 filled_after of_port e answers sizes octets sizes' octets' i item v filled is inside made s o =
     subst (λ (p : List ℕ × List ℕ). IsFilled of_port e answers p.0 p.1 (i + 1)) (λ j. (sym s j, sym o j))
     (filled_next of_port e answers sizes octets i item v filled is inside made)
-
--- what is kept of an only answer
-pub filled_one : (of_port : Bool) (e : Envelope) (answers : List PortAnswer) (sizes octets : List ℕ)
-    (item : PortAnswer) (v : Message)
-    → item ≡ get_or answers 0 item → 0 < length answers → IsEncoded of_port e (answer_of item) v
-    → sizes ≡ length (canonical v) ∷ []
-    → octets ≡ canonical v
-    → IsFilled of_port e answers sizes octets 1
-filled_one of_port e answers sizes octets item v is inside made s o =
-    filled_after of_port e answers [] [] sizes octets 0 item v
-    (record { kept = record { cut = refl; each = tt }; answers_are = refl; count = refl; room = omega arith }) is inside made s o
 
 -- ---- how many messages
 

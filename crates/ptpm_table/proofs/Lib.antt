@@ -5,3 +5,4 @@ pub mod Maps
 pub mod Fitting
 pub mod Slots
 pub mod KeptMessageLaws
+pub mod SentLaws

@@ -1,5 +1,5 @@
--- How a `SlotTable` represents a kept reply, which is no promise: in octets, its messages one after the other, as they answer
--- a copy of the request in domain 0 that has lost no hop and came in at port 0.
+-- How a `SlotTable` represents a kept reply, which is no promise: in octets, its messages one after the other, as they answered
+-- the copy of the request that came in first; `keep` makes them as for one in domain 0 that has lost no hop and came in at port 0.
 use Rattle.std.specs.Prelude.{◌≡◌, ◌≤◌, ◌-◌, ℕ, ◌/◌, ◌%◌, ◌==◌, Bool, true, false, List, [], ◌∷◌, length, take, drop, Option, Some, None, if◌then◌else◌, is_some, slice_set}
 use Rattle.ptpm_codec.specs.declared.error.ErrorId.{ErrorId}
 use Rattle.ptpm_codec.specs.declared.error.ErrorId.TheVariants as errors
@@ -90,10 +90,22 @@ first_copy e = record { domain = 0; source = e.manager; number = e.number; start
 abbrev pub kept_message : Envelope → Answer → Message
 kept_message e a = reply_message e.clock (first_copy e) e.action e.id 0 a
 
--- a message is spelled as it is kept
+-- a copy of the request whose reply is kept
+pub record IsCopyOf (e : Envelope) (heard : Heard) : Type 0 where
+  pub source_is : heard.source ≡ e.manager
+  pub number_is : heard.number ≡ e.number
+
+-- the message of an answer, for a copy that came in at this port
+abbrev pub sent_message : Envelope → Heard → ℕ → Answer → Message
+sent_message e first at a = reply_message e.clock first e.action e.id at a
+
+-- a message is spelled as it was sent for the copy that was answered first
 pub record IsKeptMessage (e : Envelope) (of_port : Bool) (m : List ℕ) : Type 0 where
-  pub spelled : m ≡ canonical (kept_message e (answer_in of_port m))
-  pub fits : Fits (kept_message e (answer_in of_port m))
+  pub first : Heard
+  pub at : ℕ
+  pub copy : IsCopyOf e first
+  pub spelled : m ≡ canonical (sent_message e first at (answer_in of_port m))
+  pub fits : Fits (sent_message e first at (answer_in of_port m))
 
 abbrev pub EachKept : Envelope → Bool → List (List ℕ) → Type 0
 EachKept e of_port [] = Unit {0}

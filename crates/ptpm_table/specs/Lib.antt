@@ -7,3 +7,5 @@ pub mod Managers
 pub mod ErrorText
 pub mod Slots
 pub mod KeptMessages
+pub mod Sending
+pub mod SendingLaws

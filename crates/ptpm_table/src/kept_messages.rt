@@ -4,17 +4,19 @@ ghost use Rattle.std.specs.Prelude.{All, ◌≡◌, ◌+◌, ◌∷◌, ◌++◌
 ghost use Rattle.arrayvec.specs.ArrayVec.{array_vec_len};
 ghost use Rattle.ptpm_codec.specs.Canonical.{canonical, tlv_octets};
 ghost use Rattle.ptpm_codec.specs.Message.{Fits, IsRequestAction, IsValid};
-ghost use Rattle.ptpm_data.specs.Reply.{answer_of, outcome_of};
+ghost use Rattle.ptpm_data.specs.Reply.{ReplyValue, answer_of, outcome_of};
+ghost use Rattle.ptpm_table.specs.Outbox.{sent};
+ghost use Rattle.ptpm_table.specs.Sending.{AreSmall, IsSentReply, all_octets, messages_of};
 ghost use Rattle.ptpm_table.specs.Entries.{FitsAnswer, FitsCount};
 ghost use Rattle.ptpm_table.specs.Rendering.{IsEvenOutcome};
-ghost use Rattle.ptpm_table.specs.KeptMessages.{AreSizes, IsKeptReply, answer_in, envelope_of, has_port, kept_message, pieces, port_for, renewed};
+ghost use Rattle.ptpm_table.specs.KeptMessages.{AreSizes, IsCopyOf, IsKeptReply, answer_in, envelope_of, has_port, kept_message, pieces, port_for, renewed};
 
 use crate::heard::Heard;
 use crate::outbox::Outbox;
 use crate::rendering::draft_of;
 use crate::renewal::Renewal;
 use arrayvec::ArrayVec;
-use ptpm_codec::{Action, ClockIdentity, Draft, PortIdentity, append, replace};
+use ptpm_codec::{Action, Buffer, ClockIdentity, Draft, PortIdentity, encode, put};
 use ptpm_data::PortAnswer;
 
 /// Room for the sizes of a reply's messages.
@@ -86,22 +88,10 @@ fn append_message(draft: &Draft<'_>, sizes: &mut Sizes, messages: &mut Messages)
     ensures messages { messages.new.items ≡ messages.old.items ++ canonical draft.now }
     ensures fits { Fits draft.now }
 {
-    let before = messages.len();
-    append(draft, messages);
-    sizes.push((messages.len() - before) as u8);
-}
-
-/// Leaves the canonical spelling of a draft, and its size, and nothing else. The message that was there is written over.
-fn leave_message(draft: &Draft<'_>, sizes: &mut Sizes, messages: &mut Messages)
-    requires valid { IsValid draft.now }
-    requires small { 48 + length (tlv_octets draft.now.body) ≤ 184 }
-    ensures sizes { sizes.new.items ≡ length (canonical draft.now) ∷ [] }
-    ensures messages { messages.new.items ≡ canonical draft.now }
-    ensures fits { Fits draft.now }
-{
-    replace(draft, messages);
-    *sizes = Sizes::new();
-    sizes.push(messages.len() as u8);
+    let mut message = Buffer::new();
+    encode(draft, &mut message);
+    sizes.push(message.len() as u8);
+    put(messages, message.as_slice());
 }
 
 /// Leaves the messages of a reply's answers, and nothing else.
@@ -120,32 +110,6 @@ pub(crate) fn encode_each(
     ensures answers { map (answer_in of_port) (pieces sizes.new.items messages.new.items)
         ≡ map answer_of answers.now }
 {
-    if let [answer] = answers {
-        let draft = exchange.draft(answer);
-        leave_message(&draft, sizes, messages);
-    } else {
-        encode_many(exchange, of_port, answers, sizes, messages);
-    }
-}
-
-/// The same for any number of answers. It is never inlined: most replies have one.
-#[inline(never)]
-fn encode_many(
-    exchange: &Exchange,
-    of_port: bool,
-    answers: &[PortAnswer],
-    sizes: &mut Sizes,
-    messages: &mut Messages,
-)
-    requires asks { IsRequestAction exchange.now.action }
-    requires count { FitsCount of_port (length answers.now) }
-    requires suits { All (λ a. FitsAnswer of_port exchange.now.action (answer_of a)) answers.now }
-    ensures kept { IsKeptReply (envelope_of exchange.now) of_port sizes.new.items
-        messages.new.items }
-    ensures answers { map (answer_in of_port) (pieces sizes.new.items messages.new.items)
-        ≡ map answer_of answers.now }
-{
-    let exchange = *exchange;
     *sizes = Sizes::new();
     messages.clear();
     for answer in answers {
@@ -169,4 +133,48 @@ pub(crate) fn port_for(of_port: bool, ingress: u16) -> Option<u16>
     ensures { result ≡ port_for of_port ingress }
 {
     if of_port { None } else { Some(ingress) }
+}
+
+/// Leaves copies of the messages of the reply that was sent for a copy of the request, and nothing else.
+#[inline(always)]
+pub(crate) fn keep_each(
+    exchange: &Exchange,
+    heard: &Heard,
+    of_port: bool,
+    entries: &[(u16, Buffer)],
+    sizes: &mut Sizes,
+    messages: &mut Messages,
+)
+    requires asks { IsRequestAction exchange.now.action }
+    requires copy { IsCopyOf (envelope_of exchange.now) heard.now }
+    requires sent { (r : ReplyValue) × IsSentReply exchange.now.clock heard.now
+        exchange.now.action exchange.now.id of_port (sent entries.now) r }
+    ensures kept { IsKeptReply (envelope_of exchange.now) of_port sizes.new.items
+        messages.new.items }
+    ensures answers { (r : ReplyValue) → IsSentReply exchange.now.clock heard.now
+        exchange.now.action exchange.now.id of_port (sent entries.now) r →
+        map (answer_in of_port) (pieces sizes.new.items messages.new.items) ≡ r.answers }
+{
+    *sizes = Sizes::new();
+    messages.clear();
+    copy_each(entries, sizes, messages);
+}
+
+/// Appends copies of messages, and their sizes.
+fn copy_each(entries: &[(u16, Buffer)], sizes: &mut Sizes, messages: &mut Messages)
+    requires few { array_vec_len sizes.old + length entries.now ≤ 8 }
+    requires small { AreSmall (messages_of (sent entries.now)) }
+    requires room { array_vec_len messages.old
+        + length (all_octets (messages_of (sent entries.now))) ≤ 640 }
+    ensures sizes { sizes.new.items
+        ≡ sizes.old.items ++ map length (messages_of (sent entries.now)) }
+    ensures messages { messages.new.items
+        ≡ messages.old.items ++ all_octets (messages_of (sent entries.now)) }
+{
+    if let [first, rest @ ..] = entries {
+        let message = first.1.as_slice();
+        sizes.push(message.len() as u8);
+        put(messages, message);
+        copy_each(rest, sizes, messages);
+    }
 }

@@ -20,7 +20,7 @@ pub use error::TableError;
 pub use heard::Heard;
 pub use outbox::Outbox;
 pub use plain_table::PlainTable;
-pub use rendering::render;
+pub use rendering::{Sender, render};
 pub use reply_table::{Look, ReplyTable, SureTable};
 pub use serial::{Serial, compare};
 pub use slot_table::{BoundTable, SlotTable};

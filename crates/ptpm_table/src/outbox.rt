@@ -1,15 +1,19 @@
 //! What one call at a clock sends.
 
-ghost use Rattle.std.specs.Prelude.{◌≡◌, ◌<◌, ◌≤◌, ◌-◌, ◌+◌, ◌∷◌, ◌++◌, [], length, slice_set};
+ghost use Rattle.std.specs.Prelude.{◌≡◌, ◌<◌, ◌≤◌, ◌-◌, ◌+◌, ◌∷◌, ◌++◌, [], ℕ, length, slice_set};
 ghost use Rattle.ptpm_codec.specs.Canonical.{canonical};
 ghost use Rattle.ptpm_codec.specs.Layout.{boundary_hops, message_octets};
-ghost use Rattle.ptpm_codec.specs.Message.{IsValid};
+ghost use Rattle.ptpm_codec.specs.declared.message.Action.{Action};
+ghost use Rattle.ptpm_codec.specs.declared.message.Body.TheVariants as bodies;
+ghost use Rattle.ptpm_codec.specs.declared.message.Message.{Message};
+ghost use Rattle.ptpm_codec.specs.Envelope.{envelope_of, sent_with};
+ghost use Rattle.ptpm_codec.specs.Message.{Fits, IsValid};
 ghost use Rattle.ptpm_codec.specs.Reading.{IsWellFormed};
 ghost use Rattle.ptpm_table.specs.KeptMessages.{renewed};
 ghost use Rattle.ptpm_table.specs.Outbox.{sent};
 
 use crate::renewal::{Renewal, renew};
-use ptpm_codec::{Buffer, Draft, MESSAGE_OCTETS, encode, less_hop, overwrite};
+use ptpm_codec::{Buffer, Draft, Envelope, MESSAGE_OCTETS, encode, less_hop, overwrite};
 use std::marker::Model;
 
 /// At most fifteen messages, each with the port that it is sent at: seven forwarded copies and eight replies. All fifteen
@@ -82,6 +86,45 @@ impl Outbox {
         let place = &mut self.places[self.count];
         place.0 = port;
         encode(draft, &mut place.1);
+        self.count += 1;
+    }
+
+    /// Appends the message of an envelope that answers this dataField from the source port.
+    #[inline(always)]
+    pub(crate) fn push_answer(&mut self, port: u16, envelope: &Envelope, source: u16, octets: &[u8])
+        requires room { length self.old < 15 }
+        requires small { length octets.now ≤ 1418 }
+        ensures messages { (v : Message) (action : Action) (id : ℕ) → Fits v →
+            envelope.now ≡ envelope_of v action id →
+            self.new ≡ self.old
+            ++ (port, canonical (sent_with v source (bodies.Answer action id octets.now))) ∷ [] }
+        ensures count { length self.new ≡ length self.old + 1 }
+    {
+        let place = &mut self.places[self.count];
+        place.0 = port;
+        envelope.answer(source, octets, &mut place.1);
+        self.count += 1;
+    }
+
+    /// Appends the message of an envelope that refuses this id from the source port.
+    pub(crate) fn push_refusal(
+        &mut self,
+        port: u16,
+        envelope: &Envelope,
+        source: u16,
+        error: u16,
+        id: u16,
+    )
+        requires room { length self.old < 15 }
+        ensures messages { (v : Message) (action : Action) (answered : ℕ) → Fits v →
+            envelope.now ≡ envelope_of v action answered →
+            self.new ≡ self.old
+            ++ (port, canonical (sent_with v source (bodies.Fault action error id []))) ∷ [] }
+        ensures count { length self.new ≡ length self.old + 1 }
+    {
+        let place = &mut self.places[self.count];
+        place.0 = port;
+        envelope.refuse(source, error, id, &mut place.1);
         self.count += 1;
     }
 

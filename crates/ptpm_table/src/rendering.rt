@@ -4,12 +4,12 @@ ghost use Rattle.std.specs.Prelude.{All, map, ◌≡◌, ◌+◌, ◌≤◌, ◌
 ghost use Rattle.ptpm_codec.specs.Draft.{body_of};
 ghost use Rattle.ptpm_codec.specs.Message.{IsReplyAction, IsValid, IsValidBody};
 ghost use Rattle.ptpm_data.specs.Reply.{answer_of, outcome_of};
-ghost use Rattle.ptpm_table.specs.Rendering.{IsEvenOutcome, answer_body, rendered, reply_message};
+ghost use Rattle.ptpm_table.specs.Rendering.{IsEvenOutcome, answer_body, hops_passed, rendered, reply_message};
 
 use crate::heard::Heard;
 use crate::outbox::Outbox;
-use ptpm_codec::{Action, ClockIdentity, Draft, DraftBody, PortIdentity};
-use ptpm_data::{PortAnswer, Reply, What};
+use ptpm_codec::{Action, ClockIdentity, Draft, DraftBody, Envelope, ErrorId, PortIdentity};
+use ptpm_data::{Answers, PortAnswer, Reply, Request, What};
 
 /// Appends the messages that a reply is sent as, in the order of its answers, for the copy of the request that was heard
 /// at the ingress port; each goes out there (15.4.1). Each message is encoded right where the outbox keeps it. Takes no
@@ -49,7 +49,16 @@ fn render_answers(
     }
 }
 
+/// Both hop fields of a reply: how many hops the copy has lost on its way.
+#[inline(always)]
+fn hops_passed(heard: &Heard) -> u8
+    ensures { result ≡ hops_passed heard.now }
+{
+    heard.starting_hops.saturating_sub(heard.hops)
+}
+
 /// The message of one answer, with its dataField lent.
+#[inline(always)]
 pub(crate) fn draft_of<'a>(
     me: &ClockIdentity,
     heard: &Heard,
@@ -64,7 +73,7 @@ pub(crate) fn draft_of<'a>(
         ≡ reply_message me.now heard.now action id ingress (answer_of answer.now) }
     ensures valid { IsValid result }
 {
-    let hops = heard.starting_hops.saturating_sub(heard.hops);
+    let hops = hops_passed(heard);
     Draft {
         sdo: 0,
         domain: heard.domain,
@@ -83,6 +92,7 @@ pub(crate) fn draft_of<'a>(
     }
 }
 
+#[inline(always)]
 fn body_of_answer(action: Action, id: u16, what: &What) -> DraftBody<'_>
     requires action { IsReplyAction action }
     requires even { IsEvenOutcome (outcome_of what.now) }
@@ -106,5 +116,106 @@ fn body_of_answer(action: Action, id: u16, what: &What) -> DraftBody<'_>
             id,
             text: &[],
         },
+    }
+}
+
+/// Sends the answers to a request, each as a message that is made right where the outbox keeps it. They go out at the port
+/// where the copy came in that they answer (15.4.1). Takes no memory.
+#[derive(Drop)]
+pub struct Sender<'a> {
+    envelope: Envelope,
+    id: u16,
+    ingress: u16,
+    /// Whether the last answer was of a port.
+    of_port: bool,
+    out: &'a mut Outbox,
+}
+
+impl<'a> Sender<'a> {
+    ghost use Rattle.std.specs.Prelude.{◌≡◌, false};
+    ghost use Rattle.ptpm_codec.specs.Envelope.{envelope_of};
+    ghost use Rattle.ptpm_codec.specs.Message.{Fits, reply_action};
+    ghost use Rattle.ptpm_table.specs.Sending.{empty_reply};
+
+    /// Sends the answers of this clock to a request, for the copy of it that was heard at the ingress port.
+    #[inline(always)]
+    pub fn new(
+        me: &ClockIdentity,
+        heard: &Heard,
+        request: &Request<'_>,
+        ingress: u16,
+        out: &'a mut Outbox,
+    ) -> Sender<'a>
+        ensures same_reference { result.out.ghost_name ≡ out.entry.ghost_name }
+        ensures held { result.out.now ≡ out.old }
+        ensures ingress { result.ingress ≡ ingress }
+        ensures id { result.id ≡ request.now.id }
+        ensures of_port { result.of_port ≡ false }
+        ensures envelope { let action = reply_action request.now.action in
+            result.envelope ≡ envelope_of
+            (empty_reply me.now heard.now action request.now.id ingress) action request.now.id }
+        ensures fits { Fits (empty_reply me.now heard.now
+            (reply_action request.now.action) request.now.id ingress) }
+    {
+        let empty = PortAnswer::default();
+        let action = request.action.reply();
+        let draft = draft_of(me, heard, action, request.id, &empty, ingress);
+        Sender {
+            envelope: Envelope::of(&draft, request.id),
+            id: request.id,
+            ingress,
+            of_port: false,
+            out,
+        }
+    }
+
+    /// Whether the last answer was of a port.
+    pub fn of_port(&self) -> bool
+        ensures { result ≡ self.now.of_port }
+    {
+        self.of_port
+    }
+}
+
+impl Answers for Sender<'_> {
+    ghost use Rattle.std.specs.Prelude.{length};
+    ghost use Rattle.ptpm_table.specs.Sending.{HasSent};
+    ghost use Rattle.ptpm_table.specs.SendingLaws.{sent_count, sent_none, sent_twice};
+
+    ghost most = { 15 };
+
+    ghost count = { λ s. length s.out.now };
+
+    ghost taken = { HasSent };
+
+    ghost none_taken = { sent_none };
+
+    ghost taken_after = { sent_twice };
+
+    ghost counted = { sent_count };
+
+    #[inline(always)]
+    fn take_value(&mut self, port: Option<u16>, octets: &[u8]) {
+        self.of_port = port.is_some();
+        let source = port.unwrap_or(self.ingress);
+        self.out
+            .push_answer(self.ingress, &self.envelope, source, octets);
+    }
+
+    #[inline(always)]
+    fn take_done(&mut self, port: Option<u16>) {
+        self.take_value(port, &[]);
+    }
+
+    fn take_refusal(&mut self, port: Option<u16>, error: ErrorId) {
+        self.of_port = port.is_some();
+        let source = port.unwrap_or(self.ingress);
+        self.out.push_refusal(
+            self.ingress,
+            &self.envelope,
+            source,
+            error.number(),
+            self.id,
+        );
     }
 }

@@ -5,7 +5,9 @@ ghost use Rattle.std.specs.FinMap as fin;
 ghost use Rattle.ptpm_codec.specs.Message.{IsRequestAction, IsDataField};
 ghost use Rattle.ptpm_table.specs.Entries.{CanResend, Entry, FitsRequest, HasEntry, HasRoom, is_known};
 ghost use Rattle.ptpm_table.specs.Numbering.{look_of};
+ghost use Rattle.ptpm_data.specs.Reply.{ReplyValue};
 ghost use Rattle.ptpm_table.specs.Rendering.{rendered};
+ghost use Rattle.ptpm_table.specs.Sending.{IsSentReply};
 
 use crate::heard::Heard;
 use crate::outbox::Outbox;
@@ -116,28 +118,17 @@ pub trait SureTable: ReplyTable {
             (record { number = number; request = request.now; reply = reply.now }) }
         ensures owner { Self.owner self.new ≡ Self.owner self.old };
 
-    /// Does what `replace` does, and appends the messages of the reply for the copy that was heard, as `resend` does then. A
-    /// table that finds its manager's place once for both has a body of its own.
-    fn answer(
-        &mut self,
-        heard: &Heard,
-        request: &Request<'_>,
-        reply: &Reply,
-        ingress: u16,
-        out: &mut Outbox,
-    )
+    /// Keeps number and request with the reply that was sent for the copy that was heard: the outbox holds its messages, and no
+    /// others.
+    fn keep_sent(&mut self, heard: &Heard, request: &Request<'_>, of_port: bool, out: &Outbox)
         requires known { IsTrue (is_known heard.now.source (Self.owner self.old).managers) }
         requires action { IsRequestAction request.now.action }
         requires octets { IsDataField request.now.octets }
-        requires fits { FitsRequest request.now reply.now }
-        requires room { length out.old + length reply.now.answers ≤ 15 }
-        ensures kept { Self.entries self.new ≡ fin.insert (Self.entries self.old) heard.now.source
-            (record { number = heard.now.number; request = request.now; reply = reply.now }) }
-        ensures sent { out.new ≡ out.old
-            ++ rendered (Self.owner self.old).identity heard.now reply.now ingress }
-        ensures owner { Self.owner self.new ≡ Self.owner self.old }
-    {
-        self.replace(&heard.source, heard.number, request, reply);
-        self.resend(heard, ingress, out);
-    }
+        requires sent { (r : ReplyValue) × IsSentReply (Self.owner self.old).identity heard.now
+            request.now.action request.now.id of_port out.now r }
+        ensures kept { (r : ReplyValue) → IsSentReply (Self.owner self.old).identity heard.now
+            request.now.action request.now.id of_port out.now r →
+            Self.entries self.new ≡ fin.insert (Self.entries self.old) heard.now.source
+            (record { number = heard.now.number; request = request.now; reply = r }) }
+        ensures owner { Self.owner self.new ≡ Self.owner self.old };
 }

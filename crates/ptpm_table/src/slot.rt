@@ -2,17 +2,20 @@
 
 ghost use Rattle.std.specs.Prelude.{◌≡◌, ◌≤◌, ◌+◌, ◌++◌, length};
 ghost use Rattle.ptpm_codec.specs.Message.{IsDataField, IsRequestAction};
+ghost use Rattle.ptpm_data.specs.Reply.{ReplyValue};
 ghost use Rattle.ptpm_table.specs.Entries.{FitsRequest};
+ghost use Rattle.ptpm_table.specs.Outbox.{sent};
+ghost use Rattle.ptpm_table.specs.Sending.{IsSentReply};
 ghost use Rattle.ptpm_table.specs.Rendering.{rendered};
 
 use crate::heard::Heard;
 use crate::kept_messages::{
-    Exchange, Messages, Sizes, encode_each, has_port, port_for, resend_each,
+    Exchange, Messages, Sizes, encode_each, has_port, keep_each, port_for, resend_each,
 };
 use crate::outbox::Outbox;
 use crate::renewal::Renewal;
 use arrayvec::ArrayVec;
-use ptpm_codec::{Action, ClockIdentity, DATA_FIELD_OCTETS, PortIdentity, overwrite};
+use ptpm_codec::{Action, Buffer, ClockIdentity, DATA_FIELD_OCTETS, PortIdentity, overwrite};
 use ptpm_data::{Reply, Request, Rights};
 use std::marker::Model;
 
@@ -142,9 +145,7 @@ impl Kept {
         self.action = request.action;
         self.id = request.id;
         self.port = request.port;
-        if !(request.octets.is_empty() && self.octets.is_empty()) {
-            overwrite(&mut self.octets, request.octets);
-        }
+        keep_octets(&mut self.octets, request.octets);
         let answers = reply.answers.as_slice();
         self.of_port = has_port(answers);
         let exchange = Exchange {
@@ -156,6 +157,42 @@ impl Kept {
         };
         let (sizes, messages) = (&mut self.sizes, &mut self.messages);
         encode_each(&exchange, self.of_port, answers, sizes, messages);
+    }
+
+    /// Keeps another request, with its number, in place of this one, and the messages of the reply to it as they were sent
+    /// for the copy that was heard.
+    #[inline(always)]
+    pub(crate) fn keep_sent(
+        &mut self,
+        heard: &Heard,
+        request: &Request<'_>,
+        of_port: bool,
+        entries: &[(u16, Buffer)],
+    )
+        requires action { IsRequestAction request.now.action }
+        requires octets { IsDataField request.now.octets }
+        requires manager { heard.now.source ≡ self.old.manager }
+        requires sent { (r : ReplyValue) × IsSentReply self.old.clock heard.now
+            request.now.action request.now.id of_port (sent entries.now) r }
+        ensures { (r : ReplyValue) → IsSentReply self.old.clock heard.now
+            request.now.action request.now.id of_port (sent entries.now) r →
+            self.new ≡ record { clock = self.old.clock; manager = self.old.manager; entry = record { number = heard.now.number; request = request.now; reply = r } } }
+    {
+        self.number = heard.number;
+        self.action = request.action;
+        self.id = request.id;
+        self.port = request.port;
+        keep_octets(&mut self.octets, request.octets);
+        self.of_port = of_port;
+        let exchange = Exchange {
+            clock: self.clock,
+            manager: self.manager,
+            number: heard.number,
+            action: request.action,
+            id: request.id,
+        };
+        let (sizes, messages) = (&mut self.sizes, &mut self.messages);
+        keep_each(&exchange, heard, of_port, entries, sizes, messages);
     }
 
     /// Appends the messages of the reply, for the copy of the request that was heard.
@@ -174,5 +211,16 @@ impl Kept {
         };
         let sizes = self.sizes.as_slice();
         resend_each(sizes, self.messages.as_slice(), &renewal, ingress, out);
+    }
+}
+
+/// Keeps a dataField in place of another. Most have none, as a GET's.
+#[inline(always)]
+fn keep_octets(kept: &mut ArrayVec<u8, DATA_FIELD_OCTETS>, octets: &[u8])
+    requires { IsDataField octets.now }
+    ensures { kept.new.items ≡ octets.now }
+{
+    if !(octets.is_empty() && kept.is_empty()) {
+        overwrite(kept, octets);
     }
 }

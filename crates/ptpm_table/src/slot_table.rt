@@ -7,7 +7,9 @@ ghost use Rattle.ptpm_codec.specs.declared.identity.ClockIdentity.{ClockIdentity
 ghost use Rattle.ptpm_codec.specs.Identity.{identity_cmp, same_identity};
 ghost use Rattle.ptpm_codec.specs.Message.{IsDataField, IsRequestAction};
 ghost use Rattle.ptpm_table.specs.Entries.{FitsRequest, is_known};
-ghost use Rattle.ptpm_table.specs.Rendering.{rendered};
+ghost use Rattle.ptpm_data.specs.Reply.{ReplyValue};
+ghost use Rattle.ptpm_table.specs.Outbox.{sent};
+ghost use Rattle.ptpm_table.specs.Sending.{IsSentReply};
 ghost use Rattle.ptpm_table.specs.Managers.{IsFresh, has_twice, identities, most_managers, rights_in, slots_refusal, table_refusal};
 ghost use Rattle.ptpm_table.specs.Slots.{clocks, configured, entry_in, rights_at, slot_of, used};
 
@@ -19,13 +21,13 @@ use crate::outbox::Outbox;
 use crate::reply_table::{Look, ReplyTable, SureTable};
 use crate::slot::{Kept, Slot};
 use arrayvec::ArrayVec;
-use ptpm_codec::{ClockIdentity, OutOfMemory, PortIdentity};
+use ptpm_codec::{Buffer, ClockIdentity, OutOfMemory, PortIdentity};
 use ptpm_data::{Reply, Request, Rights};
 
 /// The latest accepted requests in so many slots inside the value, one for each manager. A clock has sixteen managers at
 /// most (this project's profile), so slots past the sixteenth stay empty. A slot has 2,136 octets, and the table 16 besides.
-/// Replies are kept as octets, encoded once by `keep`; `resend` copies them and writes over what depends on the copy that
-/// is answered. It takes no memory, and `keep` is never refused.
+/// Replies are kept as octets: `keep_sent` copies the messages as they were sent, and `keep` encodes them. `resend` copies them
+/// and writes over what depends on the copy that is answered. It takes no memory, and `keep` is never refused.
 #[derive(Drop)]
 pub struct SlotTable<const SLOTS: usize> {
     clock: ClockIdentity,
@@ -177,35 +179,36 @@ fn put(slots: &mut [Slot], who: &PortIdentity, number: u16, request: &Request<'_
     }
 }
 
-/// Keeps a request in its manager's slot, and appends the messages of its reply for the copy that was heard.
+/// Keeps a request in its manager's slot, and the messages of its reply as they were sent for the copy that was heard.
 #[inline(always)]
-fn put_and_send(
+fn put_sent(
     slots: &mut [Slot],
     heard: &Heard,
     request: &Request<'_>,
-    reply: &Reply,
-    ingress: u16,
-    out: &mut Outbox,
+    of_port: bool,
+    messages: &[(u16, Buffer)],
 )
     requires action { IsRequestAction request.now.action }
     requires known { IsTrue (is_known heard.now.source (identities (configured slots.old))) }
     requires distinct { has_twice (identities (configured slots.old)) ≡ false }
     requires octets { IsDataField request.now.octets }
-    requires fits { FitsRequest request.now reply.now }
-    requires room { length out.old + length reply.now.answers ≤ 15 }
-    ensures entries { fin.from_entries {R = identity_cmp} (used slots.new)
+    requires sent { (clock : ClockIdentity) × (r : ReplyValue)
+        × All (λ c. c ≡ clock) (clocks slots.old) × IsSentReply clock heard.now
+        request.now.action request.now.id of_port (sent messages.now) r }
+    ensures entries { (clock : ClockIdentity) (r : ReplyValue)
+        → All (λ c. c ≡ clock) (clocks slots.old)
+        → IsSentReply clock heard.now request.now.action request.now.id of_port
+        (sent messages.now) r
+        → fin.from_entries {R = identity_cmp} (used slots.new)
         ≡ fin.insert (fin.from_entries (used slots.old)) heard.now.source
-        (record { number = heard.now.number; request = request.now; reply = reply.now }) }
+        (record { number = heard.now.number; request = request.now; reply = r }) }
     ensures configured { configured slots.new ≡ configured slots.old }
     ensures clocks { clocks slots.new ≡ clocks slots.old }
-    ensures sent { (clock : ClockIdentity) → All (λ c. c ≡ clock) (clocks slots.old) →
-        out.new ≡ out.old ++ rendered clock heard.now reply.now ingress }
 {
     if let Some(place) = place_of(slots, &heard.source) {
         let slot = &mut slots[place];
         slot.taken = true;
-        slot.kept.replace(heard.number, request, reply);
-        slot.kept.resend(heard, ingress, out);
+        slot.kept.keep_sent(heard, request, of_port, messages);
     }
 }
 
@@ -300,15 +303,8 @@ impl<const SLOTS: usize> SureTable for SlotTable<SLOTS> {
     }
 
     #[inline(always)]
-    fn answer(
-        &mut self,
-        heard: &Heard,
-        request: &Request<'_>,
-        reply: &Reply,
-        ingress: u16,
-        out: &mut Outbox,
-    ) {
+    fn keep_sent(&mut self, heard: &Heard, request: &Request<'_>, of_port: bool, out: &Outbox) {
         let slots = self.slots.as_mut_slice();
-        put_and_send(slots, heard, request, reply, ingress, out);
+        put_sent(slots, heard, request, of_port, out.entries());
     }
 }

@@ -418,30 +418,6 @@ fn replaced_reply<T: SureTable>(rt: &impl Abort, table: &mut T) {
     let sent =
         "0d12003800000000000000000000000000000000aabbccfffeddee0100010008047f00112233445566770001000002000001000420056400";
     assert_resent(rt, table, &heard(&M, 0, 8, 1, 1), &changed, sent);
-    answered_and_kept(rt, table, &changed, &reply);
-}
-
-/// What is kept and answered at once is sent as it is to a repeat.
-fn answered_and_kept<T: SureTable>(
-    rt: &impl Abort,
-    table: &mut T,
-    request: &Request<'_>,
-    reply: &Reply,
-)
-    requires action { IsRequestAction request.now.action }
-    requires octets { IsDataField request.now.octets }
-    requires fits { FitsRequest request.now reply.now }
-{
-    assert!(rt; table.knows(&M));
-    let mut out = Outbox::new();
-    table.answer(&heard(&M, 0, 9, 1, 1), request, reply, 1, &mut out);
-    let sent =
-        "0d12003800000000000000000000000000000000aabbccfffeddee0100010009047f00112233445566770001000002000001000420056400";
-    match out.entries() {
-        [entry] => assert!(rt; entry.0 == 1 && is_hex(entry.1.as_slice(), sent.as_bytes())),
-        _ => assert!(rt; false, "one message"),
-    }
-    assert_resent(rt, table, &heard(&M, 0, 9, 1, 1), request, sent);
 }
 
 #[test]

@@ -1,9 +1,18 @@
-use Rattle.std.proofs.Common.{ap, arith, length, subst, sym}
+use Rattle.std.proofs.Common.{[], ◌≡◌, ◌∙◌, refl, rules, subst, sym}
 use Rattle.std.specs.Bool.{IsTrue}
+use Rattle.std.specs.FinMap.{insert}
+use Rattle.ptpm_codec.specs.Message.{reply_action}
+use Rattle.ptpm_data.specs.Changes.{changed_by}
+use Rattle.ptpm_data.specs.Replies.{reply_to}
+use Rattle.ptpm_data.proofs.Answering.{reply_to-parts}
 use Rattle.ptpm_table.specs.declared.heard.Heard.{Heard}
 use Rattle.ptpm_table.specs.Entries.{is_known}
-use Rattle.ptpm_table.proofs.Fitting.{fitting_few}
+use Rattle.ptpm_table.specs.Rendering.{rendered}
+use Rattle.ptpm_agent.specs.Addressing.{heard_of}
+use Rattle.ptpm_agent.specs.Agent.{state_of}
+use Rattle.ptpm_agent.specs.Turn.{new_reply}
 use Rattle.ptpm_agent.proofs.Fitting.{fits_numbered, may_judge_action, may_judge_port}
+use Rattle.ptpm_agent.proofs.SentReplies.{sender_as_made, sent_rendered, sent_reply}
 use Rattle.ptpm_agent.proofs.Turns.{new_parts}
 use Rattle.ptpm_agent.proofs.agent.Agent.accept.Goals as goal
 
@@ -17,26 +26,68 @@ decide_into-requires-clause-port g c =
     let p = new_parts _ _ _ c.requires.new in
     may_judge_port c.request_of-request.result c.args.self.now.sets c.args.message.now c.request_of-request.ensures p.port
 
-pub answer-requires-clause-known : goal.answer-requires-clause-known
-answer-requires-clause-known g c =
+pub keep_sent-requires-clause-known : goal.keep_sent-requires-clause-known
+keep_sent-requires-clause-known g c =
     let p = new_parts _ _ _ c.requires.new in
     subst (λ (h : Heard). IsTrue (is_known h.source (g.T.ReplyTable.owner c.args.self.now.table).managers)) (sym c.heard_of-heard.ensures) p.known
 
-pub answer-requires-clause-action : goal.answer-requires-clause-action
-answer-requires-clause-action g c =
+pub keep_sent-requires-clause-action : goal.keep_sent-requires-clause-action
+keep_sent-requires-clause-action g c =
     let p = new_parts _ _ _ c.requires.new in
     may_judge_action c.request_of-request.result c.args.message.now c.request_of-request.ensures p.request
 
-pub answer-requires-clause-fits : goal.answer-requires-clause-fits
-answer-requires-clause-fits g c =
+pub keep_sent-requires-clause-sent : goal.keep_sent-requires-clause-sent
+keep_sent-requires-clause-sent g c =
     let p = new_parts _ _ _ c.requires.new in
-    fits_numbered c.request_of-request.result c.args.rights c.args.self.now.sets c.args.message.now c.decide_into.new.reply
-    c.request_of-request.ensures c.data_sets_law.ensures.sized p.request p.port c.requires.valid c.decide_into.ensures.reply
+    let q = c.request_of-request.result in
+    let heard = c.heard_of-heard.result in
+    let reply = reply_to q c.args.rights c.args.self.now.sets in (
+      reply,
+      sent_reply q c.new-sender.result c.decide_into.new.answers (g.T.ReplyTable.owner c.args.self.now.table).identity heard reply
+          c.args.ingress c.of_port-of_port.result _
+          (sender_as_made c.new-sender.result _ _ heard _ _ _ [] _ c.new-sender.ensures.held c.clear.ensures
+          c.new-sender.ensures.ingress c.new-sender.ensures.id c.new-sender.ensures.envelope c.new-sender.ensures.fits c.clock.ensures)
+          (fits_numbered q c.args.rights c.args.self.now.sets c.args.message.now reply
+          c.request_of-request.ensures c.data_sets_law.ensures.sized p.request p.port c.requires.valid refl)
+          c.decide_into.ensures.reply c.of_port-of_port.ensures (search rules),
+    )
 
-pub answer-requires-clause-room : goal.answer-requires-clause-room
-answer-requires-clause-room g c =
+pub returns-clause-accepted : goal.returns-clause-accepted
+returns-clause-accepted g c =
     let p = new_parts _ _ _ c.requires.new in
-    let few = fitting_few c.request_of-request.result c.decide_into.new.reply
-    (fits_numbered c.request_of-request.result c.args.rights c.args.self.now.sets c.args.message.now c.decide_into.new.reply
-    c.request_of-request.ensures c.data_sets_law.ensures.sized p.request p.port c.requires.valid c.decide_into.ensures.reply) in
-    omega (arith, few, ap length c.clear.ensures)
+    let q = c.request_of-request.result in
+    let sets = c.args.self.now.sets in
+    let entries = g.T.ReplyTable.entries c.args.self.now.table in
+    let heard = c.heard_of-heard.result in
+    let reply = reply_to q c.args.rights sets in
+    let fits = fits_numbered q c.args.rights sets c.args.message.now reply
+    c.request_of-request.ensures c.data_sets_law.ensures.sized p.request p.port c.requires.valid refl in
+    let sent = sent_reply q c.new-sender.result c.decide_into.new.answers (g.T.ReplyTable.owner c.args.self.now.table).identity heard reply
+    c.args.ingress c.of_port-of_port.result _
+    (sender_as_made c.new-sender.result _ _ heard _ _ _ [] _ c.new-sender.ensures.held c.clear.ensures
+    c.new-sender.ensures.ingress c.new-sender.ensures.id c.new-sender.ensures.envelope c.new-sender.ensures.fits c.clock.ensures)
+    fits c.decide_into.ensures.reply c.of_port-of_port.ensures (search rules) in
+    λ i. record {
+      sets = (c.decide_into.ensures.changed ∙ (λ j. changed_by (c.request_of-request.ensures j) (c.requires.rights j) sets)) i;
+      entries = (c.keep_sent.ensures.kept reply sent ∙ (λ j. insert entries (c.heard_of-heard.ensures j).source (record {
+        number = (c.heard_of-heard.ensures j).number;
+        request = c.request_of-request.ensures j;
+        reply = reply_to (c.request_of-request.ensures j) (c.requires.rights j) sets;
+      }))) i;
+    }
+
+pub returns-clause-sent : goal.returns-clause-sent
+returns-clause-sent g c =
+    let clock = g.T.ReplyTable.owner c.args.self.now.table in
+    let q = c.request_of-request.result in
+    let heard = c.heard_of-heard.result in
+    let sets = c.args.self.now.sets in
+    let sent : c.decide_into.new.answers.out.now
+    ≡ rendered clock.identity (heard_of c.args.message.now) (new_reply clock (state_of g.T.ReplyTable.entries c.args.self.now) c.args.message.now) c.args.ingress =
+    sent_rendered c.new-sender.result c.decide_into.new.answers clock.identity heard (reply_to q c.args.rights sets)
+    (reply_action q.action) q.id c.args.ingress [] (reply_to-parts q c.args.rights sets)
+    (sender_as_made c.new-sender.result _ _ heard _ _ _ [] _ c.new-sender.ensures.held c.clear.ensures
+    c.new-sender.ensures.ingress c.new-sender.ensures.id c.new-sender.ensures.envelope c.new-sender.ensures.fits c.clock.ensures)
+    c.decide_into.ensures.reply
+    ∙ (λ i. rendered clock.identity (c.heard_of-heard.ensures i) (reply_to (c.request_of-request.ensures i) (c.requires.rights i) sets) c.args.ingress) in
+    search (rules, sent)

@@ -1,40 +1,47 @@
-use Rattle.std.proofs.Common.{arith, sym, ◌∙◌}
-use Rattle.ptpm_table.proofs.Fitting.{fitting_action, fitting_even, fitting_few}
-use Rattle.ptpm_agent.proofs.Fitting.{fits_unnumbered, may_judge_action, may_judge_port}
+use Rattle.std.proofs.Common.{◌≡◌, ◌++◌, ◌∙◌, ap, rules, sym}
+use Rattle.ptpm_codec.specs.Message.{reply_action}
+use Rattle.ptpm_data.specs.Replies.{read_reply_to}
+use Rattle.ptpm_data.proofs.Answering.{read_reply_to-parts}
+use Rattle.ptpm_table.specs.Rendering.{rendered}
+use Rattle.ptpm_agent.specs.Addressing.{heard_of}
+use Rattle.ptpm_agent.specs.Agent.{state_of}
+use Rattle.ptpm_agent.specs.Turn.{reply_by, reply_messages}
+use Rattle.ptpm_agent.specs.declared.verdict.Verdict.{Verdict}
+use Rattle.ptpm_agent.proofs.Fitting.{may_judge_action, may_judge_port}
+use Rattle.ptpm_agent.proofs.SentReplies.{sent_rendered}
 use Rattle.ptpm_agent.proofs.Turns.{unnumbered_parts}
 use Rattle.ptpm_agent.proofs.agent.Agent.reply.Goals as goal
 
 pub read_into-requires-clause-action : goal.read_into-requires-clause-action
 read_into-requires-clause-action g c =
     let p = unnumbered_parts _ _ _ (sym c.requires.verdict ∙ c.in-AnsweredUnnumbered.is) in
-    may_judge_action c.request_of.result c.args.message.now c.request_of.ensures p.1
+    may_judge_action c.request_of-request.result c.args.message.now c.request_of-request.ensures p.1
 
 pub read_into-requires-clause-port : goal.read_into-requires-clause-port
 read_into-requires-clause-port g c =
     let p = unnumbered_parts _ _ _ (sym c.requires.verdict ∙ c.in-AnsweredUnnumbered.is) in
-    may_judge_port c.request_of.result c.args.self.now.sets c.args.message.now c.request_of.ensures p.0
+    may_judge_port c.request_of-request.result c.args.self.now.sets c.args.message.now c.request_of-request.ensures p.0
 
-pub render-requires-clause-action : goal.render-requires-clause-action
-render-requires-clause-action g c =
-    let p = unnumbered_parts _ _ _ (sym c.requires.verdict ∙ c.in-AnsweredUnnumbered.is) in
-    fitting_action c.request_of.result c.read_into.new.reply
-    (fits_unnumbered c.request_of.result c.args.self.now.sets c.args.message.now c.read_into.new.reply c.request_of.ensures
-    c.data_sets_law.ensures.sized p.1 p.0 c.requires.valid c.read_into.ensures)
-
-pub render-requires-clause-even : goal.render-requires-clause-even
-render-requires-clause-even g c =
-    let p = unnumbered_parts _ _ _ (sym c.requires.verdict ∙ c.in-AnsweredUnnumbered.is) in
-    fitting_even c.request_of.result c.read_into.new.reply
-    (fits_unnumbered c.request_of.result c.args.self.now.sets c.args.message.now c.read_into.new.reply c.request_of.ensures
-    c.data_sets_law.ensures.sized p.1 p.0 c.requires.valid c.read_into.ensures)
-
-pub render-requires-clause-room : goal.render-requires-clause-room
-render-requires-clause-room g c =
-    let p = unnumbered_parts _ _ _ (sym c.requires.verdict ∙ c.in-AnsweredUnnumbered.is) in
-    omega (
-      arith,
-      c.requires.room,
-      fitting_few c.request_of.result c.read_into.new.reply
-          (fits_unnumbered c.request_of.result c.args.self.now.sets c.args.message.now c.read_into.new.reply c.request_of.ensures
-          c.data_sets_law.ensures.sized p.1 p.0 c.requires.valid c.read_into.ensures),
-    )
+pub returns-in-AnsweredUnnumbered-clause-sent : goal.returns-in-AnsweredUnnumbered-clause-sent
+returns-in-AnsweredUnnumbered-clause-sent g c =
+    let clock = g.T.ReplyTable.owner c.args.self.now.table in
+    let state = state_of g.T.ReplyTable.entries c.args.self.now in
+    let q = c.request_of-request.result in
+    let sets = c.args.self.now.sets in
+    let sent : c.read_into.new.answers.out.now
+    ≡ c.args.out.now
+    ++ reply_messages clock c.args.ingress (heard_of c.args.message.now) (reply_by c.args.verdict clock state c.args.message.now) =
+    sent_rendered c.new-sender.result c.read_into.new.answers c.clock.result c.heard_of-heard.result (read_reply_to q sets)
+    (reply_action q.action) q.id c.args.ingress c.args.out.now (read_reply_to-parts q sets)
+    (record {
+      held_is = c.new-sender.ensures.held;
+      ingress_is = c.new-sender.ensures.ingress;
+      id_is = c.new-sender.ensures.id;
+      envelope_is = c.new-sender.ensures.envelope;
+      fits = c.new-sender.ensures.fits;
+    })
+    c.read_into.ensures
+    ∙ (λ i. c.args.out.now ++ rendered (c.clock.ensures i) (c.heard_of-heard.ensures i) (read_reply_to (c.request_of-request.ensures i) sets) c.args.ingress)
+    ∙ ap (λ (w : Verdict). c.args.out.now ++ reply_messages clock c.args.ingress (heard_of c.args.message.now) (reply_by w clock state c.args.message.now))
+    (sym c.in-AnsweredUnnumbered.is) in
+    search (rules, sent)

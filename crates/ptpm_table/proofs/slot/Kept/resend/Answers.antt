@@ -1,8 +1,8 @@
 use Rattle.std.proofs.Common.{arith, ◌<◌, ◌^◌, ◌∙◌, ◌++◌, ap, length, map, sym}
 use Rattle.ptpm_codec.specs.Message.{reply_action}
-use Rattle.ptpm_table.specs.KeptMessages.{Envelope, KeptValue, pieces, renewed}
+use Rattle.ptpm_table.specs.KeptMessages.{Envelope, IsCopyOf, KeptValue, pieces, renewed}
 use Rattle.ptpm_table.specs.Rendering.{rendered}
-use Rattle.ptpm_table.proofs.KeptMessageLaws.{IsCopyOf, length_answers, renewed_reply}
+use Rattle.ptpm_table.proofs.KeptMessageLaws.{length_answers, renewed_reply}
 use Rattle.ptpm_table.proofs.slot.Kept.resend.Goals as goal
 
 pub resend_each-requires-clause-room : goal.resend_each-requires-clause-room

@@ -1,0 +1,27 @@
+-- The messages of one reply: they differ in the source's portNumber and the body alone.
+use Rattle.std.specs.Prelude.{ℕ, ◌/◌, ◌%◌, List, [], slice_set}
+use Rattle.ptpm_codec.specs.declared.message.Action.{Action}
+use Rattle.ptpm_codec.specs.declared.message.Body.{Body}
+use Rattle.ptpm_codec.specs.declared.message.Body.TheVariants as bodies
+use Rattle.ptpm_codec.specs.declared.message.Message.{Message}
+use Rattle.ptpm_codec.specs.Canonical.{canonical}
+
+-- a message of v's from this port, with this body
+abbrev pub sent_with : Message → ℕ → Body → Message
+sent_with v port body = record v {
+  source = record { clock = v.source.clock; port = port };
+  body = body;
+}
+
+-- the octets of v as the answer of this action and id that has no octets
+abbrev pub envelope_of : Message → Action → ℕ → List ℕ
+envelope_of v action id = canonical (record v { body = bodies.Answer action id [] })
+
+-- messageLength and the source's portNumber written over
+abbrev pub sized : ℕ → ℕ → List ℕ → List ℕ
+sized size port m =
+    slice_set (slice_set (slice_set (slice_set m 2 (size / 256)) 3 (size % 256)) 28 (port / 256)) 29 (port % 256)
+
+-- lengthField written over
+abbrev pub field_sized : ℕ → List ℕ → List ℕ
+field_sized field m = slice_set (slice_set m 50 (field / 256)) 51 (field % 256)
