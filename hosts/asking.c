@@ -10,6 +10,8 @@
 #include <stdio.h>
 #include <string.h>
 
+enum { NOT_SUPPORTED = 6 };         /* a managementErrorId (15.5.4.3) */
+
 static struct ptpm_session session;
 static struct ptpm_survey survey;
 static uint8_t message[PTPM_MOST_OCTETS], datagram[MOST_DATAGRAM];
@@ -68,6 +70,15 @@ static int is_answered(long wait) {
     return 0;
 }
 
+/* What may be wrong where no answer came. */
+static void advise(const struct task *task) {
+    int is_own_way = task->path == NULL && task->action != PTPM_GET;        /* else the manager is another one in each run */
+    if (task->path == NULL) complain("survey DEFAULT_DATA_SET shows which clocks are in that domain; --domain names another");
+    if (task->numbers == NULL && (task->has_manager || is_own_way)) {
+        complain("numbers began at 0, which a clock may take for old: see --numbers");
+    }
+}
+
 /* What can be said where no answer came: of what went out, nobody knows whether it came in. */
 static int no_answer(const struct task *task, long sent) {
     const char *end = stopped ? "ended by a signal: " : "";
@@ -77,10 +88,7 @@ static int no_answer(const struct task *task, long sent) {
     }
     complain("%sno answer at %s in domain %u to %ld message%s%s", end, way_name(), task->settings.domain, sent,
              sent == 1 ? "" : "s", task->action == PTPM_GET ? "" : ": the request may have been carried out");
-    int is_known = task->path == NULL || task->has_manager;       /* else the manager is another one in each run */
-    if (!stopped && !task->is_survey && is_known && task->numbers == NULL) {
-        complain("numbers began at 0, which a clock may take for old: see --numbers");
-    }
+    if (!stopped && !task->is_survey) advise(task);
     return stopped ? BY_SIGNAL + stopped : NOT_ANSWERED;
 }
 
@@ -97,6 +105,9 @@ static int carry_out(const struct task *task) {
     }
     answer.told = ptpm_session_report(&session, message, sizeof message, &answer.size, &answer.error);
     print_answer(task, "", &answer);
+    if (answer.told == PTPM_REFUSED && answer.error == NOT_SUPPORTED && task->action != PTPM_GET) {
+        complain("the clock lacks that id, or takes no change of it from this manager: a ptp4l takes some at its Unix socket alone");
+    }
     return answer.told == PTPM_REFUSED ? REFUSED : ANSWERED;
 }
 

@@ -18,7 +18,10 @@ static sigset_t while_waiting;
 static struct sockaddr_un own_path = { .sun_family = AF_UNIX };
 static struct stat own_file;
 
-_Noreturn void give_up(const char *what) { perror(what); exit(2); }
+_Noreturn void give_up(const char *what) {
+    fprintf(stderr, "%s: %s: %s\n", program, what, strerror(errno));
+    exit(2);
+}
 
 long decimal(const char *text, long most) {
     long number = 0;
@@ -28,12 +31,6 @@ long decimal(const char *text, long most) {
         number = number * 10 + (*text - '0');
         if (number > most) return -1;
     }
-    return number;
-}
-
-long read_number(const char *text, long most) {
-    long number = decimal(text, most);
-    if (number < 0) usage();
     return number;
 }
 

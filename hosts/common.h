@@ -8,6 +8,9 @@
 #include <stdint.h>
 #include <sys/socket.h>
 
+/* The program's own: its name, which stands before what it says on standard error. */
+extern const char program[];
+
 /* The program's own: it says how the program is called, and ends it with status 2. */
 _Noreturn void usage(void);
 
@@ -16,9 +19,6 @@ _Noreturn void give_up(const char *what);
 
 /* A number of decimal digits alone, at most `most`; -1 where the text is none. */
 long decimal(const char *text, long most);
-
-/* The same, or `usage`. */
-long read_number(const char *text, long most);
 
 /* Two hexadecimal digits in either case an octet, as many as there are up to `most`; how many octets they are. */
 size_t read_octets(const char **text, uint8_t *octets, size_t most);

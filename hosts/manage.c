@@ -9,6 +9,8 @@
 #include <stdio.h>
 #include <string.h>
 
+const char program[] = "ptpm-manage";
+
 _Noreturn void usage(void) { refuse("see ptpm-manage --help"); }
 
 int main(int argc, char **argv) {

@@ -10,12 +10,13 @@
 #include <unistd.h>
 
 enum { NAME = 256, DIGITS = 5, TURN = 60000, TRY_AGAIN = 10 };     /* the times in milliseconds */
+enum { FIRST = 16384 };     /* far ahead of the numbers of runs without a file, which begin at 0 */
 
 static char name[NAME], new_name[NAME];
 static int folder = -1;
 
 _Noreturn static void refuse(const char *path, const char *why) {
-    fprintf(stderr, "%s: %s\n", path, why);
+    fprintf(stderr, "ptpm-manage: --numbers %s: %s\n", path, why);
     exit(2);
 }
 
@@ -29,8 +30,9 @@ static void open_folder(const char *path) {
         before[size] = '\0';
     }
     strcpy(name, last);
+    if (size > 0) mkdir(before, 0755);      /* where it is missing; what stands above it is not made */
     folder = open(before, O_RDONLY | O_DIRECTORY | O_CLOEXEC);
-    if (folder < 0) give_up(before);
+    if (folder < 0) refuse(path, strerror(errno));
 }
 
 /* The lock goes when the program ends. */
@@ -39,9 +41,9 @@ static void take_turn(const char *path) {
     struct flock whole = { .l_type = F_WRLCK, .l_whence = SEEK_SET };
     strcpy(stpcpy(lock_name, name), ".lock");
     int at = openat(folder, lock_name, O_RDWR | O_CREAT | O_NOFOLLOW | O_NONBLOCK | O_CLOEXEC, 0660);
-    if (at < 0) give_up(lock_name);
+    if (at < 0) refuse(path, strerror(errno));
     for (long end = milliseconds() + TURN; fcntl(at, F_SETLK, &whole);) {
-        if (errno != EAGAIN && errno != EACCES) give_up(lock_name);
+        if (errno != EAGAIN && errno != EACCES) refuse(path, strerror(errno));
         if (stopped || milliseconds() >= end) refuse(path, "another run holds it; nothing was sent");
         wait_for(NULL, 0, TRY_AGAIN);
     }
@@ -54,12 +56,12 @@ uint16_t open_number(const char *path) {
     take_turn(path);
     strcpy(stpcpy(new_name, name), ".new");
     int at = openat(folder, name, O_RDONLY | O_NOFOLLOW | O_NONBLOCK | O_CLOEXEC);
-    if (at < 0 && errno == ENOENT) return 0;
+    if (at < 0 && errno == ENOENT) return FIRST;
     if (at < 0 && errno == ELOOP) refuse(path, "it is a link");
-    if (at < 0 || fstat(at, &found)) give_up(path);
+    if (at < 0 || fstat(at, &found)) refuse(path, strerror(errno));
     if (!S_ISREG(found.st_mode)) refuse(path, "it is no file");
     ssize_t size = read(at, text, sizeof text - 1);
-    if (size < 0) give_up(path);
+    if (size < 0) refuse(path, strerror(errno));
     close(at);
     if (size > 0 && text[size - 1] == '\n') size--;
     text[size] = '\0';
@@ -73,6 +75,6 @@ void keep_number(uint16_t number) {
     int size = snprintf(text, sizeof text, "%u\n", number);
     unlinkat(folder, new_name, 0);
     int at = openat(folder, new_name, O_WRONLY | O_CREAT | O_EXCL | O_NOFOLLOW | O_CLOEXEC, 0666);
-    if (at < 0 || write(at, text, (size_t)size) != size || fsync(at) || close(at)) give_up(new_name);
-    if (renameat(folder, new_name, folder, name) || fsync(folder)) give_up(name);
+    if (at < 0 || write(at, text, (size_t)size) != size || fsync(at) || close(at)) refuse(new_name, strerror(errno));
+    if (renameat(folder, new_name, folder, name) || fsync(folder)) refuse(name, strerror(errno));
 }

@@ -4,7 +4,8 @@
 
 #include <stdint.h>
 
-/* Takes the file at this path for this run alone, and reads it: its number, 0 where there is no such file yet. Runs take
+/* Takes the file at this path for this run alone, and reads it: its number; where there is no such file yet, one that is ahead
+   of those of runs without a file. The file's folder is made where it is missing. Runs take
    turns, by a lock on the file PATH.lock: a manager has one request on its way at a time, and a clock drops one whose number
    is behind the latest that it took. Ends the program, status 2, where the file is a link or holds anything but a number
    from 0 to 65535, and where it is not its turn within a minute. */

@@ -126,7 +126,8 @@ static void read_octets_of(struct task *task, const char *text) {
     const char *rest = text;
     if (strlen(text) > 2 * MOST_FIELD) refuse("the dataField has over %d octets", MOST_FIELD);
     task->size = read_octets(&rest, task->octets, sizeof task->octets);
-    if (*rest != '\0' || task->size % 2 != 0) refuse("%s: it is no even number of octets in hexadecimal", text);
+    if (*rest == '\0' && task->size % 2 == 0) return;
+    refuse("%s: it is no even number of octets in hexadecimal%s", text, has_text(task->id) ? "; a text takes --text" : "");
 }
 
 static void read_value(struct task *task, const struct words *words) {

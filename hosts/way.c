@@ -69,6 +69,11 @@ static void identity_of(const char *interface, uint8_t identity[8]) {
     memcpy(identity, (const uint8_t[]){ a[0], a[1], a[2], 0xff, 0xfe, a[3], a[4], a[5] }, 8);
 }
 
+/* Whether it is a GET that says nothing of who asks: asked at a port of this process, it takes no number of the manager. */
+static int is_no_managers(const struct task *task) {
+    return !task->is_survey && task->action == PTPM_GET && task->numbers == NULL;
+}
+
 static void meet_udp(struct task *task) {
     int is_six = task->address != NULL ? read_address(task->address) : task->is_six;
     const char *interface = task->interface != NULL ? task->interface : interface_to(task->address);
@@ -77,6 +82,7 @@ static void meet_udp(struct task *task) {
     at = open_udp(interface, is_six);
     if (task->address == NULL) clock_size = group(&clock_address, is_six);
     if (!task->has_manager) identity_of(interface, task->settings.clock);
+    if (!task->has_manager && is_no_managers(task)) task->settings.port = (uint16_t)(getpid() % 65533 + 2);
 }
 
 static void meet_unix(struct task *task) {

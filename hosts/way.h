@@ -10,8 +10,9 @@
 enum { MOST_DATAGRAM = 65536 };
 
 /* Opens the way that the task names, and where the task names no manager, makes the way's own the manager of its settings: over
-   UDP the interface's hardware address with ff and fe in its middle, at port 1; at a Unix socket clock 0 and the number of
-   this process, as pmc. Ends the program with status 2 where there is no way. */
+   UDP the interface's hardware address with ff and fe in its middle, at port 1, and for a GET without a file of numbers at a port
+   of this process; at a Unix socket clock 0 and the number of this process, as pmc. Ends the program with status 2 where there is
+   no way. */
 void open_way(struct task *task);
 
 /* What the way is called in a notice. */

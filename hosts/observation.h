@@ -1,0 +1,23 @@
+/* What a text tells of a clock and of its ports, as an observation for ptpm_clock_observe: a line for each member. */
+#ifndef OBSERVATION_H
+#define OBSERVATION_H
+
+#include "ptpm.h"
+#include <stddef.h>
+
+enum { OBSERVED_PORTS = 8 };
+
+struct observation {
+    struct ptpm_observed_clock clock;
+    struct ptpm_observed_port ports[OBSERVED_PORTS];
+    size_t port_count;          /* up to the last port of which something is told */
+    unsigned grandmaster;       /* which members of a grandmaster are told, a bit each */
+};
+
+/* Reads it from lines, the text's own: `MEMBER VALUE` of struct ptpm_observed_clock, and `port PORT MEMBER VALUE` of struct
+   ptpm_observed_port. An empty line and one that begins with # tell nothing; a member that is told twice is what the later line
+   says. Whether every line is right: each wrong one is said on standard error, behind `name` and its number, and then there is
+   no observation. */
+int read_observation(struct observation *observation, const char *name, char *text);
+
+#endif

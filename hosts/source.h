@@ -1,0 +1,17 @@
+/* A file, or a pipe, that tells something again and again. One a program. */
+#ifndef SOURCE_H
+#define SOURCE_H
+
+/* Opens it, and answers what is to be polled. Ends the program with status 2 where there is no such file. */
+int open_source(const char *path);
+
+/* Reads what has come in by now, without waiting. */
+void read_source(void);
+
+/* Whether that leaves a text to take, which is then at *text, with a zero behind it, until the next call: of a file all that it
+   holds, at first and whenever a program that wrote to it has closed it, or another file has come into its place; of a pipe
+   what came in up to an empty line, or until the last program that wrote to it has closed it. What has 65,536 octets or more,
+   and a file that can't be read, is said on standard error, and is no text. */
+int next_text(char **text);
+
+#endif
