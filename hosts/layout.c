@@ -1,6 +1,6 @@
 /* layout: whether ptpm.h has its members where the library has them. Each member of each struct gets a value of its own, and
    what the library then says must have that value at the place that the standard gives it (IEEE 1588-2019, clauses 13.3, 15.4
-   and 15.5). And each constant of an answer must have its name, and ids theirs. Prints what does not hold and `layout: N passed, M
+   and 15.5). And each constant of an answer must have its name, and ids and errors theirs. Prints what does not hold and `layout: N passed, M
    failed`; its status is 1 where one failed. */
 #include "ptpm.h"
 #include <stdio.h>
@@ -397,6 +397,23 @@ static void answer_names(void) {
     check(named == all, "a number that is no answer has no name");
 }
 
+/* Each managementErrorId of table 109 has its name, and no other number has one. */
+static void error_names(void) {
+    static const struct { uint16_t number; const char *name; } errors[] = {
+        { 0x0001, "RESPONSE_TOO_BIG" }, { 0x0002, "NO_SUCH_ID" }, { 0x0003, "WRONG_LENGTH" }, { 0x0004, "WRONG_VALUE" },
+        { 0x0005, "NOT_SETABLE" }, { 0x0006, "NOT_SUPPORTED" }, { 0xfffe, "GENERAL_ERROR" },
+    };
+    size_t named = 0, all = sizeof errors / sizeof *errors;
+    char text[PTPM_MOST_NAME];
+    for (size_t i = 0; i < all; i++) {
+        size_t size = ptpm_error_name(errors[i].number, text, sizeof text);
+        check(size == strlen(errors[i].name) && memcmp(text, errors[i].name, size) == 0, errors[i].name);
+        check(ptpm_error_name(errors[i].number, text, size - 1) == 0, "the name of an error without room");
+    }
+    for (uint32_t number = 0; number <= 0xffff; number++) named += ptpm_error_name((uint16_t)number, text, sizeof text) > 0;
+    check(named == all, "a number that the standard names no error has no name");
+}
+
 /* Each id by its name in either case, and its name in capitals; and what is no name, or has no room. */
 static void id_names(void) {
     static const struct { uint16_t id; const char *name, *small; } ids[] = {
@@ -428,6 +445,7 @@ int main(void) {
     sessions();
     surveys();
     answer_names();
+    error_names();
     id_names();
     ptpm_clock_stop(&clock_held);
     ptpm_session_stop(&session);

@@ -5,11 +5,6 @@
 #include <string.h>
 #include <strings.h>
 
-static const struct { uint16_t number; const char *text; } errors[] = {
-    { 0x0001, "RESPONSE_TOO_BIG" }, { 0x0002, "NO_SUCH_ID" }, { 0x0003, "WRONG_LENGTH" }, { 0x0004, "WRONG_VALUE" },
-    { 0x0005, "NOT_SETABLE" }, { 0x0006, "NOT_SUPPORTED" }, { 0xfffe, "GENERAL_ERROR" },
-};
-
 long id_named(const char *text) {
     uint8_t octets[2];
     uint32_t id = ptpm_id_named(text, strlen(text));
@@ -26,10 +21,9 @@ const char *id_name(uint16_t id) {
 }
 
 const char *error_name(uint16_t error) {
-    for (size_t i = 0; i < sizeof errors / sizeof *errors; i++) {
-        if (errors[i].number == error) return errors[i].text;
-    }
-    return NULL;
+    static char name[PTPM_MOST_NAME + 1];
+    name[ptpm_error_name(error, name, PTPM_MOST_NAME)] = '\0';
+    return *name != '\0' ? name : NULL;
 }
 
 const char *answer_name(uint32_t answer) {

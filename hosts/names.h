@@ -1,5 +1,5 @@
-/* Names for numbers, and numbers for names: those of managementIds and of answers are the library's, those of managementErrorIds
-   stand here alone. A name that was given stands until the next call of its function. */
+/* Names for numbers, and numbers for names, all of them the library's. A name that was given stands until the next call of its
+   function. */
 #ifndef NAMES_H
 #define NAMES_H
 

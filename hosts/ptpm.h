@@ -383,7 +383,7 @@ void ptpm_survey_stop(struct ptpm_survey *survey);
 enum { PTPM_NO_ID = 65536, PTPM_MOST_NAME = 27 };
 
 /* The managementId of a name in ASCII, of size octets and in either case, as PRIORITY1 or priority1 (IEEE 1588-2019, 15.5.2.3);
-   PTPM_NO_ID where no id of this profile has it. Takes no memory, as none of these three calls does, and no handle. */
+   PTPM_NO_ID where no id of this profile has it. Takes no memory, as none of these four calls does, and no handle. */
 uint32_t ptpm_id_named(const char *name, size_t size);
 
 /* Leaves the standard's name of a managementId at the head of text, with no zero behind it, and answers how many octets it has:
@@ -393,6 +393,10 @@ size_t ptpm_id_name(uint16_t id, char *text, size_t room);
 /* Leaves the name of the number that a call answered, as PTPM_NO_ROOM without PTPM_, in the same way. 0 has none: it says of
    each call that it was done. */
 size_t ptpm_answer_name(uint32_t number, char *text, size_t room);
+
+/* Leaves the standard's name of a managementErrorId (15.5.4.3, table 109), as WRONG_VALUE for 4, in the same way. A number that
+   the table reserves, or leaves to an implementation, has none. */
+size_t ptpm_error_name(uint16_t error, char *text, size_t room);
 
 #ifdef __cplusplus
 }

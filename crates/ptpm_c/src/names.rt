@@ -1,10 +1,11 @@
-//! Names for hosts in C: of managementIds, and of what calls answer. No call here takes a handle or memory.
+//! Names for hosts in C: of managementIds, of what calls answer, and of managementErrorIds. No call here takes a handle or memory.
 
 ghost use Rattle.std.specs.Prelude.{◌≡◌, ◌≢◌, ℕ, Some, drop, length, take};
 ghost use Rattle.ptpm_host.specs.AnswerNames.{answer_name};
+ghost use Rattle.ptpm_host.specs.ErrorNames.{error_name};
 ghost use Rattle.ptpm_host.specs.Names.{capitals, id_name, name_within, no_id};
 
-use ptpm_host::{NO_ID, answer_name, hand_out_name, id_name, id_named};
+use ptpm_host::{NO_ID, answer_name, error_name, hand_out_name, id_name, id_named};
 
 /// The managementId that has this name of ASCII letters in either case, as `PRIORITY1` or `priority1`; 65,536, which no id is,
 /// where no id has it.
@@ -39,4 +40,15 @@ pub extern "C" fn ptpm_answer_name(number: u32, octets: &mut [u8]) -> usize
     ensures behind { drop result octets.new ≡ drop result octets.old }
 {
     hand_out_name(answer_name(number), octets)
+}
+
+/// Leaves the standard's name of a managementErrorId (15.5.4.3, table 109), as `WRONG_VALUE`, at the head of `octets`, and answers
+/// how many octets it has: 0 where the standard names none, or there is no room for the whole name. What stands behind it stays.
+#[unsafe(no_mangle)]
+pub extern "C" fn ptpm_error_name(error: u16, octets: &mut [u8]) -> usize
+    ensures size { result ≡ length (name_within (length octets.old) (error_name error)) }
+    ensures name { take result octets.new ≡ name_within (length octets.old) (error_name error) }
+    ensures behind { drop result octets.new ≡ drop result octets.old }
+{
+    hand_out_name(error_name(error), octets)
 }

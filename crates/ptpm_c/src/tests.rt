@@ -51,6 +51,81 @@ fn a_clock_from_start_to_stop(rt: HostRuntime) {
     assert!(rt; answer == 32 && count == 0);
 }
 
+/// GET CURRENT_DATA_SET, number 7, of the manager to the clock, at every port.
+const GET_CURRENT: &[u8; 54] = b"\x0d\x12\x00\x36\x00\x00\
+    \x00\x00\x00\x00\x00\x00\x00\x00\x00\x00\x00\x00\x00\x00\
+    \x00\x11\x22\x33\x44\x55\x66\x77\x00\x01\x00\x07\x04\x7f\
+    \xaa\xbb\xcc\xff\xfe\xdd\xee\x01\xff\xff\x01\x01\x00\x00\
+    \x00\x01\x00\x02\x20\x01";
+
+/// The dataField of the reply: stepsRemoved is 1, offsetFromMaster -1.5 nanoseconds, meanDelay 250 nanoseconds.
+const CURRENT: &[u8; 18] = b"\x00\x01\xff\xff\xff\xff\xff\xfe\x80\x00\
+    \x00\x00\x00\x00\x00\xfa\x00\x00";
+
+/// An empty handle, what a GET reads behind an observation, a port that a manager disabled, and refusals, which change nothing.
+#[test]
+fn a_clock_that_is_observed(rt: HostRuntime) {
+    let alloc = rt.alloc();
+    let mut handle = Handle::empty();
+    let settings = ClockSettings {
+        identity: [0xaa, 0xbb, 0xcc, 0xff, 0xfe, 0xdd, 0xee, 0x01],
+        ..ClockSettings::new()
+    };
+    let manager = ManagerSettings {
+        clock: [0x00, 0x11, 0x22, 0x33, 0x44, 0x55, 0x66, 0x77],
+        port: 1,
+        rights: 7,
+    };
+    let disabled = PortSettings {
+        state: 3,
+        ..PortSettings::new()
+    };
+    let current = ObservedClock {
+        steps_removed: 1,
+        offset_from_master: -0x18000,
+        mean_path_delay: 0xfa_0000,
+        has_steps_removed: 1,
+        has_offset_from_master: 1,
+        has_mean_path_delay: 1,
+        ..ObservedClock::default()
+    };
+    let out_of_range = ObservedClock {
+        steps_removed: 2,
+        clock_accuracy: 0x16,
+        has_clock_accuracy: 1,
+        ..current
+    };
+    let slave = ObservedPort {
+        state: 9,
+        has_state: 1,
+        ..ObservedPort::default()
+    };
+    let mut sent = [Sent::empty(); 15];
+    let mut octets = [0; 130];
+    let mut count = 1;
+    let mut left = 1;
+    assert!(rt; ptpm_clock_observe(alloc, &mut handle, &current, &[slave], &mut left) == 32);
+    assert!(rt; left == 0);
+    let ports = [PortSettings::new(), disabled];
+    assert!(rt; ptpm_clock_start(alloc, &mut handle, &settings, &ports, &[manager]) == 0);
+    assert!(rt; ptpm_clock_observe(alloc, &mut handle, &current, &[slave; 2], &mut left) == 0);
+    assert!(rt; left == 2);
+    assert!(rt;
+        ptpm_clock_observe(alloc, &mut handle, &out_of_range, &[slave; 3], &mut left) == 33
+    );
+    assert!(rt; left == 0);
+    assert!(rt;
+        ptpm_clock_observe(alloc, &mut handle, &out_of_range, &[slave; 2], &mut left) == 70
+    );
+    assert!(rt; left == 0);
+    assert!(rt; ptpm_clock_handle(alloc, &mut handle, 1, GET_CURRENT, &mut sent, &mut count) == 5);
+    assert!(rt; count == 1 && sent[0].size == 72);
+    assert!(rt; &sent[0].octets[54..72] == CURRENT.as_slice());
+    assert!(rt; ptpm_clock_read(alloc, &mut handle, 0x2004, 2, &mut octets, &mut count) == 0);
+    assert!(rt; octets[10] == 3);
+    ptpm_clock_stop(alloc, &mut handle);
+}
+
 #[test]
 fn a_session_from_start_to_stop(rt: HostRuntime) {
     let settings = SessionSettings {
@@ -204,4 +279,17 @@ fn names_of_answers(rt: HostRuntime) {
         assert!(rt; ptpm_answer_name(number, &mut octets) == name.len());
         assert!(rt; octets.starts_with(name));
     }
+}
+
+/// The standard's names (15.5.4.3, table 109). Memory is ample, and none is taken.
+#[test]
+fn names_of_errors(rt: HostRuntime) {
+    let mut octets = [0x2e; 14];
+    assert!(rt; ptpm_error_name(0xfffe, &mut octets) == 13);
+    assert!(rt; octets.as_slice() == b"GENERAL_ERROR.".as_slice());
+    assert!(rt; ptpm_error_name(0x0004, &mut octets) == 11);
+    assert!(rt; octets.as_slice() == b"WRONG_VALUEOR.".as_slice());
+    assert!(rt; ptpm_error_name(0x0002, &mut octets[..9]) == 0);
+    assert!(rt; ptpm_error_name(0x0007, &mut octets) == 0);
+    assert!(rt; octets.as_slice() == b"WRONG_VALUEOR.".as_slice());
 }

@@ -2,6 +2,9 @@
 use Rattle.std.proofs.Common.{◌≡◌, ◌≢◌, ◌++◌, Some, codes, refl}
 use Rattle.ptpm_codec.specs.declared.error.DecodeError.{DecodeError}
 use Rattle.ptpm_codec.specs.declared.error.DecodeError.TheVariants as causes
+use Rattle.ptpm_codec.specs.declared.error.ErrorId.{ErrorId}
+use Rattle.ptpm_codec.specs.declared.error.ErrorId.TheVariants as errors
+use Rattle.ptpm_codec.specs.Message as codec
 use Rattle.ptpm_agent.specs.declared.verdict.Verdict.{Verdict}
 use Rattle.ptpm_agent.specs.declared.verdict.Verdict.TheVariants as verdicts
 use Rattle.ptpm_data.specs.declared.members.Member.{Member}
@@ -16,6 +19,7 @@ use Rattle.ptpm_manager.specs.declared.receiving.Reason.{Reason}
 use Rattle.ptpm_manager.specs.declared.receiving.Reason.TheVariants as reasons
 use Rattle.ptpm_manager.specs.ErrorText.{begin_error_text, send_error_text}
 use Rattle.ptpm_host.specs.AnswerNames.{answer_name, name_in, cause_word, reason_word, verdict_word, words_in_capitals}
+use Rattle.ptpm_host.specs.ErrorNames.{error_name}
 use Rattle.ptpm_host.specs.Names.{capitals}
 use Rattle.ptpm_host.specs.Numbers.{cause_number, values_number, verdict_number}
 use Rattle.ptpm_host.specs.SessionNumbers.{begin_number, reason_number, resume_number}
@@ -111,3 +115,13 @@ member_named members.ReceiptTimeout = refl
 member_named members.LogSync = refl
 member_named members.DelayMechanism = refl
 member_named members.LogMinPdelay = refl
+
+pub error_named : (e : ErrorId) → error_name (codec.error_number e) ≡ Some (codec.error_name e)
+unfolding name_in
+error_named errors.ResponseTooBig = refl
+error_named errors.NoSuchId = refl
+error_named errors.WrongLength = refl
+error_named errors.WrongValue = refl
+error_named errors.NotSetable = refl
+error_named errors.NotSupported = refl
+error_named errors.GeneralError = refl

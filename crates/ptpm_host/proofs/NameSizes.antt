@@ -1,9 +1,10 @@
--- A name of an id or of an answer has at most 27 octets: each of the tables' names has.
+-- A name of an id, of an answer or of an error has at most 27 octets: each of the tables' names has.
 use Rattle.std.proofs.Common.{◌≡◌, ◌==◌, ◌≤◌, ℕ, List, Option, Some, None, true, length, nat_le, map, option_map, find, refl, subst, arith}
 use Rattle.std.specs.Option.{option_or}
 use Rattle.std.proofs.lemmas.Bool.Decides.{nat_tests}
 use Rattle.ptpm_data.specs.ManagementId.{RowValue, id_table, row_of}
 use Rattle.ptpm_host.specs.AnswerNames.{answer_name, name_in, clock_member_names, datagram_names, port_member_names, refusal_names}
+use Rattle.ptpm_host.specs.ErrorNames.{error_name, error_names}
 use Rattle.ptpm_host.specs.Names.{id_name}
 use Rattle.ptpm_host.proofs.IdNames.{of_found}
 
@@ -52,3 +53,6 @@ answer_size number name is =
     (or_fits _ _ (table_fits datagram_names number refl)
     (or_fits _ _ (table_fits refusal_names number refl)
     (or_fits _ _ (table_fits clock_member_names number refl) (table_fits port_member_names number refl)))) is
+
+pub error_size : (number : ℕ) (name : List ℕ) → error_name number ≡ Some name → length name ≤ 27
+error_size number name is = size_of_fitting (error_name number) name (table_fits error_names number refl) is

@@ -11,4 +11,5 @@ pub mod Survey
 pub mod SurveyNumbers
 pub mod Names
 pub mod AnswerNames
+pub mod ErrorNames
 pub mod Observing

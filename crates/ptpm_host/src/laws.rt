@@ -1,6 +1,9 @@
 //! What holds of names. The law is the contract of a function that does nothing.
 
 ghost use Rattle.std.specs.Prelude.{◌≡◌, ◌≢◌, ◌≤◌, ◌++◌, ℕ, List, Some, codes, length};
+ghost use Rattle.ptpm_codec.specs.declared.error.ErrorId.{ErrorId};
+ghost use Rattle.ptpm_codec.specs.Message.{error_number};
+ghost use Rattle.ptpm_codec.specs.Message as codec;
 ghost use Rattle.ptpm_agent.specs.declared.verdict.Verdict.{Verdict};
 ghost use Rattle.ptpm_data.specs.declared.members.Member.{Member};
 ghost use Rattle.ptpm_data.specs.declared.start.StartError.TheVariants.{BadValue};
@@ -11,13 +14,14 @@ ghost use Rattle.ptpm_manager.specs.declared.error.SendError.{SendError};
 ghost use Rattle.ptpm_manager.specs.declared.receiving.Reason.{Reason};
 ghost use Rattle.ptpm_manager.specs.ErrorText.{begin_error_text, send_error_text};
 ghost use Rattle.ptpm_host.specs.AnswerNames.{answer_name, reason_word, verdict_word, words_in_capitals};
+ghost use Rattle.ptpm_host.specs.ErrorNames.{error_name};
 ghost use Rattle.ptpm_host.specs.Names.{capitals, id_name};
 ghost use Rattle.ptpm_host.specs.Numbers.{values_number, verdict_number};
 ghost use Rattle.ptpm_host.specs.SessionNumbers.{begin_number, reason_number, resume_number};
 
 /// The number of a verdict, of a reason and of a refusal has its name, in words of capitals as `ANSWERED_NEW` for `AnsweredNew`;
-/// a malformed datagram the name of its cause. The number of a member has its name behind `BAD_`. A name of an id or of an
-/// answer has at most 27 octets.
+/// a malformed datagram the name of its cause. The number of a member has its name behind `BAD_`. A managementErrorId that a
+/// message can name has the name that it is written by. A name of an id, of an answer or of an error has at most 27 octets.
 pub fn names_law()
     ensures verdict { (v : Verdict) → answer_name (verdict_number v) ≡ verdict_word v }
     ensures reason { (r : Reason) → answer_name (reason_number r) ≡ reason_word r }
@@ -29,9 +33,13 @@ pub fn names_law()
     ensures member { (m : Member)
         → answer_name (values_number (BadValue m))
         ≡ Some (codes "BAD_" ++ capitals (member_name m)) }
+    ensures error { (e : ErrorId) → error_name (error_number e) ≡ Some (codec.error_name e) }
     // no name is longer than LOG_MIN_PDELAY_REQ_INTERVAL
     ensures id_size { (id : ℕ) (name : List ℕ) → id_name id ≡ Some name → length name ≤ 27 }
     ensures answer_size { (number : ℕ) (name : List ℕ)
         → answer_name number ≡ Some name
+        → length name ≤ 27 }
+    ensures error_size { (number : ℕ) (name : List ℕ)
+        → error_name number ≡ Some name
         → length name ≤ 27 }
 {}

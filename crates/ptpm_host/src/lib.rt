@@ -4,6 +4,7 @@
 
 mod answer_names;
 mod clock;
+mod error_names;
 mod id_names;
 mod laws;
 mod names;
@@ -23,6 +24,7 @@ mod told;
 
 pub use answer_names::answer_name;
 pub use clock::{Handled, HostedClock, MOST_SENT};
+pub use error_names::error_name;
 pub use id_names::{NO_ID, id_name, id_named};
 pub use laws::names_law;
 pub use names::hand_out_name;

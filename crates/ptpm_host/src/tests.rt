@@ -1,5 +1,6 @@
 //! Worked exchanges through the structs of a host, with octets from outside, and each kind of refusal by its number.
 
+mod observing;
 mod surveys;
 
 use crate::*;
@@ -328,5 +329,21 @@ fn session_after_refused_memory(rt: HostRuntime) {
             assert_eq!(rt; octets, [0x80, 0]);
         }
         Err(_) => assert!(rt; false, "it starts"),
+    }
+}
+
+/// The names of table 109 (15.5.4.3). Memory is ample, and none is taken.
+#[test]
+fn names_of_errors(rt: HostRuntime) {
+    for (number, name) in [
+        (0x0000, None),
+        (0x0001, Some("RESPONSE_TOO_BIG")),
+        (0x0006, Some("NOT_SUPPORTED")),
+        (0x0007, None),
+        (0xfffd, None),
+        (0xfffe, Some("GENERAL_ERROR")),
+        (0xffff, None),
+    ] {
+        assert!(rt; error_name(number) == name);
     }
 }

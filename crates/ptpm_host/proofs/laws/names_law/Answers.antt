@@ -1,5 +1,5 @@
-use Rattle.ptpm_host.proofs.AnswersNamed.{verdict_named, reason_named, begin_named, send_named, member_named}
-use Rattle.ptpm_host.proofs.NameSizes.{id_size, answer_size}
+use Rattle.ptpm_host.proofs.AnswersNamed.{verdict_named, reason_named, begin_named, send_named, member_named, error_named}
+use Rattle.ptpm_host.proofs.NameSizes.{id_size, answer_size, error_size}
 use Rattle.ptpm_host.proofs.laws.names_law.Goals as goal
 
 pub returns : goal.returns
@@ -9,6 +9,8 @@ returns c = record {
   begin = begin_named;
   send = send_named;
   member = member_named;
+  error = error_named;
   id_size = id_size;
   answer_size = answer_size;
+  error_size = error_size;
 }
