@@ -3,6 +3,7 @@ pub use Rattle.std.proofs.Common.{le_trans, [], ap, append_assoc, arith, Bool, d
 pub use Rattle.std.specs.List.{AllByRecursion, cons_option, Contains, filter, find, list_any, range_with_len}
 pub use Rattle.std.specs.Option.{option_or}
 pub use Rattle.std.specs.Prelude.{unwrap_or}
+pub use Rattle.std.specs.Result.{result_err}
 pub use Rattle.std.proofs.lemmas.Bool.{and_cases, and_from, and_left, and_parts, and_right, cases_Bool, cases_eq, cond-false, cond-true, eq-eqb, eqb-false, eqb-true, false_from_ne_true, false≢true, le-leb, le-ltb, leb-true, lt-ltb, ltb-false, ltb-true, ne_eqb, not-false, not-true, or_cases, or_from, or_left, or_parts, or_right, true≢false}
 pub use Rattle.std.proofs.lemmas.List.{append-nil, drop-take, get_or-set_other, get_or-set_same, length-drop, length-map, length-set, length-take-le, map-append, take-take, take_all}
 pub use Rattle.std.proofs.lemmas.List.FromFn.{length-range_with_len}
@@ -86,8 +87,8 @@ pub use Rattle.ptpm_network.specs.Machine.{answer_messages, answer_origin, answe
 unfoldable pub use Rattle.ptpm_network.specs.Machine.{happens}
 pub use Rattle.ptpm_network.specs.Network.{AtPort, AtSession, End, HasEnd, IsLink, IsNetwork, manager, Network, peers, ports, same_end, SessionStart}
 pub use Rattle.ptpm_network.specs.Replying.{origin_by, posted_by}
-pub use Rattle.ptpm_network.specs.RunningNetwork.{after_turn, hears, Held, held, initial_network, network_run, nothing_to_resume, posted, reaches, reaches_end, RunningNetwork, seen, sends_in, sent_posted, turn_frames, with_session_value}
-unfoldable pub use Rattle.ptpm_network.specs.RunningNetwork.{network_refusal, network_step}
+pub use Rattle.ptpm_network.specs.RunningNetwork.{after_turn, delivers, goes_on, Happened, hears, Held, held, initial_network, network_run, nothing_to_resume, posted, reaches, RunningNetwork, seen, sends_in, sent_posted, turn_frames, unless_refused, with_session_value}
+unfoldable pub use Rattle.ptpm_network.specs.RunningNetwork.{network_event}
 pub use Rattle.ptpm_network.specs.Stands.{AreFirsts, Stands}
 pub use Rattle.ptpm_network.specs.State.{accepted_at_target, copies_at, Frame, frames_to, greatest_accepted, history, initial_state, is_idle, is_late, is_late_at, issued, Neither, NetworkState, new_frames, Origin, outcomes_kept, ReplyTo, reports_by, reports_of, RequestOf, session_value, SessionState, unanswered}
 pub use Rattle.ptpm_network.specs.Way.{AreLinked, ComeIn, ComesIn, ends_of, handed_in, Hop, IsAnswerable, IsWay, Leads, LinksHaveAtMost, made_along, made_each_way, passed_at_most, PassesOn, RunsToReport, visited}

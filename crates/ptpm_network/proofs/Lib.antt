@@ -19,7 +19,6 @@ pub mod Receiving
 pub mod Turning
 pub mod Standing
 pub mod Held
-pub mod Refusing
 pub mod Hearing
 pub mod Taking
 pub mod Running

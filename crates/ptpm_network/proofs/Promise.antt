@@ -1,6 +1,6 @@
 -- The promise of a network, and the states of a running network in which it holds.
-use Rattle.ptpm_network.proofs.Common.{by_test, suc, zero, arith, ◌≡◌, ℕ, ◌<◌, ◌≤◌, List, [], ◌∷◌, ◌++◌, Option, Some, None, false, sym, ◌∙◌, ap, subst, ⊎_elim, length, append_assoc, cases_eq, cond-true, cond-false, true≢false, append-nil, if◌then◌else◌, AllByRecursion, PortIdentity, same_identity, same_identity-refl, same_identity-true, Accepted, kept_reply, Report, Event, IsInRange, Refusal, refusal, RunningNetwork, initial_network, network_refusal, network_run, network_step, Headline, IsPromised, StandsAfter, IsReached, AreInTime, happens, is_late_delivery, run, step_by, taken, IsNetwork, Network, manager, AreFirsts, Stands, NetworkState, accepted_at_target, initial_state, greatest_accepted, outcomes_kept, reports_of, all_append}
-use Rattle.ptpm_network.proofs.Running.{network_step-running, network_run-running, network_refusal-running}
+use Rattle.ptpm_network.proofs.Common.{by_test, suc, zero, arith, ◌≡◌, ℕ, ◌<◌, ◌≤◌, List, [], ◌∷◌, ◌++◌, Option, Some, None, false, sym, ◌∙◌, ap, subst, ⊎_elim, length, append_assoc, cases_eq, cond-true, cond-false, true≢false, append-nil, if◌then◌else◌, AllByRecursion, PortIdentity, same_identity, same_identity-refl, same_identity-true, Accepted, kept_reply, Report, Event, IsInRange, Refusal, refusal, RunningNetwork, initial_network, Happened, Ok, Result, network_event, network_run, result_err, Headline, IsPromised, StandsAfter, IsReached, AreInTime, happens, is_late_delivery, run, step_by, taken, IsNetwork, Network, manager, AreFirsts, Stands, NetworkState, accepted_at_target, initial_state, greatest_accepted, outcomes_kept, reports_of, all_append}
+use Rattle.ptpm_network.proofs.Running.{follows, network_run-running}
 use Rattle.ptpm_network.proofs.Schedule.{reached}
 use Rattle.ptpm_network.proofs.Standing.{stands-initial_state}
 use Rattle.ptpm_network.proofs.Taking.{in_time-append, run-append, taken-in_range}
@@ -97,19 +97,29 @@ promised-more N past es p range time = record {
   in_time = in_time-append N (initial_state N) past es p.in_time time;
 }
 
-pub stands-network_step : (N : Network) (past : List Event) (r : RunningNetwork) (e : Event)
-    → StandsAfter N past r → IsInRange e → refusal N (run N (initial_state N) past) e ≡ None
+pub stands-judged : (N : Network) (past : List Event) (r : RunningNetwork) (e : Event)
+    → StandsAfter N past r
+    → result_err (network_event N r e) ≡ refusal N (run N (initial_state N) past) e
+stands-judged N past r e at =
+    let p = at.promised in
+    let first : PortIdentity → ℕ = first_of_sessions N N.sessions in
+    (follows N first r _ p.network (reached N past p.network p.in_range) (at.stands first (firsts N p.network)) e).reason
+
+pub stands-event : (N : Network) (past : List Event) (r : RunningNetwork) (e : Event)
+    (h : Happened)
+    → StandsAfter N past r → IsInRange e → network_event N r e ≡ Ok h
     → is_late_delivery (run N (initial_state N) past) e ≡ false
-    → StandsAfter N (past ++ e ∷ []) (network_step N r e)
-stands-network_step N past r e at range none late =
+    → StandsAfter N (past ++ e ∷ []) h.network
+stands-event N past r e h at range is late =
     let p = at.promised in
     let w : NetworkState = run N (initial_state N) past in
+    let none : refusal N w e ≡ None = sym (stands-judged N past r e at) ∙ ap (λ (x : Result Happened Refusal). result_err x) is in
     let next : run N (initial_state N) (past ++ e ∷ []) ≡ happens N w e =
     run-append N (initial_state N) past (e ∷ []) ∙ ap (λ (o : Option Refusal). step_by o N w e) none in
     record {
       promised = promised-more N past (e ∷ []) p (range, tt) ((λ accepted. late), tt);
-      stands = λ first firsts. subst (Stands N first (network_step N r e)) (sym next)
-          (network_step-running N past first r e p.network p.in_range firsts (at.stands first firsts) range none late);
+      stands = λ first firsts. subst (Stands N first h.network) (sym next)
+          ((follows N first r w p.network (reached N past p.network p.in_range) (at.stands first firsts) e).next h is firsts range late);
     }
 
 some_none : {X : Type 0} (reason : Refusal) → Some reason ≡ None → X
@@ -140,11 +150,3 @@ stands-network_run N past r es at range time =
       promised = promised-more N past (taken N w es) p (taken-in_range N w es range) time;
       stands = λ first firsts. network_run-running N past es first r p.network p.in_range firsts (at.stands first firsts) range time;
     }
-
-pub stands-judged : (N : Network) (past : List Event) (r : RunningNetwork) (e : Event)
-    → StandsAfter N past r
-    → network_refusal N r e ≡ refusal N (run N (initial_state N) past) e
-stands-judged N past r e at =
-    let p = at.promised in
-    let first : PortIdentity → ℕ = first_of_sessions N N.sessions in
-    network_refusal-running N past first r e p.network p.in_range (at.stands first (firsts N p.network))

@@ -1,16 +1,43 @@
--- A running network goes through every event as the machine does.
-use Rattle.ptpm_network.proofs.Common.{by_test, ◌≡◌, ℕ, ◌<◌, List, [], ◌∷◌, ◌++◌, Option, Some, None, false, refl, sym, ◌∙◌, ap, subst, cond-true, cond-false, is_none, option_map, AllByRecursion, first_of-none, option_or-none, PortIdentity, Ask, received_of, SessionValue, begun, resumed, retuned, Begin, Deliver, Event, Forged, IsInRange, Refusal, Resume, Retune, Send, Stranger, begin_refused, forged, frame_at, is_forged, no_port, no_room, no_session, refusal, Held, RunningNetwork, held, network_refusal, network_run, network_step, reaches, reaches_end, IsFrame, IsReached, AreInTime, begun_in, delivered, delivered_at, delivered_at_clock, happens, is_late_delivery, is_late_frame, report_from, run, step, step_by, strange_frame, taken, AtPort, AtSession, End, HasEnd, IsNetwork, Network, AreFirsts, Stands, Frame, NetworkState, initial_state, is_late, le_trans}
+-- A running network makes of every event what the machine does: it refuses what that refuses, for the same reason, and else
+-- goes where it goes.
+use Rattle.ptpm_network.proofs.Common.{by_test, result_err, Result, Ok, Err, Happened, unless_refused, network_event, delivers, goes_on, ◌≡◌, ℕ, ◌<◌, ◌≤◌, nat_lt, not, List, [], ◌∷◌, ◌++◌, Option, Some, None, false, refl, sym, ◌∙◌, ap, subst, is_none, if◌then◌else◌, option_map, option_or, AllByRecursion, first_of, first_of-none, length, length-map, PortIdentity, received_of, SessionValue, begin_refusal, send_refusal, is_waiting, begun, resumed, retuned, Begin, BeginRefused, Deliver, Event, Forged, FramesAtMaximum, IsInRange, Refusal, Resume, Retune, Send, SendRefused, Stranger, begin_refused, send_refused, resume_refused, forged, frame_at, frames_limit, is_forged, no_frame, no_port, no_room, no_session, nothing_to_resume, refusal, Held, RunningNetwork, held, network_run, reaches, IsFrame, IsReached, AreInTime, begun_in, delivered, delivered_at, delivered_at_clock, happens, is_late_delivery, is_late_frame, report_from, run, step, step_by, strange_frame, taken, AtPort, AtSession, End, HasEnd, IsNetwork, Network, AreFirsts, Stands, Frame, NetworkState, SessionState, initial_state, is_late, is_idle, session_value, le_trans}
+use Rattle.ptpm_manager.specs.declared.error.SendError.TheVariants as sends
 use Rattle.ptpm_manager.specs.Ask as ask
 use Rattle.ptpm_network.proofs.Frames.{heard-frame}
 use Rattle.ptpm_network.proofs.Hearing.{begun-value, hears-stands, sends-stand, session-stands}
 use Rattle.ptpm_network.proofs.Held.{frame_at-map, turned-seen}
 use Rattle.ptpm_network.proofs.InTime.{in_window}
 use Rattle.ptpm_network.proofs.Reaching.{frame_at-is, port-exists, session-exists, step-reached}
-use Rattle.ptpm_network.proofs.Refusing.{network_refusal-as}
+use Rattle.ptpm_network.proofs.Receiving.{not_idle}
+use Rattle.ptpm_network.proofs.Refusals.{idle-not_waiting}
 use Rattle.ptpm_network.proofs.Schedule.{reached}
 use Rattle.ptpm_network.proofs.Standing.{stands-turned}
 use Rattle.ptpm_network.proofs.Strangers.{strange-message}
-use Rattle.ptpm_network.proofs.Taking.{is_none-none, run-append}
+use Rattle.ptpm_network.proofs.Taking.{run-append}
+
+-- ---- reasons to refuse, one after another
+
+-- what a running network makes of an event is refused for this reason, and of the network after it P holds
+pub record Follows (x : Result Happened Refusal) (o : Option Refusal)
+    (P : RunningNetwork → Type 0) : Type 0 where
+  pub reason : result_err x ≡ o
+  pub next : (h : Happened) → x ≡ Ok h → P h.network
+
+by_last : (P : RunningNetwork → Type 0) (a b : Option Refusal) (h : Happened)
+    → a ≡ b → (b ≡ None → P h.network)
+    → Follows (unless_refused a (Ok h)) b P
+by_last P None None h e holds = record { reason = refl; next = λ g is. let same : h ≡ g = cc in subst (λ (k : Happened). P k.network) same (holds refl) }
+by_last P (Some a) (Some b) h e holds = record { reason = e; next = λ g is. absurd (cc) }
+by_last P None (Some b) h e holds = absurd (cc)
+by_last P (Some a) None h e holds = absurd (cc)
+
+by_reason : {P : RunningNetwork → Type 0} (a b o : Option Refusal) (x : Result Happened Refusal)
+    → a ≡ b → (b ≡ None → Follows x o P)
+    → Follows (unless_refused a x) (option_or b o) P
+by_reason None None o x e behind = behind refl
+by_reason (Some a) (Some b) o x e behind = record { reason = e; next = λ g is. absurd (cc) }
+by_reason None (Some b) o x e behind = absurd (cc)
+by_reason (Some a) None o x e behind = absurd (cc)
 
 -- ---- a frame comes in
 
@@ -18,7 +45,7 @@ reaches-stands : (N : Network) (first : PortIdentity → ℕ) (r : RunningNetwor
     (f : Frame) (e : End)
     → AreFirsts N first → IsNetwork N → IsReached N w → Stands N first r w → IsFrame N w f
     → HasEnd N e → is_late w f.origin ≡ false
-    → Stands N first (reaches N r (held f) e) (delivered_at N w f e)
+    → Stands N first (reaches N r (held f) e).network (delivered_at N w f e)
 reaches-stands N first r w f (AtPort c port) firsts n reached at i end late =
     subst (λ (x : RunningNetwork). Stands N first x (delivered_at_clock N w c port f)) (sym (turned-seen N r c port f))
     (stands-turned N first r w c port f at end.0 (λ copy is. in_window first N w c port f copy firsts n reached end.0 (heard-frame N w f.octets f.origin i.origin) late is))
@@ -26,70 +53,95 @@ reaches-stands N first r w f (AtSession s) firsts n reached at i end late =
     hears-stands N first r w s f (received_of (r.session s) f.octets) (report_from s (w.session s) f) n reached at end i.origin late
     (ap (λ (v : SessionValue). received_of v f.octets) (sym (at.sessions s end))) refl
 
-reaches_end-stands : (N : Network) (first : PortIdentity → ℕ) (r : RunningNetwork)
-    (w : NetworkState) (k : ℕ) (o : Option Frame)
-    → AreFirsts N first → IsNetwork N → IsReached N w → Stands N first r w → frame_at w.frames k ≡ o
-    → is_late_frame w o ≡ false
-    → Stands N first (reaches_end N r (option_map held o)) (delivered N w o)
-reaches_end-stands N first r w k None firsts n reached at e late = at
-reaches_end-stands N first r w k (Some f) firsts n reached at e late =
-    let i = frame_at-is N w k f reached e in
-    reaches-stands N first r w f f.end firsts n reached at i i.end late
-
 -- ---- any event
 
-begins-stand : (N : Network) (first : PortIdentity → ℕ) (r : RunningNetwork) (w : NetworkState)
-    (s : ℕ) (a : Ask)
-    → IsReached N w → Stands N first r w → s < N.sessions → begin_refused N w s a ≡ None
-    → Stands N first (network_step N r (Begin s a)) (happens N w (Begin s a))
-unfolding network_step happens
-begins-stand N first r w s a reached at place e =
-    let step = reached.sessions s place in
-    let le = le_trans step.accepted_before step.begun_before in
-    session-stands N first r w s (begun (r.session s) (ask.request_of a)) (begun_in (N.session s) (w.session s) (ask.request_of a)) at place
-    (ap (λ (v : SessionValue). begun v (ask.request_of a)) (at.sessions s place) ∙ begun-value (N.session s) (w.session s) (ask.request_of a) le) refl
+module _ (N : Network) (first : PortIdentity → ℕ) (r : RunningNetwork) (w : NetworkState) (n : IsNetwork N) (known : IsReached N w) (at : Stands N first r w) where
+  room : no_room r.frames ≡ no_room w.frames
+  room = ap (λ k. first_of ((nat_lt frames_limit k, FramesAtMaximum) ∷ [])) (ap length at.frames ∙ length-map w.frames held)
 
-strange-stands : (N : Network) (first : PortIdentity → ℕ) (r : RunningNetwork) (w : NetworkState)
-    (c port : ℕ) (datagram : List ℕ)
-    → AreFirsts N first → IsNetwork N → IsReached N w → Stands N first r w
-    → IsInRange (Stranger c port datagram) → no_port N c port ≡ None → forged N datagram ≡ None
-    → Stands N first (network_step N r (Stranger c port datagram))
-    (happens N w (Stranger c port datagram))
-unfolding network_step happens
-strange-stands N first r w c port datagram firsts n reached at octets p e =
-    let honest = (first_of-none (is_forged N datagram) Forged [] e).0 in
-    let place = (port-exists N c port p).0 in
-    stands-turned N first r w c port (strange_frame c port datagram) at place
-    (λ copy is. in_window first N w c port (strange_frame c port datagram) copy firsts n reached place (λ v h. strange-message N datagram v octets honest h) refl is)
+  -- all its reports are of requests that it began
+  told : (s : ℕ) → s < N.sessions → length (w.session s).reports ≤ length (w.session s).begun
+  told s place = le_trans (known.sessions s place).accepted_before (known.sessions s place).begun_before
 
-network_step-stands : (N : Network) (first : PortIdentity → ℕ) (r : RunningNetwork)
-    (w : NetworkState) (e : Event)
-    → AreFirsts N first → IsNetwork N → IsReached N w → Stands N first r w → IsInRange e
-    → refusal N w e ≡ None → is_late_delivery w e ≡ false
-    → Stands N first (network_step N r e) (happens N w e)
-unfolding refusal network_step happens
-network_step-stands N first r w (Begin s a) firsts n reached at i e late =
-    let p = option_or-none (no_session N s) (begin_refused N w s a) e in
-    begins-stand N first r w s a reached at (session-exists N s p.0) p.1
-network_step-stands N first r w (Send s) firsts n reached at i e late = sends-stand N first r w s at (session-exists N s (option_or-none (no_session N s) _ e).0)
-network_step-stands N first r w (Resume s attempts) firsts n reached at i e late =
-    let place = session-exists N s (option_or-none (no_session N s) _ e).0 in
-    session-stands N first r w s (resumed (r.session s) attempts) (record (w.session s) { attempts_left = attempts }) at place
-    (ap (λ (v : SessionValue). resumed v attempts) (at.sessions s place)) refl
-network_step-stands N first r w (Retune s domain) firsts n reached at i e late =
-    let place = session-exists N s e in
-    session-stands N first r w s (retuned (r.session s) domain) (record (w.session s) { domain = domain }) at place
-    (ap (λ (v : SessionValue). retuned v domain) (at.sessions s place)) refl
-network_step-stands N first r w (Deliver k) firsts n reached at i e late =
-    let same : frame_at r.frames k ≡ option_map held (frame_at w.frames k) = ap (λ (hs : List Held). frame_at hs k) at.frames ∙ frame_at-map w.frames k in
-    subst (λ (o : Option Held). Stands N first (reaches_end N r o) (delivered N w (frame_at w.frames k))) (sym same)
-    (reaches_end-stands N first r w k (frame_at w.frames k) firsts n reached at refl late)
-network_step-stands N first r w (Stranger c port datagram) firsts n reached at i e late =
-    let p = option_or-none (no_port N c port) _ e in
-    let q = option_or-none (forged N datagram) (no_room w.frames) p.1 in
-    strange-stands N first r w c port datagram firsts n reached at i p.0 q.0
+  idle : (s : ℕ) → s < N.sessions → not (is_waiting (r.session s)) ≡ is_idle (w.session s)
+  idle s place =
+      ap (λ (v : SessionValue). not (is_waiting v)) (at.sessions s place)
+      ∙ by_test (is_waiting (session_value (N.session s) (w.session s)))
+      (λ y. ap not y ∙ sym (not_idle (N.session s) (w.session s) y))
+      (λ o. ap not o ∙ sym (idle-not_waiting (N.session s) (w.session s) (told s place) o))
+
+  by_session : {P : RunningNetwork → Type 0} (s : ℕ) (a b : Option Refusal) (h : Happened)
+      → (s < N.sessions → a ≡ b) → (s < N.sessions → P h.network)
+      → Follows (unless_refused (no_session N s) (unless_refused a (Ok h))) (option_or (no_session N s) b) P
+  by_session s a b h same holds =
+      by_reason (no_session N s) (no_session N s) b (unless_refused a (Ok h)) refl
+      (λ none. let place = session-exists N s none in by_last _ a b h (same place) (λ fine. holds place))
+
+  delivers-follows : (k : ℕ) (o : Option Frame)
+      → frame_at w.frames k ≡ o
+      → Follows (delivers N r (option_map held o)) (option_or (no_frame o) (no_room w.frames))
+      (λ x. AreFirsts N first → Unit {0} → is_late_frame w o ≡ false → Stands N first x (delivered N w o))
+  delivers-follows k None e = record { reason = refl; next = λ g is. absurd (cc) }
+  delivers-follows k (Some f) e =
+      let i = frame_at-is N w k f known e in
+      by_last _ (no_room r.frames) (no_room w.frames) (reaches N r (held f) f.end) room (λ fine firsts range late. reaches-stands N first r w f f.end firsts n known at i i.end late)
+
+  pub follows : (e : Event)
+      → Follows (network_event N r e) (refusal N w e)
+      (λ x. AreFirsts N first → IsInRange e → is_late_delivery w e ≡ false → Stands N first x (happens N w e))
+  unfolding network_event refusal happens
+  follows (Begin s a) =
+      by_session s _ (begin_refused N w s a) _ (λ place. ap (λ (v : SessionValue). option_map BeginRefused (begin_refusal v a)) (at.sessions s place))
+      (λ place firsts range late. session-stands N first r w s (begun (r.session s) (ask.request_of a)) (begun_in (N.session s) (w.session s) (ask.request_of a)) at place
+      (ap (λ (v : SessionValue). begun v (ask.request_of a)) (at.sessions s place) ∙ begun-value (N.session s) (w.session s) (ask.request_of a) (told s place)) refl)
+  follows (Send s) =
+      by_reason (no_session N s) (no_session N s) _ _ refl
+      (λ none. let place = session-exists N s none in
+      by_reason (no_room r.frames) (no_room w.frames) (send_refused N w s) _ room
+      (λ fine. by_last _ _ (send_refused N w s) _ (ap (λ (v : SessionValue). option_map SendRefused (send_refusal v)) (at.sessions s place))
+      (λ last firsts range late. sends-stand N first r w s at place)))
+  follows (Resume s attempts) =
+      by_session s _ (resume_refused w s) _ (λ place. ap (λ b. first_of ((b, SendRefused sends.Idle) ∷ [])) (idle s place))
+      (λ place firsts range late. session-stands N first r w s (resumed (r.session s) attempts) (record (w.session s) { attempts_left = attempts }) at place
+      (ap (λ (v : SessionValue). resumed v attempts) (at.sessions s place)) refl)
+  follows (Retune s domain) =
+      by_last _ (no_session N s) (no_session N s) _ refl
+      (λ none firsts range late. let place = session-exists N s none in
+      session-stands N first r w s (retuned (r.session s) domain) (record (w.session s) { domain = domain }) at place (ap (λ (v : SessionValue). retuned v domain) (at.sessions s place)) refl)
+  follows (Deliver k) =
+      let same : frame_at r.frames k ≡ option_map held (frame_at w.frames k) = ap (λ (hs : List Held). frame_at hs k) at.frames ∙ frame_at-map w.frames k in
+      subst (λ (o : Option Held). Follows (delivers N r o) (option_or (no_frame (frame_at w.frames k)) (no_room w.frames))
+      (λ x. AreFirsts N first → Unit {0} → is_late_frame w (frame_at w.frames k) ≡ false → Stands N first x (delivered N w (frame_at w.frames k)))) (sym same)
+      (delivers-follows k (frame_at w.frames k) refl)
+  follows (Stranger c port datagram) =
+      by_reason (no_port N c port) (no_port N c port) _ _ refl
+      (λ there. by_reason (forged N datagram) (forged N datagram) (no_room w.frames) _ refl
+      (λ fine. by_last _ (no_room r.frames) (no_room w.frames) _ room
+      (λ last firsts octets late.
+      let honest = (first_of-none (is_forged N datagram) Forged [] fine).0 in
+      let place = (port-exists N c port there).0 in
+      stands-turned N first r w c port (strange_frame c port datagram) at place
+      (λ copy is. in_window first N w c port (strange_frame c port datagram) copy firsts n known place (λ v h. strange-message N datagram v octets honest h) refl is))))
 
 -- ---- a list of events
+
+goes_on-stands : (N : Network) (first : PortIdentity → ℕ) (r : RunningNetwork) (w : NetworkState)
+    (e : Event) (es : List Event) (x : Result Happened Refusal) (o : Option Refusal)
+    → Stands N first r w
+    → Follows x o (λ y. is_late_delivery w e ≡ false → Stands N first y (happens N w e))
+    → refusal N w e ≡ o
+    → AreInTime N w (if is_none o then e ∷ taken N (step N w e) es else [])
+    → ((next : RunningNetwork)
+    → Stands N first next (step N w e)
+    → AreInTime N (step N w e) (taken N (step N w e) es)
+    → Stands N first (network_run N next es) (run N (step N w e) (taken N (step N w e) es)))
+    → Stands N first (goes_on r x (λ next. network_run N next es))
+    (run N w (if is_none o then e ∷ taken N (step N w e) es else []))
+goes_on-stands N first r w e es (Ok h) None at f none time behind =
+    behind h.network (subst (Stands N first h.network) (sym (ap (λ (o : Option Refusal). step_by o N w e) none)) (f.next h refl (time.0 none))) time.1
+goes_on-stands N first r w e es (Err why) (Some reason) at f some time behind = at
+goes_on-stands N first r w e es (Ok h) (Some reason) at f some time behind = let never : None ≡ Some reason = f.reason in absurd (cc)
+goes_on-stands N first r w e es (Err why) None at f none time behind = let never : Some why ≡ None = f.reason in absurd (cc)
 
 pub network_run-stands : (N : Network) (first : PortIdentity → ℕ) (r : RunningNetwork)
     (w : NetworkState) (es : List Event)
@@ -97,34 +149,12 @@ pub network_run-stands : (N : Network) (first : PortIdentity → ℕ) (r : Runni
     → AllByRecursion IsInRange es → AreInTime N w (taken N w es)
     → Stands N first (network_run N r es) (run N w (taken N w es))
 network_run-stands N first r w [] firsts n reached at i time = at
-network_run-stands N first r w (e ∷ es) firsts n reached at i time = by_test (is_none (refusal N w e))
-    (λ y. let none : refusal N w e ≡ None = is_none-none (refusal N w e) y in
-    let next : step N w e ≡ happens N w e = ap (λ (o : Option Refusal). step_by o N w e) none in
-    let goes : taken N w (e ∷ es) ≡ e ∷ taken N (step N w e) es = cond-true _ _ _ y in
-    let timely : AreInTime N w (e ∷ taken N (step N w e) es) = subst (AreInTime N w) goes time in
-    let there : Stands N first (network_step N r e) (step N w e) = subst (Stands N first (network_step N r e)) (sym next) (network_step-stands N first r w e firsts n reached at i.0 none (timely.0 none)) in
-    let runs : network_run N r (e ∷ es) ≡ network_run N (network_step N r e) es = cond-true _ _ _ (ap is_none (network_refusal-as N first r w e reached at) ∙ y) in
-    subst (λ (x : RunningNetwork). Stands N first x (run N w (taken N w (e ∷ es)))) (sym runs)
-    (subst (λ (ts : List Event). Stands N first (network_run N (network_step N r e) es) (run N w ts)) (sym goes)
-    (network_run-stands N first (network_step N r e) (step N w e) es firsts n (step-reached N w e n i.0 reached) there i.1 timely.1)))
-    (λ o. let stops : taken N w (e ∷ es) ≡ [] = cond-false _ _ _ o in
-    let halts : network_run N r (e ∷ es) ≡ r = cond-false _ _ _ (ap is_none (network_refusal-as N first r w e reached at) ∙ o) in
-    subst (λ (x : RunningNetwork). Stands N first x (run N w (taken N w (e ∷ es)))) (sym halts)
-    (subst (λ (ts : List Event). Stands N first r (run N w ts)) (sym stops) at))
+network_run-stands N first r w (e ∷ es) firsts n reached at i time =
+    let f = follows N first r w n reached at e in
+    goes_on-stands N first r w e es (network_event N r e) (refusal N w e) at (record { reason = f.reason; next = λ h is late. f.next h is firsts i.0 late }) refl time
+    (λ next there timely. network_run-stands N first next (step N w e) es firsts n (step-reached N w e n i.0 reached) there i.1 timely)
 
 -- ---- from where a list of events leads
-
-module _ (N : Network) (es : List Event) (first : PortIdentity → ℕ) (r : RunningNetwork) (e : Event) (n : IsNetwork N) (i : AllByRecursion IsInRange es) where
-  pub network_refusal-running : Stands N first r (run N (initial_state N) es)
-      → network_refusal N r e ≡ refusal N (run N (initial_state N) es) e
-  network_refusal-running at = network_refusal-as N first r (run N (initial_state N) es) e (reached N es n i) at
-
-  pub network_step-running : AreFirsts N first
-      → Stands N first r (run N (initial_state N) es) → IsInRange e
-      → refusal N (run N (initial_state N) es) e ≡ None
-      → is_late_delivery (run N (initial_state N) es) e ≡ false
-      → Stands N first (network_step N r e) (happens N (run N (initial_state N) es) e)
-  network_step-running firsts at range none late = network_step-stands N first r (run N (initial_state N) es) e firsts n (reached N es n i) at range none late
 
 pub network_run-running : (N : Network) (past es : List Event) (first : PortIdentity → ℕ)
     (r : RunningNetwork)

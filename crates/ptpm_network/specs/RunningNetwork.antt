@@ -1,11 +1,11 @@
--- A running network: what its clocks and sessions can see, sequenceIds and octets; what an event does to it, and which events
--- it refuses.
-use Rattle.std.specs.Prelude.{ℕ, not, List, [], ◌∷◌, ◌++◌, length, map, Option, Some, None, is_none, option_map, if◌then◌else◌}
-use Rattle.std.specs.Option.{option_or}
+-- A running network: what its clocks and sessions can see, sequenceIds and octets; and what it makes
+-- of an event.
+use Rattle.std.specs.Prelude.{ℕ, not, List, [], ◌∷◌, ◌++◌, length, map, Option, Some, None, option_map, Result, Ok, Err}
 use Rattle.ptpm_codec.specs.declared.message.Message.{Message}
 use Rattle.ptpm_codec.specs.Canonical.{canonical}
 use Rattle.ptpm_codec.specs.Ordered.{first_of}
 use Rattle.ptpm_agent.specs.Laws.{initial_clock_state}
+use Rattle.ptpm_agent.specs.declared.verdict.Verdict.{Verdict}
 use Rattle.ptpm_agent.specs.Once.{copy_of}
 use Rattle.ptpm_agent.specs.Turn.{State, turn}
 use Rattle.ptpm_manager.specs.declared.report.Report.{Report}
@@ -15,7 +15,7 @@ use Rattle.ptpm_manager.specs.declared.receiving.Received.TheVariants as receive
 use Rattle.ptpm_manager.specs.Ask.{request_of}
 use Rattle.ptpm_manager.specs.Receiving.{received_of}
 use Rattle.ptpm_manager.specs.Session.{SessionValue, answered, begin_refusal, begun, due_message, is_waiting, resumed, retuned, send_refusal, sent}
-use Rattle.ptpm_network.specs.Events.{Event, Begin, Send, Resume, Retune, Deliver, Stranger, Refusal, BeginRefused, SendRefused, forged, frame_at, no_frame, no_port, no_room, no_session}
+use Rattle.ptpm_network.specs.Events.{Event, Begin, Send, Resume, Retune, Deliver, Stranger, Refusal, BeginRefused, SendRefused, NoSuchFrame, forged, frame_at, no_port, no_room, no_session}
 use Rattle.ptpm_network.specs.Machine.{answer_origin, delivery, forwarded_frames, reply_frames, strange_frame, with_place}
 use Rattle.ptpm_network.specs.Network.{End, AtPort, AtSession, Network, peers}
 use Rattle.ptpm_network.specs.State.{Frame, Origin, RequestOf, initial_session_state, session_value}
@@ -75,12 +75,13 @@ posted ends octets origin = map (λ end. record { end = end; octets = octets; or
 
 -- ---- sessions
 
-abbrev pub with_session_value : RunningNetwork → ℕ → SessionValue → RunningNetwork
-with_session_value r s value = record r { session = with_place r.session s value }
-
 abbrev pub sent_posted : List End → ℕ → ℕ → Option Message → List Held
 sent_posted ends s k None = []
 sent_posted ends s k (Some v) = posted ends (canonical v) (RequestOf s k)
+
+-- a session is another, and nothing else is
+abbrev pub with_session_value : RunningNetwork → ℕ → SessionValue → RunningNetwork
+with_session_value r s value = record r { session = with_place r.session s value }
 
 -- a session sends its unanswered request, which is the last one begun
 abbrev pub sends_in : Network → RunningNetwork → ℕ → RunningNetwork
@@ -98,47 +99,83 @@ hears r s (received.Answered report) = record r {
 }
 hears r s (received.Ignored reason) = r
 
--- ---- one event
-
-abbrev pub reaches : Network → RunningNetwork → Held → End → RunningNetwork
-reaches N r h (AtPort c port) = after_turn N r c port (seen h)
-reaches N r h (AtSession s) = hears r s (received_of (r.session s) h.octets)
-
-abbrev pub reaches_end : Network → RunningNetwork → Option Held → RunningNetwork
-reaches_end N r None = r
-reaches_end N r (Some h) = reaches N r h h.end
-
-unfoldable pub network_step : Network → RunningNetwork → Event → RunningNetwork
-network_step N r (Begin s a) = with_session_value r s (begun (r.session s) (request_of a))
-network_step N r (Send s) = sends_in N r s
-network_step N r (Resume s attempts) = with_session_value r s (resumed (r.session s) attempts)
-network_step N r (Retune s domain) = with_session_value r s (retuned (r.session s) domain)
-network_step N r (Deliver n) = reaches_end N r (frame_at r.frames n)
-network_step N r (Stranger c port datagram) = after_turn N r c port (strange_frame c port datagram)
-
--- ---- refusals
-
 abbrev pub nothing_to_resume : SessionValue → Option Refusal
 nothing_to_resume s = first_of ((not (is_waiting s), SendRefused sends.Idle) ∷ [])
 
--- the first reason to refuse an event; want of memory is none
-unfoldable pub network_refusal : Network → RunningNetwork → Event → Option Refusal
-network_refusal N r (Begin s a) =
-    option_or (no_session N s) (option_map BeginRefused (begin_refusal (r.session s) a))
-network_refusal N r (Send s) =
-    option_or (no_session N s)
-    (option_or (no_room r.frames) (option_map SendRefused (send_refusal (r.session s))))
-network_refusal N r (Resume s attempts) =
-    option_or (no_session N s) (nothing_to_resume (r.session s))
-network_refusal N r (Retune s domain) = no_session N s
-network_refusal N r (Deliver n) = option_or (no_frame (frame_at r.frames n)) (no_room r.frames)
-network_refusal N r (Stranger c port datagram) =
-    option_or (no_port N c port) (option_or (forged N datagram) (no_room r.frames))
+-- ---- one event
+
+-- what an event does that is not refused: a session did what it was told, or a clock or a session decided this of a datagram
+pub data Deed : Type 0 where
+  Done : Deed
+  Decided : (verdict : Verdict) → Deed
+  Heard : (received : Received) → Deed
+
+-- what it does, and the network after it
+pub record Happened : Type 0 where
+  pub deed : Deed
+  pub network : RunningNetwork
+
+-- it is refused for this reason, or, where there is none, what stands behind says what happens
+abbrev pub unless_refused : Option Refusal → Result Happened Refusal → Result Happened Refusal
+unless_refused None behind = behind
+unless_refused (Some reason) behind = Err reason
+
+-- the network becomes this, and nothing is told
+abbrev pub becomes : RunningNetwork → Result Happened Refusal
+becomes r = Ok (record { deed = Done; network = r })
+
+-- a session becomes another by an act of its own, if it does not refuse
+abbrev pub acts : Network → RunningNetwork → ℕ → Option Refusal → SessionValue → Result Happened Refusal
+acts N r s refused value = unless_refused (no_session N s) (unless_refused refused (becomes (with_session_value r s value)))
+
+-- a clock takes its turn at a frame
+abbrev pub takes_turn : Network → RunningNetwork → ℕ → ℕ → Frame → Happened
+takes_turn N r c ingress f = record {
+  deed = Decided (turn (N.clock c) (r.clock c) ingress f.octets).verdict;
+  network = after_turn N r c ingress f;
+}
+
+-- a frame reaches its end
+abbrev pub reaches : Network → RunningNetwork → Held → End → Happened
+reaches N r h (AtPort c port) = takes_turn N r c port (seen h)
+reaches N r h (AtSession s) = record {
+  deed = Heard (received_of (r.session s) h.octets);
+  network = hears r s (received_of (r.session s) h.octets);
+}
+
+abbrev pub delivers : Network → RunningNetwork → Option Held → Result Happened Refusal
+delivers N r None = Err NoSuchFrame
+delivers N r (Some h) = unless_refused (no_room r.frames) (Ok (reaches N r h h.end))
+
+-- What a running network makes of an event: it happens, or is refused for the first reason that holds. Want of memory is none.
+unfoldable pub network_event : Network → RunningNetwork → Event → Result Happened Refusal
+network_event N r (Begin s a) =
+    acts N r s (option_map BeginRefused (begin_refusal (r.session s) a)) (begun (r.session s) (request_of a))
+network_event N r (Resume s attempts) =
+    acts N r s (nothing_to_resume (r.session s)) (resumed (r.session s) attempts)
+network_event N r (Retune s domain) = acts N r s None (retuned (r.session s) domain)
+network_event N r (Send s) =
+    unless_refused (no_session N s)
+    (unless_refused (no_room r.frames)
+    (unless_refused (option_map SendRefused (send_refusal (r.session s))) (becomes (sends_in N r s))))
+network_event N r (Deliver n) = delivers N r (frame_at r.frames n)
+network_event N r (Stranger c port datagram) =
+    unless_refused (no_port N c port)
+    (unless_refused (forged N datagram)
+    (unless_refused (no_room r.frames) (Ok (takes_turn N r c port (strange_frame c port datagram)))))
+
+-- a refused event changes nothing
+abbrev pub network_after : RunningNetwork → Result Happened Refusal → RunningNetwork
+network_after r (Ok happened) = happened.network
+network_after r (Err reason) = r
 
 -- ---- a list of events
+
+abbrev pub goes_on : RunningNetwork → Result Happened Refusal → (RunningNetwork → RunningNetwork) → RunningNetwork
+goes_on r (Ok happened) others = others happened.network
+goes_on r (Err reason) others = r
 
 -- up to the first that is refused
 abbrev pub network_run : Network → RunningNetwork → List Event → RunningNetwork
 network_run N r [] = r
-network_run N r (e ∷ es) =
-    if is_none (network_refusal N r e) then network_run N (network_step N r e) es else r
+network_run N r (e ∷ es) = goes_on r (network_event N r e) (λ next. network_run N next es)

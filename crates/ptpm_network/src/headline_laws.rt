@@ -1,7 +1,8 @@
 //! The promise of a network, and where a running network stands so that it holds. Each law is the contract of a function that
 //! does nothing, and speaks of the definitions alone.
 
-ghost use Rattle.std.specs.Prelude.{◌≡◌, ◌++◌, ◌∷◌, ◌<◌, [], ℕ, false, List, None, Some};
+ghost use Rattle.std.specs.Prelude.{◌≡◌, ◌++◌, ◌∷◌, ◌<◌, [], ℕ, false, List, None, Ok, Some};
+ghost use Rattle.std.specs.Result.{result_err};
 ghost use Rattle.std.specs.List.{AllByRecursion, Contains};
 ghost use Rattle.ptpm_codec.specs.declared.error.ErrorId.{ErrorId};
 ghost use Rattle.ptpm_data.specs.Reply.{Answer, Refused, ReplyValue};
@@ -10,7 +11,7 @@ ghost use Rattle.ptpm_agent.specs.Once.{Accepted, Delivery, History, RequestCopy
 ghost use Rattle.ptpm_agent.specs.Turn.{Clock};
 ghost use Rattle.ptpm_network.specs.Copies.{IsCopyAt};
 ghost use Rattle.ptpm_network.specs.Events.{Deliver, Event, IsInRange, Refusal, Stranger, refusal};
-ghost use Rattle.ptpm_network.specs.RunningNetwork.{RunningNetwork, initial_network, network_refusal, network_run, network_step};
+ghost use Rattle.ptpm_network.specs.RunningNetwork.{Happened, RunningNetwork, initial_network, network_event, network_run};
 ghost use Rattle.ptpm_network.specs.Headline.{Headline, StandsAfter};
 ghost use Rattle.ptpm_network.specs.Machine.{AreInTime, arrives, happens, is_late_delivery, reply_frames, reply_origin, state_after, step, taken};
 ghost use Rattle.ptpm_network.specs.Network.{IsNetwork, Network, ports};
@@ -31,12 +32,14 @@ pub fn headline()
 /// - after a list of events, up to the first that is refused, if none of these delivers a frame late.
 pub fn stands_after()
     ensures first { (N : Network) → IsNetwork N → StandsAfter N [] (initial_network N) }
-    ensures event { (N : Network) (past : List Event) (r : RunningNetwork) (e : Event) →
+    ensures event { (N : Network) (past : List Event) (r : RunningNetwork) (e : Event)
+        (h : Happened) →
         StandsAfter N past r → IsInRange e →
-        refusal N (state_after N past) e ≡ None → is_late_delivery (state_after N past) e ≡ false →
-        StandsAfter N (past ++ e ∷ []) (network_step N r e) }
+        network_event N r e ≡ Ok h → is_late_delivery (state_after N past) e ≡ false →
+        StandsAfter N (past ++ e ∷ []) h.network }
     ensures refused { (N : Network) (past : List Event) (r : RunningNetwork) (e : Event) →
-        StandsAfter N past r → network_refusal N r e ≡ refusal N (state_after N past) e }
+        StandsAfter N past r →
+        result_err (network_event N r e) ≡ refusal N (state_after N past) e }
     ensures unchanged { (N : Network) (past : List Event) (r : RunningNetwork) (e : Event)
         (reason : Refusal) →
         StandsAfter N past r → IsInRange e → refusal N (state_after N past) e ≡ Some reason →

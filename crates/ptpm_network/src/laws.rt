@@ -1,7 +1,8 @@
 //! What the network promises over every list of events. Each law is the contract of a function that does nothing, and
 //! speaks of the definitions alone.
 
-ghost use Rattle.std.specs.Prelude.{◌≡◌, ◌↔◌, ◌+◌, ◌-◌, ◌++◌, ◌∷◌, ◌<◌, ◌≤◌, ℕ, false, length, List, None, Some};
+ghost use Rattle.std.specs.Prelude.{◌≡◌, ◌↔◌, ◌+◌, ◌-◌, ◌++◌, ◌∷◌, ◌<◌, ◌≤◌, ℕ, false, length, List, None, Ok, Some};
+ghost use Rattle.std.specs.Result.{result_err};
 ghost use Rattle.std.specs.List.{AllByRecursion};
 ghost use Rattle.ptpm_codec.specs.declared.identity.PortIdentity.{PortIdentity};
 ghost use Rattle.ptpm_codec.specs.Layout.{boundary_hops};
@@ -14,7 +15,7 @@ ghost use Rattle.ptpm_manager.specs.declared.receiving.Received.TheVariants as r
 ghost use Rattle.ptpm_manager.specs.declared.report.Report.{Report};
 ghost use Rattle.ptpm_manager.specs.Receiving.{received_of};
 ghost use Rattle.ptpm_network.specs.Events.{Event, IsInRange, frame_at, refusal};
-ghost use Rattle.ptpm_network.specs.RunningNetwork.{RunningNetwork, after_turn, initial_network, network_refusal, network_run, network_step};
+ghost use Rattle.ptpm_network.specs.RunningNetwork.{Happened, RunningNetwork, after_turn, initial_network, network_event, network_run};
 ghost use Rattle.ptpm_network.specs.Invariant.{IsReached};
 ghost use Rattle.ptpm_network.specs.Machine.{AreInTime, answer_messages, delivered_at_clock, delivery, happens, is_late_delivery, report_from, run, state_after, taken};
 ghost use Rattle.ptpm_network.specs.Network.{AtPort, AtSession, IsNetwork, Network, manager, ports};
@@ -189,14 +190,14 @@ pub fn running_networks_stand()
         (r : RunningNetwork) (e : Event) →
         IsNetwork N → AllByRecursion IsInRange es →
         Stands N first r (state_after N es) →
-        network_refusal N r e ≡ refusal N (state_after N es) e }
+        result_err (network_event N r e) ≡ refusal N (state_after N es) e }
     ensures happened { (N : Network) (es : List Event) (first : PortIdentity → ℕ)
-        (r : RunningNetwork) (e : Event) →
+        (r : RunningNetwork) (e : Event) (h : Happened) →
         IsNetwork N → AllByRecursion IsInRange es →
         AreFirsts N first → Stands N first r (state_after N es) →
-        IsInRange e → refusal N (state_after N es) e ≡ None
+        IsInRange e → network_event N r e ≡ Ok h
         → is_late_delivery (state_after N es) e ≡ false →
-        Stands N first (network_step N r e) (happens N (state_after N es) e) }
+        Stands N first h.network (happens N (state_after N es) e) }
     ensures every { (N : Network) (past es : List Event) (first : PortIdentity → ℕ)
         (r : RunningNetwork) →
         IsNetwork N → AllByRecursion IsInRange past →

@@ -1,33 +1,21 @@
 -- What an event did, or why it was refused, and where it led, as its line tells it.
-use Rattle.ptpm_world.proofs.Common.{ne_eqb, true≢false, ◌≡◌, ℕ, false, None, Some, Ok, Err, Result, refl, sym, ap, ◌∙◌, OnErr, Option, option_map, Refusal, RunningNetwork, network_refusal, Network, StepError, Took, World, IsStep, running, ◌==◌, error_of, after, after_by, answer, answer_by, error_text, is_out_of_memory}
+use Rattle.ptpm_world.proofs.Common.{ne_eqb, true≢false, ◌≡◌, ℕ, false, None, Some, Result, refl, sym, ap, ◌∙◌, OnErr, Option, network_event, Network, StepError, Took, World, IsStep, running, ◌==◌, after, answer, error_text, is_out_of_memory}
 use Rattle.ptpm_network.specs.Events.{Event}
+use Rattle.ptpm_world.proofs.Ending.{stays_or_goes}
 use Rattle.std.specs.Int.{to_be_bytes, w16}
 use Rattle.ptpm_codec.specs.declared.error.ErrorId.{ErrorId}
 use Rattle.ptpm_codec.specs.declared.error.ErrorId.TheVariants as errors
 use Rattle.ptpm_codec.specs.Message.{error_name, error_number}
 use Rattle.ptpm_script.specs.OctetText.{text_of_octets}
 
-some_is : (a b : StepError) → Some a ≡ Some b → b ≡ a
-some_is a b h = cc
-
--- a refusal that is there, and its name
-named : (N : Network) (r : RunningNetwork) (e : Event) (why : Option Refusal) (x : StepError)
-    → option_map error_of why ≡ Some x
-    → (Err x ≡ answer_by why N r e) × (r ≡ after_by why N r e)
-named N r e None x h = absurd (cc)
-named N r e (Some y) x h = (ap Err (some_is (error_of y) x h), refl)
-
 pub answered : (N : Network) (old new : World) (e : Event) (result : Result Took StepError)
     → is_out_of_memory result ≡ false
     → IsStep N old new e result
     → OnErr result (running new ≡ running old)
     → (result ≡ answer N (running old) e) × (running new ≡ after N (running old) e)
-answered N old new e (Ok t) memory step same =
-    (ap Ok step.answers ∙ ap (λ w. answer_by w N (running old) e) (sym step.permitted), step.goes ∙ ap (λ w. after_by w N (running old) e) (sym step.permitted))
-answered N old new e (Err x) memory step same =
-    let r = running old in
-    let both = named N r e (network_refusal N r e) x (step.refuses (λ o. true≢false (sym (ap (λ y. is_out_of_memory (Err y)) o) ∙ memory))) in
-    (both.0, same ∙ both.1)
+answered N old new e result memory step same =
+    let told = step.answers (λ o. true≢false (sym (ap is_out_of_memory o) ∙ memory)) in
+    (told, stays_or_goes (running old) (running new) (network_event N (running old) e) result told step.goes same)
 
 -- ---- managementErrorIds
 

@@ -1,5 +1,5 @@
 -- Events at a clock: what the world becomes, and what is answered.
-use Rattle.ptpm_world.proofs.Common.{◌≡◌, ℕ, ◌<◌, ◌≤◌, ◌&&◌, not, List, ◌++◌, Some, None, Ok, Err, true, false, refl, sym, ◌∙◌, ap, subst, length, nat_lt, nat_le, and_from, and_left, and_right, cond-true, cond-false, le-ltb, lt-ltb, slice_get_within, flat_map, map, slice_get, DataSetsValue, has_port, State, Turned, turn, Deliver, Stranger, NoSuchName, NoSuchFrame, Forged, FramesAtMaximum, frames_limit, frame_at, is_forged, no_port, Held, after_turn, held, network_step, reaches, reaches_end, seen, turn_frames, strange_frame, AtPort, Network, origin_by, posted_by, Frame, Origin, Neither, World, RunningClock, held_in, link_ends, IsOf, agent_clock, agent_state, running, state_of, IsStep, took, took_at, took_of, no_frame, network_refusal}
+use Rattle.ptpm_world.proofs.Common.{◌≡◌, ℕ, ◌<◌, ◌≤◌, ◌&&◌, not, List, ◌++◌, Some, None, Ok, Err, true, false, refl, sym, ◌∙◌, ap, subst, length, nat_lt, nat_le, and_from, and_left, and_right, cond-true, cond-false, le-ltb, lt-ltb, slice_get_within, flat_map, map, slice_get, DataSetsValue, has_port, State, Turned, turn, Deliver, Stranger, NoSuchName, NoSuchFrame, Forged, FramesAtMaximum, frames_limit, frame_at, is_forged, no_port, no_room, Held, delivers, held, network_event, reaches, seen, takes_turn, turn_frames, strange_frame, AtPort, Network, origin_by, posted_by, Frame, Origin, Neither, World, RunningClock, held_in, link_ends, IsOf, agent_clock, agent_state, running, state_of, IsStep}
 use Rattle.std.proofs.Math.Nat.{le_refl}
 use Rattle.ptpm_agent.specs.Agent.{IsTurned}
 use Rattle.ptpm_agent.specs.declared.verdict.Verdict.{Verdict}
@@ -9,10 +9,10 @@ use Rattle.ptpm_network.proofs.Posting.{held-turn_frames}
 use Rattle.ptpm_agent.proofs.TurnKeeps.{turn-ports}
 use Rattle.ptpm_world.specs.declared.took.StepError.TheVariants as errors
 use Rattle.ptpm_world.specs.declared.took.Took.TheVariants.{AtClock}
-use Rattle.ptpm_network.specs.Events.{Event}
+use Rattle.ptpm_network.specs.Events.{Event, forged}
 use Rattle.ptpm_world.proofs.Changing.{ClockChange, clock_change-network, clock_change-running}
 use Rattle.ptpm_world.proofs.Ending.{step_fine, step_refused}
-use Rattle.ptpm_world.proofs.Refusing.{after_none, deliver-fine, first_some, full, roomy}
+use Rattle.ptpm_world.proofs.Refusing.{delivered, full, roomy, skips, stops}
 
 -- ---- a turn
 
@@ -48,18 +48,15 @@ module _ (N : Network) (old new : World) (c port : ℕ) (x y : RunningClock) (f 
       ++ flat_map
       (posted_by (link_ends old.links.items) c port f.origin (origin_by verdict f.origin))
       out
-      → after_turn N (running old) c port f ≡ network_step N (running old) e
-      → took_at N (running old) f.octets (AtPort c port) ≡ took N (running old) e
-      → network_refusal N (running old) e ≡ None
+      → network_event N (running old) e ≡ Ok (takes_turn N (running old) c port f)
       → IsStep N old new e (Ok (AtClock verdict))
-  turn-step e sent goes tells permitted =
+  turn-step e sent happens =
       let s : State = (running old).clock c in
-      step_fine N old new e (AtClock verdict)
+      step_fine N old new e (takes_turn N (running old) c port f) (AtClock verdict) happens
       (clock_change-running old new c x y (turn (N.clock c) s port f.octets).next (held_in old.frames ++ map held (turn_frames N s c port f)) change
       (state_after (turn (N.clock c) s port f.octets) verdict out (agent_state y.agent) there)
-      (sent ∙ ap (λ (hs : List Held). held_in old.frames ++ hs) frames_after) ∙ goes)
-      (ap AtClock there.verdict_is ∙ tells) permitted
-      (clock_change-network N old new c x y change is)
+      (sent ∙ ap (λ (hs : List Held). held_in old.frames ++ hs) frames_after))
+      (ap AtClock there.verdict_is) (clock_change-network N old new c x y change is)
 
 -- the clock has as many ports as before
 pub ports_after : (x y : RunningClock) (port : ℕ) (octets : List ℕ) (verdict : Verdict)
@@ -99,28 +96,25 @@ pub deliver_clock-fine : (N : Network) (old new : World) (n c port : ℕ) (x y :
     (posted_by (link_ends old.links.items) c port h.origin (origin_by verdict h.origin))
     out
     → IsStep N old new (Deliver n) (Ok (AtClock verdict))
-unfolding network_step took
 deliver_clock-fine N old new n c port x y h verdict out is change e at room turned sent =
     turn-step N old new c port x y (seen h) verdict out is change turned (Deliver n) sent
-    (sym (ap (reaches_end N (running old)) e ∙ ap (reaches N (running old) h) at))
-    (sym (ap (took_of N (running old)) e ∙ ap (took_at N (running old) h.octets) at))
-    (deliver-fine N (running old) n h e room)
+    (delivered N (running old) n h e room ∙ ap (λ (end : End). Ok (reaches N (running old) h end)) at)
 
 pub deliver-no_frame : (N : Network) (w : World) (n : ℕ)
     → IsOf N w
     → frame_at (held_in w.frames) n ≡ None
     → IsStep N w w (Deliver n) (Err errors.NoSuchFrame)
-unfolding network_refusal
-deliver-no_frame N w n is e = step_refused N w w (Deliver n) NoSuchFrame (first_some _ _ _ (ap no_frame e)) is
+unfolding network_event
+deliver-no_frame N w n is e = step_refused N w w (Deliver n) NoSuchFrame (ap (delivers N (running w)) e) is
 
 pub deliver-too_many : (N : Network) (old new : World) (n : ℕ) (h : Held)
     → IsOf N new
     → frame_at (held_in old.frames) n ≡ Some h
     → nat_lt frames_limit (length (held_in old.frames)) ≡ true
     → IsStep N old new (Deliver n) (Err errors.FramesAtMaximum)
-unfolding network_refusal
+unfolding network_event
 deliver-too_many N old new n h is e over =
-    step_refused N old new (Deliver n) FramesAtMaximum (after_none _ _ (ap no_frame e) ∙ full (held_in old.frames) over) is
+    step_refused N old new (Deliver n) FramesAtMaximum (ap (delivers N (running old)) e ∙ stops (no_room (held_in old.frames)) _ FramesAtMaximum (full (held_in old.frames) over)) is
 
 -- ---- a stranger
 
@@ -160,9 +154,9 @@ pub stranger-no_clock : (N : Network) (w : World) (c port : ℕ) (datagram : Lis
     → IsOf N w
     → c ≡ length w.clocks.items
     → IsStep N w w (Stranger c port datagram) (Err errors.NoSuchName)
-unfolding network_refusal
+unfolding network_event
 stranger-no_clock N w c port datagram is e =
-    step_refused N w w (Stranger c port datagram) NoSuchName (first_some _ _ _ (clock_lacking N w c port is e)) is
+    step_refused N w w (Stranger c port datagram) NoSuchName (stops (no_port N c port) _ NoSuchName (clock_lacking N w c port is e)) is
 
 pub stranger-turned : (N : Network) (old new : World) (c port : ℕ) (x y : RunningClock)
     (datagram : List ℕ) (verdict : Verdict) (out : List (ℕ × List ℕ))
@@ -179,31 +173,33 @@ pub stranger-turned : (N : Network) (old new : World) (c port : ℕ) (x y : Runn
     (posted_by (link_ends old.links.items) c port Neither (origin_by verdict Neither))
     out
     → IsStep N old new (Stranger c port datagram) (Ok (AtClock verdict))
-unfolding network_step network_refusal took
+unfolding network_event
 stranger-turned N old new c port x y datagram verdict out is change has honest room turned sent =
-    turn-step N old new c port x y (strange_frame c port datagram) verdict out is change turned (Stranger c port datagram) sent refl refl
-    (after_none _ _ (port_there N old c port x is change.at has) ∙ after_none _ _ (cond-false _ _ _ honest) ∙ roomy (held_in old.frames) room)
+    turn-step N old new c port x y (strange_frame c port datagram) verdict out is change turned (Stranger c port datagram) sent
+    (skips (no_port N c port) _ _ (port_there N old c port x is change.at has)
+    (skips (forged N datagram) _ _ (cond-false _ _ _ honest) (skips (no_room (held_in old.frames)) _ _ (roomy (held_in old.frames) room) refl)))
 
 module _ (N : Network) (old new : World) (c port : ℕ) (x : RunningClock) (datagram : List ℕ) (is : IsOf N old) (is_new : IsOf N new) (at : slice_get old.clocks.items c ≡ Some x) where
   pub stranger-no_port : has_port port x.agent.sets ≡ false
       → IsStep N old new (Stranger c port datagram) (Err errors.NoSuchName)
-  unfolding network_refusal
+  unfolding network_event
   stranger-no_port lacks =
-      step_refused N old new (Stranger c port datagram) NoSuchName (first_some _ _ _ (port_lacking N old c port x is at lacks)) is_new
+      step_refused N old new (Stranger c port datagram) NoSuchName (stops (no_port N c port) _ NoSuchName (port_lacking N old c port x is at lacks)) is_new
 
   pub stranger-forges : has_port port x.agent.sets ≡ true
       → is_forged N datagram ≡ true
       → IsStep N old new (Stranger c port datagram) (Err errors.Forged)
-  unfolding network_refusal
-  stranger-forges has forged =
+  unfolding network_event
+  stranger-forges has lies =
       step_refused N old new (Stranger c port datagram) Forged
-      (after_none _ _ (port_there N old c port x is at has) ∙ first_some _ _ _ (cond-true _ _ _ forged)) is_new
+      (skips (no_port N c port) _ _ (port_there N old c port x is at has) (stops (forged N datagram) _ Forged (cond-true _ _ _ lies))) is_new
 
   pub stranger-too_many : has_port port x.agent.sets ≡ true
       → is_forged N datagram ≡ false
       → nat_lt frames_limit (length (held_in old.frames)) ≡ true
       → IsStep N old new (Stranger c port datagram) (Err errors.FramesAtMaximum)
-  unfolding network_refusal
+  unfolding network_event
   stranger-too_many has honest over =
       step_refused N old new (Stranger c port datagram) FramesAtMaximum
-      (after_none _ _ (port_there N old c port x is at has) ∙ after_none _ _ (cond-false _ _ _ honest) ∙ full (held_in old.frames) over) is_new
+      (skips (no_port N c port) _ _ (port_there N old c port x is at has)
+      (skips (forged N datagram) _ _ (cond-false _ _ _ honest) (stops (no_room (held_in old.frames)) _ FramesAtMaximum (full (held_in old.frames) over)))) is_new

@@ -1,5 +1,5 @@
 -- The names that most proofs of this crate cite, passed on from one place. Declares nothing.
-pub use Rattle.std.proofs.Common.{◌≡◌, ◌≢◌, ℕ, false, None, Some, Ok, Err, Result, refl, sym, ap, ◌∙◌, IfErr, IfOk, OnErr, OnOk, Option, option_map, ◌==◌, ◌+◌, ◌++◌, ◌⊎◌, inl, inr, true, List, [], ◌∷◌, subst, append_assoc, IsErrAnd, length, length-set, map, ◌<◌, ◌≤◌, ◌&&◌, not, nat_lt, nat_le, suc, zero, arith, Bool, ◌||◌, if◌then◌else◌, ⊎_elim, All, drop, take, is_some, length-append, append-nil, is_none, cond, get_or, rules, ◌-◌, set, IsSomeAnd, add-one}
+pub use Rattle.std.proofs.Common.{◌≡◌, ◌≢◌, ℕ, false, None, Some, Ok, Err, Result, refl, sym, ap, ◌∙◌, IfErr, IfOk, IsOkAnd, OnErr, OnOk, Option, option_map, ◌==◌, ◌+◌, ◌++◌, ◌⊎◌, inl, inr, true, List, [], ◌∷◌, subst, append_assoc, IsErrAnd, length, length-set, map, ◌<◌, ◌≤◌, ◌&&◌, not, nat_lt, nat_le, suc, zero, arith, Bool, ◌||◌, if◌then◌else◌, ⊎_elim, All, drop, take, is_some, length-append, append-nil, is_none, cond, get_or, rules, ◌-◌, set, IsSomeAnd, add-one}
 pub use Rattle.std.proofs.KnownBytes.{Appends-nil, Appends-trans, Consumes-kept, Consumes-nil}
 pub use Rattle.std.proofs.lemmas.Bool.{ne_eqb, true≢false, and_from, and_left, and_right, cond-true, cond-false, le-ltb, lt-ltb, and_parts, eqb-true, eq-eqb, or_cases, or_left, or_right, cases_Bool, eqb-false, false≢true, cases_lt}
 pub use Rattle.std.proofs.lemmas.List.{length-map, length-take, drop-append-le, drop_at, length-drop, map-append, take-append-drop, take-append-le, take_all, take_more, flat_map_more, get_or_past, length_push}
@@ -9,6 +9,7 @@ pub use Rattle.std.specs.Io.KnownBytes.{Appends, Consumes, IsAtEnd, Keeps}
 pub use Rattle.std.specs.List.{AllByRecursion, filter, onto_first, list_any, range_with_len, slice_split, enumerate_from, position_or_len, prefix_len}
 pub use Rattle.std.specs.Option.{option_or, option_copied}
 pub use Rattle.std.specs.Prelude.{IfSome, slice_get, slice_set, flat_map, slice_index_or, OnSome, zip, find, IfNone, Contains, IsSome, bytes_eq, ◌↔◌, position, is_ok, vec_len, vec_capacity, string_bytes}
+pub use Rattle.std.specs.Result.{result_err}
 pub use Rattle.std.specs.Str.Lines.{lines, lines_of_parts, strip_carriage_return}
 pub use Rattle.ptpm_codec.specs.Identity.{every_clock, identity_cmp, same_clock, same_identity}
 pub use Rattle.ptpm_codec.specs.declared.identity.PortIdentity.{PortIdentity}
@@ -29,8 +30,8 @@ pub use Rattle.ptpm_network.specs.Headline.{StandsAfter}
 pub use Rattle.ptpm_network.specs.Machine.{AreInTime, is_late_delivery, is_late_frame, run, step, strange_frame, taken, with_place}
 pub use Rattle.ptpm_network.specs.Network.{AtPort, AtSession, HasEnd, IsClock, IsNetwork, IsSession, Network, manager, peers, ports, same_end}
 pub use Rattle.ptpm_network.specs.Replying.{origin_by, posted_by}
-pub use Rattle.ptpm_network.specs.RunningNetwork.{Held, RunningNetwork, after_turn, hears, held, network_run, posted, reaches, reaches_end, seen, sent_posted, turn_frames}
-unfoldable pub use Rattle.ptpm_network.specs.RunningNetwork.{network_refusal, network_step}
+pub use Rattle.ptpm_network.specs.RunningNetwork.{Deed, Done, Happened, Held, RunningNetwork, acts, after_turn, delivers, hears, held, network_after, posted, reaches, seen, sends_in, sent_posted, takes_turn, turn_frames, unless_refused, with_session_value}
+unfoldable pub use Rattle.ptpm_network.specs.RunningNetwork.{network_event}
 pub use Rattle.ptpm_network.specs.Stands.{Stands}
 pub use Rattle.ptpm_network.specs.State.{Frame, Neither, NetworkState, Origin, ReplyTo, RequestOf, history, initial_state, is_late, is_late_at}
 pub use Rattle.ptpm_script.specs.EventLine.{reading, verb_of}
@@ -48,11 +49,10 @@ pub use Rattle.ptpm_world.specs.Running.{IsClockOf, IsOf, agent_clock, agent_sta
 pub use Rattle.ptpm_world.specs.Script.{HasPlayed, HasPrinted, HasStopped, Played, Prints, StandsFor, TakesFirst, begins_comment, behind, closed, closing, ends, event_of, from_file, in_network, is_divider, is_skipped, network_text, played, played_by, read_as, scripted, scripted_from, started, started_session, unless_fault}
 pub use Rattle.ptpm_world.specs.ScriptError.{HasNextFault, ReadsWhole, is_outside, line_fault, next_fault, size_fault, text_fault}
 pub use Rattle.ptpm_world.specs.Starting.{AreStartedClocks, AreStartedSessions, IsStartedClock, IsStartedSession}
-pub use Rattle.ptpm_world.specs.Stepping.{AllHappen, IsStep}
+pub use Rattle.ptpm_world.specs.Stepping.{IsStep, Leads}
 pub use Rattle.ptpm_world.specs.Stored.{IsShort, IsWithin, at_end, is_same, others}
-pub use Rattle.ptpm_world.specs.Took.{begin_error, error_of, heard, reports_in, took_at, took_of}
-unfoldable pub use Rattle.ptpm_world.specs.Took.{took}
-pub use Rattle.ptpm_world.specs.Trace.{after, after_by, answer, answer_by, clock_lines, data_lines, event_line, is_out_of_memory, line_feed, report_lines, session_lines}
+pub use Rattle.ptpm_world.specs.Took.{after, answer, answer_of, begin_error, error_of, heard, reports_in, took_of}
+pub use Rattle.ptpm_world.specs.Trace.{clock_lines, data_lines, event_line, is_out_of_memory, line_feed, report_lines, session_lines}
 unfoldable pub use Rattle.ptpm_world.specs.Trace.{error_text, event_text, port_line, report_line}
 pub use Rattle.ptpm_world.specs.declared.frames.Frames.{Frames}
 pub use Rattle.ptpm_world.specs.declared.frames.Stored.{Stored}

@@ -1,26 +1,30 @@
 -- How a step ends: the event happened, was refused, or memory was.
-use Rattle.ptpm_world.proofs.Common.{ℕ, IsErrAnd, ◌≡◌, Some, None, Ok, Err, Result, refl, sym, subst, ap, option_map, Refusal, network_refusal, network_step, Network, StepError, Took, World, IsOf, running, IsStep, error_of, took}
+use Rattle.ptpm_world.proofs.Common.{IsErrAnd, IsOkAnd, ◌≡◌, ℕ, Some, None, Ok, Err, OnErr, OnOk, Option, Result, refl, sym, ◌∙◌, subst, ap, option_map, result_err, Refusal, Happened, RunningNetwork, network_after, network_event, Network, StepError, Took, World, IsOf, running, IsStep, answer_of, error_of, took_of}
 use Rattle.ptpm_network.specs.Events.{Event}
 use Rattle.ptpm_world.specs.declared.took.StepError.TheVariants as errors
 
-pub step_fine : (N : Network) (old new : World) (e : Event) (t : Took)
-    → running new ≡ network_step N (running old) e
-    → t ≡ took N (running old) e
-    → network_refusal N (running old) e ≡ None
+pub step_fine : (N : Network) (old new : World) (e : Event) (h : Happened) (t : Took)
+    → network_event N (running old) e ≡ Ok h
+    → running new ≡ h.network
+    → t ≡ took_of h.deed
     → IsOf N new
     → IsStep N old new e (Ok t)
-step_fine N old new e t goes answers permitted network = record { goes = goes; answers = answers; permitted = permitted; refuses = tt; network = network }
+step_fine N old new e h t is goes told network = record {
+  answers = λ other. ap Ok told ∙ sym (ap answer_of is);
+  goes = goes ∙ sym (ap (network_after (running old)) is);
+  network = network;
+}
 
 pub step_refused : (N : Network) (old new : World) (e : Event) (why : Refusal)
-    → network_refusal N (running old) e ≡ Some why
+    → network_event N (running old) e ≡ Err why
     → IsOf N new
     → IsStep N old new e (Err (error_of why))
-step_refused N old new e why refuses network = record { goes = tt; answers = tt; permitted = tt; refuses = λ other. ap (option_map error_of) refuses; network = network }
+step_refused N old new e why is network = record { answers = λ other. sym (ap answer_of is); goes = tt; network = network }
 
 pub step_memory : (N : Network) (old new : World) (e : Event)
     → IsOf N new
     → IsStep N old new e (Err errors.OutOfMemory)
-step_memory N old new e network = record { goes = tt; answers = tt; permitted = tt; refuses = λ other. absurd (other refl); network = network }
+step_memory N old new e network = record { answers = λ other. absurd (other refl); goes = tt; network = network }
 
 -- the same event, said otherwise
 pub step_at : (N : Network) (old new : World) (e f : Event) (result : Result Took StepError)
@@ -45,3 +49,42 @@ pub step_error : (N : Network) (old new : World) (e : Event) (why : StepError)
     → IsStep N old new e result
 step_error N old new e why (Ok t) is_error step = absurd is_error
 step_error N old new e why (Err x) is_error step = subst (λ (f : StepError). IsStep N old new e (Err f)) (sym is_error) step
+
+-- ---- what a step tells of its event
+
+-- it happened, and led there
+went_by : (r new : RunningNetwork) (x : Result Happened Refusal) (t : Took)
+    → Ok t ≡ answer_of x
+    → new ≡ network_after r x
+    → IsOkAnd x (λ h. new ≡ h.network)
+went_by r new (Ok h) t told goes = goes
+went_by r new (Err why) t told goes = absurd (cc)
+
+fine_is : {T E : Type 0} (t : T) (x : E) → ◌≡◌ {A = Result T E} (Ok t) (Err x) → ⊥
+fine_is t x e = cc
+
+pub err_is : {T : Type 0} (a b : StepError) → ◌≡◌ {A = Result T StepError} (Err a) (Err b) → a ≡ b
+err_is a b e = cc
+
+pub step-went : (N : Network) (old new : World) (e : Event) (t : Took)
+    → IsStep N old new e (Ok t)
+    → IsOkAnd (network_event N (running old) e) (λ h. running new ≡ h.network)
+step-went N old new e t step =
+    went_by (running old) (running new) (network_event N (running old) e) t (step.answers (fine_is t errors.OutOfMemory)) step.goes
+
+-- it is refused for this reason
+pub refused_by : (x : Result Happened Refusal) (why : StepError)
+    → Err why ≡ answer_of x
+    → option_map error_of (result_err x) ≡ Some why
+refused_by (Ok h) why e = absurd (cc)
+refused_by (Err reason) why e = let same : why ≡ error_of reason = cc in ap Some (sym same)
+
+-- where a step is told whole: a refused one stays
+pub stays_or_goes : (r new : RunningNetwork) (x : Result Happened Refusal) (result : Result Took StepError)
+    → result ≡ answer_of x
+    → OnOk result (new ≡ network_after r x)
+    → OnErr result (new ≡ r)
+    → new ≡ network_after r x
+stays_or_goes r new x (Ok t) told goes stays = goes
+stays_or_goes r new (Err why) (Err error) told goes stays = stays
+stays_or_goes r new (Ok h) (Err error) told goes stays = absurd (cc)

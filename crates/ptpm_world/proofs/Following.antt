@@ -1,11 +1,31 @@
 -- From where a list of events led, a world goes on as the machine does.
-use Rattle.ptpm_world.proofs.Common.{◌≡◌, Result, Ok, Err, List, [], ◌∷◌, ◌++◌, Option, Some, None, false, refl, sym, ◌∙◌, ap, subst, cond-true, cond-false, append-nil, append_assoc, is_none, option_map, IsInRange, Refusal, refusal, StandsAfter, AreInTime, is_late_delivery, run, step, taken, Network, RunningNetwork, NetworkState, initial_state, StepError, Took, World, running, IsStep, error_of}
+use Rattle.ptpm_world.proofs.Common.{◌≡◌, IsOkAnd, result_err, Happened, network_event, Result, Ok, Err, List, [], ◌∷◌, ◌++◌, Option, Some, None, false, refl, sym, ◌∙◌, ap, subst, cond-true, cond-false, append-nil, append_assoc, is_none, option_map, IsInRange, Refusal, refusal, StandsAfter, AreInTime, is_late_delivery, run, step, taken, Network, RunningNetwork, NetworkState, initial_state, StepError, Took, World, running, IsStep, error_of}
 use Rattle.ptpm_network.specs.Events.{Event}
-use Rattle.ptpm_network.proofs.Promise.{stands-network_step, stands-judged}
+use Rattle.ptpm_network.proofs.Promise.{stands-event, stands-judged}
 use Rattle.ptpm_network.proofs.Taking.{in_time-parts, run-append, taken-append}
 use Rattle.ptpm_world.specs.Stepping.{IsMachineStep}
+use Rattle.ptpm_world.specs.declared.took.StepError.TheVariants as errors
+use Rattle.ptpm_world.proofs.Ending.{err_is, refused_by, step-went}
 
 -- ---- a step
+
+went-none : (x : Result Happened Refusal) (P : Happened → Type 0)
+    → IsOkAnd x P
+    → result_err x ≡ None
+went-none (Ok h) P went = refl
+went-none (Err why) P went = absurd went
+
+stands-went : (N : Network) (past : List Event) (r new : RunningNetwork) (e : Event)
+    (x : Result Happened Refusal)
+    → network_event N r e ≡ x
+    → IsOkAnd x (λ h. new ≡ h.network)
+    → StandsAfter N past r
+    → IsInRange e
+    → is_late_delivery (run N (initial_state N) past) e ≡ false
+    → StandsAfter N (past ++ e ∷ []) new
+stands-went N past r new e (Ok h) is went at range prompt =
+    subst (λ (s : RunningNetwork). StandsAfter N (past ++ e ∷ []) s) (sym went) (stands-event N past r e h at range is prompt)
+stands-went N past r new e (Err why) is went at range prompt = absurd went
 
 pub step-machine : (N : Network) (past : List Event) (old new : World) (e : Event)
     (result : Result Took StepError)
@@ -14,17 +34,18 @@ pub step-machine : (N : Network) (past : List Event) (old new : World) (e : Even
     → IsInRange e
     → IsMachineStep N past new e result
 step-machine N past old new e (Ok t) step at range =
-    let none : refusal N (run N (initial_state N) past) e ≡ None = sym (stands-judged N past (running old) e at) ∙ step.permitted in
+    let went = step-went N old new e t step in
     record {
-      stands = λ prompt.
-          subst (λ (r : RunningNetwork). StandsAfter N (past ++ e ∷ []) r) (sym step.goes) (stands-network_step N past (running old) e at range none prompt);
-      taken = none;
+      stands = λ prompt. stands-went N past (running old) (running new) e (network_event N (running old) e) refl went at range prompt;
+      taken = sym (stands-judged N past (running old) e at) ∙ went-none (network_event N (running old) e) (λ h. running new ≡ h.network) went;
       reason = tt;
     }
 step-machine N past old new e (Err why) step at range = record {
   stands = λ prompt. tt;
   taken = tt;
-  reason = λ other. ap (option_map error_of) (sym (stands-judged N past (running old) e at)) ∙ step.refuses other;
+  reason = λ other.
+      ap (option_map error_of) (sym (stands-judged N past (running old) e at))
+      ∙ refused_by (network_event N (running old) e) why (step.answers (λ o. other (err_is why errors.OutOfMemory o)));
 }
 
 -- ---- what was carried out so far

@@ -1,5 +1,5 @@
 -- The reasons to refuse an event, one by one, and the first of them.
-use Rattle.ptpm_world.proofs.Common.{◌≡◌, ℕ, ◌<◌, ◌≤◌, not, List, Option, Some, None, true, false, ◌∙◌, ap, nat_lt, length, cond-true, cond-false, lt-ltb, le-ltb, option_or, Deliver, NoSuchName, FramesAtMaximum, frame_at, frames_limit, no_frame, no_room, Held, RunningNetwork, network_refusal, Network}
+use Rattle.ptpm_world.proofs.Common.{◌≡◌, ℕ, ◌<◌, ◌≤◌, not, List, Option, Some, None, Result, Ok, Err, refl, true, false, ◌∙◌, ap, nat_lt, length, cond-true, cond-false, lt-ltb, le-ltb, Deliver, NoSuchName, FramesAtMaximum, Refusal, frame_at, frames_limit, no_room, Happened, Held, RunningNetwork, delivers, network_event, reaches, unless_refused, Network}
 use Rattle.ptpm_network.specs.Events.{no_session}
 
 pub absent : (N : Network) (s : ℕ) → N.sessions ≤ s → no_session N s ≡ Some NoSuchName
@@ -18,15 +18,18 @@ pub roomy : (frames : List Held)
     → no_room frames ≡ None
 roomy frames h = cond-false _ _ _ h
 
-pub after_none : {A : Type 0} (a b : Option A) → a ≡ None → option_or a b ≡ b
-after_none a b e = ap (λ o. option_or o b) e
+-- a reason that does not hold, and one that does
+pub skips : (a : Option Refusal) (x y : Result Happened Refusal) → a ≡ None → x ≡ y → unless_refused a x ≡ y
+skips a x y e behind = ap (λ o. unless_refused o x) e ∙ behind
 
-pub first_some : {A : Type 0} (a b : Option A) (x : A) → a ≡ Some x → option_or a b ≡ Some x
-first_some a b x e = ap (λ o. option_or o b) e
+pub stops : (a : Option Refusal) (x : Result Happened Refusal) (why : Refusal)
+    → a ≡ Some why
+    → unless_refused a x ≡ Err why
+stops a x why e = ap (λ o. unless_refused o x) e
 
-pub deliver-fine : (N : Network) (r : RunningNetwork) (n : ℕ) (h : Held)
+pub delivered : (N : Network) (r : RunningNetwork) (n : ℕ) (h : Held)
     → frame_at r.frames n ≡ Some h
     → nat_lt frames_limit (length r.frames) ≡ false
-    → network_refusal N r (Deliver n) ≡ None
-unfolding network_refusal
-deliver-fine N r n h e room = after_none _ _ (ap no_frame e) ∙ roomy r.frames room
+    → network_event N r (Deliver n) ≡ Ok (reaches N r h h.end)
+unfolding network_event
+delivered N r n h e room = ap (delivers N r) e ∙ skips (no_room r.frames) _ _ (roomy r.frames room) refl

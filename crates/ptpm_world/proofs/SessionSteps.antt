@@ -1,5 +1,5 @@
 -- Events at a session: what the world becomes, and what is answered.
-use Rattle.ptpm_world.proofs.Common.{◌≡◌, ℕ, ◌<◌, ◌≤◌, List, [], ◌∷◌, ◌++◌, Option, Some, None, Result, Ok, Err, OnOk, OnErr, IfOk, IfErr, is_some, not, if◌then◌else◌, true, false, refl, sym, ◌∙◌, ap, subst, option_map, length, nat_lt, slice_get_within, append-nil, slice_get, slice_set, Report, SessionValue, begin_refusal, begun, due_message, is_waiting, resumed, retuned, send_refusal, Begin, Send, Resume, Retune, Deliver, NoSuchName, FramesAtMaximum, BeginRefused, SendRefused, frame_at, frames_limit, Held, hears, network_step, posted, reaches, reaches_end, sent_posted, AtSession, Network, peers, Origin, RequestOf, StepError, Took, World, RunningSession, held_in, link_ends, IsOf, reports_of, running, session_of, IsStep, begin_error, heard, reports_in, took, took_at, took_of, cond-true, cond-false, network_refusal}
+use Rattle.ptpm_world.proofs.Common.{◌≡◌, ℕ, ◌<◌, ◌≤◌, List, [], ◌∷◌, ◌++◌, Option, Some, None, Result, Ok, Err, OnOk, OnErr, IfOk, IfErr, is_some, not, if◌then◌else◌, true, false, refl, sym, ◌∙◌, ap, subst, option_map, length, nat_lt, slice_get_within, append-nil, slice_get, slice_set, Report, SessionValue, begin_refusal, begun, due_message, is_waiting, resumed, retuned, send_refusal, Begin, Send, Resume, Retune, Deliver, NoSuchName, FramesAtMaximum, BeginRefused, SendRefused, Refusal, frame_at, frames_limit, no_room, Done, Happened, Held, acts, hears, network_event, posted, reaches, sends_in, sent_posted, unless_refused, with_session_value, AtSession, Network, peers, Origin, RequestOf, StepError, Took, World, RunningSession, held_in, link_ends, IsOf, reports_of, running, session_of, IsStep, begin_error, error_of, heard, reports_in, cond-true, cond-false}
 use Rattle.std.proofs.Math.Nat.{le_refl}
 use Rattle.ptpm_codec.specs.declared.message.Message.{Message}
 use Rattle.ptpm_codec.specs.Canonical.{canonical}
@@ -17,35 +17,38 @@ use Rattle.ptpm_manager.specs.Session.{sent}
 use Rattle.ptpm_manager.specs.Setup.{request_message}
 use Rattle.ptpm_network.specs.Events.{Event, no_session}
 use Rattle.ptpm_network.specs.Network.{End}
-use Rattle.ptpm_network.specs.RunningNetwork.{with_session_value}
+use Rattle.ptpm_network.specs.RunningNetwork.{nothing_to_resume}
 use Rattle.ptpm_world.specs.declared.took.StepError.TheVariants as errors
 use Rattle.ptpm_world.specs.declared.took.Took.TheVariants.{Fine}
 use Rattle.ptpm_world.proofs.Changing.{SessionChange, running_by, session_change-network, session_change-none, session_change-quiet, session_change-running}
-use Rattle.ptpm_world.proofs.Refusing.{absent, after_none, deliver-fine, first_some, full, present, roomy}
+use Rattle.ptpm_world.proofs.Refusing.{absent, delivered, full, present, roomy, skips, stops}
 use Rattle.ptpm_world.proofs.Places.{read-kept}
 use Rattle.ptpm_world.proofs.Ending.{step_fine, step_memory, step_refused}
 
 -- ---- a name that no session has
 
 module _ (N : Network) (w : World) (s : ℕ) (is : IsOf N w) (past : s ≡ length w.sessions.items) where
-  no_name : no_session N s ≡ Some NoSuchName
-  no_name = absent N s (subst (λ n. n ≤ s) (past ∙ is.session_count) (le_refl s))
+  no_name : (e : Event) (x : Result Happened Refusal)
+      → network_event N (running w) e ≡ unless_refused (no_session N s) x
+      → IsStep N w w e (Err errors.NoSuchName)
+  no_name e x at =
+      step_refused N w w e NoSuchName (at ∙ stops (no_session N s) x NoSuchName (absent N s (subst (λ n. n ≤ s) (past ∙ is.session_count) (le_refl s)))) is
 
   pub begin-no_name : (a : Ask) → IsStep N w w (Begin s a) (Err errors.NoSuchName)
-  unfolding network_refusal
-  begin-no_name a = step_refused N w w (Begin s a) NoSuchName (first_some _ _ _ no_name) is
+  unfolding network_event
+  begin-no_name a = no_name (Begin s a) _ refl
 
   pub send-no_name : IsStep N w w (Send s) (Err errors.NoSuchName)
-  unfolding network_refusal
-  send-no_name = step_refused N w w (Send s) NoSuchName (first_some _ _ _ no_name) is
+  unfolding network_event
+  send-no_name = no_name (Send s) _ refl
 
   pub resume-no_name : (attempts : ℕ) → IsStep N w w (Resume s attempts) (Err errors.NoSuchName)
-  unfolding network_refusal
-  resume-no_name attempts = step_refused N w w (Resume s attempts) NoSuchName (first_some _ _ _ no_name) is
+  unfolding network_event
+  resume-no_name attempts = no_name (Resume s attempts) _ refl
 
   pub retune-no_name : (domain : ℕ) → IsStep N w w (Retune s domain) (Err errors.NoSuchName)
-  unfolding network_refusal
-  retune-no_name domain = step_refused N w w (Retune s domain) NoSuchName no_name is
+  unfolding network_event
+  retune-no_name domain = no_name (Retune s domain) _ refl
 
 -- ---- a session that is there, and what it becomes
 
@@ -59,29 +62,30 @@ module _ (N : Network) (old new : World) (place : ℕ) (x y : RunningSession) (i
   changed : IsOf N new
   changed = session_change-network N old new place x y c is
 
-  -- an event that makes the session another, and does nothing else
-  step_quiet : (e : Event) (change : SessionValue → SessionValue)
-      → with_session_value (running old) place (change ((running old).session place))
-      ≡ network_step N (running old) e
-      → Fine ≡ took N (running old) e
-      → network_refusal N (running old) e ≡ None
+  -- ---- begin, resume and retune: the session becomes another, and nothing else happens
+
+  acts-fine : (e : Event) (why : SessionValue → Option Refusal) (change : SessionValue → SessionValue)
+      → network_event N (running old) e
+      ≡ acts N (running old) place (why ((running old).session place)) (change ((running old).session place))
+      → why x.session ≡ None
       → y.session ≡ change x.session
       → y.reports.items ≡ x.reports.items
       → held_in new.frames ≡ held_in old.frames
       → IsStep N old new e (Ok Fine)
-  step_quiet e change goes answers permitted v r f =
-      step_fine N old new e Fine
-      (session_change-quiet old new place x y (change ((running old).session place)) (held_in old.frames) c (v ∙ ap change (sym session_is)) r f ∙ goes)
-      answers permitted changed
+  acts-fine e why change at none v r f =
+      let value : SessionValue = change ((running old).session place) in
+      step_fine N old new e (record { deed = Done; network = with_session_value (running old) place value }) Fine
+      (at ∙ skips (no_session N place) _ _ there (skips (why ((running old).session place)) _ _ (ap why session_is ∙ none) refl))
+      (session_change-quiet old new place x y value (held_in old.frames) c (v ∙ ap change (sym session_is)) r f) refl changed
 
-  -- ---- begin
-
-  begin-judged : (a : Ask) (o : Option BeginError)
-      → begin_refusal x.session a ≡ o
-      → network_refusal N (running old) (Begin place a) ≡ option_map BeginRefused o
-  unfolding network_refusal
-  begin-judged a o e =
-      after_none _ _ there ∙ ap (λ (z : SessionValue). option_map BeginRefused (begin_refusal z a)) session_is ∙ ap (option_map BeginRefused) e
+  acts-refused : (e : Event) (why : SessionValue → Option Refusal) (value : SessionValue) (reason : Refusal)
+      → network_event N (running old) e
+      ≡ acts N (running old) place (why ((running old).session place)) value
+      → why x.session ≡ Some reason
+      → IsStep N old new e (Err (error_of reason))
+  acts-refused e why value reason at some =
+      step_refused N old new e reason
+      (at ∙ skips (no_session N place) _ _ there (stops (why ((running old).session place)) _ reason (ap why session_is ∙ some))) changed
 
   pub begin-fine : (a : Ask)
       → begin_refusal x.session a ≡ None
@@ -89,17 +93,18 @@ module _ (N : Network) (old new : World) (place : ℕ) (x y : RunningSession) (i
       → y.reports.items ≡ x.reports.items
       → held_in new.frames ≡ held_in old.frames
       → IsStep N old new (Begin place a) (Ok Fine)
-  unfolding network_step took
-  begin-fine a none = step_quiet (Begin place a) (λ z. begun z (request_of a)) refl refl (begin-judged a None none)
+  unfolding network_event
+  begin-fine a none =
+      acts-fine (Begin place a) (λ z. option_map BeginRefused (begin_refusal z a)) (λ z. begun z (request_of a)) refl (ap (option_map BeginRefused) none)
 
   -- by the session's error, which is want of memory or why it refuses
   pub begin-error : (a : Ask) (e : BeginError)
       → ((e ≡ begins.OutOfMemory → ⊥) → begin_refusal x.session a ≡ Some e)
       → IsStep N old new (Begin place a) (Err (begin_error e))
+  unfolding network_event
   begin-error a begins.OutOfMemory h = step_memory N old new (Begin place a) changed
-  begin-error a e h = step_refused N old new (Begin place a) (BeginRefused e) (begin-judged a (Some e) (h (λ q. absurd (cc)))) changed
-
-  -- ---- resume and retune
+  begin-error a e h =
+      acts-refused (Begin place a) (λ z. option_map BeginRefused (begin_refusal z a)) _ (BeginRefused e) refl (ap (option_map BeginRefused) (h (λ q. absurd (cc))))
 
   pub resume-fine : (attempts : ℕ)
       → is_waiting x.session ≡ true
@@ -107,43 +112,46 @@ module _ (N : Network) (old new : World) (place : ℕ) (x y : RunningSession) (i
       → y.reports.items ≡ x.reports.items
       → held_in new.frames ≡ held_in old.frames
       → IsStep N old new (Resume place attempts) (Ok Fine)
-  unfolding network_step took network_refusal
+  unfolding network_event
   resume-fine attempts waiting =
-      step_quiet (Resume place attempts) (λ z. resumed z attempts) refl refl (after_none _ _ there ∙ cond-false _ _ _ (ap not (ap is_waiting session_is ∙ waiting)))
+      acts-fine (Resume place attempts) nothing_to_resume (λ z. resumed z attempts) refl (cond-false _ _ _ (ap not waiting))
 
   pub resume-refused : (attempts : ℕ) (e : SendError)
       → (e ≡ sends.Idle) × (is_waiting x.session ≡ false)
       → IsStep N old new (Resume place attempts) (Err (errors.Send e))
-  unfolding network_refusal
+  unfolding network_event
   resume-refused attempts e why =
       subst (λ (o : SendError). IsStep N old new (Resume place attempts) (Err (errors.Send o))) (sym why.0)
-      (step_refused N old new (Resume place attempts) (SendRefused sends.Idle)
-      (after_none _ _ there ∙ cond-true _ _ _ (ap not (ap is_waiting session_is ∙ why.1))) changed)
+      (acts-refused (Resume place attempts) nothing_to_resume _ (SendRefused sends.Idle) refl (cond-true _ _ _ (ap not why.1)))
 
   pub retune-fine : (domain : ℕ)
       → y.session ≡ retuned x.session domain
       → y.reports.items ≡ x.reports.items
       → held_in new.frames ≡ held_in old.frames
       → IsStep N old new (Retune place domain) (Ok Fine)
-  unfolding network_step took network_refusal
-  retune-fine domain = step_quiet (Retune place domain) (λ z. retuned z domain) refl refl there
+  unfolding network_event
+  retune-fine domain = acts-fine (Retune place domain) (λ z. None) (λ z. retuned z domain) refl refl
 
   -- ---- send
 
-  send-judged : (o : Option SendError)
+  -- it is sent, or why not
+  send-judged : (o : Option SendError) (z : Result Happened Refusal)
       → nat_lt frames_limit (length (held_in old.frames)) ≡ false
       → send_refusal x.session ≡ o
-      → network_refusal N (running old) (Send place) ≡ option_map SendRefused o
-  unfolding network_refusal
-  send-judged o room e =
-      after_none _ _ there ∙ after_none _ _ (roomy (held_in old.frames) room)
-      ∙ ap (λ (z : SessionValue). option_map SendRefused (send_refusal z)) session_is ∙ ap (option_map SendRefused) e
+      → unless_refused (option_map SendRefused o) (Ok (record { deed = Done; network = sends_in N (running old) place })) ≡ z
+      → network_event N (running old) (Send place) ≡ z
+  unfolding network_event
+  send-judged o z room e last =
+      skips (no_session N place) _ _ there
+      (skips (no_room (held_in old.frames)) _ _ (roomy (held_in old.frames) room)
+      (ap (λ (p : Option SendError). unless_refused (option_map SendRefused p) (Ok (record { deed = Done; network = sends_in N (running old) place })))
+      (ap send_refusal session_is ∙ e) ∙ last))
 
   pub send-refused : (e : SendError)
       → nat_lt frames_limit (length (held_in old.frames)) ≡ false
       → send_refusal x.session ≡ Some e
       → IsStep N old new (Send place) (Err (errors.Send e))
-  send-refused e room some = step_refused N old new (Send place) (SendRefused e) (send-judged (Some e) room some) changed
+  send-refused e room some = step_refused N old new (Send place) (SendRefused e) (send-judged (Some e) _ room some refl) changed
 
   sends-frames : (issued : ℕ) (octets : List ℕ) (v : Message)
       → x.session.issued ≡ issued
@@ -174,11 +182,10 @@ module _ (N : Network) (old new : World) (place : ℕ) (x y : RunningSession) (i
       ++ posted (peers (link_ends old.links.items) (AtSession place)) octets
       (RequestOf place issued)
       → IsStep N old new (Send place) (Ok Fine)
-  unfolding network_step took
   send-fine issued octets v room none count due same value r f =
-      step_fine N old new (Send place) Fine
+      step_fine N old new (Send place) (record { deed = Done; network = sends_in N (running old) place }) Fine (send-judged None _ room none refl)
       (session_change-quiet old new place x y (sent ((running old).session place)) _ c (value ∙ ap sent (sym session_is)) r (f ∙ sends-frames issued octets v count due same))
-      refl (send-judged None room none) changed
+      refl changed
 
   -- ---- a frame comes in
 
@@ -202,14 +209,11 @@ module _ (N : Network) (old new : World) (place : ℕ) (x y : RunningSession) (i
       → held_in new.frames ≡ held_in old.frames
       → t ≡ heard (received_of x.session h.octets)
       → IsStep N old new (Deliver n) (Ok t)
-  unfolding network_step took
   hear-fine n h t e at room v r f told =
       let same : received_of x.session h.octets ≡ received_of ((running old).session place) h.octets = ap (λ (z : SessionValue). received_of z h.octets) (sym session_is) in
-      step_fine N old new (Deliver n) t
-      (hear-goes (received_of x.session h.octets) v r f ∙ ap (hears (running old) place) same
-      ∙ sym (ap (reaches_end N (running old)) e ∙ ap (reaches N (running old) h) at))
-      (told ∙ ap heard same ∙ sym (ap (took_of N (running old)) e ∙ ap (took_at N (running old) h.octets) at))
-      (deliver-fine N (running old) n h e room) changed
+      step_fine N old new (Deliver n) (reaches N (running old) h (AtSession place)) t
+      (delivered N (running old) n h e room ∙ ap (λ (end : End). Ok (reaches N (running old) h end)) at)
+      (hear-goes (received_of x.session h.octets) v r f ∙ ap (hears (running old) place) same) (told ∙ ap heard same) changed
 
   -- by what the session answers
   pub hear-step : (n : ℕ) (h : Held) (result : Result Took StepError)
@@ -234,10 +238,10 @@ pub send-too_many : (N : Network) (old new : World) (place : ℕ)
     → place < length old.sessions.items
     → nat_lt frames_limit (length (held_in old.frames)) ≡ true
     → IsStep N old new (Send place) (Err errors.FramesAtMaximum)
-unfolding network_refusal
+unfolding network_event
 send-too_many N old new place is is_new within over =
     step_refused N old new (Send place) FramesAtMaximum
-    (after_none _ _ (present N place (subst (λ n. place < n) is.session_count within)) ∙ first_some _ _ _ (full (held_in old.frames) over)) is_new
+    (skips (no_session N place) _ _ (present N place (subst (λ n. place < n) is.session_count within)) (stops (no_room (held_in old.frames)) _ FramesAtMaximum (full (held_in old.frames) over))) is_new
 
 -- a session that may send has a request
 unanswered-by : (u : Option RequestValue) (more : Option SendError)

@@ -20,7 +20,8 @@ use Rattle.ptpm_world.specs.Lines.{whole_lines}
 use Rattle.ptpm_world.specs.Placed.{Names, names_of, placed}
 use Rattle.ptpm_world.specs.Running.{no_session}
 use Rattle.ptpm_world.specs.ScriptError.{is_outside, line_fault}
-use Rattle.ptpm_world.specs.Trace.{after, data_lines, event_line, line_feed, report_lines}
+use Rattle.ptpm_world.specs.Took.{after}
+use Rattle.ptpm_world.specs.Trace.{data_lines, event_line, line_feed, report_lines}
 
 -- ---- the network file
 

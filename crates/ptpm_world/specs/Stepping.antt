@@ -1,10 +1,10 @@
 -- What a step owes at an event, and a run at a list of them.
-use Rattle.std.specs.Prelude.{◌≡◌, ◌≢◌, ℕ, Err, IfErr, IfOk, List, [], ◌∷◌, ◌++◌, None, Ok, OnOk, Result, Some, false, map, option_map, slice_get, take}
+use Rattle.std.specs.Prelude.{◌≡◌, ◌≢◌, ℕ, Err, IfErr, IsOkAnd, List, [], ◌∷◌, ◌++◌, None, Ok, OnOk, Result, Some, false, map, option_map, slice_get, take}
 use Rattle.ptpm_network.specs.Events as machine
 use Rattle.ptpm_network.specs.Events.{refusal}
 use Rattle.ptpm_network.specs.Headline.{Headline, StandsAfter}
 use Rattle.ptpm_network.specs.Machine.{is_late_delivery, state_after, taken}
-use Rattle.ptpm_network.specs.RunningNetwork.{RunningNetwork, network_refusal, network_run, network_step}
+use Rattle.ptpm_network.specs.RunningNetwork.{RunningNetwork, network_event}
 use Rattle.ptpm_network.specs.Network.{Network}
 use Rattle.ptpm_script.specs.declared.event.Event.{Event}
 use Rattle.ptpm_world.specs.declared.took.StepError.{StepError}
@@ -13,18 +13,14 @@ use Rattle.ptpm_world.specs.declared.took.Took.{Took}
 use Rattle.ptpm_world.specs.declared.world.World.{World}
 use Rattle.ptpm_world.specs.Placed.{names_in, placed}
 use Rattle.ptpm_world.specs.Running.{IsOf, running}
-use Rattle.ptpm_world.specs.Took.{error_of, took}
+use Rattle.ptpm_world.specs.Took.{after, answer, error_of}
 
 -- ---- an event
 
--- the world went where the event leads, and answers what it did; or the event is refused for its first reason, or for want of memory
+-- The world answers what the event did and went where it leads, or answers why it is refused; or memory was refused.
 pub record IsStep (N : Network) (old new : World) (e : machine.Event) (result : Result Took StepError) : Type 0 where
-  pub goes : OnOk result (running new ≡ network_step N (running old) e)
-  pub answers : IfOk result (λ t. t ≡ took N (running old) e)
-  pub permitted : OnOk result (network_refusal N (running old) e ≡ None)
-  pub refuses : IfErr result
-      (λ x.
-      x ≢ errors.OutOfMemory → option_map error_of (network_refusal N (running old) e) ≡ Some x)
+  pub answers : result ≢ Err errors.OutOfMemory → result ≡ answer N (running old) e
+  pub goes : OnOk result (running new ≡ after N (running old) e)
   pub network : IsOf N new
 
 -- after events of which none was a late delivery: it stands where the machine does, and refuses what that refuses
@@ -38,10 +34,10 @@ pub record IsMachineStep (N : Network) (past : List machine.Event) (new : World)
 
 -- ---- a list of events
 
--- every event of a list happens: none is refused in its turn
-abbrev pub AllHappen : Network → RunningNetwork → List machine.Event → Type 0
-AllHappen N r [] = Unit {0}
-AllHappen N r (e ∷ es) = (network_refusal N r e ≡ None) × AllHappen N (network_step N r e) es
+-- these events lead from one network to another, and none of them is refused in its turn
+abbrev pub Leads : Network → RunningNetwork → List machine.Event → RunningNetwork → Type 0
+Leads N r [] new = new ≡ r
+Leads N r (e ∷ es) new = IsOkAnd (network_event N r e) (λ h. Leads N h.network es new)
 
 -- the elements of a list of events that a run carries out: all of them, or those before the one where it stops
 abbrev pub events_carried_out : {A B E : Type 0} → Result A (ℕ × B) → List E → List E
@@ -55,15 +51,13 @@ carried_out w result events = map (placed (names_in w)) (events_carried_out resu
 -- the world went where these lead, all of which happen; the event where it stops is refused for its first reason, or for want of memory
 pub record IsRun {A : Type 0} (N : Network) (old new : World) (events : List Event)
     (result : Result A (ℕ × StepError)) : Type 0 where
-  pub goes : running new ≡ network_run N (running old) (carried_out old result events)
-  pub happened : AllHappen N (running old) (carried_out old result events)
+  pub goes : Leads N (running old) (carried_out old result events) (running new)
   pub refuses : IfErr result
       (λ e.
       e.1 ≢ errors.OutOfMemory
       → (event : Event)
       → slice_get events e.0 ≡ Some event
-      → option_map error_of (network_refusal N (running new) (placed (names_in old) event))
-      ≡ Some e.1)
+      → answer N (running new) (placed (names_in old) event) ≡ Err e.1)
   pub network : IsOf N new
 
 -- After events of which none was a late delivery, and where none of these is one: the headline holds; they are the events that the

@@ -1,16 +1,14 @@
 -- What a step answers.
-use Rattle.std.specs.Prelude.{ℕ, List, [], ◌∷◌, Option, Some, None}
-use Rattle.ptpm_agent.specs.Turn.{turn}
+use Rattle.std.specs.Prelude.{List, [], ◌∷◌, Result, Ok, Err}
 use Rattle.ptpm_manager.specs.declared.error.BeginError.{BeginError}
 use Rattle.ptpm_manager.specs.declared.error.BeginError.TheVariants as begins
 use Rattle.ptpm_manager.specs.declared.receiving.Received.{Received}
 use Rattle.ptpm_manager.specs.declared.receiving.Received.TheVariants as received
 use Rattle.ptpm_manager.specs.declared.report.Report.{Report}
-use Rattle.ptpm_manager.specs.Receiving.{received_of}
-use Rattle.ptpm_network.specs.Events.{Event, Begin, Send, Resume, Retune, Deliver, Stranger, Refusal, frame_at}
+use Rattle.ptpm_network.specs.Events.{Event, Refusal}
 use Rattle.ptpm_network.specs.Events as refusals
-use Rattle.ptpm_network.specs.Network.{End, AtPort, AtSession, Network}
-use Rattle.ptpm_network.specs.RunningNetwork.{Held, RunningNetwork}
+use Rattle.ptpm_network.specs.Network.{Network}
+use Rattle.ptpm_network.specs.RunningNetwork.{Decided, Deed, Done, Happened, Heard, RunningNetwork, network_after, network_event}
 use Rattle.ptpm_world.specs.declared.took.StepError.{StepError}
 use Rattle.ptpm_world.specs.declared.took.StepError.TheVariants as errors
 use Rattle.ptpm_world.specs.declared.took.Took.{Took}
@@ -39,20 +37,20 @@ abbrev pub reports_in : Received → List Report
 reports_in (received.Answered report) = report ∷ []
 reports_in (received.Ignored reason) = []
 
--- a clock answers the verdict of its turn
-abbrev pub took_at : Network → RunningNetwork → List ℕ → End → Took
-took_at N r octets (AtPort c port) = AtClock (turn (N.clock c) (r.clock c) port octets).verdict
-took_at N r octets (AtSession s) = heard (received_of (r.session s) octets)
+-- what a step answers of what an event did
+abbrev pub took_of : Deed → Took
+took_of Done = Fine
+took_of (Decided verdict) = AtClock verdict
+took_of (Heard got) = heard got
 
-abbrev pub took_of : Network → RunningNetwork → Option Held → Took
-took_of N r None = Fine
-took_of N r (Some h) = took_at N r h.octets h.end
+abbrev pub answer_of : Result Happened Refusal → Result Took StepError
+answer_of (Ok happened) = Ok (took_of happened.deed)
+answer_of (Err reason) = Err (error_of reason)
 
--- what an event that is not refused answers
-unfoldable pub took : Network → RunningNetwork → Event → Took
-took N r (Begin s ask) = Fine
-took N r (Send s) = Fine
-took N r (Resume s attempts) = Fine
-took N r (Retune s domain) = Fine
-took N r (Deliver n) = took_of N r (frame_at r.frames n)
-took N r (Stranger c port datagram) = took_at N r datagram (AtPort c port)
+-- what it did, or why it is refused
+abbrev pub answer : Network → RunningNetwork → Event → Result Took StepError
+answer N r e = answer_of (network_event N r e)
+
+-- the network after it: a refused event changes nothing
+abbrev pub after : Network → RunningNetwork → Event → RunningNetwork
+after N r e = network_after r (network_event N r e)

@@ -1,6 +1,6 @@
 -- What a script prints (this project's profile): a line for each event, and at the end each session's reports and each clock's
 -- data sets, by names, in the file's order.
-use Rattle.std.specs.Prelude.{ℕ, ◌+◌, nat_lt, Bool, true, false, List, [], ◌∷◌, ◌++◌, codes, decimal, flat_map, length, Option, Some, None, Result, Ok, Err, if◌then◌else◌, ◌==◌}
+use Rattle.std.specs.Prelude.{ℕ, ◌+◌, nat_lt, Bool, true, false, List, [], ◌∷◌, ◌++◌, codes, decimal, flat_map, length, Result, Ok, Err, if◌then◌else◌, ◌==◌}
 use Rattle.std.specs.List.{enumerate_from, range_with_len}
 use Rattle.std.specs.Int.{to_be_bytes, w16}
 use Rattle.ptpm_codec.specs.declared.error.ErrorId.TheVariants as named
@@ -11,8 +11,8 @@ use Rattle.ptpm_manager.specs.declared.report.Outcome.{Outcome}
 use Rattle.ptpm_manager.specs.declared.report.Outcome.TheVariants as outcomes
 use Rattle.ptpm_manager.specs.declared.report.Report.{Report}
 use Rattle.ptpm_network.specs.Events as machine
-use Rattle.ptpm_network.specs.Events.{Refusal, frame_at}
-use Rattle.ptpm_network.specs.RunningNetwork.{RunningNetwork, network_refusal, network_step}
+use Rattle.ptpm_network.specs.Events.{frame_at}
+use Rattle.ptpm_network.specs.RunningNetwork.{RunningNetwork}
 use Rattle.ptpm_network.specs.Network.{Network}
 use Rattle.ptpm_script.specs.declared.event.Event.{Event}
 use Rattle.ptpm_script.specs.EventLine.{verb_of}
@@ -22,7 +22,7 @@ use Rattle.ptpm_world.specs.declared.took.StepError.TheVariants as errors
 use Rattle.ptpm_world.specs.declared.took.Took.{Took}
 use Rattle.ptpm_world.specs.Placed.{Names, placed}
 use Rattle.ptpm_world.specs.Running.{is_late_held}
-use Rattle.ptpm_world.specs.Took.{error_of, took}
+use Rattle.ptpm_world.specs.Took.{after, answer}
 use Rattle.ptpm_world.specs.TookText.{step_error_text, took_text}
 
 abbrev pub line_feed : List ℕ
@@ -47,30 +47,10 @@ event_text number verb answer late before after =
 
 -- ---- what an event does, by its place in the run
 
-abbrev pub answer_by : Option Refusal
-    → Network
-    → RunningNetwork
-    → machine.Event
-    → Result Took StepError
-answer_by None N r e = Ok (took N r e)
-answer_by (Some refusal) N r e = Err (error_of refusal)
-
--- what it did, or why it is refused
-abbrev pub answer : Network → RunningNetwork → machine.Event → Result Took StepError
-answer N r e = answer_by (network_refusal N r e) N r e
-
-abbrev pub after_by : Option Refusal → Network → RunningNetwork → machine.Event → RunningNetwork
-after_by None N r e = network_step N r e
-after_by (Some refusal) N r e = r
-
 -- want of memory is no refusal, and ends a script
 abbrev pub is_out_of_memory : Result Took StepError → Bool
 is_out_of_memory (Err errors.OutOfMemory) = true
 is_out_of_memory _ = false
-
--- a refused event changes nothing
-abbrev pub after : Network → RunningNetwork → machine.Event → RunningNetwork
-after N r e = after_by (network_refusal N r e) N r e
 
 abbrev pub is_late_event : RunningNetwork → machine.Event → Bool
 is_late_event r (machine.Deliver n) = is_late_held r (frame_at r.frames n)

@@ -14,7 +14,8 @@ ghost use Rattle.ptpm_world.specs.Placed.{names_in, placed};
 ghost use Rattle.ptpm_world.specs.Running.{IsOf, running};
 ghost use Rattle.ptpm_world.specs.Script.{HasPlayed, HasPrinted, Played, Prints, StandsFor, ends, from_file, in_network, is_divider, is_skipped, network_text, played, read_as, scripted_from};
 ghost use Rattle.ptpm_world.specs.ScriptError.{is_outside};
-ghost use Rattle.ptpm_world.specs.Trace.{after, event_line, line_feed};
+ghost use Rattle.ptpm_world.specs.Took.{after};
+ghost use Rattle.ptpm_world.specs.Trace.{event_line, line_feed};
 
 use crate::lines::Lines;
 use crate::script_error::ScriptError;

@@ -9,7 +9,8 @@ ghost use Rattle.ptpm_world.specs.Placed.{names_in, placed};
 ghost use Rattle.ptpm_world.specs.Running.{IsOf, running};
 ghost use Rattle.ptpm_world.specs.declared.script_error.ScriptError.TheVariants as faults;
 ghost use Rattle.ptpm_world.specs.ScriptError.{is_outside};
-ghost use Rattle.ptpm_world.specs.Trace.{after, answer_text, clock_lines, data_line, data_lines, data_set_lines, event_line, event_text, frames_text, is_late_event, is_out_of_memory, outcome_text, port_line, report_line, report_lines};
+ghost use Rattle.ptpm_world.specs.Took.{after};
+ghost use Rattle.ptpm_world.specs.Trace.{answer_text, clock_lines, data_line, data_lines, data_set_lines, event_line, event_text, frames_text, is_late_event, is_out_of_memory, outcome_text, port_line, report_line, report_lines};
 
 use crate::script_error::ScriptError;
 use crate::took::{StepError, Took};

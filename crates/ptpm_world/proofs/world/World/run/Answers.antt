@@ -1,10 +1,12 @@
-use Rattle.ptpm_world.proofs.Common.{◌≡◌, ◌++◌, ◌<◌, ◌∙◌, ap, arith, length, map, option_map, refl, subst, sym, take, take_all, same_Some, slice_get_read, slice_get, Some, List, refusal, RunningNetwork, network_refusal, network_run, StandsAfter, AreInTime, run, taken, Network, initial_state, Names, names_in, placed, IsOf, running, AllHappen, error_of}
+use Rattle.ptpm_world.proofs.Common.{◌≡◌, ◌++◌, ◌<◌, ◌∙◌, ap, arith, length, map, option_map, refl, subst, sym, take, take_all, same_Some, slice_get_read, slice_get, Some, List, refusal, RunningNetwork, StandsAfter, AreInTime, run, taken, Network, initial_state, Names, names_in, placed, IsOf, running, Leads, answer, error_of}
 use Rattle.ptpm_network.specs.Events as machine
 use Rattle.ptpm_network.proofs.Promise.{stands-headline}
 use Rattle.ptpm_script.specs.declared.event.Event.{Event}
+use Rattle.ptpm_world.specs.declared.took.StepError.TheVariants as errors
+use Rattle.ptpm_world.proofs.Ending.{err_is, step-went}
 use Rattle.ptpm_world.proofs.Following.{HasGoneOn, gone_on-more, gone_on-none, taken-stops}
 use Rattle.ptpm_world.proofs.Places.{map_more, map_split}
-use Rattle.ptpm_world.proofs.Scheduling.{schedule-more}
+use Rattle.ptpm_world.proofs.Scheduling.{leads-more}
 use Rattle.ptpm_world.proofs.world.World.run.Goals as goal
 use Rattle.ptpm_world.proofs.world.World.run.Goals.{In-Err}
 
@@ -21,13 +23,12 @@ returns-in-Err-clause-run c = λ N is.
     let h = c.loop-place.invariant in
     let step = c.in-Err.ensures.step N (h.network N is) in
     record {
-      goes = c.in-Err.ensures.unchanged ∙ h.ran N is;
-      happened = h.happened N is;
+      goes = subst (Leads N (running c.args.self.now) (map (placed (names_in c.args.self.now)) (take c.loop-place.place c.args.events.now))) (sym c.in-Err.ensures.unchanged) (h.leads N is);
       refuses = λ other event at.
-          ap (λ (r : RunningNetwork). option_map error_of (network_refusal N r (placed (names_in c.args.self.now) event))) c.in-Err.ensures.unchanged
-          ∙ ap (λ (e : Event). option_map error_of (network_refusal N (running now) (placed (names_in c.args.self.now) e))) (sym (stops_at (goal.at.returns-in-Err-clause-run c).In-Err event at))
-          ∙ ap (λ (n : Names). option_map error_of (network_refusal N (running now) (placed n c.index-events-place.result))) (sym h.names)
-          ∙ step.refuses other;
+          ap (λ (r : RunningNetwork). answer N r (placed (names_in c.args.self.now) event)) c.in-Err.ensures.unchanged
+          ∙ ap (λ (e : Event). answer N (running now) (placed (names_in c.args.self.now) e)) (sym (stops_at (goal.at.returns-in-Err-clause-run c).In-Err event at))
+          ∙ ap (λ (n : Names). answer N (running now) (placed n c.index-events-place.result)) (sym h.names)
+          ∙ sym (step.answers (λ o. other (err_is _ errors.OutOfMemory o)));
       network = step.network;
     }
 
@@ -57,9 +58,8 @@ pub loop-place-init : goal.loop-place-init
 loop-place-init c = record {
   names = refl;
   network = λ N is. is;
-  ran = λ N is. refl;
+  leads = λ N is. refl;
   stands = λ N past is at time. gone_on-none N past (running c.args.self.now) at;
-  happened = λ N is. tt;
 }
 
 pub loop-place-preserved : goal.loop-place-preserved
@@ -71,10 +71,6 @@ loop-place-preserved c =
     let events = map (placed first) (take c.loop-place.place c.args.events.now) in
     let within : c.loop-place.place < length c.args.events.now = omega arith in
     let more = map_more (placed first) c.args.events.now c.loop-place.place item within c.index-events-place.is in
-    let both = λ (N : Network) (is : IsOf N c.args.self.now).
-    let step = c.in_default.ensures.step N (h.network N is) in
-    schedule-more N (running c.args.self.now) (running now) (running c.step.new.self) events (placed first item) (placed (names_in now) item)
-    (h.happened N is) (h.ran N is) (ap (λ (n : Names). placed n item) h.names) step.permitted step.goes in
     record {
       names = c.in_default.ensures.names ∙ h.names;
       network = λ N is. (c.in_default.ensures.step N (h.network N is)).network;
@@ -85,8 +81,11 @@ loop-place-preserved c =
           (h.stands N past is at)
           (λ gone so_far. (c.in_default.ensures.machine N gone (h.network N is) so_far).taken)
           (λ gone so_far prompt. (c.in_default.ensures.machine N gone (h.network N is) so_far).stands prompt));
-      ran = λ N is. (both N is).0 ∙ ap (network_run N (running c.args.self.now)) (sym more);
-      happened = λ N is. subst (AllHappen N (running c.args.self.now)) (sym more) (both N is).1;
+      leads = λ N is.
+          subst (λ (es : List machine.Event). Leads N (running c.args.self.now) es (running c.step.new.self)) (sym more)
+          (leads-more N (running c.args.self.now) (running now) (running c.step.new.self) events (placed first item) (placed (names_in now) item)
+          (h.leads N is) (ap (λ (n : Names). placed n item) h.names)
+          (step-went N now c.step.new.self (placed (names_in now) item) _ (c.in_default.ensures.step N (h.network N is))));
     }
 
 pub returns-clause-run : goal.returns-clause-run
@@ -95,8 +94,7 @@ returns-clause-run c = λ N is.
     let h = c.loop-place.invariant in
     let whole = take_all c.loop-place.place c.args.events.now (omega arith) in
     record {
-      goes = h.ran N is ∙ ap (λ (es : List Event). network_run N (running c.args.self.now) (map (placed first) es)) whole;
-      happened = subst (λ (es : List Event). AllHappen N (running c.args.self.now) (map (placed first) es)) whole (h.happened N is);
+      goes = subst (λ (es : List Event). Leads N (running c.args.self.now) (map (placed first) es) (running c.loop-place.self)) whole (h.leads N is);
       refuses = tt;
       network = h.network N is;
     }

@@ -1,4 +1,4 @@
-use Rattle.ptpm_world.proofs.Common.{◌≡◌, List, map, take, network_run, StandsAfter, AreInTime, run, Network, initial_state, names_in, placed, IsOf, running, AllHappen}
+use Rattle.ptpm_world.proofs.Common.{◌≡◌, List, map, take, StandsAfter, AreInTime, run, Network, initial_state, names_in, placed, IsOf, running, Leads}
 use Rattle.ptpm_network.specs.Events as machine
 use Rattle.ptpm_world.proofs.Following.{HasGoneOn}
 use Rattle.ptpm_world.proofs.world.World.run.Given as goal
@@ -8,11 +8,10 @@ abbrev pub invariant-loop-place : goal.invariant-loop-place
 invariant-loop-place l = record {
   names : names_in l.self ≡ names_in l.fn.self;
   network : (N : Network) → IsOf N l.fn.self → IsOf N l.self;
-  ran : (N : Network)
+  leads : (N : Network)
       → IsOf N l.fn.self
-      → running l.self
-      ≡ network_run N (running l.fn.self)
-      (map (placed (names_in l.fn.self)) (take l.place l.events));
+      → Leads N (running l.fn.self) (map (placed (names_in l.fn.self)) (take l.place l.events))
+      (running l.self);
   stands : (N : Network) (past : List machine.Event)
       → IsOf N l.fn.self
       → StandsAfter N past (running l.fn.self)
@@ -20,7 +19,4 @@ invariant-loop-place l = record {
       (map (placed (names_in l.fn.self)) (take l.place l.events))
       → HasGoneOn N past (map (placed (names_in l.fn.self)) (take l.place l.events))
       (running l.self);
-  happened : (N : Network)
-      → IsOf N l.fn.self
-      → AllHappen N (running l.fn.self) (map (placed (names_in l.fn.self)) (take l.place l.events));
 }
