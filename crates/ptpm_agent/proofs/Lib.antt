@@ -10,3 +10,4 @@ pub mod Refused
 pub mod Lists
 pub mod TurnKeeps
 pub mod SentReplies
+pub mod CarriedOut

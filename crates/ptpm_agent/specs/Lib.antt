@@ -1,6 +1,7 @@
 pub mod Addressing
 pub mod Forwarding
 pub mod Turn
+pub mod CarriedOut
 pub mod Once
 pub mod Window
 pub mod Laws

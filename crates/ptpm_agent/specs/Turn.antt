@@ -3,12 +3,14 @@
 use Rattle.std.specs.Prelude.{ℕ, ◌==◌, ◌&&◌, ◌||◌, not, Bool, true, false, if◌then◌else◌, List, [], ◌++◌, Option, Some, None, Result, Ok, Err}
 use Rattle.std.specs.FinMap.{get, insert}
 use Rattle.ptpm_codec.specs.declared.error.DecodeError.{DecodeError}
+use Rattle.ptpm_codec.specs.declared.identity.PortIdentity.{PortIdentity}
 use Rattle.ptpm_codec.specs.declared.message.Message.{Message}
 use Rattle.ptpm_codec.specs.Reading.{reading}
 use Rattle.ptpm_data.specs.Changes.{changed_by}
 use Rattle.ptpm_data.specs.Members.{DataSetsValue}
 use Rattle.ptpm_data.specs.Replies.{reply_to, read_reply_to}
 use Rattle.ptpm_data.specs.Reply.{ReplyValue}
+use Rattle.ptpm_data.specs.Request.{RequestValue}
 use Rattle.ptpm_table.specs.declared.heard.Heard.{Heard}
 use Rattle.ptpm_table.specs.declared.reply_table.Look.{Look}
 use Rattle.ptpm_table.specs.declared.reply_table.Look.TheVariants as looks
@@ -83,13 +85,32 @@ verdict_of c s datagram = verdict_by c s (reading datagram)
 abbrev pub new_reply : Clock → State → Message → ReplyValue
 new_reply c s v = reply_to (request_of v) (c.rights v.source) s.sets
 
--- a new request is carried out, and kept with its number and its reply, also where it was refused
-abbrev pub carried_out : Clock → State → Message → State
-carried_out c s v = record {
-  sets = changed_by (request_of v) (c.rights v.source) s.sets;
-  entries = insert s.entries v.source
-      (record { number = v.number; request = request_of v; reply = new_reply c s v });
+-- a request with its sequenceId, and whose it is
+pub record NumberedRequest : Type 0 where
+  pub manager : PortIdentity
+  pub number : ℕ
+  pub request : RequestValue
+
+-- what is kept of it, where it is carried out: its number, and the reply to it, also where it is refused
+abbrev pub entry_of : Clock → State → NumberedRequest → Entry
+entry_of c s r = record {
+  number = r.number;
+  request = r.request;
+  reply = reply_to r.request (c.rights r.manager) s.sets;
 }
+
+-- it is carried out, and kept
+abbrev pub after_request : Clock → State → NumberedRequest → State
+after_request c s r = record {
+  sets = changed_by r.request (c.rights r.manager) s.sets;
+  entries = insert s.entries r.manager (entry_of c s r);
+}
+
+abbrev pub numbered_from : Message → NumberedRequest
+numbered_from v = record { manager = v.source; number = v.number; request = request_of v }
+
+abbrev pub carried_out : Clock → State → Message → State
+carried_out c s v = after_request c s (numbered_from v)
 
 -- the messages of a reply to what was heard at this port
 abbrev pub reply_messages : Clock → ℕ → Heard → Option ReplyValue → List (ℕ × List ℕ)

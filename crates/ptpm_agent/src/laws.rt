@@ -2,6 +2,7 @@
 //! and speaks of the definitions alone.
 
 ghost use Rattle.std.specs.Prelude.{◌≡◌, ◌∷◌, [], ◌++◌, ℕ, true, false, length, List, None, Some};
+ghost use Rattle.std.specs.FinMap.{get};
 ghost use Rattle.std.specs.List.{Contains};
 ghost use Rattle.ptpm_codec.specs.declared.error.ErrorId.{ErrorId};
 ghost use Rattle.ptpm_codec.specs.declared.identity.PortIdentity.{PortIdentity};
@@ -10,11 +11,12 @@ ghost use Rattle.ptpm_codec.specs.Reading.{message_of};
 ghost use Rattle.ptpm_data.specs.Members.{DataSetsValue};
 ghost use Rattle.ptpm_data.specs.Replies.{reply_to};
 ghost use Rattle.ptpm_data.specs.Reply.{Answer, Refused, ReplyValue};
-ghost use Rattle.ptpm_agent.specs.Turn.{Clock, State, judged, outbox_of, reply_by, turn};
+ghost use Rattle.ptpm_agent.specs.Turn.{Clock, NumberedRequest, State, entry_of, judged, outbox_of, reply_by, turn};
 ghost use Rattle.ptpm_agent.specs.Once.{Delivery, History, RequestCopy, after_copy, applied_once, copies, copy_of, due_reply, greatest, initial_history, joins};
 ghost use Rattle.ptpm_agent.specs.Window.{AreNumbered, IsInTime, KeepsWindow};
 ghost use Rattle.ptpm_agent.specs.Observing.{AreOfOneRequest, ComeInTime, Delivered, Happening, after_happenings, applied_in_place, deliveries_alone};
-ghost use Rattle.ptpm_agent.specs.Laws.{AreOfManagers, StandsAt, due_messages, initial_clock_state, turns};
+ghost use Rattle.ptpm_agent.specs.CarriedOut.{AreOfOthers, after_requests, carried_in, carried_in_turns};
+ghost use Rattle.ptpm_agent.specs.Laws.{AreOfManagers, StandsAt, after_each, due_messages, initial_clock_state, turns};
 
 /// At-most-once execution. Whatever list of datagrams comes in at a fresh clock, where each copy of a manager's request among
 /// them has the sequenceId that its index gives, and its index is at most 32,768 behind and at most 32,767 ahead of the greatest
@@ -151,4 +153,22 @@ pub fn refused_changes_no_data()
         message_of datagram ≡ Some v → reply_by (judged c s v) c s v ≡ Some r →
         Contains r.answers a → a.outcome ≡ Refused error →
         (turn c s ingress datagram).next.sets ≡ s.sets }
+{}
+
+/// Whatever comes in at a clock, in time or late, its data sets and what it keeps are those that it had, after the requests of its
+/// turns that were `AnsweredNew`, each as the clock stood in its turn, in their order; and nothing else changes them. So a
+/// stranger's request, a repeat and what is passed on leave them. And what is kept of a manager is the latest of its requests
+/// among these, with the reply that was made of it then.
+pub fn requests_of_turns()
+    ensures one { (c : Clock) (s : State) (ingress : ℕ) (datagram : List ℕ) →
+        (turn c s ingress datagram).next ≡ after_requests c s (carried_in c s datagram) }
+    ensures each { (c : Clock) (s : State) (xs : List (ℕ × List ℕ)) →
+        after_each c s xs ≡ after_requests c s (carried_in_turns c s xs) }
+    ensures latest { (c : Clock) (s : State) (front rest : List NumberedRequest)
+        (r : NumberedRequest) → AreOfOthers r.manager rest →
+        get (after_requests c s (front ++ r ∷ rest)).entries r.manager
+        ≡ Some (entry_of c (after_requests c s front) r) }
+    ensures others { (c : Clock) (s : State) (rs : List NumberedRequest) (m : PortIdentity)
+        → AreOfOthers m rs →
+        get (after_requests c s rs).entries m ≡ get s.entries m }
 {}

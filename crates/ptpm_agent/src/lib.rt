@@ -10,7 +10,7 @@ mod verdict;
 pub use agent::Agent;
 pub use laws::{
     at_most_once, at_most_once_observed, no_copy_forwarded, one_delivery, only_managers,
-    ports_stay, refused_changes_no_data,
+    ports_stay, refused_changes_no_data, requests_of_turns,
 };
 pub use verdict::Verdict;
 

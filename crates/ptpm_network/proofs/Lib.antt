@@ -22,6 +22,7 @@ pub mod Held
 pub mod Hearing
 pub mod Taking
 pub mod Running
+pub mod CarriedOut
 pub mod Promise
 pub mod TurnSends
 pub mod Posting

@@ -5,6 +5,7 @@ pub mod Events
 pub mod Machine
 pub mod Invariant
 pub mod RunningNetwork
+pub mod CarriedOut
 pub mod Stands
 pub mod Replying
 pub mod Headline

@@ -6,9 +6,11 @@ ghost use Rattle.std.specs.Result.{result_err};
 ghost use Rattle.std.specs.List.{AllByRecursion, Contains};
 ghost use Rattle.ptpm_codec.specs.declared.error.ErrorId.{ErrorId};
 ghost use Rattle.ptpm_data.specs.Reply.{Answer, Refused, ReplyValue};
+ghost use Rattle.ptpm_agent.specs.CarriedOut.{after_requests};
 ghost use Rattle.ptpm_agent.specs.Laws.{due_messages};
 ghost use Rattle.ptpm_agent.specs.Once.{Accepted, Delivery, History, RequestCopy, after_copy, copy_of, due_reply, greatest, kept_reply};
 ghost use Rattle.ptpm_agent.specs.Turn.{Clock};
+ghost use Rattle.ptpm_network.specs.CarriedOut.{carried_by_event, carried_by_events};
 ghost use Rattle.ptpm_network.specs.Copies.{IsCopyAt};
 ghost use Rattle.ptpm_network.specs.Events.{Deliver, Event, IsInRange, Refusal, Stranger, refusal};
 ghost use Rattle.ptpm_network.specs.RunningNetwork.{Happened, RunningNetwork, initial_network, network_event, network_run};
@@ -97,4 +99,17 @@ pub fn refused_requests_change_no_data()
     ensures no_copy { (N : Network) (w : NetworkState) (c : ℕ) (x : Delivery) →
         copy_of (N.clock c) (ports N c) x ≡ None →
         history N (arrives w c x) c ≡ history N w c }
+{}
+
+/// Without the premise: whatever happens in a network, in time or late, what a clock has is what it had before, after the requests
+/// of its turns that were `AnsweredNew`, each as the clock stood in its turn, in their order. Nothing else changes its data sets
+/// or what it keeps, at one event or at a list of them. `requests_of_turns` of ptpm_agent says what such requests leave.
+pub fn requests_carried_out()
+    ensures event { (N : Network) (r : RunningNetwork) (c : ℕ) (e : Event) (h : Happened) →
+        network_event N r e ≡ Ok h →
+        h.network.clock c
+        ≡ after_requests (N.clock c) (r.clock c) (carried_by_event N r c e) }
+    ensures events { (N : Network) (r : RunningNetwork) (c : ℕ) (es : List Event) →
+        (network_run N r es).clock c
+        ≡ after_requests (N.clock c) (r.clock c) (carried_by_events N r c es) }
 {}

@@ -9,7 +9,7 @@ mod way_laws;
 mod worth_laws;
 
 pub use headline_laws::{
-    headline, one_reply_kept, refused_requests_change_no_data, stands_after,
+    headline, one_reply_kept, refused_requests_change_no_data, requests_carried_out, stands_after,
     strangers_change_nothing,
 };
 pub use laws::{

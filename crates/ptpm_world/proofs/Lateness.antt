@@ -2,8 +2,9 @@
 use Rattle.ptpm_world.proofs.Common.{◌≡◌, ℕ, List, Option, Some, None, refl, ◌∙◌, ap, option_map, SessionValue, PortIdentity, frame_at, StandsAfter, is_late_frame, run, Network, Stands, Held, RunningNetwork, held, Frame, NetworkState, Neither, Origin, ReplyTo, RequestOf, initial_state, is_late, is_late_at, is_late_held, is_late_of}
 use Rattle.ptpm_network.specs.Events.{Event}
 use Rattle.ptpm_network.specs.Invariant.{IsOfOrigin, IsReached}
+use Rattle.ptpm_network.specs.Machine.{state_after}
 use Rattle.ptpm_network.proofs.Held.{frame_at-map}
-use Rattle.ptpm_network.proofs.Promise.{first_of_sessions, firsts}
+use Rattle.ptpm_network.proofs.Promise.{first_of_sessions, firsts, stands-headline}
 use Rattle.ptpm_network.proofs.Reaching.{frame_at-is}
 use Rattle.ptpm_network.proofs.Schedule.{reached}
 
@@ -37,3 +38,11 @@ late-after N past r n at =
     ap (λ (hs : List Held). is_late_held r (frame_at hs n)) there.frames
     ∙ ap (is_late_held r) (frame_at-map w.frames n)
     ∙ late-frame N first r w n (frame_at w.frames n) (reached N past p.network p.in_range) there refl
+
+-- its frames are the machine's
+pub frame-after : (N : Network) (past : List Event) (r : RunningNetwork) (n : ℕ)
+    → StandsAfter N past r
+    → frame_at r.frames n ≡ option_map held (frame_at (state_after N past).frames n)
+frame-after N past r n at =
+    ap (λ (hs : List Held). frame_at hs n) (stands-headline N past r at).frames
+    ∙ frame_at-map (state_after N past).frames n

@@ -13,6 +13,7 @@ pub mod Kept
 pub mod PostingTurn
 pub mod Scheduling
 pub mod Following
+pub mod CarriedOut
 pub mod EveryWorld
 pub mod Reporting
 pub mod Lateness

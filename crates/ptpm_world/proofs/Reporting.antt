@@ -1,7 +1,11 @@
--- What the reports that a world shows are worth.
-use Rattle.ptpm_world.proofs.Common.{◌≡◌, ℕ, ◌<◌, ◌+◌, ◌∙◌, List, Some, ap, subst, slice_get, slice_get_within, Report, StandsAfter, run, Network, initial_state, RunningSession, World, IsOf, reports_of, running}
+-- What the reports that a world shows are worth, and its data sets.
+use Rattle.ptpm_world.proofs.Common.{◌≡◌, ℕ, ◌<◌, ◌+◌, ◌∙◌, List, Some, ap, subst, sym, slice_get, slice_get_within, Report, StandsAfter, run, Network, initial_state, RunningClock, RunningSession, World, IsOf, reports_of, running, state_of}
+use Rattle.ptpm_agent.specs.Once.{applied_once, initial_history}
 use Rattle.ptpm_network.specs.Events as machine
+use Rattle.ptpm_network.specs.Machine.{state_after}
+use Rattle.ptpm_network.specs.State.{copies_at}
 use Rattle.ptpm_network.specs.Worth.{IsWorth}
+use Rattle.ptpm_network.proofs.Promise.{stands-headline}
 use Rattle.ptpm_network.proofs.Reporting.{index-after, worth-after}
 
 -- a report of the session at a place
@@ -16,3 +20,14 @@ worth-shown N past w s x is at there i report e =
     let place : s < N.sessions = subst (λ n. s < n) is.session_count (slice_get_within w.sessions.items s x there) in
     let shown : slice_get ((running w).reports s) i ≡ Some report = ap (λ o. slice_get (reports_of o) i) there ∙ e in
     (index-after N past (running w) s i report at place shown, worth-after N past (running w) s i report at place shown)
+
+-- the data sets of the clock at a place
+pub sets-shown : (N : Network) (past : List machine.Event) (w : World) (c : ℕ) (x : RunningClock)
+    → IsOf N w
+    → StandsAfter N past (running w)
+    → slice_get w.clocks.items c ≡ Some x
+    → x.agent.sets
+    ≡ (applied_once (N.clock c) (initial_history (N.start c)) (copies_at N (state_after N past) c)).sets
+sets-shown N past w c x is at there =
+    let place : c < N.clocks = subst (λ n. c < n) is.clock_count (slice_get_within w.clocks.items c x there) in
+    sym (ap (λ o. (state_of o).sets) there) ∙ (stands-headline N past (running w) at).sets c place

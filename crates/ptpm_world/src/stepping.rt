@@ -6,8 +6,10 @@ ghost use Rattle.ptpm_codec.specs.Identity.{same_clock, same_identity};
 ghost use Rattle.ptpm_codec.specs.Layout.{source_port_identity};
 ghost use Rattle.ptpm_data.specs.Members.{HasPort};
 ghost use Rattle.ptpm_agent.specs.Agent.{IsTurned};
+ghost use Rattle.ptpm_agent.specs.CarriedOut.{after_requests};
 ghost use Rattle.ptpm_agent.specs.Turn.{turn};
 ghost use Rattle.ptpm_table.specs.Outbox.{sent};
+ghost use Rattle.ptpm_network.specs.CarriedOut.{carried_by_event, carried_by_events};
 ghost use Rattle.ptpm_network.specs.Events as machine;
 ghost use Rattle.ptpm_network.specs.Events.{frame_at, is_forged};
 ghost use Rattle.ptpm_network.specs.Headline.{StandsAfter};
@@ -38,7 +40,8 @@ impl World {
     /// want of memory may come in place of another answer.
     ///
     /// Where no frame was delivered late before, and none is now, it stands where the event leads the network machine, and
-    /// refuses what that refuses, for the same reason.
+    /// refuses what that refuses, for the same reason. Late or not, each clock has what it had before, after the request of its
+    /// turn at the event if the verdict is `AnsweredNew`: nothing else changes its data sets or what it keeps.
     pub fn step(&mut self, event: &Event) -> Result<Took, StepError>
         ensures step { (N : Network)
             → IsOf N self.old
@@ -47,6 +50,11 @@ impl World {
             → IsOf N self.old
             → StandsAfter N past (running self.old)
             → IsMachineStep N past self.new (placed (names_in self.old) event.now) result }
+        ensures carried { (N : Network) (c : ℕ)
+            → IsOf N self.old
+            → OnOk result ((running self.new).clock c
+            ≡ after_requests (N.clock c) ((running self.old).clock c)
+            (carried_by_event N (running self.old) c (placed (names_in self.old) event.now))) }
         ensures unchanged { OnErr result (running self.new ≡ running self.old) }
         ensures names { names_in self.new ≡ names_in self.old }
     {
@@ -62,6 +70,9 @@ impl World {
     /// none before did, each clock's data sets are those after its managers' delivered requests, each applied once in order of
     /// first acceptance; repeats of the latest get the one reply kept, older ones none; each manager reports those replies;
     /// strangers and refused SETs change no data set (`Headline`).
+    ///
+    /// Late or not, each clock has what it had before, after the requests of its turns that were `AnsweredNew`, each in its turn,
+    /// in their order: nothing else changes its data sets or what it keeps.
     pub fn run(&mut self, events: &[Event]) -> Result<(), (usize, StepError)>
         ensures run { (N : Network)
             → IsOf N self.old
@@ -72,6 +83,12 @@ impl World {
             → StandsAfter N past (running self.old)
             → AreInTime N (state_after N past) (carried_out self.old result events.now)
             → IsMachineRun N past self.old self.new events.now result }
+        ensures carried { (N : Network) (c : ℕ)
+            → IsOf N self.old
+            → (running self.new).clock c
+            ≡ after_requests (N.clock c) ((running self.old).clock c)
+            (carried_by_events N (running self.old) c
+            (carried_out self.old result events.now)) }
         ensures names { names_in self.new ≡ names_in self.old }
     {
         for place in 0..events.len() {

@@ -45,23 +45,35 @@ pub struct World {
 }
 
 impl World {
+    ghost use Rattle.ptpm_agent.specs.Once.{applied_once, initial_history};
     ghost use Rattle.ptpm_manager.specs.declared.report.Report.{Report};
     ghost use Rattle.ptpm_manager.specs.Session.{count_limit};
     ghost use Rattle.ptpm_network.specs.Events as machine;
     ghost use Rattle.ptpm_network.specs.Events.{frame_at};
     ghost use Rattle.ptpm_network.specs.Headline.{StandsAfter};
-    ghost use Rattle.ptpm_network.specs.Machine.{is_late_delivery, run};
+    ghost use Rattle.ptpm_network.specs.Machine.{is_late_delivery, run, state_after};
     ghost use Rattle.ptpm_network.specs.Network.{Network};
-    ghost use Rattle.ptpm_network.specs.State.{initial_state, is_late_at};
+    ghost use Rattle.ptpm_network.specs.RunningNetwork.{held};
+    ghost use Rattle.ptpm_network.specs.State.{copies_at, initial_state, is_late_at};
     ghost use Rattle.ptpm_network.specs.Worth.{IsWorth};
     ghost use Rattle.ptpm_world.specs.Frames.{frame_value};
     ghost use Rattle.ptpm_world.specs.Placed.{names_in, place_in};
     ghost use Rattle.ptpm_world.specs.Running.{IsOf, is_late_held, reports_named, running, sets_named};
 
-    /// A clock's data sets as they stand, if there is a clock of this name.
+    /// A clock's data sets as they stand, if there is a clock of this name. Where no frame was delivered late, they are those that
+    /// it started with after the requests accepted among the copies that came in at it, each applied once, in order of first
+    /// acceptance.
     pub fn sets(&self, clock: &str) -> Option<&DataSets>
         ensures sets { option_map (λ d. d.now) result ≡ sets_named self.now clock.now }
         ensures known { IsSome result ↔ Contains (names_in self.now).clocks clock.now }
+        ensures applied { (N : Network) (past : List machine.Event)
+            → IsOf N self.now
+            → StandsAfter N past (running self.now)
+            → IfSome result
+            (λ sets.
+            let c = place_in (names_in self.now).clocks clock.now in
+            sets.now ≡ (applied_once (N.clock c) (initial_history (N.start c))
+            (copies_at N (state_after N past) c)).sets) }
     {
         match self.clock_place(clock) {
             Some(place) => Some(self.clocks[place].agent.sets()),
@@ -100,9 +112,13 @@ impl World {
         self.frames.count() as u32
     }
 
-    /// The frame of a number, counted from 1.
+    /// The frame of a number, counted from 1. Where no frame was delivered late, it is the network machine's.
     pub fn frame(&self, number: u32) -> Option<Frame<'_>>
         ensures frame { option_map frame_value result ≡ frame_at (running self.now).frames number }
+        ensures frame_after { (N : Network) (past : List machine.Event)
+            → StandsAfter N past (running self.now)
+            → option_map frame_value result
+            ≡ option_map held (frame_at (state_after N past).frames number) }
         ensures known { IsSome result ↔
             ((1 ≤ number) × (number ≤ length (running self.now).frames)) }
     {

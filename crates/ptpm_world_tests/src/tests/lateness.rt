@@ -1,6 +1,6 @@
-//! Over 32,768 requests of one session: which deliveries are late, and what then comes of them. No promise covers it.
+//! Over 32,768 requests of one session: which deliveries are late, and what then comes of them. The headline does not cover it.
 
-use super::networks::{ONE_CLOCK, numbered_from_one, tell, world_of};
+use super::networks::{ONE_CLOCK, numbered_from_one, step, tell, tell_sets, world_of};
 use ptpm_agent::Verdict;
 use ptpm_script::{Event, read_event};
 use ptpm_world::{StepError, Took, World};
@@ -49,6 +49,55 @@ fn half_the_number_space(rt: HostRuntime) -> Result<(), Fail> {
     assert!(rt; world.is_late(1) && !world.is_late(3));
     let accepted = deliver(&mut world, 1);
     assert!(rt; accepted == Ok(Took::AtClock(Verdict::AnsweredNew)));
+    Ok(())
+}
+
+/// A stranger's SET of PRIORITY1 to 200, to the port that is on no link.
+const STRANGE_SET: &str = "stranger K 2 0d12003800000000000000000000000000000000\
+    0a0b0c0d0e0f000000010000047faabbccfffeddee01ffff010101000001000420\
+    05c800";
+
+/// What the clock's lines begin with where its priority1 is 50.
+const FIFTY: &[u8] = b"data K 0002 0000\ndata K 2000 0100000232f8";
+
+/// And where it is 100.
+const HUNDRED: &[u8] = b"data K 0002 0000\ndata K 2000 0100000264f8";
+
+/// Whether the lines of the clock's data sets begin so.
+fn shows(alloc: Global, world: &World, first: &[u8]) -> Result<bool, Fail> {
+    let mut lines = Vec::new(alloc);
+    if let Some(sets) = world.sets("K") {
+        tell_sets(sets, &mut lines)?;
+    }
+    Ok(lines.starts_with(first))
+}
+
+/// A stranger's SET, a SET that is refused, and the first SET once more, late by then: what the clock has is what it had after
+/// the requests that were `AnsweredNew`, and nothing else changes it.
+#[test]
+fn only_what_is_answered_new_changes_a_clock(rt: HostRuntime) -> Result<(), Fail> {
+    let alloc = rt.alloc();
+    let network = numbered_from_one(alloc)?;
+    let mut world = world_of(alloc, network.as_str())?;
+    let send = read_event(alloc, "send m")?;
+    let hundred = read_event(alloc, "begin m set PRIORITY1 - 6400")?;
+    exchange(&mut world, &hundred, &send)?;
+    let fifty = read_event(alloc, "begin m set PRIORITY1 - 3200")?;
+    exchange(&mut world, &fifty, &send)?;
+    let get = read_event(alloc, "begin m get PRIORITY1 - -")?;
+    exchanges(&mut world, &get, &send, 32_768)?;
+    assert!(rt; shows(alloc, &world, FIFTY)?);
+
+    let strange = step(alloc, &mut world, STRANGE_SET)?;
+    assert!(rt; strange == Ok(Took::AtClock(Verdict::AnsweredUnnumbered)));
+    assert!(rt; shows(alloc, &world, FIFTY)?);
+    let refused = read_event(alloc, "begin m set CURRENT_DATA_SET - 0000")?;
+    exchange(&mut world, &refused, &send)?;
+    assert!(rt; shows(alloc, &world, FIFTY)?);
+    assert!(rt; world.is_late(1));
+    let late = deliver(&mut world, 1);
+    assert!(rt; late == Ok(Took::AtClock(Verdict::AnsweredNew)));
+    assert!(rt; shows(alloc, &world, HUNDRED)?);
     Ok(())
 }
 

@@ -115,7 +115,7 @@ fn tell_report(report: &Report, lines: &mut Vec<u8>) -> io::Result<()> {
 
 /// USER_DESCRIPTION and DEFAULT_DATA_SET as they are sent, and behind them all members.
 #[tactic(auto, unfolding(ptpm_data::specs::ManagementId::row_of))]
-fn tell_sets(sets: &DataSets, lines: &mut Vec<u8>) -> io::Result<()> {
+pub fn tell_sets(sets: &DataSets, lines: &mut Vec<u8>) -> io::Result<()> {
     let mut value = Value::new();
     sets.lay(0x0002, 0, &mut value);
     writeln!(lines, "data K 0002 {}", Hexadecimal(value.as_slice()))?;

@@ -3,6 +3,7 @@ use Rattle.ptpm_network.specs.Events as machine
 use Rattle.ptpm_network.proofs.Promise.{stands-headline}
 use Rattle.ptpm_script.specs.declared.event.Event.{Event}
 use Rattle.ptpm_world.specs.declared.took.StepError.TheVariants as errors
+use Rattle.ptpm_world.proofs.CarriedOut.{leads-carried}
 use Rattle.ptpm_world.proofs.Ending.{err_is, step-went}
 use Rattle.ptpm_world.proofs.Following.{HasGoneOn, gone_on-more, gone_on-none, taken-stops}
 use Rattle.ptpm_world.proofs.Places.{map_more, map_split}
@@ -106,3 +107,11 @@ returns-clause-machine c = λ N past is at time.
     let gone = subst (λ (es : List Event). AreInTime N (run N (initial_state N) past) (map (placed first) es) → HasGoneOn N past (map (placed first) es) (running c.loop-place.self)) whole
     (c.loop-place.invariant.stands N past is at) time in
     record { stands = gone.stands; headline = stands-headline N _ _ gone.stands; taken = λ other. gone.whole; reason = tt }
+
+pub returns-clause-carried : goal.returns-clause-carried
+returns-clause-carried c = λ N clock is.
+    leads-carried N (running c.args.self.now) _ clock _ (returns-clause-run c N is).goes
+
+pub returns-in-Err-clause-carried : goal.returns-in-Err-clause-carried
+returns-in-Err-clause-carried c = λ N clock is.
+    leads-carried N (running c.args.self.now) _ clock _ (returns-in-Err-clause-run c N is).goes
