@@ -1,9 +1,11 @@
 -- The promise of a network, and the states of a running network in which it holds.
-use Rattle.ptpm_network.proofs.Common.{by_test, suc, zero, arith, ◌≡◌, ℕ, ◌<◌, ◌≤◌, List, [], ◌∷◌, ◌++◌, Option, Some, None, false, sym, ◌∙◌, ap, subst, ⊎_elim, length, append_assoc, cases_eq, cond-true, cond-false, true≢false, append-nil, if◌then◌else◌, AllByRecursion, PortIdentity, same_identity, same_identity-refl, same_identity-true, Accepted, kept_reply, Report, Event, IsInRange, Refusal, refusal, RunningNetwork, initial_network, Happened, Ok, Result, network_event, network_run, result_err, Headline, IsPromised, StandsAfter, IsReached, AreInTime, happens, is_late_delivery, run, step_by, taken, IsNetwork, Network, manager, AreFirsts, Stands, NetworkState, accepted_at_target, initial_state, greatest_accepted, outcomes_kept, reports_of, all_append}
+use Rattle.ptpm_network.proofs.Common.{by_test, suc, zero, arith, ◌≡◌, ℕ, ◌<◌, ◌≤◌, List, [], ◌∷◌, ◌++◌, Option, Some, None, false, sym, ◌∙◌, ap, subst, ⊎_elim, length, append_assoc, cases_eq, cond-true, cond-false, true≢false, append-nil, if◌then◌else◌, AllByRecursion, PortIdentity, same_identity, same_identity-refl, same_identity-true, Accepted, kept_reply, Report, Event, IsInRange, Refusal, refusal, RunningNetwork, initial_network, Happened, Ok, Result, network_event, network_run, result_err, Headline, IsPromised, StandsAfter, IsReached, AreInTime, happens, is_late_delivery, run, step_by, taken, IsNetwork, Network, manager, AreFirsts, Stands, NetworkState, accepted_at_target, initial_state, greatest_accepted, history, outcomes_kept, reports_of, all_append}
+use Rattle.ptpm_network.proofs.DueReplies.{copy-delivered, latest-kept, older-none}
 use Rattle.ptpm_network.proofs.Running.{follows, network_run-running}
 use Rattle.ptpm_network.proofs.Schedule.{reached}
 use Rattle.ptpm_network.proofs.Standing.{stands-initial_state}
 use Rattle.ptpm_network.proofs.Taking.{in_time-append, run-append, taken-in_range}
+use Rattle.ptpm_network.proofs.Unchanged.{refused-leaves, strangers-leave}
 
 -- ---- first sequenceIds
 
@@ -49,34 +51,34 @@ told-begins m accepted (suc g) n le = ⊎_elim
     (p.0 ++ last, ap (λ (rs : List Report). rs ++ last) p.1 ∙ append_assoc (outcomes_kept m accepted n) p.0 last))
     (cases_eq n (suc g))
 
-reached-headline : (N : Network) (first : PortIdentity → ℕ) (w : NetworkState) (r : RunningNetwork)
-    → IsReached N w → Stands N first r w
-    → Headline N w r
-reached-headline N first w r reached at = record {
-  sets = λ c place. (at.clocks c place).sets;
-  frames = at.frames;
-  reports = λ s place.
-      let session = reached.sessions s place in
-      let p = told-begins (manager N s) (accepted_at_target N w s) (greatest_accepted N w s) (length (w.session s).reports) session.accepted_before in
-      (p.0, p.1 ∙ ap (λ (rs : List Report). rs ++ p.0) (sym session.reports ∙ sym (at.reports s place)));
-  at_most_begun = λ s place.
-      let session = reached.sessions s place in
-      omega (arith, ap length (at.reports s place), session.accepted_before, session.begun_before);
-  at_most_one_less = λ s place.
-      let session = reached.sessions s place in
-      omega (arith, ap length (at.reports s place), session.one_at_a_time);
-  at_most_accepted = λ s place.
-      let session = reached.sessions s place in
-      omega (arith, ap length (at.reports s place), session.accepted_before);
-}
-
 pub stands-headline : (N : Network) (events : List Event) (r : RunningNetwork)
     → StandsAfter N events r
     → Headline N (run N (initial_state N) events) r
 stands-headline N events r at =
     let p = at.promised in
-    reached-headline N (first_of_sessions N N.sessions) (run N (initial_state N) events) r (reached N events p.network p.in_range)
-    (at.stands (first_of_sessions N N.sessions) (firsts N p.network))
+    let w : NetworkState = run N (initial_state N) events in
+    let is = reached N events p.network p.in_range in
+    let there = at.stands (first_of_sessions N N.sessions) (firsts N p.network) in
+    record {
+      sets = λ c place. (there.clocks c place).sets;
+      frames = there.frames;
+      delivered = λ n c port f copy at_clock. copy-delivered N w n c port f copy at_clock;
+      latest = λ n c port f copy at_clock newest. latest-kept N events n c port f copy p.network p.in_range at_clock newest;
+      older = λ c copy below. older-none (N.clock c) (history N w c) copy below;
+      reports = λ s place.
+          let session = is.sessions s place in
+          let q = told-begins (manager N s) (accepted_at_target N w s) (greatest_accepted N w s) (length (w.session s).reports) session.accepted_before in
+          (q.0, q.1 ∙ ap (λ (rs : List Report). rs ++ q.0) (sym session.reports ∙ sym (there.reports s place)));
+      reported = λ s place.
+          let session = is.sessions s place in
+          omega (arith, ap length (there.reports s place), session.accepted_before);
+      accepted = λ s place. (is.sessions s place).begun_before;
+      begun = λ s place.
+          let session = is.sessions s place in
+          omega (arith, ap length (there.reports s place), session.one_at_a_time);
+      strangers = λ c port d datagram octets. strangers-leave N events c port datagram d p.network p.in_range octets;
+      refused = λ c x error. refused-leaves N w c x error.copy error.reply error.answer error.error error.heard error.due error.among error.is_error;
+    }
 
 -- ---- where it holds
 

@@ -2,52 +2,50 @@
 -- than 32,768 later requests of its manager, each clock's data sets are those after its managers' delivered requests, each
 -- applied once in order of first acceptance; repeats of the latest get the one reply kept, older ones none; each manager
 -- reports those replies; strangers and refused SETs change no data set.
-use Rattle.std.specs.Prelude.{◌≡◌, ℕ, ◌+◌, ◌<◌, ◌≤◌, List, ◌++◌, length, map}
+use Rattle.std.specs.Prelude.{◌≡◌, ℕ, ◌+◌, ◌<◌, ◌≤◌, List, ◌++◌, length, map, None}
 use Rattle.std.specs.List.{AllByRecursion}
-use Rattle.ptpm_codec.specs.declared.identity.PortIdentity.{PortIdentity}
-use Rattle.ptpm_agent.specs.Once.{applied_once, initial_history}
+use Rattle.ptpm_agent.specs.Laws.{due_messages}
+use Rattle.ptpm_agent.specs.Once.{Delivery, RequestCopy, applied_once, due_reply, greatest, initial_history}
 use Rattle.ptpm_manager.specs.declared.report.Report.{Report}
-use Rattle.ptpm_network.specs.Events.{Event, IsInRange}
-use Rattle.ptpm_network.specs.Machine.{AreInTime, state_after}
+use Rattle.ptpm_network.specs.Copies.{IsCopyAt, IsKeptFor, IsRefusedAt}
+use Rattle.ptpm_network.specs.Events.{Deliver, Event, IsInRange, Stranger}
+use Rattle.ptpm_network.specs.Machine.{AreInTime, arrives, happens, reply_frames, reply_origin, step}
 use Rattle.ptpm_network.specs.Network.{IsNetwork, Network, manager}
-use Rattle.ptpm_network.specs.Stands.{AreFirsts, Stands}
 use Rattle.ptpm_network.specs.RunningNetwork.{RunningNetwork, held}
-use Rattle.ptpm_network.specs.State.{NetworkState, accepted_at_target, copies_at, greatest_accepted, initial_state, issued, outcomes_kept}
+use Rattle.ptpm_network.specs.State.{Frame, NetworkState, accepted_at_target, copies_at, greatest_accepted, history, initial_state, issued, outcomes_kept}
 
--- ---- the premises
-
--- The network is one that a file describes. Each event is one that a program can hand in: a managementId has 16 bits, an octet
--- eight. And no frame is delivered late, that is, after its session has begun over 32,768 requests more than the one that the
--- frame belongs to.
+-- The premises: the network is one that a file describes. Each event is one that a program can hand in: a managementId has 16
+-- bits, an octet eight. And no frame is delivered late, that is, after its session has begun over 32,768 requests more than the
+-- one that the frame belongs to.
 pub record IsPromised (N : Network) (events : List Event) : Type 0 where
   pub network : IsNetwork N
   pub in_range : AllByRecursion IsInRange events
   pub in_time : AreInTime N (initial_state N) events
 
--- ---- the promise
-
--- of the running network r, where the machine is in the state w
+-- The promise, of the running network r, where the machine is in the state w.
 pub record Headline (N : Network) (w : NetworkState) (r : RunningNetwork) : Type 0 where
   -- A clock's data sets are those that it started with after the requests accepted among the copies that came in at it, each
   -- applied once, in order of first acceptance.
   pub sets : (c : ℕ) → c < N.clocks → (r.clock c).sets
       ≡ (applied_once (N.clock c) (initial_history (N.start c)) (copies_at N w c)).sets
-  -- The frames are the machine's: for each delivered copy of a request the reply that is due to it, and no other.
+  -- Its frames are the machine's, in which the delivery of a copy makes frames of the reply that is due to it, and no others.
   pub frames : r.frames ≡ map held w.frames
+  pub delivered : (n c port : ℕ) (f : Frame) (copy : RequestCopy) → IsCopyAt N w n c port f copy
+      → (happens N w (Deliver n)).frames ≡ w.frames ++ reply_frames N c (reply_origin f.origin)
+      (due_messages (N.clock c) copy (due_reply (N.clock c) (history N w c) copy))
+  -- To a copy of the latest request accepted of its manager the reply is due that was kept for it, to one of an older none.
+  pub latest : (n c port : ℕ) (f : Frame) (copy : RequestCopy) → IsCopyAt N w n c port f copy
+      → greatest copy.heard.source (history N w c).accepted ≡ copy.index → IsKeptFor (N.clock c) (history N w c) copy
+  pub older : (c : ℕ) (copy : RequestCopy) → copy.index < greatest copy.heard.source (history N w c).accepted
+      → due_reply (N.clock c) (history N w c) copy ≡ None
   -- A manager is to be told the outcomes of the replies kept for its requests, in order. Its reports are the first of these.
   pub reports : (s : ℕ) → s < N.sessions → (rest : List Report)
-      × (outcomes_kept (manager N s) (accepted_at_target N w s) (greatest_accepted N w s)
-      ≡ r.reports s ++ rest)
-  -- They are as many as the requests that it has begun, or one less, and never more than its clock accepted.
-  pub at_most_begun : (s : ℕ) → s < N.sessions → length (r.reports s) ≤ issued w s
-  pub at_most_one_less : (s : ℕ) → s < N.sessions → issued w s ≤ length (r.reports s) + 1
-  pub at_most_accepted : (s : ℕ) → s < N.sessions → length (r.reports s) ≤ greatest_accepted N w s
-
--- ---- where it holds
-
--- The running network r has gone through these events, and stands where they lead the machine, whatever first sequenceIds are
--- given to those who manage nothing.
-pub record StandsAfter (N : Network) (events : List Event) (r : RunningNetwork) : Type 0 where
-  pub promised : IsPromised N events
-  pub stands : (first : PortIdentity → ℕ) → AreFirsts N first
-      → Stands N first r (state_after N events)
+      × (outcomes_kept (manager N s) (accepted_at_target N w s) (greatest_accepted N w s) ≡ r.reports s ++ rest)
+  -- No more is reported than its clock accepted, no more is accepted than it began, and at most one is begun and not reported.
+  pub reported : (s : ℕ) → s < N.sessions → length (r.reports s) ≤ greatest_accepted N w s
+  pub accepted : (s : ℕ) → s < N.sessions → greatest_accepted N w s ≤ issued w s
+  pub begun : (s : ℕ) → s < N.sessions → issued w s ≤ length (r.reports s) + 1
+  -- A stranger changes no data set, nor what was accepted; a request that is refused, as a SET without the right, no data set.
+  pub strangers : (c port d : ℕ) (datagram : List ℕ) → IsInRange (Stranger c port datagram)
+      → history N (step N w (Stranger c port datagram)) d ≡ history N w d
+  pub refused : (c : ℕ) (x : Delivery) → IsRefusedAt N w c x → (history N (arrives w c x) c).sets ≡ (history N w c).sets

@@ -1,8 +1,11 @@
 -- When a running network stands at a state of the machine: its clocks and sessions in states of their own, in which requests
 -- are told apart by sequenceIds, and its frames without what no receiver can see.
-use Rattle.std.specs.Prelude.{◌≡◌, ℕ, ◌<◌, map}
+use Rattle.std.specs.Prelude.{◌≡◌, ℕ, ◌<◌, List, map}
 use Rattle.ptpm_codec.specs.declared.identity.PortIdentity.{PortIdentity}
 use Rattle.ptpm_agent.specs.Laws.{StandsAt}
+use Rattle.ptpm_network.specs.Events.{Event}
+use Rattle.ptpm_network.specs.Headline.{IsPromised}
+use Rattle.ptpm_network.specs.Machine.{state_after}
 use Rattle.ptpm_network.specs.Network.{Network, manager}
 use Rattle.ptpm_network.specs.RunningNetwork.{RunningNetwork, held}
 use Rattle.ptpm_network.specs.State.{NetworkState, history, session_value}
@@ -19,3 +22,10 @@ pub record Stands (N : Network) (first : PortIdentity → ℕ) (r : RunningNetwo
   pub sessions : (s : ℕ) → s < N.sessions → r.session s ≡ session_value (N.session s) (w.session s)
   pub reports : (s : ℕ) → s < N.sessions → r.reports s ≡ (w.session s).reports
   pub frames : r.frames ≡ map held w.frames
+
+-- The running network r has gone through these events, and stands where they lead the machine, whatever first sequenceIds are
+-- given to those who manage nothing.
+pub record StandsAfter (N : Network) (events : List Event) (r : RunningNetwork) : Type 0 where
+  pub promised : IsPromised N events
+  pub stands : (first : PortIdentity → ℕ) → AreFirsts N first
+      → Stands N first r (state_after N events)

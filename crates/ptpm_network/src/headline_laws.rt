@@ -14,9 +14,10 @@ ghost use Rattle.ptpm_network.specs.CarriedOut.{carried_by_event, carried_by_eve
 ghost use Rattle.ptpm_network.specs.Copies.{IsCopyAt};
 ghost use Rattle.ptpm_network.specs.Events.{Deliver, Event, IsInRange, Refusal, Stranger, refusal};
 ghost use Rattle.ptpm_network.specs.RunningNetwork.{Happened, RunningNetwork, initial_network, network_event, network_run};
-ghost use Rattle.ptpm_network.specs.Headline.{Headline, StandsAfter};
+ghost use Rattle.ptpm_network.specs.Headline.{Headline};
 ghost use Rattle.ptpm_network.specs.Machine.{AreInTime, arrives, happens, is_late_delivery, reply_frames, reply_origin, state_after, step, taken};
 ghost use Rattle.ptpm_network.specs.Network.{IsNetwork, Network, ports};
+ghost use Rattle.ptpm_network.specs.Stands.{StandsAfter};
 ghost use Rattle.ptpm_network.specs.State.{Frame, NetworkState, history};
 
 /// The headline. However a network loses, repeats, reorders or duplicates messages, if none arrives after more than 32,768 later

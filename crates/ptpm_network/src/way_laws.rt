@@ -7,7 +7,7 @@ ghost use Rattle.ptpm_codec.specs.declared.identity.PortIdentity.{PortIdentity};
 ghost use Rattle.ptpm_codec.specs.Layout.{domain_number};
 ghost use Rattle.ptpm_network.specs.Events.{Deliver, Event, IsInRange, Send, frame_at, frames_limit, refusal};
 ghost use Rattle.ptpm_network.specs.Exchange.{HasReplied, HasReported, HasRoom, IsHeardBy};
-ghost use Rattle.ptpm_network.specs.Headline.{StandsAfter};
+ghost use Rattle.ptpm_network.specs.Stands.{StandsAfter};
 ghost use Rattle.ptpm_network.specs.Machine.{AreInTime, state_after, step, taken};
 ghost use Rattle.ptpm_network.specs.Network.{AtPort, AtSession, IsNetwork, Network};
 ghost use Rattle.ptpm_network.specs.RunningNetwork.{RunningNetwork};

@@ -7,7 +7,7 @@ ghost use Rattle.ptpm_manager.specs.declared.ask.Ask.{Ask};
 ghost use Rattle.ptpm_manager.specs.declared.error.BeginError.TheVariants as begins;
 ghost use Rattle.ptpm_manager.specs.declared.report.Report.{Report};
 ghost use Rattle.ptpm_network.specs.Events.{Begin, BeginRefused, Event, IsInRange, refusal};
-ghost use Rattle.ptpm_network.specs.Headline.{StandsAfter};
+ghost use Rattle.ptpm_network.specs.Stands.{StandsAfter};
 ghost use Rattle.ptpm_network.specs.Machine.{state_after};
 ghost use Rattle.ptpm_network.specs.Network.{IsNetwork, Network};
 ghost use Rattle.ptpm_network.specs.RunningNetwork.{RunningNetwork};

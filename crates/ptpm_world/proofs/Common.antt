@@ -26,13 +26,12 @@ unfoldable pub use Rattle.ptpm_manager.specs.Session.{begin_refusal, send_refusa
 pub use Rattle.ptpm_manager.specs.declared.report.Report.{Report}
 pub use Rattle.ptpm_network.specs.Events.{Begin, BeginRefused, Deliver, Forged, FramesAtMaximum, IsInRange, NoSuchFrame, NoSuchName, Refusal, Resume, Retune, Send, SendRefused, Stranger, frame_at, frames_limit, is_forged, is_taken, no_frame, no_port, no_room}
 unfoldable pub use Rattle.ptpm_network.specs.Events.{refusal}
-pub use Rattle.ptpm_network.specs.Headline.{StandsAfter}
 pub use Rattle.ptpm_network.specs.Machine.{AreInTime, is_late_delivery, is_late_frame, run, step, strange_frame, taken, with_place}
 pub use Rattle.ptpm_network.specs.Network.{AtPort, AtSession, HasEnd, IsClock, IsNetwork, IsSession, Network, manager, peers, ports, same_end}
 pub use Rattle.ptpm_network.specs.Replying.{origin_by, posted_by}
 pub use Rattle.ptpm_network.specs.RunningNetwork.{Deed, Done, Happened, Held, RunningNetwork, acts, after_turn, delivers, hears, held, network_after, posted, reaches, seen, sends_in, sent_posted, takes_turn, turn_frames, unless_refused, with_session_value}
 unfoldable pub use Rattle.ptpm_network.specs.RunningNetwork.{network_event}
-pub use Rattle.ptpm_network.specs.Stands.{Stands}
+pub use Rattle.ptpm_network.specs.Stands.{Stands, StandsAfter}
 pub use Rattle.ptpm_network.specs.State.{Frame, Neither, NetworkState, Origin, ReplyTo, RequestOf, history, initial_state, is_late, is_late_at}
 pub use Rattle.ptpm_script.specs.EventLine.{reading, verb_of}
 pub use Rattle.ptpm_script.specs.NetworkText.{IsOfText}

@@ -2,10 +2,11 @@
 use Rattle.std.specs.Prelude.{◌≡◌, ◌≢◌, ℕ, Err, IfErr, IsOkAnd, List, [], ◌∷◌, ◌++◌, None, Ok, OnOk, Result, Some, false, map, option_map, slice_get, take}
 use Rattle.ptpm_network.specs.Events as machine
 use Rattle.ptpm_network.specs.Events.{refusal}
-use Rattle.ptpm_network.specs.Headline.{Headline, StandsAfter}
+use Rattle.ptpm_network.specs.Headline.{Headline}
 use Rattle.ptpm_network.specs.Machine.{is_late_delivery, state_after, taken}
 use Rattle.ptpm_network.specs.RunningNetwork.{RunningNetwork, network_event}
 use Rattle.ptpm_network.specs.Network.{Network}
+use Rattle.ptpm_network.specs.Stands.{StandsAfter}
 use Rattle.ptpm_script.specs.declared.event.Event.{Event}
 use Rattle.ptpm_world.specs.declared.took.StepError.{StepError}
 use Rattle.ptpm_world.specs.declared.took.StepError.TheVariants as errors

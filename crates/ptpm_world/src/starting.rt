@@ -2,7 +2,7 @@
 
 ghost use Rattle.std.specs.Prelude.{◌≡◌, ◌<◌, ◌++◌, ◌∷◌, ℕ, IfOk, [], length, map};
 ghost use Rattle.ptpm_codec.specs.declared.identity.PortIdentity.{PortIdentity};
-ghost use Rattle.ptpm_network.specs.Headline.{StandsAfter};
+ghost use Rattle.ptpm_network.specs.Stands.{StandsAfter};
 ghost use Rattle.ptpm_network.specs.Stands.{Stands};
 ghost use Rattle.ptpm_network.specs.State.{initial_state};
 ghost use Rattle.ptpm_script.specs.NetworkValue.{CanStart, clock_value, first_sets, link_value};

@@ -12,7 +12,7 @@ ghost use Rattle.ptpm_table.specs.Outbox.{sent};
 ghost use Rattle.ptpm_network.specs.CarriedOut.{carried_by_event, carried_by_events};
 ghost use Rattle.ptpm_network.specs.Events as machine;
 ghost use Rattle.ptpm_network.specs.Events.{frame_at, is_forged};
-ghost use Rattle.ptpm_network.specs.Headline.{StandsAfter};
+ghost use Rattle.ptpm_network.specs.Stands.{StandsAfter};
 ghost use Rattle.ptpm_network.specs.Machine.{AreInTime, state_after};
 ghost use Rattle.ptpm_network.specs.Network.{Network};
 ghost use Rattle.ptpm_network.specs.Network as net;

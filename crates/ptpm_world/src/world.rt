@@ -50,7 +50,7 @@ impl World {
     ghost use Rattle.ptpm_manager.specs.Session.{count_limit};
     ghost use Rattle.ptpm_network.specs.Events as machine;
     ghost use Rattle.ptpm_network.specs.Events.{frame_at};
-    ghost use Rattle.ptpm_network.specs.Headline.{StandsAfter};
+    ghost use Rattle.ptpm_network.specs.Stands.{StandsAfter};
     ghost use Rattle.ptpm_network.specs.Machine.{is_late_delivery, run, state_after};
     ghost use Rattle.ptpm_network.specs.Network.{Network};
     ghost use Rattle.ptpm_network.specs.RunningNetwork.{held};
