@@ -91,9 +91,10 @@ fn a_clock_that_is_observed(rt: HostRuntime) {
     };
     let out_of_range = ObservedClock {
         steps_removed: 2,
+        has_steps_removed: 1,
         clock_accuracy: 0x16,
         has_clock_accuracy: 1,
-        ..current
+        ..ObservedClock::default()
     };
     let slave = ObservedPort {
         state: 9,
@@ -119,8 +120,9 @@ fn a_clock_that_is_observed(rt: HostRuntime) {
     );
     assert!(rt; left == 0);
     assert!(rt; ptpm_clock_handle(alloc, &mut handle, 1, GET_CURRENT, &mut sent, &mut count) == 5);
-    assert!(rt; count == 1 && sent[0].size == 72);
-    assert!(rt; &sent[0].octets[54..72] == CURRENT.as_slice());
+    let message = &sent[0];
+    assert!(rt; count == 1 && message.size == 72);
+    assert!(rt; &message.octets[54..72] == CURRENT.as_slice());
     assert!(rt; ptpm_clock_read(alloc, &mut handle, 0x2004, 2, &mut octets, &mut count) == 0);
     assert!(rt; octets[10] == 3);
     ptpm_clock_stop(alloc, &mut handle);

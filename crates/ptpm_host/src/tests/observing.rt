@@ -101,44 +101,66 @@ fn a_disabled_port_is_left(rt: HostRuntime) {
     }
 }
 
-/// Each refusal in the order in which they are judged, with all that come behind it. None of them changes anything.
-#[test]
-fn refused_observations(rt: HostRuntime) {
-    let mut room = [Sent::empty(); MOST_SENT];
-    let ports = [PortSettings::new(); 2];
-    let itself_of_another_priority1 = ObservedClock {
-        grandmaster: super::settings().identity,
+/// The clock itself as its grandmaster, with another priority1 than its own.
+fn itself_of_another_priority1() -> ObservedClock {
+    ObservedClock {
+        grandmaster: [0xaa, 0xbb, 0xcc, 0xff, 0xfe, 0xdd, 0xee, 0x01],
         grandmaster_priority1: 100,
         has_grandmaster: 1,
         steps_removed: 7,
         has_steps_removed: 1,
         ..ObservedClock::default()
-    };
-    let two_leaps = ObservedClock {
+    }
+}
+
+/// With both leap61 and leap59 too.
+fn two_leaps() -> ObservedClock {
+    ObservedClock {
         leap61: 1,
         leap59: 1,
         has_leap61: 1,
         has_leap59: 1,
-        ..itself_of_another_priority1
-    };
-    let accuracy = ObservedClock {
+        ..itself_of_another_priority1()
+    }
+}
+
+/// And with a clockAccuracy that the standard reserves.
+fn reserved_accuracy() -> ObservedClock {
+    ObservedClock {
         clock_accuracy: 0x16,
         has_clock_accuracy: 1,
-        ..two_leaps
-    };
+        ..two_leaps()
+    }
+}
+
+/// Each refusal in the order in which they are judged, with all that come behind it. None of them changes anything.
+#[test]
+fn refused_observations(rt: HostRuntime) {
+    let mut room = [Sent::empty(); MOST_SENT];
+    let ports = [PortSettings::new(); 2];
     match HostedClock::start(rt.alloc(), &super::settings(), &ports, &[MANAGER]) {
         Ok(mut clock) => {
             let disabled = in_state(3);
             assert_eq!(rt; observes(&mut clock, &current(), &[]), 0);
-            assert_eq!(rt; observes(&mut clock, &accuracy, &[disabled; 3]), 33);
-            assert_eq!(rt; observes(&mut clock, &accuracy, &[disabled; 2]), 70);
-            assert_eq!(rt; observes(&mut clock, &two_leaps, &[disabled; 2]), 88);
             assert_eq!(rt;
-                observes(&mut clock, &itself_of_another_priority1, &[disabled; 2]),
+                observes(&mut clock, &reserved_accuracy(), &[disabled; 3]),
+                33
+            );
+            assert_eq!(rt;
+                observes(&mut clock, &reserved_accuracy(), &[disabled; 2]),
+                70
+            );
+            assert_eq!(rt; observes(&mut clock, &two_leaps(), &[disabled; 2]), 88);
+            assert_eq!(rt;
+                observes(&mut clock, &itself_of_another_priority1(), &[disabled; 2]),
                 94
             );
             assert_eq!(rt;
-                observes(&mut clock, &itself_of_another_priority1, &[in_state(9); 2]),
+                observes(
+                    &mut clock,
+                    &itself_of_another_priority1(),
+                    &[in_state(9); 2]
+                ),
                 50
             );
             assert!(rt; clock.handle(1, GET_CURRENT, &mut room).is_ok());
