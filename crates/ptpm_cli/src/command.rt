@@ -7,6 +7,7 @@ use ptpm_commands::ids::ids;
 use ptpm_commands::make::{RequestWords, make};
 use ptpm_commands::show::{show, show_good_lines, show_lines};
 use ptpm_commands::{Fault, tell};
+use ptpm_schedule::{Chances, schedule};
 use ptpm_world::{ScriptError, run_script};
 use std::alloc::{AllocError, Global};
 use std::fmt;
@@ -17,7 +18,7 @@ const VERSION: &str = "0.1.0";
 
 /// Does what the words say, the first of which is the program's name, and answers the exit status: 0 where it was done;
 /// 1 at a fault, with the line `ptpm: FAULT` on `err`; 2 where the words were refused, with the reason on `err`. What
-/// `err` does changes nothing. `run` and the option `--lines` alone read. Whatever was written on `out` is flushed, at a fault
+/// `err` does changes nothing. `run`, `schedule` and the option `--lines` alone read. Whatever was written on `out` is flushed, at a fault
 /// too.
 pub fn command<R: Read, O: Write, E: Write>(
     alloc: Global,
@@ -77,6 +78,9 @@ fn run<R: Read, O: Write, E: Write>(
         Ok(Task::Ids) => ids(out)?,
         Ok(Task::Make(words)) => make(alloc, &words, out)?,
         Ok(Task::Run) => run_script(alloc, reader, out).map_err(Failure::Script)?,
+        Ok(Task::Schedule(chances)) => {
+            schedule(alloc, chances, reader, out, err).map_err(Failure::Script)?;
+        }
         Err(error) if error.kind() == ErrorKind::OutOfMemory => {
             return Err(Failure::Fault(Fault::OutOfMemory));
         }
@@ -97,6 +101,8 @@ enum Task<'a> {
     Make(RequestWords<'a>),
     /// `run`, with a script on standard input.
     Run,
+    /// `schedule`, with a script of requests on standard input.
+    Schedule(Chances),
 }
 
 /// What `answer` or `show` takes.
@@ -128,6 +134,7 @@ fn task_of<'a>(name: &str, values: &ArgMatches<'a>) -> Option<Task<'a>> {
         "ids" => Some(Task::Ids),
         "make" => Some(Task::Make(request_words(values)?)),
         "run" => Some(Task::Run),
+        "schedule" => Some(Task::Schedule(chances(values)?)),
         _ => None,
     }
 }
@@ -153,6 +160,14 @@ fn request_words<'a>(values: &ArgMatches<'a>) -> Option<RequestWords<'a>> {
     })
 }
 
+fn chances(values: &ArgMatches<'_>) -> Option<Chances> {
+    Some(Chances {
+        loss: values.get_one("loss")?,
+        repeat: values.get_one("repeat")?,
+        seed: values.get_one("seed")?,
+    })
+}
+
 fn command_line<'a>(alloc: Global) -> Result<Command<'a>, AllocError> {
     let answer = Command::new(alloc, "answer").about(
         "Prints what a fresh clock sends for a datagram at its port 1",
@@ -171,7 +186,8 @@ fn command_line<'a>(alloc: Global) -> Result<Command<'a>, AllocError> {
         .subcommand(show_command(alloc)?)?
         .subcommand(ids)?
         .subcommand(make_command(alloc)?)?
-        .subcommand(run)
+        .subcommand(run)?
+        .subcommand(schedule_command(alloc)?)
 }
 
 /// The command, with a datagram or `--lines`.
@@ -243,6 +259,36 @@ fn with_numbers<'a>(alloc: Global, command: Command<'a>) -> Result<Command<'a>, 
         .value_parser(value_parser!(u8))
         .default_value("0");
     command.arg(number)?.arg(hops)?.arg(domain)
+}
+
+fn schedule_command<'a>(alloc: Global) -> Result<Command<'a>, AllocError> {
+    let loss = percent(
+        alloc,
+        "loss",
+        "Of a hundred frames so many are lost, 0 to 100",
+    );
+    let repeat = percent(
+        alloc,
+        "repeat",
+        "Of a hundred frames that arrive so many arrive twice, 0 to 100",
+    );
+    let seed = option(alloc, "seed", "N", "The same seed draws the same")
+        .value_parser(value_parser!(u64))
+        .default_value("0");
+    Command::new(alloc, "schedule")
+        .about(
+            "Makes the requests on standard input into a script for `run`, on a network that loses and repeats messages",
+        )
+        .arg(loss)?
+        .arg(repeat)?
+        .arg(seed)
+}
+
+/// An option `--NAME N` of so many in a hundred, none where it is absent.
+fn percent<'a>(alloc: Global, name: &'a str, help: &'a str) -> Arg<'a> {
+    option(alloc, name, "N", help)
+        .value_parser(value_parser!(u8).range(0..=100))
+        .default_value("0")
 }
 
 /// A word at its place in the command line.

@@ -5,6 +5,7 @@ mod failing;
 mod lines;
 mod making;
 mod running;
+mod scheduling;
 
 use crate::command::command;
 use std::alloc::Global;
@@ -327,7 +328,7 @@ fn refused_command_lines(rt: HostRuntime) {
         (
             &["ptpm"],
             b"error: 'ptpm' requires a subcommand but one was not provided\n  \
-            [subcommands: answer, show, ids, make, run]\n\n\
+            [subcommands: answer, show, ids, make, run, schedule]\n\n\
             Usage: ptpm <COMMAND>\n\n\
             For more information, try '--help'.\n",
         ),

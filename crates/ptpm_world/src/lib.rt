@@ -12,6 +12,7 @@ mod starting;
 mod stepping;
 mod took;
 mod trace;
+mod whole_script;
 mod world;
 
 pub use frames::Frame;
@@ -20,4 +21,5 @@ pub use ptpm_script::{End, Event, EventError, Name, NetError, Network, read_even
 pub use script::{one_trace, run_script};
 pub use script_error::ScriptError;
 pub use took::{StepError, Took};
+pub use whole_script::{EventLine, Script, read_script};
 pub use world::World;

@@ -85,7 +85,7 @@ fn read_network<R: Read + Drop>(
 }
 
 /// The network of a text.
-fn network_of_text(alloc: Global, text: &str) -> Result<Network, ScriptError>
+pub(crate) fn network_of_text(alloc: Global, text: &str) -> Result<Network, ScriptError>
     ensures network { IfOk result (λ network. network_of text.now ≡ Ok (network_value network)) }
     ensures fault { IfErr result
         (λ e.
@@ -102,7 +102,10 @@ fn network_of_text(alloc: Global, text: &str) -> Result<Network, ScriptError>
 
 /// The lines up to the divider, each followed by a line feed. Of a text over the limit only so much is kept that it is
 /// still over it.
-fn read_text<R: Read + Drop>(alloc: Global, script: &mut Lines<R>) -> Result<String, ScriptError>
+pub(crate) fn read_text<R: Read + Drop>(
+    alloc: Global,
+    script: &mut Lines<R>,
+) -> Result<String, ScriptError>
     ensures text { IfOk result
         (λ text.
         BothKnown (left_in R.remaining script.old) (left_in R.remaining script.new)
@@ -220,7 +223,7 @@ fn show_written<W: Write>(is_awaited: bool, out: &mut W) -> Result<(), ScriptErr
 }
 
 /// The event of a line.
-fn event_of(alloc: Global, number: u32, line: &str) -> Result<Event, ScriptError>
+pub(crate) fn event_of(alloc: Global, number: u32, line: &str) -> Result<Event, ScriptError>
     ensures event { IfOk result (λ event. read_as number (reading line.now) ≡ Ok (Some event)) }
     ensures fault { IfErr result
         (λ e. is_outside e ≡ false → read_as number (reading line.now) ≡ Err e) }
@@ -233,7 +236,7 @@ fn event_of(alloc: Global, number: u32, line: &str) -> Result<Event, ScriptError
 }
 
 /// Whether a line has no words, or is a comment.
-fn is_skipped(line: &str) -> bool
+pub(crate) fn is_skipped(line: &str) -> bool
     ensures { result ≡ is_skipped line.now }
 {
     match first_but_spaces(line) {

@@ -1,0 +1,14 @@
+//! Scripts for networks that lose and repeat messages: which of them arrive, and in what order, is drawn by chance, and the same
+//! seed draws the same (this project's profile).
+#![tactic(auto)]
+
+mod chances;
+mod event_text;
+mod left_out;
+mod scheduling;
+#[cfg(test)]
+mod tests;
+mod traffic;
+
+pub use chances::Chances;
+pub use scheduling::schedule;

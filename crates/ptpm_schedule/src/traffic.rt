@@ -1,0 +1,243 @@
+//! What is under way in a network that loses, repeats and reorders messages.
+
+ghost use Rattle.std.specs.Prelude.{◌≡◌, List};
+ghost use Rattle.ptpm_network.specs.Events as machine;
+ghost use Rattle.ptpm_network.specs.Stands.{StandsAfter};
+ghost use Rattle.ptpm_network.specs.Machine.{is_late_delivery, state_after};
+ghost use Rattle.ptpm_network.specs.Network as net;
+ghost use Rattle.ptpm_world.specs.Placed.{names_in, placed};
+ghost use Rattle.ptpm_world.specs.Running.{running};
+
+use crate::chances::{Chances, Draws};
+use crate::event_text::EventText;
+use ptpm_codec::OutOfMemory;
+use ptpm_script::{Name, NetworkSession};
+use ptpm_world::{End, Event, Network, ScriptError, StepError, Took, World};
+use std::alloc::Global;
+use std::io::Write;
+
+/// A script has at most so many lines (this project's profile).
+const LINES: u64 = 2_000_000;
+
+/// What became of an event.
+#[derive(Clone, Copy)]
+pub(crate) enum Tried {
+    /// It happened, and did this.
+    Happened(Took),
+    /// It would have been a late delivery. Nothing has changed.
+    Late,
+    /// It was refused. Nothing has changed.
+    Refused(StepError),
+}
+
+/// The messages that are under way, and who waits for one.
+#[derive(Drop)]
+pub(crate) struct Traffic<'a> {
+    alloc: Global,
+    network: &'a Network,
+    chances: Chances,
+    draws: Draws,
+    /// The numbers of the frames that will be delivered; twice where a frame is repeated.
+    under_way: Vec<u32>,
+    /// The places of the sessions whose request is not answered and may be sent again.
+    waiting: Vec<u16>,
+    /// How many lines were printed.
+    lines: u64,
+}
+
+impl<'a> Traffic<'a> {
+    /// Nothing is under way, and so many lines are printed.
+    pub(crate) fn new(
+        alloc: Global,
+        network: &'a Network,
+        chances: Chances,
+        lines: u64,
+    ) -> Traffic<'a> {
+        Traffic {
+            alloc,
+            network,
+            chances,
+            draws: Draws::new(chances.seed),
+            under_way: Vec::new(alloc),
+            waiting: Vec::new(alloc),
+            lines,
+        }
+    }
+
+    /// Lets an event of a session happen once its request before is answered or has no attempts left, and sends what it begins or
+    /// resumes. Answers why it was refused, if it was.
+    pub(crate) fn ask<W: Write>(
+        &mut self,
+        world: &mut World,
+        event: &Event,
+        out: &mut W,
+    ) -> Result<Option<StepError>, ScriptError> {
+        let place = place_of(self.network, event);
+        if let Some(place) = place {
+            self.settle(world, place, out)?;
+        }
+        match (self.happen(world, event, out)?, event, place) {
+            (Tried::Refused(why), _, _) => Ok(Some(why)),
+            (Tried::Happened(_), Event::Begin(..) | Event::Resume(..), Some(place)) => {
+                self.waiting.push(place).map_err(|_| OutOfMemory)?;
+                self.send(world, place, out)?;
+                Ok(None)
+            }
+            _ => Ok(None),
+        }
+    }
+
+    /// Lets the network go on until nothing is under way and no session waits.
+    pub(crate) fn finish<W: Write>(
+        &mut self,
+        world: &mut World,
+        out: &mut W,
+    ) -> Result<(), ScriptError> {
+        for _ in 0..u64::MAX {
+            if self.under_way.is_empty() && self.waiting.is_empty() {
+                break;
+            }
+            self.go_on(world, out)?;
+        }
+        Ok(())
+    }
+
+    /// Lets the network go on until the session at this place waits no more.
+    fn settle<W: Write>(
+        &mut self,
+        world: &mut World,
+        place: u16,
+        out: &mut W,
+    ) -> Result<(), ScriptError> {
+        for _ in 0..u64::MAX {
+            if !self.waiting.contains(&place) {
+                break;
+            }
+            self.go_on(world, out)?;
+        }
+        Ok(())
+    }
+
+    /// Delivers one of the frames that are under way. Where there are none, one of the sessions that wait sends again.
+    fn go_on<W: Write>(&mut self, world: &mut World, out: &mut W) -> Result<(), ScriptError> {
+        if !self.under_way.is_empty() {
+            let place = self.draws.place(self.under_way.len());
+            let frame = self.under_way.swap_remove(place);
+            return self.deliver(world, frame, out);
+        }
+        if !self.waiting.is_empty() {
+            let place = self.draws.place(self.waiting.len());
+            let session = self.waiting[place];
+            return self.send(world, session, out);
+        }
+        Ok(())
+    }
+
+    /// Delivers a frame. The session that it answers waits no more.
+    fn deliver<W: Write>(
+        &mut self,
+        world: &mut World,
+        frame: u32,
+        out: &mut W,
+    ) -> Result<(), ScriptError> {
+        let tried = self.happen(world, &Event::Deliver(frame), out)?;
+        if let Tried::Happened(Took::Answered) = tried {
+            if let Some(End::Session(place)) = world.frame(frame).map(|frame| frame.end()) {
+                self.waiting.retain(|waits| *waits != place);
+            }
+        }
+        Ok(())
+    }
+
+    /// Lets the session at a place send. Where it may not, it waits no more.
+    fn send<W: Write>(
+        &mut self,
+        world: &mut World,
+        session: u16,
+        out: &mut W,
+    ) -> Result<(), ScriptError> {
+        let tried = match self.network.sessions().get(session as usize) {
+            Some(listed) => {
+                let event = Event::Send(listed.name.copy(self.alloc)?);
+                self.happen(world, &event, out)?
+            }
+            None => Tried::Refused(StepError::NoSuchName),
+        };
+        if let Tried::Refused(_) = tried {
+            self.waiting.retain(|waits| *waits != session);
+        }
+        Ok(())
+    }
+
+    /// Lets an event happen, unless it is a late delivery, and prints its line. What it sends is lost or under way.
+    fn happen<W: Write>(
+        &mut self,
+        world: &mut World,
+        event: &Event,
+        out: &mut W,
+    ) -> Result<Tried, ScriptError> {
+        if self.lines >= LINES {
+            return Err(ScriptError::TooManyLines);
+        }
+        let sent = world.frames();
+        let tried = try_event(world, event)?;
+        if let Tried::Happened(_) = tried {
+            writeln!(out, "{}", EventText(event))?;
+            self.lines += 1;
+            self.draw_frames(sent, world.frames())?;
+        }
+        Ok(tried)
+    }
+
+    /// Draws which of the frames between two counts are under way, and which of these twice.
+    fn draw_frames(&mut self, before: u32, after: u32) -> Result<(), OutOfMemory> {
+        for sent in before..after {
+            if !self.draws.happens(self.chances.loss) {
+                self.under_way.push(sent + 1).map_err(|_| OutOfMemory)?;
+                if self.draws.happens(self.chances.repeat) {
+                    self.under_way.push(sent + 1).map_err(|_| OutOfMemory)?;
+                }
+            }
+        }
+        Ok(())
+    }
+}
+
+/// Lets an event happen in a network, unless it is a late delivery.
+fn try_event(world: &mut World, event: &Event) -> Result<Tried, OutOfMemory> {
+    if is_late(world, event) {
+        return Ok(Tried::Late);
+    }
+    match world.step(event) {
+        Ok(took) => Ok(Tried::Happened(took)),
+        Err(StepError::OutOfMemory) => Err(OutOfMemory),
+        Err(why) => Ok(Tried::Refused(why)),
+    }
+}
+
+/// Whether an event delivers a late frame.
+fn is_late(world: &World, event: &Event) -> bool
+    ensures { (N : net.Network) (past : List machine.Event)
+        → StandsAfter N past (running world.now)
+        → result ≡ is_late_delivery (state_after N past) (placed (names_in world.now) event.now) }
+{
+    match event {
+        Event::Deliver(frame) => world.is_late(*frame),
+        _ => false,
+    }
+}
+
+/// The place of the session that an event names.
+fn place_of(network: &Network, event: &Event) -> Option<u16> {
+    let name = match event {
+        Event::Begin(name, _) | Event::Resume(name, _) | Event::Retune(name, _) => name,
+        _ => return None,
+    };
+    let sessions = network.sessions();
+    let place = sessions.iter().position(|session| is_named(session, name))?;
+    u16::try_from(place).ok()
+}
+
+fn is_named(session: &NetworkSession, name: &Name) -> bool {
+    session.name.as_str() == name.as_str()
+}
