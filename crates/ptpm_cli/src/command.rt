@@ -8,7 +8,7 @@ use ptpm_commands::make::{RequestWords, make};
 use ptpm_commands::show::{show, show_good_lines, show_lines};
 use ptpm_commands::{Fault, tell};
 use ptpm_schedule::{Chances, schedule};
-use ptpm_world::{ScriptError, run_script};
+use ptpm_world::{ScriptError, check_script, run_script};
 use std::alloc::{AllocError, Global};
 use std::fmt;
 use std::io::{Read, Write};
@@ -17,9 +17,9 @@ use std::io::{Read, Write};
 const VERSION: &str = "0.1.0";
 
 /// Does what the words say, the first of which is the program's name, and answers the exit status: 0 where it was done;
-/// 1 at a fault, with the line `ptpm: FAULT` on `err`; 2 where the words were refused, with the reason on `err`. What
-/// `err` does changes nothing. `run`, `schedule` and the option `--lines` alone read. Whatever was written on `out` is flushed, at a fault
-/// too.
+/// 1 at a fault, with the line `ptpm: FAULT` on `err`, and where `check` wrote faults on `out`; 2 where the words were refused,
+/// with the reason on `err`. What `err` does changes nothing. `run`, `check`, `schedule` and the option `--lines` alone read.
+/// Whatever was written on `out` is flushed, at a fault too.
 pub fn command<R: Read, O: Write, E: Write>(
     alloc: Global,
     words: &[&str],
@@ -28,7 +28,7 @@ pub fn command<R: Read, O: Write, E: Write>(
     err: &mut E,
 ) -> u8 {
     match run(alloc, words, reader, out, err) {
-        Ok(()) => 0,
+        Ok(status) => status,
         Err(Failure::Fault(fault)) => end_at_fault(&fault, out, err),
         Err(Failure::Script(fault)) => end_at_fault(&fault, out, err),
         Err(Failure::Refused(reason)) => {
@@ -51,7 +51,7 @@ fn end_at_fault<F: fmt::Display, O: Write, E: Write>(fault: &F, out: &mut O, err
 /// Why a command line was not done.
 enum Failure {
     Fault(Fault),
-    /// A script ended before its last event.
+    /// A script ended before its last event, or could not be checked.
     Script(ScriptError),
     Refused(clap::Error),
 }
@@ -68,7 +68,8 @@ fn run<R: Read, O: Write, E: Write>(
     reader: &mut R,
     out: &mut O,
     err: &mut E,
-) -> Result<(), Failure> {
+) -> Result<u8, Failure> {
+    let mut status = 0;
     match parse(alloc, words) {
         Ok(Task::Answer(Datagrams::One(text))) => answer(alloc, text, out)?,
         Ok(Task::Answer(Datagrams::Lines)) => answer_lines(alloc, reader, out)?,
@@ -81,6 +82,12 @@ fn run<R: Read, O: Write, E: Write>(
         Ok(Task::Schedule(chances)) => {
             schedule(alloc, chances, reader, out, err).map_err(Failure::Script)?;
         }
+        Ok(Task::Check) => {
+            let findings = check_script(alloc, reader, out).map_err(Failure::Script)?;
+            if findings.first.is_some() {
+                status = 1;
+            }
+        }
         Err(error) if error.kind() == ErrorKind::OutOfMemory => {
             return Err(Failure::Fault(Fault::OutOfMemory));
         }
@@ -88,7 +95,7 @@ fn run<R: Read, O: Write, E: Write>(
         Err(help) => write!(out, "{help}").map_err(Fault::from)?,
     }
     out.flush().map_err(Fault::from)?;
-    Ok(())
+    Ok(status)
 }
 
 /// What the words ask for.
@@ -103,6 +110,8 @@ enum Task<'a> {
     Run,
     /// `schedule`, with a script of requests on standard input.
     Schedule(Chances),
+    /// `check`, with a script on standard input.
+    Check,
 }
 
 /// What `answer` or `show` takes.
@@ -135,6 +144,7 @@ fn task_of<'a>(name: &str, values: &ArgMatches<'a>) -> Option<Task<'a>> {
         "make" => Some(Task::Make(request_words(values)?)),
         "run" => Some(Task::Run),
         "schedule" => Some(Task::Schedule(chances(values)?)),
+        "check" => Some(Task::Check),
         _ => None,
     }
 }
@@ -176,6 +186,9 @@ fn command_line<'a>(alloc: Global) -> Result<Command<'a>, AllocError> {
     let run = Command::new(alloc, "run").about(
         "Runs a network as the script on standard input says, and prints the trace",
     );
+    let check = Command::new(alloc, "check").about(
+        "Prints every fault of the network file or script on standard input, and runs nothing",
+    );
     Command::new(alloc, "ptpm")
         .bin_name("ptpm")?
         .version(VERSION)
@@ -187,6 +200,7 @@ fn command_line<'a>(alloc: Global) -> Result<Command<'a>, AllocError> {
         .subcommand(ids)?
         .subcommand(make_command(alloc)?)?
         .subcommand(run)?
+        .subcommand(check)?
         .subcommand(schedule_command(alloc)?)
 }
 

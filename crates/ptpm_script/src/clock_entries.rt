@@ -59,7 +59,7 @@ pub(crate) struct PortEntry {
 }
 
 /// The keys of a clock.
-static CLOCK_RULES: [Rule; 33] = [
+pub static CLOCK_RULES: [Rule; 33] = [
     required!("name", Kind::Name),
     required!("identity", Kind::Clock),
     required!("domain", U8),
@@ -96,7 +96,7 @@ static CLOCK_RULES: [Rule; 33] = [
 ];
 
 /// The keys of a port.
-static PORT_RULES: [Rule; 9] = [
+pub static PORT_RULES: [Rule; 9] = [
     required!("number", U16),
     optional!("state", U8),
     optional!("log_min_delay_req", I8),
@@ -123,7 +123,7 @@ fn port_table(value: &Value) -> Option<&Table>
 }
 
 /// The start values of a clock: of each key, or this profile's default.
-fn clock_start(identity: ClockIdentity, domain: u8, table: &Table) -> ClockStart
+pub fn clock_start(identity: ClockIdentity, domain: u8, table: &Table) -> ClockStart
     ensures { result ≡ clock_start identity domain (table_view table.now) }
 {
     let default = ClockStart::new(identity, domain);
@@ -162,7 +162,7 @@ fn clock_start(identity: ClockIdentity, domain: u8, table: &Table) -> ClockStart
 }
 
 /// The start values of a port: of each key, or this profile's default.
-fn port_start(table: &Table) -> PortStart
+pub fn port_start(table: &Table) -> PortStart
     ensures { result ≡ port_start (table_view table.now) }
 {
     let default = PortStart::new();

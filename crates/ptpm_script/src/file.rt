@@ -34,7 +34,7 @@ impl Model for NetworkFile {
 }
 
 /// The keys of a file.
-static FILE_RULES: [Rule; 4] = [
+pub static FILE_RULES: [Rule; 4] = [
     required!("version", Kind::Whole(1, 2)),
     optional!("clock", Kind::Array),
     optional!("session", Kind::Array),

@@ -11,18 +11,23 @@ use crate::session_entries::SessionEntry;
 /// The octets of a network file.
 pub const TEXT_OCTETS: usize = 262_144;
 
-const CLOCKS: usize = 64;
+/// The clocks of a network.
+pub const CLOCKS: usize = 64;
 
-const SESSIONS: usize = 256;
+/// The sessions of a network.
+pub const SESSIONS: usize = 256;
 
-const LINKS: usize = 256;
+/// The links of a network.
+pub const LINKS: usize = 256;
 
 /// The sessions whose target is one clock.
-const MANAGERS: usize = 16;
+pub const MANAGERS: usize = 16;
 
-const LEAST_ENDS: usize = 2;
+/// The ends of a link, at least.
+pub const LEAST_ENDS: usize = 2;
 
-const MOST_ENDS: usize = 16;
+/// The ends of a link, at most.
+pub const MOST_ENDS: usize = 16;
 
 /// Whether a limit is passed.
 #[tactic(auto, unfolding(crate::specs::NetworkText::has_too_many))]

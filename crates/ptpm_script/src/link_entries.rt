@@ -28,7 +28,7 @@ pub(crate) struct EndEntry {
 }
 
 /// The keys of a link.
-static LINK_RULES: [Rule; 1] = [required!("ends", Kind::Array)];
+pub static LINK_RULES: [Rule; 1] = [required!("ends", Kind::Array)];
 
 impl Model for LinkEntry {
     ghost use Rattle.std.specs.Prelude.{List};

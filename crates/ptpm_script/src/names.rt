@@ -50,7 +50,7 @@ impl Name {
 
 /// Whether a text is a name of a network file: 1 to 32 ASCII letters, digits and underscores.
 #[tactic(auto, unfolding(crate::specs::Document::is_name))]
-pub(crate) fn is_name(text: &str) -> bool
+pub fn is_name(text: &str) -> bool
     ensures { result ≡ is_name text.now }
 {
     1 <= text.len() && text.len() <= 32 && has_name_octets(text)

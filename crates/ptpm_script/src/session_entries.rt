@@ -34,7 +34,7 @@ pub(crate) struct SessionEntry {
 }
 
 /// The keys of a session.
-static SESSION_RULES: [Rule; 8] = [
+pub static SESSION_RULES: [Rule; 8] = [
     required!("name", Kind::Name),
     required!("identity", Kind::Port(0xfffe)),
     required!("target", Kind::Name),
@@ -100,7 +100,7 @@ fn rights_of(words: &[Value]) -> Option<Rights>
 }
 
 /// The right of a word.
-fn right_of(value: &Value) -> Option<Rights>
+pub fn right_of(value: &Value) -> Option<Rights>
     ensures { option_map (λ r. r.0) result ≡ option_and_then right_of (as_str (view value.now)) }
 {
     match value.as_str()? {

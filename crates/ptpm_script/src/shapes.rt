@@ -12,10 +12,12 @@ use toml::{Table, Value};
 
 /// What a key may hold.
 #[derive(Clone, Copy, Debug)]
-pub(crate) enum Kind {
+pub enum Kind {
     /// A whole number, from the first to the second.
     Whole(i64, i64),
+    /// True or false.
     Flag,
+    /// Any text.
     Text,
     /// A name of a clock or a session.
     Name,
@@ -29,10 +31,11 @@ pub(crate) enum Kind {
 
 /// A key of a table.
 #[derive(Clone, Copy, Debug)]
-pub(crate) struct Rule {
-    pub(crate) key: &'static str,
-    pub(crate) kind: Kind,
-    pub(crate) is_required: bool,
+pub struct Rule {
+    pub key: &'static str,
+    pub kind: Kind,
+    /// Whether a table without the key is refused.
+    pub is_required: bool,
 }
 
 /// A key that a table must have.
@@ -55,7 +58,7 @@ pub(crate) use required;
 impl Kind {
     /// Whether a value is of this kind.
     #[tactic(auto, unfolding(crate::specs::Document::fits))]
-    pub(crate) fn fits(self, value: &Value) -> bool
+    pub fn fits(self, value: &Value) -> bool
         ensures { result ≡ fits self (view value.now) }
     {
         match self {
@@ -86,7 +89,7 @@ impl Kind {
 }
 
 /// What the rules say of a key, if they know it.
-fn kind_of(rules: &[Rule], key: &str) -> Option<Kind>
+pub fn kind_of(rules: &[Rule], key: &str) -> Option<Kind>
     ensures { result ≡ kind_of (map key_rule rules.now) key.now }
 {
     for rule in rules {

@@ -9,7 +9,7 @@ use ptpm_codec::{ClockIdentity, PortIdentity};
 
 /// A clockIdentity of sixteen hexadecimal digits, not all ones.
 #[tactic(auto, unfolding(crate::specs::Document::clock_identity))]
-pub(crate) fn clock_identity(text: &str) -> Option<ClockIdentity>
+pub fn clock_identity(text: &str) -> Option<ClockIdentity>
     ensures { result ≡ clock_identity text.now }
 {
     let mut octets = [0; 8];
@@ -21,7 +21,7 @@ pub(crate) fn clock_identity(text: &str) -> Option<ClockIdentity>
 
 /// A clockIdentity, a slash and a decimal port.
 #[tactic(auto, unfolding(crate::specs::Document::port_identity))]
-pub(crate) fn port_identity(text: &str) -> Option<PortIdentity>
+pub fn port_identity(text: &str) -> Option<PortIdentity>
     ensures { result ≡ port_identity text.now }
 {
     let (clock, port) = text.split_once('/')?;
@@ -33,7 +33,7 @@ pub(crate) fn port_identity(text: &str) -> Option<PortIdentity>
 
 /// An end of a link: a session's name, or a clock's, a dot and a decimal port.
 #[tactic(auto, unfolding(crate::specs::Document::end_of))]
-pub(crate) fn end_spelling(text: &str) -> Option<(&str, Option<u16>)>
+pub fn end_spelling(text: &str) -> Option<(&str, Option<u16>)>
     ensures { option_map (λ e. (e.0.now, e.1)) result ≡ end_of text.now }
 {
     let (name, port) = match text.split_once('.') {

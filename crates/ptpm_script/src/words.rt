@@ -4,7 +4,7 @@ ghost use Rattle.std.specs.Prelude.{◌≡◌, ◌∷◌, [], None, Some, MatchO
 ghost use Rattle.ptpm_script.specs.Words.{words, one_word, two_words, three_words, first_words};
 
 /// The first word of a text and what follows it; `None` where it has no words.
-pub(crate) fn split_word<'a>(text: &'a str) -> Option<(&'a str, &'a str)>
+pub fn split_word<'a>(text: &'a str) -> Option<(&'a str, &'a str)>
     ensures { MatchOption result (words text.now ≡ [])
         (λ r. words text.now ≡ r.0.now ∷ words r.1.now) }
 {

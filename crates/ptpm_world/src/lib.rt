@@ -2,6 +2,7 @@
 //! reorder or duplicate, each clock carries out each request once (IEEE 1588-2019, clause 15).
 #![tactic(auto)]
 
+mod check;
 mod frames;
 mod lines;
 mod network_laws;
@@ -15,6 +16,7 @@ mod trace;
 mod whole_script;
 mod world;
 
+pub use check::{Findings, check_script};
 pub use frames::Frame;
 pub use network_laws::{described_network, described_networks, every_world, placed_event};
 pub use ptpm_script::{End, Event, EventError, Name, NetError, Network, read_event};

@@ -143,6 +143,13 @@ impl<R: Read + Drop> Lines<R> {
         next_octet(&mut self.reader)
     }
 
+    /// How many lines were read.
+    pub(crate) fn count(&self) -> u32
+        ensures { result ≡ self.now.count }
+    {
+        self.count
+    }
+
     /// Whether the next line, its end too, is at hand, or so many octets that it is too long: reading it waits for nothing.
     pub(crate) fn has_next(&self) -> bool {
         let ahead = self.reader.buffer();

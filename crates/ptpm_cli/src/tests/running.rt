@@ -164,3 +164,39 @@ fn scripts_that_end_early(rt: HostRuntime) {
         "ptpm: NotText 2\n",
     );
 }
+
+/// `check` ends with this status, prints this, and says nothing on standard error.
+fn checks(rt: &impl Abort, alloc: Global, input: &str, wanted: u8, printed: &str) {
+    let mut out = Vec::new(alloc);
+    let mut err = Vec::new(alloc);
+    let mut reader = input.as_bytes();
+    let status = command(alloc, &["ptpm", "check"], &mut reader, &mut out, &mut err);
+    assert_eq!(rt; out.as_slice(), printed.as_bytes());
+    assert!(rt; status == wanted && err.is_empty());
+}
+
+/// `check` prints each fault, and `run` names the first on its one line.
+#[test]
+fn checked_scripts(rt: HostRuntime) -> Result<(), Fail> {
+    let alloc = rt.alloc();
+    let script = format!(in alloc; "{ONE_CLOCK}%%\n{FIRST_EVENTS}")?;
+    checks(&rt, alloc, script.as_str(), 0, "");
+    let script = script
+        .as_str()
+        .replace(alloc, "attempts = 2", "attempts = 300")?;
+    let script = script.as_str().replace(alloc, "send m", "snd m")?;
+    let printed = "\
+session 1 \"m\": attempts = 300: a whole number from 0 to 255
+line 18: \"snd\": begin, send, resume, retune, deliver or stranger; the nearest is send
+";
+    checks(&rt, alloc, script.as_str(), 1, printed);
+    runs(
+        &rt,
+        alloc,
+        script.as_str(),
+        1,
+        "",
+        "ptpm: BadNetwork BadShape\n",
+    );
+    Ok(())
+}

@@ -1,0 +1,123 @@
+//! The keys of one table, judged by its rules.
+
+ghost use Rattle.std.specs.Prelude.{◌≡◌, ◌++◌, IfOk, OnOk, is_none, map};
+ghost use Rattle.toml.specs.View.{view, table_view};
+ghost use Rattle.ptpm_script.specs.Document.{key_rule};
+ghost use Rattle.ptpm_check.specs.KeyFaults.{holds, keys_in, missing_keys, wrong_keys};
+
+use crate::fault::{Fault, Found, Wanted};
+use crate::nearest::nearest;
+use crate::place::Place;
+use ptpm_script::{NetError, Rule, kind_of, value_at};
+use std::alloc::{AllocError, Global};
+use toml::{Table, Value};
+
+/// A fault of shape.
+pub(crate) fn shape<'a>(place: Place<'a>, found: Found<'a>, wanted: Wanted<'a>) -> Fault<'a>
+    ensures class { result.class ≡ NetError.BadShape }
+    ensures found { result.found ≡ found.entry }
+{
+    Fault {
+        class: NetError::BadShape,
+        place,
+        found,
+        wanted,
+    }
+}
+
+/// Adds a fault for each key that is missing, unknown, or holds what it may not.
+pub(crate) fn add_key_faults<'a>(
+    alloc: Global,
+    faults: &mut Vec<Fault<'a>>,
+    place: Place<'a>,
+    table: &'a Table,
+    rules: &'static [Rule],
+) -> Result<(), AllocError>
+    ensures { OnOk result
+        (keys_in faults.new.items
+        ≡ (keys_in faults.old.items
+        ++ missing_keys (map key_rule rules.now) (table_view table.now))
+        ++ wrong_keys (map key_rule rules.now) (table_view table.now)) }
+{
+    add_missing(faults, place, table, rules)?;
+    add_wrong(alloc, faults, place, table, rules)
+}
+
+/// Adds a fault for each required key that a table has not.
+fn add_missing<'a>(
+    faults: &mut Vec<Fault<'a>>,
+    place: Place<'a>,
+    table: &'a Table,
+    rules: &'static [Rule],
+) -> Result<(), AllocError>
+    ensures { OnOk result
+        (keys_in faults.new.items
+        ≡ keys_in faults.old.items
+        ++ missing_keys (map key_rule rules.now) (table_view table.now)) }
+{
+    for rule in rules {
+        if rule.is_required && value_at(table, rule.key).is_none() {
+            faults.push(shape(place, Found::Missing(rule.key), Wanted::Kind(rule.kind)))?;
+        }
+    }
+    Ok(())
+}
+
+/// Adds a fault for each key of a table that no rule knows, or whose value is not of its kind.
+fn add_wrong<'a>(
+    alloc: Global,
+    faults: &mut Vec<Fault<'a>>,
+    place: Place<'a>,
+    table: &'a Table,
+    rules: &'static [Rule],
+) -> Result<(), AllocError>
+    ensures { OnOk result
+        (keys_in faults.new.items
+        ≡ keys_in faults.old.items
+        ++ wrong_keys (map key_rule rules.now) (table_view table.now)) }
+{
+    for (key, value) in table {
+        if let Some(wanted) = wrong(alloc, key.as_str(), value, rules)? {
+            faults.push(shape(place, Found::Value(key.as_str(), value), wanted))?;
+        }
+    }
+    Ok(())
+}
+
+/// What a key may hold that holds something else, or which key it may be.
+fn wrong(
+    alloc: Global,
+    key: &str,
+    value: &Value,
+    rules: &'static [Rule],
+) -> Result<Option<Wanted<'static>>, AllocError>
+    ensures { IfOk result
+        (λ wanted. is_none wanted ≡ holds (map key_rule rules.now) key.now (view value.now)) }
+{
+    match kind_of(rules, key) {
+        Some(kind) if kind.fits(value) => Ok(None),
+        Some(kind) => Ok(Some(Wanted::Kind(kind))),
+        None => Ok(Some(Wanted::Key(nearest_key(alloc, key, rules)?))),
+    }
+}
+
+/// The key of the rules that is nearest to one.
+fn nearest_key(
+    alloc: Global,
+    key: &str,
+    rules: &'static [Rule],
+) -> Result<&'static str, AllocError> {
+    let mut keys = Vec::new(alloc);
+    for rule in rules {
+        keys.push(rule.key)?;
+    }
+    Ok(nearest(alloc, key, keys.as_slice())?.unwrap_or(""))
+}
+
+/// The items of the array at a key; none where there is no array.
+pub(crate) fn items_at<'a>(table: &'a Table, key: &str) -> &'a [Value] {
+    match table.get(key) {
+        Some(Value::Array(items)) => items.as_slice(),
+        _ => &[],
+    }
+}

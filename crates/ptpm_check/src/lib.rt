@@ -1,0 +1,23 @@
+//! Every fault of a network file and of the events of a script, each with its place (this project's profile).
+#![tactic(auto)]
+
+mod event_faults;
+mod fault;
+mod heads;
+mod key_faults;
+mod laws;
+mod limit_faults;
+mod name_faults;
+mod nearest;
+mod network_faults;
+mod place;
+mod repeat_faults;
+mod shape_faults;
+mod start_faults;
+mod value_text;
+
+pub use event_faults::{EventFault, Expected, event_fault};
+pub use fault::{Fault, Found, Wanted};
+pub use laws::told_keys;
+pub use network_faults::Document;
+pub use place::{Array, Place};

@@ -1,0 +1,59 @@
+//! Where a fault stands.
+
+use std::fmt;
+
+/// An array of tables of a network file.
+#[derive(Clone, Copy, Debug, PartialEq, Eq)]
+pub enum Array {
+    Clock,
+    Session,
+    Link,
+}
+
+/// Its key.
+impl fmt::Display for Array {
+    fn fmt<W: fmt::Write>(&self, f: &mut fmt::Formatter<W>) -> fmt::Result {
+        f.write_str(self.key())
+    }
+}
+
+impl Array {
+    /// The key that it stands at.
+    pub fn key(self) -> &'static str {
+        match self {
+            Array::Clock => "clock",
+            Array::Session => "session",
+            Array::Link => "link",
+        }
+    }
+}
+
+/// Where a fault stands. Lines, and the tables of an array, are counted from 1.
+#[derive(Clone, Copy, Debug)]
+pub enum Place<'a> {
+    /// The file as a whole, or a key outside of its arrays.
+    File,
+    /// A line.
+    Line(usize),
+    /// A table of an array, and its name where it has one.
+    Table(Array, usize, Option<&'a str>),
+    /// A table `clock.port` of the clock of this number and name.
+    Port(usize, Option<&'a str>, usize),
+}
+
+/// As `clock 2 "K"`, and of a port as `clock 2 "K", port table 1`.
+impl fmt::Display for Place<'_> {
+    fn fmt<W: fmt::Write>(&self, f: &mut fmt::Formatter<W>) -> fmt::Result {
+        match *self {
+            Place::File => f.write_str("file"),
+            Place::Line(line) => write!(f, "line {line}"),
+            Place::Table(array, number, Some(name)) => write!(f, "{array} {number} \"{name}\""),
+            Place::Table(array, number, None) => write!(f, "{array} {number}"),
+            Place::Port(clock, Some(name), number) => write!(
+                f,
+                "clock {clock} \"{name}\", port table {number}"
+            ),
+            Place::Port(clock, None, number) => write!(f, "clock {clock}, port table {number}"),
+        }
+    }
+}
