@@ -28,3 +28,4 @@ pub mod LineLemmas
 pub mod FaultLemmas
 pub mod StartedWorld
 pub mod ScriptLemmas
+pub mod Checking

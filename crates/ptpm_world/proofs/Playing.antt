@@ -48,7 +48,7 @@ left-some None b on p = tt
 left-some (Some xs) None on p = absurd p
 left-some (Some xs) (Some ys) on p = on xs ys p
 
-both-same : (P : List ℕ → List ℕ → Type 0) (a : Option (List ℕ))
+pub both-same : (P : List ℕ → List ℕ → Type 0) (a : Option (List ℕ))
     → ((xs : List ℕ) → P xs xs) → BothKnown a a P
 both-same P None on = tt
 both-same P (Some xs) on = on xs

@@ -12,3 +12,4 @@ pub mod Trace
 pub mod Lines
 pub mod ScriptError
 pub mod Script
+pub mod Check

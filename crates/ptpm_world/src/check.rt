@@ -1,6 +1,15 @@
 //! Every fault of a script, without running it.
 
-ghost use Rattle.std.specs.Prelude.{◌≡◌, ◌+◌, Ok, true};
+ghost use Rattle.std.specs.Prelude.{◌≡◌, ◌+◌, ℕ, IfOk, IfSome, Ok, OnOk, Some, false, option_map, true};
+ghost use Rattle.std.specs.Option.{option_or};
+ghost use Rattle.std.specs.Result.{result_err};
+ghost use Rattle.ptpm_check.specs.Faults.{refusal_of};
+ghost use Rattle.ptpm_script.specs.NetworkText.{network_of};
+ghost use Rattle.ptpm_world.specs.declared.script_error.ScriptError.TheVariants.{BadNetwork};
+ghost use Rattle.ptpm_world.specs.Check.{events_fault};
+ghost use Rattle.ptpm_world.specs.Lines.{left_in, whole_lines};
+ghost use Rattle.ptpm_world.specs.Script.{event_of, scripted, scripted_from};
+ghost use Rattle.ptpm_world.specs.ScriptError.{ReadsWhole, is_outside, text_fault};
 
 use crate::lines::Lines;
 use crate::script::{is_skipped, read_text};
@@ -18,7 +27,8 @@ pub struct Findings {
     pub count: usize,
 }
 
-/// Reads a network file, or a script, and writes each of its faults on a line of its own. No event happens.
+/// Reads a network file, or a script, and writes each of its faults on a line of its own. No event happens. The first fault is the
+/// one that `run_script` answers for the same octets.
 ///
 /// An error says nothing of the script: reading or writing failed, or memory was refused. Behind a line that is too long, and
 /// behind one of the network file that is not UTF-8, nothing is read.
@@ -27,29 +37,50 @@ pub fn check_script<R: Read + Drop, W: Write>(
     alloc: Global,
     reader: R,
     out: &mut W,
-) -> Result<Findings, ScriptError> {
+) -> Result<Findings, ScriptError>
+    ensures first { IfOk result
+        (λ found.
+        IfSome (R.remaining reader) (λ input. found.first ≡ result_err (scripted input).end)) }
+{
     let mut script = Lines::new(alloc, reader)?;
-    let mut findings = Findings {
-        first: None,
-        count: 0,
-    };
-    match read_text(alloc, &mut script) {
-        Ok(text) => {
-            check_network(alloc, text.as_str(), &mut findings, out)?;
-            check_events(alloc, &mut script, &mut findings, out)?;
-        }
-        Err(fault) => note_line(fault, &mut findings, out)?,
-    }
+    let findings = check_lines(alloc, &mut script, out)?;
     out.flush()?;
     Ok(findings)
 }
 
 impl Findings {
-    /// Counts a fault.
-    fn note(&mut self, fault: ScriptError) {
+    /// Counts so many faults, of which this is the first.
+    fn note(&mut self, fault: ScriptError, count: usize)
+        ensures first { self.new.first ≡ option_or self.old.first (Some fault) }
+    {
         self.first = self.first.or(Some(fault));
-        self.count = self.count.saturating_add(1);
+        self.count = self.count.saturating_add(count);
     }
+}
+
+/// Writes the faults of all lines: of the network file, and of the events behind it.
+fn check_lines<R: Read + Drop, W: Write>(
+    alloc: Global,
+    script: &mut Lines<R>,
+    out: &mut W,
+) -> Result<Findings, ScriptError>
+    ensures first { IfOk result
+        (λ found.
+        IfSome (left_in R.remaining script.old)
+        (λ octets. found.first ≡ result_err (scripted_from (script.old.count + 1) octets).end)) }
+{
+    let mut findings = Findings {
+        first: None,
+        count: 0,
+    };
+    match read_text(alloc, script) {
+        Ok(text) => {
+            check_network(alloc, text.as_str(), &mut findings, out)?;
+            check_events(alloc, script, &mut findings, out)?;
+        }
+        Err(fault) => note_line(fault, &mut findings, out)?,
+    }
+    Ok(findings)
 }
 
 /// Writes the faults of a network file.
@@ -58,12 +89,19 @@ fn check_network<W: Write>(
     text: &str,
     findings: &mut Findings,
     out: &mut W,
-) -> Result<(), ScriptError> {
+) -> Result<(), ScriptError>
+    ensures first { OnOk result
+        (findings.new.first
+        ≡ option_or findings.old.first
+        (option_map BadNetwork (refusal_of (network_of text.now)))) }
+{
     let document = Document::of(alloc, text)?;
     let faults = document.faults(alloc)?;
     for fault in faults.as_slice() {
         writeln!(out, "{fault}")?;
-        findings.note(ScriptError::BadNetwork(fault.class));
+    }
+    if let Some(first) = faults.first() {
+        findings.note(ScriptError::BadNetwork(first.class), faults.len());
     }
     Ok(())
 }
@@ -74,7 +112,14 @@ fn check_events<R: Read + Drop, W: Write>(
     script: &mut Lines<R>,
     findings: &mut Findings,
     out: &mut W,
-) -> Result<(), ScriptError> {
+) -> Result<(), ScriptError>
+    ensures first { OnOk result
+        (IfSome (left_in R.remaining script.old)
+        (λ octets.
+        findings.new.first
+        ≡ option_or findings.old.first
+        (events_fault (script.old.count + 1) 1 (whole_lines octets)))) }
+{
     let mut number = 0;
     while read_next(script, findings, out)? {
         number += 1;
@@ -90,6 +135,17 @@ fn read_next<R: Read + Drop, W: Write>(
     out: &mut W,
 ) -> Result<bool, ScriptError>
     ensures count { result ≡ Ok true → script.new.count ≡ script.old.count + 1 }
+    ensures same { result ≡ Ok true → findings.new.first ≡ findings.old.first }
+    ensures line { result ≡ Ok true
+        → ReadsWhole (script.old.count + 1) (left_in R.remaining script.old) true
+        script.new.line.items (left_in R.remaining script.new) }
+    ensures end { result ≡ Ok false
+        → IfSome (left_in R.remaining script.old)
+        (λ octets.
+        (place : ℕ)
+        → findings.new.first
+        ≡ option_or findings.old.first
+        (events_fault (script.old.count + 1) place (whole_lines octets))) }
 {
     match script.read() {
         Ok(more) => Ok(more),
@@ -107,7 +163,13 @@ fn check_event<R: Read + Drop, W: Write>(
     number: u32,
     findings: &mut Findings,
     out: &mut W,
-) -> Result<(), ScriptError> {
+) -> Result<(), ScriptError>
+    ensures first { OnOk result
+        (findings.new.first
+        ≡ option_or findings.old.first
+        (option_or (text_fault script.now.count script.now.line.items)
+        (result_err (event_of number script.now.line.items)))) }
+{
     let line = match script.text() {
         Ok(line) => line,
         Err(fault) => return note_line(fault, findings, out),
@@ -117,7 +179,7 @@ fn check_event<R: Read + Drop, W: Write>(
     }
     if let Some(fault) = event_fault(alloc, line)? {
         writeln!(out, "line {}: {fault}", script.count())?;
-        findings.note(ScriptError::BadLine(number, fault.error));
+        findings.note(ScriptError::BadLine(number, fault.error), 1);
     }
     Ok(())
 }
@@ -127,7 +189,10 @@ fn note_line<W: Write>(
     fault: ScriptError,
     findings: &mut Findings,
     out: &mut W,
-) -> Result<(), ScriptError> {
+) -> Result<(), ScriptError>
+    ensures first { OnOk result (findings.new.first ≡ option_or findings.old.first (Some fault)) }
+    ensures inside { OnOk result (is_outside fault ≡ false) }
+{
     match fault {
         ScriptError::LineTooLong(line) => {
             writeln!(
@@ -144,6 +209,6 @@ fn note_line<W: Write>(
         ScriptError::NotText(line) => writeln!(out, "line {line}: not UTF-8")?,
         outside => return Err(outside),
     }
-    findings.note(fault);
+    findings.note(fault, 1);
     Ok(())
 }
