@@ -43,7 +43,7 @@ pub use Rattle.ptpm_world.specs.Described.{clock_at, configured, described, desc
 pub use Rattle.ptpm_world.specs.Ends.{AreLinks, IsOfSession, IsStoredFrame, IsThere, port_counts}
 pub use Rattle.ptpm_world.specs.Frames.{HasRoom, ends_of, frame_in, frame_value, held_in, link_ends, origin_of}
 pub use Rattle.ptpm_world.specs.Lines.{BothKnown, given, left_in, whole_lines}
-pub use Rattle.ptpm_world.specs.Placed.{Names, names_in, names_of, place_in, placed}
+pub use Rattle.ptpm_world.specs.Placed.{Names, names_in, names_of, place_in, placed, placed_all}
 pub use Rattle.ptpm_world.specs.Running.{IsClockOf, IsOf, agent_clock, agent_state, is_late_held, is_late_of, reports_of, running, session_of, sets_of, state_of, table_entries}
 pub use Rattle.ptpm_world.specs.Script.{HasPlayed, HasPrinted, HasStopped, Played, Prints, StandsFor, TakesFirst, begins_comment, behind, closed, closing, ends, event_of, from_file, in_network, is_divider, is_skipped, network_text, played, played_by, read_as, scripted, scripted_from, started, started_session, unless_fault}
 pub use Rattle.ptpm_world.specs.ScriptError.{HasNextFault, ReadsWhole, is_outside, line_fault, next_fault, size_fault, text_fault}

@@ -1,5 +1,5 @@
 -- How a step ends: the event happened, was refused, or memory was.
-use Rattle.ptpm_world.proofs.Common.{IsErrAnd, IsOkAnd, ◌≡◌, ℕ, Some, None, Ok, Err, OnErr, OnOk, Option, Result, refl, sym, ◌∙◌, subst, ap, option_map, result_err, Refusal, Happened, RunningNetwork, network_after, network_event, Network, StepError, Took, World, IsOf, running, IsStep, answer_of, error_of, took_of}
+use Rattle.ptpm_world.proofs.Common.{IsErrAnd, IsOkAnd, ◌≡◌, ℕ, Some, Ok, Err, OnErr, OnOk, Result, refl, sym, ◌∙◌, subst, ap, option_map, result_err, Refusal, Happened, RunningNetwork, network_after, network_event, Network, StepError, Took, World, IsOf, running, IsStep, answer_of, error_of, took_of}
 use Rattle.ptpm_network.specs.Events.{Event}
 use Rattle.ptpm_world.specs.declared.took.StepError.TheVariants as errors
 

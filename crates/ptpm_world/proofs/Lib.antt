@@ -27,5 +27,6 @@ pub mod Playing
 pub mod LineLemmas
 pub mod FaultLemmas
 pub mod StartedWorld
+pub mod Telling
 pub mod ScriptLemmas
 pub mod Checking

@@ -1,7 +1,8 @@
 -- A script as far as it is played: what is left of its lines comes to what all of them do, behind what was written.
-use Rattle.ptpm_world.proofs.Common.{◌≡◌, ◌≢◌, ℕ, ◌+◌, ◌++◌, List, [], ◌∷◌, Bool, true, false, None, Some, Ok, Err, refl, sym, ap, subst, ◌∙◌, append_assoc, append-nil, cond-false, cond-true, IfSome, IsErrAnd, Option, Result, if◌then◌else◌, option_or, Appends, Keeps, Appends-nil, Appends-trans, Network, RunningNetwork, BothKnown, HasNextFault, ReadsWhole, whole_lines, Names, HasPlayed, HasStopped, Played, behind, ends, event_of, from_file, is_divider, is_outside, is_skipped, line_fault, next_fault, played, played_by, read_as, reading, size_fault, text_fault, unless_fault}
+use Rattle.ptpm_world.proofs.Common.{◌≡◌, ◌≢◌, ℕ, ◌+◌, ◌++◌, List, [], ◌∷◌, Bool, true, false, None, Some, Ok, Err, refl, sym, ap, subst, ◌∙◌, append_assoc, append-nil, cond-false, cond-true, IfSome, IsErrAnd, Option, Result, if◌then◌else◌, option_or, Appends, Keeps, Appends-nil, Appends-trans, Network, RunningNetwork, AllByRecursion, IsInRange, placed_all, BothKnown, HasNextFault, ReadsWhole, whole_lines, Names, HasPlayed, HasStopped, Played, behind, ends, event_of, from_file, is_divider, is_outside, is_skipped, line_fault, next_fault, played, played_by, read_as, reading, size_fault, text_fault, unless_fault}
 use Rattle.ptpm_script.specs.declared.event.Event.{Event}
 use Rattle.ptpm_world.specs.declared.script_error.ScriptError.{ScriptError}
+use Rattle.ptpm_world.specs.declared.whole_script.EventLine.{EventLine}
 use Rattle.ptpm_world.specs.declared.script_error.ScriptError.TheVariants as faults
 
 -- ---- what a reader tells, call after call
@@ -157,11 +158,24 @@ pub event-read : (place : ℕ) (line : List ℕ) (x : Result (Option Event) Scri
     → event_of place line ≡ x
 event-read place line x s r = cond-false _ _ _ s ∙ r
 
--- all lines from the k-th on come to what is left of them from the n-th on, behind what was written
+-- events that a program can hand in
+abbrev pub AreInRange : Names → List EventLine → Type 0
+AreInRange names events = AllByRecursion IsInRange (placed_all names events)
+
+in_range-append : (names : Names) (es fs : List EventLine)
+    → AreInRange names es
+    → AreInRange names fs
+    → AreInRange names (es ++ fs)
+in_range-append names [] fs front rest = rest
+in_range-append names (e ∷ es) fs front rest = (front.0, in_range-append names es fs front.1 rest)
+
+-- all lines from the k-th on come to what is left of them from the n-th on, behind these events, whose lines were written
 pub record Plays (N : Network) (names : Names) (start now : RunningNetwork)
     (first written : Option (List ℕ)) (k n place : ℕ) (xs ys : List ℕ) : Type 0 where
+  pub events : List EventLine
   pub text : List ℕ
-  pub comes : played N names start k 1 (whole_lines xs) ≡ behind text (played N names now n place (whole_lines ys))
+  pub comes : played N names start k 1 (whole_lines xs) ≡ behind events text (played N names now n place (whole_lines ys))
+  pub range : AreInRange names events
   pub is : Appends first written text
 
 pub record PlaysOn (N : Network) (names : Names) (start now : RunningNetwork)
@@ -172,7 +186,8 @@ pub plays-first : (N : Network) (names : Names) (start : RunningNetwork) (first 
     (k : ℕ) (a : Option (List ℕ))
     → PlaysOn N names start start first first k k 1 a a
 plays-first N names start first k a = record {
-  each = both-same (Plays N names start start first first k k 1) a (λ xs. record { text = []; comes = refl; is = Appends-nil first });
+  each = both-same (Plays N names start start first first k k 1) a
+      (λ xs. record { events = []; text = []; comes = refl; range = tt; is = Appends-nil first });
 }
 
 pub keeps-nil : (a b : Option (List ℕ)) → Keeps a b → Appends a b []
@@ -180,26 +195,27 @@ keeps-nil None b k = tt
 keeps-nil (Some x) None k = absurd k
 keeps-nil (Some x) (Some y) k = k ∙ sym (append-nil x)
 
--- a line more, for which this was written
+-- a line more, of these events, for which this was written
 pub plays-more : {N : Network} {names : Names} {start now next : RunningNetwork}
     {first written more : Option (List ℕ)} {a b c : Option (List ℕ)} {k n m place : ℕ} {line : List ℕ}
-    (one : List ℕ)
+    (added : List EventLine) (one : List ℕ)
     (x : Result (Option Event) ScriptError)
     → PlaysOn N names start now first written k n place a b
     → NextIs n None line b c
     → event_of place line ≡ x
     → ((others : RunningNetwork → Played RunningNetwork)
-    → played_by x N names now place others ≡ behind one (others next))
+    → played_by x N names now place others ≡ behind added one (others next))
+    → AreInRange names added
     → Appends written more one → m ≡ n + 1
     → PlaysOn N names start next first more k m (place + 1) a c
-plays-more {N} {names} {start} {now} {next} {first} {written} {more} {a} {b} {c} {k} {n} {m} {place} {line} one x h is read goes wrote e = record { each = both-on a b c more_of h.each is.is }
+plays-more {N} {names} {start} {now} {next} {first} {written} {more} {a} {b} {c} {k} {n} {m} {place} {line} added one x h is read goes range wrote e = record { each = both-on a b c more_of h.each is.is }
   where
     rest : List ℕ → RunningNetwork → Played RunningNetwork
     rest zs r = played N names r (n + 1) (place + 1) (whole_lines zs)
 
     step : (ys zs : List ℕ)
         → (octets : List ℕ) × ((whole_lines ys ≡ (line, octets) ∷ whole_lines zs) × (line_fault n (line, octets) ≡ None))
-        → played N names now n place (whole_lines ys) ≡ behind one (rest zs next)
+        → played N names now n place (whole_lines ys) ≡ behind added one (rest zs next)
     step ys zs at =
         guarded (playing N names now place) (others_played N names now place) None n line ys zs (play-guards N names now place) at
         ∙ ap (λ y. played_by y N names now place (rest zs)) read ∙ goes (rest zs)
@@ -209,10 +225,12 @@ plays-more {N} {names} {start} {now} {next} {first} {written} {more} {a} {b} {c}
         → (octets : List ℕ) × ((whole_lines ys ≡ (line, octets) ∷ whole_lines zs) × (line_fault n (line, octets) ≡ None))
         → Plays N names start next first more k m (place + 1) xs zs
     more_of xs ys zs p at = record {
+      events = p.events ++ added;
       text = p.text ++ one;
-      comes = p.comes ∙ ap (behind p.text) (step ys zs at)
-          ∙ (λ i. record { text = (sym (append_assoc p.text one (rest zs next).text)) i; end = (rest zs next).end })
-          ∙ ap (λ j. behind (p.text ++ one) (played N names next j (place + 1) (whole_lines zs))) (sym e);
+      comes = p.comes ∙ ap (behind p.events p.text) (step ys zs at)
+          ∙ (λ i. record { events = (sym (append_assoc p.events added (rest zs next).events)) i; text = (sym (append_assoc p.text one (rest zs next).text)) i; end = (rest zs next).end })
+          ∙ ap (λ j. behind (p.events ++ added) (p.text ++ one) (played N names next j (place + 1) (whole_lines zs))) (sym e);
+      range = in_range-append names p.events added p.range range;
       is = Appends-trans first written more p.text one p.is wrote;
     }
 
@@ -221,13 +239,22 @@ pub plays-end : {N : Network} {names : Names} {start now : RunningNetwork}
     {first written : Option (List ℕ)} {a b c : Option (List ℕ)} {k n place : ℕ}
     → PlaysOn N names start now first written k n place a b
     → NoneIs b c
-    → IfSome a (λ xs. ((played N names start k 1 (whole_lines xs)).end ≡ Ok now) × Appends first written (played N names start k 1 (whole_lines xs)).text)
+    → IfSome a
+    (λ xs.
+    ((played N names start k 1 (whole_lines xs)).end ≡ Ok now)
+    × (Appends first written (played N names start k 1 (whole_lines xs)).text
+    × AreInRange names (played N names start k 1 (whole_lines xs)).events))
 plays-end {N} {names} {start} {now} {first} {written} {a} {b} {c} {k} {n} {place} h none =
     both-end a b c
     (λ xs ys zs p none.
-    let is : played N names start k 1 (whole_lines xs) ≡ record { text = p.text ++ []; end = Ok now } =
-    p.comes ∙ ap (λ ls. behind p.text (played N names now n place ls)) none.0 in
-    (ap (λ x. x.end) is, subst (Appends first written) (sym (append-nil p.text) ∙ sym (ap (λ x. x.text) is)) p.is))
+    let is : played N names start k 1 (whole_lines xs) ≡ record { events = p.events ++ []; text = p.text ++ []; end = Ok now } =
+    p.comes ∙ ap (λ ls. behind p.events p.text (played N names now n place ls)) none.0 in (
+      ap (λ x. x.end) is,
+      (
+        subst (Appends first written) (sym (append-nil p.text) ∙ sym (ap (λ x. x.text) is)) p.is,
+        subst (AreInRange names) (sym (append-nil p.events) ∙ sym (ap (λ x. x.events) is)) p.range,
+      ),
+    ))
     h.each none.is
 
 -- an error, which the lines that are left come to
@@ -238,9 +265,9 @@ pub plays-err : {A : Type 0} (r : Result A ScriptError) (e : ScriptError) (last 
     → PlaysOn N names start now first written k n place a b
     → (e ≢ faults.WriteFault → more ≡ written)
     → (is_outside e ≡ false → IfSome b (λ ys. played N names now n place (whole_lines ys) ≡ ends (Err e)))
-    → IfSome a (λ xs. HasPlayed (played N names start k 1 (whole_lines xs)) last first more r)
+    → IfSome a (λ xs. HasPlayed names (played N names start k 1 (whole_lines xs)) last first more r)
 plays-err r e last {N} {names} {start} {now} {first} {written} more {a} {b} {k} {n} {place} given h kept fault =
-    err-is r e (λ r. IfSome a (λ xs. HasPlayed (played N names start k 1 (whole_lines xs)) last first more r)) given
+    err-is r e (λ r. IfSome a (λ xs. HasPlayed names (played N names start k 1 (whole_lines xs)) last first more r)) given
     (stopped a b h.each fault)
   where
     stopped : (a b : Option (List ℕ))

@@ -1,11 +1,13 @@
 -- A whole script: its network file is read, its events are played, and the rest of its trace is written.
-use Rattle.ptpm_world.proofs.Common.{◌≡◌, ℕ, ◌+◌, ◌<◌, ◌≤◌, ◌++◌, ◌⊎◌, inl, inr, ⊎_elim, true, false, List, [], ◌∷◌, length, None, Some, Ok, Err, Result, refl, sym, ap, subst, ◌∙◌, append_assoc, length-append, append-nil, arith, Option, IfSome, cases_lt, cond-false, cond-true, lt-ltb, Appends-nil, Appends-trans, Appends, IsErrAnd, Keeps, RunningNetwork, network_of, NetworkValue, described, BothKnown, Names, names_of, HasPrinted, HasStopped, Played, Prints, StandsFor, TakesFirst, closed, closing, ends, from_file, in_network, is_divider, is_outside, network_text, played, scripted, scripted_from, started, whole_lines, data_lines, line_feed, report_lines}
+use Rattle.ptpm_world.proofs.Common.{◌≡◌, ℕ, ◌+◌, ◌<◌, ◌≤◌, ◌++◌, ◌⊎◌, inl, inr, ⊎_elim, true, false, List, [], ◌∷◌, length, None, Some, Ok, Err, Result, refl, sym, ap, subst, ◌∙◌, append_assoc, length-append, append-nil, arith, Option, IfSome, cases_lt, cond-false, cond-true, lt-ltb, Appends-nil, Appends-trans, Appends, IsErrAnd, Keeps, OnOk, AreInTime, Network, initial_state, StandsAfter, placed_all, RunningNetwork, network_of, NetworkValue, described, BothKnown, Names, names_of, HasPrinted, HasStopped, Played, Prints, StandsFor, TakesFirst, closed, closing, ends, from_file, in_network, is_divider, is_outside, network_text, played, scripted, scripted_from, started, whole_lines, data_lines, line_feed, report_lines}
 use Rattle.ptpm_script.specs.declared.net_error.NetError.{NetError}
 use Rattle.ptpm_script.specs.declared.net_error.NetError.TheVariants as refusals
 use Rattle.ptpm_world.specs.declared.script_error.ScriptError.{ScriptError}
 use Rattle.ptpm_world.specs.declared.script_error.ScriptError.TheVariants as faults
+use Rattle.ptpm_world.specs.MachineTrace.{IsMachineTrace, ShowsNetwork}
 use Rattle.ptpm_world.proofs.FaultLemmas.{outside}
-use Rattle.ptpm_world.proofs.Playing.{FileEnds, NextIs, NoneIs, both-is, both-on, both-some, err-is, left-some, some-is}
+use Rattle.ptpm_world.proofs.Playing.{AreInRange, FileEnds, NextIs, NoneIs, both-is, both-on, both-some, err-is, left-some, some-is}
+use Rattle.ptpm_world.proofs.Telling.{machine-trace}
 
 -- ---- the network file
 
@@ -114,12 +116,15 @@ read-whole a b c n k kept h none goes =
 pub file-network : (a b : Option (List ℕ)) (n k : ℕ) (kept : List ℕ) (network : Result NetworkValue NetError)
     → FileRead a n b k kept
     → network_of kept ≡ network
-    → BothKnown a b (λ xs ys. scripted_from n xs ≡ in_network network k (whole_lines ys))
+    → BothKnown a b
+    (λ xs ys.
+    (scripted_from n xs ≡ in_network network k (whole_lines ys))
+    × (network_of (network_text (whole_lines xs)) ≡ network))
 file-network a b n k kept network h e =
     both-is a b
     (λ xs ys p.
-    p.1 (in_network (network_of (network_text (whole_lines xs))))
-    ∙ ap (λ x. in_network x k (whole_lines ys)) (sym (kept-network kept _ p.0) ∙ e))
+    let file : network_of (network_text (whole_lines xs)) ≡ network = sym (kept-network kept (network_text (whole_lines xs)) p.0) ∙ e in
+    (p.1 (in_network (network_of (network_text (whole_lines xs)))) ∙ ap (λ x. in_network x k (whole_lines ys)) file, file))
     h
 
 pub file-bad : (a b : Option (List ℕ)) (n k : ℕ) (kept : List ℕ) (e : ScriptError)
@@ -127,7 +132,7 @@ pub file-bad : (a b : Option (List ℕ)) (n k : ℕ) (kept : List ℕ) (e : Scri
     → ((lines : List (List ℕ × List ℕ)) → in_network (network_of kept) k lines ≡ ends (Err e))
     → IfSome a (λ xs. scripted_from n xs ≡ ends (Err e))
 file-bad a b n k kept e h bad =
-    left-some a b (λ xs ys is. is ∙ bad (whole_lines ys)) (file-network a b n k kept (network_of kept) h refl)
+    left-some a b (λ xs ys is. is.0 ∙ bad (whole_lines ys)) (file-network a b n k kept (network_of kept) h refl)
 
 -- ---- the whole
 
@@ -194,22 +199,29 @@ stopped-writing r None before after given = tt
 stopped-writing r (Some input) before after given =
     err-is r faults.WriteFault (HasPrinted input before after) given (λ inside. outside faults.WriteFault refl inside, λ other. absurd (other refl))
 
--- a script comes to what the lines behind its network file do
+-- a script comes to what the lines behind its network file do, in the network of that file
 abbrev pub ScriptGoes : Option (List ℕ) → Option (List ℕ) → NetworkValue → Names → RunningNetwork → ℕ → Type 0
-ScriptGoes all second n names start k = BothKnown all second (λ input ys. scripted input ≡ closed names (played (described n) names start k 1 (whole_lines ys)))
+ScriptGoes all second n names start k = BothKnown all second (λ input ys.
+    (scripted input ≡ closed names (played (described n) names start k 1 (whole_lines ys)))
+    × (network_of (network_text (whole_lines input)) ≡ Ok n))
 
 pub script-goes : (all first second : Option (List ℕ)) (n : NetworkValue) (names : Names)
     (start : RunningNetwork) (m k : ℕ)
     → m ≡ 0
     → IfSome all (λ octets. first ≡ Some octets)
-    → BothKnown first second (λ xs ys. scripted_from (m + 1) xs ≡ in_network (Ok n) k (whole_lines ys))
+    → BothKnown first second
+    (λ xs ys.
+    (scripted_from (m + 1) xs ≡ in_network (Ok n) k (whole_lines ys))
+    × (network_of (network_text (whole_lines xs)) ≡ Ok n))
     → names ≡ names_of n → start ≡ started n → ScriptGoes all second n names start k
 script-goes all first second n names start m k z same h nm st =
     both-from-reader _ all first second same
     (both-is first second
-    (λ xs ys is.
-    ap (λ j. scripted_from (j + 1) xs) (sym z) ∙ is
-    ∙ (λ i. closed ((sym nm) i) (played (described n) ((sym nm) i) ((sym st) i) k 1 (whole_lines ys))))
+    (λ xs ys is. (
+      ap (λ j. scripted_from (j + 1) xs) (sym z) ∙ is.0
+          ∙ (λ i. closed ((sym nm) i) (played (described n) ((sym nm) i) ((sym st) i) k 1 (whole_lines ys))),
+      is.1,
+    ))
     h)
 
 pub script-stopped : {A : Type 0} (r : Result A ScriptError) (e : ScriptError)
@@ -223,7 +235,7 @@ script-stopped r e all second before after n names start k given goes h =
     err-is r e (λ r. IfSome all (λ input. HasPrinted input before after r)) given
     (both-some all second
     (λ input ys is p.
-    (λ inside. ap (λ x. x.end) is ∙ ap (closing names) (p.0 inside), λ other. subst (λ t. TakesFirst t before after) (sym (ap (λ x. x.text) is)) (p.1 other)))
+    (λ inside. ap (λ x. x.end) is.0 ∙ ap (closing names) (p.0 inside), λ other. subst (λ t. TakesFirst t before after) (sym (ap (λ x. x.text) is.0)) (p.1 other)))
     goes h)
 
 pub script-prints : (all second o0 o1 o2 o3 o4 : Option (List ℕ)) (n : NetworkValue) (names : Names)
@@ -232,7 +244,8 @@ pub script-prints : (all second o0 o1 o2 o3 o4 : Option (List ℕ)) (n : Network
     → IfSome second
     (λ ys.
     ((played (described n) names start k 1 (whole_lines ys)).end ≡ Ok last)
-    × Appends o0 o1 (played (described n) names start k 1 (whole_lines ys)).text)
+    × (Appends o0 o1 (played (described n) names start k 1 (whole_lines ys)).text
+    × AreInRange names (played (described n) names start k 1 (whole_lines ys)).events))
     → Appends o1 o2 (report_lines names last) → Appends o2 o3 (data_lines names last) → Keeps o3 o4
     → IfSome all (λ input. (text : List ℕ) × (Prints input text × Appends o0 o4 text))
 script-prints all second o0 o1 o2 o3 o4 n names start last k goes h reports sets kept =
@@ -243,8 +256,53 @@ script-prints all second o0 o1 o2 o3 o4 n names start last k goes h reports sets
     let events = (played (described n) names start k 1 (whole_lines ys)).text in (
       events ++ rest,
       (
-        (rest, (ap (λ x. x.end) is ∙ ap (closing names) p.0, ap (λ x. x.text ++ rest) (sym is))),
-        Appends-trans o0 o1 o4 events rest p.1 after,
+        (rest, (ap (λ x. x.end) is.0 ∙ ap (closing names) p.0, ap (λ x. x.text ++ rest) (sym is.0))),
+        Appends-trans o0 o1 o4 events rest p.1.0 after,
       ),
     ))
     goes h
+
+-- ---- the network that it shows
+
+-- a call that ends early promises nothing of it
+pub none-shown : {A : Type 0} (r : Result A ScriptError) (e : ScriptError) (all : Option (List ℕ))
+    → IsErrAnd r (λ x. x ≡ e)
+    → IfSome all (λ input. OnOk r (ShowsNetwork input))
+none-shown r e None given = tt
+none-shown (Ok done) e (Some input) given = absurd given
+none-shown (Err x) e (Some input) given = tt
+
+shows : (input : List ℕ) (ls : List (List ℕ × List ℕ)) (n : NetworkValue) (names : Names)
+    (start last : RunningNetwork) (k : ℕ)
+    → names ≡ names_of n
+    → network_of (network_text (whole_lines input)) ≡ Ok n
+    → scripted input ≡ closed names (played (described n) names start k 1 ls)
+    → StandsAfter (described n) [] start
+    → (played (described n) names start k 1 ls).end ≡ Ok last
+    → AreInRange names (played (described n) names start k 1 ls).events
+    → ShowsNetwork input
+shows input ls n names start last k called file is at end range =
+    let N : Network = described n in
+    record {
+      network = n;
+      file = file;
+      last = last;
+      shown = ap (λ x. x.end) is ∙ ap (closing names) end ∙ ap (λ (m : Names). closing m (Ok last)) called;
+      machine = subst (λ (m : Names). AreInTime N (initial_state N) (placed_all m (scripted input).events) → IsMachineTrace N m (scripted input).events (scripted input).text last) called
+          (subst (λ (q : Played (List ℕ)). AreInTime N (initial_state N) (placed_all names q.events) → IsMachineTrace N names q.events q.text last) (sym is)
+          (λ time. machine-trace N names k 1 ls start last end range at time));
+    }
+
+pub script-shows : (all second o0 o1 : Option (List ℕ)) (n : NetworkValue) (names : Names)
+    (start last : RunningNetwork) (k : ℕ)
+    → names ≡ names_of n
+    → StandsAfter (described n) [] start
+    → ScriptGoes all second n names start k
+    → IfSome second
+    (λ ys.
+    ((played (described n) names start k 1 (whole_lines ys)).end ≡ Ok last)
+    × (Appends o0 o1 (played (described n) names start k 1 (whole_lines ys)).text
+    × AreInRange names (played (described n) names start k 1 (whole_lines ys)).events))
+    → IfSome all ShowsNetwork
+script-shows all second o0 o1 n names start last k called at goes h =
+    both-some all second (λ input ys is p. shows input (whole_lines ys) n names start last k called is.1 is.0 at p.0 p.1.1) goes h

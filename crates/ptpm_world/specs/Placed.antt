@@ -6,6 +6,7 @@ use Rattle.ptpm_script.specs.declared.event.Event.{Event}
 use Rattle.ptpm_script.specs.declared.event.Event.TheVariants as events
 use Rattle.ptpm_network.specs.Events as machine
 use Rattle.ptpm_script.specs.NetworkValue.{NetworkValue}
+use Rattle.ptpm_world.specs.declared.whole_script.EventLine.{EventLine}
 use Rattle.ptpm_world.specs.declared.world.World.{World}
 
 -- the first place of a name, or the number of names
@@ -31,3 +32,7 @@ placed n (events.Resume session attempts) = machine.Resume (place_in n.sessions 
 placed n (events.Retune session domain) = machine.Retune (place_in n.sessions session) domain
 placed n (events.Deliver frame) = machine.Deliver frame
 placed n (events.Stranger clock port octets) = machine.Stranger (place_in n.clocks clock) port octets
+
+-- the events of these lines
+abbrev pub placed_all : Names → List EventLine → List machine.Event
+placed_all n lines = map (λ l. placed n l.event) lines

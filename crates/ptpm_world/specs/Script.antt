@@ -1,8 +1,10 @@
 -- What the lines of a script come to (this project's profile): a network file, a line `%%`, and events, one a line.
 use Rattle.std.specs.Prelude.{◌≡◌, ◌≢◌, ◌<◌, ◌⊎◌, ℕ, ◌+◌, ◌==◌, length, not, slice_get, Bool, true, false, bytes_eq, codes, find, List, [], ◌∷◌, ◌++◌, Option, Some, None, Result, Ok, Err, if◌then◌else◌}
 use Rattle.std.specs.Io.KnownBytes.{Appends}
+use Rattle.std.specs.List.{AllByRecursion}
 use Rattle.ptpm_agent.specs.Laws.{initial_clock_state}
 use Rattle.ptpm_manager.specs.Session.{SessionValue, fresh as fresh_session}
+use Rattle.ptpm_network.specs.Events.{IsInRange}
 use Rattle.ptpm_network.specs.Network.{Network}
 use Rattle.ptpm_network.specs.RunningNetwork.{RunningNetwork}
 use Rattle.ptpm_script.specs.declared.event.Event.{Event}
@@ -15,9 +17,10 @@ use Rattle.ptpm_script.specs.NetworkValue.{NetworkValue, first_sets}
 use Rattle.ptpm_script.specs.Words.{space}
 use Rattle.ptpm_world.specs.declared.script_error.ScriptError.{ScriptError}
 use Rattle.ptpm_world.specs.declared.script_error.ScriptError.TheVariants.{BadLine, BadNetwork, WriteFault}
+use Rattle.ptpm_world.specs.declared.whole_script.EventLine.{EventLine}
 use Rattle.ptpm_world.specs.Described.{clock_at, described, described_session}
 use Rattle.ptpm_world.specs.Lines.{whole_lines}
-use Rattle.ptpm_world.specs.Placed.{Names, names_of, placed}
+use Rattle.ptpm_world.specs.Placed.{Names, names_of, placed, placed_all}
 use Rattle.ptpm_world.specs.Running.{no_session}
 use Rattle.ptpm_world.specs.ScriptError.{is_outside, line_fault}
 use Rattle.ptpm_world.specs.Took.{after}
@@ -59,17 +62,18 @@ event_of place line = if is_skipped line then Ok None else read_as place (readin
 
 -- ---- what lines come to
 
--- the lines of their events, one after another, whether these are refused or not; and behind them where they lead, or the first
--- fault, in the order in which lines are read
+-- their events, whether these are refused or not, and the lines of these, one after another; and behind them where they lead, or
+-- the first fault, in the order in which lines are read
 pub record Played (A : Type 0) : Type 0 where
+  pub events : List EventLine
   pub text : List ℕ
   pub end : Result A ScriptError
 
 abbrev pub ends : {A : Type 0} → Result A ScriptError → Played A
-ends end = record { text = []; end = end }
+ends end = record { events = []; text = []; end = end }
 
-abbrev pub behind : {A : Type 0} → List ℕ → Played A → Played A
-behind text p = record { text = text ++ p.text; end = p.end }
+abbrev pub behind : {A : Type 0} → List EventLine → List ℕ → Played A → Played A
+behind events text p = record { events = events ++ p.events; text = text ++ p.text; end = p.end }
 
 -- a line's own fault ends them
 abbrev pub unless_fault : {A : Type 0} → Option ScriptError → Played A → Played A
@@ -86,7 +90,7 @@ abbrev pub played_by : Result (Option Event) ScriptError
     → Played RunningNetwork
 played_by (Ok None) N names r place others = others r
 played_by (Ok (Some event)) N names r place others =
-    behind (event_line N names r place event) (others (after N r (placed names event)))
+    behind (record { number = place; event = event } ∷ []) (event_line N names r place event) (others (after N r (placed names event)))
 played_by (Err fault) N names r place others = ends (Err fault)
 
 -- lines of events from this one on, by its numbers in all that is read and after the divider
@@ -126,7 +130,7 @@ closing names (Ok r) = Ok (report_lines names r ++ data_lines names r)
 closing names (Err fault) = Err fault
 
 abbrev pub closed : Names → Played RunningNetwork → Played (List ℕ)
-closed names p = record { text = p.text; end = closing names p.end }
+closed names p = record { events = p.events; text = p.text; end = closing names p.end }
 
 -- lines of events, where the file before them is this network, from its start on; the fault that it has is met before them
 abbrev pub in_network : Result NetworkValue NetError → ℕ → List (List ℕ × List ℕ) → Played (List ℕ)
@@ -169,16 +173,18 @@ abbrev pub HasStopped : {A : Type 0} → Played A → Option (List ℕ) → Opti
 HasStopped p before after e =
     (is_outside e ≡ false → p.end ≡ Err e) × (e ≢ WriteFault → TakesFirst p.text before after)
 
--- the lines of all events were written, and they lead here
+-- the lines of all events were written, and they lead here; each is one that a program can hand in
 abbrev pub HasPlayed : {A : Type 0}
+    → Names
     → Played RunningNetwork
     → RunningNetwork
     → Option (List ℕ)
     → Option (List ℕ)
     → Result A ScriptError
     → Type 0
-HasPlayed p r before after (Ok done) = (p.end ≡ Ok r) × Appends before after p.text
-HasPlayed p r before after (Err e) = HasStopped p before after e
+HasPlayed names p r before after (Ok done) =
+    (p.end ≡ Ok r) × (Appends before after p.text × AllByRecursion IsInRange (placed_all names p.events))
+HasPlayed names p r before after (Err e) = HasStopped p before after e
 
 -- a script was run: it has no fault, and the text that it prints was written
 abbrev pub HasPrinted : {A : Type 0}

@@ -3,6 +3,7 @@
 ghost use Rattle.std.specs.Prelude.{◌≡◌, ◌≢◌, ◌==◌, ◌+◌, ◌++◌, ◌<◌, ◌≤◌, ℕ, Err, IfErr, IfOk, IfSome, List, None, Ok, OnOk, Option, Some, false, find, length, not, string_bytes, true};
 ghost use Rattle.std.specs.Io.KnownBytes.{Appends, Keeps};
 ghost use Rattle.std.specs.Option.{option_copied};
+ghost use Rattle.ptpm_network.specs.Events.{IsInRange};
 ghost use Rattle.ptpm_network.specs.Network as machine;
 ghost use Rattle.ptpm_script.specs.EventLine.{reading};
 ghost use Rattle.ptpm_script.specs.NetworkText.{network_of};
@@ -10,7 +11,8 @@ ghost use Rattle.ptpm_script.specs.NetworkView.{network_value};
 ghost use Rattle.ptpm_script.specs.Words.{space};
 ghost use Rattle.ptpm_world.specs.declared.script_error.ScriptError.TheVariants as faults;
 ghost use Rattle.ptpm_world.specs.Lines.{BothKnown, left_in, whole_lines};
-ghost use Rattle.ptpm_world.specs.Placed.{names_in, placed};
+ghost use Rattle.ptpm_world.specs.MachineTrace.{ShowsNetwork};
+ghost use Rattle.ptpm_world.specs.Placed.{Names, names_in, placed};
 ghost use Rattle.ptpm_world.specs.Running.{IsOf, running};
 ghost use Rattle.ptpm_world.specs.Script.{HasPlayed, HasPrinted, Played, Prints, StandsFor, ends, from_file, in_network, is_divider, is_skipped, network_text, played, read_as, scripted_from};
 ghost use Rattle.ptpm_world.specs.ScriptError.{is_outside};
@@ -18,6 +20,7 @@ ghost use Rattle.ptpm_world.specs.Took.{after};
 ghost use Rattle.ptpm_world.specs.Trace.{event_line, line_feed};
 
 use crate::lines::Lines;
+use crate::network_laws::placed_event;
 use crate::script_error::ScriptError;
 use crate::trace::{write_data_sets, write_event, write_reports};
 use crate::world::World;
@@ -41,6 +44,10 @@ pub fn one_trace()
 /// trace: a line for each event, and at the end each session's reports and each clock's data sets. An event that is refused
 /// is a line of the trace too. Without the divider there are no events.
 ///
+/// Where no delivery of the script is late, the headline holds of the network whose reports and data sets are written at the
+/// end, after the script's events: however these lose, repeat, reorder or duplicate messages. And each event's line tells what
+/// the network machine does, with `Answered` exactly where a report is appended (`ShowsNetwork`).
+///
 /// All lines before the divider are read before the network is judged; each event's line is written before the next is
 /// read, and flushed where that may have to be waited for. Ends for every reader, since lines and their octets are bounded. The
 /// world that runs lies in a frame of its own, so that no other subcommand pays for it.
@@ -50,8 +57,9 @@ pub fn run_script<R: Read + Drop, W: Write>(
     reader: R,
     out: &mut W,
 ) -> Result<(), ScriptError>
-    ensures { IfSome (R.remaining reader)
+    ensures printed { IfSome (R.remaining reader)
         (λ input. HasPrinted input (W.contents out.old) (W.contents out.new) result) }
+    ensures headline { IfSome (R.remaining reader) (λ input. OnOk result (ShowsNetwork input)) }
 {
     let mut script = Lines::new(alloc, reader)?;
     let network = read_network(alloc, &mut script)?;
@@ -72,8 +80,9 @@ fn read_network<R: Read + Drop>(
         (λ network.
         BothKnown (left_in R.remaining script.old) (left_in R.remaining script.new)
         (λ before after.
-        scripted_from (script.old.count + 1) before
-        ≡ in_network (Ok (network_value network)) (script.new.count + 1) (whole_lines after))) }
+        (scripted_from (script.old.count + 1) before
+        ≡ in_network (Ok (network_value network)) (script.new.count + 1) (whole_lines after))
+        × (network_of (network_text (whole_lines before)) ≡ Ok (network_value network)))) }
     ensures fault { IfErr result
         (λ e.
         is_outside e ≡ false
@@ -165,7 +174,7 @@ fn play<R: Read + Drop, W: Write>(
         → IsOf N world.old
         → IfSome (left_in R.remaining script.old)
         (λ octets.
-        HasPlayed
+        HasPlayed (names_in world.old)
         (played N (names_in world.old) (running world.old) (script.old.count + 1) 1
         (whole_lines octets)) (running world.new) (W.contents out.old) (W.contents out.new)
         result) }
@@ -201,12 +210,15 @@ fn play_event<W: Write>(
         → IsOf N world.old
         → OnOk result
         (running world.new ≡ after N (running world.old) (placed (names_in world.old) event)) }
+    ensures range { (names : Names) → IsInRange (placed names event) }
     ensures names { names_in world.new ≡ names_in world.old }
     ensures network { (N : machine.Network) → IsOf N world.old → IsOf N world.new }
     ensures fault { IfErr result (λ e. is_outside e ≡ true) }
     ensures kept { IfErr result
         (λ e. e ≢ faults.WriteFault → W.contents out.new ≡ W.contents out.old) }
 {
+    // it is in the range that the laws of networks ask for
+    placed_event(&event);
     write_event(world, number, &event, out)?;
     show_written(is_awaited, out)
 }

@@ -1,4 +1,5 @@
-use Rattle.ptpm_world.proofs.Common.{◌≡◌, ◌+◌, [], arith, refl, rules, true, false, None, Some, Ok, Err, ap, subst, sym, ◌∙◌, Appends, reading, left_in, names_in, placed, running, is_outside, is_skipped, after, event_line, behind, read_as}
+use Rattle.ptpm_world.proofs.Common.{◌≡◌, ◌+◌, List, [], ◌∷◌, arith, refl, rules, true, false, None, Some, Ok, Err, ap, subst, sym, ◌∙◌, Appends, reading, left_in, names_in, placed, running, is_outside, is_skipped, after, event_line, behind, read_as}
+use Rattle.ptpm_world.specs.declared.whole_script.EventLine.{EventLine}
 use Rattle.ptpm_world.proofs.FaultLemmas.{outside}
 use Rattle.ptpm_world.proofs.Playing.{at-event, at-line, at-size, event-read, event-skip, keeps-nil, next-is, none-is, others_played, play-guards, playing, plays-end, plays-err, plays-first, plays-more}
 use Rattle.ptpm_world.proofs.script.play.Goals as goal
@@ -25,7 +26,7 @@ loop-number-preserved-then-is_skipped g c =
       few = omega (arith, h.few, counted);
       names = h.names;
       network = h.network;
-      plays = λ N is. plays-more [] (Ok None) (h.plays N is) came (event-skip (c.loop-number.number + 1) line skip) (λ others. refl)
+      plays = λ N is. plays-more [] [] (Ok None) (h.plays N is) came (event-skip (c.loop-number.number + 1) line skip) (λ others. refl) tt
           (keeps-nil _ _ c.show_written.ensures.kept) (ap (λ k. k + 1) counted);
     }
 
@@ -38,6 +39,7 @@ loop-number-preserved g c =
     let called = names_in c.args.world.now in
     let now = running c.loop-number.world in
     let event = c.in_ok-event.event in
+    let added : List EventLine = record { number = n; event = event } ∷ [] in
     let written = g.W.Write.contents c.loop-number.out in
     let more = g.W.Write.contents c.play_event.new.out in
     let counted = c.in_ok-read.ensures.count (ap Ok c.if-branch.true) in
@@ -52,8 +54,9 @@ loop-number-preserved g c =
       plays = λ N is.
           let went : running c.play_event.new.world ≡ after N now (placed called event) =
           subst (λ m. running c.play_event.new.world ≡ after N now (placed m event)) h.names (c.in_ok-play_event.ensures.after N (h.network N is)) in
-          plays-more (event_line N called now n event) (Ok (Some event)) (h.plays N is) came
-          (event-read n line (Ok (Some event)) take read) (λ others. ap (λ r. behind (event_line N called now n event) (others r)) (sym went))
+          plays-more added (event_line N called now n event) (Ok (Some event)) (h.plays N is) came
+          (event-read n line (Ok (Some event)) take read) (λ others. ap (λ r. behind added (event_line N called now n event) (others r)) (sym went))
+          (c.in_ok-play_event.ensures.range called, tt)
           (subst (λ m. Appends written more (event_line N m now n event)) h.names (c.in_ok-play_event.ensures.line N (h.network N is)))
           (ap (λ k. k + 1) counted);
     }

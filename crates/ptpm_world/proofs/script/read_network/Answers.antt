@@ -11,7 +11,7 @@ returns-clause-network g c =
     let n = c.args.script.now.count + 1 in
     let k = c.read_text.new.script.count + 1 in
     on-ok c.network_of_text.result (λ network. network_of c.as_str.result.now ≡ Ok (network_value network))
-    (λ network. BothKnown told left (λ before after. scripted_from n before ≡ in_network (Ok (network_value network)) k (whole_lines after)))
+    (λ network. BothKnown told left (λ before after. (scripted_from n before ≡ in_network (Ok (network_value network)) k (whole_lines after)) × (network_of (network_text (whole_lines before)) ≡ Ok (network_value network))))
     c.network_of_text.ensures.network
     (λ network h. file-network told left n k (string_bytes c.in_ok-text.text) (Ok (network_value network)) c.in_ok-text.ensures.text
     (ap network_of (sym c.as_str.ensures.value) ∙ h))

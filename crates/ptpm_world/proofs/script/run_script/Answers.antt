@@ -1,12 +1,12 @@
 use Rattle.ptpm_world.proofs.Common.{◌+◌, refl, subst, network_value, described, left_in, names_in, running, data_lines, report_lines, Appends}
 use Rattle.ptpm_world.specs.declared.script_error.ScriptError.TheVariants as faults
 use Rattle.ptpm_world.proofs.FaultLemmas.{outside}
-use Rattle.ptpm_world.proofs.ScriptLemmas.{script-goes, script-prints, script-stopped, stopped-file, stopped-first, stopped-writing}
+use Rattle.ptpm_world.proofs.ScriptLemmas.{none-shown, script-goes, script-prints, script-shows, script-stopped, stopped-file, stopped-first, stopped-writing}
 use Rattle.ptpm_world.proofs.StartedWorld.{started-is}
 use Rattle.ptpm_world.proofs.script.run_script.Goals as goal
 
-pub returns : goal.returns
-returns g c =
+pub returns-clause-printed : goal.returns-clause-printed
+returns-clause-printed g c =
     let R = g.R.Read.remaining in
     let W = g.W.Write.contents in
     let n = network_value c.in_ok-network.network in
@@ -26,24 +26,39 @@ returns g c =
     (subst (λ m. Appends (W c.write_reports.new.out) (W c.write_data_sets.new.out) (data_lines m last)) names c.in_ok-write_data_sets.ensures)
     c.flush.ensures.bytes
 
-pub returns-in_err-script : goal.returns-in_err-script
-returns-in_err-script g c =
+pub returns-clause-headline : goal.returns-clause-headline
+returns-clause-headline g c =
+    let R = g.R.Read.remaining in
+    let n = network_value c.in_ok-network.network in
+    let all = R c.args.reader in
+    let second = left_in R c.read_network.new.script in
+    let called = names_in c.in_ok-world.world in
+    let start = running c.in_ok-world.world in
+    let k = c.read_network.new.script.count + 1 in
+    let is = c.in_ok-world.ensures.network in
+    script-shows all second (g.W.Write.contents c.args.out.now) (g.W.Write.contents c.play.new.out) n called start (running c.play.new.world) k c.in_ok-world.ensures.names c.in_ok-world.ensures.after
+    (script-goes all (left_in R c.in_ok-script.script) second n called start c.in_ok-script.script.count k c.in_ok-script.ensures.count c.in_ok-script.ensures.octets
+    c.in_ok-network.ensures.network c.in_ok-world.ensures.names (started-is n c.in_ok-world.world is c.in_ok-world.ensures.stands))
+    (c.in_ok-play.ensures.played (described n) is)
+
+pub returns-in_err-script-clause-printed : goal.returns-in_err-script-clause-printed
+returns-in_err-script-clause-printed g c =
     stopped-first c.from_residual.result c.in_err-script.field-0.0 (g.R.Read.remaining c.args.reader) (g.W.Write.contents c.args.out.now) c.from_residual.ensures.1
     (λ inside. outside c.in_err-script.field-0.0 c.in_err-script.ensures.fault inside)
 
-pub returns-in_err-network : goal.returns-in_err-network
-returns-in_err-network g c =
+pub returns-in_err-network-clause-printed : goal.returns-in_err-network-clause-printed
+returns-in_err-network-clause-printed g c =
     stopped-file c.from_residual-in_err-network.result c.in_err-network.field-0.0 (g.R.Read.remaining c.args.reader)
     (left_in g.R.Read.remaining c.in_ok-script.script) (g.W.Write.contents c.args.out.now) c.in_ok-script.script.count c.from_residual-in_err-network.ensures.1
     c.in_ok-script.ensures.count c.in_ok-script.ensures.octets c.in_err-network.ensures.fault
 
-pub returns-in_err-world : goal.returns-in_err-world
-returns-in_err-world g c =
+pub returns-in_err-world-clause-printed : goal.returns-in_err-world-clause-printed
+returns-in_err-world-clause-printed g c =
     stopped-first c.from_residual-in_err-world.result faults.OutOfMemory (g.R.Read.remaining c.args.reader) (g.W.Write.contents c.args.out.now) c.from_residual-in_err-world.ensures.1
     (λ inside. outside faults.OutOfMemory refl inside)
 
-pub returns-in_err-play : goal.returns-in_err-play
-returns-in_err-play g c =
+pub returns-in_err-play-clause-printed : goal.returns-in_err-play-clause-printed
+returns-in_err-play-clause-printed g c =
     let R = g.R.Read.remaining in
     let n = network_value c.in_ok-network.network in
     let all = R c.args.reader in
@@ -58,14 +73,35 @@ returns-in_err-play g c =
     c.in_ok-network.ensures.network c.in_ok-world.ensures.names (started-is n c.in_ok-world.world is c.in_ok-world.ensures.stands))
     (c.in_err-play.ensures.played (described n) is)
 
-pub returns-in_err-write_reports : goal.returns-in_err-write_reports
-returns-in_err-write_reports g c =
+pub returns-in_err-write_reports-clause-printed : goal.returns-in_err-write_reports-clause-printed
+returns-in_err-write_reports-clause-printed g c =
     stopped-writing c.from_residual-in_err-write_reports.result (g.R.Read.remaining c.args.reader) (g.W.Write.contents c.args.out.now) (g.W.Write.contents c.write_reports.new.out) c.from_residual-in_err-write_reports.ensures.1
 
-pub returns-in_err-write_data_sets : goal.returns-in_err-write_data_sets
-returns-in_err-write_data_sets g c =
+pub returns-in_err-write_data_sets-clause-printed : goal.returns-in_err-write_data_sets-clause-printed
+returns-in_err-write_data_sets-clause-printed g c =
     stopped-writing c.from_residual-in_err-write_data_sets.result (g.R.Read.remaining c.args.reader) (g.W.Write.contents c.args.out.now) (g.W.Write.contents c.write_data_sets.new.out) c.from_residual-in_err-write_data_sets.ensures.1
 
-pub returns-in_err-flush : goal.returns-in_err-flush
-returns-in_err-flush g c =
+pub returns-in_err-flush-clause-printed : goal.returns-in_err-flush-clause-printed
+returns-in_err-flush-clause-printed g c =
     stopped-writing c.from_residual-in_err-flush.result (g.R.Read.remaining c.args.reader) (g.W.Write.contents c.args.out.now) (g.W.Write.contents c.flush.new.self) c.from_residual-in_err-flush.ensures.1
+
+pub returns-in_err-script-clause-headline : goal.returns-in_err-script-clause-headline
+returns-in_err-script-clause-headline g c = none-shown c.from_residual.result c.in_err-script.field-0.0 (g.R.Read.remaining c.args.reader) c.from_residual.ensures.1
+
+pub returns-in_err-network-clause-headline : goal.returns-in_err-network-clause-headline
+returns-in_err-network-clause-headline g c = none-shown c.from_residual-in_err-network.result c.in_err-network.field-0.0 (g.R.Read.remaining c.args.reader) c.from_residual-in_err-network.ensures.1
+
+pub returns-in_err-world-clause-headline : goal.returns-in_err-world-clause-headline
+returns-in_err-world-clause-headline g c = none-shown c.from_residual-in_err-world.result faults.OutOfMemory (g.R.Read.remaining c.args.reader) c.from_residual-in_err-world.ensures.1
+
+pub returns-in_err-play-clause-headline : goal.returns-in_err-play-clause-headline
+returns-in_err-play-clause-headline g c = none-shown c.from_residual-in_err-play.result c.in_err-play.field-0.0 (g.R.Read.remaining c.args.reader) c.from_residual-in_err-play.ensures.1
+
+pub returns-in_err-write_reports-clause-headline : goal.returns-in_err-write_reports-clause-headline
+returns-in_err-write_reports-clause-headline g c = none-shown c.from_residual-in_err-write_reports.result faults.WriteFault (g.R.Read.remaining c.args.reader) c.from_residual-in_err-write_reports.ensures.1
+
+pub returns-in_err-write_data_sets-clause-headline : goal.returns-in_err-write_data_sets-clause-headline
+returns-in_err-write_data_sets-clause-headline g c = none-shown c.from_residual-in_err-write_data_sets.result faults.WriteFault (g.R.Read.remaining c.args.reader) c.from_residual-in_err-write_data_sets.ensures.1
+
+pub returns-in_err-flush-clause-headline : goal.returns-in_err-flush-clause-headline
+returns-in_err-flush-clause-headline g c = none-shown c.from_residual-in_err-flush.result faults.WriteFault (g.R.Read.remaining c.args.reader) c.from_residual-in_err-flush.ensures.1

@@ -1,4 +1,4 @@
-use Rattle.ptpm_world.proofs.Common.{◌≡◌, ◌++◌, ◌<◌, ◌∙◌, ap, arith, length, map, option_map, refl, subst, sym, take, take_all, same_Some, slice_get_read, slice_get, Some, List, refusal, RunningNetwork, StandsAfter, AreInTime, run, taken, Network, initial_state, Names, names_in, placed, IsOf, running, Leads, answer, error_of}
+use Rattle.ptpm_world.proofs.Common.{◌≡◌, ◌++◌, ◌<◌, ◌∙◌, ap, arith, length, map, option_map, refl, subst, sym, take, take_all, same_Some, slice_get_read, slice_get, Some, List, refusal, RunningNetwork, StandsAfter, AreInTime, run, taken, initial_state, Names, names_in, placed, running, Leads, answer, error_of}
 use Rattle.ptpm_network.specs.Events as machine
 use Rattle.ptpm_network.proofs.Promise.{stands-headline}
 use Rattle.ptpm_script.specs.declared.event.Event.{Event}

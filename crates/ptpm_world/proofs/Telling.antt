@@ -1,0 +1,319 @@
+-- What the lines of a trace tell of the machine, where no delivery is late.
+use Rattle.ptpm_world.proofs.Common.{arith, ◌≡◌, ◌∙◌, ℕ, ◌<◌, ◌+◌, ◌++◌, ◌⊎◌, inl, inr, Bool, false, List, [], ◌∷◌, length, map, None, Some, Ok, Err, Option, Result, refl, sym, ap, subst, append_assoc, append-nil, length-append, length-map, eq-eqb, option_map, result_err, AllByRecursion, Report, Begin, BeginRefused, Deliver, IsInRange, Refusal, Resume, Retune, Send, SendRefused, Stranger, begin_refusal, frame_at, no_port, no_room, send_refusal, refusal, AreInTime, is_late_delivery, step, AtPort, AtSession, HasEnd, Network, Happened, Held, RunningNetwork, delivers, hears, held, network_after, network_event, reaches, unless_refused, StandsAfter, Frame, NetworkState, initial_state, Names, placed, placed_all, Played, event_of, played, played_by, unless_fault, line_fault, verb_of, StepError, Took, after, answer, answer_of, error_of, took_of, event_line, event_text}
+use Rattle.std.specs.Prelude.{IfOk, ◌↔◌}
+use Rattle.ptpm_manager.specs.Receiving.{received_of}
+use Rattle.ptpm_manager.specs.declared.receiving.Received.{Received}
+use Rattle.ptpm_manager.specs.declared.receiving.Received.TheVariants as received
+use Rattle.ptpm_network.specs.Events as machine
+use Rattle.ptpm_network.specs.Events.{forged, no_session}
+use Rattle.ptpm_network.specs.Machine.{state_after}
+use Rattle.ptpm_network.specs.Network.{End}
+use Rattle.ptpm_network.specs.RunningNetwork.{Heard, nothing_to_resume}
+use Rattle.ptpm_network.proofs.Held.{frame_at-map}
+use Rattle.ptpm_network.proofs.Lists.{with_place-same}
+use Rattle.ptpm_network.proofs.Promise.{first_of_sessions, firsts, stands-event, stands-headline, stands-judged, stands-refused}
+use Rattle.ptpm_network.proofs.Reaching.{frame_at-is}
+use Rattle.ptpm_network.proofs.Schedule.{reached}
+use Rattle.ptpm_network.proofs.Taking.{run-append}
+use Rattle.ptpm_script.specs.declared.event.Event.{Event}
+use Rattle.ptpm_world.specs.declared.script_error.ScriptError.{ScriptError}
+use Rattle.ptpm_world.specs.declared.took.Took.TheVariants.{Answered}
+use Rattle.ptpm_world.specs.MachineTrace.{IsMachineTrace, IsReported, Tells, TellsEvent}
+use Rattle.ptpm_world.specs.Trace.{is_late_event}
+use Rattle.ptpm_world.proofs.Lateness.{late-after}
+
+-- ---- what an event that happened did to reports
+
+-- a session took a frame for its answer, and has a report more
+record Answers (r : RunningNetwork) (h : Happened) : Type 0 where
+  pub session : ℕ
+  pub number : ℕ
+  pub frame : Held
+  pub report : Report
+  pub at : frame_at r.frames number ≡ Some frame
+  pub end : frame.end ≡ AtSession session
+  pub told : took_of h.deed ≡ Answered
+  pub more : h.network.reports session ≡ r.reports session ++ report ∷ []
+
+-- or none has
+record IsSilent (r : RunningNetwork) (h : Happened) : Type 0 where
+  pub other : took_of h.deed ≡ Answered → ⊥
+  pub same : h.network.reports ≡ r.reports
+
+abbrev DidTell : RunningNetwork → Happened → Type 0
+DidTell r h = Answers r h ⊎ IsSilent r h
+
+hears-told : (r : RunningNetwork) (s number : ℕ) (f : Held) (x : Received)
+    → frame_at r.frames number ≡ Some f
+    → f.end ≡ AtSession s
+    → DidTell r (record { deed = Heard x; network = hears r s x })
+hears-told r s number f (received.Answered report) at end = inl (record {
+  session = s;
+  number = number;
+  frame = f;
+  report = report;
+  at = at;
+  end = end;
+  told = refl;
+  more = with_place-same r.reports s (r.reports s ++ report ∷ []) s (eq-eqb s s refl);
+})
+hears-told r s number f (received.Ignored reason) at end = inr (record { other = λ e. absurd (cc); same = refl })
+
+reaches-told : (N : Network) (r : RunningNetwork) (number : ℕ) (f : Held) (e : End)
+    → frame_at r.frames number ≡ Some f
+    → f.end ≡ e
+    → DidTell r (reaches N r f e)
+reaches-told N r number f (AtPort c port) at end = inr (record { other = λ e. absurd (cc); same = refl })
+reaches-told N r number f (AtSession s) at end = hears-told r s number f (received_of (r.session s) f.octets) at end
+
+-- what holds of all that may happen holds where a reason to refuse it is looked for first
+if_not_refused : (o : Option Refusal) (x : Result Happened Refusal) (P : Happened → Type 0)
+    → IfOk x P
+    → IfOk (unless_refused o x) P
+if_not_refused None x P p = p
+if_not_refused (Some reason) x P p = tt
+
+delivers-told : (N : Network) (r : RunningNetwork) (number : ℕ) (o : Option Held)
+    → frame_at r.frames number ≡ o
+    → IfOk (delivers N r o) (DidTell r)
+delivers-told N r number None at = tt
+delivers-told N r number (Some f) at = if_not_refused (no_room r.frames) _ (DidTell r) (reaches-told N r number f f.end at refl)
+
+event-told : (N : Network) (r : RunningNetwork) (e : machine.Event) → IfOk (network_event N r e) (DidTell r)
+unfolding network_event
+event-told N r (Begin s a) =
+    if_not_refused (no_session N s) _ (DidTell r)
+    (if_not_refused (option_map BeginRefused (begin_refusal (r.session s) a)) _ (DidTell r) (inr (record { other = λ e. absurd (cc); same = refl })))
+event-told N r (Send s) =
+    if_not_refused (no_session N s) _ (DidTell r)
+    (if_not_refused (no_room r.frames) _ (DidTell r)
+    (if_not_refused (option_map SendRefused (send_refusal (r.session s))) _ (DidTell r) (inr (record { other = λ e. absurd (cc); same = refl }))))
+event-told N r (Resume s attempts) =
+    if_not_refused (no_session N s) _ (DidTell r)
+    (if_not_refused (nothing_to_resume (r.session s)) _ (DidTell r) (inr (record { other = λ e. absurd (cc); same = refl })))
+event-told N r (Retune s domain) = if_not_refused (no_session N s) _ (DidTell r) (inr (record { other = λ e. absurd (cc); same = refl }))
+event-told N r (Deliver n) = delivers-told N r n (frame_at r.frames n) refl
+event-told N r (Stranger c port datagram) =
+    if_not_refused (no_port N c port) _ (DidTell r)
+    (if_not_refused (forged N datagram) _ (DidTell r)
+    (if_not_refused (no_room r.frames) _ (DidTell r) (inr (record { other = λ e. absurd (cc); same = refl }))))
+
+-- ---- an event's line
+
+-- where it leads, a running network stands after it
+next-stands : (N : Network) (past : List machine.Event) (r : RunningNetwork) (e : machine.Event)
+    (x : Result Happened Refusal)
+    → network_event N r e ≡ x
+    → StandsAfter N past r
+    → IsInRange e
+    → (refusal N (state_after N past) e ≡ None → is_late_delivery (state_after N past) e ≡ false)
+    → StandsAfter N (past ++ e ∷ []) (network_after r x)
+next-stands N past r e (Ok h) is at range time =
+    stands-event N past r e h at range is (time (sym (stands-judged N past r e at) ∙ ap (λ (x : Result Happened Refusal). result_err x) is))
+next-stands N past r e (Err reason) is at range time =
+    stands-refused N past r e reason at range (sym (stands-judged N past r e at) ∙ ap (λ (x : Result Happened Refusal). result_err x) is)
+
+reports-same : (N : Network) (past : List machine.Event) (r : RunningNetwork) (s : ℕ)
+    → StandsAfter N past r
+    → s < N.sessions
+    → r.reports s ≡ ((state_after N past).session s).reports
+reports-same N past r s at place = (at.stands (first_of_sessions N N.sessions) (firsts N at.promised.network)).reports s place
+
+one_more : {X : Type 0} (xs : List Report) (x : Report) → xs ≡ xs ++ x ∷ [] → X
+one_more xs x e = absurd (omega (arith, ap length e, length-append xs (x ∷ [])))
+
+err_ok : {X : Type 0} (e : StepError) (t : Took) → ◌≡◌ {A = Result Took StepError} (Err e) (Ok t) → X
+err_ok e t h = absurd (cc)
+
+ok_same : (a b : Took) → ◌≡◌ {A = Result Took StepError} (Ok a) (Ok b) → a ≡ b
+ok_same a b h = cc
+
+module _ (N : Network) (past : List machine.Event) (r : RunningNetwork) (e : machine.Event) (at : StandsAfter N past r) where
+  abbrev w : NetworkState
+  w = state_after N past
+
+  there : state_after N (past ++ e ∷ []) ≡ step N w e
+  there = run-append N (initial_state N) past (e ∷ [])
+
+  -- where no session of the running network has a report more, none of the machine has
+  silent : (next : RunningNetwork)
+      → StandsAfter N (past ++ e ∷ []) next
+      → next.reports ≡ r.reports
+      → IsReported N w e
+      → ⊥
+  silent next after same (s, (place, (report, more))) =
+      let before : r.reports s ≡ (w.session s).reports = reports-same N past r s at place in
+      let later : next.reports s ≡ ((step N w e).session s).reports =
+      reports-same N (past ++ e ∷ []) next s after place ∙ ap (λ (v : NetworkState). (v.session s).reports) there in
+      one_more (w.session s).reports report (sym before ∙ sym (ap (λ (f : ℕ → List Report). f s) same) ∙ later ∙ more)
+
+  -- the session of a frame that is there
+  placed_session : (n s : ℕ) (f : Held) → frame_at r.frames n ≡ Some f → f.end ≡ AtSession s → s < N.sessions
+  placed_session n s f here end =
+      let frames : r.frames ≡ map held w.frames = (stands-headline N past r at).frames in
+      by_frame (frame_at w.frames n) refl (sym (frame_at-map w.frames n) ∙ ap (λ (hs : List Held). frame_at hs n) (sym frames) ∙ here)
+    where
+      none_some : {X : Type 0} (h : Held) → ◌≡◌ {A = Option Held} None (Some h) → X
+      none_some h e = absurd (cc)
+
+      same_some : (a b : Held) → ◌≡◌ {A = Option Held} (Some a) (Some b) → a ≡ b
+      same_some a b e = cc
+
+      by_frame : (o : Option Frame) → frame_at w.frames n ≡ o → option_map held o ≡ Some f → s < N.sessions
+      by_frame None is e = none_some f e
+      by_frame (Some g) is e =
+          let has : HasEnd N g.end = (frame_at-is N w n g (reached N past at.promised.network at.promised.in_range) is).end in
+          subst (HasEnd N) (ap (λ (h : Held). h.end) (same_some (held g) f e) ∙ end) has
+
+  told-by : (x : Result Happened Refusal)
+      → IfOk x (DidTell r)
+      → StandsAfter N (past ++ e ∷ []) (network_after r x)
+      → (answer_of x ≡ Ok Answered) ↔ IsReported N w e
+  told-by (Err reason) did after = (λ told. err_ok (error_of reason) Answered told, λ more. absurd (silent r after refl more))
+  told-by (Ok h) (inr quiet) after =
+      (λ told. absurd (quiet.other (ok_same (took_of h.deed) Answered told)), λ more. absurd (silent h.network after quiet.same more))
+  told-by (Ok h) (inl a) after =
+      let place : a.session < N.sessions = placed_session a.number a.session a.frame a.at a.end in
+      let before : r.reports a.session ≡ (w.session a.session).reports = reports-same N past r a.session at place in
+      let later : h.network.reports a.session ≡ ((step N w e).session a.session).reports =
+      reports-same N (past ++ e ∷ []) h.network a.session after place ∙ ap (λ (v : NetworkState). (v.session a.session).reports) there in (
+        λ told. (a.session, (place, (a.report, sym later ∙ a.more ∙ ap (λ (rs : List Report). rs ++ a.report ∷ []) before))),
+        λ more. ap Ok a.told,
+      )
+
+refused-told : (x : Result Happened Refusal) → result_err (answer_of x) ≡ option_map error_of (result_err x)
+refused-told (Ok h) = refl
+refused-told (Err reason) = refl
+
+frames-counted : (N : Network) (past : List machine.Event) (r : RunningNetwork)
+    → StandsAfter N past r
+    → length r.frames ≡ length (state_after N past).frames
+frames-counted N past r at = ap length (stands-headline N past r at).frames ∙ length-map (state_after N past).frames held
+
+late-event : (N : Network) (past : List machine.Event) (r : RunningNetwork) (e : machine.Event)
+    → StandsAfter N past r
+    → is_late_event r e ≡ is_late_delivery (state_after N past) e
+late-event N past r (Begin s a) at = refl
+late-event N past r (Send s) at = refl
+late-event N past r (Resume s attempts) at = refl
+late-event N past r (Retune s domain) at = refl
+late-event N past r (Deliver n) at = late-after N past r n at
+late-event N past r (Stranger c port datagram) at = refl
+
+-- a refused event's line does not say late
+not-late : (number : ℕ) (verb : List ℕ) (x : Result Happened Refusal) (late : Bool) (before after : ℕ)
+    → (result_err x ≡ None → late ≡ false)
+    → event_text number verb (answer_of x) late before after ≡ event_text number verb (answer_of x) false before after
+unfolding event_text
+not-late number verb (Ok h) late before after time = ap (λ (l : Bool). event_text number verb (Ok (took_of h.deed)) l before after) (time refl)
+not-late number verb (Err reason) late before after time = refl
+
+tells-event : (N : Network) (names : Names) (past : List machine.Event) (r : RunningNetwork) (place : ℕ) (event : Event)
+    → StandsAfter N past r
+    → IsInRange (placed names event)
+    → (refusal N (state_after N past) (placed names event) ≡ None → is_late_delivery (state_after N past) (placed names event) ≡ false)
+    → TellsEvent N names (state_after N past) (record { number = place; event = event }) (event_line N names r place event)
+tells-event N names past r place event at range time =
+    let e : machine.Event = placed names event in
+    let w : NetworkState = state_after N past in
+    let x : Result Happened Refusal = network_event N r e in
+    let next = next-stands N past r e x refl at range time in
+    let judged : result_err x ≡ refusal N w e = stands-judged N past r e at in
+    let made : length (after N r e).frames ≡ length (step N w e).frames =
+    frames-counted N (past ++ e ∷ []) (after N r e) next ∙ ap (λ (v : NetworkState). length v.frames) (run-append N (initial_state N) past (e ∷ [])) in
+    record {
+      answer = answer N r e;
+      refused = refused-told x ∙ ap (option_map error_of) judged;
+      answered = told-by N past r e at x (event-told N r e) next;
+      line_is = not-late place (verb_of event) x (is_late_event r e) (length r.frames) (length (after N r e).frames)
+          (λ none. late-event N past r e at ∙ time (sym judged ∙ none))
+          ∙ ap (λ (k : ℕ). event_text place (verb_of event) (answer N r e) false k (length (after N r e).frames)) (frames-counted N past r at)
+          ∙ ap (λ (k : ℕ). event_text place (verb_of event) (answer N r e) false (length w.frames) k) made;
+    }
+
+-- ---- lines, one after another
+
+-- what is played from a network on that stands after past events
+record IsTold (N : Network) (names : Names) (past : List machine.Event) (p : Played RunningNetwork) (last : RunningNetwork) : Type 0 where
+  pub stands : StandsAfter N (past ++ placed_all names p.events) last
+  pub told : Tells N names (state_after N past) p.events p.text
+
+abbrev IsToldFrom : Network → Names → RunningNetwork → Played RunningNetwork → Type 0
+IsToldFrom N names r p = (past : List machine.Event) (last : RunningNetwork)
+    → p.end ≡ Ok last
+    → AllByRecursion IsInRange (placed_all names p.events)
+    → StandsAfter N past r
+    → AreInTime N (state_after N past) (placed_all names p.events)
+    → IsTold N names past p last
+
+fault_ok : {X : Type 0} (f : ScriptError) (r : RunningNetwork)
+    → ◌≡◌ {A = Result RunningNetwork ScriptError} (Err f) (Ok r)
+    → X
+fault_ok f r e = absurd (cc)
+
+end_same : (a b : RunningNetwork) → ◌≡◌ {A = Result RunningNetwork ScriptError} (Ok a) (Ok b) → a ≡ b
+end_same a b e = cc
+
+by-fault : (N : Network) (names : Names) (r : RunningNetwork) (f : Option ScriptError) (p : Played RunningNetwork)
+    → IsToldFrom N names r p
+    → IsToldFrom N names r (unless_fault f p)
+by-fault N names r None p h = h
+by-fault N names r (Some f) p h = λ past last e range at time. fault_ok f last e
+
+by-event : (N : Network) (names : Names) (r : RunningNetwork) (place : ℕ) (x : Result (Option Event) ScriptError)
+    (others : RunningNetwork → Played RunningNetwork)
+    → ((next : RunningNetwork) → IsToldFrom N names next (others next))
+    → IsToldFrom N names r (played_by x N names r place others)
+by-event N names r place (Err f) others h = λ past last e range at time. fault_ok f last e
+by-event N names r place (Ok None) others h = h r
+by-event N names r place (Ok (Some event)) others h = λ past last end range at time.
+    let e : machine.Event = placed names event in
+    let rest = others (after N r e) in
+    let w : NetworkState = state_after N past in
+    let there : state_after N (past ++ e ∷ []) ≡ step N w e = run-append N (initial_state N) past (e ∷ []) in
+    let next = next-stands N past r e (network_event N r e) refl at range.0 time.0 in
+    let more = h (after N r e) (past ++ e ∷ []) last end range.1 next (subst (λ (v : NetworkState). AreInTime N v (placed_all names rest.events)) (sym there) time.1) in
+    record {
+      stands = subst (λ (es : List machine.Event). StandsAfter N es last) (append_assoc past (e ∷ []) (placed_all names rest.events)) more.stands;
+      told = (
+        event_line N names r place event,
+        (
+          rest.text,
+          (
+            refl,
+            (
+              tells-event N names past r place event at range.0 time.0,
+              subst (λ (v : NetworkState). Tells N names v rest.events rest.text) there more.told,
+            ),
+          ),
+        ),
+      );
+    }
+
+lines-told : (N : Network) (names : Names) (number place : ℕ) (lines : List (List ℕ × List ℕ)) (r : RunningNetwork)
+    → IsToldFrom N names r (played N names r number place lines)
+lines-told N names number place [] r = λ past last e range at time.
+    record {
+      stands = subst (λ (es : List machine.Event). StandsAfter N es last) (sym (append-nil past)) (subst (λ (q : RunningNetwork). StandsAfter N past q) (end_same r last e) at);
+      told = refl;
+    }
+lines-told N names number place (line ∷ lines) r =
+    by-fault N names r (line_fault number line)
+    (played_by (event_of place line.0) N names r place (λ next. played N names next (number + 1) (place + 1) lines))
+    (by-event N names r place (event_of place line.0) (λ next. played N names next (number + 1) (place + 1) lines)
+    (λ next. lines-told N names (number + 1) (place + 1) lines next))
+
+-- from the start on
+pub machine-trace : (N : Network) (names : Names) (number place : ℕ) (lines : List (List ℕ × List ℕ)) (r last : RunningNetwork)
+    → (played N names r number place lines).end ≡ Ok last
+    → AllByRecursion IsInRange (placed_all names (played N names r number place lines).events)
+    → StandsAfter N [] r
+    → AreInTime N (initial_state N) (placed_all names (played N names r number place lines).events)
+    → IsMachineTrace N names (played N names r number place lines).events (played N names r number place lines).text last
+machine-trace N names number place lines r last end range at time =
+    let p = lines-told N names number place lines r [] last end range at time in
+    record {
+      stands = p.stands;
+      headline = stands-headline N (placed_all names (played N names r number place lines).events) last p.stands;
+      told = p.told;
+    }
