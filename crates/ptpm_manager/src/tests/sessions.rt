@@ -1,43 +1,44 @@
 //! A session among replies from outside.
 
 use super::{
-    REFUSAL, REPLY, REQUEST, ask_of, edited, get_priority1, is_ignored, is_report, session_from,
+    REFUSAL, REPLY, REQUEST, ask_of, begins_get, edited, get_priority1, is_answered, is_begun,
+    is_sent, session_from,
 };
 use crate::*;
-use ptpm_codec::{Action, Buffer, DecodeError};
+use ptpm_codec::{Action, DecodeError, OutOfMemory};
 use std::alloc::Global;
-use std::process::Abort;
-use std::test::Fail;
 
-/// The session has asked GET PRIORITY1 twice, number 7 is answered, and number 8 is not.
-fn waits_for_number_8(session: &mut Session, alloc: Global) -> Result<(), Fail> {
-    let ask = get_priority1(alloc)?;
-    session.begin(&ask)?;
-    session.receive(REPLY)?;
-    session.begin(&ask)?;
-    Ok(())
+/// Whether the session ignores the datagram for this reason.
+fn is_ignored(session: &mut Session, datagram: &[u8], wanted: Reason) -> bool {
+    match session.receive(datagram) {
+        Ok(Received::Ignored(reason)) => reason == wanted,
+        _ => false,
+    }
+}
+
+/// The session asks GET PRIORITY1 twice, number 7 is answered, and number 8 is not.
+fn waits_for_number_8(session: &mut Session, alloc: Global) -> bool {
+    begins_get(session, alloc)
+        && is_answered(session, REPLY, 1, &[0x80, 0])
+        && begins_get(session, alloc)
 }
 
 #[test]
-fn replies_at_a_session(rt: HostRuntime) -> Result<(), Fail> {
-    let ask = get_priority1(rt.alloc())?;
+fn replies_at_a_session(rt: HostRuntime) {
     let mut session = session_from(rt.alloc(), 7, 2);
-    let mut buffer = Buffer::new();
-    session.begin(&ask)?;
-    session.send(&mut buffer)?;
-    assert_eq!(rt; buffer.as_slice(), REQUEST.as_slice());
-    assert!(rt; is_report(&session.receive(REPLY)?, 1, &[0x80, 0]));
+    assert!(rt; begins_get(&mut session, rt.alloc()));
+    assert!(rt; is_sent(&mut session, REQUEST));
+    assert!(rt; is_answered(&mut session, REPLY, 1, &[0x80, 0]));
 
-    session.begin(&ask)?;
+    assert!(rt; begins_get(&mut session, rt.alloc()));
     let reply = edited(REPLY, &[(31, 8)]);
     let stranger = edited(REPLY, &[(27, 2), (31, 8)]);
-    assert!(rt; is_ignored(&session.receive(stranger.as_slice())?, Reason::OtherSource));
-    assert!(rt; is_ignored(&session.receive(REPLY)?, Reason::OtherNumber));
-    assert!(rt; is_report(&session.receive(reply.as_slice())?, 2, &[0x80, 0]));
-    assert!(rt; is_ignored(&session.receive(reply.as_slice())?, Reason::NothingAsked));
-    assert!(rt; is_ignored(&session.receive(stranger.as_slice())?, Reason::OtherSource));
-    assert_eq!(rt; session.issued(), 2);
-    Ok(())
+    assert!(rt; is_ignored(&mut session, stranger.as_slice(), Reason::OtherSource));
+    assert!(rt; is_ignored(&mut session, REPLY, Reason::OtherNumber));
+    assert!(rt; is_answered(&mut session, reply.as_slice(), 2, &[0x80, 0]));
+    assert!(rt; is_ignored(&mut session, reply.as_slice(), Reason::NothingAsked));
+    assert!(rt; is_ignored(&mut session, stranger.as_slice(), Reason::OtherSource));
+    assert!(rt; session.issued() == 2);
 }
 
 /// Octets of the awaited reply that are replaced, and why it is then ignored.
@@ -55,73 +56,76 @@ const IGNORED: [(&[(usize, u8)], Reason); 10] = [
 ];
 
 #[test]
-fn ignored_for_the_first_reason(rt: HostRuntime) -> Result<(), Fail> {
+fn ignored_for_the_first_reason(rt: HostRuntime) {
     let mut session = session_from(rt.alloc(), 7, 2);
-    waits_for_number_8(&mut session, rt.alloc())?;
+    assert!(rt; waits_for_number_8(&mut session, rt.alloc()));
     let reply = edited(REPLY, &[(31, 8)]);
     for (edits, reason) in IGNORED {
         let datagram = edited(reply.as_slice(), edits);
         assert!(rt;
-            is_ignored(&session.receive(datagram.as_slice())?, reason),
+            is_ignored(&mut session, datagram.as_slice(), reason),
             "{edits:?}"
         );
     }
-    assert!(rt;
-        is_ignored(
-            &session.receive(&REPLY[..53])?,
-            Reason::Malformed(DecodeError::TooShort)
-        )
-    );
-    assert!(rt; is_report(&session.receive(reply.as_slice())?, 2, &[0x80, 0]));
-    Ok(())
+    let too_short = Reason::Malformed(DecodeError::TooShort);
+    assert!(rt; is_ignored(&mut session, &REPLY[..53], too_short));
+    assert!(rt; is_answered(&mut session, reply.as_slice(), 2, &[0x80, 0]));
+}
+
+/// Whether the session takes the datagram for the refusal of the request with this index, with this error.
+fn is_refused(session: &mut Session, datagram: &[u8], index: u64, error: u16) -> bool {
+    match session.receive(datagram) {
+        Ok(
+            Received::Answered(
+                Report {
+                    index: answered,
+                    outcome: Outcome::Refused(refusal),
+                },
+            ),
+        ) => answered == index && refusal == error,
+        _ => false,
+    }
 }
 
 #[test]
-fn refusal_at_a_session(rt: HostRuntime) -> Result<(), Fail> {
+fn refusal_at_a_session(rt: HostRuntime) {
     let mut session = session_from(rt.alloc(), 7, 2);
-    waits_for_number_8(&mut session, rt.alloc())?;
-    let received = session.receive(REFUSAL)?;
-    assert!(rt;
-        matches!(
-            received,
-            Received::Answered(Report {
-                index: 2,
-                outcome: Outcome::Refused(4)
-            })
-        )
-    );
-    Ok(())
+    assert!(rt; waits_for_number_8(&mut session, rt.alloc()));
+    assert!(rt; is_refused(&mut session, REFUSAL, 2, 4));
+}
+
+/// Whether the session takes the datagram for the acknowledgement of the request with this index.
+fn is_done(session: &mut Session, datagram: &[u8], index: u64) -> bool {
+    match session.receive(datagram) {
+        Ok(
+            Received::Answered(
+                Report {
+                    index: answered,
+                    outcome: Outcome::Done,
+                },
+            ),
+        ) => answered == index,
+        _ => false,
+    }
 }
 
 /// COMMAND DISABLE_PORT at port 2 is answered by port 2 alone, and by an ACKNOWLEDGE alone.
 #[test]
-fn command_at_a_session(rt: HostRuntime) -> Result<(), Fail> {
-    let ask = ask_of(rt.alloc(), Action::Command, 0x200e, Some(2), &[])?;
+fn command_at_a_session(rt: HostRuntime) {
     let mut session = session_from(rt.alloc(), 7, 1);
-    session.begin(&ask)?;
-    let mut buffer = Buffer::new();
-    session.send(&mut buffer)?;
+    let ask = ask_of(rt.alloc(), Action::Command, 0x200e, Some(2), &[]);
+    assert!(rt; is_begun(&mut session, ask, Ok(())));
     let request = edited(REQUEST, &[(42, 0), (43, 2), (46, 3), (53, 0x0e)]);
-    assert_eq!(rt; buffer.as_slice(), request.as_slice());
+    assert!(rt; is_sent(&mut session, request.as_slice()));
     let done = edited(
         &REPLY[..54],
         &[(3, 0x36), (46, 4), (51, 2), (52, 0x20), (53, 0x0e)],
     );
-    assert!(rt; is_ignored(&session.receive(done.as_slice())?, Reason::OtherSource));
+    assert!(rt; is_ignored(&mut session, done.as_slice(), Reason::OtherSource));
     let response = edited(done.as_slice(), &[(29, 2), (46, 2)]);
-    assert!(rt; is_ignored(&session.receive(response.as_slice())?, Reason::OtherContent));
+    assert!(rt; is_ignored(&mut session, response.as_slice(), Reason::OtherContent));
     let done = edited(done.as_slice(), &[(29, 2)]);
-    let received = session.receive(done.as_slice())?;
-    assert!(rt;
-        matches!(
-            received,
-            Received::Answered(Report {
-                index: 1,
-                outcome: Outcome::Done
-            })
-        )
-    );
-    Ok(())
+    assert!(rt; is_done(&mut session, done.as_slice(), 1));
 }
 
 /// Asks at a clock of two ports that are refused for the first reason that holds.
@@ -154,90 +158,96 @@ const REFUSED: [(Action, u16, Option<u16>, &[u8], BeginError); 7] = [
 ];
 
 #[test]
-fn refused_for_the_first_reason(rt: HostRuntime) -> Result<(), Fail> {
+fn refused_for_the_first_reason(rt: HostRuntime) {
     let mut session = session_from(rt.alloc(), 65535, 2);
     for (action, id, port, octets, error) in REFUSED {
-        let refused = ask_of(rt.alloc(), action, id, port, octets)?;
-        assert_eq!(rt; session.begin(&refused), Err(error));
+        let ask = ask_of(rt.alloc(), action, id, port, octets);
+        assert!(rt; is_begun(&mut session, ask, Err(error)), "{error}");
     }
-    let long = vec![in rt.alloc(); 0; 1420]?;
-    let refused = ask_of(rt.alloc(), Action::Get, 0x2005, Some(9), long.as_slice())?;
-    assert_eq!(rt; session.begin(&refused), Err(BeginError::BadValue));
-    assert_eq!(rt; session.issued(), 0);
-    Ok(())
+    let long = ask_of(rt.alloc(), Action::Get, 0x2005, Some(9), &[0; 1420]);
+    assert!(rt; is_begun(&mut session, long, Err(BeginError::BadValue)));
+    assert!(rt; session.issued() == 0);
 }
 
-/// The session sends GET PRIORITY1 with this number.
-fn sends(rt: &impl Abort, session: &mut Session, number: [u8; 2]) {
-    let mut buffer = Buffer::new();
-    assert!(rt; session.send(&mut buffer).is_ok());
+/// Whether the session sends GET PRIORITY1 with this number.
+fn sends(session: &mut Session, number: [u8; 2]) -> bool {
     let request = edited(REQUEST, &[(30, number[0]), (31, number[1])]);
-    assert_eq!(rt; buffer.as_slice(), request.as_slice());
+    is_sent(session, request.as_slice())
 }
 
-/// The session sends nothing, for this reason, and leaves the buffer as it was.
-fn sends_nothing(rt: &impl Abort, session: &mut Session, reason: SendError) {
+/// Whether the session sends nothing, for this reason, and leaves the buffer as it was.
+fn sends_nothing(session: &mut Session, reason: SendError) -> bool {
     let mut buffer = edited(REQUEST, &[]);
-    assert_eq!(rt; session.send(&mut buffer), Err(reason));
-    assert_eq!(rt; buffer.as_slice(), REQUEST.as_slice());
+    session.send(&mut buffer) == Err(reason) && buffer.as_slice() == REQUEST.as_slice()
+}
+
+/// Whether the session answers so to another attempt.
+fn is_resumed(session: &mut Session, wanted: Result<(), SendError>) -> bool {
+    session.resume(1) == wanted
 }
 
 #[test]
-fn session_calls(rt: HostRuntime) -> Result<(), Fail> {
-    let ask = get_priority1(rt.alloc())?;
+fn session_calls(rt: HostRuntime) {
     let mut session = session_from(rt.alloc(), 65535, 2);
-    sends_nothing(&rt, &mut session, SendError::Idle);
-    assert_eq!(rt; session.resume(1), Err(SendError::Idle));
-    session.begin(&ask)?;
-    sends(&rt, &mut session, [0xff, 0xff]);
-    sends(&rt, &mut session, [0xff, 0xff]);
-    sends_nothing(&rt, &mut session, SendError::GaveUp);
-    assert_eq!(rt; session.begin(&ask), Err(BeginError::Busy));
-    session.resume(1)?;
-    sends(&rt, &mut session, [0xff, 0xff]);
-    sends_nothing(&rt, &mut session, SendError::GaveUp);
+    assert!(rt; sends_nothing(&mut session, SendError::Idle));
+    assert!(rt; is_resumed(&mut session, Err(SendError::Idle)));
+    assert!(rt; begins_get(&mut session, rt.alloc()));
+    assert!(rt; sends(&mut session, [0xff, 0xff]));
+    assert!(rt; sends(&mut session, [0xff, 0xff]));
+    assert!(rt; sends_nothing(&mut session, SendError::GaveUp));
+    let ask = get_priority1(rt.alloc());
+    assert!(rt; is_begun(&mut session, ask, Err(BeginError::Busy)));
+    assert!(rt; is_resumed(&mut session, Ok(())));
+    assert!(rt; sends(&mut session, [0xff, 0xff]));
+    assert!(rt; sends_nothing(&mut session, SendError::GaveUp));
     let reply = edited(REPLY, &[(30, 0xff), (31, 0xff)]);
-    assert!(rt; is_report(&session.receive(reply.as_slice())?, 1, &[0x80, 0]));
-    session.begin(&ask)?;
-    sends(&rt, &mut session, [0, 0]);
-    Ok(())
+    assert!(rt; is_answered(&mut session, reply.as_slice(), 1, &[0x80, 0]));
+    assert!(rt; begins_get(&mut session, rt.alloc()));
+    assert!(rt; sends(&mut session, [0, 0]));
+}
+
+/// The clock's reply with the sequenceId of the request with this index, where the first one is 1.
+fn reply_to(index: u64) -> [u8; 56] {
+    let mut reply = *REPLY;
+    reply[30] = (index / 256 % 256) as u8;
+    reply[31] = (index % 256) as u8;
+    reply
+}
+
+/// Whether the session begins the ask, and takes the reply for its answer, with this index.
+fn is_next(session: &mut Session, ask: &Ask, index: u64) -> bool {
+    session.begin(ask) == Ok(()) && is_answered(session, &reply_to(index), index, &[0x80, 0])
 }
 
 #[test]
-fn count_at_maximum(rt: HostRuntime) -> Result<(), Fail> {
+fn count_at_maximum(rt: HostRuntime) -> Result<(), OutOfMemory> {
     let ask = get_priority1(rt.alloc())?;
     let mut session = session_from(rt.alloc(), 1, 1);
-    let mut reply = *REPLY;
     for index in 1..=1_000_000u64 {
-        session.begin(&ask)?;
-        reply[30] = (index / 256 % 256) as u8;
-        reply[31] = (index % 256) as u8;
-        assert!(rt;
-            is_report(&session.receive(&reply)?, index, &[0x80, 0]),
-            "at {index}"
-        );
+        assert!(rt; is_next(&mut session, &ask, index), "at {index}");
     }
-    assert_eq!(rt; session.issued(), 1_000_000);
-    assert_eq!(rt; session.begin(&ask), Err(BeginError::CountAtMaximum));
-    assert_eq!(rt; session.issued(), 1_000_000);
+    assert!(rt; session.issued() == 1_000_000);
+    assert!(rt; session.begin(&ask) == Err(BeginError::CountAtMaximum));
+    assert!(rt; session.issued() == 1_000_000);
     Ok(())
 }
 
-#[test]
-fn retune_while_waiting(rt: HostRuntime) -> Result<(), Fail> {
-    let ask = get_priority1(rt.alloc())?;
-    let mut session = session_from(rt.alloc(), 7, 2);
-    let mut buffer = Buffer::new();
-    session.begin(&ask)?;
-    session.send(&mut buffer)?;
+/// Whether the session's domain is 5 once it is set so.
+fn is_retuned(session: &mut Session) -> bool {
     session.retune(5);
-    assert_eq!(rt; session.domain(), 5);
-    session.send(&mut buffer)?;
+    session.domain() == 5
+}
+
+#[test]
+fn retune_while_waiting(rt: HostRuntime) {
+    let mut session = session_from(rt.alloc(), 7, 2);
+    assert!(rt; begins_get(&mut session, rt.alloc()));
+    assert!(rt; is_sent(&mut session, REQUEST));
+    assert!(rt; is_retuned(&mut session));
     let request = edited(REQUEST, &[(4, 5)]);
-    assert_eq!(rt; buffer.as_slice(), request.as_slice());
-    assert_eq!(rt; session.send(&mut buffer), Err(SendError::GaveUp));
-    assert!(rt; is_ignored(&session.receive(REPLY)?, Reason::OtherDomain));
+    assert!(rt; is_sent(&mut session, request.as_slice()));
+    assert!(rt; sends_nothing(&mut session, SendError::GaveUp));
+    assert!(rt; is_ignored(&mut session, REPLY, Reason::OtherDomain));
     let reply = edited(REPLY, &[(4, 5)]);
-    assert!(rt; is_report(&session.receive(reply.as_slice())?, 1, &[0x80, 0]));
-    Ok(())
+    assert!(rt; is_answered(&mut session, reply.as_slice(), 1, &[0x80, 0]));
 }

@@ -1,25 +1,28 @@
 //! A survey among answers from outside.
 
-use super::{PORT, SURVEY, edited, holds, port_survey};
+use super::{PORT, SURVEY, edited, holds, is_surveyed, port_survey};
 use crate::*;
 use ptpm_codec::{Buffer, DecodeError};
-use std::test::Fail;
 
-#[test]
-fn survey(rt: HostRuntime) -> Result<(), Fail> {
-    let mut survey = port_survey(rt.alloc());
+/// Whether the survey sends these octets.
+fn sends(survey: &Survey, octets: &[u8]) -> bool {
     let mut buffer = Buffer::new();
     survey.send(&mut buffer);
-    assert_eq!(rt; buffer.as_slice(), SURVEY.as_slice());
+    buffer.as_slice() == octets
+}
+
+#[test]
+fn survey(rt: HostRuntime) {
+    let mut survey = port_survey(rt.alloc());
+    assert!(rt; sends(&survey, SURVEY));
     let second = edited(PORT, &[(29, 2), (63, 2)]);
     let changed = edited(PORT, &[(64, 3)]);
-    assert_eq!(rt; survey.receive(PORT)?, Surveyed::Taken);
-    assert_eq!(rt; survey.receive(second.as_slice())?, Surveyed::Taken);
-    assert_eq!(rt; survey.receive(changed.as_slice())?, Surveyed::Again);
-    assert_eq!(rt; survey.answers().len(), 2);
+    assert!(rt; is_surveyed(&mut survey, PORT, Surveyed::Taken));
+    assert!(rt; is_surveyed(&mut survey, second.as_slice(), Surveyed::Taken));
+    assert!(rt; is_surveyed(&mut survey, changed.as_slice(), Surveyed::Again));
+    assert!(rt; survey.answers().len() == 2);
     assert!(rt; holds(&survey, 0, 1, PORT));
     assert!(rt; holds(&survey, 1, 2, second.as_slice()));
-    Ok(())
 }
 
 /// Octets of the answer to a survey that are replaced, and why it is then ignored.
@@ -35,33 +38,35 @@ const NOT_SURVEYED: [(&[(usize, u8)], Reason); 8] = [
 ];
 
 #[test]
-fn survey_ignores(rt: HostRuntime) -> Result<(), Fail> {
+fn survey_ignores(rt: HostRuntime) {
     let mut survey = port_survey(rt.alloc());
     for (edits, reason) in NOT_SURVEYED {
         let datagram = edited(PORT, edits);
-        assert_eq!(rt;
-            survey.receive(datagram.as_slice())?,
-            Surveyed::Ignored(reason)
+        assert!(rt;
+            is_surveyed(&mut survey, datagram.as_slice(), Surveyed::Ignored(reason)),
+            "{reason}"
         );
     }
     assert!(rt; survey.answers().is_empty());
-    Ok(())
+}
+
+/// The answer of another clock, whose last two octets are this number.
+fn answer_of(clock: u16) -> Buffer {
+    edited(
+        PORT,
+        &[(20, (clock / 256) as u8), (21, (clock % 256) as u8)],
+    )
 }
 
 #[test]
-fn survey_is_full_at_512(rt: HostRuntime) -> Result<(), Fail> {
+fn survey_is_full_at_512(rt: HostRuntime) {
     let mut survey = port_survey(rt.alloc());
     for clock in 0..512u16 {
-        let answer = edited(
-            PORT,
-            &[(20, (clock / 256) as u8), (21, (clock % 256) as u8)],
-        );
-        assert_eq!(rt; survey.receive(answer.as_slice())?, Surveyed::Taken);
-        assert_eq!(rt; survey.receive(answer.as_slice())?, Surveyed::Again);
+        let answer = answer_of(clock);
+        assert!(rt; is_surveyed(&mut survey, answer.as_slice(), Surveyed::Taken));
+        assert!(rt; is_surveyed(&mut survey, answer.as_slice(), Surveyed::Again));
     }
-    assert_eq!(rt; survey.receive(PORT)?, Surveyed::Full);
-    let first = edited(PORT, &[(20, 0), (21, 0)]);
-    assert_eq!(rt; survey.receive(first.as_slice())?, Surveyed::Again);
-    assert_eq!(rt; survey.answers().len(), 512);
-    Ok(())
+    assert!(rt; is_surveyed(&mut survey, PORT, Surveyed::Full));
+    assert!(rt; is_surveyed(&mut survey, answer_of(0).as_slice(), Surveyed::Again));
+    assert!(rt; survey.answers().len() == 512);
 }
