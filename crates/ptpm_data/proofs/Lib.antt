@@ -15,3 +15,4 @@ pub mod PlainMap
 pub mod MapLemmas
 pub mod Observing
 pub mod Observed
+pub mod Differing

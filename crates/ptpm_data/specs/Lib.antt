@@ -21,3 +21,4 @@ pub mod RequestLaws
 pub mod SetLaws
 pub mod Observation
 pub mod ObservationLaws
+pub mod Changed

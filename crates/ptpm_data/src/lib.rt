@@ -4,6 +4,7 @@
 
 mod actions;
 mod answers;
+mod changed;
 mod changes;
 mod data_field;
 mod data_sets;
@@ -27,6 +28,7 @@ mod start;
 
 pub use actions::Actions;
 pub use answers::Answers;
+pub use changed::{ChangedMembers, ClockMembers, PortMembers};
 pub use data_sets::{
     ClockPrecedence, CurrentDataSet, DataSets, DefaultDataSet, ParentDataSet, PortDataSet,
     TimePropertiesDataSet,
