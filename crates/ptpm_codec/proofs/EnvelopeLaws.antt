@@ -1,65 +1,68 @@
 -- The messages of one reply are their envelope with what differs written over.
-use Rattle.std.proofs.Common.{◌≡◌, ℕ, ◌+◌, ◌%◌, ◌/◌, ◌<◌, ◌≤◌, ◌^◌, List, [], ◌++◌, length, take, refl, append_assoc, arith}
+use Rattle.std.proofs.Common.{◌≡◌, ℕ, ◌+◌, ◌*◌, ◌%◌, ◌/◌, List, [], ◌∷◌, ◌++◌, ◌∙◌, length, take, drop, refl, arith}
+use Rattle.std.proofs.lemmas.List.{take-append-le, take_all}
+use Rattle.std.specs.Prelude.{replicate}
 use Rattle.byteorder.specs.Endian.{big_bytes}
 use Rattle.ptpm_codec.specs.declared.message.Action.{Action}
 use Rattle.ptpm_codec.specs.declared.message.Body.TheVariants as bodies
 use Rattle.ptpm_codec.specs.declared.message.Message.{Message}
-use Rattle.ptpm_codec.specs.Message.{Fits}
+use Rattle.ptpm_codec.specs.Message.{Fits, action_code}
 use Rattle.ptpm_codec.specs.Canonical.{canonical, error_status_octets, management_octets, port_identity_octets, text_octets, tlv_octets}
-use Rattle.ptpm_codec.specs.Envelope.{envelope_of, field_sized, sent_with, sized}
+use Rattle.ptpm_codec.specs.Envelope.{envelope_of, sent_with, written}
 use Rattle.ptpm_codec.proofs.CanonicalLaws.{by_clocks}
 
-pub empty_tlv : (action : Action) (id : ℕ)
-    → tlv_octets (bodies.Answer action id []) ≡ big_bytes 2 0x0001 ++ big_bytes 2 (2 + 0) ++ big_bytes 2 id
-unfolding tlv_octets
-empty_tlv action id = refl
+-- the fields of a message without dataField, each written at its place over zeros
+abbrev pub by_place : Message → Action → ℕ → List ℕ
+by_place v action id =
+    written 52 (big_bytes 2 id) (written 48 (0 ∷ 1 ∷ 0 ∷ 2 ∷ []) (written 44 (v.starting_hops ∷ v.hops ∷ action_code action ∷ 0 ∷ [])
+    (written 42 (big_bytes 2 v.target.port) (written 34 v.target.clock.0 (written 32 (0x04 ∷ 0x7f ∷ [])
+    (written 30 (big_bytes 2 v.number) (written 28 (big_bytes 2 v.source.port) (written 20 v.source.clock.0
+    (written 4 (v.domain ∷ v.sdo % 256 ∷ []) (written 0 ((v.sdo / 256 * 16 + 0xd) ∷ 0x12 ∷ 0 ∷ 54 ∷ []) (replicate 54 0)))))))))))
 
--- the pieces of a TLV's head, grouped as they are put and as they are spelled
-pub regroup : (h a b c : List ℕ) → ((h ++ a) ++ b) ++ c ≡ h ++ ((a ++ b) ++ c)
-regroup h a b c = simp append_assoc
+pub envelope_written : (v : Message) (action : Action) (id : ℕ) → Fits v → by_place v action id ≡ envelope_of v action id
+unfolding port_identity_octets tlv_octets
+envelope_written v action id fits =
+    by_clocks (λ w. by_place w action id ≡ envelope_of w action id) v fits
+    (λ a1 b1 c1 d1 e1 f1 g1 h1 a2 b2 c2 d2 e2 f2 g2 h2. refl)
+
+-- an answer's size, port and lengthField written over the envelope
+abbrev pub answered_by : ℕ → ℕ → ℕ → List ℕ → List ℕ
+answered_by size port field m = written 50 (big_bytes 2 field) (written 28 (big_bytes 2 port) (written 2 (big_bytes 2 size) m))
+
+pub written_both : (place : ℕ) (a b m n : List ℕ) → a ≡ b → m ≡ n → written place a m ≡ written place b n
+written_both place a b m n same old = λ i. written place (same i) (old i)
+
+-- a slice of the same length, written back
+pub written_back : (m xs : List ℕ) → length m ≡ length xs → take (length xs) (m ++ drop (length m) xs) ≡ m
+written_back m xs same =
+    take-append-le (length xs) m (drop (length m) xs) (omega (arith, same)) ∙ take_all (length xs) m (omega (arith, same))
 
 answer_by : (v : Message) (action : Action) (id port size field : ℕ) (octets : List ℕ) → Fits v
-    → size / 256 ≡ (48 + length (management_octets id octets)) / 256 % 256
-    → size % 256 ≡ (48 + length (management_octets id octets)) % 256
-    → port / 256 % 256 ≡ port / 256
-    → field / 256 ≡ (2 + length octets) / 256 % 256
-    → field % 256 ≡ (2 + length octets) % 256
-    → field_sized field (sized size port (envelope_of v action id ++ octets))
+    → size ≡ 48 + length (management_octets id octets)
+    → answered_by size port (2 + length octets) (envelope_of v action id ++ octets)
     ≡ canonical (sent_with v port (bodies.Answer action id octets))
 unfolding port_identity_octets tlv_octets
-answer_by v action id port size field octets fits a b c d e =
-    by_clocks (λ w. field_sized field (sized size port (envelope_of w action id ++ octets))
+answer_by v action id port size field octets fits is =
+    by_clocks (λ w. answered_by size port (2 + length octets) (envelope_of w action id ++ octets)
     ≡ canonical (sent_with w port (bodies.Answer action id octets))) v fits
-    (λ a1 b1 c1 d1 e1 f1 g1 h1 a2 b2 c2 d2 e2 f2 g2 h2. rw (a, b, c, d, e) refl)
+    (λ a1 b1 c1 d1 e1 f1 g1 h1 a2 b2 c2 d2 e2 f2 g2 h2. rw is refl)
 
-management_size : (id : ℕ) (octets : List ℕ) → length (management_octets id octets) ≡ 6 + length octets
+management_size : (id : ℕ) (octets : List ℕ) → 54 + length octets ≡ 48 + length (management_octets id octets)
 management_size id octets = omega arith
 
 pub answer_written : (v : Message) (action : Action) (id port : ℕ) (octets : List ℕ) → Fits v
-    → port < 2 ^ 16
-    → length octets ≤ 1418
-    → field_sized (2 + length octets) (sized (54 + length octets) port (envelope_of v action id ++ octets))
+    → answered_by (54 + length octets) port (2 + length octets) (envelope_of v action id ++ octets)
     ≡ canonical (sent_with v port (bodies.Answer action id octets))
-answer_written v action id port octets fits low small =
-    let size = management_size id octets in
-    answer_by v action id port (54 + length octets) (2 + length octets) octets fits (omega (arith, size)) (omega (arith, size)) (omega arith) (omega arith)
-    (omega arith)
-
-fault_by : (v : Message) (action : Action) (answered id error port : ℕ) → Fits v
-    → port / 256 % 256 ≡ port / 256
-    → sized 60 port (take 48 (envelope_of v action answered) ++ error_status_octets error id [])
-    ≡ canonical (sent_with v port (bodies.Fault action error id []))
-unfolding port_identity_octets tlv_octets text_octets
-fault_by v action answered id error port fits a =
-    by_clocks (λ w. sized 60 port (take 48 (envelope_of w action answered) ++ error_status_octets error id [])
-    ≡ canonical (sent_with w port (bodies.Fault action error id []))) v fits
-    (λ a1 b1 c1 d1 e1 f1 g1 h1 a2 b2 c2 d2 e2 f2 g2 h2. rw a refl)
+answer_written v action id port octets fits = answer_by v action id port (54 + length octets) (2 + length octets) octets fits (management_size id octets)
 
 pub fault_written : (v : Message) (action : Action) (answered id error port : ℕ) → Fits v
-    → port < 2 ^ 16
-    → sized 60 port (take 48 (envelope_of v action answered) ++ error_status_octets error id [])
+    → written 28 (big_bytes 2 port) (written 2 (big_bytes 2 60) (take 48 (envelope_of v action answered) ++ error_status_octets error id []))
     ≡ canonical (sent_with v port (bodies.Fault action error id []))
-fault_written v action answered id error port fits low = fault_by v action answered id error port fits (omega arith)
+unfolding port_identity_octets tlv_octets text_octets
+fault_written v action answered id error port fits =
+    by_clocks (λ w. written 28 (big_bytes 2 port) (written 2 (big_bytes 2 60) (take 48 (envelope_of w action answered) ++ error_status_octets error id []))
+    ≡ canonical (sent_with w port (bodies.Fault action error id []))) v fits
+    (λ a1 b1 c1 d1 e1 f1 g1 h1 a2 b2 c2 d2 e2 f2 g2 h2. refl)
 
 pub no_text : text_octets [] ≡ []
 unfolding text_octets

@@ -1,5 +1,5 @@
 -- The messages of one reply: they differ in the source's portNumber and the body alone.
-use Rattle.std.specs.Prelude.{ℕ, ◌/◌, ◌%◌, List, [], slice_set}
+use Rattle.std.specs.Prelude.{ℕ, ◌+◌, List, [], ◌++◌, drop, length, take}
 use Rattle.ptpm_codec.specs.declared.message.Action.{Action}
 use Rattle.ptpm_codec.specs.declared.message.Body.{Body}
 use Rattle.ptpm_codec.specs.declared.message.Body.TheVariants as bodies
@@ -17,11 +17,6 @@ sent_with v port body = record v {
 abbrev pub envelope_of : Message → Action → ℕ → List ℕ
 envelope_of v action id = canonical (record v { body = bodies.Answer action id [] })
 
--- messageLength and the source's portNumber written over
-abbrev pub sized : ℕ → ℕ → List ℕ → List ℕ
-sized size port m =
-    slice_set (slice_set (slice_set (slice_set m 2 (size / 256)) 3 (size % 256)) 28 (port / 256)) 29 (port % 256)
-
--- lengthField written over
-abbrev pub field_sized : ℕ → List ℕ → List ℕ
-field_sized field m = slice_set (slice_set m 50 (field / 256)) 51 (field % 256)
+-- octets written over those from a place on
+abbrev pub written : ℕ → List ℕ → List ℕ → List ℕ
+written place octets m = take place m ++ octets ++ drop (place + length octets) m

@@ -42,7 +42,7 @@ pub fn encode(draft: &Draft<'_>, buffer: &mut Buffer)
 
 /// Octets 0 to 29: up to the source.
 #[inline(always)]
-pub(crate) fn put_front(head: &mut Head, draft: &Draft<'_>, size: u16)
+fn put_front(head: &mut Head, draft: &Draft<'_>, size: u16)
     requires sdo { draft.now.sdo < 4096 }
     requires room { array_vec_len head.old + 30 ≤ 60 }
     ensures items { head.new.items
@@ -62,7 +62,7 @@ pub(crate) fn put_front(head: &mut Head, draft: &Draft<'_>, size: u16)
 
 /// Octets 30 to 47: from sequenceId to before the TLV.
 #[inline(always)]
-pub(crate) fn put_middle(head: &mut Head, draft: &Draft<'_>)
+fn put_middle(head: &mut Head, draft: &Draft<'_>)
     requires { array_vec_len head.old + 18 ≤ 60 }
     ensures items { head.new.items
         ≡ head.old.items
@@ -121,7 +121,7 @@ fn leave_tlv(buffer: &mut Buffer, head: &mut Head, body: &DraftBody<'_>)
 
 /// Octets 48 to 53: a MANAGEMENT TLV up to its dataField, of this size.
 #[inline(always)]
-pub(crate) fn put_management_head(head: &mut Head, id: u16, size: u16)
+fn put_management_head(head: &mut Head, id: u16, size: u16)
     requires small { size ≤ 1418 }
     requires header { array_vec_len head.old ≡ 48 }
     ensures items { head.new.items

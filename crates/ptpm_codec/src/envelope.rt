@@ -1,34 +1,36 @@
 //! The messages of one reply, of which each has a port and an answer of its own.
 
-ghost use Rattle.std.specs.Prelude.{◌≡◌, ◌≤◌, ◌++◌, [], ℕ, length, take};
-ghost use Rattle.arrayvec.specs.ArrayVec.{array_vec_len};
+ghost use Rattle.std.specs.Prelude.{◌≡◌, ◌<◌, ◌≤◌, ◌+◌, ◌^◌, [], ℕ, length};
+ghost use Rattle.byteorder.specs.Endian.{big_bytes};
 ghost use Rattle.ptpm_codec.specs.declared.message.Action.{Action};
 ghost use Rattle.ptpm_codec.specs.declared.message.Body.TheVariants as bodies;
 ghost use Rattle.ptpm_codec.specs.declared.message.Message.{Message};
-ghost use Rattle.ptpm_codec.specs.Canonical.{canonical, error_status_octets};
-ghost use Rattle.ptpm_codec.specs.Envelope.{envelope_of, field_sized, sent_with, sized};
-ghost use Rattle.ptpm_codec.specs.Message.{Fits, IsValid, action_of};
+ghost use Rattle.ptpm_codec.specs.Canonical.{canonical};
+ghost use Rattle.ptpm_codec.specs.Envelope.{envelope_of, sent_with, written};
+ghost use Rattle.ptpm_codec.specs.Message.{Fits, IsValid, PortIdentityFits, action_of};
 
 use crate::buffers::{overwrite_by_two, put};
 use crate::draft::Draft;
-use crate::encoding::{Buffer, Head, put_error_status, put_front, put_management_head, put_middle};
+use crate::encoding::{Buffer, Head, put_error_status};
+use crate::identity::PortIdentity;
 use std::marker::Model;
+
+/// How many octets stand before the dataField of a message.
+const HEAD_OCTETS: usize = 54;
 
 /// What the messages of one reply have in common, put together once: the message with an empty dataField. Contracts see its
 /// octets.
 #[derive(Drop)]
 pub struct Envelope {
-    head: Head,
+    head: [u8; HEAD_OCTETS],
 }
 
 impl Model for Envelope {
-    ghost use Rattle.std.specs.Prelude.{List, ℕ, ◌≡◌, length};
+    ghost use Rattle.std.specs.Prelude.{List, ℕ};
 
     ghost Value = { List ℕ };
 
-    ghost view = { λ e. e.head.items };
-
-    ghost invariant = { λ e. length e.head.items ≡ 54 };
+    ghost view = { λ e. e.head };
 }
 
 impl Envelope {
@@ -40,10 +42,21 @@ impl Envelope {
         ensures octets { result ≡ canonical draft.now }
         ensures fits { Fits draft.now }
     {
-        let mut head = Head::new();
-        put_front(&mut head, draft, 54);
-        put_middle(&mut head, draft);
-        put_management_head(&mut head, id, 0);
+        let mut head = [0; HEAD_OCTETS];
+        write_at(
+            &mut head,
+            0,
+            &[(draft.sdo / 256) as u8 * 16 + 0xd, 0x12, 0, 54],
+        );
+        write_at(&mut head, 4, &[draft.domain, (draft.sdo % 256) as u8]);
+        write_identity(&mut head, 20, &draft.source);
+        write_u16(&mut head, 30, draft.number);
+        write_at(&mut head, 32, &[0x04, 0x7f]);
+        write_identity(&mut head, 34, &draft.target);
+        let action = draft.body.action().code();
+        write_at(&mut head, 44, &[draft.starting_hops, draft.hops, action, 0]);
+        write_at(&mut head, 48, &[0, 1, 0, 2]);
+        write_u16(&mut head, 52, id);
         Envelope { head }
     }
 
@@ -55,10 +68,12 @@ impl Envelope {
             self.now ≡ envelope_of v action id →
             buffer.new.items ≡ canonical (sent_with v port (bodies.Answer action id octets.now)) }
     {
-        overwrite_by_two(buffer, self.head.as_slice(), octets);
+        overwrite_by_two(buffer, &self.head, octets);
         let size = octets.len() as u16;
-        write_size(buffer, 54 + size, port);
-        write_length_field(buffer, 2 + size);
+        let message = buffer.as_mut_slice();
+        write_u16(message, 2, 54 + size);
+        write_u16(message, 28, port);
+        write_u16(message, 50, 2 + size);
     }
 
     /// Leaves the error status without text that refuses an id from this port in the buffer, and nothing else. Takes no
@@ -70,32 +85,43 @@ impl Envelope {
             buffer.new.items ≡ canonical (sent_with v port (bodies.Fault action error id [])) }
     {
         let mut head = Head::new();
-        let (header, _) = self.head.as_slice().split_at(48);
+        let (header, _) = self.head.split_at(48);
         put(&mut head, header);
         buffer.clear();
         put_error_status(buffer, &mut head, error, id, &[]);
-        write_size(buffer, 60, port);
+        let message = buffer.as_mut_slice();
+        write_u16(message, 2, 60);
+        write_u16(message, 28, port);
     }
 }
 
-/// Writes over messageLength and the source's portNumber of a message.
-fn write_size(message: &mut Buffer, size: u16, port: u16)
-    requires { 54 ≤ array_vec_len message.old }
-    ensures { message.new.items ≡ sized size port message.old.items }
+/// Writes an identity over the ten octets from a place on.
+#[inline(always)]
+fn write_identity(message: &mut [u8], place: usize, identity: &PortIdentity)
+    requires { place + 10 ≤ length message.old }
+    ensures octets { message.new ≡ written (place + 8) (big_bytes 2 identity.now.port)
+        (written place identity.now.clock.0 message.old) }
+    ensures fits { PortIdentityFits identity.now }
 {
-    let message = message.as_mut_slice();
-    message[2] = (size / 256) as u8;
-    message[3] = (size % 256) as u8;
-    message[28] = (port / 256) as u8;
-    message[29] = (port % 256) as u8;
+    write_at(message, place, &identity.clock.0);
+    write_u16(message, place + 8, identity.port);
 }
 
-/// Writes over lengthField of a message.
-fn write_length_field(message: &mut Buffer, length: u16)
-    requires { 54 ≤ array_vec_len message.old }
-    ensures { message.new.items ≡ field_sized length message.old.items }
+/// Writes a number over the two octets from a place on.
+#[inline(always)]
+fn write_u16(message: &mut [u8], place: usize, number: u16)
+    requires { place + 2 ≤ length message.old }
+    ensures octets { message.new ≡ written place (big_bytes 2 number) message.old }
+    ensures fits { number < 2 ^ 16 }
 {
-    let message = message.as_mut_slice();
-    message[50] = (length / 256) as u8;
-    message[51] = (length % 256) as u8;
+    write_at(message, place, &number.to_be_bytes());
+}
+
+/// Writes octets over those from a place on.
+#[inline(always)]
+fn write_at(message: &mut [u8], place: usize, octets: &[u8])
+    requires { place + length octets.now ≤ length message.old }
+    ensures { message.new ≡ written place octets.now message.old }
+{
+    message[place..place + octets.len()].copy_from_slice(octets);
 }
