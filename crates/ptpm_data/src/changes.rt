@@ -15,7 +15,7 @@ use crate::request::Request;
 use crate::rights::Rights;
 use crate::set_field::{first_i8, first_i16};
 use arrayvec::ArrayVec;
-use ptpm_codec::{Action, ErrorId, PortIdentity, text_of_ptp_text};
+use ptpm_codec::{Action, ErrorId, PortIdentity, overwrite, text_of_ptp_text};
 
 impl DataSets {
     ghost use Rattle.ptpm_data.specs.ManagementId.{row_value, set_of};
@@ -139,8 +139,7 @@ fn put_description(description: &mut ArrayVec<u8, 128>, text: &[u8])
     requires { is_description text.now ≡ true }
     ensures { description.new.items ≡ text.now }
 {
-    description.clear();
-    let _ = description.try_extend_from_slice(text);
+    overwrite(description, text);
 }
 
 fn set_utc_properties(time: &mut TimePropertiesDataSet, octets: &[u8])

@@ -13,6 +13,7 @@ use crate::data_sets::{
 };
 use crate::management_id::{Layout, Scope, by_id};
 use crate::reply::Value;
+use arrayvec::ArrayVec;
 use byteorder::{BigEndian, ByteOrder};
 use ptpm_codec::{ClockIdentity, put, put_ptp_text, put_u16};
 
@@ -62,8 +63,15 @@ impl DataSets {
     }
 
     /// Appends the dataField of an id of a port; that of a port that the clock lacks has no octets.
-    pub(crate) fn put_port_field(&self, layout: Layout, port: u16, buffer: &mut Value)
-        requires { buffer.old.items ≡ [] }
+    #[inline(always)]
+    pub(crate) fn put_port_field<const N: usize>(
+        &self,
+        layout: Layout,
+        port: u16,
+        buffer: &mut ArrayVec<u8, N>,
+    )
+        requires empty { buffer.old.items ≡ [] }
+        requires room { 26 ≤ N }
         ensures { buffer.new.items ≡ data_field_of layout (Some port) self.now }
     {
         if let Some(set) = self.port(port) {
@@ -87,14 +95,16 @@ const VERSION: u8 = 2;
 
 /// Appends what an id shows of a port's data set.
 #[tactic(auto, unfolding(crate::specs::DataField::port_field_of))]
-fn put_field_of_port(
-    buffer: &mut Value,
+#[inline(always)]
+fn put_field_of_port<const N: usize>(
+    buffer: &mut ArrayVec<u8, N>,
     layout: Layout,
     identity: &ClockIdentity,
     port: u16,
     set: &PortDataSet,
 )
-    requires { buffer.old.items ≡ [] }
+    requires empty { buffer.old.items ≡ [] }
+    requires room { 26 ≤ N }
     ensures { buffer.new.items ≡ port_field_of layout identity.now port set.now }
 {
     match layout {
@@ -185,8 +195,14 @@ fn put_precedence(buffer: &mut Value, precedence: &ClockPrecedence)
 }
 
 #[tactic(auto, unfolding(crate::specs::DataField::port_data_field))]
-fn put_port_data_set(buffer: &mut Value, identity: &ClockIdentity, port: u16, set: &PortDataSet)
-    requires { array_vec_len buffer.old + 26 ≤ 130 }
+#[inline(always)]
+fn put_port_data_set<const N: usize>(
+    buffer: &mut ArrayVec<u8, N>,
+    identity: &ClockIdentity,
+    port: u16,
+    set: &PortDataSet,
+)
+    requires { array_vec_len buffer.old + 26 ≤ N }
     ensures { buffer.new.items ≡ buffer.old.items ++ port_data_field identity.now port set.now }
 {
     put(buffer, &identity.0);
@@ -201,8 +217,8 @@ fn put_port_data_set(buffer: &mut Value, identity: &ClockIdentity, port: u16, se
 
 /// The members that a SET can change, and versionNumber.
 #[tactic(auto, unfolding(crate::specs::DataField::port_settings_octets))]
-fn put_port_settings(buffer: &mut Value, set: &PortDataSet)
-    requires { array_vec_len buffer.old + 6 ≤ 130 }
+fn put_port_settings<const N: usize>(buffer: &mut ArrayVec<u8, N>, set: &PortDataSet)
+    requires { array_vec_len buffer.old + 6 ≤ N }
     ensures { buffer.new.items ≡ buffer.old.items ++ port_settings_octets set.now }
 {
     put(
@@ -223,15 +239,15 @@ fn put_port_settings(buffer: &mut Value, set: &PortDataSet)
     );
 }
 
-fn put_octet(buffer: &mut Value, octet: u8)
-    requires { array_vec_len buffer.old + 2 ≤ 130 }
+fn put_octet<const N: usize>(buffer: &mut ArrayVec<u8, N>, octet: u8)
+    requires { array_vec_len buffer.old + 2 ≤ N }
     ensures { buffer.new.items ≡ buffer.old.items ++ octet_data_field octet }
 {
     put(buffer, &[octet, 0]);
 }
 
-fn put_i8(buffer: &mut Value, number: i8)
-    requires { array_vec_len buffer.old + 2 ≤ 130 }
+fn put_i8<const N: usize>(buffer: &mut ArrayVec<u8, N>, number: i8)
+    requires { array_vec_len buffer.old + 2 ≤ N }
     ensures { buffer.new.items ≡ buffer.old.items ++ i8_data_field number }
 {
     put_octet(buffer, i8_octet(number));
@@ -265,8 +281,8 @@ fn put_i32(buffer: &mut Value, number: i32)
 }
 
 #[tactic(auto, unfolding(crate::specs::DataField::i64_octets))]
-fn put_i64(buffer: &mut Value, number: i64)
-    requires { array_vec_len buffer.old + 8 ≤ 130 }
+fn put_i64<const N: usize>(buffer: &mut ArrayVec<u8, N>, number: i64)
+    requires { array_vec_len buffer.old + 8 ≤ N }
     ensures items { buffer.new.items ≡ buffer.old.items ++ i64_octets number }
     ensures len { array_vec_len buffer.new ≡ array_vec_len buffer.old + 8 }
 {

@@ -3,7 +3,7 @@
 use crate::answers::Answers;
 use crate::data_sets::DataSets;
 use crate::management_id::{Layout, Row, Scope};
-use crate::reply::Value;
+use crate::reply::{PortValue, Value};
 use crate::request::Request;
 use ptpm_codec::{Action, ErrorId, PortIdentity};
 
@@ -84,12 +84,18 @@ impl DataSets {
             (record { port = port; outcome = Value (data_field_of layout port self.now) } ∷ [])
             answers.new }
     {
-        let mut value = Value::new();
         match port {
-            None => self.put_clock_field(layout, &mut value),
-            Some(port) => self.put_port_field(layout, port, &mut value),
+            None => {
+                let mut value = Value::new();
+                self.put_clock_field(layout, &mut value);
+                answers.take_value(None, value.as_slice());
+            }
+            Some(number) => {
+                let mut value = PortValue::new();
+                self.put_port_field(layout, number, &mut value);
+                answers.take_value(Some(number), value.as_slice());
+            }
         }
-        answers.take_value(port, value.as_slice());
     }
 
     /// The ports that a target port means: from the first number on, up to the second, which is not one of them.

@@ -9,6 +9,9 @@ use std::marker::Model;
 /// Room for the dataField of an answer.
 pub type Value = ArrayVec<u8, 130>;
 
+/// Room for the dataField of a port's answer.
+pub(crate) type PortValue = ArrayVec<u8, 26>;
+
 /// The answer of the clock or of one of its ports.
 #[derive(Debug, Drop)]
 pub enum What {
