@@ -36,3 +36,4 @@ pub mod Counting
 pub mod DueReplies
 pub mod Unchanged
 pub mod Reporting
+pub mod Resuming

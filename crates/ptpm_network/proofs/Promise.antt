@@ -1,5 +1,5 @@
 -- The promise of a network, and the states of a running network in which it holds.
-use Rattle.ptpm_network.proofs.Common.{by_test, suc, zero, arith, ◌≡◌, ℕ, ◌<◌, ◌≤◌, List, [], ◌∷◌, ◌++◌, Option, Some, None, false, sym, ◌∙◌, ap, subst, ⊎_elim, length, append_assoc, cases_eq, cond-true, cond-false, true≢false, append-nil, if◌then◌else◌, AllByRecursion, PortIdentity, same_identity, same_identity-refl, same_identity-true, Accepted, kept_reply, Report, Event, IsInRange, Refusal, refusal, RunningNetwork, initial_network, Happened, Ok, Result, network_event, network_run, result_err, Headline, IsPromised, StandsAfter, IsReached, AreInTime, happens, is_late_delivery, run, step_by, taken, IsNetwork, Network, manager, AreFirsts, Stands, NetworkState, accepted_at_target, initial_state, greatest_accepted, history, outcomes_kept, reports_of, all_append}
+use Rattle.ptpm_network.proofs.Common.{by_test, suc, zero, arith, ◌≡◌, ℕ, ◌<◌, ◌≤◌, List, [], ◌∷◌, ◌++◌, Option, Some, None, false, sym, ◌∙◌, ap, subst, ⊎_elim, length, append_assoc, cases_eq, cond-true, cond-false, true≢false, append-nil, if◌then◌else◌, AllByRecursion, PortIdentity, same_identity, same_identity-refl, same_identity-true, Accepted, kept_reply, Report, Event, IsInRange, Refusal, refusal, RunningNetwork, initial_network, Happened, Ok, Result, network_event, network_run, result_err, Headline, IsPromised, StandsAfter, AreInTime, happens, is_late_delivery, run, step_by, taken, IsNetwork, Network, manager, AreFirsts, Stands, NetworkState, accepted_at_target, initial_state, greatest_accepted, history, outcomes_kept, reports_of, all_append}
 use Rattle.ptpm_network.proofs.DueReplies.{copy-delivered, latest-kept, older-none}
 use Rattle.ptpm_network.proofs.Running.{follows, network_run-running}
 use Rattle.ptpm_network.proofs.Schedule.{reached}

@@ -1,5 +1,5 @@
 -- A clock that takes its turn at a frame goes where the machine goes.
-use Rattle.ptpm_network.proofs.Common.{by_test, ◌≡◌, ℕ, ◌<◌, ◌==◌, List, ◌++◌, Some, false, refl, sym, ◌∙◌, ap, subst, length, Option, None, eqb-true, map-append, map, AllByRecursion, PortIdentity, DataSetsValue, forwarded, StandsAt, Delivery, History, RequestCopy, copy_of, Clock, State, turn, IsInTime, stands-arrival, stands-initial_history, Event, IsInRange, frame_at, answer_messages, answer_origin, arrives, delivered_at_clock, delivery, forwarded_frames, made_frames, reply_frames, run, with_place, AtPort, HasEnd, IsNetwork, Network, ports, AreFirsts, Stands, RunningNetwork, after_turn, held, initial_network, turn_frames, Frame, NetworkState, initial_state, history, is_late, with_place-other, with_place-same, after_arrival}
+use Rattle.ptpm_network.proofs.Common.{by_test, ◌≡◌, ℕ, ◌<◌, ◌==◌, List, ◌++◌, Some, false, refl, sym, ◌∙◌, ap, subst, length, eqb-true, map-append, map, AllByRecursion, PortIdentity, DataSetsValue, forwarded, StandsAt, History, RequestCopy, copy_of, State, turn, IsInTime, stands-arrival, stands-initial_history, Event, IsInRange, frame_at, answer_messages, answer_origin, arrives, delivered_at_clock, delivery, forwarded_frames, made_frames, reply_frames, run, with_place, AtPort, HasEnd, IsNetwork, Network, ports, AreFirsts, Stands, RunningNetwork, after_turn, held, initial_network, turn_frames, Frame, NetworkState, initial_state, history, is_late, with_place-other, with_place-same}
 use Rattle.ptpm_network.proofs.Arriving.{history-elsewhere, history-here, history-ports}
 use Rattle.ptpm_network.proofs.Frames.{heard-frame}
 use Rattle.ptpm_network.proofs.InTime.{in_window}

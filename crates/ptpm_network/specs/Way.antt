@@ -38,15 +38,19 @@ pub record PassesOn (N : Network) (w : NetworkState) (target domain : ℕ) (h : 
   pub near : may_forward h.near (history N w h.clock).sets ≡ true
   pub far : may_forward h.far (history N w h.clock).sets ≡ true
 
--- A way from a session to a port of its target: each clock on it passes messages on in the session's domain, the session's
+-- A way from a session to a port of its target in this domain: each clock on it passes messages on in that domain, the session's
 -- boundaryHops suffice, and the target hears the request, as it is in that domain too or has accepted the request already.
-pub record IsWay (N : Network) (w : NetworkState) (s : ℕ) (hops : List Hop)
+pub record IsWayIn (N : Network) (w : NetworkState) (s domain : ℕ) (hops : List Hop)
     (port : ℕ) : Type 0 where
   pub leads : Leads N (AtSession s) hops (AtPort (N.session s).target port)
-  pub passes : AllByRecursion (PassesOn N w (N.session s).target (w.session s).domain) hops
+  pub passes : AllByRecursion (PassesOn N w (N.session s).target domain) hops
   pub hops_suffice : length hops ≤ (N.session s).setup.hops
-  pub heard : ((history N w (N.session s).target).sets.default.domain ≡ (w.session s).domain)
+  pub heard : ((history N w (N.session s).target).sets.default.domain ≡ domain)
       ⊎ (greatest_accepted N w s ≡ issued w s)
+
+-- the same in the domain of the session
+abbrev pub IsWay : Network → NetworkState → ℕ → List Hop → ℕ → Type 0
+IsWay N w s hops port = IsWayIn N w s (w.session s).domain hops port
 
 -- ---- room
 

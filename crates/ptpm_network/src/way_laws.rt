@@ -1,19 +1,19 @@
 //! What the network has to do for a request to be answered. Each law is the contract of a function that does nothing, and speaks
 //! of the definitions alone.
 
-ghost use Rattle.std.specs.Prelude.{◌≡◌, ◌∷◌, ◌+◌, ◌<◌, ◌≤◌, ℕ, false, length, List, None, Some};
+ghost use Rattle.std.specs.Prelude.{◌≡◌, ◌++◌, ◌∷◌, ◌+◌, ◌<◌, ◌≤◌, [], ℕ, false, length, List, None, Some};
 ghost use Rattle.std.specs.List.{AllByRecursion};
 ghost use Rattle.ptpm_codec.specs.declared.identity.PortIdentity.{PortIdentity};
 ghost use Rattle.ptpm_codec.specs.Layout.{domain_number};
-ghost use Rattle.ptpm_network.specs.Events.{Deliver, Event, IsInRange, Send, frame_at, frames_limit, refusal};
+ghost use Rattle.ptpm_network.specs.Events.{Deliver, Event, IsInRange, Resume, Retune, Send, frame_at, frames_limit, refusal};
 ghost use Rattle.ptpm_network.specs.Exchange.{HasReplied, HasReported, HasRoom, IsHeardBy};
 ghost use Rattle.ptpm_network.specs.Stands.{StandsAfter};
 ghost use Rattle.ptpm_network.specs.Machine.{AreInTime, state_after, step, taken};
 ghost use Rattle.ptpm_network.specs.Network.{AtPort, AtSession, IsNetwork, Network};
-ghost use Rattle.ptpm_network.specs.RunningNetwork.{RunningNetwork};
+ghost use Rattle.ptpm_network.specs.RunningNetwork.{RunningNetwork, network_run};
 ghost use Rattle.ptpm_network.specs.Stands.{AreFirsts, Stands};
 ghost use Rattle.ptpm_network.specs.State.{Frame, NetworkState, ReplyTo, RequestOf, is_idle, is_late, issued};
-ghost use Rattle.ptpm_network.specs.Way.{Hop, IsAnswerable, IsWay, LinksHaveAtMost, RunsToReport, handed_in, made_each_way};
+ghost use Rattle.ptpm_network.specs.Way.{Hop, IsAnswerable, IsWay, IsWayIn, LinksHaveAtMost, RunsToReport, handed_in, made_each_way};
 
 /// One copy each way suffices. After every list of events, for the last request that a session has begun:
 /// - its copies and those of the reply are never late, and a delivery is not refused where there is room for frames;
@@ -84,4 +84,55 @@ pub fn running_networks_answer()
         IsWay N (state_after N past) s hops port → LinksHaveAtMost N ends →
         length (state_after N past).frames + made_each_way ends hops ≤ frames_limit →
         RunsToReport N r s hops port }
+{}
+
+/// Attempts that are used up, or a domain of its own, keep no session from it for good. While it waits for a report, no event
+/// that resumes or retunes it is refused. Where a way leads to its target and there is room for the frames, the request can be
+/// answered once the session
+/// - is resumed with an attempt or more, if the way is in its domain;
+/// - is retuned, if the way is in the domain that it is retuned to and it has an attempt left;
+/// - is retuned and resumed.
+///
+/// A network that runs, after any events of which none delivered a frame late, runs to the report from there.
+pub fn answerable_once_moved()
+    ensures resumed { (N : Network) (es : List Event) (s : ℕ) (hops : List Hop) (port ends : ℕ) →
+        IsNetwork N → AllByRecursion IsInRange es → s < N.sessions →
+        is_idle ((state_after N es).session s) ≡ false → LinksHaveAtMost N ends →
+        length (state_after N es).frames + made_each_way ends hops ≤ frames_limit →
+        (attempts : ℕ) → 0 < attempts → IsWay N (state_after N es) s hops port →
+        IsAnswerable N (state_after N (es ++ Resume s attempts ∷ [])) s hops port }
+    ensures retuned { (N : Network) (es : List Event) (s : ℕ) (hops : List Hop) (port ends : ℕ) →
+        IsNetwork N → AllByRecursion IsInRange es → s < N.sessions →
+        is_idle ((state_after N es).session s) ≡ false → LinksHaveAtMost N ends →
+        length (state_after N es).frames + made_each_way ends hops ≤ frames_limit →
+        (domain : ℕ) → 0 < ((state_after N es).session s).attempts_left →
+        IsWayIn N (state_after N es) s domain hops port →
+        IsAnswerable N (state_after N (es ++ Retune s domain ∷ [])) s hops port }
+    ensures moved { (N : Network) (es : List Event) (s : ℕ) (hops : List Hop) (port ends : ℕ) →
+        IsNetwork N → AllByRecursion IsInRange es → s < N.sessions →
+        is_idle ((state_after N es).session s) ≡ false → LinksHaveAtMost N ends →
+        length (state_after N es).frames + made_each_way ends hops ≤ frames_limit →
+        (domain attempts : ℕ) → 0 < attempts →
+        IsWayIn N (state_after N es) s domain hops port →
+        IsAnswerable N (state_after N (es ++ Retune s domain ∷ Resume s attempts ∷ [])) s hops port }
+    ensures taken { (N : Network) (w : NetworkState) (s domain attempts : ℕ) →
+        s < N.sessions → is_idle (w.session s) ≡ false →
+        (taken N w (Resume s attempts ∷ []) ≡ Resume s attempts ∷ [])
+        × (taken N w (Retune s domain ∷ Resume s attempts ∷ [])
+        ≡ Retune s domain ∷ Resume s attempts ∷ []) }
+    ensures runs_resumed { (N : Network) (past : List Event) (r : RunningNetwork) (s : ℕ)
+        (hops : List Hop) (port ends : ℕ) →
+        StandsAfter N past r → s < N.sessions →
+        is_idle ((state_after N past).session s) ≡ false → LinksHaveAtMost N ends →
+        length (state_after N past).frames + made_each_way ends hops ≤ frames_limit →
+        (attempts : ℕ) → 0 < attempts → IsWay N (state_after N past) s hops port →
+        RunsToReport N (network_run N r (Resume s attempts ∷ [])) s hops port }
+    ensures runs_moved { (N : Network) (past : List Event) (r : RunningNetwork) (s : ℕ)
+        (hops : List Hop) (port ends : ℕ) →
+        StandsAfter N past r → s < N.sessions →
+        is_idle ((state_after N past).session s) ≡ false → LinksHaveAtMost N ends →
+        length (state_after N past).frames + made_each_way ends hops ≤ frames_limit →
+        (domain attempts : ℕ) → 0 < attempts →
+        IsWayIn N (state_after N past) s domain hops port →
+        RunsToReport N (network_run N r (Retune s domain ∷ Resume s attempts ∷ [])) s hops port }
 {}
