@@ -8,7 +8,7 @@ use Rattle.ptpm_network.proofs.Schedule.{reached}
 
 -- ---- the one reply kept
 
-same_request-refl : (q : RequestValue) → same_request q q ≡ true
+pub same_request-refl : (q : RequestValue) → same_request q q ≡ true
 same_request-refl q =
     and_from _ _ (eq-eqb (action_code q.action) (action_code q.action) refl)
     (and_from _ _ (eq-eqb q.id q.id refl)

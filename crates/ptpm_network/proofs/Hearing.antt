@@ -39,7 +39,7 @@ begun-value start s q le =
     }
 
 -- one that was told the answer to its last request waits for none
-answered-value : (start : SessionStart) (s : SessionState) (report : Report)
+pub answered-value : (start : SessionStart) (s : SessionState) (report : Report)
     → (length s.reports ≡ length s.begun → ⊥) → length s.begun ≤ length s.reports + 1
     → length s.reports ≤ length s.begun
     → answered (session_value start s) ≡ session_value start (reported s (Some report))

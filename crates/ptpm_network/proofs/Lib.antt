@@ -37,3 +37,7 @@ pub mod DueReplies
 pub mod Unchanged
 pub mod Reporting
 pub mod Resuming
+pub mod Truth
+pub mod Honest
+pub mod Own
+pub mod Owned

@@ -185,7 +185,7 @@ takes-message : (s : SessionValue) (octets : List ℕ) (v : Message) (r : Report
 takes-message s octets v r (Some reason) h e a = no_answer reason r a
 takes-message s octets v r None h e a = record { message = v; read = e; accepted = is_accepted s v h; is = same_reports _ r a }
 
-takes-by : (s : SessionValue) (octets : List ℕ) (r : Report) (o : Result Message DecodeError)
+pub takes-by : (s : SessionValue) (octets : List ℕ) (r : Report) (o : Result Message DecodeError)
     → reading octets ≡ o → answer_to s o ≡ received.Answered r
     → Takes s octets r
 takes-by s octets r (Err cause) h a = no_answer (reasons.Malformed cause) r a

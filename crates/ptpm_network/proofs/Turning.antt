@@ -114,12 +114,12 @@ turn_by-forwards : (c : Clock) (s : State) (ingress : ℕ) (d : List ℕ)
 turn_by-forwards c s ingress d (Err cause) = refl
 turn_by-forwards c s ingress d (Ok v) = refl
 
-turn-forwards : (c : Clock) (s : State) (ingress : ℕ) (d : List ℕ)
+pub turn-forwards : (c : Clock) (s : State) (ingress : ℕ) (d : List ℕ)
     → (turn c s ingress d).forwards ≡ forwarded c.identity ingress s.sets d
 unfolding turn
 turn-forwards c s ingress d = turn_by-forwards c s ingress d (reading d)
 
-turn-reads : (c : Clock) (s : State) (x : Delivery) (r : Result Message DecodeError)
+pub turn-reads : (c : Clock) (s : State) (x : Delivery) (r : Result Message DecodeError)
     → reading x.datagram ≡ r → copy_of c (length s.sets.ports) x ≡ None
     → (turn c s x.ingress x.datagram).replies
     ≡ read_messages c s.sets x.ingress (message_of x.datagram)

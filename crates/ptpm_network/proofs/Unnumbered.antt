@@ -18,7 +18,7 @@ message-fits N w octets (RequestOf s k) v n r i e = let says = says_request N w 
 message-fits N w octets (ReplyTo s k) v n r i e = let says = says_reply N w s k octets n r i in subst Fits (sym (same_read octets v _ says.message e)) says.message.fits
 message-fits N w octets Neither v n r i e = (i v e).0
 
-id-fits : (b : Body) → BodyFits b → id_of b < 2 ^ 16
+pub id-fits : (b : Body) → BodyFits b → id_of b < 2 ^ 16
 id-fits (bodies.Request action id octets) h = h
 id-fits (bodies.Answer action id octets) h = h
 id-fits (bodies.Fault action error id text) h = h.1
@@ -29,7 +29,7 @@ pub record ReadParts (c : Clock) (ports : Bool) (v : Message) : Type 0 where
   pub request : is_request v ≡ true
   pub not_numbered : is_numbered c v ≡ false
 
-read_parts : (c : Clock) (a b d p e f g : Bool)
+pub read_parts : (c : Clock) (a b d p e f g : Bool)
     → f ≡ f → (a && (b && (d && ((g && p) && (e && not f))))) ≡ true
     → ((g && p) ≡ true) × (e ≡ true) × (f ≡ false)
 read_parts c a b d p e f g _ y =
@@ -45,7 +45,7 @@ or_cases_ true b y = inl refl
 or_cases_ false b y = inr y
 
 -- a session's own request is numbered at its target, and goes nowhere else
-request-numbered : (N : Network) (c : ℕ) (t : ℕ) (v : Message) (named : Bool)
+pub request-numbered : (N : Network) (c : ℕ) (t : ℕ) (v : Message) (named : Bool)
     → IsNetwork N → c < N.clocks → t < N.sessions → v.source ≡ manager N t
     → v.target.clock ≡ (N.session t).setup.target
     → ((is_for_this_clock (N.clock c) v || same_clock v.target.clock every_clock) && named) ≡ true
@@ -87,7 +87,7 @@ no_session N w c octets Neither v named n r place i e p s exists h = (i v e).1.n
 
 -- ---- the reply to it
 
-foreign-reply : (N : Network) (c : ℕ) (v u : Message)
+pub foreign-reply : (N : Network) (c : ℕ) (v u : Message)
     → IsNetwork N → c < N.clocks → ((s : ℕ) → s < N.sessions → v.source ≡ manager N s → ⊥)
     → u.source.clock ≡ (N.clock c).identity → u.target ≡ v.source
     → IsForeign N u

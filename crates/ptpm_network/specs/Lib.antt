@@ -13,3 +13,5 @@ pub mod Worth
 pub mod Exchange
 pub mod Way
 pub mod Copies
+pub mod ByManager
+pub mod Served

@@ -1,0 +1,306 @@
+-- What holds of a running network after every list of events, whatever comes late: each frame is true to whom it is of, and
+-- clocks and sessions can send what they keep.
+use Rattle.ptpm_network.proofs.Common.{by_test, map, ◌-◌, reading, Turned, all_weaker, sends_in, sent, cond-true, cond-false, IsMessage, ◌≡◌, ℕ, ◌<◌, ◌≤◌, ◌^◌, ◌==◌, List, [], ◌∷◌, ◌++◌, Option, Some, None, Result, Ok, Err, true, false, refl, sym, ◌∙◌, ap, subst, length, eqb-true, same_Some, option_map, AllByRecursion, PortIdentity, Message, canonical, same_identity, Fits, action_of, message_of, ReplyValue, RequestValue, read_reply_to, reply_to, Entry, changed_by, reply_messages, RequestCopy, copy_of, DeliversCopy, delivers_copy, heard_of, request_of, Clock, State, turn, judged, reply_by, turn_by, turn-message, Verdict, Answers, AreDataSets, same_identity-true, answer_origin, delivery, reply_origin, strange_frame, AtPort, AtSession, End, HasEnd, IsNetwork, Network, manager, peers, ports, Frame, Held, held, seen, turn_frames, after_turn, Origin, RequestOf, ReplyTo, Neither, Happened, unless_refused, network_event, delivers, reaches, hears, sent_posted, posted, with_session_value, RunningNetwork, initial_network, SessionValue, answered, begun, due_message, received_of, request_message, Ask, ask_refusal, begin_refusal, BeginRefused, SendRefused, Refusal, Event, Begin, Send, Resume, Retune, Deliver, Stranger, IsInRange, Forged, is_forged, forged, frame_at, first_of-none, no_port, no_room, no_session, nothing_to_resume, send_refusal, IsAsked, all_append, all_get, all_made, at_place, with_place-same, with_place-other}
+use Rattle.std.specs.FinMap.{get, get-empty, insert}
+use Rattle.ptpm_codec.specs.Identity.{identity_cmp}
+use Rattle.ptpm_manager.specs.declared.receiving.Received.{Received}
+use Rattle.ptpm_manager.specs.declared.receiving.Received.TheVariants as received
+use Rattle.ptpm_manager.specs.declared.setup.Setup.{Setup}
+use Rattle.ptpm_manager.specs.Ask as ask
+use Rattle.ptpm_agent.specs.declared.verdict.Verdict.TheVariants as verdicts
+use Rattle.ptpm_agent.specs.Turn.{kept_reply_of, next_by}
+use Rattle.ptpm_agent.proofs.Entries.{accepted_entry, get-insert_other, get-insert_same}
+use Rattle.ptpm_agent.proofs.Turns.{turn-next}
+use Rattle.ptpm_network.proofs.Messages.{canonical-message, request-fits, request-valid}
+use Rattle.ptpm_network.proofs.Reaching.{port-exists, session-exists}
+use Rattle.ptpm_network.proofs.Refusals.{asked-not_refused, begin-not_refused, option_map-none}
+use Rattle.ptpm_network.proofs.Requests.{answered as reply-answers, kept, read_answered}
+use Rattle.ptpm_network.proofs.Steps.{has_peers}
+use Rattle.ptpm_network.proofs.Strangers.{strange-message}
+use Rattle.ptpm_network.proofs.Truth.{IsCopyBy, IsTrue, IsTrueTo, is_copy_by, message-true, passed_on-true, read-true, rendered-says, turn_frames-all}
+use Rattle.ptpm_network.proofs.Turning.{turn-reads}
+use Rattle.ptpm_network.proofs.Unnumbered.{id-fits}
+
+-- ---- what clocks and sessions keep
+
+pub record IsSendableEntry (e : Entry) : Type 0 where
+  pub id : e.request.id < 2 ^ 16
+  pub answers : Answers e.request e.reply
+
+pub record IsHonestClock (p : ℕ) (s : State) : Type 0 where
+  pub sets : AreDataSets p s.sets
+  pub kept : (m : PortIdentity) (e : Entry) → get s.entries m ≡ Some e → IsSendableEntry e
+
+pub record IsHonestSession (N : Network) (t : ℕ) (v : SessionValue) : Type 0 where
+  pub setup : v.setup ≡ (N.session t).setup
+  pub asked : (q : RequestValue) → v.unanswered ≡ Some q → IsAsked (ports N (N.session t).target) q
+
+pub record IsTrueFrame (N : Network) (h : Held) : Type 0 where
+  pub end : HasEnd N h.end
+  pub says : IsTrue N h.octets h.origin
+
+pub record IsHonest (N : Network) (r : RunningNetwork) : Type 0 where
+  pub clocks : (c : ℕ) → c < N.clocks → IsHonestClock (ports N c) (r.clock c)
+  pub sessions : (t : ℕ) → t < N.sessions → IsHonestSession N t (r.session t)
+  pub frames : AllByRecursion (IsTrueFrame N) r.frames
+
+-- ---- a clock after a turn
+
+entry-sendable : (c : Clock) (p : ℕ) (s : State) (v : Message)
+    → Fits v → AreDataSets p s.sets
+    → IsSendableEntry (accepted_entry c s v)
+entry-sendable c p s v fits sets = record {
+  id = id-fits v.body fits.body;
+  answers = reply-answers (request_of v) (c.rights v.source) p s.sets sets;
+}
+
+next-honest : (c : Clock) (p : ℕ) (s : State) (v : Message) (w : Verdict)
+    → Fits v → IsHonestClock p s
+    → IsHonestClock p (next_by w c s v)
+next-honest c p s v verdicts.AnsweredNew fits h = record {
+  sets = kept (request_of v) (c.rights v.source) p s.sets h.sets;
+  kept = λ m e is. by_test (same_identity m v.source)
+      (λ y. let new : Some (accepted_entry c s v) ≡ Some e =
+      sym (get-insert_same s.entries v.source (accepted_entry c s v))
+      ∙ subst (λ (q : PortIdentity). get (insert s.entries v.source (accepted_entry c s v)) q ≡ Some e) (same_identity-true m v.source y) is in
+      subst IsSendableEntry (same_Some (accepted_entry c s v) e new) (entry-sendable c p s v fits h.sets))
+      (λ n. h.kept m e (sym (get-insert_other s.entries v.source (accepted_entry c s v) m n) ∙ is));
+}
+next-honest c p s v _ fits h = h
+
+pub turn-honest : (c : Clock) (p : ℕ) (s : State) (port : ℕ) (d : List ℕ)
+    → ((v : Message) → message_of d ≡ Some v → Fits v) → IsHonestClock p s
+    → IsHonestClock p (turn c s port d).next
+turn-honest c p s port d fits h =
+    turn-next (IsHonestClock p) c s port d h (λ v e. next-honest c p s v (judged c s v) (fits v e) h)
+
+-- ---- what it replies
+
+-- a reply says what was asked
+pub record IsReplyTo (q : RequestValue) (r : ReplyValue) : Type 0 where
+  pub id : q.id < 2 ^ 16
+  pub answers : Answers q r
+
+same_reply : (r u : ReplyValue) → Some r ≡ Some u → r ≡ u
+same_reply r u e = same_Some r u e
+
+kept-replies : (o : Option Entry) (r : ReplyValue)
+    → ((e : Entry) → o ≡ Some e → IsSendableEntry e) → kept_reply_of o ≡ Some r
+    → (q : RequestValue) × IsReplyTo q r
+kept-replies None r sendable e = absurd (cc)
+kept-replies (Some entry) r sendable e =
+    let s = sendable entry refl in
+    (entry.request, subst (IsReplyTo entry.request) (same_reply entry.reply r e) (record { id = s.id; answers = s.answers }))
+
+replies : (c : Clock) (p : ℕ) (s : State) (v : Message) (w : Verdict) (r : ReplyValue)
+    → Fits v → IsHonestClock p s → reply_by w c s v ≡ Some r
+    → (q : RequestValue) × IsReplyTo q r
+replies c p s v verdicts.AnsweredNew r fits h e =
+    (request_of v, subst (IsReplyTo (request_of v)) (same_reply (reply_to (request_of v) (c.rights v.source) s.sets) r e) (record { id = id-fits v.body fits.body; answers = reply-answers (request_of v) (c.rights v.source) p s.sets h.sets }))
+replies c p s v verdicts.AnsweredRepeat r fits h e = kept-replies (get s.entries v.source) r (λ x is. h.kept v.source x is) e
+replies c p s v verdicts.AnsweredUnnumbered r fits h e =
+    (request_of v, subst (IsReplyTo (request_of v)) (same_reply (read_reply_to (request_of v) s.sets) r e) (record { id = id-fits v.body fits.body; answers = read_answered (request_of v) p s.sets h.sets }))
+replies c p s v _ r fits h e = absurd (cc)
+
+module _ (N : Network) (n : IsNetwork N) (c port : ℕ) (end : HasEnd N (AtPort c port)) (s : State) (h : IsHonestClock (ports N c) s) where
+  replied-true : (o : Origin) (v : Message) (w : Verdict) (r : Option ReplyValue)
+      → Fits v → IsCopyBy N c o v → reply_by w (N.clock c) s v ≡ r
+      → AllByRecursion (λ (m : ℕ × List ℕ). IsTrue N m.1 (reply_origin o)) (reply_messages (N.clock c) port (heard_of v) r)
+  replied-true o v w None fits by e = tt
+  replied-true o v w (Some r) fits by e =
+      let a = replies (N.clock c) (ports N c) s v w r fits h e in
+      subst (λ (x : Origin). AllByRecursion (λ (m : ℕ × List ℕ). IsTrue N m.1 (reply_origin x)) (reply_messages (N.clock c) port (heard_of v) (Some r))) (sym by.origin)
+      (rendered-says (λ x. IsTrue N x (ReplyTo by.session by.k)) N c port v a.0 r n end fits a.1.id a.1.answers
+      (λ x u m source target is. message-true N x u (ReplyTo by.session by.k) m (record { place = by.place; target = target ∙ by.source; reply = is })))
+
+  turned-true : (f : Frame) (k : Option RequestCopy)
+      → IsTrue N f.octets f.origin → copy_of (N.clock c) (length s.sets.ports) (delivery port f) ≡ k
+      → AllByRecursion (λ (m : ℕ × List ℕ). IsTrue N m.1 (answer_origin f.origin k)) (turn (N.clock c) s port f.octets).replies
+  turned-true f None i e =
+      subst (AllByRecursion (λ (m : ℕ × List ℕ). IsTrue N m.1 Neither)) (sym (turn-reads (N.clock c) s (delivery port f) (reading f.octets) refl e))
+      (read-true N c port s.sets f.octets f.origin (message_of f.octets) n end h.sets i refl)
+  turned-true f (Some k) i e =
+      let d = delivers_copy (N.clock c) (length s.sets.ports) (delivery port f) k e in
+      let v : Message = d.message in
+      let says = i v d.read in
+      subst (λ (t : Turned). AllByRecursion (λ (m : ℕ × List ℕ). IsTrue N m.1 (reply_origin f.origin)) t.replies) (sym (turn-message (N.clock c) s port f.octets v d.read))
+      (replied-true f.origin v (judged (N.clock c) s v) (reply_by (judged (N.clock c) s v) (N.clock c) s v) says.0
+      (is_copy_by N c (length s.sets.ports) f.origin v n end.0 says.1 d.passes) refl)
+
+  pub frames-true : (f : Frame) → IsTrue N f.octets f.origin → AllByRecursion (IsTrueFrame N) (map held (turn_frames N s c port f))
+  frames-true f i =
+      turn_frames-all (IsTrueFrame N) N s c port f n
+      (λ m p e he. record { end = he; says = passed_on-true N f.octets m f.origin p i })
+      (all_weaker (λ (m : ℕ × List ℕ). IsTrue N m.1 (answer_origin f.origin (copy_of (N.clock c) (length s.sets.ports) (delivery port f)))) _
+      (λ m t e he. record { end = he; says = t }) _ (turned-true f (copy_of (N.clock c) (length s.sets.ports) (delivery port f)) i refl))
+
+-- a clock takes its turn
+pub turns-honest : (N : Network) (r : RunningNetwork) (c port : ℕ) (f : Frame)
+    → IsNetwork N → IsHonest N r → HasEnd N (AtPort c port) → IsTrue N f.octets f.origin
+    → IsHonest N (after_turn N r c port f)
+turns-honest N r c port f n h end i = record {
+  clocks = λ d there. at_place (λ j (s : State). IsHonestClock (ports N j) s) r.clock c (turn (N.clock c) (r.clock c) port f.octets).next d
+      (turn-honest (N.clock c) (ports N c) (r.clock c) port f.octets (λ v e. (i v e).0) (h.clocks c end.0)) (h.clocks d there);
+  sessions = h.sessions;
+  frames = all_append (IsTrueFrame N) r.frames _ h.frames (frames-true N n c port end (r.clock c) (h.clocks c end.0) f i);
+}
+
+-- ---- sessions
+
+pub session-honest : (N : Network) (r : RunningNetwork) (t : ℕ) (v : SessionValue)
+    → IsHonest N r → IsHonestSession N t v
+    → IsHonest N (with_session_value r t v)
+session-honest N r t v h s = record {
+  clocks = h.clocks;
+  sessions = λ u there. at_place (λ j (x : SessionValue). IsHonestSession N j x) r.session t v u s (h.sessions u there);
+  frames = h.frames;
+}
+
+-- what a session sends is its own request
+pub record IsSentBy (N : Network) (t : ℕ) (value : SessionValue) (v : Message) : Type 0 where
+  pub request : RequestValue
+  pub unanswered : value.unanswered ≡ Some request
+  pub asked : IsAsked (ports N (N.session t).target) request
+  pub is : v ≡ request_message (N.session t).setup value.domain value.issued request
+  pub message : IsMessage (canonical v) v
+
+sent-by : (N : Network) (t : ℕ) (value : SessionValue) (o : Option RequestValue) (v : Message)
+    → IsNetwork N → t < N.sessions → IsHonestSession N t value → value.unanswered ≡ o
+    → option_map (request_message value.setup value.domain value.issued) o ≡ Some v
+    → IsSentBy N t value v
+sent-by N t value None v n place h u e = absurd (cc)
+sent-by N t value (Some q) v n place h u e =
+    let made : request_message value.setup value.domain value.issued q ≡ v = same_Some _ v e in
+    let is : v ≡ request_message (N.session t).setup value.domain value.issued q = sym made ∙ ap (λ (x : Setup). request_message x value.domain value.issued q) h.setup in
+    let asked = h.asked q u in
+    let p = ports N (N.session t).target in
+    let first : Message = request_message (N.session t).setup value.domain value.issued q in
+    record {
+      request = q;
+      unanswered = u;
+      asked = asked;
+      is = is;
+      message = subst (λ x. IsMessage (canonical x) x) (sym is)
+          (canonical-message first (request-valid N t value.issued value.domain (N.session t).setup.hops p q asked)
+          (request-fits N t value.issued value.domain (N.session t).setup.hops p q n place asked));
+    }
+
+pub sent_by : (N : Network) (t : ℕ) (value : SessionValue) (v : Message)
+    → IsNetwork N → t < N.sessions → IsHonestSession N t value → due_message value ≡ Some v
+    → IsSentBy N t value v
+sent_by N t value v n place h e = sent-by N t value value.unanswered v n place h refl e
+
+-- of each frame that it sends
+pub sent-all : (Q : Held → Type 0) (N : Network) (t k : ℕ) (o : Option Message)
+    → IsNetwork N
+    → ((v : Message) → o ≡ Some v → (e : End) → HasEnd N e → Q (record { end = e; octets = canonical v; origin = RequestOf t k }))
+    → AllByRecursion Q (sent_posted (peers N.links (AtSession t)) t k o)
+sent-all Q N t k None n each = tt
+sent-all Q N t k (Some v) n each = all_made (HasEnd N) Q _ (each v refl) (peers N.links (AtSession t)) (has_peers N (AtSession t) n)
+
+sent-true : (N : Network) (t : ℕ) (value : SessionValue) (v : Message)
+    → t < N.sessions → IsSentBy N t value v
+    → IsTrue N (canonical v) (RequestOf t value.issued)
+sent-true N t value v place s = message-true N (canonical v) v (RequestOf t value.issued) s.message
+    (subst (λ x. IsTrueTo N x (RequestOf t value.issued)) (sym s.is) (record { place = place; source = refl; target = refl; request = s.asked.action }))
+
+pub sends-honest : (N : Network) (r : RunningNetwork) (t : ℕ)
+    → IsNetwork N → IsHonest N r → t < N.sessions
+    → IsHonest N (sends_in N r t)
+sends-honest N r t n h place =
+    let value = h.sessions t place in
+    let base = session-honest N r t (sent (r.session t)) h (record { setup = value.setup; asked = value.asked }) in
+    record {
+      clocks = base.clocks;
+      sessions = base.sessions;
+      frames = all_append (IsTrueFrame N) r.frames _ h.frames
+          (sent-all (IsTrueFrame N) N t (r.session t).issued (due_message (r.session t)) n
+          (λ v e x he. record { end = he; says = sent-true N t (r.session t) v place (sent_by N t (r.session t) v n place value e) }));
+    }
+
+no_request : {X : Type 0} (q : RequestValue) → None ≡ Some q → X
+no_request q e = absurd (cc)
+
+hears-honest : (N : Network) (r : RunningNetwork) (t : ℕ) (x : Received)
+    → IsHonest N r → t < N.sessions
+    → IsHonest N (hears r t x)
+hears-honest N r t (received.Ignored reason) h place = h
+hears-honest N r t (received.Answered report) h place =
+    let base = session-honest N r t (answered (r.session t)) h (record { setup = (h.sessions t place).setup; asked = λ q e. no_request q e }) in
+    record { clocks = base.clocks; sessions = base.sessions; frames = base.frames }
+
+-- ---- any event
+
+-- where it is not refused, P holds of what happens
+abbrev pub Then : Result Happened Refusal → (Happened → Type 0) → Type 0
+Then x P = (h : Happened) → x ≡ Ok h → P h
+
+pub then_ok : (P : Happened → Type 0) (g : Happened) → P g → Then (Ok g) P
+then_ok P g p h e = let same : g ≡ h = cc in subst P same p
+
+pub then_unless : (P : Happened → Type 0) (o : Option Refusal) (x : Result Happened Refusal)
+    → (o ≡ None → Then x P)
+    → Then (unless_refused o x) P
+then_unless P None x p = p refl
+then_unless P (Some reason) x p = λ h e. absurd (cc)
+
+begins-honest : (N : Network) (r : RunningNetwork) (t : ℕ) (a : Ask)
+    → IsNetwork N → IsHonest N r → t < N.sessions → a.id < 2 ^ 16 → begin_refusal (r.session t) a ≡ None
+    → IsHonestSession N t (begun (r.session t) (ask.request_of a))
+begins-honest N r t a n h place id e =
+    let session = n.are_sessions t place in
+    let clock = n.are_clocks (N.session t).target session.exists in
+    let value = h.sessions t place in
+    let fine = (begin-not_refused (r.session t) a e).1 in
+    let asked : IsAsked (ports N (N.session t).target) (ask.request_of a) =
+    asked-not_refused (ports N (N.session t).target) a clock.at_most_eight id
+    (subst (λ p. ask_refusal p a ≡ None) (ap (λ (x : Setup). x.ports) value.setup ∙ session.ports) fine) in
+    record { setup = value.setup; asked = λ q is. subst (IsAsked (ports N (N.session t).target)) (same_Some (ask.request_of a) q is) asked }
+
+module _ (N : Network) (n : IsNetwork N) (r : RunningNetwork) (h : IsHonest N r) where
+  pub frame-true : (k : ℕ) (x : Held) → frame_at r.frames k ≡ Some x → IsTrueFrame N x
+  frame-true k x e = by_test (k == 0)
+      (λ y. let none : None ≡ Some x = sym (cond-true _ _ _ y) ∙ e in absurd (cc))
+      (λ o. all_get (IsTrueFrame N) r.frames (k - 1) x h.frames (sym (cond-false _ _ _ o) ∙ e))
+
+  reaches-honest : (x : Held) (end : End) → IsTrue N x.octets x.origin → HasEnd N end → IsHonest N (reaches N r x end).network
+  reaches-honest x (AtPort c port) i end = turns-honest N r c port (seen x) n h end i
+  reaches-honest x (AtSession t) i end = hears-honest N r t (received_of (r.session t) x.octets) h end
+
+  delivers-honest : (k : ℕ) (o : Option Held) → frame_at r.frames k ≡ o → Then (delivers N r o) (λ g. IsHonest N g.network)
+  delivers-honest k None e = λ g is. absurd (cc)
+  delivers-honest k (Some x) e =
+      let i = frame-true k x e in
+      then_unless _ (no_room r.frames) _ (λ room. then_ok _ (reaches N r x x.end) (reaches-honest x x.end i.says i.end))
+
+  pub event-honest : (e : Event) → IsInRange e → Then (network_event N r e) (λ g. IsHonest N g.network)
+  unfolding network_event
+  event-honest (Begin t a) id =
+      then_unless _ (no_session N t) _ (λ there. then_unless _ (option_map BeginRefused (begin_refusal (r.session t) a)) _
+      (λ fine. then_ok _ _ (session-honest N r t _ h (begins-honest N r t a n h (session-exists N t there) id (option_map-none BeginRefused (begin_refusal (r.session t) a) fine)))))
+  event-honest (Send t) i =
+      then_unless _ (no_session N t) _ (λ there. then_unless _ (no_room r.frames) _ (λ room. then_unless _ (option_map SendRefused (send_refusal (r.session t))) _
+      (λ fine. then_ok _ _ (sends-honest N r t n h (session-exists N t there)))))
+  event-honest (Resume t attempts) i =
+      then_unless _ (no_session N t) _ (λ there. then_unless _ (nothing_to_resume (r.session t)) _
+      (λ fine. let value = h.sessions t (session-exists N t there) in then_ok _ _ (session-honest N r t _ h (record { setup = value.setup; asked = value.asked }))))
+  event-honest (Retune t domain) i =
+      then_unless _ (no_session N t) _ (λ there.
+      (let value = h.sessions t (session-exists N t there) in then_ok _ _ (session-honest N r t _ h (record { setup = value.setup; asked = value.asked }))))
+  event-honest (Deliver k) i = delivers-honest k (frame_at r.frames k) refl
+  event-honest (Stranger c port datagram) octets =
+      then_unless _ (no_port N c port) _ (λ there. then_unless _ (forged N datagram) _ (λ fine. then_unless _ (no_room r.frames) _
+      (λ room. let honest = (first_of-none (is_forged N datagram) Forged [] fine).0 in
+      then_ok _ _ (turns-honest N r c port (strange_frame c port datagram) n h (port-exists N c port there) (λ v e. strange-message N datagram v octets honest e)))))
+
+-- ---- as it starts
+
+pub first-honest : (N : Network) → IsNetwork N → IsHonest N (initial_network N)
+first-honest N n = record {
+  clocks = λ c place. record {
+    sets = (n.are_clocks c place).start;
+    kept = λ m e is. let none : None ≡ Some e = sym (get-empty identity_cmp m) ∙ is in absurd (cc);
+  };
+  sessions = λ t place. record { setup = refl; asked = λ q e. no_request q e };
+  frames = tt;
+}

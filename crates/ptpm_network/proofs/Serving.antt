@@ -1,0 +1,230 @@
+-- What every event makes of a session whose own messages come in time, whatever comes late of others; and so after every list.
+use Rattle.ptpm_network.proofs.Common.{by_test, arith, ◌≡◌, ℕ, ◌+◌, ◌-◌, ◌<◌, ◌≤◌, ◌==◌, ◌&&◌, ◌⊎◌, inl, inr, nat_lt, List, [], ◌∷◌, ◌++◌, length, Option, Some, None, Result, Ok, Err, true, false, refl, sym, ◌∙◌, ap, subst, ⊎_elim, and_cases, and_from, cases_eq, cond-true, cond-false, eq-eqb, eqb-true, eqb-false, ne_eqb, ltb-false, true≢false, same_Some, map, slice_get, slice_get_within, all_append, all_get, all_weaker, AllByRecursion, PortIdentity, Message, canonical, DecodeError, same_identity, Fits, message_of, reading, message_of-reading, Answer, ReplyValue, RequestValue, Entry, answer_body, reply_message, hops_passed, rendered, reply_messages, Accepted, greatest, kept_reply, Delivery, RequestCopy, copy_of, delivers_copy, DeliversCopy, copy_parts, no_copy, is_copy, heard_of, request_of, Clock, State, Turned, turn, turn-message, judged, Verdict, same_identity-refl, same_identity-true, number_of, outcome_in, Report, received_of, Answers, HasOneAnswer, IsAsked, IsInStep, IsMessage, InWindow, answer_origin, delivery, reply_origin, strange_frame, with_place, with_place-same, with_place-other, AtPort, AtSession, End, HasEnd, IsNetwork, Network, manager, peers, ports, Frame, Held, held, seen, turn_frames, after_turn, Origin, RequestOf, ReplyTo, Neither, SessionState, SessionValue, session_value, Happened, unless_refused, network_event, network_run, goes_on, delivers, reaches, hears, RunningNetwork, initial_network, answered, begun, resumed, retuned, sent, due_message, sent_posted, Ask, begin_refusal, BeginRefused, SendRefused, Refusal, Event, Begin, Send, Resume, Retune, Deliver, Stranger, IsInRange, Forged, is_forged, forged, frame_at, first_of-none, no_port, no_room, no_session, nothing_to_resume, send_refusal, option_map, outcomes_kept, le_trans}
+use Rattle.std.specs.FinMap.{get, get-empty, insert}
+use Rattle.ptpm_codec.specs.Identity.{identity_cmp}
+use Rattle.ptpm_manager.specs.Ask as ask
+use Rattle.ptpm_manager.specs.Receiving.{left_by}
+use Rattle.ptpm_manager.specs.declared.receiving.Received.{Received}
+use Rattle.ptpm_manager.specs.declared.receiving.Received.TheVariants as received
+use Rattle.ptpm_agent.specs.CarriedOut.{carried_by, carried_in, carried_of}
+use Rattle.ptpm_agent.specs.declared.verdict.Verdict.TheVariants as verdicts
+use Rattle.ptpm_agent.specs.Turn.{new_reply, next_by}
+use Rattle.ptpm_agent.proofs.AtMostOnce.{turn-no_copy}
+use Rattle.ptpm_agent.proofs.Entries.{accepted_entry, get-insert_other}
+use Rattle.ptpm_agent.proofs.Turns.{is_copy-new}
+use Rattle.ptpm_network.specs.ByManager.{Account, StaysInTime, account_from, account_of, account_while, account_with, in_time_while, is_behind, is_for, is_late_for, is_late_frame_for, with_carried}
+unfoldable use Rattle.ptpm_network.specs.CarriedOut.{carried_at, carried_by_event, carried_of_frame}
+use Rattle.ptpm_network.proofs.Accepting.{IsAbove, in_step-joined, kept-joined, kept-le}
+use Rattle.ptpm_network.proofs.Answering.{rendered-one}
+use Rattle.ptpm_network.proofs.Arriving.{Gains, StaysOrGains}
+use Rattle.ptpm_network.proofs.Frames.{sendable-one}
+use Rattle.ptpm_network.proofs.Honest.{IsHonest, IsHonestClock, IsSentBy, IsTrueFrame, Then, begins-honest, event-honest, first-honest, frame-true, sent-all, sent_by, then_ok, then_unless}
+use Rattle.ptpm_network.proofs.Messages.{IsPassedOn, reply_at}
+use Rattle.ptpm_network.proofs.Own.{ComesOwn, Does, IsLastOf, IsReplySaid, IsRequestSaid, Replied, TurnsOwn, accepted_after, does, turns_own}
+use Rattle.ptpm_network.proofs.Owned.{IsOwn, IsOwnFrame, IsSaid, own-begun, own-hears, own-message, own-resumed, own-retuned, own-sent, reports_with, said-stays, state_of}
+use Rattle.ptpm_network.proofs.Reaching.{port-exists, session-exists}
+use Rattle.ptpm_network.proofs.Refusals.{begin-not_refused, option_map-none}
+use Rattle.ptpm_network.proofs.Requests.{answered as reply-answers, once}
+use Rattle.ptpm_network.proofs.Strangers.{strange-message}
+use Rattle.ptpm_network.proofs.Truth.{IsCopyBy, IsTrue, is_copy_by, passed_on-says, reply-message, turn_frames-all}
+
+abbrev pub Own : Network → ℕ → RunningNetwork → Account → Type 0
+Own N s r a = IsOwn N s (r.session s) (r.reports s) (r.clock (N.session s).target) r.frames a
+
+all_of : {X : Type 0} (P : X → Type 0) → ((x : X) → P x) → (xs : List X) → AllByRecursion P xs
+all_of P f [] = tt
+all_of P f (x ∷ xs) = (f x, all_of P f xs)
+
+-- ---- frames of the session
+
+passed-said : (N : Network) (s : ℕ) (a : Account) (octets : List ℕ) (m : ℕ × List ℕ) (o : Origin)
+    → IsPassedOn octets m → ((v : Message) → message_of octets ≡ Some v → Fits v) → IsSaid N s a octets o
+    → IsSaid N s a m.1 o
+passed-said N s a octets m (RequestOf t k) p fits i = λ ts. let r = i ts in record {
+  positive = r.positive;
+  request = r.request;
+  begun_as = r.begun_as;
+  says = passed_on-says (λ v. (v.number ≡ number_of (N.session s).setup.first k) × (request_of v ≡ r.request)) octets m (λ v n q. q) p fits r.says;
+}
+passed-said N s a octets m (ReplyTo t k) p fits i = λ ts. let r = i ts in record {
+  positive = r.positive;
+  entry = r.entry;
+  kept = r.kept;
+  answer = r.answer;
+  one = r.one;
+  says = passed_on-says (λ v. (v.number ≡ number_of (N.session s).setup.first k) × (outcome_in v.body ≡ outcome_in (answer_body r.entry.reply.action r.entry.reply.id r.answer.outcome))) octets m (λ v n q. q) p fits r.says;
+}
+passed-said N s a octets m Neither p fits i = tt
+
+-- ---- a turn that is no turn on the session's own copy
+
+carried-not_new : (w : Verdict) (v : Message) → (w ≡ verdicts.AnsweredNew → ⊥) → carried_by w v ≡ []
+carried-not_new verdicts.AnsweredNew v no = absurd (no refl)
+carried-not_new _ v no = refl
+
+carried-none : (c : Clock) (s : State) (x : Delivery) (r : Result Message DecodeError)
+    → reading x.datagram ≡ r → copy_of c (length s.sets.ports) x ≡ None
+    → carried_of c s r ≡ []
+carried-none c s x (Err cause) e none = refl
+carried-none c s x (Ok v) e none =
+    carried-not_new (judged c s v) v
+    (λ (new : judged c s v ≡ verdicts.AnsweredNew). true≢false (sym (is_copy-new c s v new) ∙ no_copy c (length s.sets.ports) x v none (message_of-reading x.datagram v e)))
+
+with_carried-others : (m : PortIdentity) (c : Clock) (s : State) (v : Message) (w : Verdict) (es : List Accepted)
+    → same_identity m v.source ≡ false
+    → with_carried m c s (carried_by w v) es ≡ es
+with_carried-others m c s v verdicts.AnsweredNew es other = cond-false _ _ _ other
+with_carried-others m c s v _ es other = refl
+
+entries-others : (m : PortIdentity) (c : Clock) (s : State) (v : Message) (w : Verdict)
+    → same_identity m v.source ≡ false
+    → get (next_by w c s v).entries m ≡ get s.entries m
+entries-others m c s v verdicts.AnsweredNew other = get-insert_other s.entries v.source (accepted_entry c s v) m other
+entries-others m c s v _ other = refl
+
+-- ---- the session's target takes a turn
+
+window-of : (g k begun reports : ℕ)
+    → k ≤ begun → begun ≤ reports + 1 → reports ≤ g → g ≤ begun → begun ≤ k + 32768
+    → InWindow g k
+window-of g k begun reports a b d e l = record { not_far_ahead = omega arith; not_far_behind = omega arith }
+
+within_begun : (k n : ℕ) → 0 < k → k - 1 < n → k ≤ n
+within_begun k n p h = omega arith
+
+
+-- what a turn at the target leaves of the session
+record Here (N : Network) (s : ℕ) (clock : State) (port : ℕ) (f : Frame) (a : Account) : Type 0 where
+  pub gains : StaysOrGains (manager N s) a.begun (accepted_after (manager N s) (N.clock (N.session s).target) clock f.octets a.accepted) a.accepted
+  pub last : IsLastOf (manager N s) (N.session s).setup.first (accepted_after (manager N s) (N.clock (N.session s).target) clock f.octets a.accepted)
+      (get (turn (N.clock (N.session s).target) clock port f.octets).next.entries (manager N s))
+  pub replies : IsInStep (manager N s) (ports N (N.session s).target) (accepted_after (manager N s) (N.clock (N.session s).target) clock f.octets a.accepted) (record { domain = 0; attempts_left = 0; begun = a.begun; reports = [] })
+      → Unit {0}
+
+-- the account of a session, with this accepted
+abbrev with_accepted : Account → List Accepted → Account
+with_accepted a es = record { begun = a.begun; accepted = es }
+
+kept-gained : (m : PortIdentity) (begun : List RequestValue) (new old : List Accepted)
+    → StaysOrGains m begun new old → (k : ℕ) (e : Accepted)
+    → kept_reply m k old ≡ Some e
+    → kept_reply m k new ≡ Some e
+kept-gained m begun new old gains k e h = ⊎_elim
+    (λ (q : new ≡ old). ap (kept_reply m k) q ∙ h)
+    (λ (g : Gains m begun new old). ap (kept_reply m k) g.is ∙ kept-joined m old g.entry k g.above (kept-le m k old e h) ∙ h)
+    gains
+
+step-gained : (m : PortIdentity) (p : ℕ) (new old : List Accepted) (state : SessionState)
+    → StaysOrGains m state.begun new old → IsInStep m p old state
+    → IsInStep m p new state
+step-gained m p new old state gains at = ⊎_elim
+    (λ (q : new ≡ old). subst (λ es. IsInStep m p es state) (sym q) at)
+    (λ (g : Gains m state.begun new old). subst (λ es. IsInStep m p es state) (sym g.is) (in_step-joined m p old g.entry state g.above g.own at))
+    gains
+
+-- a reply that is kept for the session's request k, as it is sent
+module _ (N : Network) (n : IsNetwork N) (s : ℕ) (place : s < N.sessions) (port : ℕ) (end : HasEnd N (AtPort (N.session s).target port)) (v : Message) (fits : Fits v) (k : ℕ) (positive : 0 < k) (number : v.number ≡ number_of (N.session s).setup.first k) (accepted : List Accepted) (state : SessionState) (step : IsInStep (manager N s) (ports N (N.session s).target) accepted state) where
+  kept-said : (entry : Accepted) → kept_reply (manager N s) k accepted ≡ Some entry
+      → AllByRecursion (λ (x : ℕ × List ℕ). IsReplySaid (manager N s) (N.session s).setup.first accepted k x.1)
+      (reply_messages (N.clock (N.session s).target) port (heard_of v) (Some entry.reply))
+  kept-said entry kept =
+      let c = (N.session s).target in
+      let was = step.without_gap k positive (kept-le (manager N s) k accepted entry kept) in
+      let same : was.entry ≡ entry = same_Some was.entry entry (sym was.is ∙ kept) in
+      let asked = step.asked (k - 1) was.entry.request was.begun_as in
+      let answers : Answers was.entry.request entry.reply = subst (λ (x : Accepted). Answers was.entry.request x.reply) same was.answers in
+      let one = subst (λ (x : Accepted). HasOneAnswer was.entry.request x.reply) same was.one in
+      let b = one.answer in
+      let message = reply-message N c port v was.entry.request entry.reply b n end fits asked.id answers (sendable-one was.entry.request entry b one.is answers) in
+      subst (AllByRecursion (λ (x : ℕ × List ℕ). IsReplySaid (manager N s) (N.session s).setup.first accepted k x.1))
+      (sym (rendered-one (N.clock c).identity (heard_of v) entry.reply port b one.is))
+      (record {
+        positive = positive;
+        entry = entry;
+        kept = kept;
+        answer = b;
+        one = one.is;
+        says = λ u e. subst (λ (x : Message). (x.number ≡ number_of (N.session s).setup.first k) × (outcome_in x.body ≡ outcome_in (answer_body entry.reply.action entry.reply.id b.outcome)))
+            (same_Some _ u (sym message.read ∙ e)) (number, refl);
+      }, tt)
+
+-- the session's frames, once a clock took its turn at a frame
+module _ (N : Network) (n : IsNetwork N) (s : ℕ) (a b : Account) (clock : State) (d port : ℕ) (f : Frame) (fits : (v : Message) → message_of f.octets ≡ Some v → Fits v) (frames : List Held) where
+  abbrev copy_at : Option RequestCopy
+  copy_at = copy_of (N.clock d) (length clock.sets.ports) (delivery port f)
+
+  frames-after : AllByRecursion (IsOwnFrame N s b) frames → IsSaid N s b f.octets f.origin
+      → AllByRecursion (λ (x : ℕ × List ℕ). IsSaid N s b x.1 (answer_origin f.origin (copy_of (N.clock d) (length clock.sets.ports) (delivery port f)))) (turn (N.clock d) clock port f.octets).replies
+      → AllByRecursion (IsOwnFrame N s b) (frames ++ map held (turn_frames N clock d port f))
+  frames-after old said replied =
+      all_append (IsOwnFrame N s b) frames _ old
+      (turn_frames-all (IsOwnFrame N s b) N clock d port f n
+      (λ x p e he. passed-said N s b f.octets x f.origin p fits said)
+      (all_weaker (λ (x : ℕ × List ℕ). IsSaid N s b x.1 (answer_origin f.origin (copy_of (N.clock d) (length clock.sets.ports) (delivery port f)))) _ (λ x i e he. i) _ replied))
+
+module _ (N : Network) (n : IsNetwork N) (s : ℕ) (place : s < N.sessions) (r : RunningNetwork) (h : IsHonest N r) (a : Account) (at : Own N s r a) (port : ℕ) (f : Frame) (true' : IsTrue N f.octets f.origin) (said : IsSaid N s a f.octets f.origin) where
+  -- no reply of another clock, or to a copy of another session, is to the session
+  replies-elsewhere : (d : ℕ) (b : Account) (k : Option RequestCopy)
+      → d < N.clocks → copy_of (N.clock d) (length (r.clock d).sets.ports) (delivery port f) ≡ k
+      → ((t j : ℕ) → f.origin ≡ RequestOf t j → (N.session t).target ≡ d → t ≡ s → ⊥)
+      → AllByRecursion (λ (x : ℕ × List ℕ). IsSaid N s b x.1 (answer_origin f.origin k)) (turn (N.clock d) (r.clock d) port f.octets).replies
+  replies-elsewhere d b None there e none = all_of _ (λ x. tt) _
+  replies-elsewhere d b (Some k) there e none =
+      let c = delivers_copy (N.clock d) (length (r.clock d).sets.ports) (delivery port f) k e in
+      let by = is_copy_by N d (length (r.clock d).sets.ports) f.origin c.message n there (true' c.message c.read).1 c.passes in
+      subst (λ (o : Origin). AllByRecursion (λ (x : ℕ × List ℕ). IsSaid N s b x.1 (reply_origin o)) (turn (N.clock d) (r.clock d) port f.octets).replies) (sym by.origin)
+      (all_of _ (λ x ts. absurd (none by.session by.k by.origin by.target ts)) _)
+
+  -- another clock takes its turn
+  own-elsewhere : (d : ℕ) → HasEnd N (AtPort d port) → (N.session s).target == d ≡ false
+      → IsOwn N s (r.session s) (r.reports s) (r.clock (N.session s).target) (r.frames ++ map held (turn_frames N (r.clock d) d port f)) a
+  own-elsewhere d end other = record {
+    value_is = at.value_is;
+    step = at.step;
+    last = at.last;
+    frames_say = frames-after N n s a a (r.clock d) d port f (λ v e. (true' v e).0) r.frames at.frames_say said
+        (replies-elsewhere d a (copy_of (N.clock d) (length (r.clock d).sets.ports) (delivery port f)) end.0 refl
+        (λ t j o q ts. eqb-false (N.session s).target d other (ap (λ i. (N.session i).target) (sym ts) ∙ q)));
+  }
+
+  -- ---- the target takes its turn
+
+  abbrev target : ℕ
+  target = (N.session s).target
+
+  own-with : HasEnd N (AtPort (N.session s).target port)
+      → (new : List Accepted) → StaysOrGains (manager N s) a.begun new a.accepted
+      → IsLastOf (manager N s) (N.session s).setup.first new (get (turn (N.clock (N.session s).target) (r.clock (N.session s).target) port f.octets).next.entries (manager N s))
+      → (IsInStep (manager N s) (ports N (N.session s).target) new (state_of (r.session s) (r.reports s) a)
+      → AllByRecursion (λ (x : ℕ × List ℕ). IsSaid N s (with_accepted a new) x.1 (answer_origin f.origin (copy_of (N.clock (N.session s).target) (length (r.clock (N.session s).target).sets.ports) (delivery port f)))) (turn (N.clock (N.session s).target) (r.clock (N.session s).target) port f.octets).replies)
+      → IsOwn N s (r.session s) (r.reports s) (turn (N.clock (N.session s).target) (r.clock (N.session s).target) port f.octets).next
+      (r.frames ++ map held (turn_frames N (r.clock (N.session s).target) (N.session s).target port f)) (with_accepted a new)
+  own-with end new gains last replied =
+      let c = (N.session s).target in
+      let step = step-gained (manager N s) (ports N c) new a.accepted (state_of (r.session s) (r.reports s) a) gains at.step in
+      let kept = kept-gained (manager N s) a.begun new a.accepted gains in
+      let stays : (octets : List ℕ) (o : Origin) → IsSaid N s a octets o → IsSaid N s (with_accepted a new) octets o =
+      λ octets o i. said-stays N s a (with_accepted a new) octets o (λ j q e. e) kept i in
+      record {
+        value_is = at.value_is;
+        step = step;
+        last = last;
+        frames_say = frames-after N n s a (with_accepted a new) (r.clock c) c port f (λ v e. (true' v e).0) r.frames
+            (all_weaker (IsOwnFrame N s a) (IsOwnFrame N s (with_accepted a new)) (λ x i. stays x.octets x.origin i) r.frames at.frames_say)
+            (stays f.octets f.origin said) (replied step);
+      }
+
+  OwnHere : Type 0
+  OwnHere = IsOwn N s (r.session s) (r.reports s) (turn (N.clock (N.session s).target) (r.clock (N.session s).target) port f.octets).next
+      (r.frames ++ map held (turn_frames N (r.clock (N.session s).target) (N.session s).target port f))
+      (with_accepted a (accepted_after (manager N s) (N.clock (N.session s).target) (r.clock (N.session s).target) f.octets a.accepted))
+
+  -- nothing of the session changes
+  own-kept : HasEnd N (AtPort (N.session s).target port)
+      → accepted_after (manager N s) (N.clock (N.session s).target) (r.clock (N.session s).target) f.octets a.accepted ≡ a.accepted
+      → get (turn (N.clock (N.session s).target) (r.clock (N.session s).target) port f.octets).next.entries (manager N s) ≡ get (r.clock (N.session s).target).entries (manager N s)
+      → ((t j : ℕ) → f.origin ≡ RequestOf t j → (N.session t).target ≡ (N.session s).target → t ≡ s
+      → copy_of (N.clock (N.session s).target) (length (r.clock (N.session s).target).sets.ports) (delivery port f) ≡ None)
+      → OwnHere
+  unfolding OwnHere
+  own-kept end same entries none = ?
