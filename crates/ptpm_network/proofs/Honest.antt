@@ -244,7 +244,7 @@ pub then_unless : (P : Happened → Type 0) (o : Option Refusal) (x : Result Hap
 then_unless P None x p = p refl
 then_unless P (Some reason) x p = λ h e. absurd (cc)
 
-begins-honest : (N : Network) (r : RunningNetwork) (t : ℕ) (a : Ask)
+pub begins-honest : (N : Network) (r : RunningNetwork) (t : ℕ) (a : Ask)
     → IsNetwork N → IsHonest N r → t < N.sessions → a.id < 2 ^ 16 → begin_refusal (r.session t) a ≡ None
     → IsHonestSession N t (begun (r.session t) (ask.request_of a))
 begins-honest N r t a n h place id e =

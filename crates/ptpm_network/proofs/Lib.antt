@@ -41,3 +41,6 @@ pub mod Truth
 pub mod Honest
 pub mod Own
 pub mod Owned
+pub mod Serving
+pub mod Served
+pub mod AllInTime

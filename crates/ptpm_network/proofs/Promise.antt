@@ -37,7 +37,7 @@ firsts N is s place = first_of-session N N.sessions s is (omega arith) place
 -- ---- the promise
 
 -- what a manager is to be told begins with what it is to be told of its first requests
-told-begins : (m : PortIdentity) (accepted : List Accepted) (g n : ℕ)
+pub told-begins : (m : PortIdentity) (accepted : List Accepted) (g n : ℕ)
     → n ≤ g
     → (rest : List Report) × (outcomes_kept m accepted g ≡ outcomes_kept m accepted n ++ rest)
 told-begins m accepted zero n le =

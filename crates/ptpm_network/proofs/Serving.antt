@@ -1,5 +1,5 @@
 -- What every event makes of a session whose own messages come in time, whatever comes late of others; and so after every list.
-use Rattle.ptpm_network.proofs.Common.{by_test, arith, ◌≡◌, ℕ, ◌+◌, ◌-◌, ◌<◌, ◌≤◌, ◌==◌, ◌&&◌, ◌⊎◌, inl, inr, nat_lt, List, [], ◌∷◌, ◌++◌, length, Option, Some, None, Result, Ok, Err, true, false, refl, sym, ◌∙◌, ap, subst, ⊎_elim, and_cases, and_from, cases_eq, cond-true, cond-false, eq-eqb, eqb-true, eqb-false, ne_eqb, ltb-false, true≢false, same_Some, map, slice_get, slice_get_within, all_append, all_get, all_weaker, AllByRecursion, PortIdentity, Message, canonical, DecodeError, same_identity, Fits, message_of, reading, message_of-reading, Answer, ReplyValue, RequestValue, Entry, answer_body, reply_message, hops_passed, rendered, reply_messages, Accepted, greatest, kept_reply, Delivery, RequestCopy, copy_of, delivers_copy, DeliversCopy, copy_parts, no_copy, is_copy, heard_of, request_of, Clock, State, Turned, turn, turn-message, judged, Verdict, same_identity-refl, same_identity-true, number_of, outcome_in, Report, received_of, Answers, HasOneAnswer, IsAsked, IsInStep, IsMessage, InWindow, answer_origin, delivery, reply_origin, strange_frame, with_place, with_place-same, with_place-other, AtPort, AtSession, End, HasEnd, IsNetwork, Network, manager, peers, ports, Frame, Held, held, seen, turn_frames, after_turn, Origin, RequestOf, ReplyTo, Neither, SessionState, SessionValue, session_value, Happened, unless_refused, network_event, network_run, goes_on, delivers, reaches, hears, RunningNetwork, initial_network, answered, begun, resumed, retuned, sent, due_message, sent_posted, Ask, begin_refusal, BeginRefused, SendRefused, Refusal, Event, Begin, Send, Resume, Retune, Deliver, Stranger, IsInRange, Forged, is_forged, forged, frame_at, first_of-none, no_port, no_room, no_session, nothing_to_resume, send_refusal, option_map, outcomes_kept, le_trans}
+use Rattle.ptpm_network.proofs.Common.{by_test, IsForOne, arith, ◌≡◌, ℕ, ◌+◌, ◌-◌, ◌<◌, ◌≤◌, ◌==◌, ◌&&◌, ◌⊎◌, inl, inr, nat_lt, List, [], ◌∷◌, ◌++◌, length, Option, Some, None, Result, Ok, Err, true, false, refl, sym, ◌∙◌, ap, subst, ⊎_elim, and_cases, and_from, cases_eq, cond-true, cond-false, eq-eqb, eqb-true, eqb-false, ne_eqb, ltb-false, true≢false, same_Some, map, slice_get, slice_get_within, all_append, all_get, all_weaker, AllByRecursion, PortIdentity, Message, canonical, DecodeError, same_identity, Fits, message_of, reading, message_of-reading, Answer, ReplyValue, RequestValue, Entry, answer_body, reply_message, hops_passed, rendered, reply_messages, Accepted, greatest, kept_reply, Delivery, RequestCopy, copy_of, delivers_copy, DeliversCopy, copy_parts, no_copy, is_copy, heard_of, request_of, Clock, State, Turned, turn, turn-message, judged, Verdict, same_identity-refl, same_identity-true, number_of, outcome_in, Report, received_of, Answers, HasOneAnswer, IsAsked, IsInStep, IsMessage, InWindow, answer_origin, delivery, reply_origin, strange_frame, with_place, with_place-same, with_place-other, AtPort, AtSession, End, HasEnd, IsNetwork, Network, manager, peers, ports, Frame, Held, held, seen, turn_frames, after_turn, Origin, RequestOf, ReplyTo, Neither, SessionState, SessionValue, session_value, Happened, unless_refused, network_event, network_run, goes_on, delivers, reaches, hears, RunningNetwork, initial_network, answered, begun, resumed, retuned, sent, due_message, sent_posted, Ask, begin_refusal, BeginRefused, SendRefused, Refusal, Event, Begin, Send, Resume, Retune, Deliver, Stranger, IsInRange, Forged, is_forged, forged, frame_at, first_of-none, no_port, no_room, no_session, nothing_to_resume, send_refusal, option_map, outcomes_kept, le_trans}
 use Rattle.std.specs.FinMap.{get, get-empty, insert}
 use Rattle.ptpm_codec.specs.Identity.{identity_cmp}
 use Rattle.ptpm_manager.specs.Ask as ask
@@ -8,12 +8,12 @@ use Rattle.ptpm_manager.specs.declared.receiving.Received.{Received}
 use Rattle.ptpm_manager.specs.declared.receiving.Received.TheVariants as received
 use Rattle.ptpm_agent.specs.CarriedOut.{carried_by, carried_in, carried_of}
 use Rattle.ptpm_agent.specs.declared.verdict.Verdict.TheVariants as verdicts
-use Rattle.ptpm_agent.specs.Turn.{new_reply, next_by}
+use Rattle.ptpm_agent.specs.Turn.{NumberedRequest, new_reply, next_by}
 use Rattle.ptpm_agent.proofs.AtMostOnce.{turn-no_copy}
 use Rattle.ptpm_agent.proofs.Entries.{accepted_entry, get-insert_other}
 use Rattle.ptpm_agent.proofs.Turns.{is_copy-new}
 use Rattle.ptpm_network.specs.ByManager.{Account, StaysInTime, account_from, account_of, account_while, account_with, in_time_while, is_behind, is_for, is_late_for, is_late_frame_for, with_carried}
-unfoldable use Rattle.ptpm_network.specs.CarriedOut.{carried_at, carried_by_event, carried_of_frame}
+use Rattle.ptpm_network.specs.CarriedOut.{carried_at, carried_by_event, carried_of_frame}
 use Rattle.ptpm_network.proofs.Accepting.{IsAbove, in_step-joined, kept-joined, kept-le}
 use Rattle.ptpm_network.proofs.Answering.{rendered-one}
 use Rattle.ptpm_network.proofs.Arriving.{Gains, StaysOrGains}
@@ -59,8 +59,8 @@ passed-said N s a octets m Neither p fits i = tt
 -- ---- a turn that is no turn on the session's own copy
 
 carried-not_new : (w : Verdict) (v : Message) → (w ≡ verdicts.AnsweredNew → ⊥) → carried_by w v ≡ []
-carried-not_new verdicts.AnsweredNew v no = absurd (no refl)
-carried-not_new _ v no = refl
+carried-not_new verdicts.AnsweredNew v other = absurd (other refl)
+carried-not_new _ v other = refl
 
 carried-none : (c : Clock) (s : State) (x : Delivery) (r : Result Message DecodeError)
     → reading x.datagram ≡ r → copy_of c (length s.sets.ports) x ≡ None
@@ -92,14 +92,6 @@ window-of g k begun reports a b d e l = record { not_far_ahead = omega arith; no
 within_begun : (k n : ℕ) → 0 < k → k - 1 < n → k ≤ n
 within_begun k n p h = omega arith
 
-
--- what a turn at the target leaves of the session
-record Here (N : Network) (s : ℕ) (clock : State) (port : ℕ) (f : Frame) (a : Account) : Type 0 where
-  pub gains : StaysOrGains (manager N s) a.begun (accepted_after (manager N s) (N.clock (N.session s).target) clock f.octets a.accepted) a.accepted
-  pub last : IsLastOf (manager N s) (N.session s).setup.first (accepted_after (manager N s) (N.clock (N.session s).target) clock f.octets a.accepted)
-      (get (turn (N.clock (N.session s).target) clock port f.octets).next.entries (manager N s))
-  pub replies : IsInStep (manager N s) (ports N (N.session s).target) (accepted_after (manager N s) (N.clock (N.session s).target) clock f.octets a.accepted) (record { domain = 0; attempts_left = 0; begun = a.begun; reports = [] })
-      → Unit {0}
 
 -- the account of a session, with this accepted
 abbrev with_accepted : Account → List Accepted → Account
@@ -150,9 +142,6 @@ module _ (N : Network) (n : IsNetwork N) (s : ℕ) (place : s < N.sessions) (por
 
 -- the session's frames, once a clock took its turn at a frame
 module _ (N : Network) (n : IsNetwork N) (s : ℕ) (a b : Account) (clock : State) (d port : ℕ) (f : Frame) (fits : (v : Message) → message_of f.octets ≡ Some v → Fits v) (frames : List Held) where
-  abbrev copy_at : Option RequestCopy
-  copy_at = copy_of (N.clock d) (length clock.sets.ports) (delivery port f)
-
   frames-after : AllByRecursion (IsOwnFrame N s b) frames → IsSaid N s b f.octets f.origin
       → AllByRecursion (λ (x : ℕ × List ℕ). IsSaid N s b x.1 (answer_origin f.origin (copy_of (N.clock d) (length clock.sets.ports) (delivery port f)))) (turn (N.clock d) clock port f.octets).replies
       → AllByRecursion (IsOwnFrame N s b) (frames ++ map held (turn_frames N clock d port f))
@@ -189,9 +178,6 @@ module _ (N : Network) (n : IsNetwork N) (s : ℕ) (place : s < N.sessions) (r :
 
   -- ---- the target takes its turn
 
-  abbrev target : ℕ
-  target = (N.session s).target
-
   own-with : HasEnd N (AtPort (N.session s).target port)
       → (new : List Accepted) → StaysOrGains (manager N s) a.begun new a.accepted
       → IsLastOf (manager N s) (N.session s).setup.first new (get (turn (N.clock (N.session s).target) (r.clock (N.session s).target) port f.octets).next.entries (manager N s))
@@ -219,12 +205,111 @@ module _ (N : Network) (n : IsNetwork N) (s : ℕ) (place : s < N.sessions) (r :
       (r.frames ++ map held (turn_frames N (r.clock (N.session s).target) (N.session s).target port f))
       (with_accepted a (accepted_after (manager N s) (N.clock (N.session s).target) (r.clock (N.session s).target) f.octets a.accepted))
 
+  replied_by : (new : List Accepted) (k : Option RequestCopy)
+      → copy_of (N.clock (N.session s).target) (length (r.clock (N.session s).target).sets.ports) (delivery port f) ≡ k
+      → AllByRecursion (λ (x : ℕ × List ℕ). IsSaid N s (with_accepted a new) x.1 (answer_origin f.origin k)) (turn (N.clock (N.session s).target) (r.clock (N.session s).target) port f.octets).replies
+      → AllByRecursion (λ (x : ℕ × List ℕ). IsSaid N s (with_accepted a new) x.1 (answer_origin f.origin (copy_of (N.clock (N.session s).target) (length (r.clock (N.session s).target).sets.ports) (delivery port f)))) (turn (N.clock (N.session s).target) (r.clock (N.session s).target) port f.octets).replies
+  replied_by new k e all =
+      subst (λ (o : Option RequestCopy). AllByRecursion (λ (x : ℕ × List ℕ). IsSaid N s (with_accepted a new) x.1 (answer_origin f.origin o)) (turn (N.clock (N.session s).target) (r.clock (N.session s).target) port f.octets).replies) (sym e) all
+
   -- nothing of the session changes
-  own-kept : HasEnd N (AtPort (N.session s).target port)
-      → accepted_after (manager N s) (N.clock (N.session s).target) (r.clock (N.session s).target) f.octets a.accepted ≡ a.accepted
+  last-kept : accepted_after (manager N s) (N.clock (N.session s).target) (r.clock (N.session s).target) f.octets a.accepted ≡ a.accepted
       → get (turn (N.clock (N.session s).target) (r.clock (N.session s).target) port f.octets).next.entries (manager N s) ≡ get (r.clock (N.session s).target).entries (manager N s)
-      → ((t j : ℕ) → f.origin ≡ RequestOf t j → (N.session t).target ≡ (N.session s).target → t ≡ s
-      → copy_of (N.clock (N.session s).target) (length (r.clock (N.session s).target).sets.ports) (delivery port f) ≡ None)
-      → OwnHere
-  unfolding OwnHere
-  own-kept end same entries none = ?
+      → IsLastOf (manager N s) (N.session s).setup.first (accepted_after (manager N s) (N.clock (N.session s).target) (r.clock (N.session s).target) f.octets a.accepted)
+      (get (turn (N.clock (N.session s).target) (r.clock (N.session s).target) port f.octets).next.entries (manager N s))
+  last-kept same entries =
+      subst (λ es. IsLastOf (manager N s) (N.session s).setup.first es (get (turn (N.clock (N.session s).target) (r.clock (N.session s).target) port f.octets).next.entries (manager N s))) (sym same)
+      (subst (IsLastOf (manager N s) (N.session s).setup.first a.accepted) (sym entries) at.last)
+
+  -- the session's own copy comes in at its target
+  pub comes_own : (v : Message) (k : ℕ) → f.origin ≡ RequestOf s k → length a.begun ≤ k + 32768
+      → message_of f.octets ≡ Some v → is_copy (N.clock (N.session s).target) (length (r.clock (N.session s).target).sets.ports) v ≡ true
+      → v.source ≡ manager N s
+      → ComesOwn (manager N s) (N.session s).setup.first (ports N (N.session s).target) (N.clock (N.session s).target) (r.clock (N.session s).target) v k a.accepted (state_of (r.session s) (r.reports s) a)
+  comes_own v k origin time read passes source =
+      let c = (N.session s).target in
+      let clock = h.clocks c (n.are_sessions s place).exists in
+      let own : IsRequestSaid (N.session s).setup.first a.begun k f.octets = subst (IsSaid N s a f.octets) origin said refl in
+      let says = own.says v read in
+      let asked = at.step.asked (k - 1) own.request own.begun_as in
+      let within : k ≤ length a.begun = within_begun k (length a.begun) own.positive (slice_get_within a.begun (k - 1) own.request own.begun_as) in
+      record {
+        parts = copy_parts (N.clock c) (length (r.clock c).sets.ports) v passes;
+        source = source;
+        positive = own.positive;
+        number = says.0;
+        begun_as = own.begun_as ∙ ap Some (sym says.1);
+        window = window-of (greatest (manager N s) a.accepted) k (length a.begun) (length (r.reports s)) within at.step.one_at_a_time at.step.accepted_before at.step.begun_before time;
+        step = at.step;
+        last = at.last;
+        answers = reply-answers (request_of v) ((N.clock c).rights v.source) (ports N c) (r.clock c).sets clock.sets;
+        one = once (request_of v) ((N.clock c).rights v.source) (ports N c) (r.clock c).sets clock.sets
+            (subst (λ (q : RequestValue). IsForOne (ports N c) q) (sym says.1) asked.one);
+      }
+
+  own-here : HasEnd N (AtPort (N.session s).target port) → ((k : ℕ) → f.origin ≡ RequestOf s k → length a.begun ≤ k + 32768)
+      → (k : Option RequestCopy)
+      → copy_of (N.clock (N.session s).target) (length (r.clock (N.session s).target).sets.ports) (delivery port f) ≡ k
+      → IsOwn N s (r.session s) (r.reports s) (turn (N.clock (N.session s).target) (r.clock (N.session s).target) port f.octets).next
+      (r.frames ++ map held (turn_frames N (r.clock (N.session s).target) (N.session s).target port f))
+      (with_accepted a (accepted_after (manager N s) (N.clock (N.session s).target) (r.clock (N.session s).target) f.octets a.accepted))
+  own-here end time None e =
+      let c = (N.session s).target in
+      let new = accepted_after (manager N s) (N.clock c) (r.clock c) f.octets a.accepted in
+      let same : new ≡ a.accepted = ap (λ rs. with_carried (manager N s) (N.clock c) (r.clock c) rs a.accepted) (carried-none (N.clock c) (r.clock c) (delivery port f) (reading f.octets) refl e) in
+      own-with end new (inl same) (last-kept same (ap (λ (x : State). get x.entries (manager N s)) (turn-no_copy (N.clock c) (r.clock c) (delivery port f) e)))
+      (λ step. replied_by new None e (all_of _ (λ x. tt) _))
+  own-here end time (Some k) e =
+      let c = (N.session s).target in
+      let st = r.clock c in
+      let new = accepted_after (manager N s) (N.clock c) st f.octets a.accepted in
+      let copy = delivers_copy (N.clock c) (length st.sets.ports) (delivery port f) k e in
+      let v : Message = copy.message in
+      let says = true' v copy.read in
+      let by = is_copy_by N c (length st.sets.ports) f.origin v n end.0 says.1 copy.passes in
+      let d = does (manager N s) (N.clock c) st port f.octets v a.accepted copy.read in
+      ⊎_elim
+      (λ (ts : by.session ≡ s).
+      let origin : f.origin ≡ RequestOf s by.k = by.origin ∙ ap (λ j. RequestOf j by.k) ts in
+      let o = comes_own v by.k origin (time by.k origin) copy.read copy.passes (by.source ∙ ap (manager N) ts) in
+      let t = turns_own (manager N s) (N.session s).setup.first (ports N c) (N.clock c) st port f.octets v by.k a.accepted (state_of (r.session s) (r.reports s) a) copy.read o in
+      let P : ℕ × List ℕ → Type 0 = λ x. IsReplySaid (manager N s) (N.session s).setup.first new by.k x.1 in
+      own-with end new t.gains t.last
+      (λ step. replied_by new (Some k) e
+      (subst (λ (z : Origin). AllByRecursion (λ (x : ℕ × List ℕ). IsSaid N s (with_accepted a new) x.1 (reply_origin z)) (turn (N.clock c) st port f.octets).replies) (sym origin)
+      (all_weaker P (λ (x : ℕ × List ℕ). IsSaid N s (with_accepted a new) x.1 (ReplyTo s by.k)) (λ x i q. i) (turn (N.clock c) st port f.octets).replies
+      (⊎_elim
+      (λ (nil : (turn (N.clock c) st port f.octets).replies ≡ []). subst (AllByRecursion P) (sym nil) tt)
+      (λ (told : Replied (manager N s) (N.clock c) st port f.octets v by.k new). subst (AllByRecursion P) (sym told.is)
+      (kept-said N n s place port end v says.0 by.k o.positive o.number new (state_of (r.session s) (r.reports s) a) step told.entry told.kept))
+      t.replies)))))
+      (λ (ne : by.session ≡ s → ⊥).
+      let other : same_identity (manager N s) v.source ≡ false = by_test (same_identity (manager N s) v.source)
+      (λ y. absurd (ne (n.sessions_apart by.session s by.place place (sym by.source ∙ sym (same_identity-true (manager N s) v.source y)))))
+      (λ o. o) in
+      let same : new ≡ a.accepted = ap (λ rs. with_carried (manager N s) (N.clock c) st rs a.accepted) d.carried ∙ with_carried-others (manager N s) (N.clock c) st v (judged (N.clock c) st v) a.accepted other in
+      let entries = ap (λ (x : State). get x.entries (manager N s)) d.next ∙ entries-others (manager N s) (N.clock c) st v (judged (N.clock c) st v) other in
+      own-with end new (inl same) (last-kept same entries)
+      (λ step. replied_by new (Some k) e
+      (replies-elsewhere c (with_accepted a new) (Some k) end.0 e
+      (λ t j o q ts. let both : RequestOf by.session by.k ≡ RequestOf t j = sym by.origin ∙ o in let st' : by.session ≡ t = cc in ne (st' ∙ ts)))))
+      (cases_eq by.session s)
+
+  -- any clock takes its turn
+  pub own-turned : (d : ℕ) → HasEnd N (AtPort d port) → ((k : ℕ) → f.origin ≡ RequestOf s k → d ≡ (N.session s).target → length a.begun ≤ k + 32768)
+      → Own N s (after_turn N r d port f)
+      (with_accepted a (with_carried (manager N s) (N.clock (N.session s).target) (r.clock (N.session s).target) (carried_at N r (N.session s).target (AtPort d port) f.octets) a.accepted))
+  own-turned d end time =
+      let c = (N.session s).target in
+      let next : ℕ → State = λ j. (turn (N.clock j) (r.clock j) port f.octets).next in
+      let after : ℕ → List Held = λ j. r.frames ++ map held (turn_frames N (r.clock j) j port f) in
+      let account : List NumberedRequest → Account = λ qs. with_accepted a (with_carried (manager N s) (N.clock c) (r.clock c) qs a.accepted) in
+      by_test (c == d)
+      (λ y. let cd : c ≡ d = eqb-true c d y in
+      subst (λ j. IsOwn N s (r.session s) (r.reports s) (with_place r.clock j (next j) c) (after j) (account (carried_at N r c (AtPort j port) f.octets))) cd
+      (subst (λ (x : State). IsOwn N s (r.session s) (r.reports s) x (after c) (account (carried_at N r c (AtPort c port) f.octets))) (sym (with_place-same r.clock c (next c) c (eq-eqb c c refl)))
+      (subst (λ qs. IsOwn N s (r.session s) (r.reports s) (next c) (after c) (account qs)) (sym (cond-true _ _ _ (eq-eqb c c refl)))
+      (own-here (subst (λ j. HasEnd N (AtPort j port)) (sym cd) end) (λ k o. time k o (sym cd)) (copy_of (N.clock c) (length (r.clock c).sets.ports) (delivery port f)) refl))))
+      (λ o. subst (λ (x : State). IsOwn N s (r.session s) (r.reports s) x (after d) (account (carried_at N r c (AtPort d port) f.octets))) (sym (with_place-other r.clock d (next d) c o))
+      (subst (λ qs. IsOwn N s (r.session s) (r.reports s) (r.clock c) (after d) (account qs)) (sym (cond-false _ _ _ o))
+      (own-elsewhere d end o)))

@@ -5,6 +5,7 @@
 
 mod headline_laws;
 mod laws;
+mod manager_laws;
 mod way_laws;
 mod worth_laws;
 
@@ -17,5 +18,6 @@ pub use laws::{
     every_schedule, hops_lost, in_the_window, one_request_at_a_time, outbox_of_turns,
     running_networks_stand,
 };
+pub use manager_laws::managers_in_time_are_served;
 pub use way_laws::{answerable_along_a_way, one_copy_each_way, running_networks_answer};
 pub use worth_laws::{reported_exactly_once, running_networks_report};

@@ -1,0 +1,246 @@
+-- A session whose own messages come in time is served, after every list of events, whatever comes late of others.
+use Rattle.ptpm_network.proofs.Common.{by_test, arith, ◌≡◌, ℕ, ◌+◌, ◌-◌, ◌<◌, ◌≤◌, ◌==◌, ◌^◌, ◌&&◌, nat_lt, Bool, List, [], ◌∷◌, ◌++◌, length, Option, Some, None, Result, Ok, Err, true, false, refl, sym, ◌∙◌, ap, subst, ⊎_elim, and_cases, and_from, cond-true, cond-false, eq-eqb, eqb-true, eqb-false, ne_eqb, ltb-false, true≢false, same_Some, slice_get, all_append, AllByRecursion, PortIdentity, Message, canonical, message_of, RequestValue, Accepted, greatest, kept_reply, is_copy, heard_of, request_of, State, turn, reply_messages, Report, received_of, IsAsked, IsInStep, WasAccepted, strange_frame, with_place, with_place-same, with_place-other, AtPort, AtSession, End, HasEnd, IsNetwork, Network, manager, peers, ports, Frame, Held, seen, Origin, RequestOf, ReplyTo, Neither, SessionState, SessionValue, session_value, Happened, unless_refused, network_event, network_run, goes_on, delivers, reaches, hears, RunningNetwork, initial_network, answered, begun, resumed, retuned, sent, due_message, sent_posted, Ask, begin_refusal, BeginRefused, SendRefused, Refusal, Event, Begin, Send, Resume, Retune, Deliver, Stranger, IsInRange, Forged, is_forged, forged, frame_at, first_of-none, no_port, no_room, no_session, nothing_to_resume, send_refusal, option_map, outcomes_kept, le_trans, is_late_at, all_get, with_session_value, sends_in, after_turn, zero, suc}
+use Rattle.std.specs.FinMap.{get-empty}
+use Rattle.ptpm_codec.specs.Identity.{identity_cmp}
+use Rattle.ptpm_manager.specs.Ask as ask
+use Rattle.ptpm_manager.specs.Receiving.{left_by}
+use Rattle.ptpm_manager.specs.declared.receiving.Received.{Received}
+use Rattle.ptpm_manager.specs.declared.receiving.Received.TheVariants as received
+use Rattle.ptpm_network.specs.ByManager.{Account, StaysInTime, account_from, account_of, account_while, account_with, in_time_while, is_behind, is_for, is_late_for, is_late_frame_for, with_begun, with_carried}
+use Rattle.ptpm_network.specs.CarriedOut.{carried_at, carried_by_event, carried_of_frame}
+use Rattle.ptpm_network.specs.Served.{IsServed, IsTimelyCopy, accepted_count}
+use Rattle.ptpm_network.proofs.Honest.{IsHonest, IsSentBy, IsTrueFrame, Then, begins-honest, event-honest, first-honest, frame-true, sent-all, sent_by, then_ok, then_unless}
+use Rattle.ptpm_network.proofs.Own.{IsLastOf, IsRequestSaid, Replied, TurnsOwn, turns_own}
+use Rattle.ptpm_network.proofs.Owned.{IsOwn, IsOwnFrame, IsSaid, own-begun, own-hears, own-message, own-resumed, own-retuned, own-sent, reports_with, state_of}
+use Rattle.ptpm_network.proofs.Promise.{told-begins}
+use Rattle.ptpm_network.proofs.Reaching.{port-exists, session-exists}
+use Rattle.ptpm_network.proofs.Refusals.{begin-not_refused, option_map-none}
+use Rattle.ptpm_network.proofs.Serving.{Own, comes_own, own-turned}
+use Rattle.ptpm_network.proofs.Strangers.{strange-message}
+use Rattle.ptpm_network.proofs.Truth.{IsTrue}
+
+-- ---- what is in time
+
+no_origin : {X : Type 0} (s k : ℕ) → Neither ≡ RequestOf s k → X
+no_origin s k e = absurd (cc)
+
+module _ (N : Network) (s : ℕ) (r : RunningNetwork) where
+  clock-in_time : (o : Origin) (d port k : ℕ)
+      → is_for N s (AtPort d port) o && is_behind r o ≡ false → o ≡ RequestOf s k → d ≡ (N.session s).target
+      → (r.session s).issued ≤ k + 32768
+  clock-in_time o d port k late e here =
+      let at : is_for N s (AtPort d port) (RequestOf s k) && is_behind r (RequestOf s k) ≡ false =
+      subst (λ (z : Origin). is_for N s (AtPort d port) z && is_behind r z ≡ false) e late in
+      ⊎_elim
+      (λ (no : is_for N s (AtPort d port) (RequestOf s k) ≡ false). absurd (true≢false (sym (and_from (s == s) (d == (N.session s).target) (eq-eqb s s refl) (eq-eqb d (N.session s).target here)) ∙ no)))
+      (λ (in' : is_late_at k (r.session s).issued ≡ false). ltb-false (k + 32768) (r.session s).issued in')
+      (and_cases (is_for N s (AtPort d port) (RequestOf s k)) (is_behind r (RequestOf s k)) at)
+
+  session-in_time : (o : Origin) (k : ℕ)
+      → is_for N s (AtSession s) o && is_behind r o ≡ false → o ≡ ReplyTo s k
+      → (r.session s).issued ≤ k + 32768
+  session-in_time o k late e =
+      let at : is_for N s (AtSession s) (ReplyTo s k) && is_behind r (ReplyTo s k) ≡ false =
+      subst (λ (z : Origin). is_for N s (AtSession s) z && is_behind r z ≡ false) e late in
+      ⊎_elim
+      (λ (no : is_for N s (AtSession s) (ReplyTo s k) ≡ false). absurd (true≢false (sym (and_from (s == s) (s == s) (eq-eqb s s refl) (eq-eqb s s refl)) ∙ no)))
+      (λ (in' : is_late_at k (r.session s).issued ≡ false). ltb-false (k + 32768) (r.session s).issued in')
+      (and_cases (is_for N s (AtSession s) (ReplyTo s k)) (is_behind r (ReplyTo s k)) at)
+
+-- ---- one event
+
+flip : (s t : ℕ) → t == s ≡ false → s == t ≡ false
+flip s t n = ne_eqb s t (λ (e : s ≡ t). eqb-false t s n (sym e))
+
+module _ (N : Network) (n : IsNetwork N) (s : ℕ) (place : s < N.sessions) (r : RunningNetwork) (h : IsHonest N r) (a : Account) (at : Own N s r a) where
+  -- a session becomes another: this one, or another one
+  own-set : (f : SessionValue → SessionValue) (t : ℕ)
+      → IsOwn N s (f (r.session s)) (r.reports s) (r.clock (N.session s).target) r.frames a
+      → IsOwn N s (with_place r.session t (f (r.session t)) s) (r.reports s) (r.clock (N.session s).target) r.frames a
+  own-set f t new = by_test (t == s)
+      (λ y. let ts : t ≡ s = eqb-true t s y in
+      subst (λ (x : SessionValue). IsOwn N s x (r.reports s) (r.clock (N.session s).target) r.frames a)
+      (ap f (ap r.session (sym ts)) ∙ sym (with_place-same r.session t (f (r.session t)) s (eq-eqb s t (sym ts)))) new)
+      (λ o. subst (λ (x : SessionValue). IsOwn N s x (r.reports s) (r.clock (N.session s).target) r.frames a)
+      (sym (with_place-other r.session t (f (r.session t)) s (flip s t o))) at)
+
+  own-begins : (t : ℕ) (q : Ask) → t < N.sessions → q.id < 2 ^ 16 → begin_refusal (r.session t) q ≡ None
+      → IsOwn N s (with_place r.session t (begun (r.session t) (ask.request_of q)) s) (r.reports s) (r.clock (N.session s).target) r.frames
+      (record { begun = with_begun s (Begin t q) a.begun; accepted = a.accepted })
+  own-begins t q there id fine =
+      let request = ask.request_of q in
+      let P : SessionValue → List RequestValue → Type 0 = λ x bs. IsOwn N s x (r.reports s) (r.clock (N.session s).target) r.frames (record { begun = bs; accepted = a.accepted }) in
+      by_test (t == s)
+      (λ y. let ts : t ≡ s = eqb-true t s y in
+      let asked : IsAsked (ports N (N.session s).target) request = subst (λ j. IsAsked (ports N (N.session j).target) request) ts ((begins-honest N r t q n h there id fine).asked request refl) in
+      let idle = subst (λ j. begin_refusal (r.session j) q ≡ None) ts fine in
+      subst (λ (x : SessionValue). P x (with_begun s (Begin t q) a.begun))
+      (ap (λ j. begun (r.session j) request) (sym ts) ∙ sym (with_place-same r.session t (begun (r.session t) request) s (eq-eqb s t (sym ts))))
+      (subst (P (begun (r.session s) request)) (sym (cond-true _ _ _ y))
+      (own-begun N s (r.session s) (r.reports s) (r.clock (N.session s).target) r.frames a at request asked (begin-not_refused (r.session s) q idle).0)))
+      (λ o. subst (λ (x : SessionValue). P x (with_begun s (Begin t q) a.begun)) (sym (with_place-other r.session t (begun (r.session t) request) s (flip s t o)))
+      (subst (P (r.session s)) (sym (cond-false _ _ _ o)) at))
+
+  own-sends : (t : ℕ) → t < N.sessions → Own N s (sends_in N r t) a
+  own-sends t there =
+      let base = own-set sent t (own-sent N s (r.session s) (r.reports s) (r.clock (N.session s).target) r.frames a at) in
+      record {
+        value_is = base.value_is;
+        step = base.step;
+        last = base.last;
+        frames_say = all_append (IsOwnFrame N s a) r.frames _ at.frames_say
+            (sent-all (IsOwnFrame N s a) N t (r.session t).issued (due_message (r.session t)) n
+            (λ v e end he. λ (ts : t ≡ s).
+            let by : IsSentBy N s (r.session s) v = subst (λ j. IsSentBy N j (r.session j) v) ts (sent_by N t (r.session t) v n there (h.sessions t there) e) in
+            subst (λ j. IsRequestSaid (N.session s).setup.first a.begun (r.session j).issued (canonical v)) (sym ts)
+            (own-message N s (r.session s) (r.reports s) (r.clock (N.session s).target) r.frames a at v by)));
+      }
+
+  own-hears_in : (t : ℕ) (x : Received)
+      → (t ≡ s → IsOwn N s (left_by (r.session s) x) (reports_with (r.reports s) x) (r.clock (N.session s).target) r.frames a)
+      → Own N s (hears r t x) a
+  own-hears_in t (received.Ignored reason) new = at
+  own-hears_in t (received.Answered report) new =
+      let P : SessionValue → List Report → Type 0 = λ x rs. IsOwn N s x rs (r.clock (N.session s).target) r.frames a in
+      by_test (t == s)
+      (λ y. let ts : t ≡ s = eqb-true t s y in
+      subst (λ (x : SessionValue). P x (with_place r.reports t (r.reports t ++ report ∷ []) s))
+      (ap (λ j. answered (r.session j)) (sym ts) ∙ sym (with_place-same r.session t (answered (r.session t)) s (eq-eqb s t (sym ts))))
+      (subst (P (answered (r.session s)))
+      (ap (λ j. r.reports j ++ report ∷ []) (sym ts) ∙ sym (with_place-same r.reports t (r.reports t ++ report ∷ []) s (eq-eqb s t (sym ts)))) (new ts)))
+      (λ o. subst (λ (x : SessionValue). P x (with_place r.reports t (r.reports t ++ report ∷ []) s)) (sym (with_place-other r.session t (answered (r.session t)) s (flip s t o)))
+      (subst (P (r.session s)) (sym (with_place-other r.reports t (r.reports t ++ report ∷ []) s (flip s t o))) at))
+
+  issued-begun : (r.session s).issued ≡ length a.begun
+  issued-begun = ap (λ (x : SessionValue). x.issued) at.value_is
+
+  own-reaches : (x : Held) (end : End) → IsTrueFrame N x → IsOwnFrame N s a x → HasEnd N end
+      → is_for N s end x.origin && is_behind r x.origin ≡ false
+      → Own N s (reaches N r x end).network
+      (record { begun = a.begun; accepted = with_carried (manager N s) (N.clock (N.session s).target) (r.clock (N.session s).target) (carried_at N r (N.session s).target end x.octets) a.accepted })
+  own-reaches x (AtPort d port) i said end late =
+      own-turned N n s place r h a at port (seen x) i.says said d end
+      (λ k o here. subst (λ b. b ≤ k + 32768) issued-begun (clock-in_time N s r x.origin d port k late o here))
+  own-reaches x (AtSession t) i said end late =
+      own-hears_in t (received_of (r.session t) x.octets)
+      (λ ts. subst (λ j. IsOwn N s (left_by (r.session s) (received_of (r.session j) x.octets)) (reports_with (r.reports s) (received_of (r.session j) x.octets)) (r.clock (N.session s).target) r.frames a) (sym ts)
+      (own-hears N s (r.session s) (r.reports s) (r.clock (N.session s).target) r.frames a at x.octets x.origin (received_of (r.session s) x.octets) n place i.says said
+      (λ k o. subst (λ b. b ≤ k + 32768) issued-begun
+      (session-in_time N s r x.origin k (subst (λ j. is_for N s (AtSession j) x.origin && is_behind r x.origin ≡ false) ts late) o)) refl))
+
+  own-frame : (k : ℕ) (x : Held) → frame_at r.frames k ≡ Some x → IsOwnFrame N s a x
+  own-frame k x e = by_test (k == 0)
+      (λ y. let none : None ≡ Some x = sym (cond-true _ _ _ y) ∙ e in absurd (cc))
+      (λ o. all_get (IsOwnFrame N s a) r.frames (k - 1) x at.frames_say (sym (cond-false _ _ _ o) ∙ e))
+
+  own-delivers : (k : ℕ) (o : Option Held) → frame_at r.frames k ≡ o → is_late_frame_for N s r o ≡ false
+      → Then (delivers N r o)
+      (λ g. Own N s g.network (record { begun = a.begun; accepted = with_carried (manager N s) (N.clock (N.session s).target) (r.clock (N.session s).target) (carried_of_frame N r (N.session s).target o) a.accepted }))
+  own-delivers k None e late = λ g is. absurd (cc)
+  own-delivers k (Some x) e late =
+      let i = frame-true N n r h k x e in
+      then_unless _ (no_room r.frames) _ (λ room. then_ok _ (reaches N r x x.end) (own-reaches x x.end i (own-frame k x e) i.end late))
+
+  own-event : (e : Event) → IsInRange e → is_late_for N s r e ≡ false
+      → Then (network_event N r e) (λ g. Own N s g.network (account_with N s r e a))
+  unfolding network_event carried_by_event
+  own-event (Begin t q) id late =
+      then_unless _ (no_session N t) _ (λ there. then_unless _ (option_map BeginRefused (begin_refusal (r.session t) q)) _
+      (λ fine. then_ok _ _ (own-begins t q (session-exists N t there) id (option_map-none BeginRefused (begin_refusal (r.session t) q) fine))))
+  own-event (Send t) i late =
+      then_unless _ (no_session N t) _ (λ there. then_unless _ (no_room r.frames) _ (λ room. then_unless _ (option_map SendRefused (send_refusal (r.session t))) _
+      (λ fine. then_ok _ _ (own-sends t (session-exists N t there)))))
+  own-event (Resume t attempts) i late =
+      then_unless _ (no_session N t) _ (λ there. then_unless _ (nothing_to_resume (r.session t)) _
+      (λ fine. then_ok _ _ (own-set (λ x. resumed x attempts) t (own-resumed N s (r.session s) (r.reports s) (r.clock (N.session s).target) r.frames a at attempts))))
+  own-event (Retune t domain) i late =
+      then_unless _ (no_session N t) _
+      (λ there. then_ok _ _ (own-set (λ x. retuned x domain) t (own-retuned N s (r.session s) (r.reports s) (r.clock (N.session s).target) r.frames a at domain)))
+  own-event (Deliver k) i late = own-delivers k (frame_at r.frames k) refl late
+  own-event (Stranger c port datagram) octets late =
+      then_unless _ (no_port N c port) _ (λ there. then_unless _ (forged N datagram) _ (λ fine. then_unless _ (no_room r.frames) _
+      (λ room. let honest = (first_of-none (is_forged N datagram) Forged [] fine).0 in
+      then_ok _ _ (own-turned N n s place r h a at port (strange_frame c port datagram) (λ v e. strange-message N datagram v octets honest e) tt c (port-exists N c port there) (λ k o here. no_origin s k o)))))
+
+-- ---- a list of events
+
+pub record Stays (N : Network) (s : ℕ) (r : RunningNetwork) (a : Account) : Type 0 where
+  pub honest : IsHonest N r
+  pub own : Own N s r a
+
+stays-while : (N : Network) (s : ℕ) (r : RunningNetwork) (a b : Account) (es : List Event) (late : Bool) (x : Result Happened Refusal)
+    → Stays N s r a → in_time_while x late (λ next. StaysInTime N s next es)
+    → ((h : Happened) → x ≡ Ok h → late ≡ false → StaysInTime N s h.network es → Stays N s (network_run N h.network es) (account_from N s h.network b es))
+    → Stays N s (goes_on r x (λ next. network_run N next es)) (account_while x a (λ next. account_from N s next b es))
+stays-while N s r a b es late (Ok h) at time behind = behind h refl time.0 time.1
+stays-while N s r a b es late (Err reason) at time behind = at
+
+pub stays-run : (N : Network) (s : ℕ) (r : RunningNetwork) (a : Account) (es : List Event)
+    → IsNetwork N → s < N.sessions → Stays N s r a → AllByRecursion IsInRange es → StaysInTime N s r es
+    → Stays N s (network_run N r es) (account_from N s r a es)
+stays-run N s r a [] n place at i time = at
+stays-run N s r a (e ∷ es) n place at i time =
+    stays-while N s r a (account_with N s r e a) es (is_late_for N s r e) (network_event N r e) at time
+    (λ h is late rest. stays-run N s h.network (account_with N s r e a) es n place
+    (record { honest = event-honest N n r at.honest e i.0 h is; own = own-event N n s place r at.honest a at.own e i.0 late h is }) i.1 rest)
+
+not_both : (k : ℕ) → 0 < k → k ≤ 0 → ⊥
+not_both k p le = omega arith
+
+stays-first : (N : Network) (s : ℕ) → IsNetwork N → Stays N s (initial_network N) (record { begun = []; accepted = [] })
+stays-first N s n = record {
+  honest = first-honest N n;
+  own = record {
+    value_is = refl;
+    step = record {
+      asked = λ i q e. absurd (cc);
+      one_at_a_time = omega arith;
+      begun_before = omega arith;
+      accepted_before = omega arith;
+      from_one = refl;
+      without_gap = λ k p le. absurd (not_both k p le);
+      reports = refl;
+    };
+    last = subst (IsLastOf (manager N s) (N.session s).setup.first []) (sym (get-empty identity_cmp (manager N s))) refl;
+    frames_say = tt;
+  };
+}
+
+-- ---- what it is served
+
+more : (begun reports g : ℕ) → begun ≤ reports + 1 → reports ≤ g → begun ≤ g + 1
+more begun reports g a b = omega arith
+
+module _ (N : Network) (n : IsNetwork N) (s : ℕ) (place : s < N.sessions) (r : RunningNetwork) (a : Account) (at : Stays N s r a) where
+  timely : (number port k : ℕ) (x : Held) (v : Message) → IsTimelyCopy N s r number port k x v
+      → TurnsOwn (manager N s) (N.session s).setup.first a.begun (N.clock (N.session s).target) (r.clock (N.session s).target) port x.octets v k a.accepted
+  timely number port k x v copy =
+      let c = (N.session s).target in
+      let i = frame-true N n r at.honest number x copy.frame in
+      let said = own-frame N n s place r at.honest a at.own number x copy.frame in
+      let source = (subst (λ (o : Origin). IsTrue N x.octets o) copy.origin i.says v copy.read).1.source in
+      let late : is_late_at k (r.session s).issued ≡ false = subst (λ (o : Origin). is_behind r o ≡ false) copy.origin copy.in_time in
+      let time : length a.begun ≤ k + 32768 = subst (λ b. b ≤ k + 32768) (issued-begun N n s place r at.honest a at.own) (ltb-false (k + 32768) (r.session s).issued late) in
+      let many : ports N c ≡ length (r.clock c).sets.ports = sym (at.honest.clocks c (n.are_sessions s place).exists).sets.ports_are in
+      turns_own (manager N s) (N.session s).setup.first (ports N c) (N.clock c) (r.clock c) port x.octets v k a.accepted (state_of (r.session s) (r.reports s) a) copy.read
+      (comes_own N n s place r at.honest a at.own port (seen x) i.says said v k copy.origin time copy.read (subst (λ p. is_copy (N.clock c) p v ≡ true) many copy.copy) source)
+
+  pub is-served : IsServed N s r a
+  is-served = record {
+    accepted = λ k p le. let was = at.own.step.without_gap k p le in (was.entry, was.is, was.begun_as);
+    accepted_begun = at.own.step.begun_before;
+    begun_accepted = more (length a.begun) (length (r.reports s)) (greatest (manager N s) a.accepted) at.own.step.one_at_a_time at.own.step.accepted_before;
+    reports = let rest = told-begins (manager N s) a.accepted (greatest (manager N s) a.accepted) (length (r.reports s)) at.own.step.accepted_before in
+        (rest.0, rest.1 ∙ ap (λ rs. rs ++ rest.0) (sym at.own.step.reports));
+    reported_accepted = at.own.step.accepted_before;
+    begun_reported = at.own.step.one_at_a_time;
+    latest = λ number port k x v copy e. let told = (timely number port k x v copy).latest e in (told.entry, told.kept, told.is);
+    older = λ number port k x v copy l. (timely number port k x v copy).older l;
+  }
+
+pub served-after : (N : Network) (s : ℕ) (es : List Event)
+    → IsNetwork N → s < N.sessions → AllByRecursion IsInRange es → StaysInTime N s (initial_network N) es
+    → IsServed N s (network_run N (initial_network N) es) (account_of N s es)
+served-after N s es n place i time =
+    is-served N n s place (network_run N (initial_network N) es) (account_of N s es)
+    (stays-run N s (initial_network N) (record { begun = []; accepted = [] }) es n place (stays-first N s n) i time)

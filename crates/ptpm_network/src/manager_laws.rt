@@ -1,0 +1,33 @@
+//! What a manager is served while its own messages come in time, whatever comes late of others. The law is the contract of a
+//! function that does nothing, and speaks of the definitions alone.
+
+ghost use Rattle.std.specs.Prelude.{◌<◌, ℕ, List};
+ghost use Rattle.std.specs.List.{AllByRecursion};
+ghost use Rattle.ptpm_network.specs.ByManager.{StaysInTime, account_of};
+ghost use Rattle.ptpm_network.specs.Events.{Event, IsInRange};
+ghost use Rattle.ptpm_network.specs.Machine.{AreInTime, taken};
+ghost use Rattle.ptpm_network.specs.Network.{IsNetwork, Network};
+ghost use Rattle.ptpm_network.specs.RunningNetwork.{initial_network, network_run};
+ghost use Rattle.ptpm_network.specs.Served.{IsServed};
+ghost use Rattle.ptpm_network.specs.State.{initial_state};
+
+/// One late manager disturbs its own requests at most. Over every list of events, up to the first that is refused, and with the
+/// messages of any other manager as late as can be: a manager none of whose copies came late to its target, and to which no reply
+/// came late, is served.
+/// - Its target carried out its requests 1 to their number, each once, in this order; their number is that of the requests begun,
+///   or one less.
+/// - What it was told are the first of the replies given then, in order.
+/// - A copy of the last of them gets that reply again, in whatever domain; a copy of an older one gets none.
+///
+/// Where no delivery is late that happens, as the headline has it, every manager's messages come in time.
+/// `requests_carried_out` says what every clock has after its turns, late or not.
+pub fn managers_in_time_are_served()
+    ensures served { (N : Network) (s : ℕ) (es : List Event) →
+        IsNetwork N → s < N.sessions → AllByRecursion IsInRange es →
+        StaysInTime N s (initial_network N) es →
+        IsServed N s (network_run N (initial_network N) es) (account_of N s es) }
+    ensures all { (N : Network) (s : ℕ) (es : List Event) →
+        IsNetwork N → AllByRecursion IsInRange es →
+        AreInTime N (initial_state N) (taken N (initial_state N) es) →
+        StaysInTime N s (initial_network N) es }
+{}
