@@ -7,20 +7,21 @@ use super::{
 use crate::*;
 use ptpm_codec::{Action, DecodeError, OutOfMemory};
 use std::alloc::Global;
+use std::process::Abort;
 
 /// Whether the session ignores the datagram for this reason.
 fn is_ignored(session: &mut Session, datagram: &[u8], wanted: Reason) -> bool {
     match session.receive(datagram) {
-        Ok(Received::Ignored(reason)) => reason == wanted,
-        _ => false,
+        Ok(received) => matches!(&received, Received::Ignored(reason) if *reason == wanted),
+        Err(_) => false,
     }
 }
 
 /// The session asks GET PRIORITY1 twice, number 7 is answered, and number 8 is not.
-fn waits_for_number_8(session: &mut Session, alloc: Global) -> bool {
-    begins_get(session, alloc)
-        && is_answered(session, REPLY, 1, &[0x80, 0])
-        && begins_get(session, alloc)
+fn wait_for_number_8(rt: &impl Abort, session: &mut Session, alloc: Global) {
+    assert!(rt; begins_get(session, alloc));
+    assert!(rt; is_answered(session, REPLY, 1, &[0x80, 0]));
+    assert!(rt; begins_get(session, alloc));
 }
 
 #[test]
@@ -58,7 +59,7 @@ const IGNORED: [(&[(usize, u8)], Reason); 10] = [
 #[test]
 fn ignored_for_the_first_reason(rt: HostRuntime) {
     let mut session = session_from(rt.alloc(), 7, 2);
-    assert!(rt; waits_for_number_8(&mut session, rt.alloc()));
+    wait_for_number_8(&rt, &mut session, rt.alloc());
     let reply = edited(REPLY, &[(31, 8)]);
     for (edits, reason) in IGNORED {
         let datagram = edited(reply.as_slice(), edits);
@@ -72,17 +73,15 @@ fn ignored_for_the_first_reason(rt: HostRuntime) {
     assert!(rt; is_answered(&mut session, reply.as_slice(), 2, &[0x80, 0]));
 }
 
+/// Whether a report is of the request with this index, and tells a refusal with this error.
+fn tells_refusal(report: &Report, index: u64, error: u16) -> bool {
+    report.index == index && matches!(report.outcome, Outcome::Refused(found) if found == error)
+}
+
 /// Whether the session takes the datagram for the refusal of the request with this index, with this error.
 fn is_refused(session: &mut Session, datagram: &[u8], index: u64, error: u16) -> bool {
     match session.receive(datagram) {
-        Ok(
-            Received::Answered(
-                Report {
-                    index: answered,
-                    outcome: Outcome::Refused(refusal),
-                },
-            ),
-        ) => answered == index && refusal == error,
+        Ok(Received::Answered(report)) => tells_refusal(&report, index, error),
         _ => false,
     }
 }
@@ -90,21 +89,19 @@ fn is_refused(session: &mut Session, datagram: &[u8], index: u64, error: u16) ->
 #[test]
 fn refusal_at_a_session(rt: HostRuntime) {
     let mut session = session_from(rt.alloc(), 7, 2);
-    assert!(rt; waits_for_number_8(&mut session, rt.alloc()));
+    wait_for_number_8(&rt, &mut session, rt.alloc());
     assert!(rt; is_refused(&mut session, REFUSAL, 2, 4));
+}
+
+/// Whether a report is of the request with this index, and tells that it is done.
+fn tells_done(report: &Report, index: u64) -> bool {
+    report.index == index && matches!(report.outcome, Outcome::Done)
 }
 
 /// Whether the session takes the datagram for the acknowledgement of the request with this index.
 fn is_done(session: &mut Session, datagram: &[u8], index: u64) -> bool {
     match session.receive(datagram) {
-        Ok(
-            Received::Answered(
-                Report {
-                    index: answered,
-                    outcome: Outcome::Done,
-                },
-            ),
-        ) => answered == index,
+        Ok(Received::Answered(report)) => tells_done(&report, index),
         _ => false,
     }
 }
