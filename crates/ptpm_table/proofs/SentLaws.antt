@@ -29,6 +29,14 @@ pub split : (xs : List (ℕ × ArrayVec ℕ)) (x : ℕ × ArrayVec ℕ)
 split [] x some is = absurd (omega arith)
 split (y ∷ ys) x some is = ap (λ (z : ℕ × ArrayVec ℕ). z.1.items ∷ messages_of (sent ys)) (sym is)
 
+pub only_message : (xs : List (ℕ × ArrayVec ℕ)) (x : ℕ × ArrayVec ℕ)
+    → length xs ≡ 1
+    → x ≡ get_or xs 0 x
+    → messages_of (sent xs) ≡ x.1.items ∷ []
+only_message [] x one is = absurd (omega arith)
+only_message (y ∷ []) x one is = ap (λ (z : ℕ × ArrayVec ℕ). z.1.items ∷ []) (sym is)
+only_message (y ∷ z ∷ ys) x one is = absurd (omega arith)
+
 pub small_parts : (xs : List (ℕ × ArrayVec ℕ)) (x : ℕ × ArrayVec ℕ)
     → 1 ≤ length xs
     → x ≡ get_or xs 0 x

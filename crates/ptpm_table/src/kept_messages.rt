@@ -16,7 +16,7 @@ use crate::outbox::Outbox;
 use crate::rendering::draft_of;
 use crate::renewal::Renewal;
 use arrayvec::ArrayVec;
-use ptpm_codec::{Action, Buffer, ClockIdentity, Draft, PortIdentity, encode, put};
+use ptpm_codec::{Action, Buffer, ClockIdentity, Draft, PortIdentity, encode, overwrite, put};
 use ptpm_data::PortAnswer;
 
 /// Room for the sizes of a reply's messages.
@@ -155,9 +155,28 @@ pub(crate) fn keep_each(
         exchange.now.action exchange.now.id of_port (sent entries.now) r →
         map (answer_in of_port) (pieces sizes.new.items messages.new.items) ≡ r.answers }
 {
+    copy_all(entries, sizes, messages);
+}
+
+/// Leaves copies of messages, and their sizes, and nothing else. Most replies are one message, which is written over the
+/// former.
+#[inline(always)]
+fn copy_all(entries: &[(u16, Buffer)], sizes: &mut Sizes, messages: &mut Messages)
+    requires few { length entries.now ≤ 8 }
+    requires small { AreSmall (messages_of (sent entries.now)) }
+    requires room { length (all_octets (messages_of (sent entries.now))) ≤ 640 }
+    ensures sizes { sizes.new.items ≡ map length (messages_of (sent entries.now)) }
+    ensures messages { messages.new.items ≡ all_octets (messages_of (sent entries.now)) }
+{
     *sizes = Sizes::new();
-    messages.clear();
-    copy_each(entries, sizes, messages);
+    if let [only] = entries {
+        let message = only.1.as_slice();
+        sizes.push(message.len() as u8);
+        overwrite(messages, message);
+    } else {
+        messages.clear();
+        copy_each(entries, sizes, messages);
+    }
 }
 
 /// Appends copies of messages, and their sizes.

@@ -1,13 +1,13 @@
-use Rattle.std.proofs.Common.{◌∙◌, ◌++◌, ap, arith, length, map, subst, sym}
+use Rattle.std.proofs.Common.{◌∙◌, ap, arith, length, map, subst, sym}
 use Rattle.std.proofs.lemmas.List.{length-map}
 use Rattle.ptpm_table.specs.KeptMessages.{envelope_of}
 use Rattle.ptpm_table.specs.Outbox.{sent}
-use Rattle.ptpm_table.specs.Sending.{AreSmall, all_octets, messages_of}
+use Rattle.ptpm_table.specs.Sending.{AreSmall, all_octets}
 use Rattle.ptpm_table.proofs.SentLaws.{all_room, count_of, each_room, each_small, entries_count, message_at, sent_back, sent_encoded, sent_kept, sent_messages}
 use Rattle.ptpm_table.proofs.kept_messages.keep_each.Goals as goal
 
-pub copy_each-requires-clause-few : goal.copy_each-requires-clause-few
-copy_each-requires-clause-few c =
+pub copy_all-requires-clause-few : goal.copy_all-requires-clause-few
+copy_all-requires-clause-few c =
     let x = c.args.exchange.now in
     let s = c.requires.sent.1 in
     let each = sent_encoded x c.args.heard.now c.args.of_port _ c.requires.sent.0 c.requires.asks c.requires.copy s in
@@ -16,29 +16,28 @@ copy_each-requires-clause-few c =
     omega (
       arith,
       room.1,
-      ap length c.new.ensures,
       same,
       count_of (sent c.args.entries.now),
       entries_count c.args.entries.now,
       length-map c.requires.sent.0.answers (message_at (envelope_of x) c.args.heard.now s.ingress),
     )
 
-pub copy_each-requires-clause-small : goal.copy_each-requires-clause-small
-copy_each-requires-clause-small c =
+pub copy_all-requires-clause-small : goal.copy_all-requires-clause-small
+copy_all-requires-clause-small c =
     let x = c.args.exchange.now in
     let s = c.requires.sent.1 in
     let each = sent_encoded x c.args.heard.now c.args.of_port _ c.requires.sent.0 c.requires.asks c.requires.copy s in
     subst AreSmall (sym (sent_messages x c.args.heard.now c.args.of_port _ c.requires.sent.0 s))
     (each_small c.args.of_port (envelope_of x) c.args.heard.now s.ingress c.requires.sent.0.answers each)
 
-pub copy_each-requires-clause-room : goal.copy_each-requires-clause-room
-copy_each-requires-clause-room c =
+pub copy_all-requires-clause-room : goal.copy_all-requires-clause-room
+copy_all-requires-clause-room c =
     let x = c.args.exchange.now in
     let s = c.requires.sent.1 in
     let room = all_room c.args.of_port _ _ s.count (each_room c.args.of_port (envelope_of x) c.args.heard.now s.ingress c.requires.sent.0.answers
     (sent_encoded x c.args.heard.now c.args.of_port _ c.requires.sent.0 c.requires.asks c.requires.copy s)) in
     let same = ap (λ ms. length (all_octets ms)) (sent_messages x c.args.heard.now c.args.of_port _ c.requires.sent.0 s) in
-    omega (arith, room.0, same, ap length c.clear.ensures)
+    omega (arith, room.0, same)
 
 pub returns-clause-kept : goal.returns-clause-kept
 returns-clause-kept c =
@@ -47,8 +46,8 @@ returns-clause-kept c =
     let each = sent_encoded x c.args.heard.now c.args.of_port _ c.requires.sent.0 c.requires.asks c.requires.copy s in
     let same = sent_messages x c.args.heard.now c.args.of_port _ c.requires.sent.0 s in
     sent_kept c.args.of_port (envelope_of x) c.args.heard.now s.ingress c.requires.sent.0.answers _ _ each
-    (c.copy_each.ensures.sizes ∙ ap (λ y. y ++ map length (messages_of (sent c.args.entries.now))) c.new.ensures ∙ ap (map length) same)
-    (c.copy_each.ensures.messages ∙ ap (λ y. y ++ all_octets (messages_of (sent c.args.entries.now))) c.clear.ensures ∙ ap all_octets same)
+    (c.copy_all.ensures.sizes ∙ ap (map length) same)
+    (c.copy_all.ensures.messages ∙ ap all_octets same)
 
 pub returns-clause-answers : goal.returns-clause-answers
 returns-clause-answers c = λ r s.
@@ -56,5 +55,5 @@ returns-clause-answers c = λ r s.
     let each = sent_encoded x c.args.heard.now c.args.of_port _ r c.requires.asks c.requires.copy s in
     let same = sent_messages x c.args.heard.now c.args.of_port _ r s in
     sent_back c.args.of_port (envelope_of x) c.args.heard.now s.ingress r.answers _ _ each
-    (c.copy_each.ensures.sizes ∙ ap (λ y. y ++ map length (messages_of (sent c.args.entries.now))) c.new.ensures ∙ ap (map length) same)
-    (c.copy_each.ensures.messages ∙ ap (λ y. y ++ all_octets (messages_of (sent c.args.entries.now))) c.clear.ensures ∙ ap all_octets same)
+    (c.copy_all.ensures.sizes ∙ ap (map length) same)
+    (c.copy_all.ensures.messages ∙ ap all_octets same)
