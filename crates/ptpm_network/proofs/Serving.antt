@@ -92,7 +92,6 @@ window-of g k begun reports a b d e l = record { not_far_ahead = omega arith; no
 within_begun : (k n : ℕ) → 0 < k → k - 1 < n → k ≤ n
 within_begun k n p h = omega arith
 
-
 -- the account of a session, with this accepted
 abbrev with_accepted : Account → List Accepted → Account
 with_accepted a es = record { begun = a.begun; accepted = es }
@@ -129,16 +128,18 @@ module _ (N : Network) (n : IsNetwork N) (s : ℕ) (place : s < N.sessions) (por
       let b = one.answer in
       let message = reply-message N c port v was.entry.request entry.reply b n end fits asked.id answers (sendable-one was.entry.request entry b one.is answers) in
       subst (AllByRecursion (λ (x : ℕ × List ℕ). IsReplySaid (manager N s) (N.session s).setup.first accepted k x.1))
-      (sym (rendered-one (N.clock c).identity (heard_of v) entry.reply port b one.is))
-      (record {
-        positive = positive;
-        entry = entry;
-        kept = kept;
-        answer = b;
-        one = one.is;
-        says = λ u e. subst (λ (x : Message). (x.number ≡ number_of (N.session s).setup.first k) × (outcome_in x.body ≡ outcome_in (answer_body entry.reply.action entry.reply.id b.outcome)))
-            (same_Some _ u (sym message.read ∙ e)) (number, refl);
-      }, tt)
+      (sym (rendered-one (N.clock c).identity (heard_of v) entry.reply port b one.is)) (
+        record {
+          positive = positive;
+          entry = entry;
+          kept = kept;
+          answer = b;
+          one = one.is;
+          says = λ u e. subst (λ (x : Message). (x.number ≡ number_of (N.session s).setup.first k) × (outcome_in x.body ≡ outcome_in (answer_body entry.reply.action entry.reply.id b.outcome)))
+              (same_Some _ u (sym message.read ∙ e)) (number, refl);
+        },
+        tt,
+      )
 
 -- the session's frames, once a clock took its turn at a frame
 module _ (N : Network) (n : IsNetwork N) (s : ℕ) (a b : Account) (clock : State) (d port : ℕ) (f : Frame) (fits : (v : Message) → message_of f.octets ≡ Some v → Fits v) (frames : List Held) where

@@ -19,5 +19,7 @@ pub use laws::{
     running_networks_stand,
 };
 pub use manager_laws::managers_in_time_are_served;
-pub use way_laws::{answerable_along_a_way, one_copy_each_way, running_networks_answer};
+pub use way_laws::{
+    answerable_along_a_way, answerable_once_moved, one_copy_each_way, running_networks_answer,
+};
 pub use worth_laws::{reported_exactly_once, running_networks_report};
