@@ -2,6 +2,7 @@
 
 ghost use Rattle.std.specs.Prelude.{◌≡◌, ◌≢◌, ◌≤◌, Ok, None, Some, IfErr, IfOk, MatchResult, OnErr, OnOk, drop, length, take};
 ghost use Rattle.std.specs.List.{AllZip};
+ghost use Rattle.ptpm_data.specs.Changed.{changed, no_members};
 ghost use Rattle.ptpm_data.specs.Members.{has_port};
 ghost use Rattle.ptpm_table.specs.Managers.{IsFresh};
 ghost use Rattle.ptpm_agent.specs.Agent.{IsTurned};
@@ -17,7 +18,7 @@ use crate::sent::{Sent, hand_out};
 use crate::settings::{ClockSettings, ManagerSettings, PortSettings, configured, port_starts};
 use ptpm_agent::{Agent, Verdict};
 use ptpm_codec::ClockIdentity;
-use ptpm_data::{DataSets, ObservationError, PortsLeftDisabled};
+use ptpm_data::{ChangedMembers, DataSets, ObservationError, PortsLeftDisabled};
 use ptpm_table::{BoundTable, Outbox, ReplyTable};
 use std::alloc::Global;
 
@@ -124,6 +125,43 @@ impl HostedClock {
             verdict,
             count: messages.len(),
         })
+    }
+
+    /// What `handle` does, and the members that have another value behind it than before, of the clock and of each port, so
+    /// that a host reads what it has to act on, and no more. There is none but where the verdict is `AnsweredNew`.
+    pub fn handle_changed(
+        &mut self,
+        port: u16,
+        datagram: &[u8],
+        room: &mut [Sent],
+    ) -> Result<(Handled, ChangedMembers), HandleRefusal>
+        ensures turned { IfOk result
+            (λ h.
+            IsTurned (turn (clock_in self.old) (state_in self.old) port datagram.now) h.0.verdict
+            self.new.outbox (state_in self.new)) }
+        ensures changed { IfOk result
+            (λ h. h.1 ≡ changed self.old.agent.sets self.new.agent.sets) }
+        ensures new_alone { IfOk result
+            (λ h. h.0.verdict ≢ Verdict.AnsweredNew → h.1 ≡ no_members) }
+        ensures messages { IfOk result
+            (λ h. messages_in (take h.0.count room.new) ≡ self.new.outbox) }
+        ensures count { IfOk result (λ h. h.0.count ≤ length room.new) }
+        ensures places { IfOk result (λ h. drop h.0.count room.new ≡ drop h.0.count room.old) }
+        ensures behind { AllZip KeepsBehind room.old room.new }
+        ensures refusal { MatchResult result
+            (λ _. handle_refusal (has_port port self.old.agent.sets) (length room.old) ≡ None)
+            (λ e. handle_refusal (has_port port self.old.agent.sets) (length room.old) ≡ Some e) }
+        ensures unchanged { OnErr result (self.new ≡ self.old) }
+        ensures untouched { OnErr result (room.new ≡ room.old) }
+        ensures clock { clock_in self.new ≡ clock_in self.old }
+    {
+        let before = self.agent.sets().copy();
+        let handled = self.handle(port, datagram, room)?;
+        let changed = match handled.verdict {
+            Verdict::AnsweredNew => self.agent.sets().changed_since(&before),
+            _ => ChangedMembers::NONE,
+        };
+        Ok((handled, changed))
     }
 
     /// What the host observes of its clock and of its ports from 1 on: the observed members move, and no other; but for the
