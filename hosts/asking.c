@@ -11,6 +11,7 @@
 #include <string.h>
 
 enum { NOT_SUPPORTED = 6 };         /* a managementErrorId (15.5.4.3) */
+enum { QUIET = 2, QUIET_AT_FIRST = 5 };     /* so often nothing new ends a survey: where somebody answered, and where nobody did */
 
 static struct ptpm_session session;
 static struct ptpm_survey survey;
@@ -173,7 +174,8 @@ int ask_every_clock(const struct task *task) {
     if (answer == PTPM_STARTED) answer = ptpm_survey_send(&survey, message, sizeof message, &size);
     if (answer != PTPM_SENT) return not_asked(answer);
     if (task->numbers != NULL) keep_number((uint16_t)(settings.number + 1));
-    for (int attempt = 1, quiet = 0; attempt <= task->settings.attempts && quiet < 2 && !stopped; attempt++) {
+    for (int attempt = 1, quiet = 0; attempt <= task->settings.attempts && !stopped; attempt++) {
+        if (quiet >= (ptpm_survey_count(&survey) > 0 ? QUIET : QUIET_AT_FIRST)) break;
         show_progress("attempt %d: %zu answers so far", attempt, ptpm_survey_count(&survey));
         if (!is_sent(size, &sent)) return NOT_ASKED;
         quiet = taken_in_time(task->milliseconds, &lost) > 0 ? 0 : quiet + 1;
