@@ -74,6 +74,7 @@ static int is_answered(long wait) {
 /* What may be wrong where no answer came. */
 static void advise(const struct task *task) {
     int is_own_way = task->path == NULL && task->action != PTPM_GET;        /* else the manager is another one in each run */
+    if (task->port > 1) complain("numberPorts of get DEFAULT_DATA_SET tells whether the clock has a port %u", task->port);
     if (task->path == NULL) complain("survey DEFAULT_DATA_SET shows which clocks are in that domain; --domain names another");
     if (task->numbers == NULL && (task->has_manager || is_own_way)) {
         complain("numbers began at 0, which a clock may take for old: see --numbers");
