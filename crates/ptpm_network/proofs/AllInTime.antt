@@ -1,5 +1,5 @@
 -- Where no delivery of a list of events is late, it is late for no session.
-use Rattle.ptpm_network.proofs.Common.{◌≡◌, ℕ, ◌<◌, ◌&&◌, List, [], ◌∷◌, Option, Some, None, Result, Ok, Err, false, refl, sym, ◌∙◌, ap, subst, and_right, is_none, if◌then◌else◌, option_map, AllByRecursion, PortIdentity, SessionValue, result_err, IsOfOrigin, IsReached, AreInTime, happens, is_late_delivery, is_late_frame, step, step_by, taken, IsNetwork, Network, Frame, Held, held, Happened, network_event, RunningNetwork, initial_network, Refusal, refusal, Event, Begin, Send, Resume, Retune, Deliver, Stranger, IsInRange, frame_at, AreFirsts, Stands, NetworkState, Origin, RequestOf, ReplyTo, Neither, initial_state, is_late, is_late_at}
+use Rattle.ptpm_network.proofs.Common.{◌≡◌, ℕ, List, [], ◌∷◌, Option, Some, None, Result, Ok, Err, false, refl, sym, ◌∙◌, ap, subst, and_right, is_none, if◌then◌else◌, option_map, AllByRecursion, PortIdentity, SessionValue, IsOfOrigin, IsReached, AreInTime, happens, is_late_delivery, is_late_frame, step, step_by, taken, IsNetwork, Network, Frame, Held, held, Happened, network_event, RunningNetwork, initial_network, Refusal, refusal, Event, Begin, Send, Resume, Retune, Deliver, Stranger, IsInRange, frame_at, AreFirsts, Stands, NetworkState, Origin, RequestOf, ReplyTo, Neither, initial_state, is_late, is_late_at}
 use Rattle.ptpm_network.specs.ByManager.{StaysInTime, in_time_while, is_behind, is_for, is_late_for, is_late_frame_for}
 use Rattle.ptpm_network.proofs.Held.{frame_at-map}
 use Rattle.ptpm_network.proofs.Promise.{first_of_sessions, firsts}

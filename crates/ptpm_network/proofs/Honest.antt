@@ -1,6 +1,6 @@
 -- What holds of a running network after every list of events, whatever comes late: each frame is true to whom it is of, and
 -- clocks and sessions can send what they keep.
-use Rattle.ptpm_network.proofs.Common.{by_test, map, ◌-◌, reading, Turned, all_weaker, sends_in, sent, cond-true, cond-false, IsMessage, ◌≡◌, ℕ, ◌<◌, ◌≤◌, ◌^◌, ◌==◌, List, [], ◌∷◌, ◌++◌, Option, Some, None, Result, Ok, Err, true, false, refl, sym, ◌∙◌, ap, subst, length, eqb-true, same_Some, option_map, AllByRecursion, PortIdentity, Message, canonical, same_identity, Fits, action_of, message_of, ReplyValue, RequestValue, read_reply_to, reply_to, Entry, changed_by, reply_messages, RequestCopy, copy_of, DeliversCopy, delivers_copy, heard_of, request_of, Clock, State, turn, judged, reply_by, turn_by, turn-message, Verdict, Answers, AreDataSets, same_identity-true, answer_origin, delivery, reply_origin, strange_frame, AtPort, AtSession, End, HasEnd, IsNetwork, Network, manager, peers, ports, Frame, Held, held, seen, turn_frames, after_turn, Origin, RequestOf, ReplyTo, Neither, Happened, unless_refused, network_event, delivers, reaches, hears, sent_posted, posted, with_session_value, RunningNetwork, initial_network, SessionValue, answered, begun, due_message, received_of, request_message, Ask, ask_refusal, begin_refusal, BeginRefused, SendRefused, Refusal, Event, Begin, Send, Resume, Retune, Deliver, Stranger, IsInRange, Forged, is_forged, forged, frame_at, first_of-none, no_port, no_room, no_session, nothing_to_resume, send_refusal, IsAsked, all_append, all_get, all_made, at_place, with_place-same, with_place-other}
+use Rattle.ptpm_network.proofs.Common.{by_test, map, ◌-◌, reading, Turned, all_weaker, sends_in, sent, cond-true, cond-false, IsMessage, ◌≡◌, ℕ, ◌<◌, ◌^◌, ◌==◌, List, [], Option, Some, None, Result, Ok, refl, sym, ◌∙◌, ap, subst, length, same_Some, option_map, AllByRecursion, PortIdentity, Message, canonical, same_identity, Fits, message_of, ReplyValue, RequestValue, read_reply_to, reply_to, Entry, reply_messages, RequestCopy, copy_of, delivers_copy, heard_of, request_of, Clock, State, turn, judged, reply_by, turn-message, Verdict, Answers, AreDataSets, same_identity-true, answer_origin, delivery, reply_origin, strange_frame, AtPort, AtSession, End, HasEnd, IsNetwork, Network, peers, ports, Frame, Held, held, seen, turn_frames, after_turn, Origin, RequestOf, ReplyTo, Neither, Happened, unless_refused, network_event, delivers, reaches, hears, sent_posted, with_session_value, RunningNetwork, initial_network, SessionValue, answered, begun, due_message, received_of, request_message, Ask, ask_refusal, begin_refusal, BeginRefused, SendRefused, Refusal, Event, Begin, Send, Resume, Retune, Deliver, Stranger, IsInRange, Forged, is_forged, forged, frame_at, first_of-none, no_port, no_room, no_session, nothing_to_resume, send_refusal, IsAsked, all_append, all_get, all_made, at_place}
 use Rattle.std.specs.FinMap.{get, get-empty, insert}
 use Rattle.ptpm_codec.specs.Identity.{identity_cmp}
 use Rattle.ptpm_manager.specs.declared.receiving.Received.{Received}

@@ -1,24 +1,19 @@
 -- What a session has and what its target keeps of it, where its own messages came in time.
-use Rattle.ptpm_network.proofs.Common.{by_test, inl, inr, nat_lt, ltb-true, ltb-false, true≢false, ◌||◌, ◌⊎◌, arith, zero, suc, ◌≡◌, ℕ, ◌+◌, ◌-◌, ◌<◌, ◌≤◌, ◌^◌, ◌==◌, ◌&&◌, List, [], ◌∷◌, ◌++◌, length, Option, Some, None, Bool, true, false, refl, sym, ◌∙◌, ap, subst, ⊎_elim, and_from, and_left, and_right, cond-true, cond-false, cases_eq, eq-eqb, ne_eqb, lt-ltb, le-ltb, or_left, or_right, or_from, same_Some, slice_get, slice_get_within, AllByRecursion, PortIdentity, Message, canonical, same_identity, Fits, action_of, id_of, message_of, reading, reading-message_of, Answer, ReplyValue, RequestValue, Entry, answer_body, look_at, look_by, same_request, serial_of, InWindow, reply_messages, reply_message, hops_passed, rendered, Accepted, greatest, kept_reply, is_copy, heard_of, request_of, Clock, State, Turned, turn, turn-message, turn_by, judged, look, is_repeat, verdict_at, Verdict, reply_by, same_identity-refl, number_of, outcome_in, Report, Answers, HasOneAnswer, IsAsked, IsInStep, IsMessage, AtPort, HasEnd, IsNetwork, Network, manager, ports, SessionStart, Held, Origin, RequestOf, ReplyTo, Neither, SessionState, SessionValue, session_value, RunningNetwork}
+use Rattle.ptpm_network.proofs.Common.{by_test, inl, inr, nat_lt, ltb-true, ltb-false, true≢false, ◌||◌, ◌⊎◌, arith, ◌≡◌, ℕ, ◌+◌, ◌-◌, ◌<◌, ◌≤◌, ◌==◌, List, [], ◌∷◌, length, Option, Some, None, true, false, refl, sym, ◌∙◌, ap, subst, ⊎_elim, and_from, cond-true, cond-false, cases_eq, eq-eqb, ne_eqb, lt-ltb, le-ltb, or_left, or_right, or_from, same_Some, slice_get, slice_get_within, PortIdentity, Message, same_identity, message_of, reading-message_of, Answer, RequestValue, Entry, answer_body, look_at, look_by, same_request, serial_of, InWindow, reply_messages, Accepted, greatest, kept_reply, heard_of, request_of, Clock, State, Turned, turn, turn-message, judged, look, is_repeat, verdict_at, Verdict, reply_by, same_identity-refl, number_of, outcome_in, Answers, HasOneAnswer, IsInStep, SessionState}
 use Rattle.std.specs.FinMap.{get, insert}
-use Rattle.ptpm_table.specs.declared.serial.Serial.TheVariants.{Same, Newer, Older}
+use Rattle.ptpm_table.specs.declared.serial.Serial.TheVariants.{Same}
 use Rattle.ptpm_table.specs.declared.reply_table.Look.{Look}
 use Rattle.ptpm_table.specs.declared.reply_table.Look.TheVariants as looks
 use Rattle.ptpm_table.specs.Serial.{order_of}
 use Rattle.ptpm_agent.specs.CarriedOut.{carried_by, carried_in, carried_of}
 use Rattle.ptpm_agent.specs.declared.verdict.Verdict.TheVariants as verdicts
-use Rattle.ptpm_agent.specs.Turn.{carried_out, kept_reply_of, new_reply, next_by}
-use Rattle.ptpm_agent.proofs.Entries.{accepted_at, accepted_entry, get-insert_other, get-insert_same}
+use Rattle.ptpm_agent.specs.Turn.{kept_reply_of, new_reply, next_by}
+use Rattle.ptpm_agent.proofs.Entries.{accepted_at, accepted_entry, get-insert_same}
 use Rattle.ptpm_agent.proofs.Numbers.{serial_of-number_of}
-use Rattle.ptpm_agent.proofs.Turns.{CopyParts, copy_parts, judged-elsewhere, judged-numbered, look-copy}
-use Rattle.ptpm_network.specs.ByManager.{Account, with_carried}
-use Rattle.ptpm_network.proofs.Accepting.{IsAbove, JoinsOwn}
-use Rattle.ptpm_network.proofs.Answering.{rendered-one}
-use Rattle.ptpm_network.proofs.Arriving.{Gains, StaysOrGains}
+use Rattle.ptpm_agent.proofs.Turns.{CopyParts, judged-elsewhere, judged-numbered, look-copy}
+use Rattle.ptpm_network.specs.ByManager.{with_carried}
+use Rattle.ptpm_network.proofs.Arriving.{StaysOrGains}
 use Rattle.ptpm_network.proofs.DueReplies.{same_request-refl}
-use Rattle.ptpm_network.proofs.Frames.{sendable-one}
-use Rattle.ptpm_network.proofs.Messages.{reply_at}
-use Rattle.ptpm_network.proofs.Truth.{reply-message}
 
 -- ---- the entry of the manager
 

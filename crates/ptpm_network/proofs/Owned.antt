@@ -1,7 +1,6 @@
 -- A session whose own messages come in time, and what its own acts and what it hears make of it.
-use Rattle.ptpm_network.proofs.Common.{by_test, ◌-◌, Answer, arith, ◌≡◌, ℕ, ◌+◌, ◌<◌, ◌≤◌, ◌==◌, List, [], ◌∷◌, ◌++◌, length, Option, Some, None, true, false, refl, sym, ◌∙◌, ap, subst, and_parts, cond-true, cond-false, eq-eqb, eqb-true, eqb-false, ne_eqb, true≢false, same_Some, slice_get, get_append, all_append, all_weaker, AllByRecursion, PortIdentity, Message, canonical, same_clock, same_identity, message_of, reading, RequestValue, Accepted, greatest, kept_reply, request_of, State, same_identity-true, same_clock-true, number_of, outcome_in, Report, received_of, IsAsked, IsInStep, AtSession, HasEnd, IsNetwork, Network, manager, peers, ports, Held, Origin, RequestOf, ReplyTo, Neither, SessionState, SessionValue, session_value, is_idle, answered, begun, resumed, retuned, sent, due_message, is_waiting, begun_in, unanswered, sent_posted, with_place, with_place-same, with_place-other, hears, RunningNetwork, le_trans, is_late_at, ltb-false, begin_refusal, Ask, ask_refusal, answer_body, is_from_asked_port}
+use Rattle.ptpm_network.proofs.Common.{◌-◌, Answer, arith, ◌≡◌, ℕ, ◌+◌, ◌<◌, ◌≤◌, List, [], ◌∷◌, ◌++◌, length, Some, true, false, refl, sym, ◌∙◌, ap, subst, and_parts, eqb-true, eqb-false, true≢false, same_Some, slice_get, get_append, all_weaker, AllByRecursion, Message, canonical, same_clock, reading, RequestValue, Accepted, greatest, kept_reply, request_of, State, same_identity-true, same_clock-true, number_of, outcome_in, Report, received_of, IsAsked, IsInStep, IsNetwork, Network, manager, ports, Held, Origin, RequestOf, ReplyTo, Neither, SessionState, SessionValue, session_value, answered, begun, resumed, retuned, sent, is_waiting, le_trans, is_from_asked_port}
 use Rattle.std.specs.FinMap.{get}
-use Rattle.ptpm_manager.specs.Ask as ask
 use Rattle.ptpm_manager.specs.declared.receiving.Received.{Received}
 use Rattle.ptpm_manager.specs.declared.receiving.Received.TheVariants as received
 use Rattle.ptpm_manager.specs.Receiving.{left_by}
@@ -9,10 +8,10 @@ use Rattle.ptpm_manager.specs.declared.setup.Setup.{Setup}
 use Rattle.ptpm_network.specs.ByManager.{Account}
 use Rattle.ptpm_network.proofs.Accepting.{in_step-begun, in_step-reported, in_step-set, kept-le, report_of}
 use Rattle.ptpm_network.proofs.Hearing.{answered-value, begun-value}
-use Rattle.ptpm_network.proofs.Honest.{IsHonestSession, IsSentBy, IsTrueFrame, sent-all, sent_by}
+use Rattle.ptpm_network.proofs.Honest.{IsSentBy}
 use Rattle.ptpm_network.proofs.Own.{IsLastOf, IsReplySaid, IsRequestSaid}
 use Rattle.ptpm_network.proofs.Receiving.{Takes, not_idle, takes-by}
-use Rattle.ptpm_network.proofs.Refusals.{begin-not_refused, idle-not_waiting}
+use Rattle.ptpm_network.proofs.Refusals.{idle-not_waiting}
 use Rattle.ptpm_network.proofs.Steps.{unanswered-last}
 use Rattle.ptpm_network.proofs.Truth.{IsTrue, IsTrueTo}
 

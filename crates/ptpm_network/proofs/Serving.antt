@@ -1,32 +1,24 @@
 -- What every event makes of a session whose own messages come in time, whatever comes late of others; and so after every list.
-use Rattle.ptpm_network.proofs.Common.{by_test, IsForOne, arith, ◌≡◌, ℕ, ◌+◌, ◌-◌, ◌<◌, ◌≤◌, ◌==◌, ◌&&◌, ◌⊎◌, inl, inr, nat_lt, List, [], ◌∷◌, ◌++◌, length, Option, Some, None, Result, Ok, Err, true, false, refl, sym, ◌∙◌, ap, subst, ⊎_elim, and_cases, and_from, cases_eq, cond-true, cond-false, eq-eqb, eqb-true, eqb-false, ne_eqb, ltb-false, true≢false, same_Some, map, slice_get, slice_get_within, all_append, all_get, all_weaker, AllByRecursion, PortIdentity, Message, canonical, DecodeError, same_identity, Fits, message_of, reading, message_of-reading, Answer, ReplyValue, RequestValue, Entry, answer_body, reply_message, hops_passed, rendered, reply_messages, Accepted, greatest, kept_reply, Delivery, RequestCopy, copy_of, delivers_copy, DeliversCopy, copy_parts, no_copy, is_copy, heard_of, request_of, Clock, State, Turned, turn, turn-message, judged, Verdict, same_identity-refl, same_identity-true, number_of, outcome_in, Report, received_of, Answers, HasOneAnswer, IsAsked, IsInStep, IsMessage, InWindow, answer_origin, delivery, reply_origin, strange_frame, with_place, with_place-same, with_place-other, AtPort, AtSession, End, HasEnd, IsNetwork, Network, manager, peers, ports, Frame, Held, held, seen, turn_frames, after_turn, Origin, RequestOf, ReplyTo, Neither, SessionState, SessionValue, session_value, Happened, unless_refused, network_event, network_run, goes_on, delivers, reaches, hears, RunningNetwork, initial_network, answered, begun, resumed, retuned, sent, due_message, sent_posted, Ask, begin_refusal, BeginRefused, SendRefused, Refusal, Event, Begin, Send, Resume, Retune, Deliver, Stranger, IsInRange, Forged, is_forged, forged, frame_at, first_of-none, no_port, no_room, no_session, nothing_to_resume, send_refusal, option_map, outcomes_kept, le_trans}
-use Rattle.std.specs.FinMap.{get, get-empty, insert}
-use Rattle.ptpm_codec.specs.Identity.{identity_cmp}
-use Rattle.ptpm_manager.specs.Ask as ask
-use Rattle.ptpm_manager.specs.Receiving.{left_by}
-use Rattle.ptpm_manager.specs.declared.receiving.Received.{Received}
-use Rattle.ptpm_manager.specs.declared.receiving.Received.TheVariants as received
-use Rattle.ptpm_agent.specs.CarriedOut.{carried_by, carried_in, carried_of}
+use Rattle.ptpm_network.proofs.Common.{by_test, IsForOne, arith, ◌≡◌, ℕ, ◌+◌, ◌-◌, ◌<◌, ◌≤◌, ◌==◌, inl, List, [], ◌∷◌, ◌++◌, length, Option, Some, None, Result, Ok, Err, true, false, refl, sym, ◌∙◌, ap, subst, ⊎_elim, cases_eq, cond-true, cond-false, eq-eqb, eqb-true, eqb-false, true≢false, same_Some, map, slice_get_within, all_append, all_weaker, AllByRecursion, PortIdentity, Message, DecodeError, same_identity, Fits, message_of, reading, message_of-reading, RequestValue, answer_body, reply_messages, Accepted, greatest, kept_reply, Delivery, RequestCopy, copy_of, delivers_copy, copy_parts, no_copy, is_copy, heard_of, request_of, Clock, State, turn, judged, Verdict, same_identity-true, number_of, outcome_in, Answers, HasOneAnswer, IsInStep, InWindow, answer_origin, delivery, reply_origin, with_place, with_place-same, with_place-other, AtPort, HasEnd, IsNetwork, Network, manager, ports, Frame, Held, held, turn_frames, after_turn, Origin, RequestOf, ReplyTo, Neither, SessionState, RunningNetwork, begun}
+use Rattle.std.specs.FinMap.{get}
+use Rattle.ptpm_agent.specs.CarriedOut.{carried_by, carried_of}
 use Rattle.ptpm_agent.specs.declared.verdict.Verdict.TheVariants as verdicts
-use Rattle.ptpm_agent.specs.Turn.{NumberedRequest, new_reply, next_by}
+use Rattle.ptpm_agent.specs.Turn.{NumberedRequest, next_by}
 use Rattle.ptpm_agent.proofs.AtMostOnce.{turn-no_copy}
 use Rattle.ptpm_agent.proofs.Entries.{accepted_entry, get-insert_other}
 use Rattle.ptpm_agent.proofs.Turns.{is_copy-new}
-use Rattle.ptpm_network.specs.ByManager.{Account, StaysInTime, account_from, account_of, account_while, account_with, in_time_while, is_behind, is_for, is_late_for, is_late_frame_for, with_carried}
-use Rattle.ptpm_network.specs.CarriedOut.{carried_at, carried_by_event, carried_of_frame}
-use Rattle.ptpm_network.proofs.Accepting.{IsAbove, in_step-joined, kept-joined, kept-le}
+use Rattle.ptpm_network.specs.ByManager.{Account, with_carried}
+use Rattle.ptpm_network.specs.CarriedOut.{carried_at}
+use Rattle.ptpm_network.proofs.Accepting.{in_step-joined, kept-joined, kept-le}
 use Rattle.ptpm_network.proofs.Answering.{rendered-one}
 use Rattle.ptpm_network.proofs.Arriving.{Gains, StaysOrGains}
 use Rattle.ptpm_network.proofs.Frames.{sendable-one}
-use Rattle.ptpm_network.proofs.Honest.{IsHonest, IsHonestClock, IsSentBy, IsTrueFrame, Then, begins-honest, event-honest, first-honest, frame-true, sent-all, sent_by, then_ok, then_unless}
-use Rattle.ptpm_network.proofs.Messages.{IsPassedOn, reply_at}
-use Rattle.ptpm_network.proofs.Own.{ComesOwn, Does, IsLastOf, IsReplySaid, IsRequestSaid, Replied, TurnsOwn, accepted_after, does, turns_own}
-use Rattle.ptpm_network.proofs.Owned.{IsOwn, IsOwnFrame, IsSaid, own-begun, own-hears, own-message, own-resumed, own-retuned, own-sent, reports_with, said-stays, state_of}
-use Rattle.ptpm_network.proofs.Reaching.{port-exists, session-exists}
-use Rattle.ptpm_network.proofs.Refusals.{begin-not_refused, option_map-none}
+use Rattle.ptpm_network.proofs.Honest.{IsHonest}
+use Rattle.ptpm_network.proofs.Messages.{IsPassedOn}
+use Rattle.ptpm_network.proofs.Own.{ComesOwn, IsLastOf, IsReplySaid, IsRequestSaid, Replied, accepted_after, does, turns_own}
+use Rattle.ptpm_network.proofs.Owned.{IsOwn, IsOwnFrame, IsSaid, said-stays, state_of}
 use Rattle.ptpm_network.proofs.Requests.{answered as reply-answers, once}
-use Rattle.ptpm_network.proofs.Strangers.{strange-message}
-use Rattle.ptpm_network.proofs.Truth.{IsCopyBy, IsTrue, is_copy_by, passed_on-says, reply-message, turn_frames-all}
+use Rattle.ptpm_network.proofs.Truth.{IsTrue, is_copy_by, passed_on-says, reply-message, turn_frames-all}
 
 abbrev pub Own : Network → ℕ → RunningNetwork → Account → Type 0
 Own N s r a = IsOwn N s (r.session s) (r.reports s) (r.clock (N.session s).target) r.frames a

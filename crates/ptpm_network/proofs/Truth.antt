@@ -1,12 +1,12 @@
 -- What each frame of a running network says of whom it is of, in time or late: a message with a session's identity is its own
 -- request, and one that is told to a session is a reply to it.
-use Rattle.ptpm_network.proofs.Common.{by_test, ◌≡◌, ℕ, ◌+◌, ◌-◌, ◌<◌, ◌^◌, ◌==◌, ◌&&◌, ◌||◌, not, List, [], ◌∷◌, ◌++◌, Option, Some, None, Bool, true, false, refl, sym, ◌∙◌, ap, subst, length, and_parts, cond-true, cond-false, not-true, true≢false, same_Some, map, AllByRecursion, PortIdentity, ClockIdentity, Body, Message, canonical, every_clock, same_clock, Fits, BodyFits, action_of, id_of, is_reply, message_of, reading, Answer, ReplyValue, RequestValue, DataSetsValue, read_reply_to, reply_message, hops_passed, rendered, reply_messages, RequestCopy, copy_of, DeliversCopy, delivers_copy, copy_parts, is_copy, heard_of, is_addressed, is_for_this_clock, is_numbered, is_own, is_request, names_port, request_of, Clock, State, turn, Verdict, Answers, AreDataSets, IsSendable, IsForeign, IsMessage, answer_origin, delivery, is_read, read_messages, reply_origin, AtPort, HasEnd, IsNetwork, Network, manager, peers, ports, Frame, Held, held, turn_frames, forwarded_frames, reply_frames, Origin, RequestOf, ReplyTo, Neither, reply_action-is_reply, all_append, all_flat, all_made, End}
+use Rattle.ptpm_network.proofs.Common.{by_test, ◌≡◌, ℕ, ◌+◌, ◌-◌, ◌<◌, ◌^◌, ◌==◌, ◌||◌, not, List, Option, Some, None, Bool, true, false, refl, sym, ◌∙◌, ap, subst, length, cond-true, cond-false, not-true, true≢false, same_Some, map, AllByRecursion, ClockIdentity, Message, canonical, every_clock, same_clock, Fits, action_of, is_reply, message_of, Answer, ReplyValue, RequestValue, DataSetsValue, read_reply_to, reply_message, hops_passed, rendered, copy_of, copy_parts, is_copy, heard_of, is_for_this_clock, is_numbered, is_own, is_request, names_port, request_of, State, turn, Answers, AreDataSets, IsSendable, IsForeign, IsMessage, answer_origin, delivery, is_read, read_messages, AtPort, HasEnd, IsNetwork, Network, manager, peers, ports, Frame, Held, held, turn_frames, forwarded_frames, Origin, RequestOf, ReplyTo, Neither, reply_action-is_reply, all_append, all_flat, all_made, End}
 use Rattle.ptpm_network.proofs.Answering.{rendered-all, small}
 use Rattle.ptpm_network.proofs.Arriving.{action_of-answer_body}
 use Rattle.ptpm_network.proofs.Messages.{IsPassedOn, canonical-message, less_hop-message, passed_on, reply_at, reply-fits, reply-valid}
 use Rattle.ptpm_network.proofs.Requests.{read_answered}
 use Rattle.ptpm_network.proofs.Steps.{has_peers}
-use Rattle.ptpm_network.proofs.Turning.{turn-forwards, turn-reads}
+use Rattle.ptpm_network.proofs.Turning.{turn-forwards}
 use Rattle.ptpm_network.proofs.Unnumbered.{ReadParts, foreign-reply, id-fits, read_parts, request-numbered}
 
 -- ---- what a message of each origin is

@@ -1,5 +1,5 @@
--- What a network does for one of its managers, however late the messages of the others come: the manager's account, of events and
--- turns as they happened, and what holds of it where the manager's own messages came in time.
+-- One manager's account, of events and turns as they happened, and when its own messages came in time. Those of others may come as
+-- late as can be.
 use Rattle.std.specs.Prelude.{◌≡◌, ℕ, ◌+◌, ◌==◌, ◌&&◌, Bool, false, List, [], ◌∷◌, ◌++◌, Option, Some, None, Result, Ok, Err, if◌then◌else◌}
 use Rattle.ptpm_codec.specs.declared.identity.PortIdentity.{PortIdentity}
 use Rattle.ptpm_codec.specs.Identity.{same_identity}
@@ -12,8 +12,6 @@ use Rattle.ptpm_network.specs.Events.{Event, Begin, Deliver, Refusal, frame_at}
 use Rattle.ptpm_network.specs.Network.{AtPort, AtSession, End, Network, manager}
 use Rattle.ptpm_network.specs.RunningNetwork.{Happened, Held, RunningNetwork, initial_network, network_event}
 use Rattle.ptpm_network.specs.State.{Origin, RequestOf, ReplyTo, Neither, is_late_at}
-
--- ---- in time
 
 -- a copy of the session's request that comes in at its target, or of a reply to it that comes in at the session
 abbrev pub is_for : Network → ℕ → End → Origin → Bool
@@ -43,8 +41,6 @@ in_time_while (Err reason) late others = Unit {0}
 abbrev pub StaysInTime : Network → ℕ → RunningNetwork → List Event → Type 0
 StaysInTime N s r [] = Unit {0}
 StaysInTime N s r (e ∷ es) = in_time_while (network_event N r e) (is_late_for N s r e) (λ next. StaysInTime N s next es)
-
--- ---- an account
 
 -- a session's requests in the order in which it began them, and those that its target carried out, the latest first, each with
 -- its place among them, from 1 on, and the reply that the clock gave to it then
