@@ -7,6 +7,7 @@ use ptpm_commands::ids::ids;
 use ptpm_commands::make::{RequestWords, make};
 use ptpm_commands::show::{show, show_good_lines, show_lines};
 use ptpm_commands::{Fault, tell};
+use ptpm_draw::{Chosen, draw};
 use ptpm_schedule::{Chances, schedule};
 use ptpm_world::{ScriptError, check_script, run_script};
 use std::alloc::{AllocError, Global};
@@ -18,7 +19,7 @@ const VERSION: &str = "0.1.0";
 
 /// Does what the words say, the first of which is the program's name, and answers the exit status: 0 where it was done;
 /// 1 at a fault, with the line `ptpm: FAULT` on `err`, and where `check` wrote faults on `out`; 2 where the words were refused,
-/// with the reason on `err`. What `err` does changes nothing. `run`, `check`, `schedule` and the option `--lines` alone read.
+/// with the reason on `err`. What `err` does changes nothing. `run`, `check`, `schedule`, `draw` and the option `--lines` alone read.
 /// Whatever was written on `out` is flushed, at a fault too.
 pub fn command<R: Read, O: Write, E: Write>(
     alloc: Global,
@@ -82,6 +83,7 @@ fn run<R: Read, O: Write, E: Write>(
         Ok(Task::Schedule(chances)) => {
             schedule(alloc, chances, reader, out, err).map_err(Failure::Script)?;
         }
+        Ok(Task::Draw(chosen)) => draw(alloc, chosen, reader, out).map_err(Failure::Script)?,
         Ok(Task::Check) => {
             let findings = check_script(alloc, reader, out).map_err(Failure::Script)?;
             if findings.first.is_some() {
@@ -112,6 +114,8 @@ enum Task<'a> {
     Schedule(Chances),
     /// `check`, with a script on standard input.
     Check,
+    /// `draw`, with a script on standard input.
+    Draw(Chosen),
 }
 
 /// What `answer` or `show` takes.
@@ -145,6 +149,7 @@ fn task_of<'a>(name: &str, values: &ArgMatches<'a>) -> Option<Task<'a>> {
         "run" => Some(Task::Run),
         "schedule" => Some(Task::Schedule(chances(values)?)),
         "check" => Some(Task::Check),
+        "draw" => Some(Task::Draw(chosen(values)?)),
         _ => None,
     }
 }
@@ -178,6 +183,13 @@ fn chances(values: &ArgMatches<'_>) -> Option<Chances> {
     })
 }
 
+fn chosen(values: &ArgMatches<'_>) -> Option<Chosen> {
+    Some(Chosen {
+        from: values.get_one("from")?,
+        to: values.get_one("to")?,
+    })
+}
+
 fn command_line<'a>(alloc: Global) -> Result<Command<'a>, AllocError> {
     let answer = Command::new(alloc, "answer").about(
         "Prints what a fresh clock sends for a datagram at its port 1",
@@ -201,7 +213,8 @@ fn command_line<'a>(alloc: Global) -> Result<Command<'a>, AllocError> {
         .subcommand(make_command(alloc)?)?
         .subcommand(run)?
         .subcommand(check)?
-        .subcommand(schedule_command(alloc)?)
+        .subcommand(schedule_command(alloc)?)?
+        .subcommand(draw_command(alloc)?)
 }
 
 /// The command, with a datagram or `--lines`.
@@ -296,6 +309,19 @@ fn schedule_command<'a>(alloc: Global) -> Result<Command<'a>, AllocError> {
         .arg(loss)?
         .arg(repeat)?
         .arg(seed)
+}
+
+fn draw_command<'a>(alloc: Global) -> Result<Command<'a>, AllocError> {
+    let from = option(alloc, "from", "N", "The first event line that is drawn")
+        .value_parser(value_parser!(u32))
+        .default_value("1");
+    let to = option(alloc, "to", "N", "The last event line that is drawn")
+        .value_parser(value_parser!(u32))
+        .default_value("2000000");
+    Command::new(alloc, "draw")
+        .about("Draws what happens in the script on standard input, as a picture in SVG")
+        .arg(from)?
+        .arg(to)
 }
 
 /// An option `--NAME N` of so many in a hundred, none where it is absent.

@@ -1,5 +1,6 @@
 //! What the program prints and how it ends.
 
+mod drawing;
 mod examples;
 mod failing;
 mod lines;
@@ -328,7 +329,7 @@ fn refused_command_lines(rt: HostRuntime) {
         (
             &["ptpm"],
             b"error: 'ptpm' requires a subcommand but one was not provided\n  \
-            [subcommands: answer, show, ids, make, run, schedule]\n\n\
+            [subcommands: answer, show, ids, make, run, check, schedule, draw]\n\n\
             Usage: ptpm <COMMAND>\n\n\
             For more information, try '--help'.\n",
         ),

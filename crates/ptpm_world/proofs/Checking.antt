@@ -157,5 +157,5 @@ script-first a b n m kept first found h e end =
     both-some a b
     (λ xs ys is p.
     p ∙ ap (λ f. option_or f (events_fault m 1 (whole_lines ys))) e ∙ network_first (network_of kept) m (whole_lines ys)
-    ∙ ap (λ p. result_err p.end) (sym is))
+    ∙ ap (λ p. result_err p.end) (sym is.0))
     (file-network a b n m kept (network_of kept) h refl) end

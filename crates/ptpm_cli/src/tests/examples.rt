@@ -3,7 +3,7 @@
 use super::running::runs;
 
 /// `two_copies.script`.
-const TWO_COPIES: &str = r#"version = 1
+pub const TWO_COPIES: &str = r#"version = 1
 [[clock]]
 name = "K"
 identity = "aabbccfffeddee01"

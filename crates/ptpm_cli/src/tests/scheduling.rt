@@ -7,22 +7,20 @@ use std::alloc::Global;
 use std::process::Abort;
 use std::test::Fail;
 
-/// The program schedules these events of one clock's manager, ends with this status, and tells this.
+/// With these words the program schedules these events of one clock's manager, writes this script, and tells this.
 fn schedules(
     rt: &impl Abort,
     alloc: Global,
-    options: &[&str],
+    words: &[&str],
     events: &str,
     wanted: &str,
     told: &str,
 ) -> Result<(), Fail> {
     let script = format!(in alloc; "{ONE_CLOCK}%%\n{events}")?;
-    let mut words = Vec::from_slice(alloc, &["ptpm", "schedule"])?;
-    words.extend_from_slice(options)?;
     let mut out = Vec::new(alloc);
     let mut err = Vec::new(alloc);
     let mut reader = script.as_bytes();
-    let status = command(alloc, words.as_slice(), &mut reader, &mut out, &mut err);
+    let status = command(alloc, words, &mut reader, &mut out, &mut err);
     let text = format!(in alloc; "{ONE_CLOCK}%%\n{wanted}")?;
     assert_eq!(rt; out.as_slice(), text.as_bytes());
     assert_eq!(rt; err.as_slice(), told.as_bytes());
@@ -45,9 +43,11 @@ send m
 deliver 3
 deliver 4
 ";
-    schedules(&rt, alloc, &[], events, answered, "")?;
+    schedules(&rt, alloc, &["ptpm", "schedule"], events, answered, "")?;
     let lost = "begin m set PRIORITY1 - 6400\nsend m\nsend m\n";
-    let options = [
+    let words = [
+        "ptpm",
+        "schedule",
         "--loss",
         "100",
         "--repeat",
@@ -55,7 +55,7 @@ deliver 4
         "--seed",
         "18446744073709551615",
     ];
-    schedules(&rt, alloc, &options, events, lost, "ptpm: LeftOut 2 Busy\n")
+    schedules(&rt, alloc, &words, events, lost, "ptpm: LeftOut 2 Busy\n")
 }
 
 #[test]

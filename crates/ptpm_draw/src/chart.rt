@@ -1,0 +1,300 @@
+//! A picture in SVG 1.1: where all of it stands, and how it is written.
+
+use crate::drawing::Chosen;
+use crate::lifelines::{CHARACTER, Lifelines, kind_of};
+use crate::picture::{Message, Party, Picture, Row, Way};
+use crate::shapes::{Arrow, write_mark};
+use crate::sizes::{ROW, STUB, Sizes};
+use crate::strokes::{LOST, Stroke, stroke_of};
+use crate::words::{LabelText, LineText, LostText, OutcomeText, spell};
+use ptpm_codec::OutOfMemory;
+use ptpm_world::{Event, Script, ScriptError};
+use std::alloc::Global;
+use std::io;
+use std::io::Write;
+
+/// From the top to the first row.
+const HEADER: usize = 72;
+
+/// Around the picture.
+const MARGIN: usize = 16;
+
+/// Between a row's upper edge and its arrow.
+const RISE: usize = 28;
+
+/// A picture with the places of all that is in it, in the picture's units.
+#[derive(Drop)]
+pub(crate) struct Chart<'a> {
+    script: &'a Script,
+    picture: &'a Picture,
+    chosen: Chosen,
+    /// Of each frame, by its number from 1, whether an event delivered it.
+    is_delivered: Vec<bool>,
+    sizes: Sizes,
+    lifelines: Lifelines<'a>,
+    /// Where arrows from the edge begin.
+    edge: usize,
+    /// Where the words for what became of events begin.
+    right: usize,
+    width: usize,
+    height: usize,
+}
+
+impl<'a> Chart<'a> {
+    /// Lays out a picture.
+    pub(crate) fn new(
+        alloc: Global,
+        script: &'a Script,
+        picture: &'a Picture,
+        chosen: Chosen,
+    ) -> Result<Chart<'a>, OutOfMemory> {
+        let is_delivered = picture.is_delivered(alloc)?;
+        let sizes = Sizes::of(alloc, script, picture, chosen, is_delivered.as_slice())?;
+        let box_half = across(sizes.name, 24) / 2;
+        let label = across(sizes.label, 32);
+        let edge = across(sizes.line, 2 * MARGIN);
+        let lead = if sizes.has_edge { label } else { box_half };
+        let lifelines = Lifelines {
+            network: &script.network,
+            first: edge.saturating_add(lead).saturating_add(MARGIN),
+            step: label
+                .max(across(sizes.stub, 64))
+                .max(across(sizes.name, 48)),
+        };
+        let overhang = if sizes.has_overhang { label } else { box_half };
+        let right = lifelines
+            .last()
+            .saturating_add(overhang)
+            .saturating_add(MARGIN);
+        Ok(Chart {
+            script,
+            picture,
+            chosen,
+            is_delivered,
+            sizes,
+            lifelines,
+            edge,
+            right,
+            width: right.saturating_add(across(sizes.outcome, MARGIN)),
+            height: sizes.height.saturating_add(HEADER + MARGIN),
+        })
+    }
+
+    /// Writes the picture.
+    pub(crate) fn write<W: Write>(&self, alloc: Global, out: &mut W) -> Result<(), ScriptError> {
+        self.write_start(out)?;
+        self.write_lifelines(out)?;
+        let mut label = String::new(alloc);
+        let mut top = HEADER;
+        for (row, line) in self.picture.rows.iter().zip(self.script.lines.as_slice()) {
+            if self.chosen.contains(row.line) {
+                self.write_row(row, &line.event, top, &mut label, out)?;
+                top = self.write_lost(row, top.saturating_add(ROW), &mut label, out)?;
+            }
+        }
+        writeln!(out, "</svg>")?;
+        Ok(())
+    }
+
+    /// The start of the file, and what is said of the picture as a whole.
+    fn write_start<W: Write>(&self, out: &mut W) -> io::Result<()> {
+        let (width, height) = (self.width, self.height);
+        writeln!(out, r#"<?xml version="1.0" encoding="UTF-8"?>"#)?;
+        write!(
+            out,
+            r#"<svg xmlns="http://www.w3.org/2000/svg" version="1.1" "#
+        )?;
+        write!(out, r#"width="{width}" height="{height}" "#)?;
+        writeln!(out, r#"viewBox="0 0 {} {}""#, self.width, self.height)?;
+        write!(
+            out,
+            r#"font-family="DejaVu Sans Mono, Menlo, Consolas, monospace" "#
+        )?;
+        writeln!(out, r##"font-size="13" fill="#24292f">"##)?;
+        writeln!(
+            out,
+            "<title>What happens in a network, event by event</title>"
+        )?;
+        write!(out, "<desc>From left to right: the numbers of events, ")?;
+        for place in 0..self.lifelines.count() {
+            let party = self.lifelines.party(place);
+            let name = self.lifelines.name(Some(party));
+            write!(out, "{} {name}, ", kind_of(party))?;
+        }
+        let (rows, all) = (self.sizes.rows, self.picture.rows.len());
+        write!(out, "and what became of events. From top to bottom: ")?;
+        writeln!(out, "{rows} of {all} events.</desc>")?;
+        writeln!(
+            out,
+            r##"<rect width="{width}" height="{height}" fill="#ffffff"/>"##
+        )
+    }
+
+    /// The lifelines with their names: a session's in a round box, a clock's in a square one.
+    fn write_lifelines<W: Write>(&self, out: &mut W) -> io::Result<()> {
+        for place in 0..self.lifelines.count() {
+            self.write_lifeline(self.lifelines.party(place), out)?;
+        }
+        Ok(())
+    }
+
+    fn write_lifeline<W: Write>(&self, party: Party, out: &mut W) -> io::Result<()> {
+        let x = self.lifelines.x(party);
+        let end = self.height.saturating_sub(MARGIN);
+        let width = across(self.sizes.name, 24);
+        let left = x.saturating_sub(width / 2);
+        let round = match party {
+            Party::Session(_) => 14,
+            Party::Clock(_) => 0,
+        };
+        let (kind, name) = (kind_of(party), self.lifelines.name(Some(party)));
+        writeln!(out, "<g><title>{kind} {name}</title>")?;
+        writeln!(out, r##"<path d="M{x} 56V{end}" stroke="#8c959f"/>"##)?;
+        write!(
+            out,
+            r#"<rect x="{left}" y="16" width="{width}" height="40" rx="{round}" "#
+        )?;
+        writeln!(out, r##"fill="#f6f8fa" stroke="#57606a"/>"##)?;
+        write!(
+            out,
+            r#"<text x="{x}" y="32" text-anchor="middle" font-size="11">"#
+        )?;
+        writeln!(out, "{}</text>", kind_of(party))?;
+        write!(
+            out,
+            r#"<text x="{x}" y="49" text-anchor="middle" font-weight="bold">"#
+        )?;
+        writeln!(out, "{}</text></g>", self.lifelines.name(Some(party)))
+    }
+
+    /// Writes a row whose upper edge is here.
+    fn write_row<W: Write>(
+        &self,
+        row: &Row,
+        event: &Event,
+        top: usize,
+        label: &mut String,
+        out: &mut W,
+    ) -> Result<(), ScriptError> {
+        let picture = self.picture;
+        spell(
+            label,
+            LabelText {
+                picture,
+                row,
+                event,
+            },
+        )?;
+        let y = top.saturating_add(RISE);
+        let base = y.saturating_add(4);
+        let colour = stroke_of(row.outcome()).colour;
+        let right = self.right;
+        let number = LineText {
+            line: row.line,
+            event,
+        };
+        write!(out, "<g><title>{number}: {label}")?;
+        self.write_ends(row, out)?;
+        writeln!(out, "</title><desc>{}</desc>", OutcomeText(row))?;
+        write!(out, r##"<text x="{MARGIN}" y="{base}" fill="#57606a">"##)?;
+        writeln!(out, "{number}</text>")?;
+        self.write_way(row, y, label.as_str(), out)?;
+        write!(out, r#"<text x="{right}" y="{base}" fill="{colour}">"#)?;
+        writeln!(out, "{}</text></g>", OutcomeText(row))?;
+        Ok(())
+    }
+
+    /// Who sent a row's message, and who got it; of a mark, at whom it is.
+    fn write_ends<W: Write>(&self, row: &Row, out: &mut W) -> io::Result<()> {
+        match row.way {
+            Way::Mark => write!(out, ", at {}", self.lifelines.name(row.at)),
+            Way::FromEdge => write!(out, ", from a stranger to {}", self.lifelines.name(row.at)),
+            Way::Arrow(frame) => match self.picture.message(frame) {
+                Some(message) => self.write_message(message, out),
+                None => Ok(()),
+            },
+        }
+    }
+
+    fn write_message<W: Write>(&self, message: &Message, out: &mut W) -> io::Result<()> {
+        let from = self.lifelines.name(message.from);
+        let to = self.lifelines.name(Some(message.to));
+        write!(out, ", from {from} to {to}")
+    }
+
+    /// Writes the arrow or the mark of a row.
+    fn write_way<W: Write>(&self, row: &Row, y: usize, label: &str, out: &mut W) -> io::Result<()> {
+        let stroke = stroke_of(row.outcome());
+        let at = self.x(row.at);
+        match row.way {
+            Way::Mark => write_mark(at, y, stroke, label, out),
+            Way::FromEdge => {
+                let from = self.edge;
+                Arrow {
+                    from,
+                    to: at,
+                    y,
+                    stroke,
+                }
+                .write(label, out)
+            }
+            Way::Arrow(frame) => match self.picture.message(frame) {
+                Some(message) => self.arrow(message, y, stroke).write(label, out),
+                None => Ok(()),
+            },
+        }
+    }
+
+    /// Writes the messages of a row that no event delivered, one below the other from here on. Answers where they end.
+    fn write_lost<W: Write>(
+        &self,
+        row: &Row,
+        top: usize,
+        label: &mut String,
+        out: &mut W,
+    ) -> Result<usize, ScriptError> {
+        let picture = self.picture;
+        let mut top = top;
+        for count in row.before..row.after {
+            let frame = count.saturating_add(1);
+            if let (Some(false), Some(message)) = (
+                self.is_delivered.get(count as usize).copied(),
+                picture.message(frame),
+            ) {
+                spell(label, LostText { picture, frame })?;
+                write!(out, "<g><title>{label}")?;
+                self.write_message(message, out)?;
+                writeln!(out, "</title><desc>lost</desc>")?;
+                let y = top.saturating_add(4);
+                self.arrow(message, y, LOST)
+                    .write_stub(label.as_str(), out)?;
+                writeln!(out, "</g>")?;
+                top = top.saturating_add(STUB);
+            }
+        }
+        Ok(top)
+    }
+
+    /// The arrow of a message, at this height.
+    fn arrow(&self, message: &Message, y: usize, stroke: Stroke) -> Arrow {
+        Arrow {
+            from: self.x(message.from),
+            to: self.x(Some(message.to)),
+            y,
+            stroke,
+        }
+    }
+
+    /// Where a party's lifeline stands; of nobody, the edge.
+    fn x(&self, party: Option<Party>) -> usize {
+        match party {
+            Some(party) => self.lifelines.x(party),
+            None => self.edge,
+        }
+    }
+}
+
+/// How wide so many characters are, and this besides.
+fn across(characters: usize, besides: usize) -> usize {
+    characters.saturating_mul(CHARACTER).saturating_add(besides)
+}

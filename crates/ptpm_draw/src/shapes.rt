@@ -1,0 +1,199 @@
+//! Arrows, stubs, marks and their labels, in SVG.
+
+use crate::lifelines::CHARACTER;
+use crate::strokes::{Head, LOST, Stroke};
+use std::io;
+use std::io::Write;
+
+/// How far out an arrow goes that comes back to where it began.
+const LOOP: usize = 32;
+
+/// How long a stub is.
+const STUB: usize = 36;
+
+/// Where a label stands.
+#[derive(Clone, Copy, Debug, PartialEq, Eq)]
+enum Anchor {
+    Start,
+    Middle,
+    End,
+}
+
+/// A line from one place to another at the same height.
+#[derive(Clone, Copy, Debug)]
+pub(crate) struct Arrow {
+    pub(crate) from: usize,
+    pub(crate) to: usize,
+    pub(crate) y: usize,
+    pub(crate) stroke: Stroke,
+}
+
+impl Arrow {
+    /// Writes the arrow and a label above it.
+    pub(crate) fn write<W: Write>(&self, label: &str, out: &mut W) -> io::Result<()> {
+        if self.from == self.to {
+            return self.write_loop(label, out);
+        }
+        let middle = self.from / 2 + self.to / 2;
+        write_label(middle, self.y.saturating_sub(8), Anchor::Middle, label, out)?;
+        self.write_line(out)
+    }
+
+    /// Writes an arrow out and back to where it began, with a label beside it.
+    fn write_loop<W: Write>(&self, label: &str, out: &mut W) -> io::Result<()> {
+        let (x, y) = (self.from, self.y.saturating_sub(8));
+        let colour = self.stroke.colour;
+        writeln!(
+            out,
+            r#"<path d="M{x} {y}h{LOOP}v14" fill="none" stroke="{colour}"/>"#
+        )?;
+        let back = Arrow {
+            from: x.saturating_add(LOOP),
+            to: x,
+            y: y.saturating_add(14),
+            stroke: self.stroke,
+        };
+        back.write_line(out)?;
+        let start = x.saturating_add(LOOP + 8);
+        write_label(start, self.y.saturating_add(4), Anchor::Start, label, out)
+    }
+
+    /// Writes a short arrow in the same direction, which ends in a cross, and a label behind it.
+    pub(crate) fn write_stub<W: Write>(&self, label: &str, out: &mut W) -> io::Result<()> {
+        let leads_left = self.to < self.from;
+        let (to, start, anchor) = if leads_left {
+            let to = self.from.saturating_sub(STUB);
+            (to, to.saturating_sub(4), Anchor::End)
+        } else {
+            let to = self.from.saturating_add(STUB);
+            (to, to.saturating_add(4), Anchor::Start)
+        };
+        let stub = Arrow {
+            to,
+            stroke: LOST,
+            ..*self
+        };
+        stub.write_line(out)?;
+        write_label(start, self.y.saturating_add(4), anchor, label, out)
+    }
+
+    /// Writes the line with its end.
+    fn write_line<W: Write>(&self, out: &mut W) -> io::Result<()> {
+        let Stroke {
+            colour,
+            width,
+            dashes,
+            head,
+        } = self.stroke;
+        let (from, y) = (self.from, self.y);
+        let end = self.before_end(inset_of(head));
+        write!(out, r#"<path d="M{from} {y}H{end}" stroke="{colour}" "#)?;
+        writeln!(
+            out,
+            r#"stroke-width="{width}" stroke-dasharray="{dashes}"/>"#
+        )?;
+        self.write_head(out)
+    }
+
+    /// Writes the end.
+    fn write_head<W: Write>(&self, out: &mut W) -> io::Result<()> {
+        let (to, y, colour) = (self.to, self.y, self.stroke.colour);
+        let back = if self.from < self.to { "-" } else { "" };
+        match self.stroke.head {
+            Head::Filled => writeln!(
+                out,
+                r#"<path d="M{to} {y}l{back}10 -5v10z" fill="{colour}"/>"#
+            ),
+            Head::Empty => writeln!(
+                out,
+                r##"<path d="M{to} {y}l{back}10 -5v10z" fill="#ffffff" stroke="{colour}"/>"##
+            ),
+            Head::Open => {
+                let side = self.before_end(10);
+                let (above, below) = (y.saturating_sub(5), y.saturating_add(5));
+                write!(out, r#"<path d="M{side} {above}L{to} {y}L{side} {below}" "#)?;
+                writeln!(out, r#"fill="none" stroke="{colour}" stroke-width="1.5"/>"#)
+            }
+            Head::Cross => write_cross(self.before_end(7), y, colour, out),
+            Head::Ring => write_ring(self.before_end(5), y, colour, "#ffffff", out),
+        }
+    }
+
+    /// The place so far before its end.
+    fn before_end(&self, by: usize) -> usize {
+        if self.from < self.to {
+            self.to.saturating_sub(by)
+        } else {
+            self.to.saturating_add(by)
+        }
+    }
+}
+
+/// How far before its end a line with this head stops.
+fn inset_of(head: Head) -> usize {
+    match head {
+        Head::Filled | Head::Empty | Head::Ring => 9,
+        Head::Open => 1,
+        Head::Cross => 7,
+    }
+}
+
+/// Writes a mark on a lifeline, with a label to the right of it: a cross where an event was refused, else a dot.
+pub(crate) fn write_mark<W: Write>(
+    x: usize,
+    y: usize,
+    stroke: Stroke,
+    label: &str,
+    out: &mut W,
+) -> io::Result<()> {
+    if let Head::Cross = stroke.head {
+        write_cross(x, y, stroke.colour, out)?;
+    } else {
+        write_ring(x, y, stroke.colour, stroke.colour, out)?;
+    }
+    let start = x.saturating_add(12);
+    write_label(start, y.saturating_add(4), Anchor::Start, label, out)
+}
+
+fn write_cross<W: Write>(x: usize, y: usize, colour: &str, out: &mut W) -> io::Result<()> {
+    let (left, above) = (x.saturating_sub(5), y.saturating_sub(5));
+    write!(out, r#"<path d="M{left} {above}l10 10m0 -10l-10 10" "#)?;
+    writeln!(out, r#"fill="none" stroke="{colour}" stroke-width="2"/>"#)
+}
+
+fn write_ring<W: Write>(
+    x: usize,
+    y: usize,
+    colour: &str,
+    fill: &str,
+    out: &mut W,
+) -> io::Result<()> {
+    write!(out, r#"<circle cx="{x}" cy="{y}" r="4" "#)?;
+    writeln!(
+        out,
+        r#"fill="{fill}" stroke="{colour}" stroke-width="1.5"/>"#
+    )
+}
+
+/// Writes a label on white, so that lifelines do not run through it.
+fn write_label<W: Write>(
+    x: usize,
+    y: usize,
+    anchor: Anchor,
+    label: &str,
+    out: &mut W,
+) -> io::Result<()> {
+    let width = label.len().saturating_mul(CHARACTER);
+    let (left, anchor) = match anchor {
+        Anchor::Start => (x, "start"),
+        Anchor::Middle => (x.saturating_sub(width / 2), "middle"),
+        Anchor::End => (x.saturating_sub(width), "end"),
+    };
+    let top = y.saturating_sub(12);
+    write!(out, r#"<rect x="{left}" y="{top}" width="{width}" "#)?;
+    writeln!(out, r##"height="16" fill="#ffffff"/>"##)?;
+    writeln!(
+        out,
+        r#"<text x="{x}" y="{y}" text-anchor="{anchor}">{label}</text>"#
+    )
+}

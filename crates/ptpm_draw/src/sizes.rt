@@ -1,0 +1,146 @@
+//! How large a picture is, by the longest of its words.
+
+use crate::drawing::Chosen;
+use crate::picture::{Party, Picture, Row, Way};
+use crate::words::{LabelText, LineText, LostText, OutcomeText, spell};
+use ptpm_codec::OutOfMemory;
+use ptpm_world::{Event, Network, Script};
+use std::alloc::Global;
+
+/// From a row to the next, in the picture's units.
+pub(crate) const ROW: usize = 44;
+
+/// Below a row for each message that was lost there.
+pub(crate) const STUB: usize = 22;
+
+/// The most characters of each kind of words, and what else says how large a picture is.
+#[derive(Clone, Copy, Debug)]
+pub(crate) struct Sizes {
+    /// Of what stands at arrows and marks.
+    pub(crate) label: usize,
+    /// Of what stands behind stubs.
+    pub(crate) stub: usize,
+    /// Of what became of events.
+    pub(crate) outcome: usize,
+    /// Of numbers and verbs.
+    pub(crate) line: usize,
+    /// Of names.
+    pub(crate) name: usize,
+    /// How many events are drawn.
+    pub(crate) rows: usize,
+    /// How high all rows are together.
+    pub(crate) height: usize,
+    /// Whether something comes from the edge, or happens at nobody.
+    pub(crate) has_edge: bool,
+    /// Whether something stands to the right of the last lifeline.
+    pub(crate) has_overhang: bool,
+}
+
+impl Sizes {
+    /// The sizes of what is drawn of a script. Frames that were delivered are known by their numbers.
+    pub(crate) fn of(
+        alloc: Global,
+        script: &Script,
+        picture: &Picture,
+        chosen: Chosen,
+        is_delivered: &[bool],
+    ) -> Result<Sizes, OutOfMemory> {
+        let mut sizes = Sizes {
+            label: 0,
+            stub: 0,
+            outcome: 0,
+            line: 0,
+            name: longest_name(&script.network),
+            rows: 0,
+            height: 0,
+            has_edge: false,
+            has_overhang: false,
+        };
+        let mut text = String::new(alloc);
+        for (row, line) in picture.rows.iter().zip(script.lines.as_slice()) {
+            if chosen.contains(row.line) {
+                sizes.note_row(picture, row, &line.event, &mut text)?;
+                sizes.note_lost(picture, row, is_delivered, &mut text)?;
+                sizes.note_ends(&script.network, picture, row);
+            }
+        }
+        Ok(sizes)
+    }
+
+    fn note_row(
+        &mut self,
+        picture: &Picture,
+        row: &Row,
+        event: &Event,
+        text: &mut String,
+    ) -> Result<(), OutOfMemory> {
+        let label = LabelText {
+            picture,
+            row,
+            event,
+        };
+        spell(text, label)?;
+        self.label = self.label.max(text.len());
+        spell(text, OutcomeText(row))?;
+        self.outcome = self.outcome.max(text.len());
+        let line = row.line;
+        spell(text, LineText { line, event })?;
+        self.line = self.line.max(text.len());
+        self.rows = self.rows.saturating_add(1);
+        self.height = self.height.saturating_add(ROW);
+        Ok(())
+    }
+
+    /// Notes the messages of a row that no event delivered.
+    fn note_lost(
+        &mut self,
+        picture: &Picture,
+        row: &Row,
+        is_delivered: &[bool],
+        text: &mut String,
+    ) -> Result<(), OutOfMemory> {
+        for count in row.before..row.after {
+            if !is_delivered.get(count as usize).copied().unwrap_or(true) {
+                let frame = count.saturating_add(1);
+                spell(text, LostText { picture, frame })?;
+                self.stub = self.stub.max(text.len());
+                self.height = self.height.saturating_add(STUB);
+            }
+        }
+        Ok(())
+    }
+
+    /// Notes what reaches past the first and the last lifeline.
+    fn note_ends(&mut self, network: &Network, picture: &Picture, row: &Row) {
+        match row.way {
+            Way::FromEdge => self.has_edge = true,
+            Way::Mark if row.at.is_none() => self.has_edge = true,
+            Way::Mark => self.has_overhang |= row.at == last_party(network),
+            Way::Arrow(frame) => {
+                if let Some(message) = picture.message(frame) {
+                    self.has_overhang |= message.from == Some(message.to);
+                }
+            }
+        }
+    }
+}
+
+/// Whose lifeline is the last.
+fn last_party(network: &Network) -> Option<Party> {
+    match network.clocks().len().checked_sub(1) {
+        Some(place) => Some(Party::Clock(place)),
+        None => Some(Party::Session(network.sessions().len().checked_sub(1)?)),
+    }
+}
+
+/// The characters of the longest name.
+fn longest_name(network: &Network) -> usize {
+    let mut most = 7;
+    for session in network.sessions() {
+        most = most.max(session.name.as_str().len());
+    }
+    for clock in network.clocks() {
+        most = most.max(clock.name.as_str().len());
+    }
+    most
+}

@@ -1,0 +1,65 @@
+//! How arrows and marks look, so that each outcome can be told without colours.
+
+use crate::outcome::Outcome;
+
+/// How the end of an arrow looks.
+#[derive(Clone, Copy, Debug, PartialEq, Eq)]
+pub(crate) enum Head {
+    /// A filled triangle.
+    Filled,
+    /// An empty triangle.
+    Empty,
+    /// Two strokes.
+    Open,
+    /// A cross.
+    Cross,
+    /// A ring.
+    Ring,
+}
+
+/// A line's colour, width in tenths, dashes and end.
+#[derive(Clone, Copy, Debug)]
+pub(crate) struct Stroke {
+    pub(crate) colour: &'static str,
+    pub(crate) width: &'static str,
+    /// As `stroke-dasharray` has them.
+    pub(crate) dashes: &'static str,
+    pub(crate) head: Head,
+}
+
+/// How a lost message is drawn.
+pub(crate) const LOST: Stroke = Stroke {
+    colour: "#b42318",
+    width: "1.5",
+    dashes: "2 3",
+    head: Head::Cross,
+};
+
+/// How an event with an outcome is drawn.
+pub(crate) fn stroke_of(outcome: Outcome) -> Stroke {
+    match outcome {
+        Outcome::CarriedOut => make_stroke("#1a7f37", "2.5", "none", Head::Filled),
+        Outcome::AnsweredAgain => make_stroke("#0550ae", "2", "10 4", Head::Empty),
+        Outcome::Answered => make_stroke("#0550ae", "1.5", "none", Head::Empty),
+        Outcome::PassedOn => make_stroke("#57606a", "1.5", "none", Head::Open),
+        Outcome::Reported => make_stroke("#1a7f37", "1.5", "none", Head::Filled),
+        Outcome::Dropped(_) => make_stroke("#b42318", "1.5", "6 4", Head::Cross),
+        Outcome::Ignored(_) => make_stroke("#8a4600", "1.5", "6 4", Head::Ring),
+        Outcome::Refused(_) => make_stroke("#b42318", "1.5", "none", Head::Cross),
+        Outcome::Done => make_stroke("#24292f", "1.5", "none", Head::Ring),
+    }
+}
+
+fn make_stroke(
+    colour: &'static str,
+    width: &'static str,
+    dashes: &'static str,
+    head: Head,
+) -> Stroke {
+    Stroke {
+        colour,
+        width,
+        dashes,
+        head,
+    }
+}

@@ -1,0 +1,67 @@
+//! What a picture says, and that a wrong script has none.
+
+use crate::{Chosen, draw};
+use ptpm_world::{EventError, ScriptError};
+use std::alloc::Global;
+use std::test::Fail;
+
+/// A clock with one manager, whose SET arrives twice; the reply to the second copy is lost.
+const TWO_COPIES: &str = r#"version = 1
+clock = [{ name = "K", identity = "aabbccfffeddee01", domain = 0, ports = 2 }]
+session = [{ name = "m", identity = "0011223344556677/1", target = "K", first = 7, hops = 1, attempts = 3 }]
+link = [{ ends = ["K.1", "m"] }]
+%%
+begin m set PRIORITY1 - 6400
+send m
+deliver 1
+deliver 2
+deliver 1
+"#;
+
+/// The picture of a script's events from one to another.
+fn drawn(alloc: Global, script: &str, from: u32, to: u32) -> Result<Vec<u8>, ScriptError> {
+    let mut out = Vec::new(alloc);
+    draw(alloc, Chosen { from, to }, script.as_bytes(), &mut out)?;
+    Ok(out)
+}
+
+#[test]
+fn two_copies_drawn(rt: HostRuntime) -> Result<(), Fail> {
+    let octets = drawn(rt.alloc(), TWO_COPIES, 2, 5)?;
+    let picture = std::str::from_utf8(octets.as_slice())?;
+    let rows = "\
+        <title>2 send: send SET PRIORITY1 7, at m</title><desc>done, sends 1</desc>\n\
+        <title>3 deliver 1: SET PRIORITY1 7, from m to K</title><desc>carried out, sends 2</desc>\n\
+        <title>4 deliver 2: RESPONSE 7, from K to m</title><desc>reported</desc>\n\
+        <title>5 deliver 1: SET PRIORITY1 7, from m to K</title><desc>answered again, sends 3</desc>\n\
+        <title>3 RESPONSE 7 lost, from K to m</title><desc>lost</desc>\n";
+    for row in rows.lines() {
+        assert!(rt; picture.contains(row), "{row}");
+    }
+    assert!(rt; !picture.contains("begin"));
+    Ok(())
+}
+
+#[test]
+fn wrong_script_not_drawn(rt: HostRuntime) {
+    let mut out = Vec::new(rt.alloc());
+    let chosen = Chosen { from: 1, to: 9 };
+    let script = "version = 1\n%%\n\nsend\n";
+    let found = draw(rt.alloc(), chosen, script.as_bytes(), &mut out);
+    assert!(rt; found == Err(ScriptError::BadLine(2, EventError::WordCount)));
+    assert!(rt; out.is_empty());
+}
+
+/// Where memory is refused, nothing is wrong with the script, and it is then drawn whole.
+#[test]
+fn draw_after_refused_memory(rt: HostRuntime) -> Result<(), Fail> {
+    let octets = match drawn(rt.alloc(), TWO_COPIES, 1, 5) {
+        Ok(octets) => octets,
+        Err(refused) => {
+            assert!(rt; refused == ScriptError::OutOfMemory);
+            drawn(rt.alloc(), TWO_COPIES, 1, 5)?
+        }
+    };
+    assert!(rt; octets.as_slice().ends_with(b"</svg>\n"));
+    Ok(())
+}

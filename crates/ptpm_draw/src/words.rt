@@ -1,0 +1,190 @@
+//! What stands at an arrow or a mark.
+
+use crate::outcome::Outcome;
+use crate::picture::{Picture, Row, Says, Way, said_by};
+use ptpm_codec::{ErrorId, OutOfMemory};
+use ptpm_data::row;
+use ptpm_manager::Ask;
+use ptpm_script::Hexadecimal;
+use ptpm_world::Event;
+use std::fmt;
+
+/// An act shows a value of at most so many octets.
+const SHOWN_OCTETS: usize = 8;
+
+/// What a message says: action, id and sequenceId of a request; action and sequenceId of a reply, and the error that it tells.
+#[derive(Clone, Copy)]
+pub(crate) struct SaysText(pub Option<Says>);
+
+impl fmt::Display for SaysText {
+    fn fmt<W: fmt::Write>(&self, f: &mut fmt::Formatter<W>) -> fmt::Result {
+        let Some(says) = self.0 else {
+            return f.write_str("no management message");
+        };
+        match says.error {
+            Some(error) => write!(f, "{} {} {}", says.action, says.number, ErrorText(error)),
+            None if says.action.is_reply() => write!(f, "{} {}", says.action, says.number),
+            None => write!(f, "{} {} {}", says.action, IdText(says.id), says.number),
+        }
+    }
+}
+
+/// A managementId by its name, or by four hexadecimal digits where the table of ids has none.
+#[derive(Clone, Copy)]
+struct IdText(u16);
+
+impl fmt::Display for IdText {
+    fn fmt<W: fmt::Write>(&self, f: &mut fmt::Formatter<W>) -> fmt::Result {
+        match row(self.0) {
+            Some(row) => f.write_str(row.name),
+            None => write!(f, "{}", Hexadecimal(&self.0.to_be_bytes())),
+        }
+    }
+}
+
+/// A managementErrorId by the standard's name, or by four hexadecimal digits where it has none (15.5.4.3).
+#[derive(Clone, Copy)]
+struct ErrorText(u16);
+
+impl fmt::Display for ErrorText {
+    fn fmt<W: fmt::Write>(&self, f: &mut fmt::Formatter<W>) -> fmt::Result {
+        match ErrorId::from_number(self.0) {
+            Some(error) => write!(f, "{error}"),
+            None => write!(f, "{}", Hexadecimal(&self.0.to_be_bytes())),
+        }
+    }
+}
+
+/// An act of a session, or a refused event: its verb, and what else its line says but for the name.
+#[derive(Clone, Copy)]
+pub(crate) struct ActText<'a>(pub &'a Event);
+
+impl fmt::Display for ActText<'_> {
+    fn fmt<W: fmt::Write>(&self, f: &mut fmt::Formatter<W>) -> fmt::Result {
+        let verb = self.0.verb();
+        match self.0 {
+            Event::Begin(_, ask) => write!(f, "{verb} {}", AskText(ask)),
+            Event::Send(_) => f.write_str(verb),
+            Event::Resume(_, attempts) => write!(f, "{verb} {attempts}"),
+            Event::Retune(_, domain) => write!(f, "{verb} {domain}"),
+            Event::Deliver(frame) => write!(f, "{verb} {frame}"),
+            Event::Stranger(_, port, _) => write!(f, "{verb} {port}"),
+        }
+    }
+}
+
+/// What a session is to ask: action, id, and a value that is not long.
+#[derive(Clone, Copy)]
+struct AskText<'a>(&'a Ask);
+
+impl fmt::Display for AskText<'_> {
+    fn fmt<W: fmt::Write>(&self, f: &mut fmt::Formatter<W>) -> fmt::Result {
+        let octets = self.0.octets.as_slice();
+        write!(f, "{} {}", self.0.action, IdText(self.0.id))?;
+        match octets.len() {
+            0 => Ok(()),
+            1..=SHOWN_OCTETS => write!(f, " {}", Hexadecimal(octets)),
+            count => write!(f, " ({count} octets)"),
+        }
+    }
+}
+
+/// What became of a row's event, that it was late, and which frames it made.
+#[derive(Clone, Copy)]
+pub(crate) struct OutcomeText<'a>(pub &'a Row);
+
+impl fmt::Display for OutcomeText<'_> {
+    fn fmt<W: fmt::Write>(&self, f: &mut fmt::Formatter<W>) -> fmt::Result {
+        let outcome = self.0.outcome();
+        write!(f, "{outcome}")?;
+        if self.0.is_late {
+            f.write_str(", late")?;
+        }
+        if self.0.before < self.0.after {
+            write!(f, ", sends {}", FramesText(self.0))?;
+        }
+        Ok(())
+    }
+}
+
+/// The numbers of the frames that a row's event made.
+#[derive(Clone, Copy)]
+struct FramesText<'a>(&'a Row);
+
+impl fmt::Display for FramesText<'_> {
+    fn fmt<W: fmt::Write>(&self, f: &mut fmt::Formatter<W>) -> fmt::Result {
+        let first = self.0.before.saturating_add(1);
+        let last = self.0.after;
+        if first == last {
+            write!(f, "{first}")
+        } else {
+            write!(f, "{first} to {last}")
+        }
+    }
+}
+
+/// The number of an event's line, its verb and, where it is a delivery, the number of its frame.
+#[derive(Clone, Copy)]
+pub(crate) struct LineText<'a> {
+    pub(crate) line: u32,
+    pub(crate) event: &'a Event,
+}
+
+impl fmt::Display for LineText<'_> {
+    fn fmt<W: fmt::Write>(&self, f: &mut fmt::Formatter<W>) -> fmt::Result {
+        let line = self.line;
+        let verb = self.event.verb();
+        match self.event {
+            Event::Deliver(frame) => write!(f, "{line} {verb} {frame}"),
+            _ => write!(f, "{line} {verb}"),
+        }
+    }
+}
+
+/// What stands at a row's arrow or mark.
+#[derive(Clone, Copy)]
+pub(crate) struct LabelText<'a> {
+    pub(crate) picture: &'a Picture,
+    pub(crate) row: &'a Row,
+    pub(crate) event: &'a Event,
+}
+
+impl fmt::Display for LabelText<'_> {
+    fn fmt<W: fmt::Write>(&self, f: &mut fmt::Formatter<W>) -> fmt::Result {
+        match (self.row.way, self.event) {
+            (Way::Arrow(frame), _) => write!(f, "{}", SaysText(self.picture.says(frame))),
+            (Way::FromEdge, Event::Stranger(_, _, octets)) => {
+                write!(f, "{}", SaysText(said_by(octets.as_slice())))
+            }
+            (Way::Mark, Event::Send(_)) if self.row.before < self.row.after => {
+                let first = self.row.before.saturating_add(1);
+                write!(f, "send {}", SaysText(self.picture.says(first)))
+            }
+            (_, event) => write!(f, "{}", ActText(event)),
+        }
+    }
+}
+
+/// A message that no event delivered.
+#[derive(Clone, Copy)]
+pub(crate) struct LostText<'a> {
+    pub(crate) picture: &'a Picture,
+    /// The number of its frame.
+    pub(crate) frame: u32,
+}
+
+impl fmt::Display for LostText<'_> {
+    fn fmt<W: fmt::Write>(&self, f: &mut fmt::Formatter<W>) -> fmt::Result {
+        let frame = self.frame;
+        write!(f, "{frame} {} lost", SaysText(self.picture.says(frame)))
+    }
+}
+
+/// Makes a text of this alone.
+pub(crate) fn spell<T: fmt::Display + Drop>(
+    text: &mut String,
+    shown: T,
+) -> Result<(), OutOfMemory> {
+    text.clear();
+    write!(text, "{shown}").map_err(|_| OutOfMemory)
+}
