@@ -50,7 +50,7 @@ static const char help[] =
     "  -o FILE         what the clock observes, as a servo would: a file, which is read at the start and whenever it is\n"
     "                  written, or a pipe, with lines as: offset_from_master 1250, or: port 1 state 9\n"
     "  -n SECONDS      it ends by itself then\n"
-    "  -v              a line for each datagram\n"
+    "  -v              a line for each datagram, and one for what it changed\n"
     "  --help          this text\n"
     "  --version       the version\n"
     "\n"
@@ -105,6 +105,15 @@ static int send_out(const struct ptpm_sent *message, const struct peer *peer, ui
     return taken > 0;
 }
 
+/* Members by their names, which the answers have that refuse their values, behind BAD_. */
+static void tell_changed(const char *where, uint32_t first, uint32_t members) {
+    printf("%s", where);
+    for (uint32_t i = 0; i < 32; i++) {
+        if (members >> i & 1) printf(" %s", answer_name(first + i) + strlen("BAD_"));
+    }
+    printf("\n");
+}
+
 static void come_in(int at, uint16_t port) {
     static uint8_t octets[65536];
     struct peer from = { .size = sizeof from.address };
@@ -113,11 +122,19 @@ static void come_in(int at, uint16_t port) {
                             peer == NULL ? NULL : &from.size);
     if (size < 0) return;
     if (from.size > sizeof from.address) from.size = sizeof from.address;       /* a path without its end counts one more */
+    struct ptpm_changed changed;
     size_t count, out = 0;
-    uint32_t answer = ptpm_clock_handle(&clock_held, port, octets, (size_t)size, sent, PTPM_MOST_SENT, &count);
+    uint32_t answer = ptpm_clock_handle_changed(&clock_held, port, octets, (size_t)size, sent, PTPM_MOST_SENT, &count, &changed);
     if (answer < ANSWERS) answers[answer]++;
     for (size_t i = 0; i < count; i++) out += (size_t)send_out(&sent[i], peer, port);
-    if (is_told) printf("port %u, %zd octets: %u, %zu of %zu sent\n", port, size, answer, out, count);
+    if (!is_told) return;
+    printf("port %u, %zd octets: %u, %zu of %zu sent\n", port, size, answer, out, count);
+    if (changed.clock != 0) tell_changed("changed:", PTPM_BAD_IDENTITY, changed.clock);
+    for (size_t i = 0; i < port_count; i++) {
+        char where[32];
+        snprintf(where, sizeof where, "changed at port %zu:", i + 1);
+        if (changed.ports[i] != 0) tell_changed(where, PTPM_BAD_STATE, changed.ports[i]);
+    }
 }
 
 static void tell_left(uint8_t left) {

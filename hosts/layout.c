@@ -301,6 +301,58 @@ static void managers(void) {
           "the port of a manager");
 }
 
+/* The members that a datagram changes, and no others; and each constant stands where the fault of its member does. */
+static void changes(void) {
+    static const struct { const char *source, *target, *tlv; unsigned action; uint32_t clock; uint8_t ports[2]; } cases[] = {
+        { "0911", ME "ffff", "0001" "0004" "2005" "6700", PTPM_SET, PTPM_CHANGED_PRIORITY1 | PTPM_CHANGED_GRANDMASTER_PRIORITY1, { 0 } },
+        { "0911", ME "ffff", "0001" "0004" "2005" "6700", PTPM_SET, 0, { 0 } },
+        { "0911", ME "ffff", "0001" "0002" "2005", PTPM_GET, 0, { 0 } },
+        { "0922", ME "ffff", "0001" "0004" "2005" "6800", PTPM_SET, 0, { 0 } },
+        { "0911", ME "ffff", "0001" "0004" "2006" "6700", PTPM_SET, PTPM_CHANGED_PRIORITY2 | PTPM_CHANGED_GRANDMASTER_PRIORITY2, { 0 } },
+        { "0911", ME "ffff", "0001" "0004" "2010" "2300", PTPM_SET, PTPM_CHANGED_CLOCK_ACCURACY | PTPM_CHANGED_GRANDMASTER_ACCURACY, { 0 } },
+        { "0911", ME "ffff", "0001" "0004" "0002" "0141", PTPM_SET, PTPM_CHANGED_USER_DESCRIPTION, { 0 } },
+        { "0911", ME "ffff", "0001" "0006" "2011" "1921" "0500", PTPM_SET,
+          PTPM_CHANGED_UTC_OFFSET | PTPM_CHANGED_LEAP61 | PTPM_CHANGED_UTC_VALID, { 0 } },
+        { "0911", ME "ffff", "0001" "0006" "2011" "1921" "0200", PTPM_SET,
+          PTPM_CHANGED_LEAP61 | PTPM_CHANGED_LEAP59 | PTPM_CHANGED_UTC_VALID, { 0 } },
+        { "0922", ME "ffff", "0001" "0004" "200b" "fe00", PTPM_SET, 0, { PTPM_CHANGED_LOG_SYNC, PTPM_CHANGED_LOG_SYNC } },
+        { "0922", ME "0001", "0001" "0004" "2009" "0100", PTPM_SET, 0, { PTPM_CHANGED_LOG_ANNOUNCE, 0 } },
+        { "0922", ME "0002", "0001" "0004" "200a" "0500", PTPM_SET, 0, { 0, PTPM_CHANGED_RECEIPT_TIMEOUT } },
+        { "0922", ME "0001", "0001" "0004" "6000" "0100", PTPM_SET, 0, { PTPM_CHANGED_DELAY_MECHANISM, 0 } },
+        { "0922", ME "0002", "0001" "0004" "6001" "0500", PTPM_SET, 0, { 0, PTPM_CHANGED_LOG_MIN_PDELAY } },
+        { "0933", ME "0002", "0001" "0002" "200e", PTPM_COMMAND, 0, { 0, PTPM_CHANGED_STATE } },
+        { "0933", ME "0002", "0001" "0002" "200d", PTPM_COMMAND, 0, { 0, PTPM_CHANGED_STATE } },
+        { "0911", ME "ffff", "0001" "0004" "2007" "2b00", PTPM_SET, PTPM_CHANGED_DOMAIN, { 0 } },
+    };
+    struct ptpm_clock_settings s = own_values();
+    check(start(&s) == PTPM_STARTED, "a clock that is changed starts");
+    for (unsigned i = 0; i < sizeof cases / sizeof *cases; i++) {
+        struct ptpm_changed wanted = { .clock = cases[i].clock, .ports = { cases[i].ports[0], cases[i].ports[1] } }, changed;
+        char source[32];
+        uint8_t octets[PTPM_MOST_OCTETS];
+        snprintf(source, sizeof source, "%s%s", MANAGER, cases[i].source);
+        size_t size = octets_of(message(0x2a, source, 0x4000 + i, cases[i].target, 0, cases[i].action, cases[i].tlv), octets);
+        memset(&changed, 0xff, sizeof changed);
+        check(ptpm_clock_handle_changed(&clock_held, 1, octets, size, sent, PTPM_MOST_SENT, &count, &changed) == PTPM_ANSWERED_NEW
+              && count >= 1 && memcmp(&changed, &wanted, sizeof changed) == 0, "what a request changed");
+        memset(&changed, 0xff, sizeof changed);
+        check(ptpm_clock_handle_changed(&clock_held, 1, octets, size, sent, PTPM_MOST_SENT, &count, &changed) == PTPM_ANSWERED_REPEAT
+              && changed.clock == 0 && changed.ports[0] == 0 && changed.ports[1] == 0, "a request again changes nothing");
+    }
+#define MEMBER(name) check(PTPM_CHANGED_##name == 1 << (PTPM_BAD_##name - PTPM_BAD_IDENTITY), "PTPM_CHANGED_" #name);
+    MEMBER(IDENTITY) MEMBER(DOMAIN) MEMBER(USER_DESCRIPTION) MEMBER(TWO_STEP) MEMBER(PRIORITY1) MEMBER(CLOCK_CLASS)
+    MEMBER(CLOCK_ACCURACY) MEMBER(VARIANCE) MEMBER(PRIORITY2) MEMBER(STEPS_REMOVED) MEMBER(OFFSET_FROM_MASTER)
+    MEMBER(MEAN_PATH_DELAY) MEMBER(PARENT_PORT) MEMBER(PARENT_STATS) MEMBER(OBSERVED_VARIANCE) MEMBER(OBSERVED_RATE)
+    MEMBER(GRANDMASTER_PRIORITY1) MEMBER(GRANDMASTER_CLASS) MEMBER(GRANDMASTER_ACCURACY) MEMBER(GRANDMASTER_VARIANCE)
+    MEMBER(GRANDMASTER_PRIORITY2) MEMBER(GRANDMASTER) MEMBER(UTC_OFFSET) MEMBER(LEAP61) MEMBER(LEAP59) MEMBER(UTC_VALID)
+    MEMBER(PTP_TIMESCALE) MEMBER(TIME_TRACEABLE) MEMBER(FREQUENCY_TRACEABLE) MEMBER(TIME_SOURCE)
+#undef MEMBER
+#define MEMBER(name) check(PTPM_CHANGED_##name == 1 << (PTPM_BAD_##name - PTPM_BAD_STATE), "PTPM_CHANGED_" #name);
+    MEMBER(STATE) MEMBER(LOG_MIN_DELAY_REQ) MEMBER(PEER_DELAY) MEMBER(LOG_ANNOUNCE) MEMBER(RECEIPT_TIMEOUT) MEMBER(LOG_SYNC)
+    MEMBER(DELAY_MECHANISM) MEMBER(LOG_MIN_PDELAY)
+#undef MEMBER
+}
+
 static struct ptpm_session_settings session_values(void) {
     struct ptpm_session_settings s = {
         .port = 0x0a11, .target_ports = 7, .first = 0x3344, .domain = 0x2b, .hops = 9, .attempts = 3,
@@ -442,6 +494,7 @@ int main(void) {
     observed_of_a_clock();
     observed_of_ports();
     managers();
+    changes();
     sessions();
     surveys();
     answer_names();

@@ -15,9 +15,9 @@
      something to free. There is one live copy of a handle. The host may move it, and reads and writes nothing inside it.
    - malloc, realloc and free come from one allocator, and malloc aligns each block to the greatest power of two up to 16
      that divides its size. No call is made from a signal handler, or in a forked child of a process with threads.
-   - A call has the stack that it needs, as the library is built for x86-64: ptpm_clock_start 139,000 octets, ptpm_survey_send
-     1,800, ptpm_clock_handle and ptpm_clock_observe 1,000, every other call 500; and beyond that what malloc, realloc, free,
-     memcpy, memmove and memset of the host take. No call calls itself.
+   - A call has the stack that it needs, as the library is built for x86-64: ptpm_clock_start 139,000 octets,
+     ptpm_clock_handle_changed 2,600, ptpm_survey_send 1,900, ptpm_clock_handle and ptpm_clock_observe 1,000, every other call 500;
+     and beyond that what malloc, realloc, free, memcpy, memmove and memset of the host take. No call calls itself.
 
    Where several refusals hold, a call answers the first. Want of memory can come in place of it in ptpm_clock_start alone; every
    other call asks for memory where nothing else refuses. */
@@ -175,6 +175,32 @@ struct ptpm_sent {
     uint8_t octets[1472];
 };
 
+/* Which members have another value behind a datagram than before it: of the clock, and of port 1, port 2 and so on. */
+struct ptpm_changed {
+    uint32_t clock;                     /* PTPM_CHANGED_IDENTITY to PTPM_CHANGED_TIME_SOURCE, summed up */
+    uint8_t ports[8];                   /* PTPM_CHANGED_STATE to PTPM_CHANGED_LOG_MIN_PDELAY, summed up */
+};
+
+/* Members of a clock, and those of a port, in the order of PTPM_BAD_IDENTITY to PTPM_BAD_LOG_MIN_PDELAY. */
+enum {
+    PTPM_CHANGED_IDENTITY = 1 << 0, PTPM_CHANGED_DOMAIN = 1 << 1, PTPM_CHANGED_USER_DESCRIPTION = 1 << 2,
+    PTPM_CHANGED_TWO_STEP = 1 << 3, PTPM_CHANGED_PRIORITY1 = 1 << 4, PTPM_CHANGED_CLOCK_CLASS = 1 << 5,
+    PTPM_CHANGED_CLOCK_ACCURACY = 1 << 6, PTPM_CHANGED_VARIANCE = 1 << 7, PTPM_CHANGED_PRIORITY2 = 1 << 8,
+    PTPM_CHANGED_STEPS_REMOVED = 1 << 9, PTPM_CHANGED_OFFSET_FROM_MASTER = 1 << 10, PTPM_CHANGED_MEAN_PATH_DELAY = 1 << 11,
+    PTPM_CHANGED_PARENT_PORT = 1 << 12, PTPM_CHANGED_PARENT_STATS = 1 << 13, PTPM_CHANGED_OBSERVED_VARIANCE = 1 << 14,
+    PTPM_CHANGED_OBSERVED_RATE = 1 << 15, PTPM_CHANGED_GRANDMASTER_PRIORITY1 = 1 << 16,
+    PTPM_CHANGED_GRANDMASTER_CLASS = 1 << 17, PTPM_CHANGED_GRANDMASTER_ACCURACY = 1 << 18,
+    PTPM_CHANGED_GRANDMASTER_VARIANCE = 1 << 19, PTPM_CHANGED_GRANDMASTER_PRIORITY2 = 1 << 20,
+    PTPM_CHANGED_GRANDMASTER = 1 << 21, PTPM_CHANGED_UTC_OFFSET = 1 << 22, PTPM_CHANGED_LEAP61 = 1 << 23,
+    PTPM_CHANGED_LEAP59 = 1 << 24, PTPM_CHANGED_UTC_VALID = 1 << 25, PTPM_CHANGED_PTP_TIMESCALE = 1 << 26,
+    PTPM_CHANGED_TIME_TRACEABLE = 1 << 27, PTPM_CHANGED_FREQUENCY_TRACEABLE = 1 << 28, PTPM_CHANGED_TIME_SOURCE = 1 << 29
+};
+enum {
+    PTPM_CHANGED_STATE = 1 << 0, PTPM_CHANGED_LOG_MIN_DELAY_REQ = 1 << 1, PTPM_CHANGED_PEER_DELAY = 1 << 2,
+    PTPM_CHANGED_LOG_ANNOUNCE = 1 << 3, PTPM_CHANGED_RECEIPT_TIMEOUT = 1 << 4, PTPM_CHANGED_LOG_SYNC = 1 << 5,
+    PTPM_CHANGED_DELAY_MECHANISM = 1 << 6, PTPM_CHANGED_LOG_MIN_PDELAY = 1 << 7
+};
+
 /* A session of a manager, about 1,600 octets behind one pointer. All zeros hold no session. */
 struct ptpm_session { void *at; bool live; };
 
@@ -219,7 +245,8 @@ struct ptpm_source {
 static_assert(sizeof(struct ptpm_clock) == 16 && sizeof(struct ptpm_clock_settings) == 216
                && sizeof(struct ptpm_port_settings) == 16 && sizeof(struct ptpm_observed_clock) == 88
                && sizeof(struct ptpm_observed_port) == 16 && sizeof(struct ptpm_manager_settings) == 12
-               && sizeof(struct ptpm_sent) == 1476 && sizeof(struct ptpm_session) == 16
+               && sizeof(struct ptpm_sent) == 1476 && sizeof(struct ptpm_changed) == 12
+               && sizeof(struct ptpm_session) == 16
                && sizeof(struct ptpm_session_settings) == 26 && sizeof(struct ptpm_survey) == 16
                && sizeof(struct ptpm_survey_settings) == 16 && sizeof(struct ptpm_source) == 10,
               "the library was made for other sizes");
@@ -252,8 +279,8 @@ enum {
     /* why nothing changed */
     PTPM_NO_CLOCK = 32,                 /* the handle holds none */
     PTPM_NO_PORT,                       /* the clock lacks the port */
-    /* room for fewer than PTPM_MOST_SENT messages (ptpm_clock_handle); for fewer octets than PTPM_MOST_READ (ptpm_clock_read),
-       than PTPM_MOST_OCTETS (ptpm_session_send, ptpm_survey_send), or than the dataField that is told has
+    /* room for fewer than PTPM_MOST_SENT messages (the two calls that handle a datagram); for fewer octets than PTPM_MOST_READ
+       (ptpm_clock_read), than PTPM_MOST_OCTETS (ptpm_session_send, ptpm_survey_send), or than the dataField that is told has
        (ptpm_session_report, ptpm_survey_answer) */
     PTPM_NO_ROOM,
     PTPM_NO_MEMORY,                     /* in ptpm_clock_start it can come in place of the refusal that holds first */
@@ -302,6 +329,12 @@ uint32_t ptpm_clock_start(struct ptpm_clock *clock, const struct ptpm_clock_sett
    be sent, in this order; room is how many places there are, PTPM_MOST_SENT or more. Takes no memory. */
 uint32_t ptpm_clock_handle(struct ptpm_clock *clock, uint16_t port, const uint8_t *datagram, size_t size,
                            struct ptpm_sent *sent, size_t room, size_t *count);
+
+/* Does what ptpm_clock_handle does, and tells what the datagram changed: the members whose value is another behind the call
+   than before it, and no others. None (all zeros) whatever is answered but PTPM_ANSWERED_NEW, and behind a GET or a request that
+   was refused. The new values are read by ptpm_clock_read. Takes no memory. */
+uint32_t ptpm_clock_handle_changed(struct ptpm_clock *clock, uint16_t port, const uint8_t *datagram, size_t size,
+                                   struct ptpm_sent *sent, size_t room, size_t *count, struct ptpm_changed *changed);
 
 /* Moves what the host observes of its clock and of its ports, the first of which is port 1, and nothing else: PTPM_OBSERVED, or
    why not, and then nothing changes. There may be fewer places than ports, and none; more are PTPM_NO_PORT. What is judged is

@@ -4,6 +4,7 @@
 
 ghost use Rattle.std.specs.Prelude.{◌≡◌, ◌≢◌, ◌≤◌, IfNone, IfSome, IsSomeAnd, None, Ok, Some, drop, length, take};
 ghost use Rattle.std.specs.List.{AllZip};
+ghost use Rattle.ptpm_data.specs.Changed.{changed, no_members};
 ghost use Rattle.ptpm_data.specs.DataField.{data_field_of_id};
 ghost use Rattle.ptpm_data.specs.Members.{has_port};
 ghost use Rattle.ptpm_data.specs.Start.{default_clock, default_port};
@@ -13,7 +14,8 @@ ghost use Rattle.ptpm_host.specs.declared.refusal.HandleRefusal.{HandleRefusal};
 ghost use Rattle.ptpm_host.specs.declared.refusal.ReadRefusal.{ReadRefusal};
 ghost use Rattle.ptpm_host.specs.declared.refusal.StartRefusal.{StartRefusal};
 ghost use Rattle.ptpm_host.specs.Clock.{IsFreshClock, KeepsBehind, handle_refusal, messages_in, start_by, start_refusal};
-ghost use Rattle.ptpm_host.specs.Numbers.{handle_number, no_clock, no_memory, observe_number, read_number, start_number};
+ghost use Rattle.ptpm_host.specs.Numbers.{handle_number, no_clock, no_memory, observe_number, read_number, start_number, verdict_number};
+ghost use Rattle.ptpm_agent.specs.declared.verdict.Verdict.{Verdict};
 ghost use Rattle.ptpm_host.specs.Observing.{IsObserved, left_number, observe_refusal, ports_left};
 ghost use Rattle.ptpm_host.specs.Reading.{read_refusal};
 ghost use Rattle.ptpm_host.specs.Settings.{clock_start, default_identity, port_start};
@@ -30,6 +32,7 @@ mod survey;
 
 use crate::handle::Handle;
 use crate::kept::{Hosted, Kept};
+use ptpm_data::ChangedMembers;
 use ptpm_host::{
     ClockSettings, HostedClock, ManagerSettings, NO_CLOCK, NO_MEMORY, ObservedClock, ObservedPort,
     PortSettings, Sent, handle_number, left_number, observe_number, read_number, start_number,
@@ -133,6 +136,61 @@ pub extern "C" fn ptpm_clock_handle(
         Ok(handled) => {
             *count = handled.count;
             verdict_number(handled.verdict)
+        }
+        Err(refusal) => handle_number(refusal),
+    };
+    *handle = Handle::of(kept, Hosted::Clock(clock));
+    number
+}
+
+/// What `ptpm_clock_handle` does, and leaves in `members` those that have another value behind it than before: none but where
+/// the number is that of AnsweredNew. Takes no memory.
+#[tactic(auto, using(crate::proofs::Turns::turned_to, crate::proofs::Turns::changed_to, crate::proofs::Turns::none_of_another, ptpm_host::proofs::Behind::kept_at_first))]
+#[unsafe(no_mangle)]
+pub extern "C" fn ptpm_clock_handle_changed(
+    alloc: Global,
+    handle: &mut Handle,
+    port: u16,
+    datagram: &[u8],
+    sent: &mut [Sent],
+    count: &mut usize,
+    members: &mut ChangedMembers,
+) -> u32
+    ensures turned { (c : HostedClock)
+        → clock_held handle.old.keeping ≡ Some c
+        → handle_refusal (has_port port c.agent.sets) (length sent.old) ≡ None
+        → IsSomeAnd (clock_held handle.new.keeping)
+        (λ d. IsTurnedTo c port datagram.now result (messages_in (take count.new sent.new)) d) }
+    ensures changed { (c : HostedClock)
+        → clock_held handle.old.keeping ≡ Some c
+        → handle_refusal (has_port port c.agent.sets) (length sent.old) ≡ None
+        → IsSomeAnd (clock_held handle.new.keeping)
+        (λ d. members.new ≡ changed c.agent.sets d.agent.sets) }
+    ensures new_alone { result ≢ verdict_number Verdict.AnsweredNew → members.new ≡ no_members }
+    ensures refused { (c : HostedClock) (e : HandleRefusal)
+        → clock_held handle.old.keeping ≡ Some c
+        → handle_refusal (has_port port c.agent.sets) (length sent.old) ≡ Some e
+        → (result ≡ handle_number e)
+        × ((count.new ≡ 0)
+        × ((sent.new ≡ sent.old) × (clock_held handle.new.keeping ≡ Some c))) }
+    ensures within { count.new ≤ length sent.new }
+    ensures places { drop count.new sent.new ≡ drop count.new sent.old }
+    ensures behind { AllZip KeepsBehind sent.old sent.new }
+    ensures empty { clock_held handle.old.keeping ≡ None
+        → (result ≡ no_clock)
+        × ((count.new ≡ 0)
+        × ((sent.new ≡ sent.old) × (held handle.new.keeping ≡ held handle.old.keeping))) }
+{
+    *count = 0;
+    *members = ChangedMembers::NONE;
+    let Some((kept, mut clock)) = handle.take_clock(alloc) else {
+        return NO_CLOCK;
+    };
+    let number = match clock.handle_changed(port, datagram, sent) {
+        Ok((taken, changed)) => {
+            *count = taken.count;
+            *members = changed;
+            verdict_number(taken.verdict)
         }
         Err(refusal) => handle_number(refusal),
     };

@@ -295,3 +295,58 @@ fn names_of_errors(rt: HostRuntime) {
     assert!(rt; ptpm_error_name(0x0007, &mut octets) == 0);
     assert!(rt; octets.as_slice() == b"WRONG_VALUEOR.".as_slice());
 }
+
+/// SET PRIORITY1 to 100, number 8, of the manager to the clock, at every port.
+const SET_PRIORITY1: &[u8; 56] = b"\x0d\x12\x00\x38\x00\x00\
+    \x00\x00\x00\x00\x00\x00\x00\x00\x00\x00\x00\x00\x00\x00\
+    \x00\x11\x22\x33\x44\x55\x66\x77\x00\x01\x00\x08\x04\x7f\
+    \xaa\xbb\xcc\xff\xfe\xdd\xee\x01\xff\xff\x01\x01\x01\x00\
+    \x00\x01\x00\x04\x20\x05\x64\x00";
+
+/// COMMAND DISABLE_PORT, number 9, of the manager to port 2 of the clock.
+const DISABLE_PORT: &[u8; 54] = b"\x0d\x12\x00\x36\x00\x00\
+    \x00\x00\x00\x00\x00\x00\x00\x00\x00\x00\x00\x00\x00\x00\
+    \x00\x11\x22\x33\x44\x55\x66\x77\x00\x01\x00\x09\x04\x7f\
+    \xaa\xbb\xcc\xff\xfe\xdd\xee\x01\x00\x02\x01\x01\x03\x00\
+    \x00\x01\x00\x02\x20\x0e";
+
+/// A clock that is its own grandmaster shows its priority1 as the grandmaster's too: bits 4 and 16 of the clock. portState is
+/// bit 0 of port 2.
+#[test]
+fn what_a_datagram_changes(rt: HostRuntime) {
+    let alloc = rt.alloc();
+    let mut handle = Handle::empty();
+    let settings = ClockSettings {
+        identity: [0xaa, 0xbb, 0xcc, 0xff, 0xfe, 0xdd, 0xee, 0x01],
+        ..ClockSettings::new()
+    };
+    let manager = ManagerSettings {
+        clock: [0x00, 0x11, 0x22, 0x33, 0x44, 0x55, 0x66, 0x77],
+        port: 1,
+        rights: 7,
+    };
+    let mut sent = [Sent::empty(); 15];
+    let mut count = 0;
+    let mut changed = ChangedMembers::NONE;
+    let ports = [PortSettings::new(); 2];
+    assert!(rt; ptpm_clock_start(alloc, &mut handle, &settings, &ports, &[manager]) == 0);
+    for (datagram, number, clock, port) in [
+        (SET_PRIORITY1.as_slice(), 5, 0x1_0010, 0),
+        (SET_PRIORITY1.as_slice(), 6, 0, 0),
+        (DISABLE_PORT.as_slice(), 5, 0, 1),
+    ] {
+        let answer = ptpm_clock_handle_changed(
+            alloc,
+            &mut handle,
+            1,
+            datagram,
+            &mut sent,
+            &mut count,
+            &mut changed,
+        );
+        assert!(rt; answer == number);
+        assert!(rt; changed.clock.0 == clock);
+        assert!(rt; changed.ports[0].0 == 0 && changed.ports[1].0 == port);
+    }
+    ptpm_clock_stop(alloc, &mut handle);
+}
