@@ -27,7 +27,7 @@ _ptpm_last() {
 }
 
 _ptpm() {
-    local before=${COMP_WORDS[COMP_CWORD - 1]} commands="answer show ids make run check schedule" command
+    local before=${COMP_WORDS[COMP_CWORD - 1]} commands="answer show ids make run check schedule draw" command
     command=$(_ptpm_last "$commands")
     case $command,$before,${COMP_WORDS[COMP_CWORD]} in
     ,*) _ptpm_offer "$commands --help --version" ;;
