@@ -4,7 +4,7 @@ use Rattle.ptpm_network.proofs.Common.{by_test, suc, zero, arith, ◌≡◌, ℕ
 -- ---- one more accepted request
 
 module _ (m : PortIdentity) (d : Accepted) (es : List Accepted) where
-  greatest-same : same_identity m d.manager ≡ true
+  pub greatest-same : same_identity m d.manager ≡ true
       → greatest m (d ∷ es) ≡ max d.index (greatest m es)
   greatest-same t = cond-true _ _ _ t
 

@@ -30,11 +30,15 @@ pub mod Worth
 pub mod Exchanging
 pub mod Carrying
 pub mod RoundTrip
+pub mod Leaving
+pub mod Sending
+pub mod Meanwhile
 pub mod Answerable
 pub mod Ways
 pub mod Counting
 pub mod DueReplies
 pub mod Unchanged
+pub mod Closing
 pub mod Reporting
 pub mod Resuming
 pub mod Truth

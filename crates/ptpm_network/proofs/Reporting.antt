@@ -1,5 +1,6 @@
 -- What reports of a running network are worth, and that it runs to the report that a way gives.
-use Rattle.ptpm_network.proofs.Common.{◌≡◌, ℕ, ◌<◌, ◌≤◌, ◌+◌, List, [], ◌∷◌, ◌++◌, Some, true, false, sym, ◌∙◌, ap, subst, length, cond-true, is_some, slice_get, AllByRecursion, PortIdentity, Report, is_waiting, Event, IsInRange, frames_limit, RunningNetwork, network_run, StandsAfter, run, IsNetwork, Network, AreFirsts, Stands, NetworkState, SessionState, initial_state, is_idle, session_value, Hop, IsAnswerable, IsWay, LinksHaveAtMost, RunsToReport, made_each_way, IsWorth}
+use Rattle.ptpm_network.proofs.Common.{◌≡◌, ℕ, ◌<◌, ◌≤◌, ◌+◌, List, [], ◌∷◌, ◌++◌, Some, true, false, sym, ◌∙◌, ap, subst, length, cond-true, is_some, slice_get, AllByRecursion, PortIdentity, Report, is_waiting, Event, IsInRange, frames_limit, RunningNetwork, network_run, StandsAfter, run, IsNetwork, Network, AreFirsts, Stands, NetworkState, SessionState, initial_state, is_idle, session_value, Hop, IsAnswerable, IsWay, LinksHaveAtMost, RunsToReport, made_each_way, IsWorth, HasReported, AreInTime, taken}
+use Rattle.ptpm_network.specs.Way.{ReportsAfter}
 use Rattle.ptpm_network.proofs.Answerable.{answer-runs, answerable, answering}
 use Rattle.ptpm_network.proofs.Promise.{first_of_sessions, firsts}
 use Rattle.ptpm_network.proofs.Running.{network_run-stands}
@@ -31,6 +32,32 @@ idle-not_waiting : (N : Network) (s : ℕ) (x : SessionState)
     → is_waiting (session_value (N.session s) x) ≡ false
 idle-not_waiting N s x idle = ap is_some (cond-true _ _ _ idle)
 
+reports-run : (N : Network) (first : PortIdentity → ℕ) (r : RunningNetwork) (w : NetworkState)
+    (s : ℕ) (es : List Event)
+    → s < N.sessions → Stands N first r w → HasReported w (run N w es) s
+    → Stands N first (network_run N r es) (run N w es)
+    → ReportsAfter N r s es
+reports-run N first r w s es place at h next = record {
+  report = h.report;
+  reports = next.reports s place ∙ h.reports ∙ ap (λ rs. rs ++ h.report ∷ []) (sym (at.reports s place));
+  idle = ap is_waiting (next.sessions s place) ∙ idle-not_waiting N s ((run N w es).session s) h.idle;
+}
+
+-- in whatever way the machine reports
+pub reported-run : (N : Network) (past es : List Event) (r : RunningNetwork) (s : ℕ)
+    → StandsAfter N past r → s < N.sessions → AllByRecursion IsInRange es
+    → taken N (run N (initial_state N) past) es ≡ es → AreInTime N (run N (initial_state N) past) es
+    → HasReported (run N (initial_state N) past) (run N (run N (initial_state N) past) es) s
+    → ReportsAfter N r s es
+reported-run N past es r s at place range whole time h =
+    let w : NetworkState = run N (initial_state N) past in
+    let first : PortIdentity → ℕ = first_of_sessions N N.sessions in
+    let given : AreFirsts N first = firsts N at.promised.network in
+    let n = at.promised.network in
+    let now = at.stands first given in
+    let next = network_run-stands N first r w es given n (reached N past n at.promised.in_range) now range (taken-in_time N w es time) in
+    reports-run N first r w s es place now h (subst (λ ts. Stands N first (network_run N r es) (run N w ts)) whole next)
+
 runs-to_report : (N : Network) (first : PortIdentity → ℕ) (r : RunningNetwork) (w : NetworkState)
     (s : ℕ) (hops : List Hop) (port : ℕ)
     → s < N.sessions → Stands N first r w → (a : IsAnswerable N w s hops port)
@@ -40,9 +67,7 @@ runs-to_report : (N : Network) (first : PortIdentity → ℕ) (r : RunningNetwor
 runs-to_report N first r w s hops port place at a next = record {
   deliveries = a.deliveries;
   along = a.along;
-  report = a.reported.report;
-  reports = next.reports s place ∙ a.reported.reports ∙ ap (λ rs. rs ++ a.reported.report ∷ []) (sym (at.reports s place));
-  idle = ap is_waiting (next.sessions s place) ∙ idle-not_waiting N s ((run N w (answering s a.deliveries)).session s) a.reported.idle;
+  reported = reports-run N first r w s (answering s a.deliveries) place at a.reported next;
 }
 
 pub running-answered : (N : Network) (es : List Event) (first : PortIdentity → ℕ)

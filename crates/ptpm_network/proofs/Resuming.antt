@@ -1,8 +1,9 @@
 -- A session that is retuned or resumed first, and then answered along a way.
-use Rattle.ptpm_network.proofs.Common.{◌≡◌, ℕ, ◌<◌, ◌≤◌, ◌+◌, List, [], ◌∷◌, ◌++◌, None, false, inl, inr, refl, sym, ◌∙◌, ap, subst, length, eq-eqb, ⊎_elim, AllByRecursion, is_none, cond-true, option_or, first_of, Event, IsInRange, Resume, Retune, SendRefused, frames_limit, refusal, resume_refused, happens, run, step, taken, with_session, IsNetwork, Network, NetworkState, SessionState, initial_state, greatest_accepted, history, is_idle, issued, IsAnswerable, IsWay, LinksHaveAtMost, PassesOn, Hop, made_each_way, all_append, all_weaker, with_place-same, AreInTime, RunningNetwork, RunsToReport, StandsAfter, network_run}
+use Rattle.ptpm_network.proofs.Common.{◌≡◌, ℕ, ◌<◌, ◌≤◌, ◌+◌, List, [], ◌∷◌, ◌++◌, None, false, inl, inr, refl, sym, ◌∙◌, ap, subst, length, eq-eqb, ⊎_elim, AllByRecursion, is_none, cond-true, option_or, first_of, Event, IsInRange, Resume, Retune, SendRefused, frames_limit, refusal, resume_refused, happens, run, step, taken, with_session, IsNetwork, Network, NetworkState, SessionState, initial_state, greatest_accepted, history, is_idle, issued, IsWay, LinksHaveAtMost, PassesOn, Hop, made_each_way, all_append, all_weaker, with_place-same, AreInTime, RunningNetwork, RunsToReport, StandsAfter, network_run}
 use Rattle.ptpm_manager.specs.declared.error.SendError.TheVariants as sends
 use Rattle.ptpm_network.specs.Way.{IsWayIn}
-use Rattle.ptpm_network.proofs.Answerable.{answerable}
+use Rattle.ptpm_network.specs.Meanwhile.{IsAnswerableMeanwhile}
+use Rattle.ptpm_network.proofs.Answerable.{answerable-meanwhile}
 use Rattle.ptpm_network.proofs.Exchanging.{step-taken}
 use Rattle.ptpm_network.proofs.Promise.{stands-network_run}
 use Rattle.ptpm_network.proofs.Reporting.{answered-after}
@@ -141,8 +142,8 @@ taken-moved N w s domain attempts place busy =
 ready-answerable : (N : Network) (es : List Event) (s : ℕ) (hops : List Hop) (port ends : ℕ)
     → IsNetwork N → AllByRecursion IsInRange es → s < N.sessions → LinksHaveAtMost N ends
     → IsReady N (run N (initial_state N) es) s hops port ends
-    → IsAnswerable N (run N (initial_state N) es) s hops port
-ready-answerable N es s hops port ends n range place all ready = answerable N es s hops port ends n range place ready.busy ready.attempts ready.way all ready.room
+    → IsAnswerableMeanwhile N (run N (initial_state N) es) s hops port ends
+ready-answerable N es s hops port ends n range place all ready = answerable-meanwhile N es s hops port ends n range place ready.busy ready.attempts ready.way all ready.room
 
 module _ (N : Network) (es : List Event) (s : ℕ) (hops : List Hop) (port ends : ℕ) (n : IsNetwork N) (range : AllByRecursion IsInRange es) (place : s < N.sessions) (busy : is_idle ((run N (initial_state N) es).session s) ≡ false) (all : LinksHaveAtMost N ends) (room : length (run N (initial_state N) es).frames + made_each_way ends hops ≤ frames_limit) where
   abbrev w : NetworkState
@@ -151,24 +152,24 @@ module _ (N : Network) (es : List Event) (s : ℕ) (hops : List Hop) (port ends 
   after : (own : List Event)
       → AllByRecursion IsInRange own
       → IsReady N (run N w own) s hops port ends
-      → IsAnswerable N (run N (initial_state N) (es ++ own)) s hops port
+      → IsAnswerableMeanwhile N (run N (initial_state N) (es ++ own)) s hops port ends
   after own more ready =
       ready-answerable N (es ++ own) s hops port ends n (all_append IsInRange es own range more) place all
       (subst (λ (u : NetworkState). IsReady N u s hops port ends) (sym (run-append N (initial_state N) es own)) ready)
 
   pub answerable-resumed : (attempts : ℕ)
       → 0 < attempts → IsWay N w s hops port
-      → IsAnswerable N (run N (initial_state N) (es ++ Resume s attempts ∷ [])) s hops port
+      → IsAnswerableMeanwhile N (run N (initial_state N) (es ++ Resume s attempts ∷ [])) s hops port ends
   answerable-resumed attempts some way = after (Resume s attempts ∷ []) (tt, tt) (resumed-ready N w s hops port ends place busy room attempts some way)
 
   pub answerable-moved : (domain attempts : ℕ)
       → 0 < attempts → IsWayIn N w s domain hops port
-      → IsAnswerable N (run N (initial_state N) (es ++ moving s domain attempts)) s hops port
+      → IsAnswerableMeanwhile N (run N (initial_state N) (es ++ moving s domain attempts)) s hops port ends
   answerable-moved domain attempts some way = after (moving s domain attempts) (tt, (tt, tt)) (both-ready N w s hops port ends place busy room domain attempts some way)
 
   pub answerable-retuned : (domain : ℕ)
       → 0 < (w.session s).attempts_left → IsWayIn N w s domain hops port
-      → IsAnswerable N (run N (initial_state N) (es ++ Retune s domain ∷ [])) s hops port
+      → IsAnswerableMeanwhile N (run N (initial_state N) (es ++ Retune s domain ∷ [])) s hops port ends
   answerable-retuned domain some way = after (Retune s domain ∷ []) (tt, tt) (retuned-ready N w s hops port ends place busy room domain some way)
 
 -- ---- a network that runs

@@ -43,7 +43,7 @@ module _ (N : Network) (w : NetworkState) (c port : ℕ) (datagram : List ℕ) (
       let honest = (first_of-none (is_forged N datagram) Forged [] q.0).0 in
       strange-history (port-exists N c port p.0).0 (λ v h. strange-message N datagram v octets honest h)
 
-strange-step_by : (N : Network) (w : NetworkState) (c port : ℕ) (datagram : List ℕ) (d : ℕ)
+pub strange-step_by : (N : Network) (w : NetworkState) (c port : ℕ) (datagram : List ℕ) (d : ℕ)
     (o : Option Refusal)
     → refusal N w (Stranger c port datagram) ≡ o → IsNetwork N → IsReached N w
     → IsInRange (Stranger c port datagram)

@@ -29,8 +29,6 @@ pub data Event : Type 0 where
   -- a stranger sends a datagram to a port of a clock
   Stranger : (clock : ℕ) → (port : ℕ) → (datagram : List ℕ) → Event
 
--- ---- refusals
-
 pub data Refusal : Type 0 where
   NoSuchName : Refusal
   NoSuchFrame : Refusal
@@ -77,12 +75,10 @@ no_room frames = first_of ((nat_lt frames_limit (length frames), FramesAtMaximum
 
 -- why a session does not begin, send or resume
 abbrev pub begin_refused : Network → NetworkState → ℕ → Ask → Option Refusal
-begin_refused N w s a =
-    option_map BeginRefused (begin_refusal (session_value (N.session s) (w.session s)) a)
+begin_refused N w s a = option_map BeginRefused (begin_refusal (session_value (N.session s) (w.session s)) a)
 
 abbrev pub send_refused : Network → NetworkState → ℕ → Option Refusal
-send_refused N w s =
-    option_map SendRefused (send_refusal (session_value (N.session s) (w.session s)))
+send_refused N w s = option_map SendRefused (send_refusal (session_value (N.session s) (w.session s)))
 
 abbrev pub resume_refused : NetworkState → ℕ → Option Refusal
 resume_refused w s = first_of ((is_idle (w.session s), SendRefused sends.Idle) ∷ [])
@@ -90,17 +86,14 @@ resume_refused w s = first_of ((is_idle (w.session s), SendRefused sends.Idle) �
 -- the first reason to refuse an event; want of memory is none
 unfoldable pub refusal : Network → NetworkState → Event → Option Refusal
 refusal N w (Begin s ask) = option_or (no_session N s) (begin_refused N w s ask)
-refusal N w (Send s) =
-    option_or (no_session N s) (option_or (no_room w.frames) (send_refused N w s))
+refusal N w (Send s) = option_or (no_session N s) (option_or (no_room w.frames) (send_refused N w s))
 refusal N w (Resume s attempts) = option_or (no_session N s) (resume_refused w s)
 refusal N w (Retune s domain) = no_session N s
 refusal N w (Deliver n) = option_or (no_frame (frame_at w.frames n)) (no_room w.frames)
 refusal N w (Stranger c port datagram) =
     option_or (no_port N c port) (option_or (forged N datagram) (no_room w.frames))
 
--- ---- events of a program
-
--- a managementId has 16 bits, and an octet has eight
+-- an event that a program can hand in: a managementId has 16 bits, and an octet has eight
 abbrev pub IsInRange : Event → Type 0
 IsInRange (Begin s ask) = ask.id < 2 ^ 16
 IsInRange (Stranger c port datagram) = (place : ℕ) → octet place datagram < 256

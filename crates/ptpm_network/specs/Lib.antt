@@ -12,6 +12,7 @@ pub mod Headline
 pub mod Worth
 pub mod Exchange
 pub mod Way
+pub mod Meanwhile
 pub mod Copies
 pub mod ByManager
 pub mod Served

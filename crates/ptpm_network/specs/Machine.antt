@@ -1,5 +1,4 @@
--- The network machine: what each event does to its state. It tells requests apart by their sessions and indexes, and reads no
--- sequenceId.
+-- What each event does to the network machine, which tells requests apart by session and index, and reads no sequenceId.
 use Rattle.std.specs.Prelude.{◌≡◌, ℕ, ◌+◌, ◌-◌, ◌==◌, ◌&&◌, not, Bool, false, List, [], ◌∷◌, ◌++◌, length, flat_map, Option, Some, None, is_none, if◌then◌else◌}
 use Rattle.ptpm_codec.specs.declared.message.Message.{Message}
 use Rattle.ptpm_codec.specs.Canonical.{canonical}
@@ -54,8 +53,7 @@ sends N w s =
 -- a frame that comes in at a port; a copy of request k of a manager has the index k
 abbrev pub index_of : Origin → ℕ
 index_of (RequestOf s k) = k
-index_of (ReplyTo s k) = 0
-index_of Neither = 0
+index_of _ = 0
 
 abbrev pub delivery : ℕ → Frame → Delivery
 delivery port f = record { ingress = port; datagram = f.octets; index = index_of f.origin }
@@ -69,8 +67,7 @@ forwarded_frames N c f sent =
 -- the reply to a copy of a session's request belongs to that request
 abbrev pub reply_origin : Origin → Origin
 reply_origin (RequestOf s k) = ReplyTo s k
-reply_origin (ReplyTo s k) = Neither
-reply_origin Neither = Neither
+reply_origin _ = Neither
 
 abbrev pub reply_frames : Network → ℕ → Origin → List (ℕ × List ℕ) → List Frame
 reply_frames N c origin sent =
@@ -122,8 +119,7 @@ delivered_at_clock N w c port f =
 -- it is a reply to the session's last request, which is not answered yet
 abbrev pub is_answer : ℕ → SessionState → Origin → Bool
 is_answer s state (ReplyTo t k) = t == s && (k == length state.begun && not (is_idle state))
-is_answer s state (RequestOf t k) = false
-is_answer s state Neither = false
+is_answer s state _ = false
 
 -- what a message tells of the last request, where it is in the session's domain
 abbrev pub told_by : SessionState → Option Message → Option Report
@@ -167,8 +163,7 @@ strange_frame c port datagram = record {
 unfoldable pub happens : Network → NetworkState → Event → NetworkState
 happens N w (Begin s a) = with_session w s (begun_in (N.session s) (w.session s) (ask.request_of a))
 happens N w (Send s) = sends N w s
-happens N w (Resume s attempts) =
-    with_session w s (record (w.session s) { attempts_left = attempts })
+happens N w (Resume s attempts) = with_session w s (record (w.session s) { attempts_left = attempts })
 happens N w (Retune s domain) = with_session w s (record (w.session s) { domain = domain })
 happens N w (Deliver n) = delivered N w (frame_at w.frames n)
 happens N w (Stranger c port datagram) =
@@ -195,8 +190,6 @@ state_after N events = run N (initial_state N) events
 abbrev pub taken : Network → NetworkState → List Event → List Event
 taken N w [] = []
 taken N w (e ∷ es) = if is_none (refusal N w e) then e ∷ taken N (step N w e) es else []
-
--- ---- lateness
 
 abbrev pub is_late_frame : NetworkState → Option Frame → Bool
 is_late_frame w None = false

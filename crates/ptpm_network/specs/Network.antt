@@ -10,8 +10,6 @@ use Rattle.ptpm_agent.specs.Turn.{Clock}
 use Rattle.ptpm_manager.specs.declared.setup.Setup.{Setup}
 use Rattle.ptpm_network.specs.DataSets.{AreDataSets}
 
--- ---- ends and links
-
 -- where a message is sent and comes in: at a port of a clock, or at a session; each by its place in the file, from 0
 pub data End : Type 0 where
   AtPort : (clock : ℕ) → (port : ℕ) → End
@@ -20,8 +18,7 @@ pub data End : Type 0 where
 abbrev pub same_end : End → End → Bool
 same_end (AtPort c p) (AtPort d q) = c == d && p == q
 same_end (AtSession s) (AtSession t) = s == t
-same_end (AtPort c p) (AtSession s) = false
-same_end (AtSession s) (AtPort c p) = false
+same_end _ _ = false
 
 -- the other ends of the link that an end is on, in the link's order; none where it is on no link
 abbrev pub peers : List (List End) → End → List End
@@ -29,8 +26,6 @@ peers [] e = []
 peers (link ∷ links) e =
     if list_any (same_end e) link
     then filter (λ other. not (same_end e other)) link else peers links e
-
--- ---- the network
 
 -- a manager of one clock, with the domain that it starts in
 pub record SessionStart : Type 0 where

@@ -1,5 +1,4 @@
--- A running network: what its clocks and sessions can see, sequenceIds and octets; and what it makes
--- of an event.
+-- A running network: what its clocks and sessions can see, sequenceIds and octets, and what it makes of an event.
 use Rattle.std.specs.Prelude.{ℕ, not, List, [], ◌∷◌, ◌++◌, length, map, Option, Some, None, option_map, Result, Ok, Err}
 use Rattle.ptpm_codec.specs.declared.message.Message.{Message}
 use Rattle.ptpm_codec.specs.Canonical.{canonical}
@@ -29,7 +28,6 @@ pub record Held : Type 0 where
 abbrev pub held : Frame → Held
 held f = record { end = f.end; octets = f.octets; origin = f.origin }
 
--- a running network
 pub record RunningNetwork : Type 0 where
   pub clock : ℕ → State
   pub session : ℕ → SessionValue
@@ -44,8 +42,6 @@ initial_network N = record {
   reports = λ s. [];
   frames = [];
 }
-
--- ---- clocks
 
 -- what a clock sends in its turn at a frame, as frames: the reply to a numbered copy belongs to the copy's request
 abbrev pub turn_frames : Network → State → ℕ → ℕ → Frame → List Frame
@@ -62,12 +58,9 @@ after_turn N r c ingress f = record r {
   frames = r.frames ++ map held (turn_frames N (r.clock c) c ingress f);
 }
 
--- ---- frames
-
 -- a frame as whoever it reaches sees it: its first hops and its forwardings are the machine's alone
 abbrev pub seen : Held → Frame
-seen h =
-    record { end = h.end; octets = h.octets; origin = h.origin; first_hops = 0; forwardings = 0 }
+seen h = record { end = h.end; octets = h.octets; origin = h.origin; first_hops = 0; forwardings = 0 }
 
 -- one message for each of these ends
 abbrev pub posted : List End → List ℕ → Origin → List Held
@@ -169,13 +162,11 @@ abbrev pub network_after : RunningNetwork → Result Happened Refusal → Runnin
 network_after r (Ok happened) = happened.network
 network_after r (Err reason) = r
 
--- ---- a list of events
-
 abbrev pub goes_on : RunningNetwork → Result Happened Refusal → (RunningNetwork → RunningNetwork) → RunningNetwork
 goes_on r (Ok happened) others = others happened.network
 goes_on r (Err reason) others = r
 
--- up to the first that is refused
+-- of a list of events, up to the first that is refused
 abbrev pub network_run : Network → RunningNetwork → List Event → RunningNetwork
 network_run N r [] = r
 network_run N r (e ∷ es) = goes_on r (network_event N r e) (λ next. network_run N next es)

@@ -1,5 +1,4 @@
--- What the network machine keeps: of each session its requests and reports, at each clock what came in, and every frame that
--- was ever sent.
+-- What the network machine keeps: each session's requests and reports, what came in at each clock, and every frame ever sent.
 use Rattle.std.specs.Prelude.{ℕ, zero, suc, ◌+◌, ◌-◌, ◌==◌, nat_lt, Bool, false, List, [], ◌++◌, length, map, slice_get, Option, Some, None, if◌then◌else◌}
 use Rattle.ptpm_codec.specs.declared.identity.PortIdentity.{PortIdentity}
 use Rattle.ptpm_codec.specs.Layout.{boundary_hops}
@@ -11,8 +10,6 @@ use Rattle.ptpm_manager.specs.declared.report.Report.{Report}
 use Rattle.ptpm_manager.specs.Report.{outcome_in}
 use Rattle.ptpm_manager.specs.Session.{SessionValue}
 use Rattle.ptpm_network.specs.Network.{End, Network, SessionStart, manager, ports}
-
--- ---- frames
 
 -- what a frame belongs to: request k of a session, the reply to it, or neither
 pub data Origin : Type 0 where
@@ -38,8 +35,6 @@ frames_to ends octets origin first_hops forwardings =
 abbrev pub new_frames : List End → List ℕ → Origin → List Frame
 new_frames ends octets origin = frames_to ends octets origin (boundary_hops octets) 0
 
--- ---- the state
-
 pub record SessionState : Type 0 where
   pub domain : ℕ
   pub attempts_left : ℕ
@@ -55,8 +50,7 @@ pub record NetworkState : Type 0 where
   pub frames : List Frame
 
 abbrev pub initial_session_state : SessionStart → SessionState
-initial_session_state start =
-    record { domain = start.domain; attempts_left = 0; begun = []; reports = [] }
+initial_session_state start = record { domain = start.domain; attempts_left = 0; begun = []; reports = [] }
 
 abbrev pub initial_state : Network → NetworkState
 initial_state N =
@@ -84,8 +78,6 @@ session_value start s = record {
 -- how many requests a session has begun
 abbrev pub issued : NetworkState → ℕ → ℕ
 issued w s = length (w.session s).begun
-
--- ---- clocks
 
 -- the copies of its managers' requests among what came in at a clock
 abbrev pub copies_at : Network → NetworkState → ℕ → List RequestCopy
@@ -120,8 +112,6 @@ abbrev pub outcomes_kept : PortIdentity → List Accepted → ℕ → List Repor
 outcomes_kept m accepted zero = []
 outcomes_kept m accepted (suc n) =
     outcomes_kept m accepted n ++ reports_of (suc n) (kept_reply m (suc n) accepted)
-
--- ---- lateness
 
 -- a copy of request k of a session, or of a reply to it, is late where the session has begun over 32,768 requests since
 abbrev pub is_late_at : ℕ → ℕ → Bool

@@ -111,13 +111,16 @@ pub record IsAnswerable (N : Network) (w : NetworkState) (s : ℕ) (hops : List 
   pub come_in : ComeIn N (step N w (Send s)) deliveries
   pub reported : HasReported w (run N w (Send s ∷ handed_in deliveries)) s
 
--- The same of a network that runs: such events lead it to one report more, and the session waits for nothing then.
+-- a network that runs is led by these events to one report more of a session, and the session waits for nothing then
+pub record ReportsAfter (N : Network) (r : RunningNetwork) (s : ℕ) (events : List Event) : Type 0 where
+  pub report : Report
+  pub reports : (network_run N r events).reports s ≡ r.reports s ++ report ∷ []
+  pub idle : is_waiting ((network_run N r events).session s) ≡ false
+
+-- the same of a network that runs: such events lead it to the report
 pub record RunsToReport (N : Network) (r : RunningNetwork) (s : ℕ) (hops : List Hop)
     (port : ℕ) : Type 0 where
   pub deliveries : List (ℕ × End)
   pub along : ends_of deliveries
       ≡ visited hops (AtPort (N.session s).target port) ++ AtSession s ∷ []
-  pub report : Report
-  pub reports : (network_run N r (Send s ∷ handed_in deliveries)).reports s
-      ≡ r.reports s ++ report ∷ []
-  pub idle : is_waiting ((network_run N r (Send s ∷ handed_in deliveries)).session s) ≡ false
+  pub reported : ReportsAfter N r s (Send s ∷ handed_in deliveries)

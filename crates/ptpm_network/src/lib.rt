@@ -6,6 +6,7 @@
 mod headline_laws;
 mod laws;
 mod manager_laws;
+mod meanwhile_laws;
 mod way_laws;
 mod worth_laws;
 
@@ -19,6 +20,7 @@ pub use laws::{
     running_networks_stand,
 };
 pub use manager_laws::managers_in_time_are_served;
+pub use meanwhile_laws::{answerable_meanwhile, ways_stay_open};
 pub use way_laws::{
     answerable_along_a_way, answerable_once_moved, one_copy_each_way, running_networks_answer,
 };

@@ -9,6 +9,7 @@ ghost use Rattle.ptpm_network.specs.Events.{Deliver, Event, IsInRange, Resume, R
 ghost use Rattle.ptpm_network.specs.Exchange.{HasReplied, HasReported, HasRoom, IsHeardBy};
 ghost use Rattle.ptpm_network.specs.Stands.{StandsAfter};
 ghost use Rattle.ptpm_network.specs.Machine.{AreInTime, state_after, step, taken};
+ghost use Rattle.ptpm_network.specs.Meanwhile.{IsAnswerableMeanwhile};
 ghost use Rattle.ptpm_network.specs.Network.{AtPort, AtSession, IsNetwork, Network};
 ghost use Rattle.ptpm_network.specs.RunningNetwork.{RunningNetwork, network_run};
 ghost use Rattle.ptpm_network.specs.Stands.{AreFirsts, Stands};
@@ -88,7 +89,7 @@ pub fn running_networks_answer()
 
 /// Attempts that are used up, or a domain of its own, keep no session from it for good. While it waits for a report, no event
 /// that resumes or retunes it is refused. Where a way leads to its target and there is room for the frames, the request can be
-/// answered once the session
+/// answered, whatever else happens meanwhile that leaves the way, once the session
 /// - is resumed with an attempt or more, if the way is in its domain;
 /// - is retuned, if the way is in the domain that it is retuned to and it has an attempt left;
 /// - is retuned and resumed.
@@ -100,21 +101,21 @@ pub fn answerable_once_moved()
         is_idle ((state_after N es).session s) ≡ false → LinksHaveAtMost N ends →
         length (state_after N es).frames + made_each_way ends hops ≤ frames_limit →
         (attempts : ℕ) → 0 < attempts → IsWay N (state_after N es) s hops port →
-        IsAnswerable N (state_after N (es ++ Resume s attempts ∷ [])) s hops port }
+        IsAnswerableMeanwhile N (state_after N (es ++ Resume s attempts ∷ [])) s hops port ends }
     ensures retuned { (N : Network) (es : List Event) (s : ℕ) (hops : List Hop) (port ends : ℕ) →
         IsNetwork N → AllByRecursion IsInRange es → s < N.sessions →
         is_idle ((state_after N es).session s) ≡ false → LinksHaveAtMost N ends →
         length (state_after N es).frames + made_each_way ends hops ≤ frames_limit →
         (domain : ℕ) → 0 < ((state_after N es).session s).attempts_left →
         IsWayIn N (state_after N es) s domain hops port →
-        IsAnswerable N (state_after N (es ++ Retune s domain ∷ [])) s hops port }
+        IsAnswerableMeanwhile N (state_after N (es ++ Retune s domain ∷ [])) s hops port ends }
     ensures moved { (N : Network) (es : List Event) (s : ℕ) (hops : List Hop) (port ends : ℕ) →
         IsNetwork N → AllByRecursion IsInRange es → s < N.sessions →
         is_idle ((state_after N es).session s) ≡ false → LinksHaveAtMost N ends →
         length (state_after N es).frames + made_each_way ends hops ≤ frames_limit →
         (domain attempts : ℕ) → 0 < attempts →
         IsWayIn N (state_after N es) s domain hops port →
-        IsAnswerable N (state_after N (es ++ Retune s domain ∷ Resume s attempts ∷ [])) s hops port }
+        IsAnswerableMeanwhile N (state_after N (es ++ Retune s domain ∷ Resume s attempts ∷ [])) s hops port ends }
     ensures taken { (N : Network) (w : NetworkState) (s domain attempts : ℕ) →
         s < N.sessions → is_idle (w.session s) ≡ false →
         (taken N w (Resume s attempts ∷ []) ≡ Resume s attempts ∷ [])

@@ -1,0 +1,260 @@
+-- One copy each way along a way answers a request, whatever else happens between: frames stay, so each is there when its turn
+-- comes.
+use Rattle.ptpm_network.proofs.Common.{suc, arith, ◌≡◌, ℕ, ◌<◌, ◌≤◌, ◌+◌, ◌-◌, ◌*◌, ◌==◌, List, [], ◌∷◌, ◌++◌, None, false, refl, sym, ◌∙◌, ap, subst, length, length-append, append_assoc, AllByRecursion, Deliver, Event, IsInRange, Send, frames_limit, refusal, HasReported, HasRoom, IsReached, run, step, AtPort, AtSession, End, IsNetwork, Network, NetworkState, Origin, RequestOf, ReplyTo, is_idle, issued, AreLinked, Hop, IsWay, Leads, LinksHaveAtMost, PassesOn, made_along, made_each_way, passed_at_most, visited}
+use Rattle.std.proofs.Math.Nat.{mul-suc}
+use Rattle.ptpm_network.specs.Way.{IsWayIn}
+use Rattle.ptpm_network.specs.Machine as machine
+use Rattle.ptpm_network.specs.Meanwhile.{ComeInMeanwhile, LeavesWay}
+use Rattle.ptpm_network.proofs.Carrying.{MakesAtMost, few-made}
+use Rattle.ptpm_network.proofs.Leaving.{run-comes, way-stays}
+use Rattle.ptpm_network.proofs.Reaching.{run-reached}
+use Rattle.ptpm_network.proofs.RoundTrip.{Comes, HandedOn, Hears, Moved, first_end, hears-stays, leads-first, pass_back, pass_there, reply}
+use Rattle.ptpm_network.proofs.Sending.{IsSameSession, Sent, reported-since, same-moved, same-sent, send-step, sent-comes, sent-few, tell}
+use Rattle.ptpm_network.proofs.Steps.{sends-reached}
+use Rattle.ptpm_network.proofs.Taking.{run-append}
+
+-- ---- what has come between
+
+-- since the state w the way is as it was, and there is room for so many frames
+pub record IsOpen (N : Network) (w v : NetworkState) (s : ℕ) (hops : List Hop) (port made : ℕ) : Type 0 where
+  pub reached : IsReached N v
+  pub same : IsSameSession w v s
+  pub way : IsWayIn N v s (w.session s).domain hops port
+  pub room : length v.frames + made ≤ frames_limit
+
+module _ (N : Network) (w v u : NetworkState) (s : ℕ) (hops : List Hop) (port made : ℕ) where
+  -- others have left it
+  open-left : IsOpen N w v s hops port made
+      → IsReached N u → LeavesWay N v u s hops port made
+      → IsOpen N w u s hops port made
+  open-left o r l =
+      let domain : (u.session s).domain ≡ (w.session s).domain = l.domain ∙ o.same.domain in
+      record {
+        reached = r;
+        same = record {
+          counted = ap length l.begun ∙ o.same.counted;
+          reports = l.reports ∙ o.same.reports;
+          domain = domain;
+          idle = ap (λ rs. length rs == length (u.session s).begun) l.reports ∙ ap (λ bs. length (v.session s).reports == length bs) l.begun ∙ o.same.idle;
+        };
+        way = subst (λ d. IsWayIn N u s d hops port) domain (l.way (subst (λ d. IsWayIn N v s d hops port) (sym o.same.domain) o.way));
+        room = l.room o.room;
+      }
+
+  room-after : (a b most n limit : ℕ) → b ≤ a + most → a + (n + most) ≤ limit → b + n ≤ limit
+  room-after a b most n limit p le = omega arith
+
+  -- a message of the request's own was handed in
+  open-moved : (most n : ℕ)
+      → made ≡ most * suc n → IsOpen N w v s hops port made → Moved N s v u most
+      → Hears N u s (issued w s) (w.session s).domain
+      → IsOpen N w u s hops port (most * n)
+  open-moved most n e o m hears =
+      let same = same-moved w v u s m.sessions o.same in
+      record {
+        reached = m.reached;
+        same = same;
+        way = way-stays N v u s (w.session s).domain port hops m.histories (subst (λ k. Hears N u s k (w.session s).domain) (sym same.counted) hears) o.way;
+        room = room-after (length v.frames) (length u.frames) most (most * n) frames_limit m.frames (subst (λ x. length v.frames + x ≤ frames_limit) (e ∙ mul-suc most n) o.room);
+      }
+
+-- ---- one message after another
+
+-- others come first
+module _ (N : Network) (w : NetworkState) (s : ℕ) (hops : List Hop) (port made : ℕ) (past others : List Event) where
+  others-open : IsNetwork N
+      → AllByRecursion IsInRange others
+      → IsOpen N w (run N w past) s hops port made
+      → LeavesWay N (run N w past) (run N w (past ++ others)) s hops port made
+      → IsOpen N w (run N w (past ++ others)) s hops port made
+  others-open n range o l =
+      open-left N w (run N w past) (run N w (past ++ others)) s hops port made o
+      (subst (IsReached N) (sym (run-append N w past others)) (run-reached N (run N w past) others n range o.reached)) l
+
+  others-comes : (e : End) (o : Origin) (domain left : ℕ)
+      → Comes (run N w past) e o domain left
+      → Comes (run N w (past ++ others)) e o domain left
+  others-comes e o domain left c = subst (λ (v : NetworkState). Comes v e o domain left) (sym (run-append N w past others)) (run-comes N (run N w past) others e o domain left c)
+
+-- A message of the request is on its way to this end, and whatever happens it goes on from there to these.
+abbrev Goes : Network → NetworkState → ℕ → List Hop → ℕ → ℕ → Origin → End → List End → ℕ → Type 0
+Goes N w s hops port ends o at es left = (past : List Event)
+    → IsOpen N w (run N w past) s hops port (passed_at_most ends * length es)
+    → Comes (run N w past) at o (w.session s).domain left
+    → ComeInMeanwhile N w s hops port ends past (at ∷ es)
+
+-- it is handed on to the next end, and goes on from there
+hand-on : (N : Network) (w : NetworkState) (s : ℕ) (hops : List Hop) (port ends : ℕ) (at e : End)
+    (es : List End) (o p : Origin) (left less : ℕ)
+    → IsNetwork N
+    → ((u : NetworkState) → IsOpen N w u s hops port (passed_at_most ends * length (e ∷ es)) → Comes u at o (w.session s).domain left → HandedOn N s u (passed_at_most ends) (issued w s) (w.session s).domain at e p less)
+    → Goes N w s hops port ends p e es less
+    → Goes N w s hops port ends o at (e ∷ es) left
+hand-on N w s hops port ends at e es o p left less n here next past clear comes others range leaves =
+    let most = passed_at_most ends in
+    let v : NetworkState = run N w (past ++ others) in
+    let open_v : IsOpen N w v s hops port (most * length (e ∷ es)) = others-open N w s hops port (most * length (e ∷ es)) past others n range clear leaves in
+    let on = here v open_v (others-comes N w s hops port (most * length (e ∷ es)) past others at o (w.session s).domain left comes) in
+    let u : NetworkState = step N v (Deliver on.number) in
+    let is : run N w ((past ++ others) ++ Deliver on.number ∷ []) ≡ u = run-append N w (past ++ others) (Deliver on.number ∷ []) in
+    let open_u : IsOpen N w u s hops port (most * length es) = open-moved N w v u s hops port (most * length (e ∷ es)) most (length es) refl open_v on.moved on.hears in (
+      on.number,
+      on.comes_in,
+      next ((past ++ others) ++ Deliver on.number ∷ [])
+          (subst (λ (x : NetworkState). IsOpen N w x s hops port (most * length es)) (sym is) open_u)
+          (subst (λ (x : NetworkState). Comes x e p (w.session s).domain less) (sym is) on.comes),
+    )
+
+-- ---- over the clocks of the way
+
+-- the ends at which one copy each way comes in, behind the first
+abbrev pub behind : List Hop → End → List End
+behind [] to = []
+behind (h ∷ hops) to = visited hops to ++ AtPort h.clock h.far ∷ []
+
+pub visited-is : (hops : List Hop) (to : End) → first_end hops to ∷ behind hops to ≡ visited hops to
+visited-is [] to = refl
+visited-is (h ∷ hops) to = refl
+
+behind-is : (hops : List Hop) (to far : End) (rest : List End)
+    → first_end hops to ∷ (behind hops to ++ far ∷ rest)
+    ≡ (visited hops to ++ far ∷ []) ++ rest
+behind-is hops to far rest = ap (λ es. es ++ far ∷ rest) (visited-is hops to) ∙ sym (append_assoc (visited hops to) (far ∷ []) rest)
+
+one_less : (lost hops all : ℕ) → 0 < hops → lost + hops ≡ all → (lost + 1) + (hops - 1) ≡ all
+one_less lost hops all p e = omega arith
+
+enough_left : (n hops : ℕ) → suc n ≤ hops → (0 < hops) × (n ≤ hops - 1)
+enough_left n hops le = (omega arith, omega arith)
+
+plus_one : (lost : ℕ) → (lost + 1) - 1 ≡ lost
+plus_one lost = omega arith
+
+some_lost : (lost : ℕ) → 0 < lost + 1
+some_lost lost = omega arith
+
+some_room : (a m limit : ℕ) → a + m ≤ limit → a ≤ limit
+some_room a m limit le = omega arith
+
+-- the clocks of a part of the way
+abbrev AreOf : Network → NetworkState → ℕ → List Hop → List Hop → Type 0
+AreOf N w s all hops = (u : NetworkState)
+    → AllByRecursion (PassesOn N u (N.session s).target (w.session s).domain) all
+    → AllByRecursion (PassesOn N u (N.session s).target (w.session s).domain) hops
+
+module _ (N : Network) (w : NetworkState) (s : ℕ) (all : List Hop) (port ends : ℕ) (n : IsNetwork N) (place : s < N.sessions) (few : MakesAtMost N (passed_at_most ends)) where
+  abbrev target : End
+  target = AtPort (N.session s).target port
+
+  open-hears : (u : NetworkState) (made : ℕ)
+      → IsOpen N w u s all port made
+      → Hears N u s (issued w s) (w.session s).domain
+  open-hears u made o = subst (λ k. Hears N u s k (w.session s).domain) o.same.counted o.way.heard
+
+  open-room : (u : NetworkState) (made : ℕ) → IsOpen N w u s all port made → HasRoom u
+  open-room u made o = some_room (length u.frames) made frames_limit o.room
+
+  -- a clock of the way passes the reply back
+  goes-back : (h : Hop) (hops : List Hop) (from : End) (es : List End) (lost : ℕ)
+      → AreOf N w s all (h ∷ hops) → AreLinked N from (AtPort h.clock h.near)
+      → Goes N w s all port ends (ReplyTo s (issued w s)) from es lost
+      → Goes N w s all port ends (ReplyTo s (issued w s)) (AtPort h.clock h.far) (from ∷ es) (lost + 1)
+  goes-back h hops from es lost of link next =
+      hand-on N w s all port ends (AtPort h.clock h.far) from es (ReplyTo s (issued w s)) (ReplyTo s (issued w s)) (lost + 1) ((lost + 1) - 1) n
+      (λ u o comes. pass_back N s u (passed_at_most ends) (issued w s) (w.session s).domain (lost + 1) h from n few o.reached (open-room u _ o) o.same.counted (open-hears u _ o) (of u o.way.passes).0 link.back (some_lost lost) comes)
+      (subst (Goes N w s all port ends (ReplyTo s (issued w s)) from es) (sym (plus_one lost)) next)
+
+  goes : (hops : List Hop) (left lost : ℕ) (from : End) (es : List End)
+      → AreOf N w s all hops → lost + left ≡ (N.session s).setup.hops → length hops ≤ left
+      → Leads N from hops target
+      → Goes N w s all port ends (ReplyTo s (issued w s)) from es lost
+      → Goes N w s all port ends (RequestOf s (issued w s)) (first_end hops target) (behind hops target ++ from ∷ es) left
+  goes [] left lost from es of sum le leads next =
+      hand-on N w s all port ends target from es (RequestOf s (issued w s)) (ReplyTo s (issued w s)) left lost n
+      (λ u o comes. reply N s u (passed_at_most ends) (issued w s) (w.session s).domain left lost port from n place few o.reached (open-room u _ o) o.same.counted sum leads (open-hears u _ o) comes) next
+  goes (h ∷ hops) left lost from es of sum le leads next =
+      let far : End = AtPort h.clock h.far in
+      let first : End = first_end hops target in
+      let enough = enough_left (length hops) left le in
+      let link = leads-first N hops far target leads.1 in
+      let on = goes hops (left - 1) (lost + 1) far (from ∷ es) (λ u passes. (of u passes).1) (one_less lost left (N.session s).setup.hops enough.0 sum) enough.1 leads.1 (goes-back h hops from es lost of leads.0 next) in
+      subst (λ ls. Goes N w s all port ends (RequestOf s (issued w s)) (AtPort h.clock h.near) ls left) (behind-is hops target far (from ∷ es))
+      (hand-on N w s all port ends (AtPort h.clock h.near) first (behind hops target ++ far ∷ from ∷ es) (RequestOf s (issued w s)) (RequestOf s (issued w s)) left (left - 1) n
+      (λ u o comes. pass_there N s u (passed_at_most ends) (issued w s) (w.session s).domain left h first n few o.reached (open-room u _ o) o.same.counted (open-hears u _ o) (of u o.way.passes).0 link.there enough.0 comes) on)
+
+  -- at last the session reports
+  goes-home : is_idle (w.session s) ≡ false
+      → Goes N w s all port ends (ReplyTo s (issued w s)) (AtSession s) [] 0
+  goes-home busy past clear comes others range leaves =
+      let made = passed_at_most ends * 0 in
+      let v : NetworkState = run N w (past ++ others) in
+      let o : IsOpen N w v s all port made = others-open N w s all port made past others n range clear leaves in
+      let told = tell N s v (issued w s) (w.session s).domain 0 n place o.reached (some_room (length v.frames) made frames_limit o.room) o.same.counted (o.same.idle ∙ busy) o.same.domain
+      (others-comes N w s all port made past others (AtSession s) (ReplyTo s (issued w s)) (w.session s).domain 0 comes) in
+      let u : NetworkState = step N v (Deliver told.number) in (
+        told.number,
+        told.comes_in,
+        subst (λ (x : NetworkState). HasReported w x s) (sym (run-append N w (past ++ others) (Deliver told.number ∷ []))) (reported-since w v u s o.same told.reported),
+      )
+
+-- ---- from the sending on
+
+-- so many frames are made at most
+twice_more : (a m x : ℕ) → m ≡ x → a + (m + a) ≡ (x + a) + a
+twice_more a m x e = omega arith
+
+once : (m : ℕ) → m ≡ m * 1
+once m = omega arith
+
+made-along : (most : ℕ) (hops : List Hop) (to : End)
+    → made_along most hops ≡ most * length (visited hops to)
+made-along most [] to = once most
+made-along most (h ∷ hops) to =
+    let n = length (visited hops to) in
+    let size : length (visited hops to ++ AtPort h.clock h.far ∷ []) ≡ suc n = omega (arith, length-append (visited hops to) (AtPort h.clock h.far ∷ [])) in
+    twice_more most (made_along most hops) (most * n) (made-along most hops to)
+    ∙ sym (ap (λ k. most * suc k) size ∙ mul-suc most (suc n) ∙ ap (λ x. x + most) (mul-suc most n))
+
+behind-length : (hops : List Hop) (to last : End)
+    → length (behind hops to ++ last ∷ []) ≡ length (visited hops to)
+behind-length hops to last = omega (arith, length-append (behind hops to) (last ∷ []), ap length (visited-is hops to))
+
+room-sent : (a b most m limit : ℕ) → b ≤ a + most → a + (most + m) ≤ limit → b + m ≤ limit
+room-sent a b most m limit p le = omega arith
+
+-- once it is sent
+open-sent : (N : Network) (w : NetworkState) (s : ℕ) (hops : List Hop) (port most : ℕ)
+    → IsNetwork N → IsReached N w → s < N.sessions → MakesAtMost N most → Sent N w s
+    → IsWay N w s hops port → length w.frames + (most + made_along most hops) ≤ frames_limit
+    → IsOpen N w (machine.sends N w s) s hops port (made_along most hops)
+open-sent N w s hops port most n r place few sent way room =
+    let u : NetworkState = machine.sends N w s in
+    let same = same-sent N w s in
+    let hears : Hears N u s (issued u s) (w.session s).domain = subst (λ k. Hears N u s k (w.session s).domain) (sym same.counted) (hears-stays N w u s (issued w s) (w.session s).domain refl way.heard) in
+    record {
+      reached = sends-reached N w s n place r;
+      same = same;
+      way = way-stays N w u s (w.session s).domain port hops (λ d ne. refl) hears way;
+      room = room-sent (length w.frames) (length u.frames) most (made_along most hops) frames_limit (sent-few N w s most sent few) room;
+    }
+
+pub sent-goes : (N : Network) (w : NetworkState) (s : ℕ) (hops : List Hop) (port ends : ℕ)
+    → IsNetwork N → IsReached N w → s < N.sessions → LinksHaveAtMost N ends
+    → is_idle (w.session s) ≡ false → Sent N w s → refusal N w (Send s) ≡ None → IsWay N w s hops port
+    → length w.frames + made_each_way ends hops ≤ frames_limit
+    → ComeInMeanwhile N w s hops port ends (Send s ∷ [])
+    (visited hops (AtPort (N.session s).target port) ++ AtSession s ∷ [])
+sent-goes N w s hops port ends n r place all busy sent goes' way room =
+    let most = passed_at_most ends in
+    let few = few-made N ends all in
+    let to : End = AtPort (N.session s).target port in
+    let is : step N w (Send s) ≡ machine.sends N w s = send-step N w s goes' in
+    let made : made_along most hops ≡ most * length (behind hops to ++ AtSession s ∷ []) = made-along most hops to ∙ ap (λ k. most * k) (sym (behind-length hops to (AtSession s))) in
+    let clear : IsOpen N w (step N w (Send s)) s hops port (most * length (behind hops to ++ AtSession s ∷ [])) =
+    subst (λ (x : NetworkState). IsOpen N w x s hops port (most * length (behind hops to ++ AtSession s ∷ []))) (sym is)
+    (subst (IsOpen N w (machine.sends N w s) s hops port) made (open-sent N w s hops port most n r place few sent way room)) in
+    let comes = sent-comes N w s (first_end hops to) sent (leads-first N hops (AtSession s) to way.leads).there in
+    let sum : 0 + (N.session s).setup.hops ≡ (N.session s).setup.hops = omega arith in
+    subst (ComeInMeanwhile N w s hops port ends (Send s ∷ [])) (ap (λ es. es ++ AtSession s ∷ []) (visited-is hops to))
+    (goes N w s hops port ends n place few hops (N.session s).setup.hops 0 (AtSession s) [] (λ u passes. passes) sum way.hops_suffice way.leads (goes-home N w s hops port ends n place few busy) (Send s ∷ []) clear
+    (subst (λ (x : NetworkState). Comes x (first_end hops to) (RequestOf s (issued w s)) (w.session s).domain (N.session s).setup.hops) (sym is) comes))
