@@ -2,7 +2,7 @@
 use Rattle.ptpm_network.proofs.Common.{◌≡◌, ℕ, ◌<◌, ◌≤◌, ◌+◌, List, [], ◌∷◌, ◌++◌, None, false, inl, inr, refl, sym, ◌∙◌, ap, subst, length, eq-eqb, ⊎_elim, AllByRecursion, is_none, cond-true, option_or, first_of, Event, IsInRange, Resume, Retune, SendRefused, frames_limit, refusal, resume_refused, happens, run, step, taken, with_session, IsNetwork, Network, NetworkState, SessionState, initial_state, greatest_accepted, history, is_idle, issued, IsWay, LinksHaveAtMost, PassesOn, Hop, made_each_way, all_append, all_weaker, with_place-same, AreInTime, RunningNetwork, RunsToReport, StandsAfter, network_run}
 use Rattle.ptpm_manager.specs.declared.error.SendError.TheVariants as sends
 use Rattle.ptpm_network.specs.Way.{IsWayIn}
-use Rattle.ptpm_network.specs.Meanwhile.{IsAnswerableMeanwhile}
+use Rattle.ptpm_network.specs.Meanwhile.{IsAnswerableMeanwhile, IsReady}
 use Rattle.ptpm_network.proofs.Answerable.{answerable-meanwhile}
 use Rattle.ptpm_network.proofs.Exchanging.{step-taken}
 use Rattle.ptpm_network.proofs.Promise.{stands-network_run}
@@ -61,13 +61,6 @@ way-stays N w s domain x hops port counted way =
           (λ (g : greatest_accepted N w s ≡ issued w s). inr (g ∙ sym (ap (λ (v : SessionState). length v.begun) (session-set w s x) ∙ counted)))
           way.heard;
     }
-
--- what it takes for the session's request to be answered along the way
-pub record IsReady (N : Network) (w : NetworkState) (s : ℕ) (hops : List Hop) (port ends : ℕ) : Type 0 where
-  pub busy : is_idle (w.session s) ≡ false
-  pub attempts : 0 < (w.session s).attempts_left
-  pub way : IsWay N w s hops port
-  pub room : length w.frames + made_each_way ends hops ≤ frames_limit
 
 -- it is there once the session is in a state of its own with attempts left, in the domain of the way
 ready-set : (N : Network) (w : NetworkState) (s : ℕ) (x : SessionState) (hops : List Hop)
@@ -139,7 +132,7 @@ taken-moved N w s domain attempts place busy =
 -- ---- after any events, and these
 
 -- the request can be answered where the session is ready
-ready-answerable : (N : Network) (es : List Event) (s : ℕ) (hops : List Hop) (port ends : ℕ)
+pub ready-answerable : (N : Network) (es : List Event) (s : ℕ) (hops : List Hop) (port ends : ℕ)
     → IsNetwork N → AllByRecursion IsInRange es → s < N.sessions → LinksHaveAtMost N ends
     → IsReady N (run N (initial_state N) es) s hops port ends
     → IsAnswerableMeanwhile N (run N (initial_state N) es) s hops port ends

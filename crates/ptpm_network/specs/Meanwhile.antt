@@ -1,5 +1,5 @@
 -- A request that is answered along a way while other things happen: what these leave as it was, and what comes in meanwhile.
-use Rattle.std.specs.Prelude.{◌≡◌, ℕ, ◌+◌, ◌*◌, ◌==◌, ◌&&◌, ◌||◌, ◌≤◌, Bool, false, List, [], ◌∷◌, ◌++◌, length, Option, Some, None}
+use Rattle.std.specs.Prelude.{◌≡◌, ℕ, ◌+◌, ◌*◌, ◌==◌, ◌&&◌, ◌||◌, ◌<◌, ◌≤◌, Bool, false, List, [], ◌∷◌, ◌++◌, length, Option, Some, None}
 use Rattle.std.specs.List.{AllByRecursion}
 use Rattle.ptpm_data.specs.Members.{may_forward}
 use Rattle.ptpm_agent.specs.Once.{RequestCopy, copy_of}
@@ -7,8 +7,8 @@ use Rattle.ptpm_network.specs.Events.{Begin, Deliver, Event, IsInRange, Retune, 
 use Rattle.ptpm_network.specs.Exchange.{HasReported}
 use Rattle.ptpm_network.specs.Machine.{delivery, is_answer, run}
 use Rattle.ptpm_network.specs.Network.{AtPort, AtSession, End, Network, ports, same_end}
-use Rattle.ptpm_network.specs.State.{Frame, NetworkState, history}
-use Rattle.ptpm_network.specs.Way.{ComesIn, Hop, IsWay, passed_at_most, visited}
+use Rattle.ptpm_network.specs.State.{Frame, NetworkState, history, is_idle}
+use Rattle.ptpm_network.specs.Way.{ComesIn, Hop, IsWay, made_each_way, passed_at_most, visited}
 
 -- Between the states w and u a way of a session is left as it was. The session has begun nothing, was told nothing and is in
 -- its domain still. What was a way is one still. Where there was room for so many frames, there still is.
@@ -29,9 +29,16 @@ ComeInMeanwhile N w s hops port ends past (e ∷ es) = (others : List Event) →
     → (number : ℕ) × ComesIn N (run N w (past ++ others)) number e
     × ComeInMeanwhile N w s hops port ends ((past ++ others) ++ Deliver number ∷ []) es
 
+-- A session waits for a report and may send once more, a way leads to its target, and there is room for the frames of one copy
+-- each way, where no link has more than so many ends.
+pub record IsReady (N : Network) (w : NetworkState) (s : ℕ) (hops : List Hop) (port ends : ℕ) : Type 0 where
+  pub busy : is_idle (w.session s) ≡ false
+  pub attempts : 0 < (w.session s).attempts_left
+  pub way : IsWay N w s hops port
+  pub room : length w.frames + made_each_way ends hops ≤ frames_limit
+
 -- The unanswered request of a session can be answered over these clocks whatever else happens meanwhile: the session sends it,
--- one copy each way comes in at the ends of the way and at last at the session, and the request is reported. No link has more
--- than so many ends.
+-- one copy each way comes in at the ends of the way and at last at the session, and the request is reported.
 pub record IsAnswerableMeanwhile (N : Network) (w : NetworkState) (s : ℕ) (hops : List Hop) (port ends : ℕ) : Type 0 where
   pub sent : refusal N w (Send s) ≡ None
   pub come_in : ComeInMeanwhile N w s hops port ends (Send s ∷ [])

@@ -6,12 +6,12 @@ ghost use Rattle.std.specs.List.{AllByRecursion};
 ghost use Rattle.ptpm_network.specs.Events.{Event, IsInRange, frames_limit};
 ghost use Rattle.ptpm_network.specs.Exchange.{HasReported};
 ghost use Rattle.ptpm_network.specs.Machine.{AreInTime, run, state_after, step, taken};
-ghost use Rattle.ptpm_network.specs.Meanwhile.{IsAnswerableMeanwhile, LeavesWay, StaysOpen, concerns, may_close};
+ghost use Rattle.ptpm_network.specs.Meanwhile.{IsAnswerableMeanwhile, IsReady, LeavesWay, StaysOpen, concerns, may_close};
 ghost use Rattle.ptpm_network.specs.Network.{IsNetwork, Network};
 ghost use Rattle.ptpm_network.specs.RunningNetwork.{RunningNetwork};
 ghost use Rattle.ptpm_network.specs.Stands.{StandsAfter};
-ghost use Rattle.ptpm_network.specs.State.{NetworkState, greatest_accepted, is_idle, issued};
-ghost use Rattle.ptpm_network.specs.Way.{Hop, IsAnswerable, IsWay, LinksHaveAtMost, ReportsAfter, made_each_way};
+ghost use Rattle.ptpm_network.specs.State.{NetworkState, greatest_accepted, issued};
+ghost use Rattle.ptpm_network.specs.Way.{Hop, IsAnswerable, LinksHaveAtMost, ReportsAfter};
 
 /// Nothing else keeps a request from its answer. After every list of events, late deliveries among them: where a session waits
 /// for a report and may send once more, a way leads to its target and there is room for the frames, the session sends the
@@ -20,11 +20,8 @@ ghost use Rattle.ptpm_network.specs.Way.{Hop, IsAnswerable, IsWay, LinksHaveAtMo
 /// says. A network that runs reports as the machine does, where none of all these events is refused or late.
 pub fn answerable_meanwhile()
     ensures answered { (N : Network) (es : List Event) (s : ℕ) (hops : List Hop) (port ends : ℕ) →
-        IsNetwork N → AllByRecursion IsInRange es → s < N.sessions →
-        is_idle ((state_after N es).session s) ≡ false
-        → 0 < ((state_after N es).session s).attempts_left →
-        IsWay N (state_after N es) s hops port → LinksHaveAtMost N ends →
-        length (state_after N es).frames + made_each_way ends hops ≤ frames_limit →
+        IsNetwork N → AllByRecursion IsInRange es → s < N.sessions → LinksHaveAtMost N ends →
+        IsReady N (state_after N es) s hops port ends →
         IsAnswerableMeanwhile N (state_after N es) s hops port ends }
     ensures alone { (N : Network) (w : NetworkState) (s : ℕ) (hops : List Hop) (port ends : ℕ) →
         IsAnswerableMeanwhile N w s hops port ends → IsAnswerable N w s hops port }
