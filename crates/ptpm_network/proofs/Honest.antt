@@ -1,13 +1,13 @@
 -- What holds of a running network after every list of events, whatever comes late: each frame is true to whom it is of, and
 -- clocks and sessions can send what they keep.
-use Rattle.ptpm_network.proofs.Common.{by_test, map, ◌-◌, reading, Turned, all_weaker, sends_in, sent, cond-true, cond-false, IsMessage, ◌≡◌, ℕ, ◌<◌, ◌^◌, ◌==◌, List, [], Option, Some, None, Result, Ok, refl, sym, ◌∙◌, ap, subst, length, same_Some, option_map, AllByRecursion, PortIdentity, Message, canonical, same_identity, Fits, message_of, ReplyValue, RequestValue, read_reply_to, reply_to, Entry, reply_messages, RequestCopy, copy_of, delivers_copy, heard_of, request_of, Clock, State, turn, judged, reply_by, turn-message, Verdict, Answers, AreDataSets, same_identity-true, answer_origin, delivery, reply_origin, strange_frame, AtPort, AtSession, End, HasEnd, IsNetwork, Network, peers, ports, Frame, Held, held, seen, turn_frames, after_turn, Origin, RequestOf, ReplyTo, Neither, Happened, unless_refused, network_event, delivers, reaches, hears, sent_posted, with_session_value, RunningNetwork, initial_network, SessionValue, answered, begun, due_message, received_of, request_message, Ask, ask_refusal, begin_refusal, BeginRefused, SendRefused, Refusal, Event, Begin, Send, Resume, Retune, Deliver, Stranger, IsInRange, Forged, is_forged, forged, frame_at, first_of-none, no_port, no_room, no_session, nothing_to_resume, send_refusal, IsAsked, all_append, all_get, all_made, at_place}
-use Rattle.std.specs.FinMap.{get, get-empty, insert}
-use Rattle.ptpm_codec.specs.Identity.{identity_cmp}
+use Rattle.ptpm_network.proofs.Common.{by_test, arith, map, ◌-◌, reading, Turned, all_weaker, sends_in, sent, cond-true, cond-false, IsMessage, ◌≡◌, ℕ, ◌<◌, ◌^◌, ◌==◌, List, [], Option, Some, None, Result, Ok, refl, sym, ◌∙◌, ap, subst, length, same_Some, option_map, AllByRecursion, PortIdentity, Message, canonical, same_identity, Fits, message_of, ReplyValue, RequestValue, read_reply_to, reply_to, Entry, reply_messages, RequestCopy, copy_of, delivers_copy, heard_of, request_of, Clock, State, turn, judged, reply_by, turn-message, Verdict, Answers, AreDataSets, same_identity-true, answer_origin, delivery, reply_origin, strange_frame, AtPort, AtSession, End, HasEnd, IsNetwork, Network, peers, ports, Frame, Held, held, seen, turn_frames, after_turn, Origin, RequestOf, ReplyTo, Neither, Happened, unless_refused, network_event, delivers, reaches, hears, sent_posted, with_session_value, RunningNetwork, SessionValue, initial_history, DataSetsValue, Stands, initial_state, answered, begun, due_message, received_of, request_message, Ask, ask_refusal, begin_refusal, BeginRefused, SendRefused, Refusal, Event, Begin, Send, Resume, Retune, Deliver, Stranger, IsInRange, Forged, is_forged, forged, frame_at, first_of-none, no_port, no_room, no_session, nothing_to_resume, send_refusal, IsAsked, all_append, all_get, all_made, at_place}
+use Rattle.std.specs.FinMap.{get, insert}
 use Rattle.ptpm_manager.specs.declared.receiving.Received.{Received}
 use Rattle.ptpm_manager.specs.declared.receiving.Received.TheVariants as received
 use Rattle.ptpm_manager.specs.declared.setup.Setup.{Setup}
 use Rattle.ptpm_manager.specs.Ask as ask
 use Rattle.ptpm_agent.specs.declared.verdict.Verdict.TheVariants as verdicts
+use Rattle.ptpm_agent.specs.Laws.{IsKept}
 use Rattle.ptpm_agent.specs.Turn.{kept_reply_of, next_by}
 use Rattle.ptpm_agent.proofs.Entries.{accepted_entry, get-insert_other, get-insert_same}
 use Rattle.ptpm_agent.proofs.Turns.{turn-next}
@@ -295,12 +295,22 @@ module _ (N : Network) (n : IsNetwork N) (r : RunningNetwork) (h : IsHonest N r)
 
 -- ---- as it starts
 
-pub first-honest : (N : Network) → IsNetwork N → IsHonest N (initial_network N)
-first-honest N n = record {
+pub nothing_kept : {X : Type 0} (first : PortIdentity → ℕ) (d : DataSetsValue) (m : PortIdentity) (e : Entry)
+    → IsKept first (initial_history d) m (Some e)
+    → X
+nothing_kept first d m e h = absurd (omega (arith, h.some))
+
+pub first-honest : (N : Network) (first : PortIdentity → ℕ) (r : RunningNetwork)
+    → IsNetwork N → Stands N first r (initial_state N)
+    → IsHonest N r
+first-honest N first r n at = record {
   clocks = λ c place. record {
-    sets = (n.are_clocks c place).start;
-    kept = λ m e is. let none : None ≡ Some e = sym (get-empty identity_cmp m) ∙ is in absurd (cc);
+    sets = subst (AreDataSets (ports N c)) (sym (at.clocks c place).sets) (n.are_clocks c place).start;
+    kept = λ m e is. nothing_kept first (N.start c) m e (subst (IsKept first (initial_history (N.start c)) m) is ((at.clocks c place).entries m));
   };
-  sessions = λ t place. record { setup = refl; asked = λ q e. no_request q e };
-  frames = tt;
+  sessions = λ t place. record {
+    setup = ap (λ (v : SessionValue). v.setup) (at.sessions t place);
+    asked = λ q e. no_request q (sym (ap (λ (v : SessionValue). v.unanswered) (at.sessions t place)) ∙ e);
+  };
+  frames = subst (AllByRecursion (IsTrueFrame N)) (sym at.frames) tt;
 }

@@ -1,18 +1,19 @@
 -- A session whose own messages come in time is served, after every list of events, whatever comes late of others.
-use Rattle.ptpm_network.proofs.Common.{by_test, arith, ◌≡◌, ℕ, ◌+◌, ◌-◌, ◌<◌, ◌≤◌, ◌==◌, ◌^◌, ◌&&◌, Bool, List, [], ◌∷◌, ◌++◌, length, Option, Some, None, Result, Ok, Err, true, false, refl, sym, ◌∙◌, ap, subst, ⊎_elim, and_cases, and_from, cond-true, cond-false, eq-eqb, eqb-true, eqb-false, ne_eqb, ltb-false, true≢false, all_append, AllByRecursion, Message, canonical, RequestValue, greatest, is_copy, Report, received_of, IsAsked, strange_frame, with_place, with_place-same, with_place-other, AtPort, AtSession, End, HasEnd, IsNetwork, Network, manager, ports, Held, seen, Origin, RequestOf, ReplyTo, Neither, SessionValue, Happened, network_event, network_run, goes_on, delivers, reaches, hears, RunningNetwork, initial_network, answered, begun, resumed, retuned, sent, due_message, Ask, begin_refusal, BeginRefused, SendRefused, Refusal, Event, Begin, Send, Resume, Retune, Deliver, Stranger, IsInRange, Forged, is_forged, forged, frame_at, first_of-none, no_port, no_room, no_session, nothing_to_resume, send_refusal, option_map, is_late_at, all_get, sends_in}
-use Rattle.std.specs.FinMap.{get-empty}
-use Rattle.ptpm_codec.specs.Identity.{identity_cmp}
+use Rattle.ptpm_network.proofs.Common.{by_test, arith, ◌≡◌, ℕ, ◌+◌, ◌-◌, ◌<◌, ◌≤◌, ◌==◌, ◌^◌, ◌&&◌, Bool, List, [], ◌∷◌, ◌++◌, length, Option, Some, None, Result, Ok, Err, true, false, refl, sym, ◌∙◌, ap, subst, ⊎_elim, and_cases, and_from, cond-true, cond-false, eq-eqb, eqb-true, eqb-false, ne_eqb, ltb-false, true≢false, all_append, AllByRecursion, Message, canonical, RequestValue, greatest, is_copy, Report, received_of, IsAsked, strange_frame, with_place, with_place-same, with_place-other, AtPort, AtSession, End, HasEnd, IsNetwork, Network, manager, ports, Held, seen, Origin, RequestOf, ReplyTo, Neither, SessionValue, Happened, network_event, network_run, goes_on, delivers, reaches, hears, RunningNetwork, initial_network, answered, begun, resumed, retuned, sent, due_message, Ask, begin_refusal, BeginRefused, SendRefused, Refusal, Event, Begin, Send, Resume, Retune, Deliver, Stranger, IsInRange, Forged, is_forged, forged, frame_at, first_of-none, no_port, no_room, no_session, nothing_to_resume, send_refusal, option_map, is_late_at, all_get, sends_in, PortIdentity, DataSetsValue, Entry, initial_history, StandsAfter, session_value}
+use Rattle.std.specs.FinMap.{get}
+use Rattle.ptpm_agent.specs.Laws.{IsKept}
 use Rattle.ptpm_manager.specs.Ask as ask
 use Rattle.ptpm_manager.specs.Receiving.{left_by}
 use Rattle.ptpm_manager.specs.declared.receiving.Received.{Received}
 use Rattle.ptpm_manager.specs.declared.receiving.Received.TheVariants as received
 use Rattle.ptpm_network.specs.ByManager.{Account, StaysInTime, account_from, account_of, account_while, account_with, in_time_while, is_behind, is_for, is_late_for, is_late_frame_for, with_begun, with_carried}
 use Rattle.ptpm_network.specs.CarriedOut.{carried_at, carried_by_event, carried_of_frame}
-use Rattle.ptpm_network.specs.Served.{IsServed, IsTimelyCopy}
-use Rattle.ptpm_network.proofs.Honest.{IsHonest, IsSentBy, IsTrueFrame, Then, begins-honest, event-honest, first-honest, frame-true, sent-all, sent_by, then_ok, then_unless}
+use Rattle.ptpm_network.specs.Served.{After, AtStart, HasAccount, IsServed, IsServedSoFar, IsTimelyCopy}
+use Rattle.ptpm_network.specs.State.{initial_session_state}
+use Rattle.ptpm_network.proofs.Honest.{IsHonest, IsSentBy, IsTrueFrame, Then, begins-honest, event-honest, first-honest, frame-true, nothing_kept, sent-all, sent_by, then_ok, then_unless}
 use Rattle.ptpm_network.proofs.Own.{IsLastOf, IsRequestSaid, TurnsOwn, turns_own}
 use Rattle.ptpm_network.proofs.Owned.{IsOwn, IsOwnFrame, own-begun, own-hears, own-message, own-resumed, own-retuned, own-sent, reports_with, state_of}
-use Rattle.ptpm_network.proofs.Promise.{told-begins}
+use Rattle.ptpm_network.proofs.Promise.{first_of_sessions, firsts, stands-first, told-begins}
 use Rattle.ptpm_network.proofs.Reaching.{port-exists, session-exists}
 use Rattle.ptpm_network.proofs.Refusals.{begin-not_refused, option_map-none}
 use Rattle.ptpm_network.proofs.Serving.{Own, comes_own, own-turned}
@@ -187,24 +188,41 @@ stays-run N s r a (e ∷ es) n place at i time =
 not_both : (k : ℕ) → 0 < k → k ≤ 0 → ⊥
 not_both k p le = omega arith
 
-stays-first : (N : Network) (s : ℕ) → IsNetwork N → Stays N s (initial_network N) (record { begun = []; accepted = [] })
-stays-first N s n = record {
-  honest = first-honest N n;
-  own = record {
-    value_is = refl;
-    step = record {
-      asked = λ i q e. absurd (cc);
-      one_at_a_time = omega arith;
-      begun_before = omega arith;
-      accepted_before = omega arith;
-      from_one = refl;
-      without_gap = λ k p le. absurd (not_both k p le);
-      reports = refl;
-    };
-    last = subst (IsLastOf (manager N s) (N.session s).setup.first []) (sym (get-empty identity_cmp (manager N s))) refl;
-    frames_say = tt;
-  };
-}
+nothing-last : (first : PortIdentity → ℕ) (d : DataSetsValue) (m : PortIdentity) (own : ℕ) (o : Option Entry)
+    → IsKept first (initial_history d) m o
+    → IsLastOf m own [] o
+nothing-last first d m own None h = refl
+nothing-last first d m own (Some e) h = nothing_kept first d m e h
+
+stays-first : (N : Network) (s : ℕ) (r : RunningNetwork) → s < N.sessions → StandsAfter N [] r → Stays N s r (account_of N s [])
+stays-first N s r place at =
+    let n = at.promised.network in
+    let first : PortIdentity → ℕ = first_of_sessions N N.sessions in
+    let there = at.stands first (firsts N n) in
+    let a : Account = account_of N s [] in
+    let target = (N.session s).target in
+    let value : SessionValue = session_value (N.session s) (initial_session_state (N.session s)) in
+    record {
+      honest = first-honest N first r n there;
+      own = subst (λ (v : SessionValue). IsOwn N s v (r.reports s) (r.clock target) r.frames a) (sym (there.sessions s place))
+          (subst (λ (rs : List Report). IsOwn N s value rs (r.clock target) r.frames a) (sym (there.reports s place))
+          (subst (λ (hs : List Held). IsOwn N s value [] (r.clock target) hs a) (sym there.frames)
+          (record {
+            value_is = refl;
+            step = record {
+              asked = λ i q e. absurd (cc);
+              one_at_a_time = omega arith;
+              begun_before = omega arith;
+              accepted_before = omega arith;
+              from_one = refl;
+              without_gap = λ k p le. absurd (not_both k p le);
+              reports = refl;
+            };
+            last = nothing-last first (N.start target) (manager N s) (N.session s).setup.first (get (r.clock target).entries (manager N s))
+                ((there.clocks target (n.are_sessions s place).exists).entries (manager N s));
+            frames_say = tt;
+          })));
+    }
 
 -- ---- what it is served
 
@@ -243,4 +261,36 @@ pub served-after : (N : Network) (s : ℕ) (es : List Event)
     → IsServed N s (network_run N (initial_network N) es) (account_of N s es)
 served-after N s es n place i time =
     is-served N n s place (network_run N (initial_network N) es) (account_of N s es)
-    (stays-run N s (initial_network N) (record { begun = []; accepted = [] }) es n place (stays-first N s n) i time)
+    (stays-run N s (initial_network N) (account_of N s []) es n place (stays-first N s (initial_network N) place (stands-first N n)) i time)
+
+-- ---- so far
+
+record HasStayed (N : Network) (s : ℕ) (r : RunningNetwork) (a : Account) : Type 0 where
+  pub network : IsNetwork N
+  pub place : s < N.sessions
+  pub stays : Stays N s r a
+
+has_stayed : (N : Network) (s : ℕ) (r : RunningNetwork) (a : Account) → HasAccount N s r a → HasStayed N s r a
+has_stayed N s r a (AtStart start place at) = record { network = at.promised.network; place = place; stays = stays-first N s start place at }
+has_stayed N s new b (After r a e h before i is late) =
+    let so_far = has_stayed N s r a before in record {
+      network = so_far.network;
+      place = so_far.place;
+      stays = record {
+        honest = event-honest N so_far.network r so_far.stays.honest e i h is;
+        own = own-event N so_far.network s so_far.place r so_far.stays.honest a so_far.stays.own e i late h is;
+      };
+    }
+
+served_by : (N : Network) (s : ℕ) (r : RunningNetwork) (a : Account) → HasAccount N s r a → IsServedSoFar N s r a
+served_by N s r a at =
+    let so_far = has_stayed N s r a at in
+    record { account = at; served = is-served N so_far.network s so_far.place r a so_far.stays }
+
+pub served-first : (N : Network) (s : ℕ) (r : RunningNetwork) → s < N.sessions → StandsAfter N [] r → IsServedSoFar N s r (account_of N s [])
+served-first N s r place at = served_by N s r (account_of N s []) (AtStart r place at)
+
+pub served-event : (N : Network) (s : ℕ) (r : RunningNetwork) (a : Account) (e : Event) (h : Happened)
+    → IsServedSoFar N s r a → IsInRange e → network_event N r e ≡ Ok h → is_late_for N s r e ≡ false
+    → IsServedSoFar N s h.network (account_with N s r e a)
+served-event N s r a e h at i is late = served_by N s h.network (account_with N s r e a) (After r a e h at.account i is late)

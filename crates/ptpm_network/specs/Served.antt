@@ -1,15 +1,16 @@
--- What a manager may rely on while its own messages come in time, whatever comes late of others.
-use Rattle.std.specs.Prelude.{◌≡◌, ℕ, ◌+◌, ◌-◌, ◌<◌, ◌≤◌, true, false, List, [], ◌++◌, length, slice_get, Some}
+-- What a manager may rely on while its own messages come in time, whatever comes late of others; and where it may.
+use Rattle.std.specs.Prelude.{◌≡◌, ℕ, ◌+◌, ◌-◌, ◌<◌, ◌≤◌, true, false, List, [], ◌++◌, length, slice_get, Some, Ok}
 use Rattle.ptpm_codec.specs.declared.message.Message.{Message}
 use Rattle.ptpm_codec.specs.Reading.{message_of}
 use Rattle.ptpm_agent.specs.Addressing.{heard_of}
 use Rattle.ptpm_agent.specs.Once.{Accepted, greatest, is_copy, kept_reply}
 use Rattle.ptpm_agent.specs.Turn.{reply_messages, turn}
 use Rattle.ptpm_manager.specs.declared.report.Report.{Report}
-use Rattle.ptpm_network.specs.ByManager.{Account, is_behind}
-use Rattle.ptpm_network.specs.Events.{frame_at}
+use Rattle.ptpm_network.specs.ByManager.{Account, account_of, account_with, is_behind, is_late_for}
+use Rattle.ptpm_network.specs.Events.{Event, IsInRange, frame_at}
 use Rattle.ptpm_network.specs.Network.{AtPort, Network, manager, ports}
-use Rattle.ptpm_network.specs.RunningNetwork.{Held, RunningNetwork}
+use Rattle.ptpm_network.specs.RunningNetwork.{Happened, Held, RunningNetwork, network_event}
+use Rattle.ptpm_network.specs.Stands.{StandsAfter}
 use Rattle.ptpm_network.specs.State.{RequestOf, outcomes_kept}
 
 -- how many of a session's requests its target carried out
@@ -43,3 +44,15 @@ pub record IsServed (N : Network) (s : ℕ) (r : RunningNetwork) (a : Account) :
       ≡ reply_messages (N.clock (N.session s).target) port (heard_of v) (Some entry.reply))
   pub older : (n port k : ℕ) (h : Held) (v : Message) → IsTimelyCopy N s r n port k h v → k < accepted_count N s a
       → (turn (N.clock (N.session s).target) (r.clock (N.session s).target) port h.octets).replies ≡ []
+
+-- The running network r came from its start by events of which none was a late delivery for this session, however late it was for
+-- others, and this is the session's account of them.
+pub data HasAccount (N : Network) (s : ℕ) : RunningNetwork → Account → Type 0 where
+  AtStart : (r : RunningNetwork) → s < N.sessions → StandsAfter N [] r → HasAccount N s r (account_of N s [])
+  After : (r : RunningNetwork) (a : Account) (e : Event) (h : Happened) → HasAccount N s r a → IsInRange e
+      → network_event N r e ≡ Ok h → is_late_for N s r e ≡ false → HasAccount N s h.network (account_with N s r e a)
+
+-- so far it was served
+pub record IsServedSoFar (N : Network) (s : ℕ) (r : RunningNetwork) (a : Account) : Type 0 where
+  pub account : HasAccount N s r a
+  pub served : IsServed N s r a

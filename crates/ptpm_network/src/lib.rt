@@ -19,7 +19,7 @@ pub use laws::{
     every_schedule, hops_lost, in_the_window, one_request_at_a_time, outbox_of_turns,
     running_networks_stand,
 };
-pub use manager_laws::managers_in_time_are_served;
+pub use manager_laws::{managers_in_time_are_served, served_so_far};
 pub use meanwhile_laws::{answerable_meanwhile, ways_stay_open};
 pub use way_laws::{
     answerable_along_a_way, answerable_once_moved, one_copy_each_way, running_networks_answer,

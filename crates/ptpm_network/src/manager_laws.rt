@@ -1,14 +1,15 @@
-//! What a manager is served while its own messages come in time, whatever comes late of others. The law is the contract of a
+//! What a manager is served while its own messages come in time, whatever comes late of others. Each law is the contract of a
 //! function that does nothing, and speaks of the definitions alone.
 
-ghost use Rattle.std.specs.Prelude.{◌<◌, ℕ, List};
+ghost use Rattle.std.specs.Prelude.{◌≡◌, ◌<◌, ℕ, [], List, Ok, false};
 ghost use Rattle.std.specs.List.{AllByRecursion};
-ghost use Rattle.ptpm_network.specs.ByManager.{StaysInTime, account_of};
+ghost use Rattle.ptpm_network.specs.ByManager.{Account, StaysInTime, account_of, account_with, is_late_for};
 ghost use Rattle.ptpm_network.specs.Events.{Event, IsInRange};
 ghost use Rattle.ptpm_network.specs.Machine.{AreInTime, taken};
 ghost use Rattle.ptpm_network.specs.Network.{IsNetwork, Network};
-ghost use Rattle.ptpm_network.specs.RunningNetwork.{initial_network, network_run};
-ghost use Rattle.ptpm_network.specs.Served.{IsServed};
+ghost use Rattle.ptpm_network.specs.RunningNetwork.{Happened, RunningNetwork, initial_network, network_event, network_run};
+ghost use Rattle.ptpm_network.specs.Served.{IsServed, IsServedSoFar};
+ghost use Rattle.ptpm_network.specs.Stands.{StandsAfter};
 ghost use Rattle.ptpm_network.specs.State.{initial_state};
 
 /// One late manager disturbs its own requests at most. Over every list of events, up to the first that is refused, and with the
@@ -30,4 +31,14 @@ pub fn managers_in_time_are_served()
         IsNetwork N → AllByRecursion IsInRange es →
         AreInTime N (initial_state N) (taken N (initial_state N) es) →
         StaysInTime N s (initial_network N) es }
+{}
+
+/// Where it is served so far: as a network starts, and, where it was before, after an event that is not refused and is no late
+/// delivery for it, however late it is for others.
+pub fn served_so_far()
+    ensures first { (N : Network) (s : ℕ) (r : RunningNetwork) →
+        s < N.sessions → StandsAfter N [] r → IsServedSoFar N s r (account_of N s []) }
+    ensures event { (N : Network) (s : ℕ) (r : RunningNetwork) (a : Account) (e : Event) (h : Happened) →
+        IsServedSoFar N s r a → IsInRange e → network_event N r e ≡ Ok h → is_late_for N s r e ≡ false →
+        IsServedSoFar N s h.network (account_with N s r e a) }
 {}

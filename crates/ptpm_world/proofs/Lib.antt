@@ -14,6 +14,7 @@ pub mod PostingTurn
 pub mod Scheduling
 pub mod Following
 pub mod CarriedOut
+pub mod Serving
 pub mod EveryWorld
 pub mod Reporting
 pub mod Lateness

@@ -2,6 +2,8 @@
 
 ghost use Rattle.std.specs.Prelude.{◌≡◌, ◌<◌, ◌++◌, ◌∷◌, ℕ, IfOk, [], length, map};
 ghost use Rattle.ptpm_codec.specs.declared.identity.PortIdentity.{PortIdentity};
+ghost use Rattle.ptpm_network.specs.ByManager.{account_of};
+ghost use Rattle.ptpm_network.specs.Served.{IsServedSoFar};
 ghost use Rattle.ptpm_network.specs.Stands.{StandsAfter};
 ghost use Rattle.ptpm_network.specs.Stands.{Stands};
 ghost use Rattle.ptpm_network.specs.State.{initial_state};
@@ -34,6 +36,10 @@ impl World {
             (initial_state (described (network_value network.now)))) }
         ensures after { IfOk result
             (λ w. StandsAfter (described (network_value network.now)) [] (running w)) }
+        ensures served { IfOk result
+            (λ w.
+            let N = described (network_value network.now) in
+            (s : ℕ) → s < N.sessions → IsServedSoFar N s (running w) (account_of N s [])) }
         ensures names { IfOk result (λ w. names_in w ≡ names_of (network_value network.now)) }
     {
         Ok(World {

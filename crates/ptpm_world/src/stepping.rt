@@ -9,9 +9,11 @@ ghost use Rattle.ptpm_agent.specs.Agent.{IsTurned};
 ghost use Rattle.ptpm_agent.specs.CarriedOut.{after_requests};
 ghost use Rattle.ptpm_agent.specs.Turn.{turn};
 ghost use Rattle.ptpm_table.specs.Outbox.{sent};
+ghost use Rattle.ptpm_network.specs.ByManager.{Account, StaysInTime, account_from, account_with, is_late_for};
 ghost use Rattle.ptpm_network.specs.CarriedOut.{carried_by_event, carried_by_events};
 ghost use Rattle.ptpm_network.specs.Events as machine;
 ghost use Rattle.ptpm_network.specs.Events.{frame_at, is_forged};
+ghost use Rattle.ptpm_network.specs.Served.{IsServedSoFar};
 ghost use Rattle.ptpm_network.specs.Stands.{StandsAfter};
 ghost use Rattle.ptpm_network.specs.Machine.{AreInTime, state_after};
 ghost use Rattle.ptpm_network.specs.Network.{Network};
@@ -41,7 +43,8 @@ impl World {
     ///
     /// Where no frame was delivered late before, and none is now, it stands where the event leads the network machine, and
     /// refuses what that refuses, for the same reason. Late or not, each clock has what it had before, after the request of its
-    /// turn at the event if the verdict is `AnsweredNew`: nothing else changes its data sets or what it keeps.
+    /// turn at the event if the verdict is `AnsweredNew`: nothing else changes its data sets or what it keeps. And a session that
+    /// was served so far is served after it, unless it is a late delivery for this very session (`IsServedSoFar`).
     pub fn step(&mut self, event: &Event) -> Result<Took, StepError>
         ensures step { (N : Network)
             → IsOf N self.old
@@ -55,6 +58,12 @@ impl World {
             → OnOk result ((running self.new).clock c
             ≡ after_requests (N.clock c) ((running self.old).clock c)
             (carried_by_event N (running self.old) c (placed (names_in self.old) event.now))) }
+        ensures served { (N : Network) (s : ℕ) (a : Account)
+            → IsOf N self.old
+            → IsServedSoFar N s (running self.old) a
+            → is_late_for N s (running self.old) (placed (names_in self.old) event.now) ≡ false
+            → OnOk result (IsServedSoFar N s (running self.new)
+            (account_with N s (running self.old) (placed (names_in self.old) event.now) a)) }
         ensures unchanged { OnErr result (running self.new ≡ running self.old) }
         ensures names { names_in self.new ≡ names_in self.old }
     {
@@ -73,6 +82,12 @@ impl World {
     ///
     /// Late or not, each clock has what it had before, after the requests of its turns that were `AnsweredNew`, each in its turn,
     /// in their order: nothing else changes its data sets or what it keeps.
+    ///
+    /// One late manager disturbs its own requests at most. However late the messages of others come, a session none of whose
+    /// requests was delivered late at its target, and to which no reply was, stays served (`IsServedSoFar`): its target carried
+    /// out its requests 1 to their number, each once, in this order, which are those begun or all but the last; its reports are
+    /// what the replies given then say, in order, as many as were begun or one less; a copy of the last of them gets that reply
+    /// again, and a copy of an older one none.
     pub fn run(&mut self, events: &[Event]) -> Result<(), (usize, StepError)>
         ensures run { (N : Network)
             → IsOf N self.old
@@ -89,6 +104,12 @@ impl World {
             ≡ after_requests (N.clock c) ((running self.old).clock c)
             (carried_by_events N (running self.old) c
             (carried_out self.old result events.now)) }
+        ensures served { (N : Network) (s : ℕ) (a : Account)
+            → IsOf N self.old
+            → IsServedSoFar N s (running self.old) a
+            → StaysInTime N s (running self.old) (carried_out self.old result events.now)
+            → IsServedSoFar N s (running self.new)
+            (account_from N s (running self.old) a (carried_out self.old result events.now)) }
         ensures names { names_in self.new ≡ names_in self.old }
     {
         for place in 0..events.len() {

@@ -1,22 +1,31 @@
 //! Over 32,768 requests of one session: which deliveries are late, and what then comes of them. The headline does not cover it.
 
-use super::networks::{ONE_CLOCK, numbered_from_one, step, tell, tell_sets, world_of};
+use super::networks::{
+    ONE_CLOCK, numbered_from_one, step, tell, tell_reports, tell_sets, world_of,
+};
 use ptpm_agent::Verdict;
-use ptpm_script::{Event, read_event};
+use ptpm_script::{Event, Hexadecimal, read_event};
 use ptpm_world::{StepError, Took, World};
 use std::alloc::Global;
+use std::io;
+use std::io::Write;
 use std::process::Abort;
 use std::test::Fail;
 
-/// What a frame does where it is delivered. It takes no clause along, so that the tests stay quick to prove.
+/// What an event does. It takes no clause along, so that the tests stay quick to prove.
+fn happen(world: &mut World, event: &Event) -> Result<Took, StepError> {
+    world.step(event)
+}
+
+/// What a frame does where it is delivered.
 fn deliver(world: &mut World, frame: u32) -> Result<Took, StepError> {
-    world.step(&Event::Deliver(frame))
+    happen(world, &Event::Deliver(frame))
 }
 
 /// The session begins a request and sends it; it is delivered, and then its reply.
 fn exchange(world: &mut World, begin: &Event, send: &Event) -> Result<(), StepError> {
-    world.step(begin)?;
-    world.step(send)?;
+    happen(world, begin)?;
+    happen(world, send)?;
     let request = world.frames();
     deliver(world, request)?;
     let reply = world.frames();
@@ -143,5 +152,105 @@ fn copies_past_the_wrap(rt: HostRuntime) -> Result<(), Fail> {
     assert!(rt; with_copies == alone);
     let text = std::str::from_utf8(alone.as_slice())?;
     assert!(rt; text.contains(AT_THE_END));
+    Ok(())
+}
+
+/// A second manager, at port 2.
+const ANOTHER: &str = r#"[[session]]
+name = "n"
+identity = "0011223344556688/1"
+target = "K"
+first = 7
+hops = 1
+attempts = 2
+[[link]]
+ends = ["K.2", "n"]
+"#;
+
+/// The copy of a manager's request comes late at the clock, which carries it out again. The manager begins a further request,
+/// with the same sequenceId, and takes the late reply to that first one for the answer, before it has sent anything.
+fn come_late(rt: &impl Abort, world: &mut World, copy: u32, begin: &Event) {
+    assert!(rt; world.is_late(copy));
+    assert!(rt; deliver(world, copy) == Ok(Took::AtClock(Verdict::AnsweredNew)));
+    assert!(rt; happen(world, begin) == Ok(Took::Fine));
+    assert!(rt; deliver(world, copy.saturating_add(1)) == Ok(Took::Answered));
+}
+
+/// The last request comes again, and gets the reply that is kept for it. Writes its octets.
+fn tell_kept(rt: &impl Abort, world: &mut World, lines: &mut Vec<u8>) -> io::Result<()> {
+    let last = world.frames().saturating_sub(1);
+    assert!(rt; deliver(world, last) == Ok(Took::AtClock(Verdict::AnsweredRepeat)));
+    let Some(reply) = world.frame(world.frames()) else {
+        return Err(io::Error::from(io::ErrorKind::NotFound));
+    };
+    tell_octets(reply.octets(), lines)
+}
+
+fn tell_octets(octets: &[u8], lines: &mut Vec<u8>) -> io::Result<()> {
+    writeln!(lines, "kept {}", Hexadecimal(octets))
+}
+
+/// The session m asks as above, with copies, and n beside it: to set priority2 to 100, and from its 32,769th request on to 50.
+/// Where n is late, all comes late of its last 64 requests. Tells the reports of m and the reply that is kept for it.
+fn beside_another(rt: &impl Abort, alloc: Global, late: bool) -> Result<Vec<u8>, Fail> {
+    let network = format!(in alloc; "{ONE_CLOCK}{ANOTHER}")?;
+    let mut world = world_of(alloc, network.as_str())?;
+    let asks = [
+        read_event(alloc, "begin m set PRIORITY1 - 6400")?,
+        read_event(alloc, "begin m set PRIORITY1 - 3200")?,
+        read_event(alloc, "begin m get PRIORITY1 - -")?,
+    ];
+    let send = read_event(alloc, "send m")?;
+    let hundred = read_event(alloc, "begin n set PRIORITY2 - 6400")?;
+    let fifty = read_event(alloc, "begin n set PRIORITY2 - 3200")?;
+    let send_other = read_event(alloc, "send n")?;
+    for later in 0..65_600_u32 {
+        let other = if later < 32_768 { &hundred } else { &fifty };
+        if late && later >= 65_536 {
+            come_late(rt, &mut world, (later - 65_536) * 4 + 1, other);
+        } else {
+            exchange(&mut world, other, &send_other)?;
+        }
+        exchange(&mut world, &asks[(later % 3) as usize], &send)?;
+        if later >= 100 {
+            let dropped = deliver(&mut world, (later - 100) * 4 + 3);
+            assert!(rt;
+                dropped == Ok(Took::AtClock(Verdict::DroppedOld)),
+                "{later}"
+            );
+        }
+    }
+    assert!(rt; shows(alloc, &world, if late { SET_AGAIN } else { AS_SET_LAST })?);
+    let mut lines = Vec::new(alloc);
+    tell_reports(&world, &mut lines)?;
+    tell_kept(rt, &mut world, &mut lines)?;
+    Ok(lines)
+}
+
+/// What the clock's lines begin with: priority1 is 50, as m has set it last, and priority2 too.
+const AS_SET_LAST: &[u8] = b"data K 0002 0000\ndata K 2000 0100000232f8feffff32";
+
+/// And where a late copy of n has set priority2 to 100 again.
+const SET_AGAIN: &[u8] = b"data K 0002 0000\ndata K 2000 0100000232f8feffff64";
+
+/// The last reports of m, and the reply to its last request: a RESPONSE from port 1, with the sequenceId 7 + 65,599 - 65,536,
+/// which is 70, and the value 50 of PRIORITY1.
+const IN_TIME: &str = "
+report m 65598 value 3200
+report m 65599 value 6400
+report m 65600 value 3200
+kept 0d12003800000000000000000000000000000000\
+    aabbccfffeddee0100010046047f001122334455667700010000020000010004\
+    20053200
+";
+
+/// Late copies and late replies of one manager change neither the reports of another nor the reply that is kept for it.
+#[test]
+fn one_of_two_managers_is_late(rt: HostRuntime) -> Result<(), Fail> {
+    let with_one_in_time = beside_another(&rt, rt.alloc(), false)?;
+    let with_a_late_one = beside_another(&rt, rt.alloc(), true)?;
+    assert!(rt; with_a_late_one == with_one_in_time);
+    let text = std::str::from_utf8(with_a_late_one.as_slice())?;
+    assert!(rt; text.contains(IN_TIME));
     Ok(())
 }

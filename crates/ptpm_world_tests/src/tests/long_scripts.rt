@@ -16,11 +16,11 @@ pub fn trace_of(alloc: Global, script: &str) -> Result<Vec<u8>, Fail> {
     Ok(trace)
 }
 
-/// Whether these lines stand in the trace of a script.
-fn tells(alloc: Global, script: &str, lines: &str) -> Result<bool, Fail> {
+/// Whether each of these parts stands in the trace of a script.
+fn tells(alloc: Global, script: &str, parts: &[&str]) -> Result<bool, Fail> {
     let trace = trace_of(alloc, script)?;
     let text = std::str::from_utf8(trace.as_slice())?;
-    Ok(text.contains(lines))
+    Ok(parts.iter().all(|part| text.contains(*part)))
 }
 
 /// The network's manager asks for the `index`th time, and its request is delivered, and then the reply. Each request before
@@ -41,30 +41,53 @@ fn push_gets(alloc: Global, script: &mut String, first: u32, last: u32) -> Resul
     Ok(())
 }
 
-/// After 32,770 requests come copies of the third, the second and the first.
+/// The first request sets priority1 to 100, the second to 50, and 32,768 more ask for it. Then come copies of the third, the second
+/// and the first, and one request more.
 fn script_of_late_copies(alloc: Global) -> Result<String, Fail> {
     let network = numbered_from_one(alloc)?;
     let mut script = format!(in alloc; "{network}%%\n")?;
-    push_gets(alloc, &mut script, 1, 32_770)?;
+    push_request(alloc, &mut script, "set PRIORITY1 - 6400", 1)?;
+    push_request(alloc, &mut script, "set PRIORITY1 - 3200", 2)?;
+    push_gets(alloc, &mut script, 3, 32_770)?;
     script.push_str("deliver 5\ndeliver 3\ndeliver 1\ndeliver 65541\n")?;
+    script.push_str("begin m get PRIORITY1 - -\nsend m\ndeliver 65542\n")?;
     Ok(script)
 }
 
-/// The last lines of its trace, and the first report.
+/// The last lines of its trace, and the first reports.
 const LATE_COPIES: &str = "
 131081 deliver DroppedOld
 131082 deliver DroppedOld
 131083 deliver AnsweredNew late frames 65541-65541
 131084 deliver Ignored NothingAsked late
-report m 1 value 8000
+131085 begin ok
+131086 send ok frames 65542-65542
+131087 deliver DroppedOld
+report m 1 value 6400
+report m 2 value 3200
+report m 3 value 3200
+";
+
+/// The last report, and data sets whose priority1 is 100.
+const CARRIED_OUT_AGAIN: &str = "
+report m 32770 value 3200
+data K 0002 0000
+data K 2000 0100000264f8feffff80aabbccfffeddee010000
 ";
 
 /// A copy that is 32,768 requests late is dropped. One that is 32,769 late is taken for new: sequenceIds no longer tell it
-/// from a new request.
+/// from a new request. So where a copy comes late at the target, a request of its manager can be carried out twice, and a later
+/// one not at all.
 #[test]
 fn late_copy(rt: HostRuntime) -> Result<(), Fail> {
     let script = script_of_late_copies(rt.alloc())?;
-    assert!(rt; tells(rt.alloc(), script.as_str(), LATE_COPIES)?);
+    assert!(rt;
+        tells(
+            rt.alloc(),
+            script.as_str(),
+            &[LATE_COPIES, CARRIED_OUT_AGAIN]
+        )?
+    );
     Ok(())
 }
 
@@ -97,14 +120,13 @@ data K 0002 0000
 data K 2000 0100000264f8feffff80aabbccfffeddee010000
 ";
 
-/// A reply that is 65,536 requests late is taken for the answer to the request that has its sequenceId again.
+/// A reply that is 65,536 requests late is taken for the answer to the request that has its sequenceId again. So where a reply
+/// comes late at its manager, though each copy came in time, what is reported may be no reply to the request, which here was
+/// never sent.
 #[test]
 fn late_reply(rt: HostRuntime) -> Result<(), Fail> {
     let script = script_of_a_late_reply(rt.alloc())?;
-    let trace = trace_of(rt.alloc(), script.as_str())?;
-    let text = std::str::from_utf8(trace.as_slice())?;
-    assert!(rt; text.contains(LATE_REPLY));
-    assert!(rt; text.contains(WRONG_REPORT));
+    assert!(rt; tells(rt.alloc(), script.as_str(), &[LATE_REPLY, WRONG_REPORT])?);
     Ok(())
 }
 
@@ -190,7 +212,7 @@ data A 0002 0000
 #[test]
 fn frames_at_maximum(rt: HostRuntime) -> Result<(), Fail> {
     let script = script_of_many_frames(rt.alloc())?;
-    assert!(rt; tells(rt.alloc(), script.as_str(), AT_MAXIMUM_TRACE)?);
+    assert!(rt; tells(rt.alloc(), script.as_str(), &[AT_MAXIMUM_TRACE])?);
     Ok(())
 }
 

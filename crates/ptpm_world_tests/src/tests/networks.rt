@@ -89,13 +89,22 @@ pub fn step(alloc: Global, world: &mut World, line: &str) -> Result<Result<Took,
 
 /// Writes what a network shows: the reports of the session m, and the data sets of the clock K, which have to be there.
 pub fn tell(world: &World, lines: &mut Vec<u8>) -> io::Result<()> {
-    let (Some(reports), Some(sets)) = (world.reports("m"), world.sets("K")) else {
+    tell_reports(world, lines)?;
+    let Some(sets) = world.sets("K") else {
+        return Err(io::Error::from(io::ErrorKind::NotFound));
+    };
+    tell_sets(sets, lines)
+}
+
+/// Its reports alone.
+pub fn tell_reports(world: &World, lines: &mut Vec<u8>) -> io::Result<()> {
+    let Some(reports) = world.reports("m") else {
         return Err(io::Error::from(io::ErrorKind::NotFound));
     };
     for report in reports {
         tell_report(report, lines)?;
     }
-    tell_sets(sets, lines)
+    Ok(())
 }
 
 fn tell_report(report: &Report, lines: &mut Vec<u8>) -> io::Result<()> {

@@ -1,4 +1,5 @@
-use Rattle.ptpm_world.proofs.Common.{ap, ◌∙◌, map, arith, link_value, network_value}
+use Rattle.ptpm_world.proofs.Common.{ap, ◌∙◌, map, arith, link_value, network_value, described}
+use Rattle.ptpm_network.proofs.Served.{served-first}
 use Rattle.ptpm_script.proofs.NetworkFacts.{of_text-accepted}
 use Rattle.ptpm_world.proofs.NetworkFacts.{of_text-network}
 use Rattle.ptpm_world.proofs.StartingLemmas.{are_links, are_names, is_of, none_stored, stands}
@@ -33,6 +34,10 @@ returns-clause-after c = record {
   stands = λ first firsts.
       stands (network_value c.args.network.now) c.in_ok-start_clocks.field-0.items c.in_ok-start_sessions.field-0.items c.new.result first c.in_ok-start_clocks.ensures c.in_ok-start_sessions.ensures c.new.ensures;
 }
+
+pub returns-clause-served : goal.returns-clause-served
+returns-clause-served c = λ s place.
+    served-first (described (network_value c.args.network.now)) s _ place (returns-clause-after c)
 
 pub returns-clause-names : goal.returns-clause-names
 returns-clause-names c =

@@ -1,5 +1,7 @@
 use Rattle.ptpm_world.proofs.Common.{◌≡◌, ◌++◌, ◌<◌, ◌∙◌, ap, arith, length, map, option_map, refl, subst, sym, take, take_all, same_Some, slice_get_read, slice_get, Some, List, refusal, RunningNetwork, StandsAfter, AreInTime, run, taken, initial_state, Names, names_in, placed, running, Leads, answer, error_of}
+use Rattle.ptpm_network.specs.ByManager.{StaysInTime, account_from}
 use Rattle.ptpm_network.specs.Events as machine
+use Rattle.ptpm_network.specs.Served.{IsServedSoFar}
 use Rattle.ptpm_network.proofs.Promise.{stands-headline}
 use Rattle.ptpm_script.specs.declared.event.Event.{Event}
 use Rattle.ptpm_world.specs.declared.took.StepError.TheVariants as errors
@@ -8,6 +10,7 @@ use Rattle.ptpm_world.proofs.Ending.{err_is, step-went}
 use Rattle.ptpm_world.proofs.Following.{HasGoneOn, gone_on-more, gone_on-none, taken-stops}
 use Rattle.ptpm_world.proofs.Places.{map_more, map_split}
 use Rattle.ptpm_world.proofs.Scheduling.{leads-more}
+use Rattle.ptpm_world.proofs.Serving.{served-more}
 use Rattle.ptpm_world.proofs.world.World.run.Goals as goal
 use Rattle.ptpm_world.proofs.world.World.run.Goals.{In-Err}
 
@@ -61,6 +64,7 @@ loop-place-init c = record {
   network = λ N is. is;
   leads = λ N is. refl;
   stands = λ N past is at time. gone_on-none N past (running c.args.self.now) at;
+  served = λ N s a is at time. at;
 }
 
 pub loop-place-preserved : goal.loop-place-preserved
@@ -87,6 +91,14 @@ loop-place-preserved c =
           (leads-more N (running c.args.self.now) (running now) (running c.step.new.self) events (placed first item) (placed (names_in now) item)
           (h.leads N is) (ap (λ (n : Names). placed n item) h.names)
           (step-went N now c.step.new.self (placed (names_in now) item) _ (c.in_default.ensures.step N (h.network N is))));
+      served = λ N s a is at.
+          subst (λ (es : List machine.Event). StaysInTime N s (running c.args.self.now) es → IsServedSoFar N s (running c.step.new.self) (account_from N s (running c.args.self.now) a es)) (sym more)
+          (served-more N s (running c.args.self.now) (running now) (running c.step.new.self) a events (placed first item) (placed (names_in now) item)
+          (ap (λ (n : Names). placed n item) h.names)
+          (h.leads N is)
+          (step-went N now c.step.new.self (placed (names_in now) item) _ (c.in_default.ensures.step N (h.network N is)))
+          (h.served N s a is at)
+          (λ b so_far prompt. c.in_default.ensures.served N s b (h.network N is) so_far prompt));
     }
 
 pub returns-clause-run : goal.returns-clause-run
@@ -115,3 +127,15 @@ returns-clause-carried c = λ N clock is.
 pub returns-in-Err-clause-carried : goal.returns-in-Err-clause-carried
 returns-in-Err-clause-carried c = λ N clock is.
     leads-carried N (running c.args.self.now) _ clock _ (returns-in-Err-clause-run c N is).goes
+
+pub returns-clause-served : goal.returns-clause-served
+returns-clause-served c = λ N s a is at.
+    let first = names_in c.args.self.now in
+    let whole = take_all c.loop-place.place c.args.events.now (omega arith) in
+    subst (λ (es : List Event). StaysInTime N s (running c.args.self.now) (map (placed first) es) → IsServedSoFar N s (running c.loop-place.self) (account_from N s (running c.args.self.now) a (map (placed first) es))) whole
+    (c.loop-place.invariant.served N s a is at)
+
+pub returns-in-Err-clause-served : goal.returns-in-Err-clause-served
+returns-in-Err-clause-served c = λ N s a is at time.
+    subst (λ (r : RunningNetwork). IsServedSoFar N s r (account_from N s (running c.args.self.now) a (map (placed (names_in c.args.self.now)) (take c.loop-place.place c.args.events.now)))) (sym c.in-Err.ensures.unchanged)
+    (c.loop-place.invariant.served N s a is at time)
