@@ -74,7 +74,7 @@ told N s r now new a [] e leads went time =
 told N s r now new a (d ∷ es) e leads went time =
     let behind = told-behind N s r now a d e es (network_event N r d) leads time
     (λ next more timely. told N s next now new (account_with N s r d a) es e more went timely) in
-    record { so_far = behind.0; prompt = behind.1.0; account = behind.1.1 }
+    record { so_far = behind.0; prompt = behind.1; account = behind.2 }
 
 -- where the events so far lead, and one more, said by a name that stayed the same
 pub served-more : (N : Network) (s : ℕ) (r now new : RunningNetwork) (a : Account)
