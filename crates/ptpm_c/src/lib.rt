@@ -82,14 +82,11 @@ pub extern "C" fn ptpm_clock_start(
         → result ≡ no_memory }
 {
     handle.end(alloc);
-    let clock = match HostedClock::start(alloc, settings, ports, managers) {
+    let clock = match HostedClock::start_boxed(alloc, settings, ports, managers) {
         Ok(clock) => clock,
         Err(refusal) => return start_number(refusal),
     };
     let Ok(kept) = Box::new(alloc, Kept::of(Hosted::Nothing)) else {
-        return NO_MEMORY;
-    };
-    let Ok(clock) = Box::new(alloc, clock) else {
         return NO_MEMORY;
     };
     *handle = Handle::of(kept, Hosted::Clock(clock));

@@ -1,25 +1,25 @@
 //! A clock with the messages that it sends, as a host keeps it.
 
-ghost use Rattle.std.specs.Prelude.{◌≡◌, ◌≢◌, ◌≤◌, Ok, None, Some, IfErr, IfOk, MatchResult, OnErr, OnOk, drop, length, take};
+ghost use Rattle.std.specs.Prelude.{◌≡◌, ◌≢◌, ◌≤◌, Ok, None, Some, IfErr, IfOk, MatchResult, OnErr, OnOk, [], drop, length, take};
 ghost use Rattle.std.specs.List.{AllZip};
 ghost use Rattle.ptpm_data.specs.Changed.{changed, no_members};
 ghost use Rattle.ptpm_data.specs.Members.{has_port};
 ghost use Rattle.ptpm_table.specs.Managers.{IsFresh};
 ghost use Rattle.ptpm_agent.specs.Agent.{IsTurned};
 ghost use Rattle.ptpm_agent.specs.Turn.{turn};
-ghost use Rattle.ptpm_host.specs.Clock.{KeepsBehind, clock_in, handle_refusal, messages_in, start_by, start_refusal, state_in};
+ghost use Rattle.ptpm_host.specs.Clock.{IsFreshClock, KeepsBehind, clock_in, handle_refusal, messages_in, start_by, start_refusal, state_in};
 ghost use Rattle.ptpm_host.specs.Observing.{IsObserved, observe_refusal, ports_left};
 ghost use Rattle.ptpm_host.specs.Settings.{configured};
 ghost use Rattle.ptpm_data.specs.Start.{unless};
 
+use crate::judged::JudgedStart;
 use crate::observing::{ObservedClock, ObservedPort, port_observations};
 use crate::refusal::{HandleRefusal, StartRefusal};
 use crate::sent::{Sent, hand_out};
-use crate::settings::{ClockSettings, ManagerSettings, PortSettings, configured, port_starts};
+use crate::settings::{ClockSettings, ManagerSettings, PortSettings};
 use ptpm_agent::{Agent, Verdict};
-use ptpm_codec::ClockIdentity;
 use ptpm_data::{ChangedMembers, DataSets, ObservationError, PortsLeftDisabled};
-use ptpm_table::{BoundTable, Outbox, ReplyTable};
+use ptpm_table::{BoundTable, Outbox, ReplyTable, SlotTable};
 use std::alloc::Global;
 
 /// How many messages a clock sends at most for a datagram: seven copies that it passes on, and eight replies.
@@ -59,24 +59,59 @@ impl HostedClock {
         ensures refused { IfErr result (λ e. e ≢ StartRefusal.OutOfMemory →
             start_refusal settings.now ports.now managers.now ≡ Some e) }
     {
-        let Ok(starts) = port_starts(alloc, ports) else {
+        let judged = JudgedStart::new(alloc, settings, ports, managers)?;
+        let mut clock = HostedClock::without_managers(&judged);
+        clock.admit(&judged);
+        Ok(clock)
+    }
+
+    /// What `start` does, with the clock in a block of its own. It is made right where it lies, and never moved: a stack has no
+    /// room for it to have.
+    pub fn start_boxed(
+        alloc: Global,
+        settings: &ClockSettings,
+        ports: &[PortSettings],
+        managers: &[ManagerSettings],
+    ) -> Result<Box<HostedClock>, StartRefusal>
+        ensures sets { IfOk result
+            (λ c. start_by settings.now ports.now ≡ Ok c.value.agent.sets) }
+        ensures fresh { IfOk result (λ c. IsFreshClock settings.now managers.now c.value) }
+        ensures permitted { OnOk result (start_refusal settings.now ports.now managers.now ≡ None) }
+        ensures refused { IfErr result (λ e. e ≢ StartRefusal.OutOfMemory →
+            start_refusal settings.now ports.now managers.now ≡ Some e) }
+    {
+        let judged = JudgedStart::new(alloc, settings, ports, managers)?;
+        let Ok(mut clock) = Box::new(alloc, HostedClock::without_managers(&judged)) else {
             return Err(StartRefusal::OutOfMemory);
         };
-        let Ok(managers) = configured(alloc, managers) else {
-            return Err(StartRefusal::OutOfMemory);
-        };
-        let sets = match DataSets::new(&settings.start(), starts.as_slice()) {
-            Ok(sets) => sets,
-            Err(fault) => return Err(StartRefusal::Values(fault)),
-        };
-        let identity = ClockIdentity(settings.identity);
-        match BoundTable::new(identity, managers.as_slice()) {
-            Ok(table) => Ok(HostedClock {
-                agent: Agent::new(sets, table),
-                outbox: Outbox::new(),
-            }),
-            Err(fault) => Err(StartRefusal::Managers(fault)),
+        clock.admit(&judged);
+        Ok(clock)
+    }
+
+    /// A clock of this start that has heard nothing yet and has no managers. It is inlined and holds nothing but zeros besides
+    /// its data sets and its identity, so that it is made in the block that it is moved to.
+    #[inline(always)]
+    fn without_managers(judged: &JudgedStart) -> HostedClock
+        ensures sets { result.agent.sets ≡ judged.now.sets }
+        ensures fresh { IsFresh judged.now.sets.default.identity [] (clock_in result)
+            (state_in result).entries }
+    {
+        let sets = judged.sets.copy();
+        let table = SlotTable::without_managers(sets.identity());
+        HostedClock {
+            agent: Agent::new(sets, table),
+            outbox: Outbox::new(),
         }
+    }
+
+    /// Gives a clock without managers those of this start, where it stands.
+    fn admit(&mut self, judged: &JudgedStart)
+        requires { (clock_in self.old).managers ≡ [] }
+        ensures sets { self.new.agent.sets ≡ self.old.agent.sets }
+        ensures fresh { IsFresh (clock_in self.old).identity judged.now.managers.items
+            (clock_in self.new) (state_in self.new).entries }
+    {
+        self.agent.admit(judged.managers.as_slice());
     }
 
     /// The data sets as they stand.

@@ -6,6 +6,7 @@ mod answer_names;
 mod clock;
 mod error_names;
 mod id_names;
+mod judged;
 mod laws;
 mod names;
 mod numbers;

@@ -103,10 +103,23 @@ fn refusal(
     }
 }
 
+/// The same of a start in a block of its own.
+fn boxed_refusal(
+    alloc: Global,
+    settings: &ClockSettings,
+    ports: &[PortSettings],
+    managers: &[ManagerSettings],
+) -> u32 {
+    match HostedClock::start_boxed(alloc, settings, ports, managers) {
+        Ok(_) => 0,
+        Err(refusal) => start_number(refusal),
+    }
+}
+
 #[test]
 fn get_priority1(rt: HostRuntime) {
     let mut room = [Sent::empty(); MOST_SENT];
-    match HostedClock::start(
+    match HostedClock::start_boxed(
         rt.alloc(),
         &settings(),
         &[PortSettings::new(); 2],
@@ -168,6 +181,13 @@ fn start_refusals(rt: HostRuntime) {
 fn start_after_refused_memory(rt: HostRuntime) {
     let first = refusal(rt.alloc(), &settings(), &[PortSettings::new()], &[MANAGER]);
     let again = refusal(rt.alloc(), &settings(), &[PortSettings::new()], &[MANAGER]);
+    assert!(rt; first == 0 || first == 35 && again == 0);
+}
+
+#[test]
+fn start_boxed_after_refused_memory(rt: HostRuntime) {
+    let first = boxed_refusal(rt.alloc(), &settings(), &[PortSettings::new()], &[MANAGER]);
+    let again = boxed_refusal(rt.alloc(), &settings(), &[PortSettings::new()], &[MANAGER]);
     assert!(rt; first == 0 || first == 35 && again == 0);
 }
 

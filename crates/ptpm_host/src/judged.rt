@@ -1,0 +1,71 @@
+//! What a clock starts with, before it is made.
+
+ghost use Rattle.std.specs.Prelude.{◌≡◌, ◌≢◌, ◌≤◌, false, length, IfErr, IfOk, None, Ok, OnOk, Some};
+ghost use Rattle.ptpm_table.specs.Managers.{has_twice, identities, table_refusal};
+ghost use Rattle.ptpm_host.specs.Clock.{start_by, start_refusal};
+ghost use Rattle.ptpm_host.specs.Settings.{configured};
+
+use crate::refusal::StartRefusal;
+use crate::settings::{ClockSettings, ManagerSettings, PortSettings, configured, port_starts};
+use ptpm_codec::{ClockIdentity, PortIdentity};
+use ptpm_data::{DataSets, Rights};
+use ptpm_table::{PlainTable, TableError};
+use std::alloc::Global;
+
+/// The data sets and the managers of a clock that may start: at most sixteen managers, each identity once.
+#[derive(Drop)]
+pub(crate) struct JudgedStart {
+    pub sets: DataSets,
+    pub managers: Vec<(PortIdentity, Rights)>,
+    ghost few: { length managers.items ≤ 16 },
+    ghost distinct: { has_twice (identities managers.items) ≡ false },
+}
+
+impl JudgedStart {
+    /// What these settings describe, or the first reason why no clock starts so.
+    pub fn new(
+        alloc: Global,
+        settings: &ClockSettings,
+        ports: &[PortSettings],
+        managers: &[ManagerSettings],
+    ) -> Result<JudgedStart, StartRefusal>
+        ensures sets { IfOk result (λ j. start_by settings.now ports.now ≡ Ok j.sets) }
+        ensures identity { IfOk result
+            (λ j. j.sets.default.identity ≡ record { 0 = settings.now.identity }) }
+        ensures managers { IfOk result (λ j. j.managers.items ≡ configured managers.now) }
+        ensures permitted { OnOk result (start_refusal settings.now ports.now managers.now ≡ None) }
+        ensures refused { IfErr result (λ e. e ≢ StartRefusal.OutOfMemory →
+            start_refusal settings.now ports.now managers.now ≡ Some e) }
+    {
+        let Ok(starts) = port_starts(alloc, ports) else {
+            return Err(StartRefusal::OutOfMemory);
+        };
+        let Ok(managers) = configured(alloc, managers) else {
+            return Err(StartRefusal::OutOfMemory);
+        };
+        let sets = match DataSets::new(&settings.start(), starts.as_slice()) {
+            Ok(sets) => sets,
+            Err(fault) => return Err(StartRefusal::Values(fault)),
+        };
+        match judge(alloc, managers.as_slice()) {
+            Ok(()) => Ok(JudgedStart { sets, managers }),
+            Err(TableError::OutOfMemory) => Err(StartRefusal::OutOfMemory),
+            Err(fault) => Err(StartRefusal::Managers(fault)),
+        }
+    }
+}
+
+/// Why these can't be a clock's managers. A reply table judges them, which takes no more memory than they need.
+#[tactic(auto, using(crate::proofs::StartLemmas::few_permitted, crate::proofs::StartLemmas::none_twice))]
+fn judge(alloc: Global, managers: &[(PortIdentity, Rights)]) -> Result<(), TableError>
+    ensures permitted { OnOk result (table_refusal (identities managers.now) ≡ None) }
+    ensures few { OnOk result (length managers.now ≤ 16) }
+    ensures distinct { OnOk result (has_twice (identities managers.now) ≡ false) }
+    ensures refused { IfErr result (λ e. e ≢ TableError.OutOfMemory →
+        table_refusal (identities managers.now) ≡ Some e) }
+{
+    match PlainTable::new(alloc, ClockIdentity::EVERY, managers) {
+        Ok(_) => Ok(()),
+        Err(fault) => Err(fault),
+    }
+}
