@@ -4,12 +4,12 @@ use Rattle.std.proofs.lemmas.Bool.Decides.{nat_tests}
 use Rattle.std.proofs.lemmas.List.{length-map}
 use Rattle.ptpm_codec.specs.declared.identity.PortIdentity.{PortIdentity}
 use Rattle.ptpm_data.specs.declared.rights.Rights.{Rights}
-use Rattle.ptpm_data.proofs.StartLemmas.{passes}
-use Rattle.ptpm_table.specs.Managers.{has_twice, identities, table_refusal}
 use Rattle.ptpm_data.specs.declared.start.ClockStart.{ClockStart}
 use Rattle.ptpm_data.specs.declared.start.PortStart.{PortStart}
 use Rattle.ptpm_data.specs.Members.{DataSetsValue}
 use Rattle.ptpm_data.specs.Start.{start_fault, start_of, started, unless}
+use Rattle.ptpm_data.proofs.StartLemmas.{passes}
+use Rattle.ptpm_table.specs.Managers.{has_twice, identities, table_refusal}
 
 unless_ok : {A E : Type 0} (fault : Option E) (a b : A) → ◌≡◌ {A = Result A E} (Ok b) (unless fault a) → b ≡ a
 unless_ok None a b h = cc

@@ -65,8 +65,8 @@ impl HostedClock {
         Ok(clock)
     }
 
-    /// What `start` does, with the clock in a block of its own. It is made right where it lies, and never moved: a stack has no
-    /// room for it to have.
+    /// What `start` does, with the clock in a block of its own. LLVM makes it right there, so that it takes no room on the stack
+    /// and is not moved.
     pub fn start_boxed(
         alloc: Global,
         settings: &ClockSettings,
@@ -88,8 +88,8 @@ impl HostedClock {
         Ok(clock)
     }
 
-    /// A clock of this start that has heard nothing yet and has no managers. It is inlined and holds nothing but zeros besides
-    /// its data sets and its identity, so that it is made in the block that it is moved to.
+    /// A clock of this start that has heard nothing yet and has no managers. It is inlined, and zeros but for its data sets and
+    /// its identity: so LLVM makes it in the block that it is moved to.
     #[inline(always)]
     fn without_managers(judged: &JudgedStart) -> HostedClock
         ensures sets { result.agent.sets ≡ judged.now.sets }

@@ -55,7 +55,7 @@ impl JudgedStart {
     }
 }
 
-/// Why these can't be a clock's managers. A reply table judges them, which takes no more memory than they need.
+/// Why these can't be a clock's managers. A table on the heap judges them, since a `BoundTable` would be moved in its `Result`.
 #[tactic(auto, using(crate::proofs::StartLemmas::few_permitted, crate::proofs::StartLemmas::none_twice))]
 fn judge(alloc: Global, managers: &[(PortIdentity, Rights)]) -> Result<(), TableError>
     ensures permitted { OnOk result (table_refusal (identities managers.now) ≡ None) }
