@@ -1,8 +1,8 @@
 //! What the dataField of a GET holds (15.5.3).
 
-ghost use Rattle.std.specs.Prelude.{◌≡◌, ◌+◌, ◌≤◌, ◌++◌, [], length, true, option_map, Some};
+ghost use Rattle.std.specs.Prelude.{◌≡◌, ◌+◌, ◌≤◌, ◌++◌, ◌≢◌, [], length, true, option_map, Some, IfSome, IfNone};
 ghost use Rattle.arrayvec.specs.ArrayVec.{array_vec_len};
-ghost use Rattle.ptpm_data.specs.DataField.{clock_field_of, current_data_field, data_field_of, data_field_of_id, default_data_field, i16_octets, i32_octets, i64_octets, i8_data_field, i8_octet, octet_data_field, parent_data_field, permits, port_data_field, port_field_of, port_settings_octets, precedence_octets, time_properties_data_field, utc_properties_data_field};
+ghost use Rattle.ptpm_data.specs.DataField.{clock_field_of, current_data_field, data_field_of, data_field_of_id, default_data_field, i16_octets, i32_octets, i64_octets, i8_octet, octet_data_field, parent_data_field, permits, port_data_field, port_settings_octets, precedence_octets, time_properties_data_field, utc_properties_data_field};
 ghost use Rattle.ptpm_data.specs.ManagementId.{is_of_port};
 ghost use Rattle.ptpm_data.specs.Members.{HasPort, port_of};
 ghost use Rattle.ptpm_codec.specs.declared.message.Action.TheVariants.{Get};
@@ -63,19 +63,39 @@ impl DataSets {
     }
 
     /// Appends the dataField of an id of a port; that of a port that the clock lacks has no octets.
-    #[inline(always)]
-    pub(crate) fn put_port_field<const N: usize>(
-        &self,
-        layout: Layout,
-        port: u16,
-        buffer: &mut ArrayVec<u8, N>,
-    )
-        requires empty { buffer.old.items ≡ [] }
-        requires room { 26 ≤ N }
+    #[tactic(auto, unfolding(crate::specs::DataField::port_field_of))]
+    fn put_port_field(&self, layout: Layout, port: u16, buffer: &mut Value)
+        requires { buffer.old.items ≡ [] }
         ensures { buffer.new.items ≡ data_field_of layout (Some port) self.now }
     {
-        if let Some(set) = self.port(port) {
-            put_field_of_port(buffer, layout, &self.default.identity, port, set);
+        if layout == Layout::PortDataSet {
+            if let Some(set) = self.port(port) {
+                put_port_data_set(buffer, &self.default.identity, port, set);
+            }
+        } else if let Some(octet) = self.octet_of_port(layout, port) {
+            put_octet(buffer, octet);
+        }
+    }
+
+    /// The octet that an id other than PORT_DATA_SET shows of a port. None where it shows no member of a port, or the clock
+    /// lacks the port.
+    #[inline(always)]
+    #[tactic(auto, unfolding(crate::specs::DataField::port_field_of))]
+    pub(crate) fn octet_of_port(&self, layout: Layout, port: u16) -> Option<u8>
+        requires { layout ≢ Layout.PortDataSet }
+        ensures shown { IfSome result (λ octet. data_field_of layout (Some port) self.now
+            ≡ octet_data_field octet) }
+        ensures nothing { IfNone result (data_field_of layout (Some port) self.now ≡ []) }
+    {
+        let set = self.port(port)?;
+        match layout {
+            Layout::LogAnnounceInterval => Some(i8_octet(set.log_announce)),
+            Layout::AnnounceReceiptTimeout => Some(set.receipt_timeout),
+            Layout::LogSyncInterval => Some(i8_octet(set.log_sync)),
+            Layout::VersionNumber => Some(VERSION),
+            Layout::DelayMechanism => Some(set.delay_mechanism.number()),
+            Layout::LogMinPdelayReqInterval => Some(i8_octet(set.log_min_pdelay)),
+            _ => None,
         }
     }
 
@@ -92,32 +112,6 @@ impl DataSets {
 
 /// versionNumber (8.2.15.4.6).
 const VERSION: u8 = 2;
-
-/// Appends what an id shows of a port's data set.
-#[tactic(auto, unfolding(crate::specs::DataField::port_field_of))]
-#[inline(always)]
-fn put_field_of_port<const N: usize>(
-    buffer: &mut ArrayVec<u8, N>,
-    layout: Layout,
-    identity: &ClockIdentity,
-    port: u16,
-    set: &PortDataSet,
-)
-    requires empty { buffer.old.items ≡ [] }
-    requires room { 26 ≤ N }
-    ensures { buffer.new.items ≡ port_field_of layout identity.now port set.now }
-{
-    match layout {
-        Layout::PortDataSet => put_port_data_set(buffer, identity, port, set),
-        Layout::LogAnnounceInterval => put_i8(buffer, set.log_announce),
-        Layout::AnnounceReceiptTimeout => put_octet(buffer, set.receipt_timeout),
-        Layout::LogSyncInterval => put_i8(buffer, set.log_sync),
-        Layout::VersionNumber => put_octet(buffer, VERSION),
-        Layout::DelayMechanism => put_octet(buffer, set.delay_mechanism.number()),
-        Layout::LogMinPdelayReqInterval => put_i8(buffer, set.log_min_pdelay),
-        _ => {}
-    }
-}
 
 #[tactic(auto, unfolding(crate::specs::DataField::default_data_field))]
 fn put_default_data_set(buffer: &mut Value, set: &DefaultDataSet, number_of_ports: u16)
@@ -196,7 +190,7 @@ fn put_precedence(buffer: &mut Value, precedence: &ClockPrecedence)
 
 #[tactic(auto, unfolding(crate::specs::DataField::port_data_field))]
 #[inline(always)]
-fn put_port_data_set<const N: usize>(
+pub(crate) fn put_port_data_set<const N: usize>(
     buffer: &mut ArrayVec<u8, N>,
     identity: &ClockIdentity,
     port: u16,
@@ -217,6 +211,7 @@ fn put_port_data_set<const N: usize>(
 
 /// The members that a SET can change, and versionNumber.
 #[tactic(auto, unfolding(crate::specs::DataField::port_settings_octets))]
+#[inline(always)]
 fn put_port_settings<const N: usize>(buffer: &mut ArrayVec<u8, N>, set: &PortDataSet)
     requires { array_vec_len buffer.old + 6 ≤ N }
     ensures { buffer.new.items ≡ buffer.old.items ++ port_settings_octets set.now }
@@ -239,18 +234,11 @@ fn put_port_settings<const N: usize>(buffer: &mut ArrayVec<u8, N>, set: &PortDat
     );
 }
 
-fn put_octet<const N: usize>(buffer: &mut ArrayVec<u8, N>, octet: u8)
-    requires { array_vec_len buffer.old + 2 ≤ N }
+fn put_octet(buffer: &mut Value, octet: u8)
+    requires { array_vec_len buffer.old + 2 ≤ 130 }
     ensures { buffer.new.items ≡ buffer.old.items ++ octet_data_field octet }
 {
     put(buffer, &[octet, 0]);
-}
-
-fn put_i8<const N: usize>(buffer: &mut ArrayVec<u8, N>, number: i8)
-    requires { array_vec_len buffer.old + 2 ≤ N }
-    ensures { buffer.new.items ≡ buffer.old.items ++ i8_data_field number }
-{
-    put_octet(buffer, i8_octet(number));
 }
 
 #[tactic(auto, unfolding(crate::specs::DataField::i8_octet))]

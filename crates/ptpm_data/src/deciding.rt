@@ -36,7 +36,9 @@ impl DataSets {
         reply
     }
 
-    /// Does what `decide` does, and puts the answers where they go: one of the clock, or up to eight of ports.
+    /// Does what `decide` does, and puts the answers where they go: one of the clock, or up to eight of ports. It is never
+    /// inlined: the room of a dataField is in its frame.
+    #[inline(never)]
     pub fn decide_into<A: Answers>(
         &mut self,
         request: &Request<'_>,

@@ -34,7 +34,9 @@ impl DataSets {
         reply
     }
 
-    /// Does what `read` does, and puts the answers where they go: one of the clock, or up to eight of ports.
+    /// Does what `read` does, and puts the answers where they go: one of the clock, or up to eight of ports. It is never
+    /// inlined: the room of a dataField is in its frame.
+    #[inline(never)]
     pub fn read_into<A: Answers>(&self, request: &Request<'_>, answers: &mut A)
         requires action { IsRequestAction request.now.action }
         requires port { IsTargetPort request.now.port self.now }

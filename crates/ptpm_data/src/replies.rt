@@ -1,6 +1,7 @@
 //! What a request is answered (15.5.3, 15.5.4).
 
 use crate::answers::Answers;
+use crate::data_field::put_port_data_set;
 use crate::data_sets::DataSets;
 use crate::management_id::{Layout, Row, Scope};
 use crate::reply::{PortValue, Value};
@@ -36,7 +37,8 @@ impl DataSets {
         }
     }
 
-    /// Puts the answer of each named port.
+    /// Puts the answer of each named port. It is never inlined: most requests are for one answer.
+    #[inline(never)]
     fn put_answers<A: Answers>(
         &self,
         row: &Row,
@@ -57,6 +59,7 @@ impl DataSets {
     }
 
     /// Puts the answer of a port, or of the clock.
+    #[inline(always)]
     fn put_answer<A: Answers>(
         &self,
         layout: Layout,
@@ -78,6 +81,7 @@ impl DataSets {
     }
 
     /// Puts the dataField of an id.
+    #[inline(always)]
     fn put_value<A: Answers>(&self, layout: Layout, port: Option<u16>, answers: &mut A)
         requires { A.count answers.old < A.most }
         ensures { A.taken answers.old
@@ -90,12 +94,43 @@ impl DataSets {
                 self.put_clock_field(layout, &mut value);
                 answers.take_value(None, value.as_slice());
             }
-            Some(number) => {
-                let mut value = PortValue::new();
-                self.put_port_field(layout, number, &mut value);
-                answers.take_value(Some(number), value.as_slice());
-            }
+            Some(number) => self.put_port_value(layout, number, answers),
         }
+    }
+
+    /// Puts the dataField of an id of a port.
+    #[inline(always)]
+    fn put_port_value<A: Answers>(&self, layout: Layout, port: u16, answers: &mut A)
+        requires { A.count answers.old < A.most }
+        ensures { A.taken answers.old
+            (record { port = Some port; outcome = Value (data_field_of layout (Some port) self.now) } ∷ [])
+            answers.new }
+    {
+        if layout == Layout::PortDataSet {
+            self.put_whole_port(port, answers);
+        } else if let Some(octet) = self.octet_of_port(layout, port) {
+            answers.take_value(Some(port), &[octet, 0]);
+        } else {
+            answers.take_value(Some(port), &[]);
+        }
+    }
+
+    /// Puts a port's data set, whose size is known where it is put.
+    #[inline(always)]
+    #[tactic(auto, unfolding(crate::specs::DataField::port_field_of))]
+    fn put_whole_port<A: Answers>(&self, port: u16, answers: &mut A)
+        requires { A.count answers.old < A.most }
+        ensures { A.taken answers.old
+            (record { port = Some port; outcome = Value (data_field_of Layout.PortDataSet (Some port) self.now) } ∷ [])
+            answers.new }
+    {
+        let Some(set) = self.port(port) else {
+            answers.take_value(Some(port), &[]);
+            return;
+        };
+        let mut value = PortValue::new();
+        put_port_data_set(&mut value, &self.default.identity, port, set);
+        answers.take_value(Some(port), value.as_slice());
     }
 
     /// The ports that a target port means: from the first number on, up to the second, which is not one of them.
