@@ -54,14 +54,13 @@ impl<'a> Chart<'a> {
         let label = across(sizes.label, 32);
         let edge = across(sizes.line, 2 * MARGIN);
         let lead = if sizes.has_edge { label } else { box_half };
+        let beside = label.max(across(sizes.stub, 64));
         let lifelines = Lifelines {
             network: &script.network,
             first: edge.saturating_add(lead).saturating_add(MARGIN),
-            step: label
-                .max(across(sizes.stub, 64))
-                .max(across(sizes.name, 48)),
+            step: beside.max(across(sizes.name, 48)),
         };
-        let overhang = if sizes.has_overhang { label } else { box_half };
+        let overhang = if sizes.has_overhang { beside } else { box_half };
         let right = lifelines
             .last()
             .saturating_add(overhang)

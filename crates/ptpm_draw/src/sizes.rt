@@ -100,11 +100,15 @@ impl Sizes {
         text: &mut String,
     ) -> Result<(), OutOfMemory> {
         for count in row.before..row.after {
-            if !is_delivered.get(count as usize).copied().unwrap_or(true) {
-                let frame = count.saturating_add(1);
+            let frame = count.saturating_add(1);
+            if let (Some(false), Some(message)) = (
+                is_delivered.get(count as usize).copied(),
+                picture.message(frame),
+            ) {
                 spell(text, LostText { picture, frame })?;
                 self.stub = self.stub.max(text.len());
                 self.height = self.height.saturating_add(STUB);
+                self.has_overhang |= message.from == Some(message.to);
             }
         }
         Ok(())
