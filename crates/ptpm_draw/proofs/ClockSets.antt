@@ -1,12 +1,13 @@
 -- The data sets of a clock, which its name finds.
-use Rattle.ptpm_world.proofs.Common.{◌≡◌, ℕ, ◌<◌, zero, suc, Bool, true, false, List, [], ◌∷◌, Option, Some, None, refl, sym, ap, ◌∙◌, arith, ⊎_elim, find, length, map, option_map, bytes_eq, cases_Bool, cond-true, cond-false, same_Some, slice_get, slice_get-map, clock_value, network_value, NetworkValue, IsAccepted, ClockValue, World, running, sets_of, RunningClock, state_of}
+use Rattle.ptpm_world.proofs.Common.{◌≡◌, ℕ, zero, suc, Bool, true, false, List, [], ◌∷◌, Option, Some, None, refl, sym, ap, ◌∙◌, arith, ⊎_elim, find, map, option_map, bytes_eq, cases_Bool, cond-true, cond-false, same_Some, slice_get, slice_get-map, clock_value, network_value, NetworkValue, IsAccepted, ClockValue, names_in, running, sets_of, state_of}
 use Rattle.ptpm_script.proofs.NetworkFacts.{of_text-accepted}
 use Rattle.ptpm_script.specs.declared.network.Network.{Network}
 use Rattle.ptpm_script.specs.declared.network.NetworkClock.{NetworkClock}
 use Rattle.std.proofs.lemmas.Slice.Eq.{bytes_eq-Decides}
-use Rattle.ptpm_data.specs.Members.{DataSetsValue}
 use Rattle.ptpm_draw.specs.Picture.{IsWorldOf}
+use Rattle.ptpm_world.specs.Placed.{Names}
 use Rattle.ptpm_world.specs.Running.{sets_named}
+use Rattle.ptpm_world.specs.declared.world.World.{World}
 
 -- this text stands at one place at most
 abbrev pub IsAlone : List (List ℕ) → List ℕ → ℕ → Type 0
@@ -38,26 +39,34 @@ made-of name_of [] place name e = absurd (none_some name e)
 made-of name_of (x ∷ xs) zero name e = (x, (refl, same_Some (name_of x) name e))
 made-of name_of (x ∷ xs) (suc place) name e = made-of name_of xs place name e
 
-mapped-there : {X : Type 0} (name_of : X → List ℕ) (xs : List X) (place : ℕ) (x : X)
-    → slice_get xs place ≡ Some x
-    → slice_get (map name_of xs) place ≡ Some (name_of x)
-mapped-there name_of [] place x e = absurd (none_some x e)
-mapped-there name_of (y ∷ ys) zero x e = ap (λ o. option_map name_of o) e
-mapped-there name_of (y ∷ ys) (suc place) x e = mapped-there name_of ys place x e
+-- by a list of names
+named-there : {X : Type 0} (name_of : X → List ℕ) (xs : List X) (names : List (List ℕ)) (name : List ℕ) (place : ℕ)
+    → map name_of xs ≡ names
+    → slice_get names place ≡ Some name
+    → IsAlone names name place
+    → (x : X) × ((find (λ x. bytes_eq (name_of x) name) xs ≡ Some x) × (slice_get xs place ≡ Some x))
+named-there {X = X} name_of xs names name place same at alone =
+    let named : slice_get (map name_of xs) place ≡ Some name = ap (λ ns. slice_get ns place) same ∙ at in
+    let x : (x : X) × ((slice_get xs place ≡ Some x) × (name_of x ≡ name)) = made-of name_of xs place name named in
+    (
+      x.0,
+      (found-there name_of xs name place named (λ i h. alone i (ap (λ ns. slice_get ns i) (sym same) ∙ h)) ∙ x.1.0, x.1.0),
+    )
+
+clock-named : (n : NetworkValue) (place : ℕ) (k : ClockValue)
+    → slice_get n.clocks place ≡ Some k
+    → slice_get (map (λ (c : ClockValue). c.name) n.clocks) place ≡ Some k.name
+clock-named n place k at =
+    slice_get-map (λ (c : ClockValue). c.name) n.clocks place ∙ ap (option_map (λ (c : ClockValue). c.name)) at
 
 clock-alone : (n : NetworkValue) (place : ℕ) (k : ClockValue)
     → IsAccepted n
     → slice_get n.clocks place ≡ Some k
-    → IsAlone (map (λ c. c.name) n.clocks) k.name place
+    → IsAlone (map (λ (c : ClockValue). c.name) n.clocks) k.name place
 clock-alone n place k facts at i h =
-    let other = made-of (λ (c : ClockValue). c.name) n.clocks i k.name h in
+    let other : (x : ClockValue) × ((slice_get n.clocks i ≡ Some x) × (x.name ≡ k.name)) =
+    made-of (λ (c : ClockValue). c.name) n.clocks i k.name h in
     facts.clock_names i place other.0 k other.1.0 at other.1.1
-
-sets-there : (o : Option RunningClock) (x : RunningClock)
-    → o ≡ Some x
-    → sets_of o ≡ Some (state_of o).sets
-sets-there None x e = absurd (none_some x e)
-sets-there (Some y) x e = refl
 
 clock-sets : (n : NetworkValue) (w : World) (place : ℕ) (k : ClockValue)
     → IsAccepted n
@@ -65,14 +74,9 @@ clock-sets : (n : NetworkValue) (w : World) (place : ℕ) (k : ClockValue)
     → slice_get n.clocks place ≡ Some k
     → sets_named w k.name ≡ Some ((running w).clock place).sets
 clock-sets n w place k facts world at =
-    let same : map (λ (c : RunningClock). c.name) w.clocks.items ≡ map (λ (c : ClockValue). c.name) n.clocks =
-    ap (λ names. names.clocks) world.names in
-    let named : slice_get (map (λ (c : RunningClock). c.name) w.clocks.items) place ≡ Some k.name =
-    ap (λ names. slice_get names place) same ∙ mapped-there (λ (c : ClockValue). c.name) n.clocks place k at in
-    let x = made-of (λ (c : RunningClock). c.name) w.clocks.items place k.name named in
-    ap sets_of (found-there (λ (c : RunningClock). c.name) w.clocks.items k.name place named
-    (λ i h. clock-alone n place k facts at i (ap (λ names. slice_get names i) (sym same) ∙ h)))
-    ∙ sets-there (slice_get w.clocks.items place) x.0 x.1.0
+    let x = named-there _ _ (map (λ (c : ClockValue). c.name) n.clocks) k.name place (ap (λ (names : Names). names.clocks) world.names)
+    (clock-named n place k at) (clock-alone n place k facts at) in
+    ap sets_of x.1.0 ∙ ap (λ o. Some (state_of o).sets) (sym x.1.1)
 
 pub clock-sets_named : (network : Network) (w : World) (place : ℕ) (clocks : List NetworkClock) (k : NetworkClock)
     (name : List ℕ)

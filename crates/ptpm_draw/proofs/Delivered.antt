@@ -1,5 +1,5 @@
 -- Flags of the frames that arrows deliver.
-use Rattle.ptpm_world.proofs.Common.{◌≡◌, ◌≢◌, ℕ, ◌+◌, ◌-◌, ◌<◌, ◌==◌, zero, suc, Bool, true, false, ◌||◌, List, [], ◌∷◌, ◌++◌, refl, sym, ap, ◌∙◌, arith, ⊎_elim, cases_Bool, cond-true, cond-false, eq-eqb, eqb-true, eqb-false, map, ne_eqb, range_with_len, slice_set}
+use Rattle.ptpm_world.proofs.Common.{◌≡◌, ◌≢◌, ℕ, ◌+◌, ◌-◌, ◌<◌, ◌==◌, zero, suc, Bool, true, false, ◌||◌, List, [], ◌∷◌, ◌++◌, refl, sym, ap, ◌∙◌, arith, ⊎_elim, cases_Bool, cond-true, cond-false, eq-eqb, eqb-true, eqb-false, get_or, length, map, ne_eqb, range_with_len, slice_set, take, take_more}
 use Rattle.std.specs.Prelude.{replicate}
 use Rattle.std.proofs.lemmas.List.Folds.{list_any-append}
 use Rattle.ptpm_draw.specs.Picture.{is_arrow_of, is_delivered, marked, marked_by}
@@ -72,7 +72,7 @@ one-more : (rows : List Row) (row : Row) (k : ℕ)
 one-more rows row k =
     list_any-append (λ r. is_arrow_of k r.way) rows (row ∷ []) ∙ ap (λ b. is_delivered rows k || b) (or-false (is_arrow_of k row.way))
 
-pub delivered-more : (rows : List Row) (row : Row) (n : ℕ) (flags new : List Bool)
+delivered-more : (rows : List Row) (row : Row) (n : ℕ) (flags new : List Bool)
     → flags ≡ map (is_delivered rows) (range_with_len 1 n)
     → new ≡ marked_by row.way flags
     → new ≡ map (is_delivered (rows ++ row ∷ [])) (range_with_len 1 n)
@@ -80,3 +80,16 @@ delivered-more rows row n flags new so_far noted =
     noted ∙ ap (marked_by row.way) so_far
     ∙ sym (way-marks (is_delivered rows) row.way n)
     ∙ sym (λ i. map (λ k. one-more rows row k i) (range_with_len 1 n))
+
+-- the row at this place
+pub delivered-row : (items rows : List Row) (place n : ℕ) (d : Row) (flags new : List Bool)
+    → items ≡ rows
+    → place < length items
+    → flags ≡ map (is_delivered (take place rows)) (range_with_len 1 n)
+    → new ≡ marked_by (get_or items place d).way flags
+    → new ≡ map (is_delivered (take (place + 1) rows)) (range_with_len 1 n)
+delivered-row items rows place n d flags new same below so_far noted =
+    delivered-more (take place items) (get_or items place d) n flags new
+    (so_far ∙ ap (λ rs. map (is_delivered (take place rs)) (range_with_len 1 n)) (sym same)) noted
+    ∙ ap (λ rs. map (is_delivered rs) (range_with_len 1 n)) (sym (take_more items place d below))
+    ∙ ap (λ rs. map (is_delivered (take (place + 1) rs)) (range_with_len 1 n)) same

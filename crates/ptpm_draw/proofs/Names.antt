@@ -1,6 +1,8 @@
 -- Places of names, and at whom events happen.
-use Rattle.ptpm_world.proofs.Common.{◌≡◌, ℕ, ◌+◌, ◌-◌, ◌<◌, ◌==◌, zero, suc, Bool, true, false, All, List, [], ◌∷◌, Option, Some, None, refl, sym, ap, ◌∙◌, subst, arith, ⊎_elim, bytes_eq, cases_Bool, cond, cond-true, cond-false, length, length-map, map, option_map, position, same_Some, slice_get, HasEnd, AtPort, AtSession, Held, frame_at, clock_value, described, described_end, frame_value, names_of, NetworkValue}
+use Rattle.ptpm_world.proofs.Common.{◌≡◌, ℕ, ◌+◌, ◌-◌, ◌<◌, ◌==◌, zero, suc, Bool, true, false, All, List, [], ◌∷◌, Option, Some, None, refl, sym, ap, ◌∙◌, subst, arith, ⊎_elim, bytes_eq, cases_Bool, cond, cond-true, cond-false, length, length-map, map, option_map, position, same_Some, slice_get, HasEnd, AtPort, AtSession, Held, frame_at, clock_value, ClockValue, described, described_end, frame_value, names_of, NetworkValue}
 use Rattle.std.specs.List.{position_from}
+use Rattle.std.proofs.lemmas.Iterator.Adapters.{position_from-zero}
+use Rattle.std.proofs.lemmas.List.Quantifiers.{position-Some}
 use Rattle.ptpm_network.specs.Network.{End}
 use Rattle.ptpm_script.specs.declared.network.NetworkClock.{NetworkClock}
 use Rattle.ptpm_script.specs.declared.network.NetworkSession.{NetworkSession}
@@ -18,30 +20,23 @@ place-mapped : {X Y : Type 0} (f : X → Y) (test : Y → Bool) (i : ℕ) (xs : 
 place-mapped f test i [] = refl
 place-mapped f test i (x ∷ xs) = ap (λ rest. cond (test (f x)) (Some i) rest) (place-mapped f test (i + 1) xs)
 
+position-mapped : {X Y : Type 0} (f : X → Y) (test : Y → Bool) (xs : List X)
+    → position (λ x. test (f x)) xs ≡ position test (map f xs)
+position-mapped f test xs =
+    position_from-zero (λ x. test (f x)) xs ∙ place-mapped f test 0 xs ∙ sym (position_from-zero test (map f xs))
+
 pub named-session : (n : NetworkValue) (name : List ℕ)
     → option_map parties.Session (position (λ s. bytes_eq s.name name) n.sessions) ≡ session_named (names_of n) name
-named-session n name = ap (option_map parties.Session) (place-mapped (λ s. s.name) (λ m. bytes_eq m name) 0 n.sessions)
+named-session n name = ap (option_map parties.Session) (position-mapped (λ (s : NetworkSession). s.name) (λ m. bytes_eq m name) n.sessions)
 
 pub named-clock : (n : NetworkValue) (clocks : List NetworkClock) (name : List ℕ)
     → n.clocks ≡ map clock_value clocks
     → option_map parties.Clock (position (λ c. bytes_eq c.name name) clocks) ≡ clock_named (names_of n) name
 named-clock n clocks name is =
     ap (option_map parties.Clock)
-    (place-mapped clock_value (λ c. bytes_eq c.name name) 0 clocks
-    ∙ place-mapped (λ c. c.name) (λ m. bytes_eq m name) 0 (map clock_value clocks)
-    ∙ ap (λ cs. position_from (λ m. bytes_eq m name) 0 (map (λ c. c.name) cs)) (sym is))
-
-none_some : {X : Type 0} (x : X) → ◌≡◌ {A = Option X} None (Some x) → ⊥
-none_some x e = cc
-
-within : {X : Type 0} (test : X → Bool) (i : ℕ) (xs : List X) (k : ℕ)
-    → position_from test i xs ≡ Some k
-    → k < i + length xs
-within test i [] k e = absurd (none_some k e)
-within test i (x ∷ xs) k e = ⊎_elim
-    (λ (here : test x ≡ true). omega (arith, same_Some i k (sym (cond-true _ _ _ here) ∙ e)))
-    (λ (away : test x ≡ false). omega (arith, within test (i + 1) xs k (sym (cond-false _ _ _ away) ∙ e)))
-    (cases_Bool (test x))
+    (position-mapped clock_value (λ (c : ClockValue). bytes_eq c.name name) clocks
+    ∙ position-mapped (λ (c : ClockValue). c.name) (λ m. bytes_eq m name) (map clock_value clocks)
+    ∙ ap (λ cs. position (λ m. bytes_eq m name) (map (λ (c : ClockValue). c.name) cs)) (sym is))
 
 clock_at-there : (many : ℕ) (o : Option ℕ)
     → ((k : ℕ) → o ≡ Some k → k < many)
@@ -53,7 +48,7 @@ clock-there : (n : NetworkValue) (name : List ℕ) → IsThere (length n.clocks)
 clock-there n name =
     subst (λ many. IsThere many (clock_named (names_of n) name)) (length-map n.clocks (λ c. c.name))
     (clock_at-there (length (names_of n).clocks) (position (λ m. bytes_eq m name) (names_of n).clocks)
-    (λ k e. within (λ m. bytes_eq m name) 0 (names_of n).clocks k e))
+    (λ k e. (position-Some (λ m. bytes_eq m name) (names_of n).clocks k [] e).0))
 
 session-there : (many : ℕ) (o : Option ℕ) → IsThere many (option_map parties.Session o)
 session-there many None = tt

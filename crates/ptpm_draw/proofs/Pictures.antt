@@ -1,8 +1,9 @@
 -- A picture as far as it is drawn.
-use Rattle.ptpm_world.proofs.Common.{◌≡◌, ℕ, ◌+◌, ◌++◌, ◌≤◌, zero, suc, List, [], ◌∷◌, Option, Some, None, refl, sym, ap, ◌∙◌, arith, add-one, append_assoc, append-nil, cond-false, drop, length, map, ne_eqb, option_map, slice_get, ◌-◌, Held, frame_at, Network, RunningNetwork, Names, placed, after, answer, described, IsOf, names_in, names_of, NetworkValue, running, World, PortIdentity, Stands, initial_state}
+use Rattle.ptpm_world.proofs.Common.{◌≡◌, ℕ, ◌+◌, ◌++◌, ◌<◌, ◌≤◌, zero, suc, List, [], ◌∷◌, Option, Some, None, refl, sym, ap, ◌∙◌, arith, add-one, append_assoc, append-nil, cond-false, drop, get_or, length, map, ne_eqb, option_map, slice_get, ◌-◌, Held, frame_at, Network, RunningNetwork, Names, placed, after, answer, described, IsOf, names_in, names_of, NetworkValue, running, PortIdentity, Stands, initial_state}
 use Rattle.std.specs.Prelude.{option_to_list}
-use Rattle.std.proofs.lemmas.List.{drop_all}
-use Rattle.ptpm_draw.specs.Changes.{change_at}
+use Rattle.std.proofs.lemmas.List.{drop_all, drop_more}
+use Rattle.ptpm_data.specs.Members.{DataSetsValue}
+use Rattle.ptpm_draw.specs.Changes.{change_at, change_of, sets_of}
 use Rattle.ptpm_draw.specs.Party.{party_at}
 use Rattle.ptpm_draw.specs.Picture.{Drawn, IsWorldOf, drawn, drawn_by, message_of, picture_of, row_of, then_drawn, way_of}
 use Rattle.ptpm_draw.specs.declared.changes.Change.{Change}
@@ -10,6 +11,7 @@ use Rattle.ptpm_draw.specs.declared.party.Party.{Party}
 use Rattle.ptpm_draw.specs.declared.picture.Row.{Row}
 use Rattle.ptpm_world.proofs.StartedWorld.{started-is}
 use Rattle.ptpm_world.specs.Trace.{is_late_event}
+use Rattle.ptpm_world.specs.declared.world.World.{World}
 use Rattle.ptpm_world.specs.declared.whole_script.EventLine.{EventLine}
 
 -- ---- one event
@@ -51,6 +53,16 @@ event-drawn n r next line at row change old new party is changed rows messages c
   changes = (changes ∙ ap (λ x. old.changes ++ option_to_list x) (changed ∙ ap (λ a. change_at line.number a r next) party)) i;
 }
 
+-- of the data sets before it and after it
+pub change-is : (line : ℕ) (at : Option Party) (r next : RunningNetwork) (before behind : Option DataSetsValue)
+    (change : Option Change)
+    → before ≡ sets_of at r
+    → behind ≡ sets_of at next
+    → change ≡ change_of line before behind
+    → change ≡ change_at line at r next
+change-is line at r next before behind change was now is =
+    is ∙ ap (λ x. change_of line x behind) was ∙ ap (λ x. change_of line (sets_of at r) x) now
+
 -- a world stays one of its network
 pub stays : (n : NetworkValue) (old new : World)
     → ((N : Network) → IsOf N old → IsOf N new)
@@ -84,7 +96,7 @@ kept-more f frames count whole old new so_far kept =
     ∙ sym (append_assoc old one (map f (drop (suc count) frames)))
     ∙ ap (λ o. (old ++ option_to_list (option_map f o)) ++ map f (drop (suc count) frames)) (sym (frame-here frames count))
     ∙ ap (λ xs. xs ++ map f (drop (suc count) frames)) (sym kept)
-    ∙ ap (λ k. new ++ map f (drop k frames)) (sym add-one)
+    ∙ ap (λ k. new ++ map f (drop k frames)) (sym (add-one count))
 
 -- none is left
 pub kept-all : {A : Type 0} (f : Held → A) (frames : List Held) (count : ℕ) (whole kept : List A)
@@ -116,29 +128,33 @@ drawn-first d rest rows messages changes = λ i. record {
 }
 
 -- and the world is the one that its network starts as
-pub drawn-started : (n : NetworkValue) (w : World) (lines : List EventLine) (d : Drawn)
+pub drawn-started : (n : NetworkValue) (w : World) (lines items : List EventLine) (d : Drawn)
+    → items ≡ lines
     → IsOf (described n) w
     → ((first : PortIdentity → ℕ) → Stands (described n) first (running w) (initial_state (described n)))
     → d.rows ≡ []
     → d.messages ≡ []
     → d.changes ≡ []
-    → picture_of n lines ≡ then_drawn d (drawn (described n) (names_of n) (running w) lines)
-drawn-started n w lines d is stands rows messages changes =
-    ap (λ (r : RunningNetwork). drawn (described n) (names_of n) r lines) (sym (started-is n w is stands))
-    ∙ drawn-first d (drawn (described n) (names_of n) (running w) lines) rows messages changes
+    → picture_of n lines ≡ then_drawn d (drawn (described n) (names_of n) (running w) items)
+drawn-started n w lines items d same is stands rows messages changes =
+    ap (picture_of n) (sym same)
+    ∙ ap (λ (r : RunningNetwork). drawn (described n) (names_of n) r items) (sym (started-is n w is stands))
+    ∙ drawn-first d (drawn (described n) (names_of n) (running w) items) rows messages changes
 
--- an event more
-pub drawn-more : (N : Network) (names : Names) (now next : RunningNetwork) (line : EventLine)
-    (lines rest : List EventLine)
+-- an event more, the one at this place
+pub drawn-more : (N : Network) (names : Names) (now next : RunningNetwork) (lines : List EventLine) (place : ℕ)
+    (line : EventLine)
     (whole old new : Drawn)
-    → whole ≡ then_drawn old (drawn N names now lines)
-    → lines ≡ line ∷ rest
+    → place < length lines
+    → line ≡ get_or lines place line
+    → whole ≡ then_drawn old (drawn N names now (drop place lines))
     → next ≡ after N now (placed names line.event)
     → new ≡ then_drawn old (drawn_by N names now next line)
-    → whole ≡ then_drawn new (drawn N names next rest)
-drawn-more N names now next line lines rest whole old new so_far split goes kept =
+    → whole ≡ then_drawn new (drawn N names next (drop (place + 1) lines))
+drawn-more N names now next lines place line whole old new below is so_far goes kept =
+    let rest = drop (place + 1) lines in
     so_far
-    ∙ ap (λ ls. then_drawn old (drawn N names now ls)) split
+    ∙ ap (λ ls. then_drawn old (drawn N names now ls)) (drop_more lines place line below ∙ ap (λ l. l ∷ rest) (sym is))
     ∙ ap (λ (r : RunningNetwork). then_drawn old (then_drawn (drawn_by N names now r line) (drawn N names r rest))) (sym goes)
     ∙ sym (then-assoc old (drawn_by N names now next line) (drawn N names next rest))
     ∙ ap (λ d. then_drawn d (drawn N names next rest)) (sym kept)
@@ -151,10 +167,10 @@ then-nothing d = λ i. record {
 }
 
 -- no event is left
-pub drawn-all : (N : Network) (names : Names) (now : RunningNetwork) (lines : List EventLine)
+pub drawn-all : (N : Network) (names : Names) (now : RunningNetwork) (lines : List EventLine) (place : ℕ)
     (whole all : Drawn)
-    → whole ≡ then_drawn all (drawn N names now lines)
-    → lines ≡ []
+    → length lines ≤ place
+    → whole ≡ then_drawn all (drawn N names now (drop place lines))
     → all ≡ whole
-drawn-all N names now lines whole all so_far none =
-    sym (so_far ∙ ap (λ ls. then_drawn all (drawn N names now ls)) none ∙ then-nothing all)
+drawn-all N names now lines place whole all past so_far =
+    sym (so_far ∙ ap (λ ls. then_drawn all (drawn N names now ls)) (drop_all place lines past) ∙ then-nothing all)

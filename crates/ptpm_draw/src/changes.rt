@@ -1,6 +1,7 @@
 //! What events changed at their clocks.
 
-ghost use Rattle.std.specs.Prelude.{◌≡◌, ◌<◌, Some, length, option_map};
+ghost use Rattle.std.specs.Prelude.{◌≡◌, ◌<◌, ◌==◌, Some, length, option_map};
+ghost use Rattle.std.specs.List.{list_all};
 ghost use Rattle.ptpm_draw.specs.Changes.{change_between, change_of, is_nothing, sets_of};
 ghost use Rattle.ptpm_draw.specs.Party.{IsThere};
 ghost use Rattle.ptpm_draw.specs.Picture.{IsWorldOf};
@@ -9,7 +10,7 @@ ghost use Rattle.ptpm_world.specs.Running.{running};
 
 use crate::party::Party;
 use crate::picture::Picture;
-use ptpm_data::{ChangedMembers, DataSets};
+use ptpm_data::{ChangedMembers, DataSets, PortMembers};
 use ptpm_world::{Network, World};
 
 /// What an event changed at its clock.
@@ -110,5 +111,12 @@ fn change_between(line: u32, before: &DataSets, after: &DataSets) -> Option<Chan
 fn is_nothing(members: &ChangedMembers) -> bool
     ensures { result ≡ is_nothing members.now }
 {
-    members.clock.0 == 0 && members.ports.iter().all(|port| port.0 == 0)
+    members.clock.0 == 0 && are_nothing(&members.ports)
+}
+
+/// Whether no member of these ports changed.
+fn are_nothing(ports: &[PortMembers]) -> bool
+    ensures { result ≡ list_all (λ port. port.0 == 0) ports.now }
+{
+    ports.iter().all(|port| port.0 == 0)
 }

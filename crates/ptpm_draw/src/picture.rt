@@ -1,6 +1,6 @@
 //! What a picture of a run shows: a row for each event, each message that was sent, and what changed.
 
-ghost use Rattle.std.specs.Prelude.{◌≡◌, ◌++◌, IfOk, OnOk, drop, length, map, option_map, option_to_list};
+ghost use Rattle.std.specs.Prelude.{◌≡◌, [], ◌∷◌, ◌++◌, IfOk, OnOk, drop, length, map, option_map, option_to_list};
 ghost use Rattle.std.specs.List.{range_with_len};
 ghost use Rattle.std.specs.Option.{option_copied};
 ghost use Rattle.ptpm_codec.specs.Reading.{reading};
@@ -93,15 +93,24 @@ impl Picture {
             drawn_in p ≡ picture_of (network_value script.now.network) script.now.lines.items) }
     {
         let mut world = World::new(alloc, &script.network)?;
-        let mut picture = Picture {
-            rows: Vec::new(alloc),
-            messages: Vec::new(alloc),
-            changes: Vec::new(alloc),
-        };
+        let mut picture = Picture::empty(alloc);
         for line in script.lines.as_slice() {
             picture.play(&script.network, &mut world, line)?;
         }
         Ok(picture)
+    }
+
+    /// Nothing is drawn yet.
+    fn empty(alloc: Global) -> Picture
+        ensures rows { result.rows.items ≡ [] }
+        ensures messages { result.messages.items ≡ [] }
+        ensures changes { result.changes.items ≡ [] }
+    {
+        Picture {
+            rows: Vec::new(alloc),
+            messages: Vec::new(alloc),
+            changes: Vec::new(alloc),
+        }
     }
 
     /// Lets an event happen, and keeps what is drawn of it.
@@ -122,15 +131,24 @@ impl Picture {
             (running world.new
             ≡ after (described (network_value network.now)) (running world.old)
             (placed (names_of (network_value network.now)) line.now.event)) }
-        ensures world { IsWorldOf (network_value network.now) world.new }
+        ensures world { OnOk result (IsWorldOf (network_value network.now) world.new) }
     {
         let at = party_at(network, world, &line.event);
         let before = copy_of(sets_of(network, world, at));
         let row = play_event(world, line, at)?;
-        self.rows.push(row).map_err(|_| OutOfMemory)?;
+        self.keep_row(row)?;
         self.keep_messages(world, &row)?;
         let change = change_of(line.number, before, sets_of(network, world, at));
-        self.keep_change(change)
+        self.keep_change(change)?;
+        Ok(())
+    }
+
+    fn keep_row(&mut self, row: Row) -> Result<(), OutOfMemory>
+        ensures rows { OnOk result (self.new.rows.items ≡ self.old.rows.items ++ row ∷ []) }
+        ensures messages { self.new.messages.items ≡ self.old.messages.items }
+        ensures changes { self.new.changes.items ≡ self.old.changes.items }
+    {
+        self.rows.push(row).map_err(|_| OutOfMemory)
     }
 
     /// Keeps the messages that the event of a row made, which was the last.
@@ -140,8 +158,8 @@ impl Picture {
             (self.new.messages.items
             ≡ self.old.messages.items
             ++ map (message_of row.now.at) (drop row.now.before (running world.now).frames)) }
-        ensures rows { self.new.rows ≡ self.old.rows }
-        ensures changes { self.new.changes ≡ self.old.changes }
+        ensures rows { self.new.rows.items ≡ self.old.rows.items }
+        ensures changes { self.new.changes.items ≡ self.old.changes.items }
     {
         for count in row.before..row.after {
             self.keep_message(world, row.at, count + 1)?;
@@ -161,8 +179,8 @@ impl Picture {
             ≡ self.old.messages.items
             ++ option_to_list
             (option_map (message_of from) (frame_at (running world.now).frames number))) }
-        ensures rows { self.new.rows ≡ self.old.rows }
-        ensures changes { self.new.changes ≡ self.old.changes }
+        ensures rows { self.new.rows.items ≡ self.old.rows.items }
+        ensures changes { self.new.changes.items ≡ self.old.changes.items }
     {
         if let Some(frame) = world.frame(number) {
             self.messages
@@ -176,8 +194,8 @@ impl Picture {
     fn keep_change(&mut self, change: Option<Change>) -> Result<(), OutOfMemory>
         ensures changes { OnOk result
             (self.new.changes.items ≡ self.old.changes.items ++ option_to_list change) }
-        ensures rows { self.new.rows ≡ self.old.rows }
-        ensures messages { self.new.messages ≡ self.old.messages }
+        ensures rows { self.new.rows.items ≡ self.old.rows.items }
+        ensures messages { self.new.messages.items ≡ self.old.messages.items }
     {
         if let Some(change) = change {
             self.changes.push(change).map_err(|_| OutOfMemory)?;
@@ -200,7 +218,9 @@ impl Picture {
             ≡ map (is_delivered self.now.rows.items)
             (range_with_len 1 (length self.now.messages.items))) }
     {
-        let mut flags = vec![in alloc; false; self.messages.len()].map_err(|_| OutOfMemory)?;
+        let Ok(mut flags) = vec![in alloc; false; self.messages.len()] else {
+            return Err(OutOfMemory);
+        };
         for row in self.rows.as_slice() {
             note_way(&mut flags, row.way);
         }

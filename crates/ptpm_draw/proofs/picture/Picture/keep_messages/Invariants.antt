@@ -7,6 +7,6 @@ abbrev pub invariant-loop-count : goal.invariant-loop-count
 invariant-loop-count l = record {
   messages : l.initial.self.messages.items ++ map (message_of l.row.at) (drop l.row.before (running l.world).frames)
       ≡ l.self.messages.items ++ map (message_of l.row.at) (drop l.count (running l.world).frames);
-  rows : l.self.rows ≡ l.initial.self.rows;
-  changes : l.self.changes ≡ l.initial.self.changes;
+  rows : l.self.rows.items ≡ l.initial.self.rows.items;
+  changes : l.self.changes.items ≡ l.initial.self.changes.items;
 }
