@@ -47,8 +47,7 @@ named-there : {X : Type 0} (name_of : X → List ℕ) (xs : List X) (names : Lis
     → (x : X) × ((find (λ x. bytes_eq (name_of x) name) xs ≡ Some x) × (slice_get xs place ≡ Some x))
 named-there {X = X} name_of xs names name place same at alone =
     let named : slice_get (map name_of xs) place ≡ Some name = ap (λ ns. slice_get ns place) same ∙ at in
-    let x : (x : X) × ((slice_get xs place ≡ Some x) × (name_of x ≡ name)) = made-of name_of xs place name named in
-    (
+    let x : (x : X) × ((slice_get xs place ≡ Some x) × (name_of x ≡ name)) = made-of name_of xs place name named in (
       x.0,
       (found-there name_of xs name place named (λ i h. alone i (ap (λ ns. slice_get ns i) (sym same) ∙ h)) ∙ x.1.0, x.1.0),
     )

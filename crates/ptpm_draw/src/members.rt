@@ -193,6 +193,7 @@ fn push_texts(
 }
 
 /// Leaves a dataField of these data sets in the buffer.
+#[tactic(auto, unfolding(ptpm_data::specs::ManagementId::row_of))]
 fn lay(sets: &DataSets, data_set: DataSet, port: u16, octets: &mut Value) {
     match data_set {
         DataSet::UserDescription => sets.lay(0x0002, 0, octets),

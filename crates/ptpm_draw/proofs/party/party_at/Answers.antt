@@ -1,4 +1,4 @@
-use Rattle.ptpm_world.proofs.Common.{◌∙◌, sym, subst, length, length-map, clock_value, described, network_value, running}
+use Rattle.ptpm_world.proofs.Common.{sym, subst, length, length-map, clock_value, described, network_value, running}
 use Rattle.ptpm_draw.specs.Party.{IsThere}
 use Rattle.ptpm_draw.proofs.Names.{party-there}
 use Rattle.ptpm_draw.proofs.party.party_at.Goals as goal

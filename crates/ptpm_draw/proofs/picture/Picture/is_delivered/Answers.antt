@@ -1,4 +1,4 @@
-use Rattle.ptpm_world.proofs.Common.{◌≡◌, ◌∙◌, ap, arith, false, length, map, range_with_len, take, take_all}
+use Rattle.ptpm_world.proofs.Common.{◌≡◌, ◌∙◌, ap, arith, false, length, map, range_with_len, take_all}
 use Rattle.std.specs.Prelude.{replicate}
 use Rattle.ptpm_draw.specs.Picture.{is_delivered}
 use Rattle.ptpm_draw.proofs.Delivered.{delivered-row, none-delivered}

@@ -1,4 +1,4 @@
-use Rattle.ptpm_world.proofs.Common.{◌∙◌, ◌++◌, ap, drop, length, map, described, names_in, names_of, network_value, placed, running}
+use Rattle.ptpm_world.proofs.Common.{◌∙◌, ◌++◌, ap, drop, length, map, described, names_of, network_value, placed, running}
 use Rattle.std.specs.Prelude.{option_to_list}
 use Rattle.ptpm_world.specs.Took.{after, answer}
 use Rattle.ptpm_world.specs.Trace.{is_late_event}
