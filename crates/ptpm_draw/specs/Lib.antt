@@ -1,1 +1,3 @@
+pub mod Party
+pub mod Changes
 pub mod Picture

@@ -1,12 +1,16 @@
 //! A picture in SVG 1.1: where all of it stands, and how it is written.
 
+use crate::changes::Changes;
 use crate::drawing::Chosen;
 use crate::lifelines::{CHARACTER, Lifelines, kind_of};
-use crate::picture::{Message, Party, Picture, Row, Way};
+use crate::members::member_texts;
+use crate::party::Party;
+use crate::picture::{Message, Picture, Row, Way};
 use crate::shapes::{Arrow, write_mark};
-use crate::sizes::{ROW, STUB, Sizes};
+use crate::sizes::{MEMBER, STUB, Sizes, row_height};
 use crate::strokes::{LOST, Stroke, stroke_of};
-use crate::words::{LabelText, LineText, LostText, OutcomeText, spell};
+use crate::text::Escaped;
+use crate::words::{LabelText, LineText, ListText, LostText, OutcomeText, spell};
 use ptpm_codec::OutOfMemory;
 use ptpm_world::{Event, Script, ScriptError};
 use std::alloc::Global;
@@ -40,6 +44,15 @@ pub(crate) struct Chart<'a> {
     height: usize,
 }
 
+/// A row with all that is written in it.
+#[derive(Clone, Copy)]
+struct Line<'a> {
+    row: &'a Row,
+    event: &'a Event,
+    /// The members that the event changed.
+    changed: &'a [String],
+}
+
 impl<'a> Chart<'a> {
     /// Lays out a picture.
     pub(crate) fn new(
@@ -54,14 +67,13 @@ impl<'a> Chart<'a> {
         let label = across(sizes.label, 32);
         let edge = across(sizes.line, 2 * MARGIN);
         let lead = if sizes.has_edge { label } else { box_half };
+        let beside = label.max(across(sizes.stub, 64));
         let lifelines = Lifelines {
             network: &script.network,
             first: edge.saturating_add(lead).saturating_add(MARGIN),
-            step: label
-                .max(across(sizes.stub, 64))
-                .max(across(sizes.name, 48)),
+            step: beside.max(across(sizes.name, 48)),
         };
-        let overhang = if sizes.has_overhang { label } else { box_half };
+        let overhang = if sizes.has_overhang { beside } else { box_half };
         let right = lifelines
             .last()
             .saturating_add(overhang)
@@ -85,11 +97,20 @@ impl<'a> Chart<'a> {
         self.write_start(out)?;
         self.write_lifelines(out)?;
         let mut label = String::new(alloc);
+        let mut changes = Changes::of(self.picture);
         let mut top = HEADER;
         for (row, line) in self.picture.rows.iter().zip(self.script.lines.as_slice()) {
+            let change = changes.take(row.line);
             if self.chosen.contains(row.line) {
-                self.write_row(row, &line.event, top, &mut label, out)?;
-                top = self.write_lost(row, top.saturating_add(ROW), &mut label, out)?;
+                let changed = member_texts(alloc, change)?;
+                let drawn = Line {
+                    row,
+                    event: &line.event,
+                    changed: changed.as_slice(),
+                };
+                self.write_row(&drawn, top, &mut label, out)?;
+                let below = top.saturating_add(row_height(changed.len()));
+                top = self.write_lost(row, below, &mut label, out)?;
             }
         }
         writeln!(out, "</svg>")?;
@@ -170,12 +191,12 @@ impl<'a> Chart<'a> {
     /// Writes a row whose upper edge is here.
     fn write_row<W: Write>(
         &self,
-        row: &Row,
-        event: &Event,
+        line: &Line<'_>,
         top: usize,
         label: &mut String,
         out: &mut W,
     ) -> Result<(), ScriptError> {
+        let Line { row, event, .. } = *line;
         let picture = self.picture;
         spell(
             label,
@@ -187,21 +208,35 @@ impl<'a> Chart<'a> {
         )?;
         let y = top.saturating_add(RISE);
         let base = y.saturating_add(4);
-        let colour = stroke_of(row.outcome()).colour;
-        let right = self.right;
         let number = LineText {
             line: row.line,
             event,
         };
         write!(out, "<g><title>{number}: {label}")?;
         self.write_ends(row, out)?;
-        writeln!(out, "</title><desc>{}</desc>", OutcomeText(row))?;
+        write!(out, "</title><desc>{}", OutcomeText(row))?;
+        writeln!(out, "{}</desc>", ListText(line.changed))?;
         write!(out, r##"<text x="{MARGIN}" y="{base}" fill="#57606a">"##)?;
         writeln!(out, "{number}</text>")?;
         self.write_way(row, y, label.as_str(), out)?;
-        write!(out, r#"<text x="{right}" y="{base}" fill="{colour}">"#)?;
-        writeln!(out, "{}</text></g>", OutcomeText(row))?;
+        self.write_outcome(line, base, out)?;
         Ok(())
+    }
+
+    /// Writes what became of a row's event, and below it each member that it changed.
+    fn write_outcome<W: Write>(&self, line: &Line<'_>, base: usize, out: &mut W) -> io::Result<()> {
+        let right = self.right;
+        let colour = stroke_of(line.row.outcome()).colour;
+        write!(out, r#"<text x="{right}" y="{base}" fill="{colour}">"#)?;
+        write!(out, "{}</text>", OutcomeText(line.row))?;
+        let mut below = base;
+        for text in line.changed {
+            below = below.saturating_add(MEMBER);
+            write!(out, "\n")?;
+            write!(out, r#"<text x="{right}" y="{below}" fill="{colour}">"#)?;
+            write!(out, "{}</text>", Escaped(text.as_str()))?;
+        }
+        writeln!(out, "</g>")
     }
 
     /// Who sent a row's message, and who got it; of a mark, at whom it is.

@@ -1,10 +1,13 @@
 //! A message sequence chart of what happens in a network, as a picture in SVG 1.1 (this project's profile).
 #![tactic(auto)]
 
+mod changes;
 mod chart;
 mod drawing;
 mod lifelines;
+mod members;
 mod outcome;
+mod party;
 mod picture;
 mod shapes;
 mod sizes;
@@ -14,6 +17,8 @@ mod tests;
 mod text;
 mod words;
 
+pub use changes::Change;
 pub use drawing::{Chosen, draw};
 pub use outcome::Outcome;
-pub use picture::{Message, Party, Picture, Row, Says, Way};
+pub use party::Party;
+pub use picture::{Message, Picture, Row, Says, Way};

@@ -1,6 +1,6 @@
 //! Where lifelines stand: the sessions and then the clocks, each in the file's order.
 
-use crate::picture::Party;
+use crate::party::Party;
 use crate::text::Escaped;
 use ptpm_world::Network;
 

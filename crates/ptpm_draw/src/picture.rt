@@ -1,27 +1,25 @@
-//! What a picture of a run shows: a row for each event, and each message that was sent.
+//! What a picture of a run shows: a row for each event, each message that was sent, and what changed.
 
-ghost use Rattle.std.specs.Prelude.{[], ◌≡◌, ◌++◌, ◌∷◌, IfOk, OnOk, length, map};
+ghost use Rattle.std.specs.Prelude.{◌≡◌, [], ◌∷◌, ◌++◌, IfOk, OnOk, drop, length, map, option_map, option_to_list};
+ghost use Rattle.std.specs.List.{range_with_len};
+ghost use Rattle.std.specs.Option.{option_copied};
 ghost use Rattle.ptpm_codec.specs.Reading.{reading};
-ghost use Rattle.ptpm_draw.specs.Picture.{party_of, says_in, way_of};
+ghost use Rattle.ptpm_draw.specs.Picture.{IsWorldOf, drawn_by, drawn_in, is_delivered, marked, marked_by, message_of, picture_of, says_in, then_drawn, way_of};
+ghost use Rattle.ptpm_network.specs.Events.{frame_at};
 ghost use Rattle.ptpm_network.specs.Network as machine;
-ghost use Rattle.ptpm_world.specs.Placed.{names_in, placed};
+ghost use Rattle.ptpm_script.specs.NetworkView.{network_value};
+ghost use Rattle.ptpm_world.specs.Described.{described};
+ghost use Rattle.ptpm_world.specs.Frames.{frame_value};
+ghost use Rattle.ptpm_world.specs.Placed.{names_in, names_of, placed};
 ghost use Rattle.ptpm_world.specs.Running.{IsOf, running};
 ghost use Rattle.ptpm_world.specs.Took.{after, answer};
 ghost use Rattle.ptpm_world.specs.Trace.{is_late_event, is_out_of_memory};
 
+use crate::changes::{Change, change_of, copy_of, sets_of};
+use crate::party::{Party, party_at, party_of};
 use ptpm_codec::{Action, OutOfMemory, view};
-use ptpm_script::{NetworkClock, NetworkSession};
-use ptpm_world::{
-    End, Event, EventLine, Frame, Network, Script, ScriptError, StepError, Took, World,
-};
+use ptpm_world::{Event, EventLine, Frame, Network, Script, ScriptError, StepError, Took, World};
 use std::alloc::Global;
-
-/// Whose lifeline it is, by the place in the network file, from 0.
-#[derive(Clone, Copy, Debug, PartialEq, Eq)]
-pub enum Party {
-    Session(usize),
-    Clock(usize),
-}
 
 /// What a management message says.
 #[derive(Clone, Copy, Debug, PartialEq, Eq)]
@@ -82,73 +80,151 @@ pub struct Picture {
     pub rows: Vec<Row>,
     /// The message of each frame, in the order of their numbers from 1.
     pub messages: Vec<Message>,
+    /// What events changed at their clocks, in their order.
+    pub changes: Vec<Change>,
 }
 
 impl Picture {
-    /// Runs a script, and keeps what is drawn of it.
+    /// Runs a script, and keeps what is drawn of it: of each event, where those before it lead, its row, the messages of the frames
+    /// that it made, from the party at whom it happens, and what it changed at its clock.
     pub fn of(alloc: Global, script: &Script) -> Result<Picture, ScriptError>
         ensures { IfOk result
-            (λ p. map (λ row. row.line) p.rows.items
-            ≡ map (λ line. line.number) script.now.lines.items) }
+            (λ p.
+            drawn_in p ≡ picture_of (network_value script.now.network) script.now.lines.items) }
     {
         let mut world = World::new(alloc, &script.network)?;
-        let mut picture = Picture {
-            rows: Vec::new(alloc),
-            messages: Vec::new(alloc),
-        };
+        let mut picture = Picture::empty(alloc);
         for line in script.lines.as_slice() {
             picture.play(&script.network, &mut world, line)?;
         }
         Ok(picture)
     }
 
-    /// Lets an event happen, and keeps its row and the messages that it made.
+    /// Nothing is drawn yet.
+    fn empty(alloc: Global) -> Picture
+        ensures rows { result.rows.items ≡ [] }
+        ensures messages { result.messages.items ≡ [] }
+        ensures changes { result.changes.items ≡ [] }
+    {
+        Picture {
+            rows: Vec::new(alloc),
+            messages: Vec::new(alloc),
+            changes: Vec::new(alloc),
+        }
+    }
+
+    /// Lets an event happen, and keeps what is drawn of it.
     fn play(
         &mut self,
         network: &Network,
         world: &mut World,
         line: &EventLine,
     ) -> Result<(), OutOfMemory>
-        ensures { OnOk result (map (λ row. row.line) self.new.rows.items
-            ≡ map (λ row. row.line) self.old.rows.items ++ line.now.number ∷ []) }
+        requires { IsWorldOf (network_value network.now) world.old }
+        ensures drawn { OnOk result
+            (drawn_in self.new
+            ≡ then_drawn (drawn_in self.old)
+            (drawn_by (described (network_value network.now))
+            (names_of (network_value network.now)) (running world.old) (running world.new)
+            line.now)) }
+        ensures goes { OnOk result
+            (running world.new
+            ≡ after (described (network_value network.now)) (running world.old)
+            (placed (names_of (network_value network.now)) line.now.event)) }
+        ensures world { OnOk result (IsWorldOf (network_value network.now) world.new) }
     {
-        let row = play_event(network, world, line)?;
-        self.rows.push(row).map_err(|_| OutOfMemory)?;
-        self.keep_messages(world, &row)
+        let at = party_at(network, world, &line.event);
+        let before = copy_of(sets_of(network, world, at));
+        let row = play_event(world, line, at)?;
+        self.keep_row(row)?;
+        self.keep_messages(world, &row)?;
+        let change = change_of(line.number, before, sets_of(network, world, at));
+        self.keep_change(change)?;
+        Ok(())
     }
 
-    /// Keeps the messages that the event of a row made.
+    fn keep_row(&mut self, row: Row) -> Result<(), OutOfMemory>
+        ensures rows { OnOk result (self.new.rows.items ≡ self.old.rows.items ++ row ∷ []) }
+        ensures messages { self.new.messages.items ≡ self.old.messages.items }
+        ensures changes { self.new.changes.items ≡ self.old.changes.items }
+    {
+        self.rows.push(row).map_err(|_| OutOfMemory)
+    }
+
+    /// Keeps the messages that the event of a row made, which was the last.
     fn keep_messages(&mut self, world: &World, row: &Row) -> Result<(), OutOfMemory>
-        ensures { self.new.rows ≡ self.old.rows }
+        requires { row.now.after ≡ length (running world.now).frames }
+        ensures messages { OnOk result
+            (self.new.messages.items
+            ≡ self.old.messages.items
+            ++ map (message_of row.now.at) (drop row.now.before (running world.now).frames)) }
+        ensures rows { self.new.rows.items ≡ self.old.rows.items }
+        ensures changes { self.new.changes.items ≡ self.old.changes.items }
     {
         for count in row.before..row.after {
-            if let Some(frame) = world.frame(count + 1) {
-                self.messages
-                    .push(message_of(row.at, &frame))
-                    .map_err(|_| OutOfMemory)?;
-            }
+            self.keep_message(world, row.at, count + 1)?;
+        }
+        Ok(())
+    }
+
+    /// Keeps the message of the frame of a number, if it is there, from this party.
+    fn keep_message(
+        &mut self,
+        world: &World,
+        from: Option<Party>,
+        number: u32,
+    ) -> Result<(), OutOfMemory>
+        ensures messages { OnOk result
+            (self.new.messages.items
+            ≡ self.old.messages.items
+            ++ option_to_list
+            (option_map (message_of from) (frame_at (running world.now).frames number))) }
+        ensures rows { self.new.rows.items ≡ self.old.rows.items }
+        ensures changes { self.new.changes.items ≡ self.old.changes.items }
+    {
+        if let Some(frame) = world.frame(number) {
+            self.messages
+                .push(message_of(from, &frame))
+                .map_err(|_| OutOfMemory)?;
+        }
+        Ok(())
+    }
+
+    /// Keeps what an event changed, if it changed anything.
+    fn keep_change(&mut self, change: Option<Change>) -> Result<(), OutOfMemory>
+        ensures changes { OnOk result
+            (self.new.changes.items ≡ self.old.changes.items ++ option_to_list change) }
+        ensures rows { self.new.rows.items ≡ self.old.rows.items }
+        ensures messages { self.new.messages.items ≡ self.old.messages.items }
+    {
+        if let Some(change) = change {
+            self.changes.push(change).map_err(|_| OutOfMemory)?;
         }
         Ok(())
     }
 
     /// The message of the frame of a number, counted from 1.
-    pub fn message(&self, number: u32) -> Option<&Message> {
+    pub fn message(&self, number: u32) -> Option<&Message>
+        ensures { option_copied result ≡ frame_at self.now.messages.items number }
+    {
         self.messages.get((number as usize).checked_sub(1)?)
     }
 
     /// Of each frame, in the order of their numbers from 1, whether an event delivered it.
-    pub fn is_delivered(&self, alloc: Global) -> Result<Vec<bool>, OutOfMemory> {
-        let mut is_delivered = vec![in alloc; false; self.messages.len()].map_err(|_| OutOfMemory)?;
+    pub fn is_delivered(&self, alloc: Global) -> Result<Vec<bool>, OutOfMemory>
+        ensures { IfOk result
+            (λ flags.
+            flags.items
+            ≡ map (is_delivered self.now.rows.items)
+            (range_with_len 1 (length self.now.messages.items))) }
+    {
+        let Ok(mut flags) = vec![in alloc; false; self.messages.len()] else {
+            return Err(OutOfMemory);
+        };
         for row in self.rows.as_slice() {
-            if let Way::Arrow(frame) = row.way {
-                if let Some(place) = (frame as usize).checked_sub(1) {
-                    if let Some(flag) = is_delivered.get_mut(place) {
-                        *flag = true;
-                    }
-                }
-            }
+            note_way(&mut flags, row.way);
         }
-        Ok(is_delivered)
+        Ok(flags)
     }
 
     /// What the message of the frame of a number says.
@@ -157,9 +233,28 @@ impl Picture {
     }
 }
 
-/// Lets an event happen, and answers its row.
-fn play_event(network: &Network, world: &mut World, line: &EventLine) -> Result<Row, OutOfMemory>
+/// Notes the frame that an arrow delivers.
+fn note_way(flags: &mut Vec<bool>, way: Way)
+    ensures { flags.new.items ≡ marked_by way flags.old.items }
+{
+    if let Way::Arrow(frame) = way {
+        note_delivered(flags, frame as usize);
+    }
+}
+
+/// Notes the frame of a number, counted from 1.
+fn note_delivered(flags: &mut Vec<bool>, number: usize)
+    ensures { flags.new.items ≡ marked number flags.old.items }
+{
+    if 1 <= number && number <= flags.len() {
+        flags[number - 1] = true;
+    }
+}
+
+/// Lets an event happen at a party, and answers its row.
+fn play_event(world: &mut World, line: &EventLine, at: Option<Party>) -> Result<Row, OutOfMemory>
     ensures line { IfOk result (λ row. row.line ≡ line.now.number) }
+    ensures at { IfOk result (λ row. row.at ≡ at) }
     ensures way { IfOk result (λ row. row.way ≡ way_of line.now.event row.answer) }
     ensures answer { (N : machine.Network)
         → IsOf N world.old
@@ -181,7 +276,6 @@ fn play_event(network: &Network, world: &mut World, line: &EventLine) -> Result<
 {
     let event = &line.event;
     let is_late = is_late_delivery(world, event);
-    let at = party_at(network, world, event);
     let before = world.frames();
     let answer = world.step(event);
     if is_out_of_memory(&answer) {
@@ -230,45 +324,9 @@ fn way_of(event: &Event, answer: &Result<Took, StepError>) -> Way
     }
 }
 
-/// At whom an event happens: the session or clock that it names, or the one that its frame reaches.
-fn party_at(network: &Network, world: &World, event: &Event) -> Option<Party> {
-    match event {
-        Event::Begin(name, _)
-        | Event::Send(name)
-        | Event::Resume(name, _)
-        | Event::Retune(name, _) => session_named(network.sessions(), name.as_str()),
-        Event::Deliver(frame) => Some(party_of(world.frame(*frame)?.end())),
-        Event::Stranger(name, ..) => clock_named(network.clocks(), name.as_str()),
-    }
-}
-
-fn session_named(sessions: &[NetworkSession], name: &str) -> Option<Party> {
-    let place = sessions
-        .iter()
-        .position(|session| session.name.as_str() == name)?;
-    Some(Party::Session(place))
-}
-
-fn clock_named(clocks: &[NetworkClock], name: &str) -> Option<Party> {
-    let place = clocks.iter().position(|clock| clock.name.as_str() == name)?;
-    Some(Party::Clock(place))
-}
-
-/// Whose end it is.
-fn party_of(end: End) -> Party
-    ensures { result ≡ party_of end }
-{
-    match end {
-        End::Clock(place, _) => Party::Clock(place as usize),
-        End::Session(place) => Party::Session(place as usize),
-    }
-}
-
 /// A frame that this party sent.
 fn message_of(from: Option<Party>, frame: &Frame<'_>) -> Message
-    ensures from { result.from ≡ from }
-    ensures to { result.to ≡ party_of frame.now.end }
-    ensures says { result.says ≡ says_in (reading frame.now.octets.now) }
+    ensures { result ≡ message_of from (frame_value frame.now) }
 {
     Message {
         from,

@@ -1,14 +1,20 @@
 //! How large a picture is, by the longest of its words.
 
+use crate::changes::{Change, Changes};
 use crate::drawing::Chosen;
-use crate::picture::{Party, Picture, Row, Way};
+use crate::members::member_texts;
+use crate::party::Party;
+use crate::picture::{Picture, Row, Way};
 use crate::words::{LabelText, LineText, LostText, OutcomeText, spell};
 use ptpm_codec::OutOfMemory;
 use ptpm_world::{Event, Network, Script};
 use std::alloc::Global;
 
 /// From a row to the next, in the picture's units.
-pub(crate) const ROW: usize = 44;
+const ROW: usize = 44;
+
+/// Below what became of an event for each member that it changed.
+pub(crate) const MEMBER: usize = 16;
 
 /// Below a row for each message that was lost there.
 pub(crate) const STUB: usize = 22;
@@ -20,7 +26,7 @@ pub(crate) struct Sizes {
     pub(crate) label: usize,
     /// Of what stands behind stubs.
     pub(crate) stub: usize,
-    /// Of what became of events.
+    /// Of what became of events, and of what they changed.
     pub(crate) outcome: usize,
     /// Of numbers and verbs.
     pub(crate) line: usize,
@@ -57,9 +63,12 @@ impl Sizes {
             has_overhang: false,
         };
         let mut text = String::new(alloc);
+        let mut changes = Changes::of(picture);
         for (row, line) in picture.rows.iter().zip(script.lines.as_slice()) {
+            let change = changes.take(row.line);
             if chosen.contains(row.line) {
                 sizes.note_row(picture, row, &line.event, &mut text)?;
+                sizes.note_changed(alloc, change)?;
                 sizes.note_lost(picture, row, is_delivered, &mut text)?;
                 sizes.note_ends(&script.network, picture, row);
             }
@@ -87,7 +96,16 @@ impl Sizes {
         spell(text, LineText { line, event })?;
         self.line = self.line.max(text.len());
         self.rows = self.rows.saturating_add(1);
-        self.height = self.height.saturating_add(ROW);
+        Ok(())
+    }
+
+    /// Notes how high a row is by itself, and the members that its event changed.
+    fn note_changed(&mut self, alloc: Global, change: Option<&Change>) -> Result<(), OutOfMemory> {
+        let texts = member_texts(alloc, change)?;
+        for text in texts.as_slice() {
+            self.outcome = self.outcome.max(text.len());
+        }
+        self.height = self.height.saturating_add(row_height(texts.len()));
         Ok(())
     }
 
@@ -100,11 +118,15 @@ impl Sizes {
         text: &mut String,
     ) -> Result<(), OutOfMemory> {
         for count in row.before..row.after {
-            if !is_delivered.get(count as usize).copied().unwrap_or(true) {
-                let frame = count.saturating_add(1);
+            let frame = count.saturating_add(1);
+            if let (Some(false), Some(message)) = (
+                is_delivered.get(count as usize).copied(),
+                picture.message(frame),
+            ) {
                 spell(text, LostText { picture, frame })?;
                 self.stub = self.stub.max(text.len());
                 self.height = self.height.saturating_add(STUB);
+                self.has_overhang |= message.from == Some(message.to);
             }
         }
         Ok(())
@@ -123,6 +145,11 @@ impl Sizes {
             }
         }
     }
+}
+
+/// How high a row is whose event changed so many members.
+pub(crate) fn row_height(members: usize) -> usize {
+    members.saturating_mul(MEMBER).saturating_add(ROW)
 }
 
 /// Whose lifeline is the last.

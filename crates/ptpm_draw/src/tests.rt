@@ -18,11 +18,34 @@ deliver 2
 deliver 1
 "#;
 
+/// A text, a port's interval, and a number below zero with a flag are set; and then the interval again, to the same.
+const FOUR_SETS: &str = "\
+    begin m set USER_DESCRIPTION - 03613c62\n\
+    send m\n\
+    deliver 1\n\
+    deliver 2\n\
+    begin m set LOG_SYNC_INTERVAL 1 fd00\n\
+    send m\n\
+    deliver 3\n\
+    deliver 4\n\
+    begin m set UTC_PROPERTIES - ffff0400\n\
+    send m\n\
+    deliver 5\n\
+    deliver 6\n\
+    begin m set LOG_SYNC_INTERVAL 1 fd00\n\
+    send m\n\
+    deliver 7\n";
+
 /// The picture of a script's events from one to another.
 fn drawn(alloc: Global, script: &str, from: u32, to: u32) -> Result<Vec<u8>, ScriptError> {
     let mut out = Vec::new(alloc);
     draw(alloc, Chosen { from, to }, script.as_bytes(), &mut out)?;
     Ok(out)
+}
+
+/// The first of these lines that a picture lacks.
+fn lacks<'a>(picture: &str, lines: &'a str) -> Option<&'a str> {
+    lines.lines().find(|line| !picture.contains(*line))
 }
 
 #[test]
@@ -31,14 +54,28 @@ fn two_copies_drawn(rt: HostRuntime) -> Result<(), Fail> {
     let picture = std::str::from_utf8(octets.as_slice())?;
     let rows = "\
         <title>2 send: send SET PRIORITY1 7, at m</title><desc>done, sends 1</desc>\n\
-        <title>3 deliver 1: SET PRIORITY1 7, from m to K</title><desc>carried out, sends 2</desc>\n\
+        <title>3 deliver 1: SET PRIORITY1 7, from m to K</title><desc>carried out, sends 2, priority1 100, grandmaster_priority1 100</desc>\n\
         <title>4 deliver 2: RESPONSE 7, from K to m</title><desc>reported</desc>\n\
         <title>5 deliver 1: SET PRIORITY1 7, from m to K</title><desc>answered again, sends 3</desc>\n\
         <title>3 RESPONSE 7 lost, from K to m</title><desc>lost</desc>\n";
-    for row in rows.lines() {
-        assert!(rt; picture.contains(row), "{row}");
-    }
+    assert!(rt; lacks(picture, rows).is_none());
     assert!(rt; !picture.contains("begin"));
+    Ok(())
+}
+
+#[test]
+fn changed_members_drawn(rt: HostRuntime) -> Result<(), Fail> {
+    let alloc = rt.alloc();
+    let network = TWO_COPIES.split("begin").next().unwrap_or("");
+    let script = format!(in alloc; "{network}{FOUR_SETS}")?;
+    let octets = drawn(alloc, script.as_str(), 3, 15)?;
+    let picture = std::str::from_utf8(octets.as_slice())?;
+    let rows = "\
+        <desc>carried out, sends 2, user_description &quot;a&lt;b&quot;</desc>\n\
+        <desc>carried out, sends 4, port 1 log_sync -3</desc>\n\
+        <desc>carried out, sends 6, utc_offset -1, utc_valid true</desc>\n\
+        <desc>carried out, sends 8</desc>\n";
+    assert!(rt; lacks(picture, rows).is_none());
     Ok(())
 }
 

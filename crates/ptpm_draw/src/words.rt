@@ -2,6 +2,7 @@
 
 use crate::outcome::Outcome;
 use crate::picture::{Picture, Row, Says, Way, said_by};
+use crate::text::Escaped;
 use ptpm_codec::{ErrorId, OutOfMemory};
 use ptpm_data::row;
 use ptpm_manager::Ask;
@@ -102,6 +103,19 @@ impl fmt::Display for OutcomeText<'_> {
         }
         if self.0.before < self.0.after {
             write!(f, ", sends {}", FramesText(self.0))?;
+        }
+        Ok(())
+    }
+}
+
+/// The members that an event changed, each behind a comma.
+#[derive(Clone, Copy)]
+pub(crate) struct ListText<'a>(pub &'a [String]);
+
+impl fmt::Display for ListText<'_> {
+    fn fmt<W: fmt::Write>(&self, f: &mut fmt::Formatter<W>) -> fmt::Result {
+        for text in self.0 {
+            write!(f, ", {}", Escaped(text.as_str()))?;
         }
         Ok(())
     }

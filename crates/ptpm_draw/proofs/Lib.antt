@@ -1,0 +1,4 @@
+pub mod Names
+pub mod ClockSets
+pub mod Pictures
+pub mod Delivered
