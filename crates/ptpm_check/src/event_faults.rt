@@ -17,7 +17,7 @@ const VERBS: [&str; 6] = ["begin", "send", "resume", "retune", "deliver", "stran
 const ACTIONS: [&str; 3] = ["get", "set", "command"];
 
 /// A line that is no event.
-#[derive(Clone, Copy, Debug)]
+#[derive(Clone, Copy)]
 pub struct EventFault<'a> {
     /// Why it is refused.
     pub error: EventError,
@@ -27,7 +27,7 @@ pub struct EventFault<'a> {
 }
 
 /// What was expected of a word, or of a line.
-#[derive(Clone, Copy, Debug)]
+#[derive(Clone, Copy)]
 pub enum Expected {
     /// A verb, of which this one is the nearest.
     Verb(Option<&'static str>),
@@ -45,6 +45,17 @@ pub enum Expected {
     Octets,
 }
 
+/// The verbs of a script.
+#[derive(Clone, Copy)]
+enum Verb {
+    Begin,
+    Send,
+    Resume,
+    Retune,
+    Deliver,
+    Stranger,
+}
+
 /// Why a line is no event; `None` where it is one.
 pub fn event_fault<'a>(alloc: Global, line: &'a str) -> Result<Option<EventFault<'a>>, OutOfMemory>
     ensures { IfOk result (λ fault. option_map (λ f. f.error) fault ≡ error_of (reading line.now)) }
@@ -52,15 +63,40 @@ pub fn event_fault<'a>(alloc: Global, line: &'a str) -> Result<Option<EventFault
     match read_event(alloc, line) {
         Ok(_) => Ok(None),
         Err(EventError::OutOfMemory) => Err(OutOfMemory),
-        Err(error) => {
-            let verb = word_at(line, 0).unwrap_or("");
-            let expected = expected_of(alloc, line, verb, error).map_err(|_| OutOfMemory)?;
-            Ok(Some(EventFault {
-                error,
-                word: word_at(line, place_of(verb, error)),
-                expected,
-            }))
-        }
+        Err(error) => match fault_of(alloc, line, error) {
+            Ok(fault) => Ok(Some(fault)),
+            Err(_) => Err(OutOfMemory),
+        },
+    }
+}
+
+/// A line that is refused for this reason.
+fn fault_of<'a>(
+    alloc: Global,
+    line: &'a str,
+    error: EventError,
+) -> Result<EventFault<'a>, AllocError>
+    ensures { IfOk result (λ fault. fault.error ≡ error) }
+{
+    let word = word_at(line, place_of(verb_in(line), error));
+    let expected = expected_of(alloc, line, word.unwrap_or(""), error)?;
+    Ok(EventFault {
+        error,
+        word,
+        expected,
+    })
+}
+
+/// The verb of a line, if it is one.
+fn verb_in(line: &str) -> Option<Verb> {
+    match first_word(line)? {
+        "begin" => Some(Verb::Begin),
+        "send" => Some(Verb::Send),
+        "resume" => Some(Verb::Resume),
+        "retune" => Some(Verb::Retune),
+        "deliver" => Some(Verb::Deliver),
+        "stranger" => Some(Verb::Stranger),
+        _ => None,
     }
 }
 
@@ -68,66 +104,107 @@ pub fn event_fault<'a>(alloc: Global, line: &'a str) -> Result<Option<EventFault
 fn word_at<'a>(line: &'a str, place: usize) -> Option<&'a str> {
     let mut rest = line;
     for _ in 0..place {
-        let (_, others) = split_word(rest)?;
-        rest = others;
+        rest = behind_word(rest);
     }
-    let (word, _) = split_word(rest)?;
-    Some(word)
+    first_word(rest)
+}
+
+fn first_word(text: &str) -> Option<&str> {
+    match split_word(text) {
+        Some((word, _)) => Some(word),
+        None => None,
+    }
+}
+
+/// What stands behind the first word of a text.
+fn behind_word(text: &str) -> &str {
+    match split_word(text) {
+        Some((_, rest)) => rest,
+        None => "",
+    }
 }
 
 /// The place of the word that is to blame for an error.
-fn place_of(verb: &str, error: EventError) -> usize {
-    match (verb, error) {
-        ("begin", EventError::UnknownWord) => 2,
-        ("begin", EventError::BadNumber) => 4,
-        ("begin", EventError::BadId) => 3,
-        ("begin", EventError::BadHex) => 5,
-        ("deliver", EventError::BadNumber) => 1,
-        (_, EventError::BadNumber) => 2,
-        (_, EventError::BadHex) => 3,
+fn place_of(verb: Option<Verb>, error: EventError) -> usize {
+    match error {
+        EventError::UnknownWord => match verb {
+            Some(Verb::Begin) => 2,
+            _ => 0,
+        },
+        EventError::BadNumber => match verb {
+            Some(Verb::Begin) => 4,
+            Some(Verb::Deliver) => 1,
+            _ => 2,
+        },
+        EventError::BadId => 3,
+        EventError::BadHex => match verb {
+            Some(Verb::Begin) => 5,
+            _ => 3,
+        },
         _ => 0,
     }
 }
 
+/// What was expected in a line that has an error, of the word that is to blame.
 fn expected_of(
     alloc: Global,
     line: &str,
-    verb: &str,
+    word: &str,
     error: EventError,
 ) -> Result<Expected, AllocError> {
-    let word = word_at(line, place_of(verb, error)).unwrap_or("");
-    Ok(match (verb, error) {
-        ("begin", EventError::UnknownWord) => Expected::Action(nearest(alloc, word, &ACTIONS)?),
-        (_, EventError::UnknownWord) => Expected::Verb(nearest(alloc, word, &VERBS)?),
-        (_, EventError::WordCount) => Expected::Words(words_of(verb)),
-        ("begin", EventError::BadNumber) => Expected::PortOrNone,
-        ("deliver", EventError::BadNumber) => Expected::Number(400_000),
-        ("stranger", EventError::BadNumber) => Expected::Number(65_535),
-        (_, EventError::BadNumber) => Expected::Number(255),
-        (_, EventError::BadId) => Expected::Id(nearest_id(alloc, word)?),
-        _ => Expected::Octets,
-    })
+    let verb = verb_in(line);
+    match error {
+        EventError::UnknownWord => unknown_word(alloc, verb, word),
+        EventError::WordCount => Ok(Expected::Words(words_of(verb))),
+        EventError::BadNumber => Ok(number_of(verb)),
+        EventError::BadId => Ok(Expected::Id(nearest_id(alloc, word)?)),
+        _ => Ok(Expected::Octets),
+    }
+}
+
+fn unknown_word(alloc: Global, verb: Option<Verb>, word: &str) -> Result<Expected, AllocError> {
+    match verb {
+        Some(Verb::Begin) => Ok(Expected::Action(nearest(alloc, word, &ACTIONS)?)),
+        _ => Ok(Expected::Verb(nearest(alloc, word, &VERBS)?)),
+    }
+}
+
+fn number_of(verb: Option<Verb>) -> Expected {
+    match verb {
+        Some(Verb::Begin) => Expected::PortOrNone,
+        Some(Verb::Deliver) => Expected::Number(400_000),
+        Some(Verb::Stranger) => Expected::Number(65_535),
+        _ => Expected::Number(255),
+    }
 }
 
 /// The name of a management id that is nearest to a word.
 fn nearest_id(alloc: Global, word: &str) -> Result<Option<&'static str>, AllocError> {
     let mut names = Vec::new(alloc);
     for id in &MANAGEMENT_IDS {
-        if let Some(row) = row(*id) {
-            names.push(row.name)?;
+        if let Some(name) = name_of(*id) {
+            names.push(name)?;
         }
     }
     nearest(alloc, word, names.as_slice())
 }
 
+/// The name of a management id.
+fn name_of(id: u16) -> Option<&'static str> {
+    match row(id) {
+        Some(row) => Some(row.name),
+        None => None,
+    }
+}
+
 /// How the line of a verb is written.
-fn words_of(verb: &str) -> &'static str {
+fn words_of(verb: Option<Verb>) -> &'static str {
     match verb {
-        "begin" => "begin SESSION ACTION ID PORT HEX",
-        "send" => "send SESSION",
-        "resume" => "resume SESSION ATTEMPTS",
-        "retune" => "retune SESSION DOMAIN",
-        "deliver" => "deliver FRAME",
+        Some(Verb::Begin) => "begin SESSION ACTION ID PORT HEX",
+        Some(Verb::Send) => "send SESSION",
+        Some(Verb::Resume) => "resume SESSION ATTEMPTS",
+        Some(Verb::Retune) => "retune SESSION DOMAIN",
+        Some(Verb::Deliver) => "deliver FRAME",
         _ => "stranger CLOCK PORT HEX",
     }
 }

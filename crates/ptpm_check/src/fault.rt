@@ -2,13 +2,15 @@
 
 use crate::place::Place;
 use crate::value_text::{Quoted, ValueText};
+use crate::values::entry;
 use ptpm_data::Member;
 use ptpm_script::{Kind, LEAST_ENDS, MOST_ENDS, NetError, TEXT_OCTETS};
+use std::alloc::AllocError;
 use std::fmt;
-use toml::Value;
+use toml::{Table, Value};
 
 /// A fault of a network file, with its place, what stands there, and what may stand there.
-#[derive(Clone, Copy, Debug)]
+#[derive(Clone, Copy)]
 pub struct Fault<'a> {
     /// Which refusal of a network file it is of.
     pub class: NetError,
@@ -18,7 +20,7 @@ pub struct Fault<'a> {
 }
 
 /// What stands at a place.
-#[derive(Clone, Copy, Debug)]
+#[derive(Clone, Copy)]
 pub enum Found<'a> {
     /// Nothing that is told.
     Untold,
@@ -35,8 +37,29 @@ pub enum Found<'a> {
 }
 
 /// What may stand at a place, or why what stands there may not.
-#[derive(Clone, Copy, Debug)]
+#[derive(Clone, Copy)]
 pub enum Wanted<'a> {
+    /// What is asked of it in every file.
+    Need(Need),
+    /// A name of this kind that is known, of which this one is the nearest.
+    Known(Names, Option<&'a str>),
+    /// What does not stand at this place too.
+    Once(Place<'a>),
+    /// Another clockIdentity than that of the clock at this place.
+    OtherClock(Place<'a>),
+}
+
+/// What a name is to be of.
+#[derive(Clone, Copy)]
+pub enum Names {
+    Key,
+    Clock,
+    Session,
+}
+
+/// What is asked of a place, whatever else stands in the file.
+#[derive(Clone, Copy)]
+pub enum Need {
     /// Not what the refusal says.
     Accepted(NetError),
     /// At most 262,144 octets, of which there are more.
@@ -47,8 +70,6 @@ pub enum Wanted<'a> {
     Kind(Kind),
     /// A table.
     Table,
-    /// One of the known keys, of which this one is the nearest.
-    Key(&'a str),
     /// No rights, in version 1.
     NoRights,
     /// Some of the three rights.
@@ -65,14 +86,6 @@ pub enum Wanted<'a> {
     Ends(usize),
     /// At most so many sessions with this target, where there are so many.
     Managers(usize, usize),
-    /// What does not stand at this place too.
-    Once(Place<'a>),
-    /// Another clockIdentity than that of the clock at this place.
-    OtherClock(Place<'a>),
-    /// The name of a clock, of which this one is the nearest.
-    Clock(Option<&'a str>),
-    /// The name of a session, of which this one is the nearest.
-    Session(Option<&'a str>),
     /// A port of a clock that has so many.
     PortUpTo(u16),
     /// A number of ports with which a clock can start.
@@ -81,6 +94,51 @@ pub enum Wanted<'a> {
     Start(Member),
     /// The clock's own value, since it is its own grandmaster.
     OwnGrandmaster,
+}
+
+/// What a clock can start with in a member whose type has room for more.
+const START_RANGES: [(Member, &str); 9] = [
+    (Member::UserDescription, "at most 128 octets"),
+    (Member::ClockAccuracy, "0x17 to 0x31, or 0xfe"),
+    (Member::Leap59, "not both leap61 and leap59"),
+    (Member::State, "1 to 9"),
+    (Member::LogAnnounce, "-4 to 4"),
+    (Member::ReceiptTimeout, "2 to 10"),
+    (Member::LogSync, "-8 to 1"),
+    (Member::DelayMechanism, "1, 2 or 0xfe"),
+    (Member::LogMinPdelay, "-8 to 5"),
+];
+
+/// Adds a fault.
+pub(crate) fn add_fault<'a>(
+    faults: &mut Vec<Fault<'a>>,
+    class: NetError,
+    place: Place<'a>,
+    found: Found<'a>,
+    wanted: Wanted<'a>,
+) -> Result<(), AllocError> {
+    faults.push(Fault {
+        class,
+        place,
+        found,
+        wanted,
+    })?;
+    Ok(())
+}
+
+/// Adds a fault of the value at a key; none where there is no value.
+pub(crate) fn add_at_key<'a>(
+    faults: &mut Vec<Fault<'a>>,
+    class: NetError,
+    place: Place<'a>,
+    table: &'a Table,
+    key: &'static str,
+    wanted: Wanted<'a>,
+) -> Result<(), AllocError> {
+    match entry(table, key) {
+        Some(value) => add_fault(faults, class, place, Found::Value(key, value), wanted),
+        None => Ok(()),
+    }
 }
 
 /// As `session 1 "m": attempts = 300: a whole number from 0 to 255`.
@@ -125,63 +183,94 @@ impl fmt::Display for Key<'_> {
 
 /// Whether a key is a short one that needs no quotes.
 fn is_bare(key: &str) -> bool {
-    1 <= key.len()
-        && key.len() <= 40
-        && key.as_bytes().iter().all(
-            |octet| matches!(octet, b'a'..=b'z' | b'A'..=b'Z' | b'0'..=b'9' | b'_' | b'-'),
-        )
+    if key.is_empty() || key.len() > 40 {
+        return false;
+    }
+    for octet in key.as_bytes() {
+        if !is_bare_octet(*octet) {
+            return false;
+        }
+    }
+    true
+}
+
+fn is_bare_octet(octet: u8) -> bool {
+    matches!(octet, b'a'..=b'z' | b'A'..=b'Z' | b'0'..=b'9' | b'_' | b'-')
 }
 
 impl fmt::Display for Wanted<'_> {
     fn fmt<W: fmt::Write>(&self, f: &mut fmt::Formatter<W>) -> fmt::Result {
         match *self {
-            Wanted::Accepted(refusal) => write!(f, "{refusal}"),
-            Wanted::Size => write!(f, "over {TEXT_OCTETS} octets"),
-            Wanted::Toml(error) => f.write_str(error.message()),
-            Wanted::Kind(kind) => write!(f, "{}", KindText(kind)),
-            Wanted::Key(nearest) => write!(f, "no such key; the nearest is {nearest}"),
-            Wanted::AtMost(most) => write!(f, "at most {most}"),
-            Wanted::Ends(1) => write!(f, "one end; a link has {LEAST_ENDS} to {MOST_ENDS}"),
-            Wanted::Ends(count) => write!(
-                f,
-                "{count} ends; a link has {LEAST_ENDS} to {MOST_ENDS}"
-            ),
-            Wanted::Managers(count, most) => write!(
+            Wanted::Need(need) => write!(f, "{need}"),
+            Wanted::Known(names, nearest) => write!(f, "{}", KnownText(names, nearest)),
+            Wanted::Once(place) => write!(f, "stands at {place} too"),
+            Wanted::OtherClock(place) => write!(f, "has the clockIdentity of {place}"),
+        }
+    }
+}
+
+/// That there is no such name, and which one is the nearest.
+#[derive(Clone, Copy)]
+struct KnownText<'a>(Names, Option<&'a str>);
+
+impl fmt::Display for KnownText<'_> {
+    fn fmt<W: fmt::Write>(&self, f: &mut fmt::Formatter<W>) -> fmt::Result {
+        f.write_str(self.0.none())?;
+        let Some(name) = self.1 else {
+            return f.write_str("; there is none");
+        };
+        match self.0 {
+            Names::Key => write!(f, "; the nearest is {name}"),
+            _ => write!(f, "; the nearest is \"{name}\""),
+        }
+    }
+}
+
+impl Names {
+    /// That there is none.
+    fn none(self) -> &'static str {
+        match self {
+            Names::Key => "no such key",
+            Names::Clock => "no clock of this name",
+            Names::Session => "no session of this name",
+        }
+    }
+}
+
+impl fmt::Display for Need {
+    fn fmt<W: fmt::Write>(&self, f: &mut fmt::Formatter<W>) -> fmt::Result {
+        match *self {
+            Need::Accepted(refusal) => write!(f, "{refusal}"),
+            Need::Size => write!(f, "over {TEXT_OCTETS} octets"),
+            Need::Toml(error) => f.write_str(error.message()),
+            Need::Kind(kind) => write!(f, "{}", KindText(kind)),
+            Need::AtMost(most) => write!(f, "at most {most}"),
+            Need::Ends(1) => write!(f, "one end; a link has {LEAST_ENDS} to {MOST_ENDS}"),
+            Need::Ends(count) => write!(f, "{count} ends; a link has {LEAST_ENDS} to {MOST_ENDS}"),
+            Need::Managers(count, most) => write!(
                 f,
                 "{count} sessions have this target; at most {most}"
             ),
-            Wanted::Once(place) => write!(f, "stands at {place} too"),
-            Wanted::OtherClock(place) => write!(f, "has the clockIdentity of {place}"),
-            Wanted::Clock(None) => f.write_str("no clock of this name; there is none"),
-            Wanted::Clock(Some(name)) => write!(
-                f,
-                "no clock of this name; the nearest is \"{name}\""
-            ),
-            Wanted::Session(None) => f.write_str("no session of this name; there is none"),
-            Wanted::Session(Some(name)) => write!(
-                f,
-                "no session of this name; the nearest is \"{name}\""
-            ),
-            Wanted::PortUpTo(1) => f.write_str("the clock has port 1 alone"),
-            Wanted::PortUpTo(count) => write!(f, "the clock has ports 1 to {count}"),
-            Wanted::Start(member) => f.write_str(start_range(member)),
+            Need::PortUpTo(1) => f.write_str("the clock has port 1 alone"),
+            Need::PortUpTo(count) => write!(f, "the clock has ports 1 to {count}"),
+            Need::Start(member) => f.write_str(start_range(member)),
             _ => f.write_str(self.words()),
         }
     }
 }
 
-impl Wanted<'_> {
+impl Need {
     /// The words of what has no further part.
     fn words(&self) -> &'static str {
         match self {
-            Wanted::Table => "a table",
-            Wanted::NoRights => "no key of version 1, in which each session has all rights",
-            Wanted::Rights => "an array of clock-set, port-set and port-command, each once at most",
-            Wanted::Right => "clock-set, port-set or port-command",
-            Wanted::OtherRight => "stands in the array before",
-            Wanted::End => "the name of a session, or the name of a clock, a dot and a port",
-            Wanted::Ports => "1 to 8 ports",
-            Wanted::OwnGrandmaster => "the clock's own, since it is its own grandmaster",
+            Need::Table => "a table",
+            Need::NoRights => "no key of version 1, in which each session has all rights",
+            Need::Rights => "an array of clock-set, port-set and port-command, each once at most",
+            Need::Right => "clock-set, port-set or port-command",
+            Need::OtherRight => "stands in the array before",
+            Need::End => "the name of a session, or the name of a clock, a dot and a port",
+            Need::Ports => "1 to 8 ports",
+            Need::OwnGrandmaster => "the clock's own, since it is its own grandmaster",
             _ => "",
         }
     }
@@ -208,18 +297,12 @@ impl fmt::Display for KindText {
     }
 }
 
-/// What a clock can start with in a member whose type has room for more.
+/// What a clock can start with in a member.
 fn start_range(member: Member) -> &'static str {
-    match member {
-        Member::UserDescription => "at most 128 octets",
-        Member::ClockAccuracy => "0x17 to 0x31, or 0xfe",
-        Member::Leap59 => "not both leap61 and leap59",
-        Member::State => "1 to 9",
-        Member::LogAnnounce => "-4 to 4",
-        Member::ReceiptTimeout => "2 to 10",
-        Member::LogSync => "-8 to 1",
-        Member::DelayMechanism => "1, 2 or 0xfe",
-        Member::LogMinPdelay => "-8 to 5",
-        _ => "what a clock starts with",
+    for (other, range) in &START_RANGES {
+        if *other == member {
+            return *range;
+        }
     }
+    "what a clock starts with"
 }

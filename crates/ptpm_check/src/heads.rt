@@ -1,11 +1,10 @@
 //! What tables of a network file are known by, where it is well shaped: names, identities, targets and ends.
 
-use crate::key_faults::items_at;
 use crate::place::{Array, Place};
-use crate::shape_faults::{name_in, place_in};
+use crate::values::{items_at, name_at, name_in, table_of, text_at, text_of, whole_at};
 use ptpm_codec::{ClockIdentity, PortIdentity};
 use ptpm_script::{
-    CLOCKS, LINKS, MOST_ENDS, SESSIONS, clock_identity, end_spelling, is_name, port_identity,
+    CLOCKS, LINKS, MOST_ENDS, SESSIONS, clock_identity, end_spelling, port_identity,
 };
 use std::alloc::{AllocError, Global};
 use toml::{Table, Value};
@@ -65,42 +64,52 @@ impl<'a> Heads<'a> {
 fn clocks_of<'a>(alloc: Global, values: &'a [Value]) -> Result<Vec<ClockHead<'a>>, AllocError> {
     let mut clocks = Vec::new(alloc);
     for index in 0..values.len().min(CLOCKS) {
-        let value = &values[index];
-        if let Some(table) = value.as_table() {
-            clocks.push(ClockHead {
-                place: place_in(Array::Clock, index + 1, value),
-                number: index + 1,
-                table,
-                name: name_in(value),
-                identity: clock_identity(text_at(table, "identity").unwrap_or("")),
-                count: whole_at(table, "ports"),
-            })?;
+        if let Some(clock) = clock_of(index + 1, &values[index]) {
+            clocks.push(clock)?;
         }
     }
     Ok(clocks)
 }
 
+fn clock_of<'a>(number: usize, value: &'a Value) -> Option<ClockHead<'a>> {
+    let table = table_of(value)?;
+    let name = name_in(value);
+    Some(ClockHead {
+        place: Place::Table(Array::Clock, number, name),
+        number,
+        table,
+        name,
+        identity: clock_identity(text_at(table, "identity")),
+        count: whole_at(table, "ports"),
+    })
+}
+
 fn sessions_of<'a>(alloc: Global, values: &'a [Value]) -> Result<Vec<SessionHead<'a>>, AllocError> {
     let mut sessions = Vec::new(alloc);
     for index in 0..values.len().min(SESSIONS) {
-        let value = &values[index];
-        if let Some(table) = value.as_table() {
-            sessions.push(SessionHead {
-                place: place_in(Array::Session, index + 1, value),
-                table,
-                name: name_in(value),
-                identity: port_identity(text_at(table, "identity").unwrap_or("")),
-                target: name_at(table, "target"),
-            })?;
+        if let Some(session) = session_of(index + 1, &values[index]) {
+            sessions.push(session)?;
         }
     }
     Ok(sessions)
 }
 
+fn session_of<'a>(number: usize, value: &'a Value) -> Option<SessionHead<'a>> {
+    let table = table_of(value)?;
+    let name = name_in(value);
+    Some(SessionHead {
+        place: Place::Table(Array::Session, number, name),
+        table,
+        name,
+        identity: port_identity(text_at(table, "identity")),
+        target: name_at(table, "target"),
+    })
+}
+
 fn ends_of<'a>(alloc: Global, links: &'a [Value]) -> Result<Vec<EndHead<'a>>, AllocError> {
     let mut ends = Vec::new(alloc);
     for index in 0..links.len().min(LINKS) {
-        if let Some(table) = links[index].as_table() {
+        if let Some(table) = table_of(&links[index]) {
             let place = Place::Table(Array::Link, index + 1, None);
             add_ends(&mut ends, place, items_at(table, "ends"))?;
         }
@@ -114,35 +123,20 @@ fn add_ends<'a>(
     values: &'a [Value],
 ) -> Result<(), AllocError> {
     for index in 0..values.len().min(MOST_ENDS) {
-        let value = &values[index];
-        if let Some((name, port)) = end_spelling(value.as_str().unwrap_or("")) {
-            ends.push(EndHead {
-                place,
-                number: index + 1,
-                value,
-                name,
-                port,
-            })?;
+        if let Some(end) = end_of(place, index + 1, &values[index]) {
+            ends.push(end)?;
         }
     }
     Ok(())
 }
 
-/// The text at a key.
-fn text_at<'a>(table: &'a Table, key: &str) -> Option<&'a str> {
-    table.get(key)?.as_str()
-}
-
-/// The name at a key.
-fn name_at<'a>(table: &'a Table, key: &str) -> Option<&'a str> {
-    let text = text_at(table, key)?;
-    if is_name(text) { Some(text) } else { None }
-}
-
-/// The number at a key, where it is one from 0 to 65,535.
-pub(crate) fn whole_at(table: &Table, key: &str) -> Option<u16> {
-    match table.get(key)?.as_integer() {
-        Some(number) if 0 <= number && number <= 0xffff => Some(number as u16),
-        _ => None,
-    }
+fn end_of<'a>(place: Place<'a>, number: usize, value: &'a Value) -> Option<EndHead<'a>> {
+    let (name, port) = end_spelling(text_of(value)?)?;
+    Some(EndHead {
+        place,
+        number,
+        value,
+        name,
+        port,
+    })
 }

@@ -1,28 +1,34 @@
 //! The keys of one table, judged by its rules.
 
-ghost use Rattle.std.specs.Prelude.{◌≡◌, ◌++◌, IfOk, OnOk, is_none, map};
+ghost use Rattle.std.specs.Prelude.{[], ◌≡◌, ◌++◌, ◌∷◌, IfOk, OnOk, is_none, map};
 ghost use Rattle.toml.specs.View.{view, table_view};
 ghost use Rattle.ptpm_script.specs.Document.{key_rule};
-ghost use Rattle.ptpm_check.specs.KeyFaults.{holds, keys_in, missing_keys, wrong_keys};
+ghost use Rattle.ptpm_check.specs.KeyFaults.{holds, key_in, keys_in, missing_keys, wrong_keys};
 
-use crate::fault::{Fault, Found, Wanted};
+use crate::fault::{Fault, Found, Names, Need, Wanted};
 use crate::nearest::nearest;
 use crate::place::Place;
 use ptpm_script::{NetError, Rule, kind_of, value_at};
 use std::alloc::{AllocError, Global};
 use toml::{Table, Value};
 
-/// A fault of shape.
-pub(crate) fn shape<'a>(place: Place<'a>, found: Found<'a>, wanted: Wanted<'a>) -> Fault<'a>
-    ensures class { result.class ≡ NetError.BadShape }
-    ensures found { result.found ≡ found.entry }
+/// Adds a fault of a key.
+fn add_key<'a>(
+    faults: &mut Vec<Fault<'a>>,
+    place: Place<'a>,
+    found: Found<'a>,
+    wanted: Wanted<'a>,
+) -> Result<(), AllocError>
+    ensures { OnOk result
+        (keys_in faults.new.items ≡ keys_in faults.old.items ++ key_in found.entry ∷ []) }
 {
-    Fault {
+    faults.push(Fault {
         class: NetError::BadShape,
         place,
         found,
         wanted,
-    }
+    })?;
+    Ok(())
 }
 
 /// Adds a fault for each key that is missing, unknown, or holds what it may not.
@@ -57,7 +63,12 @@ fn add_missing<'a>(
 {
     for rule in rules {
         if rule.is_required && value_at(table, rule.key).is_none() {
-            faults.push(shape(place, Found::Missing(rule.key), Wanted::Kind(rule.kind)))?;
+            add_key(
+                faults,
+                place,
+                Found::Missing(rule.key),
+                Wanted::Need(Need::Kind(rule.kind)),
+            )?;
         }
     }
     Ok(())
@@ -78,7 +89,7 @@ fn add_wrong<'a>(
 {
     for (key, value) in table {
         if let Some(wanted) = wrong(alloc, key.as_str(), value, rules)? {
-            faults.push(shape(place, Found::Value(key.as_str(), value), wanted))?;
+            add_key(faults, place, Found::Value(key.as_str(), value), wanted)?;
         }
     }
     Ok(())
@@ -96,8 +107,8 @@ fn wrong(
 {
     match kind_of(rules, key) {
         Some(kind) if kind.fits(value) => Ok(None),
-        Some(kind) => Ok(Some(Wanted::Kind(kind))),
-        None => Ok(Some(Wanted::Key(nearest_key(alloc, key, rules)?))),
+        Some(kind) => Ok(Some(Wanted::Need(Need::Kind(kind)))),
+        None => Ok(Some(Wanted::Known(Names::Key, nearest_key(alloc, key, rules)?))),
     }
 }
 
@@ -106,18 +117,10 @@ fn nearest_key(
     alloc: Global,
     key: &str,
     rules: &'static [Rule],
-) -> Result<&'static str, AllocError> {
+) -> Result<Option<&'static str>, AllocError> {
     let mut keys = Vec::new(alloc);
     for rule in rules {
         keys.push(rule.key)?;
     }
-    Ok(nearest(alloc, key, keys.as_slice())?.unwrap_or(""))
-}
-
-/// The items of the array at a key; none where there is no array.
-pub(crate) fn items_at<'a>(table: &'a Table, key: &str) -> &'a [Value] {
-    match table.get(key) {
-        Some(Value::Array(items)) => items.as_slice(),
-        _ => &[],
-    }
+    nearest(alloc, key, keys.as_slice())
 }

@@ -15,9 +15,10 @@ mod repeat_faults;
 mod shape_faults;
 mod start_faults;
 mod value_text;
+mod values;
 
 pub use event_faults::{EventFault, Expected, event_fault};
-pub use fault::{Fault, Found, Wanted};
+pub use fault::{Fault, Found, Names, Need, Wanted};
 pub use laws::told_keys;
 pub use network_faults::Document;
 pub use place::{Array, Place};

@@ -1,9 +1,9 @@
 //! How much a network may have.
 
-use crate::fault::{Fault, Found, Wanted};
+use crate::fault::{Fault, Found, Need, Wanted, add_at_key, add_fault};
 use crate::heads::SessionHead;
-use crate::key_faults::items_at;
 use crate::place::{Array, Place};
+use crate::values::{entry, is_name_of, items_at, table_of};
 use ptpm_script::{CLOCKS, LEAST_ENDS, LINKS, MANAGERS, MOST_ENDS, NetError, SESSIONS};
 use std::alloc::AllocError;
 use toml::{Table, Value};
@@ -14,64 +14,64 @@ pub(crate) fn add_limit_faults<'a>(
     file: &'a Table,
     sessions: &[SessionHead<'a>],
 ) -> Result<(), AllocError> {
-    add_count(faults, items_at(file, "clock").len(), "clocks", CLOCKS)?;
-    add_count(
-        faults,
-        items_at(file, "session").len(),
-        "sessions",
-        SESSIONS,
-    )?;
-    add_count(faults, items_at(file, "link").len(), "links", LINKS)?;
-    let links = items_at(file, "link");
-    for index in 0..links.len() {
-        add_link(faults, index + 1, &links[index])?;
-    }
+    add_count(faults, items_at(file, "clock"), "clocks", CLOCKS)?;
+    add_count(faults, items_at(file, "session"), "sessions", SESSIONS)?;
+    add_count(faults, items_at(file, "link"), "links", LINKS)?;
+    add_links(faults, items_at(file, "link"))?;
     for index in 0..sessions.len() {
         add_managers(faults, &sessions[..index], &sessions[index], sessions)?;
     }
     Ok(())
 }
 
-fn too_many<'a>(place: Place<'a>, found: Found<'a>, wanted: Wanted<'a>) -> Fault<'a> {
-    Fault {
-        class: NetError::TooMany,
-        place,
-        found,
-        wanted,
-    }
-}
-
-fn add_count(
-    faults: &mut Vec<Fault<'_>>,
-    count: usize,
+fn add_count<'a>(
+    faults: &mut Vec<Fault<'a>>,
+    items: &'a [Value],
     of: &'static str,
     most: usize,
 ) -> Result<(), AllocError> {
-    if count > most {
-        faults.push(too_many(Place::File, Found::Count(count, of), Wanted::AtMost(most)))?;
+    let count = items.len();
+    if count <= most {
+        return Ok(());
+    }
+    let found = Found::Count(count, of);
+    add_fault(
+        faults,
+        NetError::TooMany,
+        Place::File,
+        found,
+        Wanted::Need(Need::AtMost(most)),
+    )
+}
+
+/// Adds a fault for each link of too few ends or of too many.
+fn add_links<'a>(faults: &mut Vec<Fault<'a>>, links: &'a [Value]) -> Result<(), AllocError> {
+    for index in 0..links.len() {
+        if let Some(table) = table_of(&links[index]) {
+            let place = Place::Table(Array::Link, index + 1, None);
+            add_ends(faults, place, table)?;
+        }
     }
     Ok(())
 }
 
-/// Adds a fault for a link of too few ends or of too many.
-fn add_link<'a>(
+fn add_ends<'a>(
     faults: &mut Vec<Fault<'a>>,
-    number: usize,
-    link: &'a Value,
+    place: Place<'a>,
+    table: &'a Table,
 ) -> Result<(), AllocError> {
-    let place = Place::Table(Array::Link, number, None);
-    if let Some(table) = link.as_table() {
-        if let Some(value) = table.get("ends") {
-            if let Some(ends) = value.as_array() {
-                let count = ends.len();
-                if count < LEAST_ENDS || MOST_ENDS < count {
-                    let found = Found::Value("ends", value);
-                    faults.push(too_many(place, found, Wanted::Ends(count)))?;
-                }
-            }
+    match count_of_ends(table) {
+        Some(count) if count < LEAST_ENDS || MOST_ENDS < count => {
+            let wanted = Wanted::Need(Need::Ends(count));
+            add_at_key(faults, NetError::TooMany, place, table, "ends", wanted)
         }
+        _ => Ok(()),
     }
-    Ok(())
+}
+
+/// How many ends a link has, where they are an array.
+fn count_of_ends(table: &Table) -> Option<usize> {
+    Some(entry(table, "ends")?.as_array()?.len())
 }
 
 /// Adds a fault for the first session of a target that has too many.
@@ -81,20 +81,31 @@ fn add_managers<'a>(
     session: &SessionHead<'a>,
     all: &[SessionHead<'a>],
 ) -> Result<(), AllocError> {
-    let count = managers_of(session.target, all);
-    if session.target.is_some() && count > MANAGERS && managers_of(session.target, before) == 0 {
-        if let Some(target) = session.table.get("target") {
-            let found = Found::Value("target", target);
-            faults.push(too_many(session.place, found, Wanted::Managers(count, MANAGERS)))?;
-        }
+    let Some(target) = session.target else {
+        return Ok(());
+    };
+    let count = managers_of(target, all);
+    if count <= MANAGERS || managers_of(target, before) > 0 {
+        return Ok(());
     }
-    Ok(())
+    let wanted = Wanted::Need(Need::Managers(count, MANAGERS));
+    add_at_key(
+        faults,
+        NetError::TooMany,
+        session.place,
+        session.table,
+        "target",
+        wanted,
+    )
 }
 
 /// How many sessions have this target.
-fn managers_of(target: Option<&str>, sessions: &[SessionHead<'_>]) -> usize {
-    sessions
-        .iter()
-        .filter(|session| session.target == target)
-        .count()
+fn managers_of(target: &str, sessions: &[SessionHead<'_>]) -> usize {
+    let mut count = 0usize;
+    for session in sessions {
+        if is_name_of(session.target, target) {
+            count = count.saturating_add(1);
+        }
+    }
+    count
 }

@@ -1,10 +1,10 @@
 //! Targets, ends and ports that are not there.
 
-use crate::fault::{Fault, Found, Wanted};
-use crate::heads::{ClockHead, EndHead, Heads, SessionHead, whole_at};
-use crate::key_faults::items_at;
+use crate::fault::{Fault, Found, Names, Need, Wanted, add_at_key, add_fault};
+use crate::heads::{ClockHead, EndHead, Heads, SessionHead};
 use crate::nearest::nearest;
 use crate::place::Place;
+use crate::values::{is_name_of, items_at, table_of, whole_at};
 use ptpm_script::NetError;
 use std::alloc::{AllocError, Global};
 
@@ -14,50 +14,64 @@ pub(crate) fn add_name_faults<'a>(
     faults: &mut Vec<Fault<'a>>,
     heads: &Heads<'a>,
 ) -> Result<(), AllocError> {
-    let mut clock_names = Vec::new(alloc);
-    for clock in heads.clocks.as_slice() {
+    let clocks = heads.clocks.as_slice();
+    let sessions = heads.sessions.as_slice();
+    let clock_names = clock_names(alloc, clocks)?;
+    let session_names = session_names(alloc, sessions)?;
+    for clock in clocks {
         add_ports(faults, clock)?;
-        if let Some(name) = clock.name {
-            clock_names.push(name)?;
-        }
     }
-    let mut session_names = Vec::new(alloc);
-    for session in heads.sessions.as_slice() {
+    for session in sessions {
         add_target(alloc, faults, session, clock_names.as_slice())?;
-        if let Some(name) = session.name {
-            session_names.push(name)?;
-        }
     }
     for end in heads.ends.as_slice() {
-        let wanted = match end.port {
-            Some(port) => missing_port(
-                alloc,
-                heads.clocks.as_slice(),
-                clock_names.as_slice(),
-                end.name,
-                port,
-            )?,
-            None => missing_session(alloc, session_names.as_slice(), end.name)?,
-        };
-        add_end(faults, end, wanted)?;
+        match end.port {
+            Some(port) => add_port_end(alloc, faults, end, port, clocks, clock_names.as_slice())?,
+            None => add_session_end(alloc, faults, end, session_names.as_slice())?,
+        }
     }
     Ok(())
 }
 
-fn not_there<'a>(place: Place<'a>, found: Found<'a>, wanted: Wanted<'a>) -> Fault<'a> {
-    Fault {
-        class: NetError::NoSuchName,
-        place,
-        found,
-        wanted,
+fn clock_names<'a>(alloc: Global, clocks: &[ClockHead<'a>]) -> Result<Vec<&'a str>, AllocError> {
+    let mut names = Vec::new(alloc);
+    for clock in clocks {
+        if let Some(name) = clock.name {
+            names.push(name)?;
+        }
     }
+    Ok(names)
+}
+
+fn session_names<'a>(
+    alloc: Global,
+    sessions: &[SessionHead<'a>],
+) -> Result<Vec<&'a str>, AllocError> {
+    let mut names = Vec::new(alloc);
+    for session in sessions {
+        if let Some(name) = session.name {
+            names.push(name)?;
+        }
+    }
+    Ok(names)
+}
+
+fn is_among(name: &str, names: &[&str]) -> bool {
+    for other in names {
+        if *other == name {
+            return true;
+        }
+    }
+    false
 }
 
 /// How many ports a clock has, where it can start with so many; of another the ports are not looked at.
 fn ports_of(clock: &ClockHead<'_>) -> Option<u16> {
-    match clock.count {
-        Some(count) if 1 <= count && count <= 8 => Some(count),
-        _ => None,
+    let count = clock.count?;
+    if 1 <= count && count <= 8 {
+        Some(count)
+    } else {
+        None
     }
 }
 
@@ -67,20 +81,23 @@ fn add_ports<'a>(faults: &mut Vec<Fault<'a>>, clock: &ClockHead<'a>) -> Result<(
     };
     let ports = items_at(clock.table, "port");
     for index in 0..ports.len() {
-        let Some(table) = ports[index].as_table() else {
-            continue;
-        };
-        if let Some(number) = whole_at(table, "number") {
-            if let Some(value) = table.get("number") {
-                if number == 0 || count < number {
-                    let place = Place::Port(clock.number, clock.name, index + 1);
-                    let found = Found::Value("number", value);
-                    faults.push(not_there(place, found, Wanted::PortUpTo(count)))?;
-                }
+        if let Some(table) = table_of(&ports[index]) {
+            if is_past(whole_at(table, "number"), count) {
+                let place = Place::Port(clock.number, clock.name, index + 1);
+                let wanted = Wanted::Need(Need::PortUpTo(count));
+                add_at_key(faults, NetError::NoSuchName, place, table, "number", wanted)?;
             }
         }
     }
     Ok(())
+}
+
+/// Whether a port's number is none of a clock with so many ports.
+fn is_past(number: Option<u16>, count: u16) -> bool {
+    match number {
+        Some(number) => number == 0 || count < number,
+        None => false,
+    }
 }
 
 fn add_target<'a>(
@@ -92,53 +109,72 @@ fn add_target<'a>(
     let Some(target) = session.target else {
         return Ok(());
     };
-    if names.iter().any(|name| *name == target) {
+    if is_among(target, names) {
         return Ok(());
     }
-    if let Some(value) = session.table.get("target") {
-        let wanted = Wanted::Clock(nearest(alloc, target, names)?);
-        faults.push(not_there(session.place, Found::Value("target", value), wanted))?;
-    }
-    Ok(())
+    let wanted = Wanted::Known(Names::Clock, nearest(alloc, target, names)?);
+    add_at_key(
+        faults,
+        NetError::NoSuchName,
+        session.place,
+        session.table,
+        "target",
+        wanted,
+    )
 }
 
-/// What may stand for a port's end that is not there; `None` where it is.
-fn missing_port<'a>(
+/// Adds a fault where a port's end is not there.
+fn add_port_end<'a>(
     alloc: Global,
+    faults: &mut Vec<Fault<'a>>,
+    end: &EndHead<'a>,
+    port: u16,
     clocks: &[ClockHead<'a>],
     names: &[&'a str],
-    name: &str,
-    port: u16,
-) -> Result<Option<Wanted<'a>>, AllocError> {
-    match clocks.iter().find(|clock| clock.name == Some(name)) {
-        None => Ok(Some(Wanted::Clock(nearest(alloc, name, names)?))),
-        Some(clock) => match ports_of(clock) {
-            Some(count) if port == 0 || count < port => Ok(Some(Wanted::PortUpTo(count))),
-            _ => Ok(None),
-        },
+) -> Result<(), AllocError> {
+    let Some(clock) = clock_named(clocks, end.name) else {
+        let wanted = Wanted::Known(Names::Clock, nearest(alloc, end.name, names)?);
+        return add_end(faults, end, wanted);
+    };
+    match ports_of(&clock) {
+        Some(count) if is_past(Some(port), count) => add_end(
+            faults,
+            end,
+            Wanted::Need(Need::PortUpTo(count)),
+        ),
+        _ => Ok(()),
     }
 }
 
-/// What may stand for a session's end that is not there; `None` where it is.
-fn missing_session<'a>(
-    alloc: Global,
-    names: &[&'a str],
-    name: &str,
-) -> Result<Option<Wanted<'a>>, AllocError> {
-    if names.iter().any(|other| *other == name) {
-        return Ok(None);
+/// The first clock of a name.
+fn clock_named<'a>(clocks: &[ClockHead<'a>], name: &str) -> Option<ClockHead<'a>> {
+    for clock in clocks {
+        if is_name_of(clock.name, name) {
+            return Some(*clock);
+        }
     }
-    Ok(Some(Wanted::Session(nearest(alloc, name, names)?)))
+    None
+}
+
+/// Adds a fault where a session's end is not there.
+fn add_session_end<'a>(
+    alloc: Global,
+    faults: &mut Vec<Fault<'a>>,
+    end: &EndHead<'a>,
+    names: &[&'a str],
+) -> Result<(), AllocError> {
+    if is_among(end.name, names) {
+        return Ok(());
+    }
+    let wanted = Wanted::Known(Names::Session, nearest(alloc, end.name, names)?);
+    add_end(faults, end, wanted)
 }
 
 fn add_end<'a>(
     faults: &mut Vec<Fault<'a>>,
     end: &EndHead<'a>,
-    wanted: Option<Wanted<'a>>,
+    wanted: Wanted<'a>,
 ) -> Result<(), AllocError> {
-    if let Some(wanted) = wanted {
-        let found = Found::Item("ends", end.number, end.value);
-        faults.push(not_there(end.place, found, wanted))?;
-    }
-    Ok(())
+    let found = Found::Item("ends", end.number, end.value);
+    add_fault(faults, NetError::NoSuchName, end.place, found, wanted)
 }

@@ -1,21 +1,22 @@
 //! Of names that are there, the nearest to one that is not.
 
 use std::alloc::{AllocError, Global};
-use strsim::levenshtein;
+use strsim::jaro_winkler;
 
-/// The name that the fewest edits of a character lead to, and the first of several; `None` where there are no names.
+/// The name that is most like another by the measure of Jaro and Winkler, and the first of several: it counts the characters that both
+/// have at about the same place, and more where the first up to four are the same. `None` where there are no names.
 pub(crate) fn nearest<'a>(
     alloc: Global,
     name: &str,
     names: &[&'a str],
 ) -> Result<Option<&'a str>, AllocError> {
     let mut best = None;
-    let mut least = usize::MAX;
+    let mut most = 0.0;
     for other in names {
-        let edits = levenshtein(alloc, name, *other)?;
-        if edits < least {
-            least = edits;
+        let likeness = jaro_winkler(alloc, name, *other)?;
+        if best.is_none() || likeness > most {
             best = Some(*other);
+            most = likeness;
         }
     }
     Ok(best)

@@ -4,7 +4,7 @@ ghost use Rattle.std.specs.Prelude.{◌≡◌, IfOk, Some};
 ghost use Rattle.ptpm_script.specs.NetworkText.{network_of};
 ghost use Rattle.ptpm_check.specs.Faults.{first_class, refusal_of};
 
-use crate::fault::{Fault, Found, Wanted};
+use crate::fault::{Fault, Found, Need, Wanted, add_fault};
 use crate::heads::Heads;
 use crate::limit_faults::add_limit_faults;
 use crate::name_faults::add_name_faults;
@@ -55,8 +55,10 @@ impl Document {
         let Some(refusal) = self.refusal else {
             return Ok(Vec::new(alloc));
         };
-        let found = found_in(alloc, &self.content).map_err(|_| OutOfMemory)?;
-        with_first(found, refusal).map_err(|_| OutOfMemory)
+        match told_in(alloc, &self.content, refusal) {
+            Ok(faults) => Ok(faults),
+            Err(_) => Err(OutOfMemory),
+        }
     }
 }
 
@@ -78,33 +80,49 @@ fn line_of(text: &str, error: &toml::de::Error) -> usize {
         Some(span) => span.start,
         None => 0,
     };
-    let ends = text
-        .as_bytes()
-        .iter()
-        .take(before)
-        .filter(|octet| **octet == b'\n');
-    ends.count().saturating_add(1)
+    let octets = text.as_bytes();
+    let mut line = 1usize;
+    for index in 0..octets.len().min(before) {
+        if octets[index] == b'\n' {
+            line = line.saturating_add(1);
+        }
+    }
+    line
+}
+
+/// The faults that are told of a text that is refused.
+fn told_in<'a>(
+    alloc: Global,
+    content: &'a Content,
+    refusal: NetError,
+) -> Result<Vec<Fault<'a>>, AllocError>
+    ensures { IfOk result (λ faults. first_class faults.items ≡ Some refusal) }
+{
+    with_first(found_in(alloc, content)?, refusal)
 }
 
 /// The faults that are found in a text, in the order of the refusals.
 fn found_in<'a>(alloc: Global, content: &'a Content) -> Result<Vec<Fault<'a>>, AllocError> {
     let mut faults = Vec::new(alloc);
     match content {
-        Content::Long => faults.push(Fault {
-            class: NetError::TooLong,
-            place: Place::File,
-            found: Found::Untold,
-            wanted: Wanted::Size,
-        })?,
-        Content::Broken(line, error) => faults.push(Fault {
-            class: NetError::NotToml,
-            place: Place::Line(*line),
-            found: Found::Untold,
-            wanted: Wanted::Toml(*error),
-        })?,
+        Content::Long => add_text(&mut faults, NetError::TooLong, Place::File, Need::Size)?,
+        Content::Broken(line, error) => {
+            let place = Place::Line(*line);
+            add_text(&mut faults, NetError::NotToml, place, Need::Toml(*error))?;
+        }
         Content::Table(file) => add_file_faults(alloc, &mut faults, file)?,
     }
     Ok(faults)
+}
+
+/// Adds a fault of a text that is no document.
+fn add_text<'a>(
+    faults: &mut Vec<Fault<'a>>,
+    class: NetError,
+    place: Place<'a>,
+    need: Need,
+) -> Result<(), AllocError> {
+    add_fault(faults, class, place, Found::Untold, Wanted::Need(need))
 }
 
 /// Adds the faults of a document.
@@ -128,19 +146,44 @@ fn with_first<'a>(
 ) -> Result<Vec<Fault<'a>>, AllocError>
     ensures { IfOk result (λ faults. first_class faults.items ≡ Some refusal) }
 {
-    let (place, found, wanted) = match faults.iter().position(|fault| fault.class == refusal) {
-        Some(index) => {
-            let fault = faults.remove(index);
-            (fault.place, fault.found, fault.wanted)
-        }
-        None => (Place::File, Found::Untold, Wanted::Accepted(refusal)),
+    let index = index_of(faults.as_slice(), refusal);
+    let first = if index < faults.len() {
+        faults.remove(index)
+    } else {
+        told_alone(refusal)
     };
-    let first = Fault {
-        class: refusal,
-        place,
-        found,
-        wanted,
-    };
-    faults.insert(0, first)?;
+    faults.insert(0, of_class(first, refusal))?;
     Ok(faults)
+}
+
+/// The index of the first fault of a refusal; past the last where there is none.
+fn index_of(faults: &[Fault<'_>], refusal: NetError) -> usize {
+    for index in 0..faults.len() {
+        if faults[index].class == refusal {
+            return index;
+        }
+    }
+    faults.len()
+}
+
+/// A fault, as one of this refusal.
+fn of_class<'a>(fault: Fault<'a>, refusal: NetError) -> Fault<'a>
+    ensures { result.class ≡ refusal }
+{
+    Fault {
+        class: refusal,
+        place: fault.place,
+        found: fault.found,
+        wanted: fault.wanted,
+    }
+}
+
+/// A fault that tells a refusal alone.
+fn told_alone<'a>(refusal: NetError) -> Fault<'a> {
+    Fault {
+        class: refusal,
+        place: Place::File,
+        found: Found::Untold,
+        wanted: Wanted::Need(Need::Accepted(refusal)),
+    }
 }

@@ -3,7 +3,7 @@
 use std::fmt;
 
 /// An array of tables of a network file.
-#[derive(Clone, Copy, Debug, PartialEq, Eq)]
+#[derive(Clone, Copy)]
 pub enum Array {
     Clock,
     Session,
@@ -29,7 +29,7 @@ impl Array {
 }
 
 /// Where a fault stands. Lines, and the tables of an array, are counted from 1.
-#[derive(Clone, Copy, Debug)]
+#[derive(Clone, Copy)]
 pub enum Place<'a> {
     /// The file as a whole, or a key outside of its arrays.
     File,

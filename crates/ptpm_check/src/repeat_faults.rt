@@ -1,12 +1,13 @@
 //! What may stand only once in a network file.
 
-use crate::fault::{Fault, Found, Wanted};
-use crate::heads::{ClockHead, EndHead, Heads, SessionHead, whole_at};
-use crate::key_faults::items_at;
+use crate::fault::{Fault, Found, Wanted, add_at_key, add_fault};
+use crate::heads::{ClockHead, EndHead, Heads, SessionHead};
 use crate::place::Place;
+use crate::values::{is_clock, is_name_of, is_number, items_at, table_of, whole_at};
+use ptpm_codec::{ClockIdentity, PortIdentity};
 use ptpm_script::NetError;
 use std::alloc::AllocError;
-use toml::Table;
+use toml::{Table, Value};
 
 /// So many tables of ports of a clock are held beside each other.
 const PORT_TABLES: usize = 64;
@@ -17,42 +18,32 @@ pub(crate) fn add_repeat_faults<'a>(
     heads: &Heads<'a>,
 ) -> Result<(), AllocError> {
     let clocks = heads.clocks.as_slice();
-    let sessions = heads.sessions.as_slice();
-    let ends = heads.ends.as_slice();
-    for index in 0..clocks.len() {
-        add_ports(faults, &clocks[index])?;
-        add_clock(faults, &clocks[..index], &clocks[index])?;
-    }
-    for index in 0..sessions.len() {
-        add_session(faults, clocks, &sessions[..index], &sessions[index])?;
-    }
-    for index in 0..ends.len() {
-        add_end(faults, &ends[..index], &ends[index])?;
-    }
-    Ok(())
-}
-
-fn twice<'a>(place: Place<'a>, found: Found<'a>, wanted: Wanted<'a>) -> Fault<'a> {
-    Fault {
-        class: NetError::Twice,
-        place,
-        found,
-        wanted,
-    }
+    add_clocks(faults, clocks)?;
+    add_sessions(faults, clocks, heads.sessions.as_slice())?;
+    add_ends(faults, heads.ends.as_slice())
 }
 
 /// Adds a fault where the value at a key stands at another place too.
-fn add_value<'a>(
+fn add_once<'a>(
     faults: &mut Vec<Fault<'a>>,
     place: Place<'a>,
     table: &'a Table,
     key: &'static str,
-    wanted: Option<Wanted<'a>>,
+    other: Option<Place<'a>>,
 ) -> Result<(), AllocError> {
-    if let Some(wanted) = wanted {
-        if let Some(value) = table.get(key) {
-            faults.push(twice(place, Found::Value(key, value), wanted))?;
+    match other {
+        Some(other) => {
+            let wanted = Wanted::Once(other);
+            add_at_key(faults, NetError::Twice, place, table, key, wanted)
         }
+        None => Ok(()),
+    }
+}
+
+fn add_clocks<'a>(faults: &mut Vec<Fault<'a>>, clocks: &[ClockHead<'a>]) -> Result<(), AllocError> {
+    for index in 0..clocks.len() {
+        add_ports(faults, &clocks[index])?;
+        add_clock(faults, &clocks[..index], &clocks[index])?;
     }
     Ok(())
 }
@@ -60,23 +51,35 @@ fn add_value<'a>(
 fn add_ports<'a>(faults: &mut Vec<Fault<'a>>, clock: &ClockHead<'a>) -> Result<(), AllocError> {
     let ports = items_at(clock.table, "port");
     for index in 0..ports.len().min(PORT_TABLES) {
-        let Some(table) = ports[index].as_table() else {
-            continue;
-        };
-        let number = whole_at(table, "number");
-        let earlier = ports[..index]
-            .iter()
-            .position(|other| match other.as_table() {
-                Some(other) => number.is_some() && whole_at(other, "number") == number,
-                None => false,
-            });
-        if let Some(earlier) = earlier {
+        if let Some(table) = table_of(&ports[index]) {
             let place = Place::Port(clock.number, clock.name, index + 1);
-            let other = Place::Port(clock.number, clock.name, earlier.saturating_add(1));
-            add_value(faults, place, table, "number", Some(Wanted::Once(other)))?;
+            let other = port_before(clock, &ports[..index], whole_at(table, "number"));
+            add_once(faults, place, table, "number", other)?;
         }
     }
     Ok(())
+}
+
+/// The place of the first table of a port's number.
+fn port_before<'a>(
+    clock: &ClockHead<'a>,
+    ports: &[Value],
+    number: Option<u16>,
+) -> Option<Place<'a>> {
+    let number = number?;
+    for index in 0..ports.len() {
+        if has_number(&ports[index], number) {
+            return Some(Place::Port(clock.number, clock.name, index + 1));
+        }
+    }
+    None
+}
+
+fn has_number(port: &Value, number: u16) -> bool {
+    match table_of(port) {
+        Some(table) => is_number(whole_at(table, "number"), number),
+        None => false,
+    }
 }
 
 fn add_clock<'a>(
@@ -84,63 +87,152 @@ fn add_clock<'a>(
     before: &[ClockHead<'a>],
     clock: &ClockHead<'a>,
 ) -> Result<(), AllocError> {
-    let named = clock_named(before, clock.name).map(|other| Wanted::Once(other.place));
-    add_value(faults, clock.place, clock.table, "name", named)?;
-    let same = before.iter().find(|other| {
-        clock.identity.is_some() && other.identity == clock.identity
-    });
-    let same = same.map(|other| Wanted::Once(other.place));
-    add_value(faults, clock.place, clock.table, "identity", same)
+    let (place, table) = (clock.place, clock.table);
+    add_once(
+        faults,
+        place,
+        table,
+        "name",
+        clock_named(before, clock.name),
+    )?;
+    let same = match clock.identity {
+        Some(identity) => clock_of(before, identity),
+        None => None,
+    };
+    add_once(faults, place, table, "identity", same)
 }
 
-/// The clock of a name.
-fn clock_named<'b, 'a>(
-    clocks: &'b [ClockHead<'a>],
-    name: Option<&str>,
-) -> Option<&'b ClockHead<'a>> {
-    clocks
-        .iter()
-        .find(|clock| name.is_some() && clock.name == name)
+/// The place of the first clock of a name.
+fn clock_named<'a>(clocks: &[ClockHead<'a>], name: Option<&str>) -> Option<Place<'a>> {
+    let name = name?;
+    for clock in clocks {
+        if is_name_of(clock.name, name) {
+            return Some(clock.place);
+        }
+    }
+    None
 }
 
-fn add_session<'a>(
+/// The place of the first clock of a clockIdentity.
+fn clock_of<'a>(clocks: &[ClockHead<'a>], identity: ClockIdentity) -> Option<Place<'a>> {
+    for clock in clocks {
+        if is_clock(clock.identity, identity) {
+            return Some(clock.place);
+        }
+    }
+    None
+}
+
+fn add_sessions<'a>(
+    faults: &mut Vec<Fault<'a>>,
+    clocks: &[ClockHead<'a>],
+    sessions: &[SessionHead<'a>],
+) -> Result<(), AllocError> {
+    for index in 0..sessions.len() {
+        let session = &sessions[index];
+        let before = &sessions[..index];
+        let (place, table) = (session.place, session.table);
+        add_once(
+            faults,
+            place,
+            table,
+            "name",
+            clock_named(clocks, session.name),
+        )?;
+        add_once(
+            faults,
+            place,
+            table,
+            "name",
+            session_named(before, session.name),
+        )?;
+        if let Some(identity) = session.identity {
+            add_identity(faults, clocks, before, session, identity)?;
+        }
+    }
+    Ok(())
+}
+
+/// Adds a fault where a session's identity is that of a session before it, and one where it has a clock's.
+fn add_identity<'a>(
     faults: &mut Vec<Fault<'a>>,
     clocks: &[ClockHead<'a>],
     before: &[SessionHead<'a>],
     session: &SessionHead<'a>,
+    identity: PortIdentity,
 ) -> Result<(), AllocError> {
     let (place, table) = (session.place, session.table);
-    let clock = clock_named(clocks, session.name).map(|clock| Wanted::Once(clock.place));
-    add_value(faults, place, table, "name", clock)?;
-    let named = before.iter().find(|other| {
-        session.name.is_some() && other.name == session.name
-    });
-    let named = named.map(|other| Wanted::Once(other.place));
-    add_value(faults, place, table, "name", named)?;
-    let Some(identity) = session.identity else {
-        return Ok(());
-    };
-    let clock = clocks
-        .iter()
-        .find(|clock| clock.identity == Some(identity.clock));
-    let clock = clock.map(|clock| Wanted::OtherClock(clock.place));
-    add_value(faults, place, table, "identity", clock)?;
-    let same = before.iter().find(|other| other.identity == Some(identity));
-    let same = same.map(|other| Wanted::Once(other.place));
-    add_value(faults, place, table, "identity", same)
+    if let Some(clock) = clock_of(clocks, identity.clock) {
+        let wanted = Wanted::OtherClock(clock);
+        add_at_key(faults, NetError::Twice, place, table, "identity", wanted)?;
+    }
+    add_once(
+        faults,
+        place,
+        table,
+        "identity",
+        session_of(before, identity),
+    )
 }
 
-fn add_end<'a>(
-    faults: &mut Vec<Fault<'a>>,
-    before: &[EndHead<'a>],
-    end: &EndHead<'a>,
-) -> Result<(), AllocError> {
-    let same = before
-        .iter()
-        .find(|other| other.name == end.name && other.port == end.port);
-    if let Some(other) = same {
-        let found = Found::Item("ends", end.number, end.value);
-        faults.push(twice(end.place, found, Wanted::Once(other.place)))?;
+/// The place of the first session of a name.
+fn session_named<'a>(sessions: &[SessionHead<'a>], name: Option<&str>) -> Option<Place<'a>> {
+    let name = name?;
+    for session in sessions {
+        if is_name_of(session.name, name) {
+            return Some(session.place);
+        }
+    }
+    None
+}
+
+fn is_identity(identity: Option<PortIdentity>, wanted: PortIdentity) -> bool {
+    match identity {
+        Some(identity) => identity == wanted,
+        None => false,
+    }
+}
+
+/// The place of the first session of a portIdentity.
+fn session_of<'a>(sessions: &[SessionHead<'a>], identity: PortIdentity) -> Option<Place<'a>> {
+    for session in sessions {
+        if is_identity(session.identity, identity) {
+            return Some(session.place);
+        }
+    }
+    None
+}
+
+fn add_ends<'a>(faults: &mut Vec<Fault<'a>>, ends: &[EndHead<'a>]) -> Result<(), AllocError> {
+    for index in 0..ends.len() {
+        let end = &ends[index];
+        if let Some(other) = same_end(&ends[..index], end) {
+            let found = Found::Item("ends", end.number, end.value);
+            add_fault(
+                faults,
+                NetError::Twice,
+                end.place,
+                found,
+                Wanted::Once(other),
+            )?;
+        }
     }
     Ok(())
+}
+
+fn is_same_port(port: Option<u16>, other: Option<u16>) -> bool {
+    match port {
+        Some(port) => is_number(other, port),
+        None => other.is_none(),
+    }
+}
+
+/// The place of the first end that is the same as one.
+fn same_end<'a>(ends: &[EndHead<'a>], end: &EndHead<'a>) -> Option<Place<'a>> {
+    for other in ends {
+        if other.name == end.name && is_same_port(other.port, end.port) {
+            return Some(other.place);
+        }
+    }
+    None
 }

@@ -1,10 +1,13 @@
 //! The shape of a network file: the keys of its tables, and what they hold.
 
-use crate::fault::{Fault, Found, Wanted};
-use crate::key_faults::{add_key_faults, items_at, shape};
+use crate::fault::{Fault, Found, Need, Wanted, add_fault};
+use crate::key_faults::add_key_faults;
 use crate::place::{Array, Place};
+use crate::values::{entry, integer_at, items_at, name_in, table_of, text_of};
+use ptpm_data::Rights;
 use ptpm_script::{
-    CLOCK_RULES, FILE_RULES, LINK_RULES, PORT_RULES, Rule, SESSION_RULES, end_spelling, right_of,
+    CLOCK_RULES, FILE_RULES, LINK_RULES, NetError, PORT_RULES, Rule, SESSION_RULES, end_spelling,
+    right_of,
 };
 use std::alloc::{AllocError, Global};
 use toml::{Table, Value};
@@ -16,102 +19,110 @@ pub(crate) fn add_shape_faults<'a>(
     file: &'a Table,
 ) -> Result<(), AllocError> {
     add_key_faults(alloc, faults, Place::File, file, &FILE_RULES)?;
-    let version = version_of(file);
-    let clocks = items_at(file, "clock");
-    for index in 0..clocks.len() {
-        add_clock(alloc, faults, index + 1, &clocks[index])?;
-    }
-    let sessions = items_at(file, "session");
-    for index in 0..sessions.len() {
-        add_session(alloc, faults, version, index + 1, &sessions[index])?;
-    }
-    let links = items_at(file, "link");
-    for index in 0..links.len() {
-        add_link(alloc, faults, index + 1, &links[index])?;
-    }
-    Ok(())
+    add_clocks(alloc, faults, items_at(file, "clock"))?;
+    add_sessions(
+        alloc,
+        faults,
+        integer_at(file, "version"),
+        items_at(file, "session"),
+    )?;
+    add_links(alloc, faults, items_at(file, "link"))
 }
 
-/// The version of a file, where it is one.
-fn version_of(file: &Table) -> Option<i64> {
-    match file.get("version") {
-        Some(Value::Integer(version)) if *version == 1 || *version == 2 => Some(*version),
-        _ => None,
-    }
+/// Adds a fault of shape.
+fn add_shape<'a>(
+    faults: &mut Vec<Fault<'a>>,
+    place: Place<'a>,
+    found: Found<'a>,
+    need: Need,
+) -> Result<(), AllocError> {
+    add_fault(faults, NetError::BadShape, place, found, Wanted::Need(need))
 }
 
-/// The place of a table of an array.
-pub(crate) fn place_in<'a>(array: Array, number: usize, value: &'a Value) -> Place<'a> {
-    Place::Table(array, number, name_in(value))
-}
-
-/// The name in a table, where it is short enough to be one.
-pub(crate) fn name_in<'a>(value: &'a Value) -> Option<&'a str> {
-    match value.as_table()?.get("name") {
-        Some(Value::String(name)) if ptpm_script::is_name(name.as_str()) => Some(name.as_str()),
-        _ => None,
-    }
-}
-
-/// Adds the faults of a table that a value is to be, and gives that table where it is one.
+/// Adds the faults of a table that a value is to be.
 fn add_table<'a>(
     alloc: Global,
     faults: &mut Vec<Fault<'a>>,
     place: Place<'a>,
     value: &'a Value,
     rules: &'static [Rule],
-) -> Result<Option<&'a Table>, AllocError> {
-    match value.as_table() {
-        Some(table) => {
-            add_key_faults(alloc, faults, place, table, rules)?;
-            Ok(Some(table))
-        }
-        None => {
-            faults.push(shape(place, Found::Whole(value), Wanted::Table))?;
-            Ok(None)
-        }
+) -> Result<(), AllocError> {
+    match table_of(value) {
+        Some(table) => add_key_faults(alloc, faults, place, table, rules),
+        None => add_shape(faults, place, Found::Whole(value), Need::Table),
     }
 }
 
-fn add_clock<'a>(
+fn add_clocks<'a>(
     alloc: Global,
     faults: &mut Vec<Fault<'a>>,
-    number: usize,
-    value: &'a Value,
+    clocks: &'a [Value],
 ) -> Result<(), AllocError> {
-    let place = place_in(Array::Clock, number, value);
-    let Some(table) = add_table(alloc, faults, place, value, &CLOCK_RULES)? else {
-        return Ok(());
-    };
-    let ports = items_at(table, "port");
-    for index in 0..ports.len() {
-        let place = Place::Port(number, name_in(value), index + 1);
-        let _ = add_table(alloc, faults, place, &ports[index], &PORT_RULES)?;
+    for index in 0..clocks.len() {
+        let clock = &clocks[index];
+        let place = Place::Table(Array::Clock, index + 1, name_in(clock));
+        add_table(alloc, faults, place, clock, &CLOCK_RULES)?;
+        add_ports(alloc, faults, index + 1, clock)?;
     }
     Ok(())
 }
 
-fn add_session<'a>(
+/// Adds the faults of the tables of a clock's ports.
+fn add_ports<'a>(
+    alloc: Global,
+    faults: &mut Vec<Fault<'a>>,
+    number: usize,
+    clock: &'a Value,
+) -> Result<(), AllocError> {
+    let ports = items_in(clock, "port");
+    for index in 0..ports.len() {
+        let place = Place::Port(number, name_in(clock), index + 1);
+        add_table(alloc, faults, place, &ports[index], &PORT_RULES)?;
+    }
+    Ok(())
+}
+
+/// The items of the array at a key of a value; none where it is no table, or there is no array.
+fn items_in<'a>(value: &'a Value, key: &str) -> &'a [Value] {
+    match table_of(value) {
+        Some(table) => items_at(table, key),
+        None => &[],
+    }
+}
+
+fn add_sessions<'a>(
     alloc: Global,
     faults: &mut Vec<Fault<'a>>,
     version: Option<i64>,
-    number: usize,
-    value: &'a Value,
+    sessions: &'a [Value],
 ) -> Result<(), AllocError> {
-    let place = place_in(Array::Session, number, value);
-    let Some(table) = add_table(alloc, faults, place, value, &SESSION_RULES)? else {
-        return Ok(());
-    };
-    match (version, table.get("rights")) {
-        (Some(2), None) => {
-            faults.push(shape(place, Found::Missing("rights"), Wanted::Rights))?;
+    for index in 0..sessions.len() {
+        let session = &sessions[index];
+        let place = Place::Table(Array::Session, index + 1, name_in(session));
+        add_table(alloc, faults, place, session, &SESSION_RULES)?;
+        if let Some(table) = table_of(session) {
+            add_version(faults, place, version, table)?;
+            add_rights(faults, place, items_at(table, "rights"))?;
         }
-        (Some(1), Some(rights)) => {
-            faults.push(shape(place, Found::Value("rights", rights), Wanted::NoRights))?;
-        }
-        _ => {}
     }
-    add_rights(faults, place, items_at(table, "rights"))
+    Ok(())
+}
+
+/// Adds a fault where a session has no rights in version 2, or some in version 1.
+fn add_version<'a>(
+    faults: &mut Vec<Fault<'a>>,
+    place: Place<'a>,
+    version: Option<i64>,
+    session: &'a Table,
+) -> Result<(), AllocError> {
+    match (version, entry(session, "rights")) {
+        (Some(2), None) => add_shape(faults, place, Found::Missing("rights"), Need::Rights),
+        (Some(1), Some(rights)) => {
+            let found = Found::Value("rights", rights);
+            add_shape(faults, place, found, Need::NoRights)
+        }
+        _ => Ok(()),
+    }
 }
 
 /// Adds a fault for each item that is no right, or one that stands before it.
@@ -123,38 +134,66 @@ fn add_rights<'a>(
     for index in 0..items.len() {
         let item = &items[index];
         let found = Found::Item("rights", index + 1, item);
-        if right_of(item).is_none() {
-            faults.push(shape(place, found, Wanted::Right))?;
-        } else if items[..index]
-            .iter()
-            .any(|other| right_of(other) == right_of(item))
-        {
-            faults.push(shape(place, found, Wanted::OtherRight))?;
+        match right(item) {
+            None => add_shape(faults, place, found, Need::Right)?,
+            Some(right) if has_right(&items[..index], right) => {
+                add_shape(faults, place, found, Need::OtherRight)?;
+            }
+            Some(_) => {}
         }
     }
     Ok(())
 }
 
-fn add_link<'a>(
+/// The right that an item is.
+fn right(item: &Value) -> Option<Rights> {
+    right_of(item)
+}
+
+fn has_right(items: &[Value], wanted: Rights) -> bool {
+    for item in items {
+        if let Some(right) = right(item) {
+            if right == wanted {
+                return true;
+            }
+        }
+    }
+    false
+}
+
+fn add_links<'a>(
     alloc: Global,
     faults: &mut Vec<Fault<'a>>,
-    number: usize,
-    value: &'a Value,
+    links: &'a [Value],
 ) -> Result<(), AllocError> {
-    let place = place_in(Array::Link, number, value);
-    let Some(table) = add_table(alloc, faults, place, value, &LINK_RULES)? else {
-        return Ok(());
-    };
-    let ends = items_at(table, "ends");
-    for index in 0..ends.len() {
-        let end = &ends[index];
-        let is_end = match end.as_str() {
-            Some(text) => end_spelling(text).is_some(),
-            None => false,
-        };
-        if !is_end {
-            faults.push(shape(place, Found::Item("ends", index + 1, end), Wanted::End))?;
+    for index in 0..links.len() {
+        let link = &links[index];
+        let place = Place::Table(Array::Link, index + 1, name_in(link));
+        add_table(alloc, faults, place, link, &LINK_RULES)?;
+        add_ends(faults, place, items_in(link, "ends"))?;
+    }
+    Ok(())
+}
+
+/// Adds a fault for each item that is no end.
+fn add_ends<'a>(
+    faults: &mut Vec<Fault<'a>>,
+    place: Place<'a>,
+    items: &'a [Value],
+) -> Result<(), AllocError> {
+    for index in 0..items.len() {
+        let item = &items[index];
+        if !is_end(item) {
+            let found = Found::Item("ends", index + 1, item);
+            add_shape(faults, place, found, Need::End)?;
         }
     }
     Ok(())
+}
+
+fn is_end(item: &Value) -> bool {
+    match text_of(item) {
+        Some(text) => end_spelling(text).is_some(),
+        None => false,
+    }
 }

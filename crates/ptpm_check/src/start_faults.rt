@@ -1,9 +1,9 @@
 //! Members with which a clock can't start, each by the first fault of a start with the others as this profile has them.
 
-use crate::fault::{Fault, Found, Wanted};
+use crate::fault::{Fault, Need, Wanted, add_at_key};
 use crate::heads::ClockHead;
-use crate::key_faults::items_at;
 use crate::place::Place;
+use crate::values::{is_clock, is_number, items_at, table_of};
 use ptpm_codec::ClockIdentity;
 use ptpm_data::{ClockStart, DataSets, Member, PortStart, StartError};
 use ptpm_script::{NetError, clock_start, port_start};
@@ -13,6 +13,15 @@ use toml::Table;
 /// A start has fewer members that can be out of range.
 const MEMBERS: usize = 8;
 
+/// The keys of the grandmaster's members.
+const GRANDMASTER_MEMBERS: [&str; 5] = [
+    "grandmaster_priority1",
+    "grandmaster_class",
+    "grandmaster_accuracy",
+    "grandmaster_variance",
+    "grandmaster_priority2",
+];
+
 /// Adds a fault for each number of ports, member of a clock and member of a port with which a clock can't start.
 pub(crate) fn add_start_faults<'a>(
     faults: &mut Vec<Fault<'a>>,
@@ -21,52 +30,56 @@ pub(crate) fn add_start_faults<'a>(
     for clock in clocks {
         add_count(faults, clock)?;
         add_members(faults, clock)?;
-        let ports = items_at(clock.table, "port");
-        for index in 0..ports.len() {
-            if let Some(table) = ports[index].as_table() {
-                let place = Place::Port(clock.number, clock.name, index + 1);
-                add_port_members(faults, place, table)?;
-            }
-        }
+        add_ports(faults, clock)?;
         add_grandmaster(faults, clock)?;
     }
     Ok(())
 }
 
-/// A fault of a start, at a key of a table.
-fn add_start<'a>(
+/// Adds a fault of a start, at a key of a clock.
+fn add_clock<'a>(
     faults: &mut Vec<Fault<'a>>,
     fault: StartError,
-    place: Place<'a>,
-    table: &'a Table,
+    clock: &ClockHead<'a>,
     key: &'static str,
-    wanted: Wanted<'a>,
+    need: Need,
 ) -> Result<(), AllocError> {
-    if let Some(value) = table.get(key) {
-        faults.push(Fault {
-            class: NetError::BadClock(fault),
-            place,
-            found: Found::Value(key, value),
-            wanted,
-        })?;
-    }
-    Ok(())
+    let class = NetError::BadClock(fault);
+    add_at_key(
+        faults,
+        class,
+        clock.place,
+        clock.table,
+        key,
+        Wanted::Need(need),
+    )
 }
 
 fn add_count<'a>(faults: &mut Vec<Fault<'a>>, clock: &ClockHead<'a>) -> Result<(), AllocError> {
-    let fault = match clock.count {
-        Some(0) => StartError::NoPorts,
-        Some(count) if count > 8 => StartError::TooManyPorts,
-        _ => return Ok(()),
-    };
-    add_start(
-        faults,
-        fault,
-        clock.place,
-        clock.table,
-        "ports",
-        Wanted::Ports,
-    )
+    match clock.count {
+        Some(0) => add_clock(faults, StartError::NoPorts, clock, "ports", Need::Ports),
+        Some(count) if count > 8 => {
+            let fault = StartError::TooManyPorts;
+            add_clock(faults, fault, clock, "ports", Need::Ports)
+        }
+        _ => Ok(()),
+    }
+}
+
+/// The first fault of a start.
+fn fault_of(clock: &ClockStart, port: PortStart) -> Option<StartError> {
+    match DataSets::new(clock, &[port]) {
+        Ok(_) => None,
+        Err(fault) => Some(fault),
+    }
+}
+
+/// The member that the first fault of a start names.
+fn bad_member(clock: &ClockStart, port: PortStart) -> Option<Member> {
+    match fault_of(clock, port)? {
+        StartError::BadValue(member) => Some(member),
+        _ => None,
+    }
 }
 
 /// A clock's members, its identity and domain aside, which are judged by their shape; it is no grandmaster of its own.
@@ -80,21 +93,12 @@ fn members_of(clock: &ClockHead<'_>) -> ClockStart {
 fn add_members<'a>(faults: &mut Vec<Fault<'a>>, clock: &ClockHead<'a>) -> Result<(), AllocError> {
     let mut start = members_of(clock);
     for _ in 0..MEMBERS {
-        let Err(fault) = DataSets::new(&start, &[PortStart::new()]) else {
+        let Some(member) = bad_member(&start, PortStart::new()) else {
             break;
         };
-        if let StartError::BadValue(member) = fault {
-            let wanted = Wanted::Start(member);
-            add_start(
-                faults,
-                fault,
-                clock.place,
-                clock.table,
-                member.name(),
-                wanted,
-            )?;
-            set_right(&mut start, member);
-        }
+        let fault = StartError::BadValue(member);
+        add_clock(faults, fault, clock, member.name(), Need::Start(member))?;
+        set_right(&mut start, member);
     }
     Ok(())
 }
@@ -109,6 +113,17 @@ fn set_right(start: &mut ClockStart, member: Member) {
     }
 }
 
+fn add_ports<'a>(faults: &mut Vec<Fault<'a>>, clock: &ClockHead<'a>) -> Result<(), AllocError> {
+    let ports = items_at(clock.table, "port");
+    for index in 0..ports.len() {
+        if let Some(table) = table_of(&ports[index]) {
+            let place = Place::Port(clock.number, clock.name, index + 1);
+            add_port_members(faults, place, table)?;
+        }
+    }
+    Ok(())
+}
+
 /// The same for the members of a port.
 fn add_port_members<'a>(
     faults: &mut Vec<Fault<'a>>,
@@ -118,20 +133,13 @@ fn add_port_members<'a>(
     let clock = ClockStart::new(ClockIdentity([0; 8]), 0);
     let mut start = port_start(table);
     for _ in 0..MEMBERS {
-        let Err(fault) = DataSets::new(&clock, &[start]) else {
+        let Some(member) = bad_member(&clock, start) else {
             break;
         };
-        if let StartError::BadValue(member) = fault {
-            add_start(
-                faults,
-                fault,
-                place,
-                table,
-                member.name(),
-                Wanted::Start(member),
-            )?;
-            set_port_right(&mut start, member);
-        }
+        let class = NetError::BadClock(StartError::BadValue(member));
+        let wanted = Wanted::Need(Need::Start(member));
+        add_at_key(faults, class, place, table, member.name(), wanted)?;
+        set_port_right(&mut start, member);
     }
     Ok(())
 }
@@ -158,43 +166,34 @@ fn add_grandmaster<'a>(
         return Ok(());
     };
     let start = clock_start(identity, 0, clock.table);
-    if start.grandmaster.is_some() && start.grandmaster != Some(identity) {
+    if start.grandmaster.is_some() && !is_clock(start.grandmaster, identity) {
         return Ok(());
     }
-    let members = [
-        (
-            "grandmaster_priority1",
-            start.grandmaster_priority1 == Some(start.priority1),
-        ),
-        (
-            "grandmaster_class",
-            start.grandmaster_class == Some(start.clock_class),
-        ),
-        (
-            "grandmaster_accuracy",
-            start.grandmaster_accuracy == Some(start.clock_accuracy),
-        ),
-        (
-            "grandmaster_variance",
-            start.grandmaster_variance == Some(start.variance),
-        ),
-        (
-            "grandmaster_priority2",
-            start.grandmaster_priority2 == Some(start.priority2),
-        ),
-    ];
-    for (key, is_own) in members {
-        if !is_own {
+    let owns = owns_of(&start);
+    for index in 0..owns.len() {
+        if !owns[index] {
             let fault = StartError::GrandmasterDiffers;
-            add_start(
-                faults,
-                fault,
-                clock.place,
-                clock.table,
-                key,
-                Wanted::OwnGrandmaster,
-            )?;
+            let need = Need::OwnGrandmaster;
+            add_clock(faults, fault, clock, GRANDMASTER_MEMBERS[index], need)?;
         }
     }
     Ok(())
+}
+
+/// Of each member of the grandmaster, whether it is the clock's own.
+fn owns_of(start: &ClockStart) -> [bool; 5] {
+    [
+        is_octet(start.grandmaster_priority1, start.priority1),
+        is_octet(start.grandmaster_class, start.clock_class),
+        is_octet(start.grandmaster_accuracy, start.clock_accuracy),
+        is_number(start.grandmaster_variance, start.variance),
+        is_octet(start.grandmaster_priority2, start.priority2),
+    ]
+}
+
+fn is_octet(octet: Option<u8>, wanted: u8) -> bool {
+    match octet {
+        Some(octet) => octet == wanted,
+        None => false,
+    }
 }

@@ -41,6 +41,7 @@ name = "K" => name = "K-" => clock 1: name = "K-": 1 to 32 of a to z, A to Z, 0 
 aabbccfffeddee01 => aabbccfffeddee0g => clock 1 "K": identity = "aabbccfffeddee0g": sixteen hexadecimal digits, not all f, as a text
 0011223344556677/1 => 0011223344556677/65535 => session 1 "m": identity = "0011223344556677/65535": sixteen hexadecimal digits, not all f, a slash and a port from 0 to 65534, as a text
 "m"] => 1] => link 1: ends[2] = 1: the name of a session, or the name of a clock, a dot and a port
+ports = 2 => ports = 2|prio = 128 => clock 1 "K": prio = 128: no such key; the nearest is priority1
 ports = 2 => ports = 2|two_step = 1.5 => clock 1 "K": two_step = 1.5: true or false
 ports = 2 => ports = 2|[[clock.port]]|log_sync = 1 => clock 1 "K", port table 1: number is missing: a whole number from 0 to 65535
 ports = 2 => ports = 2|[[clock.port]]|number = 2|log_sinc = 1 => clock 1 "K", port table 1: log_sinc = 1: no such key; the nearest is log_sync
@@ -86,8 +87,8 @@ send m => stranger K 65536 00 => line 18: "65536": a whole number from 0 to 6553
 PRIORITY1 - - => PRIORTY1 - - => line 17: "PRIORTY1": a name that `ptpm ids` prints, or four hexadecimal digits; the nearest is PRIORITY1
 PRIORITY1 - - => PRIORITY1 x - => line 17: "x": a port from 0 to 65535, or - for none
 PRIORITY1 - - => PRIORITY1 - 0 => line 17: "0": two hexadecimal digits for each octet, or - for none
-send m|deliver 1 => #|| x|deliver 400001|send => line 20: "x": begin, send, resume, retune, deliver or stranger; the nearest is send|line 21: "400001": a whole number from 0 to 400000|line 22: "send": send SESSION
-%%|begin m => %%|%%|begin n m => line 17: "%%": begin, send, resume, retune, deliver or stranger; the nearest is send|line 18: "m": get, set or command; the nearest is get"#;
+send m|deliver 1 => #|| x|deliver 400001|send => line 20: "x": begin, send, resume, retune, deliver or stranger; the nearest is begin|line 21: "400001": a whole number from 0 to 400000|line 22: "send": send SESSION
+%%|begin m => %%|%%|begin n m => line 17: "%%": begin, send, resume, retune, deliver or stranger; the nearest is begin|line 18: "m": get, set or command; the nearest is command"#;
 
 #[test]
 fn events(rt: HostRuntime) -> Result<(), Fail> {
@@ -177,7 +178,7 @@ fn check_after_refused_memory(rt: HostRuntime) -> Result<(), Fail> {
     let alloc = rt.alloc();
     let input = b"version = 3\nx = 1\n%%\nsnd\nsend\n".as_slice();
     let wanted = "file: version = 3: a whole number from 1 to 2\n\
-        file: x = 1: no such key; the nearest is link\n\
+        file: x = 1: no such key; the nearest is version\n\
         line 4: \"snd\": begin, send, resume, retune, deliver or stranger; the nearest is send\n\
         line 5: \"send\": send SESSION\n";
     let mut out = [0; 512];
