@@ -1,5 +1,5 @@
 -- A script whose events do not happen: its first fault is the one that ends it where they do.
-use Rattle.ptpm_world.proofs.Common.{◌≡◌, ℕ, ◌+◌, List, [], ◌∷◌, false, None, Some, Ok, Err, Result, refl, sym, ap, ◌∙◌, IfSome, Option, option_map, option_or, Network, NetworkValue, RunningNetwork, network_of, described, result_err, BothKnown, HasNextFault, ReadsWhole, whole_lines, Names, names_of, Played, closed, closing, ends, event_of, from_file, in_network, is_skipped, line_fault, next_fault, played, played_by, read_as, reading, scripted_from, started, text_fault, unless_fault}
+use Rattle.ptpm_world.proofs.Common.{◌≡◌, ℕ, ◌+◌, List, [], ◌∷◌, false, None, Some, Ok, Err, Result, refl, sym, ap, ◌∙◌, IfSome, Option, option_map, option_or, Network, NetworkValue, RunningNetwork, network_of, described, result_err, BothKnown, HasNextFault, ReadsWhole, whole_lines, Names, names_of, Played, closing, event_of, in_network, is_skipped, line_fault, next_fault, played, played_by, read_as, reading, scripted_from, started, text_fault, unless_fault}
 use Rattle.ptpm_check.specs.Faults.{error_of, refusal_of}
 use Rattle.ptpm_script.specs.declared.event.Event.{Event}
 use Rattle.ptpm_script.specs.declared.event.EventError.{EventError}

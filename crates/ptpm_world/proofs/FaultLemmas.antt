@@ -40,7 +40,7 @@ on-err (Err e) P Q h k = k e h
 
 -- ---- whole lines
 
-whole_ends : (l bs : List ℕ)
+pub whole_ends : (l bs : List ℕ)
     → NoFeed l
     → whole_lines (l ++ 10 ∷ bs) ≡ (strip_carriage_return l, l) ∷ whole_lines bs
 whole_ends l bs h = λ i. zip (line_ends l bs h i) (part_ends l bs h i)
@@ -109,7 +109,7 @@ short_line n h = grind (arith, nat_tests)
 long_line : (n : ℕ) → 4096 < n → nat_lt 4096 n ≡ true
 long_line n h = lt-ltb 4096 n h
 
-size_fits : (n : ℕ) (octets : List ℕ)
+pub size_fits : (n : ℕ) (octets : List ℕ)
     → n ≤ 2000000
     → length octets ≤ 4096
     → size_fault n octets ≡ None

@@ -27,6 +27,7 @@ pub mod Answering
 pub mod Playing
 pub mod LineLemmas
 pub mod FaultLemmas
+mod LineAtHand
 pub mod StartedWorld
 pub mod Telling
 pub mod ScriptLemmas

@@ -1,14 +1,17 @@
 //! The lines of standard input.
 
-ghost use Rattle.std.specs.Prelude.{[], ◌≡◌, ◌≤◌, ◌+◌, ◌++◌, ◌∷◌, IfErr, IfOk, IfSome, IfNone, None, OnOk, OnSome, Ok, Some, false, length, option_map, true};
+ghost use Rattle.std.specs.Prelude.{[], ◌≡◌, ◌<◌, ◌≤◌, ◌+◌, ◌++◌, ◌∷◌, IfErr, IfOk, IfSome, IfNone, None, OnOk, OnSome, Ok, Some, false, length, option_map, true};
 ghost use Rattle.std.specs.Io.KnownBytes.{Consumes, IsAtEnd};
+ghost use Rattle.std.specs.Io.Buffered.{reader_buffer};
 ghost use Rattle.std.specs.Str.Lines.{strip_carriage_return};
+ghost use Rattle.memchr.specs.Find.{IsFirstByte, is_byte};
 
 use crate::octets::next_octet;
 use crate::script_error::ScriptError;
+use memchr::memchr;
 use ptpm_codec::OutOfMemory;
 use std::alloc::Global;
-use std::io::{BufReader, Read};
+use std::io::{BufRead, BufReader, Read};
 
 /// A script has at most so many lines (this project's profile).
 const LINES: u32 = 2_000_000;
@@ -64,6 +67,63 @@ impl<R: Read + Drop> Lines<R> {
             → HasNextFault (self.old.count + 1) (left_in R.remaining self.old) e) }
     {
         self.line.clear();
+        match self.line_at_hand() {
+            Some(size) if self.count < LINES => {
+                self.take_line(size)?;
+                Ok(true)
+            }
+            _ => self.read_by_octets(),
+        }
+    }
+
+    /// How many octets stand before the next line feed, where it is at hand and the line not too long.
+    fn line_at_hand(&self) -> Option<usize>
+        ensures feed { IfSome result
+            (λ size. IsFirstByte (is_byte 10) (reader_buffer self.now.reader) (Some size)) }
+        ensures short { IfSome result (λ size. size ≤ 4096) }
+    {
+        match memchr(b'\n', self.reader.buffer()) {
+            Some(size) if size <= LINE_OCTETS => Some(size),
+            _ => None,
+        }
+    }
+
+    /// Takes the next line, which is at hand, with so many octets before its line feed.
+    fn take_line(&mut self, size: usize) -> Result<(), ScriptError>
+        requires feed { IsFirstByte (is_byte 10) (reader_buffer self.old.reader) (Some size) }
+        requires short { size ≤ 4096 }
+        requires empty { length self.old.line.items ≡ 0 }
+        requires few { self.old.count < 2000000 }
+        ensures count { OnOk result (self.new.count ≡ self.old.count + 1) }
+        ensures whole { OnOk result
+            (ReadsWhole (self.old.count + 1) (left_in R.remaining self.old) true
+            self.new.line.items (left_in R.remaining self.new)) }
+        ensures fault { IfErr result (λ e. is_outside e ≡ true) }
+    {
+        let ahead = self.reader.buffer();
+        if self.line.extend_from_slice(&ahead[..size]).is_err() {
+            return Err(ScriptError::OutOfMemory);
+        }
+        self.reader.consume(size + 1);
+        self.drop_return();
+        self.count += 1;
+        Ok(())
+    }
+
+    /// The same octet by octet, however much is at hand.
+    fn read_by_octets(&mut self) -> Result<bool, ScriptError>
+        requires { length self.old.line.items ≡ 0 }
+        ensures count { result ≡ Ok true → self.new.count ≡ self.old.count + 1 }
+        ensures same { result ≡ Ok false → self.new.count ≡ self.old.count }
+        ensures whole { IfOk result
+            (λ more.
+            ReadsWhole (self.old.count + 1) (left_in R.remaining self.old) more
+            self.new.line.items (left_in R.remaining self.new)) }
+        ensures fault { IfErr result
+            (λ e.
+            is_outside e ≡ false
+            → HasNextFault (self.old.count + 1) (left_in R.remaining self.old) e) }
+    {
         match self.read_octet()? {
             None => Ok(false),
             Some(first) => {
@@ -153,7 +213,7 @@ impl<R: Read + Drop> Lines<R> {
     /// Whether the next line, its end too, is at hand, or so many octets that it is too long: reading it waits for nothing.
     pub(crate) fn has_next(&self) -> bool {
         let ahead = self.reader.buffer();
-        ahead.len() > LINE_OCTETS || ahead.contains(&b'\n')
+        ahead.len() > LINE_OCTETS || memchr(b'\n', ahead).is_some()
     }
 
     /// The line that was read last, without its end.

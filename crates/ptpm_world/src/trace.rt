@@ -1,6 +1,6 @@
 //! The trace of a script: what each event did, and how the network stands at the end.
 
-ghost use Rattle.std.specs.Prelude.{◌≡◌, ◌≢◌, IfErr, OnOk, flat_map, true};
+ghost use Rattle.std.specs.Prelude.{◌≡◌, ◌≢◌, IfErr, IfSome, OnOk, decimal, flat_map, true};
 ghost use Rattle.std.specs.Io.KnownBytes.{Appends};
 ghost use Rattle.ptpm_data.specs.Members.{HasPort};
 ghost use Rattle.ptpm_network.specs.Network.{Network};
@@ -15,12 +15,17 @@ ghost use Rattle.ptpm_world.specs.Trace.{answer_text, clock_lines, data_line, da
 use crate::script_error::ScriptError;
 use crate::took::{StepError, Took};
 use crate::world::World;
+use arrayvec::ArrayString;
+use itoa::Buffer;
 use ptpm_codec::ErrorId;
 use ptpm_data::{DataSets, Value};
 use ptpm_manager::{Outcome, Report};
 use ptpm_script::{Event, Hexadecimal};
 use std::io::Write;
 use std::{fmt, io};
+
+/// Room for what is displayed in one piece.
+const SHORT: usize = 64;
 
 /// Lets an event happen and writes its line: its number, its verb, what it did or why it was refused, whether it was the
 /// delivery of a late frame, and which frames were made.
@@ -67,7 +72,33 @@ fn write_line<W: Write>(
     ensures { OnOk result (Appends (W.contents out.old) (W.contents out.new)
         (event_text number (verb_of event.now) answer.took answer.is_late made.before made.after)) }
 {
-    writeln!(out, "{number} {} {answer}{made}", event.verb())
+    write_number(number as u64, out)?;
+    out.write_all(b" ")?;
+    out.write_all(event.verb().as_bytes())?;
+    out.write_all(b" ")?;
+    write_answer(answer, out)?;
+    write_frames(made, out)?;
+    out.write_all(b"\n")
+}
+
+/// A number in decimal.
+fn write_number<W: Write>(number: u64, out: &mut W) -> io::Result<()>
+    ensures { OnOk result (Appends (W.contents out.old) (W.contents out.new) (decimal number)) }
+{
+    let mut buffer = Buffer::new();
+    out.write_all(buffer.format(number).as_bytes())
+}
+
+/// What a value displays: in one piece where it is short, since each piece costs a writer as much again.
+fn write_shown<W: Write, D: fmt::Display>(value: &D, out: &mut W) -> io::Result<()>
+    ensures { OnOk result (IfSome (D.output value.now)
+        (Appends (W.contents out.old) (W.contents out.new))) }
+{
+    let mut text = ArrayString::<SHORT>::new();
+    match fmt::Write::write(&mut text, value) {
+        Ok(()) => out.write_all(text.as_str().as_bytes()),
+        Err(_) => out.write_fmt(value),
+    }
 }
 
 /// Whether an event is refused for want of memory.
@@ -98,21 +129,21 @@ struct Answer {
     is_late: bool,
 }
 
-impl fmt::Display for Answer {
-    ghost use Rattle.std.specs.Prelude.{Some};
-
-    ghost output = { λ a. Some (answer_text a.took a.is_late) };
-
-    fn fmt<W: fmt::Write>(&self, f: &mut fmt::Formatter<W>) -> fmt::Result {
-        match &self.took {
-            Ok(took) => {
-                if self.is_late {
-                    write!(f, "{took} late")
-                } else {
-                    write!(f, "{took}")
-                }
+fn write_answer<W: Write>(answer: Answer, out: &mut W) -> io::Result<()>
+    ensures { OnOk result (Appends (W.contents out.old) (W.contents out.new)
+        (answer_text answer.took answer.is_late)) }
+{
+    match answer.took {
+        Ok(took) => {
+            write_shown(&took, out)?;
+            if answer.is_late {
+                out.write_all(b" late")?;
             }
-            Err(error) => write!(f, "refused {error}"),
+            Ok(())
+        }
+        Err(error) => {
+            out.write_all(b"refused ")?;
+            write_shown(&error, out)
         }
     }
 }
@@ -124,18 +155,17 @@ struct MadeFrames {
     after: u32,
 }
 
-impl fmt::Display for MadeFrames {
-    ghost use Rattle.std.specs.Prelude.{Some};
-
-    ghost output = { λ made. Some (frames_text made.before made.after) };
-
-    fn fmt<W: fmt::Write>(&self, f: &mut fmt::Formatter<W>) -> fmt::Result {
-        if self.before < self.after {
-            write!(f, " frames {}-{}", self.before + 1, self.after)
-        } else {
-            Ok(())
-        }
+fn write_frames<W: Write>(made: MadeFrames, out: &mut W) -> io::Result<()>
+    ensures { OnOk result (Appends (W.contents out.old) (W.contents out.new)
+        (frames_text made.before made.after)) }
+{
+    if made.before < made.after {
+        out.write_all(b" frames ")?;
+        write_number(made.before as u64 + 1, out)?;
+        out.write_all(b"-")?;
+        write_number(made.after as u64, out)?;
     }
+    Ok(())
 }
 
 /// A line for each report, session by session.
@@ -165,12 +195,13 @@ fn write_report<W: Write>(name: &str, report: &Report, out: &mut W) -> io::Resul
     ensures { OnOk result (Appends (W.contents out.old) (W.contents out.new)
         (report_line name.now report.now)) }
 {
-    writeln!(
-        out,
-        "report {name} {} {}",
-        report.index,
-        OutcomeText(&report.outcome)
-    )
+    out.write_all(b"report ")?;
+    out.write_all(name.as_bytes())?;
+    out.write_all(b" ")?;
+    write_number(report.index, out)?;
+    out.write_all(b" ")?;
+    write_shown(&OutcomeText(&report.outcome), out)?;
+    out.write_all(b"\n")
 }
 
 /// A line for each data set of the clocks and of their ports.

@@ -1,6 +1,6 @@
 use Rattle.ptpm_world.proofs.Common.{◌<◌, ◌+◌, ◌∷◌, true, ap, arith, subst, IfNone, OnSome, option_map, Consumes, IsAtEnd, given, left_in, ReadsWhole}
 use Rattle.ptpm_world.proofs.FaultLemmas.{fault-many, whole-line, whole-none}
-use Rattle.ptpm_world.proofs.lines.Lines.read.Goals as goal
+use Rattle.ptpm_world.proofs.lines.Lines.read_by_octets.Goals as goal
 
 pub returns-in-None-clause-whole : goal.returns-in-None-clause-whole
 returns-in-None-clause-whole g c =
