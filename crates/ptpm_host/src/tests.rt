@@ -136,9 +136,9 @@ fn get_priority1(rt: HostRuntime) {
                     })
                 )
             );
-            assert_eq!(rt; room[0].port, 1);
-            assert_eq!(rt; room[0].size, 56);
-            assert_eq!(rt; &room[0].octets[..56], REPLY.as_slice());
+            assert!(rt; room[0].port == 1);
+            assert!(rt; room[0].size == 56);
+            assert!(rt; &room[0].octets[..56] == REPLY.as_slice());
             let handled = clock.handle(3, REQUEST, &mut room);
             assert!(rt; matches!(handled, Err(HandleRefusal::NoPort)));
             let mut few = [Sent::empty(); 14];
@@ -162,18 +162,12 @@ fn start_refusals(rt: HostRuntime) {
         ..settings()
     };
     let alloc = rt.alloc();
-    assert_eq!(rt; refusal(alloc, &settings(), &[], &[MANAGER]), 48);
-    assert_eq!(rt; refusal(alloc, &settings(), &[port; 9], &[MANAGER]), 49);
-    assert_eq!(rt;
-        refusal(alloc, &settings(), &[port, slow_sync], &[MANAGER; 2]),
-        99
-    );
-    assert_eq!(rt;
-        refusal(alloc, &other_grandmaster, &[port], &[MANAGER; 2]),
-        50
-    );
-    assert_eq!(rt; refusal(alloc, &settings(), &[port], &[MANAGER; 2]), 52);
-    assert_eq!(rt; refusal(alloc, &settings(), &[port], &[MANAGER; 17]), 51);
+    assert!(rt; refusal(alloc, &settings(), &[], &[MANAGER]) == 48);
+    assert!(rt; refusal(alloc, &settings(), &[port; 9], &[MANAGER]) == 49);
+    assert!(rt; refusal(alloc, &settings(), &[port, slow_sync], &[MANAGER; 2]) == 99);
+    assert!(rt; refusal(alloc, &other_grandmaster, &[port], &[MANAGER; 2]) == 50);
+    assert!(rt; refusal(alloc, &settings(), &[port], &[MANAGER; 2]) == 52);
+    assert!(rt; refusal(alloc, &settings(), &[port], &[MANAGER; 17]) == 51);
 }
 
 /// `tools/refuse_memory` refuses each request for memory in turn: the same call then answers as it would have.
@@ -211,7 +205,7 @@ fn begins(session: &mut HostedSession, action: u8, id: u16, port: u16, octets: &
 fn sends(rt: &impl Abort, session: &mut HostedSession, request: &[u8]) {
     let mut octets = [0xee; 1472];
     match session.send(&mut octets) {
-        Ok(size) if size <= 1472 => assert_eq!(rt; &octets[..size], request),
+        Ok(size) if size <= 1472 => assert!(rt; &octets[..size] == request),
         _ => assert!(rt; false, "it sends"),
     }
 }
@@ -222,7 +216,7 @@ fn sends_nothing(rt: &impl Abort, session: &mut HostedSession, room: usize, numb
     if room <= 1472 {
         match session.send(&mut octets[..room]) {
             Ok(_) => assert!(rt; false, "it sends nothing"),
-            Err(refusal) => assert_eq!(rt; send_number(refusal), number),
+            Err(refusal) => assert!(rt; send_number(refusal) == number),
         }
     }
 }
@@ -234,20 +228,20 @@ fn requests_of_a_session(rt: HostRuntime) {
         Ok(mut session) => {
             sends_nothing(&rt, &mut session, 1472, 43);
             assert!(rt; session.resume(1).is_err());
-            assert_eq!(rt; begins(&mut session, 0, 0x200b, 0, &[]), 39);
-            assert_eq!(rt; begins(&mut session, 2, 0x2005, 0, &[]), 40);
-            assert_eq!(rt; begins(&mut session, 255, 0x2005, 0, &[]), 40);
-            assert_eq!(rt; begins(&mut session, 1, 0x2005, 0, &[100]), 41);
-            assert_eq!(rt; session.issued(), 0);
-            assert_eq!(rt; begins(&mut session, 0, 0x2005, 0, &[]), 0);
+            assert!(rt; begins(&mut session, 0, 0x200b, 0, &[]) == 39);
+            assert!(rt; begins(&mut session, 2, 0x2005, 0, &[]) == 40);
+            assert!(rt; begins(&mut session, 255, 0x2005, 0, &[]) == 40);
+            assert!(rt; begins(&mut session, 1, 0x2005, 0, &[100]) == 41);
+            assert!(rt; session.issued() == 0);
+            assert!(rt; begins(&mut session, 0, 0x2005, 0, &[]) == 0);
             sends_nothing(&rt, &mut session, 1471, 34);
             sends(&rt, &mut session, REQUEST);
             sends(&rt, &mut session, REQUEST);
             sends_nothing(&rt, &mut session, 1472, 44);
-            assert_eq!(rt; begins(&mut session, 0, 0x2005, 0, &[]), 38);
+            assert!(rt; begins(&mut session, 0, 0x2005, 0, &[]) == 38);
             assert!(rt; session.resume(1).is_ok());
             sends(&rt, &mut session, REQUEST);
-            assert_eq!(rt; session.issued(), 1);
+            assert!(rt; session.issued() == 1);
         }
         Err(_) => assert!(rt; false, "it starts"),
     }
@@ -259,27 +253,27 @@ fn answers_at_a_session(rt: HostRuntime) {
     let mut octets = [0xee; 4];
     match HostedSession::start(alloc, &SESSION) {
         Ok(mut session) => {
-            assert_eq!(rt; hears(&mut session, REPLY), 13);
-            assert_eq!(rt; begins(&mut session, 0, 0x2005, 0, &[]), 0);
-            assert_eq!(rt; hears(&mut session, &REPLY[..53]), 16);
-            assert_eq!(rt; hears(&mut session, DONE), 14);
+            assert!(rt; hears(&mut session, REPLY) == 13);
+            assert!(rt; begins(&mut session, 0, 0x2005, 0, &[]) == 0);
+            assert!(rt; hears(&mut session, &REPLY[..53]) == 16);
+            assert!(rt; hears(&mut session, DONE) == 14);
             assert!(rt; matches!(session.report(&mut octets), Err(ReportRefusal::NoReport)));
-            assert_eq!(rt; hears(&mut session, REPLY), 0);
+            assert!(rt; hears(&mut session, REPLY) == 0);
             assert!(rt; matches!(session.report(&mut octets[..1]), Err(ReportRefusal::NoRoom)));
             assert!(rt; matches!(session.report(&mut octets), Ok(Told::Value(2))));
-            assert_eq!(rt; octets, [0x80, 0, 0xee, 0xee]);
-            assert_eq!(rt; begins(&mut session, 3, 0x200e, 2, &[]), 0);
+            assert!(rt; octets == [0x80, 0, 0xee, 0xee]);
+            assert!(rt; begins(&mut session, 3, 0x200e, 2, &[]) == 0);
             assert!(rt; matches!(session.report(&mut octets), Err(ReportRefusal::NoReport)));
             sends(&rt, &mut session, COMMAND);
-            assert_eq!(rt; hears(&mut session, REPLY), 12);
-            assert_eq!(rt; hears(&mut session, DONE), 0);
+            assert!(rt; hears(&mut session, REPLY) == 12);
+            assert!(rt; hears(&mut session, DONE) == 0);
             assert!(rt; matches!(session.report(&mut octets), Ok(Told::Done)));
-            assert_eq!(rt; begins(&mut session, 1, 0x2000, 0, &[]), 0);
+            assert!(rt; begins(&mut session, 1, 0x2000, 0, &[]) == 0);
             session.retune(5);
             sends(&rt, &mut session, SET);
-            assert_eq!(rt; hears(&mut session, NOT_SETABLE), 0);
+            assert!(rt; hears(&mut session, NOT_SETABLE) == 0);
             assert!(rt; matches!(session.report(&mut octets), Ok(Told::Refused(5))));
-            assert_eq!(rt; session.issued(), 3);
+            assert!(rt; session.issued() == 3);
         }
         Err(_) => assert!(rt; false, "it starts"),
     }
@@ -320,12 +314,12 @@ fn session_refusals(rt: HostRuntime) {
         target_ports: 9,
         ..SESSION
     };
-    assert_eq!(rt; session_refusal(alloc, &of_every), 53);
-    assert_eq!(rt; session_refusal(alloc, &to_every), 54);
-    assert_eq!(rt; session_refusal(alloc, &to_itself), 55);
-    assert_eq!(rt; session_refusal(alloc, &of_no_port), 48);
-    assert_eq!(rt; session_refusal(alloc, &of_nine_ports), 49);
-    assert_eq!(rt; session_refusal(alloc, &SESSION), 0);
+    assert!(rt; session_refusal(alloc, &of_every) == 53);
+    assert!(rt; session_refusal(alloc, &to_every) == 54);
+    assert!(rt; session_refusal(alloc, &to_itself) == 55);
+    assert!(rt; session_refusal(alloc, &of_no_port) == 48);
+    assert!(rt; session_refusal(alloc, &of_nine_ports) == 49);
+    assert!(rt; session_refusal(alloc, &SESSION) == 0);
 }
 
 /// As `start_after_refused_memory`, of a session's two calls that ask for memory: what is refused changes nothing.
@@ -336,17 +330,17 @@ fn session_after_refused_memory(rt: HostRuntime) {
     match HostedSession::start(alloc, &SESSION) {
         Ok(mut session) => {
             if let Err(refusal) = session.begin(1, 0x2005, 0, &[100, 0]) {
-                assert_eq!(rt; refusal, BeginError::OutOfMemory);
-                assert_eq!(rt; session.issued(), 0);
-                assert_eq!(rt; session.begin(1, 0x2005, 0, &[100, 0]), Ok(()));
+                assert!(rt; refusal == BeginError::OutOfMemory);
+                assert!(rt; session.issued() == 0);
+                assert!(rt; session.begin(1, 0x2005, 0, &[100, 0]) == Ok(()));
             }
             sends(&rt, &mut session, SET_PRIORITY1);
             if session.receive(REPLY).is_err() {
                 sends(&rt, &mut session, SET_PRIORITY1);
-                assert_eq!(rt; hears(&mut session, REPLY), 0);
+                assert!(rt; hears(&mut session, REPLY) == 0);
             }
             assert!(rt; matches!(session.report(&mut octets), Ok(Told::Value(2))));
-            assert_eq!(rt; octets, [0x80, 0]);
+            assert!(rt; octets == [0x80, 0]);
         }
         Err(_) => assert!(rt; false, "it starts"),
     }

@@ -64,7 +64,7 @@ fn observed_values_are_read_by_a_get(rt: HostRuntime) {
     match HostedClock::start(rt.alloc(), &super::settings(), &ports, &[MANAGER]) {
         Ok(mut clock) => {
             let slave = [in_state(9)];
-            assert_eq!(rt; observes(&mut clock, &current(), &slave), 0);
+            assert!(rt; observes(&mut clock, &current(), &slave) == 0);
             assert!(rt;
                 matches!(
                     clock.handle(1, GET_CURRENT, &mut room),
@@ -74,10 +74,10 @@ fn observed_values_are_read_by_a_get(rt: HostRuntime) {
                     })
                 )
             );
-            assert_eq!(rt; room[0].size, 72);
-            assert_eq!(rt; &room[0].octets[..72], CURRENT.as_slice());
-            assert_eq!(rt; state_of(&rt, &clock, 1), 9);
-            assert_eq!(rt; state_of(&rt, &clock, 2), 6);
+            assert!(rt; room[0].size == 72);
+            assert!(rt; &room[0].octets[..72] == CURRENT.as_slice());
+            assert!(rt; state_of(&rt, &clock, 1) == 9);
+            assert!(rt; state_of(&rt, &clock, 2) == 6);
         }
         Err(_) => assert!(rt; false, "it starts"),
     }
@@ -91,11 +91,11 @@ fn a_disabled_port_is_left(rt: HostRuntime) {
         Ok(mut clock) => {
             assert!(rt; clock.handle(1, COMMAND, &mut room).is_ok());
             match clock.observe(&ObservedClock::default(), &[in_state(9); 2]) {
-                Ok(left) => assert_eq!(rt; left_number(&left), 2),
+                Ok(left) => assert!(rt; left_number(&left) == 2),
                 Err(_) => assert!(rt; false, "it is taken"),
             }
-            assert_eq!(rt; state_of(&rt, &clock, 1), 9);
-            assert_eq!(rt; state_of(&rt, &clock, 2), 3);
+            assert!(rt; state_of(&rt, &clock, 1) == 9);
+            assert!(rt; state_of(&rt, &clock, 2) == 3);
         }
         Err(_) => assert!(rt; false, "it starts"),
     }
@@ -141,32 +141,22 @@ fn refused_observations(rt: HostRuntime) {
     match HostedClock::start(rt.alloc(), &super::settings(), &ports, &[MANAGER]) {
         Ok(mut clock) => {
             let disabled = in_state(3);
-            assert_eq!(rt; observes(&mut clock, &current(), &[]), 0);
-            assert_eq!(rt;
-                observes(&mut clock, &reserved_accuracy(), &[disabled; 3]),
-                33
-            );
-            assert_eq!(rt;
-                observes(&mut clock, &reserved_accuracy(), &[disabled; 2]),
-                70
-            );
-            assert_eq!(rt; observes(&mut clock, &two_leaps(), &[disabled; 2]), 88);
-            assert_eq!(rt;
-                observes(&mut clock, &itself_of_another_priority1(), &[disabled; 2]),
-                94
-            );
-            assert_eq!(rt;
+            assert!(rt; observes(&mut clock, &current(), &[]) == 0);
+            assert!(rt; observes(&mut clock, &reserved_accuracy(), &[disabled; 3]) == 33);
+            assert!(rt; observes(&mut clock, &reserved_accuracy(), &[disabled; 2]) == 70);
+            assert!(rt; observes(&mut clock, &two_leaps(), &[disabled; 2]) == 88);
+            assert!(rt; observes(&mut clock, &itself_of_another_priority1(), &[disabled; 2]) == 94);
+            assert!(rt;
                 observes(
                     &mut clock,
                     &itself_of_another_priority1(),
                     &[in_state(9); 2]
-                ),
-                50
+                ) == 50
             );
             assert!(rt; clock.handle(1, GET_CURRENT, &mut room).is_ok());
-            assert_eq!(rt; &room[0].octets[..72], CURRENT.as_slice());
-            assert_eq!(rt; state_of(&rt, &clock, 1), 6);
-            assert_eq!(rt; state_of(&rt, &clock, 2), 6);
+            assert!(rt; &room[0].octets[..72] == CURRENT.as_slice());
+            assert!(rt; state_of(&rt, &clock, 1) == 6);
+            assert!(rt; state_of(&rt, &clock, 2) == 6);
         }
         Err(_) => assert!(rt; false, "it starts"),
     }

@@ -49,13 +49,13 @@ fn a_survey_of_priority1(rt: HostRuntime) {
         Ok(mut survey) => {
             assert!(rt; matches!(survey.send(&mut octets[..1471]), Err(SendRefusal::NoRoom)));
             assert!(rt; matches!(survey.send(&mut octets), Ok(54)));
-            assert_eq!(rt; &octets[..54], ENQUIRY.as_slice());
-            assert_eq!(rt; survey.count(), 0);
-            assert_eq!(rt; surveys(&mut survey, REPLY), 0);
-            assert_eq!(rt; surveys(&mut survey, NO_SUCH_ID), 0);
-            assert_eq!(rt; surveys(&mut survey, LATER_REPLY), 27);
-            assert_eq!(rt; surveys(&mut survey, DONE), 14);
-            assert_eq!(rt; survey.count(), 2);
+            assert!(rt; &octets[..54] == ENQUIRY.as_slice());
+            assert!(rt; survey.count() == 0);
+            assert!(rt; surveys(&mut survey, REPLY) == 0);
+            assert!(rt; surveys(&mut survey, NO_SUCH_ID) == 0);
+            assert!(rt; surveys(&mut survey, LATER_REPLY) == 27);
+            assert!(rt; surveys(&mut survey, DONE) == 14);
+            assert!(rt; survey.count() == 2);
             let mut octets = [0xee; 3];
             match survey.answer(0, &mut octets) {
                 Ok(answer) => {
@@ -63,9 +63,9 @@ fn a_survey_of_priority1(rt: HostRuntime) {
                         clock: CLOCK,
                         port: 1,
                     };
-                    assert_eq!(rt; answer.source, clock);
+                    assert!(rt; answer.source == clock);
                     assert!(rt; matches!(answer.told, Told::Value(2)));
-                    assert_eq!(rt; octets, [0x80, 0, 0xee]);
+                    assert!(rt; octets == [0x80, 0, 0xee]);
                 }
                 Err(_) => assert!(rt; false, "it is told"),
             }
@@ -75,7 +75,7 @@ fn a_survey_of_priority1(rt: HostRuntime) {
                         clock: [0x02, 0x04, 0x06, 0xff, 0xfe, 0x08, 0x0a, 0x0c],
                         port: 2,
                     };
-                    assert_eq!(rt; answer.source, other);
+                    assert!(rt; answer.source == other);
                     assert!(rt; matches!(answer.told, Told::Refused(2)));
                 }
                 Err(_) => assert!(rt; false, "it is told"),
@@ -108,15 +108,15 @@ fn survey_after_refused_memory(rt: HostRuntime) {
                 let count = survey.count();
                 let first = surveys(&mut survey, datagram);
                 if first == 35 {
-                    assert_eq!(rt; survey.count(), count);
-                    assert_eq!(rt; surveys(&mut survey, datagram), 0);
+                    assert!(rt; survey.count() == count);
+                    assert!(rt; surveys(&mut survey, datagram) == 0);
                 } else {
-                    assert_eq!(rt; first, 0);
+                    assert!(rt; first == 0);
                 }
             }
-            assert_eq!(rt; survey.count(), 2);
+            assert!(rt; survey.count() == 2);
             assert!(rt; survey.answer(0, &mut octets).is_ok());
-            assert_eq!(rt; octets, [0x80, 0]);
+            assert!(rt; octets == [0x80, 0]);
         }
         Err(_) => assert!(rt; false, "it starts"),
     }

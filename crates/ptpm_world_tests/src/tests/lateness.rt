@@ -33,12 +33,30 @@ fn exchange(world: &mut World, begin: &Event, send: &Event) -> Result<(), StepEr
     Ok(())
 }
 
-/// So many exchanges, one after another.
-fn exchanges(world: &mut World, begin: &Event, send: &Event, count: u32) -> Result<(), StepError> {
+/// The session asks by this line so many times, one after another.
+fn asks(world: &mut World, alloc: Global, line: &str, count: u32) -> Result<(), Fail> {
+    let begin = read_event(alloc, line)?;
+    let send = read_event(alloc, "send m")?;
     for _ in 0..count {
-        exchange(world, begin, send)?;
+        exchange(world, &begin, &send)?;
     }
     Ok(())
+}
+
+/// Whether a delivery of a frame would be late.
+fn is_late(world: &World, frame: u32) -> bool {
+    world.is_late(frame)
+}
+
+/// Whether the clock decides this on a frame that is delivered.
+fn is_decided(world: &mut World, frame: u32, verdict: Verdict) -> bool {
+    deliver(world, frame) == Ok(Took::AtClock(verdict))
+}
+
+/// The network before anything has happened, with 1 for the manager's first sequenceId.
+fn world_from_one(alloc: Global) -> Result<World, Fail> {
+    let network = numbered_from_one(alloc)?;
+    world_of(alloc, network.as_str())
 }
 
 /// After 32,768 later requests a copy of the first is not late, and is dropped. After one more it is late: sequenceIds no
@@ -46,18 +64,13 @@ fn exchanges(world: &mut World, begin: &Event, send: &Event, count: u32) -> Resu
 #[test]
 fn half_the_number_space(rt: HostRuntime) -> Result<(), Fail> {
     let alloc = rt.alloc();
-    let network = numbered_from_one(alloc)?;
-    let mut world = world_of(alloc, network.as_str())?;
-    let get = read_event(alloc, "begin m get PRIORITY1 - -")?;
-    let send = read_event(alloc, "send m")?;
-    exchanges(&mut world, &get, &send, 32_769)?;
-    assert!(rt; !world.is_late(1));
-    let dropped = deliver(&mut world, 1);
-    assert!(rt; dropped == Ok(Took::AtClock(Verdict::DroppedOld)));
-    exchange(&mut world, &get, &send)?;
-    assert!(rt; world.is_late(1) && !world.is_late(3));
-    let accepted = deliver(&mut world, 1);
-    assert!(rt; accepted == Ok(Took::AtClock(Verdict::AnsweredNew)));
+    let mut world = world_from_one(alloc)?;
+    asks(&mut world, alloc, "begin m get PRIORITY1 - -", 32_769)?;
+    assert!(rt; !is_late(&world, 1));
+    assert!(rt; is_decided(&mut world, 1, Verdict::DroppedOld));
+    asks(&mut world, alloc, "begin m get PRIORITY1 - -", 1)?;
+    assert!(rt; is_late(&world, 1) && !is_late(&world, 3));
+    assert!(rt; is_decided(&mut world, 1, Verdict::AnsweredNew));
     Ok(())
 }
 
@@ -86,26 +99,19 @@ fn shows(alloc: Global, world: &World, first: &[u8]) -> Result<bool, Fail> {
 #[test]
 fn only_what_is_answered_new_changes_a_clock(rt: HostRuntime) -> Result<(), Fail> {
     let alloc = rt.alloc();
-    let network = numbered_from_one(alloc)?;
-    let mut world = world_of(alloc, network.as_str())?;
-    let send = read_event(alloc, "send m")?;
-    let hundred = read_event(alloc, "begin m set PRIORITY1 - 6400")?;
-    exchange(&mut world, &hundred, &send)?;
-    let fifty = read_event(alloc, "begin m set PRIORITY1 - 3200")?;
-    exchange(&mut world, &fifty, &send)?;
-    let get = read_event(alloc, "begin m get PRIORITY1 - -")?;
-    exchanges(&mut world, &get, &send, 32_768)?;
+    let mut world = world_from_one(alloc)?;
+    asks(&mut world, alloc, "begin m set PRIORITY1 - 6400", 1)?;
+    asks(&mut world, alloc, "begin m set PRIORITY1 - 3200", 1)?;
+    asks(&mut world, alloc, "begin m get PRIORITY1 - -", 32_768)?;
     assert!(rt; shows(alloc, &world, FIFTY)?);
 
     let strange = step(alloc, &mut world, STRANGE_SET)?;
     assert!(rt; strange == Ok(Took::AtClock(Verdict::AnsweredUnnumbered)));
     assert!(rt; shows(alloc, &world, FIFTY)?);
-    let refused = read_event(alloc, "begin m set CURRENT_DATA_SET - 0000")?;
-    exchange(&mut world, &refused, &send)?;
+    asks(&mut world, alloc, "begin m set CURRENT_DATA_SET - 0000", 1)?;
     assert!(rt; shows(alloc, &world, FIFTY)?);
-    assert!(rt; world.is_late(1));
-    let late = deliver(&mut world, 1);
-    assert!(rt; late == Ok(Took::AtClock(Verdict::AnsweredNew)));
+    assert!(rt; is_late(&world, 1));
+    assert!(rt; is_decided(&mut world, 1, Verdict::AnsweredNew));
     assert!(rt; shows(alloc, &world, HUNDRED)?);
     Ok(())
 }
@@ -124,9 +130,10 @@ fn past_the_wrap(rt: &impl Abort, alloc: Global, come_again: bool) -> Result<Vec
         exchange(&mut world, &asks[(later % 3) as usize], &send)?;
         if come_again && later >= 100 {
             let copy = (later - 100) * 2 + 1;
-            assert!(rt; !world.is_late(copy), "{copy}");
-            let dropped = deliver(&mut world, copy);
-            assert!(rt; dropped == Ok(Took::AtClock(Verdict::DroppedOld)), "{copy}");
+            assert!(rt;
+                !is_late(&world, copy) && is_decided(&mut world, copy, Verdict::DroppedOld),
+                "{copy}"
+            );
         }
     }
     assert!(rt; world.frames() == 131_200);

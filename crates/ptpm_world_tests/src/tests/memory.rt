@@ -1,12 +1,14 @@
 //! The calls that ask for memory: where it is refused nothing changes, and the same call then answers as it would have.
 //! `tools/refuse_memory` runs these tests with each request refused in turn; whatever they need besides is asked for again.
 
-use super::networks::{FIRST_EVENTS, ONE_CLOCK, RING, is_trace_so_far, tell};
+use super::networks::{
+    FIRST_EVENTS, ONE_CLOCK, RING, fresh_world, is_trace_so_far, network_of, tell,
+};
 use super::steps::is_only_report;
 use super::worlds::is_fresh_ring;
 use ptpm_agent::Verdict;
 use ptpm_codec::OutOfMemory;
-use ptpm_script::{Event, EventError, NetError, Network, read_event};
+use ptpm_script::{Event, EventError, NetError, read_event};
 use ptpm_world::{ScriptError, StepError, Took, World, run_script};
 use std::alloc::Global;
 use std::io::Read;
@@ -14,13 +16,13 @@ use std::process::Abort;
 use std::test::Fail;
 
 fn world_of(alloc: Global, text: &str) -> Result<World, Fail> {
-    let network = match Network::from_toml(alloc, text) {
-        Err(NetError::OutOfMemory) => Network::from_toml(alloc, text),
+    let network = match network_of(alloc, text) {
+        Err(NetError::OutOfMemory) => network_of(alloc, text),
         network => network,
     };
     let network = network?;
-    match World::new(alloc, &network) {
-        Err(OutOfMemory) => Ok(World::new(alloc, &network)?),
+    match fresh_world(alloc, &network) {
+        Err(OutOfMemory) => Ok(fresh_world(alloc, &network)?),
         Ok(world) => Ok(world),
     }
 }
@@ -67,22 +69,35 @@ fn step(
     Ok(world.step(&event))
 }
 
+/// Each of these lines, in its turn, does this.
+fn happen(
+    rt: &impl Abort,
+    alloc: Global,
+    world: &mut World,
+    rows: &[(&str, Took)],
+) -> Result<(), Fail> {
+    for row in rows {
+        assert!(rt; step(rt, alloc, world, row.0)? == Ok(row.1), "{}", row.0);
+    }
+    Ok(())
+}
+
 /// Had a refused delivery reached the clock or the session, the same one would be a repeat, or be ignored.
 #[test]
 fn step_after_refused_memory(rt: HostRuntime) -> Result<(), Fail> {
     let alloc = rt.alloc();
     let mut world = world_of(alloc, ONE_CLOCK)?;
-    let begun = step(&rt, alloc, &mut world, "begin m set PRIORITY1 - 6400")?;
-    assert!(rt; begun == Ok(Took::Fine));
-    assert!(rt; step(&rt, alloc, &mut world, "send m")? == Ok(Took::Fine));
-    let delivered = step(&rt, alloc, &mut world, "deliver 1")?;
-    assert!(rt; delivered == Ok(Took::AtClock(Verdict::AnsweredNew)));
+    let request = [
+        ("begin m set PRIORITY1 - 6400", Took::Fine),
+        ("send m", Took::Fine),
+        ("deliver 1", Took::AtClock(Verdict::AnsweredNew)),
+    ];
+    happen(&rt, alloc, &mut world, &request)?;
     assert!(rt; world.frames() == 2);
-    assert!(rt; step(&rt, alloc, &mut world, "deliver 2")? == Ok(Took::Answered));
+    happen(&rt, alloc, &mut world, &[("deliver 2", Took::Answered)])?;
     assert!(rt; is_only_report(&world, &[0x64, 0]));
-    let repeated = step(&rt, alloc, &mut world, "deliver 1")?;
-    assert!(rt; repeated == Ok(Took::AtClock(Verdict::AnsweredRepeat)));
-    Ok(())
+    let repeat = [("deliver 1", Took::AtClock(Verdict::AnsweredRepeat))];
+    happen(&rt, alloc, &mut world, &repeat)
 }
 
 /// The frames before each of four events.

@@ -1,12 +1,14 @@
 //! The networks of the tests, and what happens in them.
 
+use ptpm_codec::OutOfMemory;
 use ptpm_data::{DataSets, Value};
 use ptpm_manager::{Outcome, Report};
-use ptpm_script::{Hexadecimal, Network, read_event};
+use ptpm_script::{Hexadecimal, NetError, Network, read_event};
 use ptpm_world::{StepError, Took, World};
 use std::alloc::Global;
 use std::io;
 use std::io::Write;
+use std::process::Abort;
 use std::test::Fail;
 
 /// A clock of two ports with one manager at port 1.
@@ -75,16 +77,44 @@ ends = ["A.3", "C.1"]
 ends = ["B.2", "C.2"]
 "#;
 
+/// The network of a text, and one before anything has happened. These promise nothing, so that a test that calls them takes no
+/// clause along and stays quick to prove.
+pub fn network_of(alloc: Global, text: &str) -> Result<Network, NetError> {
+    Network::from_toml(alloc, text)
+}
+
+pub fn fresh_world(alloc: Global, network: &Network) -> Result<World, OutOfMemory> {
+    World::new(alloc, network)
+}
+
 /// The network of a text before anything has happened.
 pub fn world_of(alloc: Global, text: &str) -> Result<World, Fail> {
-    let network = Network::from_toml(alloc, text)?;
-    Ok(World::new(alloc, &network)?)
+    let network = network_of(alloc, text)?;
+    Ok(fresh_world(alloc, &network)?)
 }
 
 /// Lets the event of a line happen.
 pub fn step(alloc: Global, world: &mut World, line: &str) -> Result<Result<Took, StepError>, Fail> {
     let event = read_event(alloc, line)?;
     Ok(world.step(&event))
+}
+
+/// What a step answers, as a trace has it.
+fn answer(alloc: Global, took: Result<Took, StepError>) -> Result<String, Fail> {
+    Ok(match took {
+        Ok(took) => format!(in alloc; "{took}")?,
+        Err(reason) => format!(in alloc; "refused {reason}")?,
+    })
+}
+
+/// Each event in its turn does what its row `LINE => WHAT IT DOES` says. A table of rows is quicker to prove than a call a row.
+pub fn plays(rt: &impl Abort, alloc: Global, world: &mut World, rows: &str) -> Result<(), Fail> {
+    for row in rows.split('\n') {
+        let (line, wanted) = row.split_once(" => ").unwrap_or((row, ""));
+        let found = answer(alloc, step(alloc, world, line)?)?;
+        assert!(rt; found.as_str() == wanted, "{row}: {found}");
+    }
+    Ok(())
 }
 
 /// Writes what a network shows: the reports of the session m, and the data sets of the clock K, which have to be there.

@@ -1,100 +1,60 @@
 //! Why a step is refused.
 
-use super::networks::{ONE_CLOCK, step, world_of};
-use ptpm_agent::Verdict;
-use ptpm_codec::{Action, DecodeError, Octets};
-use ptpm_manager::{Ask, BeginError, SendError};
+use super::networks::{ONE_CLOCK, plays, world_of};
+use ptpm_codec::{Action, Octets};
+use ptpm_manager::{Ask, BeginError};
 use ptpm_script::{Event, read_event};
-use ptpm_world::{StepError, Took, World};
-use std::alloc::Global;
-use std::process::Abort;
+use ptpm_world::StepError;
 use std::test::Fail;
 
-/// The event of a line is refused for this reason.
-fn is_refused(
-    rt: &impl Abort,
-    alloc: Global,
-    world: &mut World,
-    line: &str,
-    reason: StepError,
-) -> Result<(), Fail> {
-    assert!(rt; step(alloc, world, line)? == Err(reason), "{line}");
-    Ok(())
-}
-
-/// The session does what a line says.
-fn is_fine(rt: &impl Abort, alloc: Global, world: &mut World, line: &str) -> Result<(), Fail> {
-    assert!(rt; step(alloc, world, line)? == Ok(Took::Fine), "{line}");
-    Ok(())
-}
-
-/// A GET of PRIORITY1 in the name of the manager of `ONE_CLOCK`.
-const FORGED: &str = "stranger K 1 0d1200360000\
+/// Among these a GET of PRIORITY1 in the name of the manager of `ONE_CLOCK`; thirty octets that have a clock's identity where
+/// a message has its source's, and are no message; and the same, one octet shorter.
+const NOTHING_WAS_SENT: &str = "\
+send x => refused NoSuchName
+send K => refused NoSuchName
+retune n 1 => refused NoSuchName
+stranger m 1 00 => refused NoSuchName
+stranger K 0 00 => refused NoSuchName
+stranger K 3 00 => refused NoSuchName
+deliver 0 => refused NoSuchFrame
+deliver 1 => refused NoSuchFrame
+stranger K 1 0d1200360000\
     0000000000000000000000000000\
     00112233445566770001\
     0007047f\
     aabbccfffeddee01ffff\
     01010000\
-    000100022005";
-
-/// Thirty octets that have a clock's identity where a message has its source's, and are no message.
-const NO_MESSAGE_OF_A_CLOCK: &str = "stranger K 1 00000000000000000000\
+    000100022005 => refused Forged
+stranger K 1 00000000000000000000\
     00000000000000000000\
-    aabbccfffeddee010009";
-
-/// The same, one octet shorter.
-const NO_SOURCE: &str = "stranger K 1 00000000000000000000\
+    aabbccfffeddee010009 => refused Forged
+stranger K 1 00000000000000000000\
     00000000000000000000\
-    aabbccfffeddee0100";
+    aabbccfffeddee0100 => Malformed TooShort";
 
 #[test]
 fn refused_before_anything_was_sent(rt: HostRuntime) -> Result<(), Fail> {
-    let alloc = rt.alloc();
-    let mut world = world_of(alloc, ONE_CLOCK)?;
-    let names = StepError::NoSuchName;
-    is_refused(&rt, alloc, &mut world, "send x", names)?;
-    is_refused(&rt, alloc, &mut world, "send K", names)?;
-    is_refused(&rt, alloc, &mut world, "retune n 1", names)?;
-    is_refused(&rt, alloc, &mut world, "stranger m 1 00", names)?;
-    is_refused(&rt, alloc, &mut world, "stranger K 0 00", names)?;
-    is_refused(&rt, alloc, &mut world, "stranger K 3 00", names)?;
-    let frames = StepError::NoSuchFrame;
-    is_refused(&rt, alloc, &mut world, "deliver 0", frames)?;
-    is_refused(&rt, alloc, &mut world, "deliver 1", frames)?;
-    is_refused(&rt, alloc, &mut world, FORGED, StepError::Forged)?;
-    let forged = NO_MESSAGE_OF_A_CLOCK;
-    is_refused(&rt, alloc, &mut world, forged, StepError::Forged)?;
-    let short = Verdict::Malformed(DecodeError::TooShort);
-    assert!(rt; step(alloc, &mut world, NO_SOURCE)? == Ok(Took::AtClock(short)));
-    Ok(())
+    let mut world = world_of(rt.alloc(), ONE_CLOCK)?;
+    plays(&rt, rt.alloc(), &mut world, NOTHING_WAS_SENT)
 }
+
+const BY_THE_SESSION: &str = "\
+send m => refused Idle
+resume m 1 => refused Idle
+begin m get LOG_SYNC_INTERVAL - - => refused NeedsPort
+begin m set PRIORITY1 - 64 => refused BadValue
+begin m get PRIORITY1 - - => ok
+send m => ok
+send m => ok
+send m => refused GaveUp
+begin m get PRIORITY1 - - => refused Busy
+resume m 1 => ok
+send m => ok";
 
 #[test]
 fn refused_by_the_session(rt: HostRuntime) -> Result<(), Fail> {
-    let alloc = rt.alloc();
-    let mut world = world_of(alloc, ONE_CLOCK)?;
-    let idle = StepError::Send(SendError::Idle);
-    is_refused(&rt, alloc, &mut world, "send m", idle)?;
-    is_refused(&rt, alloc, &mut world, "resume m 1", idle)?;
-    let port = StepError::Begin(BeginError::NeedsPort);
-    is_refused(
-        &rt,
-        alloc,
-        &mut world,
-        "begin m get LOG_SYNC_INTERVAL - -",
-        port,
-    )?;
-    let value = StepError::Begin(BeginError::BadValue);
-    is_refused(&rt, alloc, &mut world, "begin m set PRIORITY1 - 64", value)?;
-    is_fine(&rt, alloc, &mut world, "begin m get PRIORITY1 - -")?;
-    is_fine(&rt, alloc, &mut world, "send m")?;
-    is_fine(&rt, alloc, &mut world, "send m")?;
-    let gave_up = StepError::Send(SendError::GaveUp);
-    is_refused(&rt, alloc, &mut world, "send m", gave_up)?;
-    let busy = StepError::Begin(BeginError::Busy);
-    is_refused(&rt, alloc, &mut world, "begin m get PRIORITY1 - -", busy)?;
-    is_fine(&rt, alloc, &mut world, "resume m 1")?;
-    is_fine(&rt, alloc, &mut world, "send m")?;
+    let mut world = world_of(rt.alloc(), ONE_CLOCK)?;
+    plays(&rt, rt.alloc(), &mut world, BY_THE_SESSION)?;
     assert!(rt; world.frames() == 3);
     Ok(())
 }

@@ -1,11 +1,10 @@
 //! Events on a world, one after another, and what each of them does.
 
-use super::networks::{ONE_CLOCK, step, world_of};
+use super::networks::{ONE_CLOCK, plays, world_of};
 use ptpm_manager::{Outcome, Report, SendError};
 use ptpm_script::{Event, read_event};
-use ptpm_world::{StepError, Took, World};
+use ptpm_world::{StepError, World};
 use std::alloc::Global;
-use std::process::Abort;
 use std::test::Fail;
 
 /// The events of rows `LINE => WHAT IT DOES`.
@@ -16,24 +15,6 @@ fn schedule(alloc: Global, rows: &str) -> Result<Vec<Event>, Fail> {
         events.push(read_event(alloc, line)?)?;
     }
     Ok(events)
-}
-
-/// What a step answers, as a trace has it.
-fn answer(alloc: Global, took: Result<Took, StepError>) -> Result<String, Fail> {
-    Ok(match took {
-        Ok(took) => format!(in alloc; "{took}")?,
-        Err(reason) => format!(in alloc; "refused {reason}")?,
-    })
-}
-
-/// Each event in its turn does what its row says.
-fn plays(rt: &impl Abort, alloc: Global, world: &mut World, rows: &str) -> Result<(), Fail> {
-    for row in rows.split('\n') {
-        let (line, wanted) = row.split_once(" => ").unwrap_or((row, ""));
-        let found = answer(alloc, step(alloc, world, line)?)?;
-        assert!(rt; found.as_str() == wanted, "{row}: {found}");
-    }
-    Ok(())
 }
 
 /// Whether a report says that a request was answered by this dataField.
@@ -63,7 +44,7 @@ fn refused_events(rt: HostRuntime) -> Result<(), Fail> {
     let idle = StepError::Send(SendError::Idle);
     assert!(rt; world.run(all.as_slice()) == Err((0, idle)));
     plays(&rt, alloc, &mut world, REFUSED_EVENTS)?;
-    assert_eq!(rt; world.frames(), 0);
+    assert!(rt; world.frames() == 0);
     Ok(())
 }
 

@@ -1,32 +1,34 @@
 //! One event after another.
 
-use super::networks::{ONE_CLOCK, step, world_of};
-use ptpm_agent::Verdict;
-use ptpm_manager::{Outcome, Reason};
+use super::networks::{ONE_CLOCK, plays, world_of};
+use ptpm_manager::Outcome;
 use ptpm_script::{Event, read_event};
-use ptpm_world::{StepError, Took, World};
+use ptpm_world::{StepError, World};
 use std::alloc::Global;
 use std::test::Fail;
+
+/// A request is carried out, and answered once.
+const EXCHANGE: &str = "\
+begin m get PRIORITY1 - - => ok
+send m => ok
+deliver 1 => AnsweredNew
+deliver 2 => Answered";
+
+/// Further copies of it and of its reply.
+const COPIES: &str = "\
+deliver 1 => AnsweredRepeat
+deliver 3 => Ignored NothingAsked";
 
 /// A step that is always fine, or always out of memory, is none.
 #[test]
 fn step_succeeds_with_ample_memory(rt: HostRuntime) -> Result<(), Fail> {
     let alloc = rt.alloc();
     let mut world = world_of(alloc, ONE_CLOCK)?;
-    let begun = step(alloc, &mut world, "begin m get PRIORITY1 - -")?;
-    assert!(rt; begun == Ok(Took::Fine));
-    assert!(rt; step(alloc, &mut world, "send m")? == Ok(Took::Fine));
-    let delivered = step(alloc, &mut world, "deliver 1")?;
-    assert!(rt; delivered == Ok(Took::AtClock(Verdict::AnsweredNew)));
-    assert!(rt; step(alloc, &mut world, "deliver 2")? == Ok(Took::Answered));
+    plays(&rt, alloc, &mut world, EXCHANGE)?;
     assert!(rt; is_only_report(&world, &[0x80, 0]));
-    let repeated = step(alloc, &mut world, "deliver 1")?;
-    assert!(rt; repeated == Ok(Took::AtClock(Verdict::AnsweredRepeat)));
-    let ignored = step(alloc, &mut world, "deliver 3")?;
-    assert!(rt; ignored == Ok(Took::Ignored(Reason::NothingAsked)));
+    plays(&rt, alloc, &mut world, COPIES)?;
     assert!(rt; is_only_report(&world, &[0x80, 0]));
-    assert!(rt; step(alloc, &mut world, "retune m 1")? == Ok(Took::Fine));
-    Ok(())
+    plays(&rt, alloc, &mut world, "retune m 1 => ok")
 }
 
 /// Whether the session has one report: the first request was answered by this dataField.
@@ -61,10 +63,10 @@ fn run_succeeds_with_ample_memory(rt: HostRuntime) -> Result<(), Fail> {
     ];
     let schedule = events(alloc, &lines)?;
     assert!(rt; world.run(schedule.as_slice()) == Ok(()));
-    assert_eq!(rt; world.frames(), 2);
+    assert!(rt; world.frames() == 2);
     assert!(rt; is_only_report(&world, &[0x80, 0]));
     let refused = events(alloc, &["deliver 1", "deliver 4", "deliver 1"])?;
     assert!(rt; world.run(refused.as_slice()) == Err((1, StepError::NoSuchFrame)));
-    assert_eq!(rt; world.frames(), 3);
+    assert!(rt; world.frames() == 3);
     Ok(())
 }

@@ -1,7 +1,6 @@
 //! Worlds as they start.
 
-use super::networks::RING;
-use ptpm_script::Network;
+use super::networks::{RING, fresh_world, network_of};
 use ptpm_world::World;
 use std::process::Abort;
 use std::test::Fail;
@@ -29,7 +28,7 @@ pub fn is_fresh_ring(rt: &impl Abort, world: &World) {
 #[test]
 fn world_new_succeeds_with_ample_memory(rt: HostRuntime) -> Result<(), Fail> {
     let alloc = rt.alloc();
-    let network = Network::from_toml(alloc, RING)?;
-    is_fresh_ring(&rt, &World::new(alloc, &network)?);
+    let network = network_of(alloc, RING)?;
+    is_fresh_ring(&rt, &fresh_world(alloc, &network)?);
     Ok(())
 }
