@@ -39,6 +39,15 @@ turned_to held left b c d port datagram verdict number messages is_b is_c turned
     subst (λ (o : Option HostedClock). IsSomeAnd o (λ e. IsTurnedTo c port datagram number messages e)) (sym is_d)
     (subst (λ (x : HostedClock). IsTurnedTo x port datagram number messages d) same at_b)
 
+-- a clock that stays is where the turn led
+pub turned_still : (between left : Option HostedClock) (c : HostedClock) (port : ℕ) (datagram : List ℕ) (number : ℕ)
+    (messages : List (ℕ × List ℕ))
+    → IsSomeAnd between (λ d. IsTurnedTo c port datagram number messages d)
+    → left ≡ between
+    → IsSomeAnd left (λ d. IsTurnedTo c port datagram number messages d)
+turned_still between left c port datagram number messages turned same =
+    subst (λ (o : Option HostedClock). IsSomeAnd o (λ d. IsTurnedTo c port datagram number messages d)) (sym same) turned
+
 found : (between : Option HostedClock) (c : HostedClock) (before : DataSetsValue) (members : ChangedMembers)
     (port : ℕ) (datagram : List ℕ) (number : ℕ) (messages : List (ℕ × List ℕ))
     → IsSomeAnd between (λ d. IsTurnedTo c port datagram number messages d)

@@ -143,7 +143,7 @@ pub extern "C" fn ptpm_clock_handle(
 
 /// What `ptpm_clock_handle` does, and leaves in `members` those that have another value behind it than before: none but where
 /// the number is that of AnsweredNew. Takes no memory.
-#[tactic(auto, using(crate::proofs::Turns::changed_to, crate::proofs::Turns::none_to, ptpm_host::proofs::Behind::kept_at_first))]
+#[tactic(auto, using(crate::proofs::Turns::turned_still, crate::proofs::Turns::changed_to, crate::proofs::Turns::none_to, ptpm_host::proofs::Behind::kept_at_first))]
 #[unsafe(no_mangle)]
 pub extern "C" fn ptpm_clock_handle_changed(
     alloc: Global,

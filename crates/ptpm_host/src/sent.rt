@@ -44,8 +44,7 @@ impl Sent {
     }
 }
 
-/// Copies octets over as many others. Most messages have one of these sizes, at which LLVM makes a few moves of the copy; at any
-/// other it is a call.
+/// Copies octets over as many others. Most messages have one of these sizes, at which LLVM makes a few moves of the copy.
 #[inline(always)]
 fn copy(place: &mut [u8], octets: &[u8])
     requires { length place.old ≡ length octets.now }
@@ -55,8 +54,17 @@ fn copy(place: &mut [u8], octets: &[u8])
         54 => copy_array::<54>(place, octets),
         56 => copy_array::<56>(place, octets),
         80 => copy_array::<80>(place, octets),
-        _ => place.copy_from_slice(octets),
+        _ => copy_any(place, octets),
     }
+}
+
+/// The same of any size. It is never inlined, since its loop would take registers from the others.
+#[inline(never)]
+fn copy_any(place: &mut [u8], octets: &[u8])
+    requires { length place.old ≡ length octets.now }
+    ensures { place.new ≡ octets.now }
+{
+    place.copy_from_slice(octets);
 }
 
 /// The same of so many octets, which are read before any of them is written.
