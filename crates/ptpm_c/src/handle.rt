@@ -1,11 +1,14 @@
 //! What a host in C keeps of a clock, a session or a survey.
 
-ghost use Rattle.std.specs.Prelude.{◌≡◌, IfNone, IfSome, None, OnSome, is_some};
+ghost use Rattle.std.specs.Prelude.{◌≡◌, IfNone, IfSome, None, OnSome, Some, is_some};
+ghost use Rattle.ptpm_data.specs.Changed.{changed};
+ghost use Rattle.ptpm_host.specs.declared.clock.HostedClock.{HostedClock};
 ghost use Rattle.ptpm_c.specs.declared.kept.Hosted.TheVariants.{Clock, Nothing, Session, Survey};
 ghost use Rattle.ptpm_c.specs.Held.{clock_held, held, session_held, survey_held};
 
 use crate::keeping::Keeping;
 use crate::kept::{Hosted, Kept};
+use ptpm_data::{ChangedMembers, DataSets};
 use ptpm_host::{HostedClock, HostedSession, HostedSurvey};
 use std::alloc::Global;
 use std::mem;
@@ -56,6 +59,21 @@ impl Handle {
                 None
             }
         }
+    }
+
+    /// The members that have another value in the clock that it holds than in these data sets; none where it holds no clock.
+    pub fn changed_since(&mut self, alloc: Global, before: &DataSets) -> ChangedMembers
+        ensures changed { (c : HostedClock)
+            → clock_held self.old.keeping ≡ Some c
+            → result ≡ changed before.now c.agent.sets }
+        ensures unchanged { held self.new.keeping ≡ held self.old.keeping }
+    {
+        let Some((kept, clock)) = self.take_clock(alloc) else {
+            return ChangedMembers::NONE;
+        };
+        let changed = clock.sets().changed_since(before);
+        *self = Handle::of(kept, Hosted::Clock(clock));
+        changed
     }
 
     /// Takes the session out, in the same way.

@@ -32,6 +32,7 @@ mod survey;
 
 use crate::handle::Handle;
 use crate::kept::{Hosted, Kept};
+use ptpm_agent::Verdict;
 use ptpm_data::ChangedMembers;
 use ptpm_host::{
     ClockSettings, HostedClock, ManagerSettings, NO_CLOCK, NO_MEMORY, ObservedClock, ObservedPort,
@@ -142,7 +143,7 @@ pub extern "C" fn ptpm_clock_handle(
 
 /// What `ptpm_clock_handle` does, and leaves in `members` those that have another value behind it than before: none but where
 /// the number is that of AnsweredNew. Takes no memory.
-#[tactic(auto, using(crate::proofs::Turns::turned_to, crate::proofs::Turns::changed_to, crate::proofs::Turns::none_of_another, ptpm_host::proofs::Behind::kept_at_first))]
+#[tactic(auto, using(crate::proofs::Turns::turned_still, crate::proofs::Turns::changed_to, crate::proofs::Turns::none_to, ptpm_host::proofs::Behind::kept_at_first))]
 #[unsafe(no_mangle)]
 pub extern "C" fn ptpm_clock_handle_changed(
     alloc: Global,
@@ -180,18 +181,15 @@ pub extern "C" fn ptpm_clock_handle_changed(
 {
     *count = 0;
     *members = ChangedMembers::NONE;
-    let Some((kept, mut clock)) = handle.take_clock(alloc) else {
+    let Some((kept, clock)) = handle.take_clock(alloc) else {
         return NO_CLOCK;
     };
-    let number = match clock.handle_changed(port, datagram, sent) {
-        Ok((taken, changed)) => {
-            *count = taken.count;
-            *members = changed;
-            verdict_number(taken.verdict)
-        }
-        Err(refusal) => handle_number(refusal),
-    };
+    let before = clock.sets().copy();
     *handle = Handle::of(kept, Hosted::Clock(clock));
+    let number = ptpm_clock_handle(alloc, handle, port, datagram, sent, count);
+    if number == verdict_number(Verdict::AnsweredNew) {
+        *members = handle.changed_since(alloc, &before);
+    }
     number
 }
 
