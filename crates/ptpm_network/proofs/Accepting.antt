@@ -1,5 +1,5 @@
 -- How what was accepted of a manager, its requests and its reports go on together.
-use Rattle.ptpm_network.proofs.Common.{by_test, suc, zero, arith, ◌≡◌, ℕ, ◌<◌, ◌≤◌, ◌+◌, ◌-◌, ◌==◌, ◌&&◌, max, List, [], ◌∷◌, ◌++◌, Option, Some, None, true, false, refl, sym, ◌∙◌, ap, subst, ⊎_elim, length, length-append, cases_eq, and_parts, and_from, and_left, and_right, eqb-true, eq-eqb, ne_eqb, cond-true, cond-false, slice_get, PortIdentity, same_identity, Answer, RequestValue, answer_body, Accepted, greatest, kept_reply, Report, outcome_in, Answers, HasOneAnswer, SessionState, outcomes_kept, reports_by, reports_of, IsAsked, IsInStep, WasAccepted, get_append, get_appended}
+use Rattle.ptpm_network.proofs.Common.{by_test, suc, zero, arith, ◌≡◌, ℕ, ◌<◌, ◌≤◌, ◌+◌, ◌-◌, ◌==◌, ◌&&◌, max, List, [], ◌∷◌, ◌++◌, Option, Some, None, true, false, refl, sym, ◌∙◌, ap, subst, ⊎_elim, length, length-append, cases_eq, and_parts, and_from, and_left, and_right, eqb-true, eq-eqb, ne_eqb, cond-true, cond-false, slice_get, PortIdentity, same_identity, Answer, RequestValue, answer_body, Accepted, greatest, kept_reply, Report, outcome_in, Answers, HasOneAnswer, SessionState, outcomes_kept, reports_by, reports_of, IsAsked, IsInStep, InWindow, WasAccepted, get_append, get_appended}
 
 -- ---- one more accepted request
 
@@ -207,3 +207,14 @@ in_step-reported m ports es s k e a last busy kept one at =
           ∙ sym (outcomes_kept-more m es (length s.reports) k e a next kept one)
           ∙ ap (outcomes_kept m es) size;
     }
+
+-- ---- a copy in the window
+
+-- one of a request that was begun, where no more than 32,768 were begun since
+pub in_step-window : (m : PortIdentity) (ports : ℕ) (es : List Accepted) (s : SessionState) (k : ℕ)
+    → IsInStep m ports es s → k ≤ length s.begun → length s.begun ≤ k + 32768
+    → InWindow (greatest m es) k
+in_step-window m ports es s k at within time = record {
+  not_far_ahead = omega (arith, within, at.one_at_a_time, at.accepted_before);
+  not_far_behind = omega (arith, time, at.begun_before);
+}

@@ -1,7 +1,8 @@
 -- The frames that a clock makes of one that comes in keep the invariant.
-use Rattle.ptpm_network.proofs.Common.{by_test, arith, ◌≡◌, ℕ, ◌<◌, ◌≤◌, ◌^◌, ◌==◌, List, [], ◌∷◌, Option, Some, None, true, false, refl, sym, ◌∙◌, ap, subst, and_from, cond-true, cond-false, eq-eqb, same_Some, map, AllByRecursion, ClockIdentity, PortIdentity, canonical, Answer, ReplyValue, Heard, same_request, hops_passed, rendered, reply_message, due_messages, Accepted, History, RequestCopy, accepted_from, after_arrival, after_copy, copy_of, due_reply, greatest, joins, kept_for, kept_reply, Clock, same_identity-refl, IsSendable, IsFrame, IsOfOrigin, IsReached, arrives, delivery, reply_frames, reply_origin, AtPort, HasEnd, IsNetwork, Network, manager, peers, ports, Frame, NetworkState, Origin, ReplyTo, accepted_at_target, history, all_flat, all_made}
+use Rattle.ptpm_network.proofs.Common.{by_test, arith, ◌≡◌, ℕ, ◌<◌, ◌≤◌, ◌^◌, ◌==◌, List, [], ◌∷◌, Option, Some, None, true, false, refl, sym, ◌∙◌, ap, subst, and_from, cond-true, cond-false, eq-eqb, same_Some, map, AllByRecursion, ClockIdentity, PortIdentity, Message, canonical, Fits, action_of, is_reply, heard_of, RequestValue, Answers, IsMessage, Answer, ReplyValue, Heard, same_request, hops_passed, rendered, reply_message, due_messages, Accepted, History, RequestCopy, accepted_from, after_arrival, after_copy, copy_of, due_reply, greatest, joins, kept_for, kept_reply, Clock, same_identity-refl, IsSendable, IsFrame, IsOfOrigin, IsReached, arrives, delivery, reply_frames, reply_origin, AtPort, HasEnd, IsNetwork, Network, manager, peers, ports, Frame, NetworkState, Origin, ReplyTo, accepted_at_target, history, all_flat, all_made}
 use Rattle.ptpm_network.proofs.Arriving.{IsCopyOf, history-here}
 use Rattle.ptpm_network.proofs.Frames.{SaysKept, says_kept}
+use Rattle.ptpm_network.proofs.Messages.{answer_body-is_reply, canonical-message, reply_at, reply-fits, reply-valid}
 use Rattle.ptpm_network.proofs.Steps.{has_peers, new_frames-are}
 
 -- ---- the reply that is due is the one that is kept from then on
@@ -70,10 +71,34 @@ pub rendered-all : (P : List ℕ → Type 0) (me : ClockIdentity) (heard : Heard
 unfolding rendered
 rendered-all P me heard r ingress each a = all_made IsSendable (λ (m : ℕ × List ℕ). P m.1) _ each r.answers a
 
--- ---- the reply to a numbered copy
-
 pub small : (p n : ℕ) → p ≤ n → n ≤ 8 → p < 2 ^ 16
 small p n a b = omega arith
+
+pub reply-message : (N : Network) (c port : ℕ) (v : Message) (q : RequestValue) (r : ReplyValue) (a : Answer)
+    → IsNetwork N → HasEnd N (AtPort c port) → Fits v → q.id < 2 ^ 16 → Answers q r → IsSendable a
+    → IsMessage (canonical (reply_message (N.clock c).identity (heard_of v) r.action r.id port a))
+    (reply_at (N.clock c).identity (heard_of v) r port (hops_passed (heard_of v)) a)
+reply-message N c port v q r a n end fits id answers s =
+    let clock = n.are_clocks c end.0 in
+    let me = (N.clock c).identity in
+    canonical-message (reply_at me (heard_of v) r port (hops_passed (heard_of v)) a)
+    (reply-valid me (heard_of v) q r port (hops_passed (heard_of v)) a answers s)
+    (reply-fits me (heard_of v) q r port (hops_passed (heard_of v)) a clock.identity fits.source.clock fits.source.port fits.number
+    (small port (ports N c) end.2 clock.at_most_eight) id answers s)
+
+-- each message of a reply, of which this holds
+pub rendered-says : (P : List ℕ → Type 0) (N : Network) (c port : ℕ) (v : Message) (q : RequestValue) (r : ReplyValue)
+    → IsNetwork N → HasEnd N (AtPort c port) → Fits v → q.id < 2 ^ 16 → Answers q r
+    → ((octets : List ℕ) (u : Message) → IsMessage octets u → u.source.clock ≡ (N.clock c).identity → u.target ≡ v.source
+    → is_reply (action_of u.body) ≡ true → P octets)
+    → AllByRecursion (λ (m : ℕ × List ℕ). P m.1) (rendered (N.clock c).identity (heard_of v) r port)
+rendered-says P N c port v q r n end fits id answers each =
+    let me = (N.clock c).identity in
+    rendered-all P me (heard_of v) r port
+    (λ a s. each _ (reply_at me (heard_of v) r port (hops_passed (heard_of v)) a) (reply-message N c port v q r a n end fits id answers s) refl refl (answer_body-is_reply q r a.outcome answers))
+    answers.sendable
+
+-- ---- the reply to a numbered copy
 
 -- what the clock keeps of the copy's request, once the copy came in
 pub record KeepsDue (N : Network) (u : NetworkState) (s k : ℕ) (r : ReplyValue) : Type 0 where

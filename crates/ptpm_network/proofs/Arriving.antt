@@ -3,8 +3,9 @@ use Rattle.ptpm_network.proofs.Common.{by_test, ◌≡◌, ℕ, ◌<◌, ◌≤�
 use Rattle.std.proofs.lemmas.List.Elements.{filter_map-append}
 use Rattle.ptpm_data.specs.Reply as reply
 use Rattle.ptpm_network.proofs.Accepting.{IsAbove, JoinsOwn, in_step-joined, kept-joined, kept-le}
-use Rattle.ptpm_network.proofs.Frames.{IsHeard, SaysRequest, same_read, says_reply, says_request}
+use Rattle.ptpm_network.proofs.Frames.{IsHeard, SaysRequest, same_read, says_request}
 use Rattle.ptpm_network.proofs.Messages.{request_at}
+use Rattle.ptpm_network.proofs.Origins.{heard-true, is_copy_by}
 use Rattle.ptpm_network.proofs.Requests.{answered, kept, once}
 use Rattle.ptpm_network.proofs.Steps.{KeptStays, frames-stay}
 
@@ -24,59 +25,30 @@ pub record IsCopyOf (N : Network) (w : NetworkState) (c port : ℕ) (f : Frame) 
   pub request : copy.request ≡ says.request
   pub read : (v : Message) → message_of f.octets ≡ Some v → is_copy (N.clock c) (ports N c) v ≡ true
 
-pub action_of-answer_body : (action : Action) (id : ℕ) (o : Outcome)
-    → action_of (answer_body action id o) ≡ action
-action_of-answer_body action id (reply.Value octets) = refl
-action_of-answer_body action id reply.Done = refl
-action_of-answer_body action id (reply.Refused error) = refl
-
-copy_of-origin : (N : Network) (w : NetworkState) (c port : ℕ) (f : Frame) (o : Origin)
-    (copy : RequestCopy)
-    → f.origin ≡ o → IsNetwork N → IsReached N w → c < N.clocks → IsHeard N w f.octets o
-    → DeliversCopy (N.clock c) (ports N c) (delivery port f) copy
+pub is_copy_of : (N : Network) (w : NetworkState) (c port : ℕ) (f : Frame) (copy : RequestCopy)
+    → IsNetwork N → IsReached N w → c < N.clocks → IsHeard N w f.octets f.origin
+    → copy_of (N.clock c) (ports N c) (delivery port f) ≡ Some copy
     → IsCopyOf N w c port f copy
-copy_of-origin N w c port f (RequestOf t k) copy e n r place i d =
-    let says = says_request N w t k f.octets n r i in
-    let v : Message = request_at N t k says.domain says.hops says.request in
-    let same : d.message ≡ v = same_read f.octets d.message v says.message d.read in
-    let parts = copy_parts (N.clock c) (ports N c) d.message d.passes in
-    let m = n.managers c d.message.source place parts.known in
-    let source : manager N m.0 ≡ manager N t = m.2 ∙ ap (λ (u : Message). u.source) same in
-    let ts : m.0 ≡ t = n.sessions_apart m.0 t m.1 says.place source in
-    let is : copy_from (delivery port f) v ≡ copy = subst (λ (u : Message). copy_from (delivery port f) u ≡ copy) same d.copy in
+is_copy_of N w c port f copy n r place i e =
+    let d = delivers_copy (N.clock c) (ports N c) (delivery port f) copy e in
+    let by = is_copy_by N c (ports N c) f.origin d.message n place (heard-true N w f.octets f.origin n r i d.message d.read).1 d.passes in
+    let says = says_request N w by.session by.k f.octets n r (subst (IsHeard N w f.octets) by.origin i) in
+    let v : Message = request_at N by.session by.k says.domain says.hops says.request in
+    let is : copy_from (delivery port f) v ≡ copy =
+    subst (λ (u : Message). copy_from (delivery port f) u ≡ copy) (same_read f.octets d.message v says.message d.read) d.copy in
     record {
-      session = t;
-      k = k;
-      origin = e;
-      target = ap (λ j. (N.session j).target) (sym ts) ∙ m.3;
+      session = by.session;
+      k = by.k;
+      origin = by.origin;
+      target = by.target;
       says = says;
-      index = sym (ap (λ (x : RequestCopy). x.index) is) ∙ ap index_of e;
+      index = sym (ap (λ (x : RequestCopy). x.index) is) ∙ ap index_of by.origin;
       ingress = sym (ap (λ (x : RequestCopy). x.ingress) is);
       source = sym (ap (λ (x : RequestCopy). x.heard.source) is);
       number = sym (ap (λ (x : RequestCopy). x.heard.number) is);
       request = sym (ap (λ (x : RequestCopy). x.request) is);
       read = λ u h. subst (λ (z : Message). is_copy (N.clock c) (ports N c) z ≡ true) (same_Some d.message u (sym d.read ∙ h)) d.passes;
     }
-copy_of-origin N w c port f (ReplyTo t k) copy e n r place i d =
-    let says = says_reply N w t k f.octets n r i in
-    let same = same_read f.octets d.message _ says.message d.read in
-    let parts = copy_parts (N.clock c) (ports N c) d.message d.passes in
-    let answers : is_reply (action_of d.message.body) ≡ true =
-    ap (λ (u : Message). is_reply (action_of u.body)) same
-    ∙ ap is_reply (action_of-answer_body says.entry.reply.action says.entry.reply.id says.answer.outcome ∙ says.says.answers.action)
-    ∙ reply_action-is_reply says.entry.request.action in
-    absurd (true≢false (sym answers ∙ not-true _ parts.request))
-copy_of-origin N w c port f Neither copy e n r place i d =
-    let parts = copy_parts (N.clock c) (ports N c) d.message d.passes in
-    let m = n.managers c d.message.source place parts.known in
-    absurd ((i d.message d.read).1.no_request m.0 m.1 (sym m.2))
-
-pub is_copy_of : (N : Network) (w : NetworkState) (c port : ℕ) (f : Frame) (copy : RequestCopy)
-    → IsNetwork N → IsReached N w → c < N.clocks → IsHeard N w f.octets f.origin
-    → copy_of (N.clock c) (ports N c) (delivery port f) ≡ Some copy
-    → IsCopyOf N w c port f copy
-is_copy_of N w c port f copy n r place i e =
-    copy_of-origin N w c port f f.origin copy refl n r place i (delivers_copy (N.clock c) (ports N c) (delivery port f) copy e)
 
 -- ---- what a delivery leaves of a clock
 

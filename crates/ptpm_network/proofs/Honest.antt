@@ -1,6 +1,6 @@
 -- What holds of a running network after every list of events, whatever comes late: each frame is true to whom it is of, and
 -- clocks and sessions can send what they keep.
-use Rattle.ptpm_network.proofs.Common.{by_test, arith, map, ◌-◌, reading, Turned, all_weaker, sends_in, sent, cond-true, cond-false, IsMessage, ◌≡◌, ℕ, ◌<◌, ◌^◌, ◌==◌, List, [], Option, Some, None, Result, Ok, refl, sym, ◌∙◌, ap, subst, length, same_Some, option_map, AllByRecursion, PortIdentity, Message, canonical, same_identity, Fits, message_of, ReplyValue, RequestValue, read_reply_to, reply_to, Entry, reply_messages, RequestCopy, copy_of, delivers_copy, heard_of, request_of, Clock, State, turn, judged, reply_by, turn-message, Verdict, Answers, AreDataSets, same_identity-true, answer_origin, delivery, reply_origin, strange_frame, AtPort, AtSession, End, HasEnd, IsNetwork, Network, peers, ports, Frame, Held, held, seen, turn_frames, after_turn, Origin, RequestOf, ReplyTo, Neither, Happened, unless_refused, network_event, delivers, reaches, hears, sent_posted, with_session_value, RunningNetwork, SessionValue, initial_history, DataSetsValue, Stands, initial_state, answered, begun, due_message, received_of, request_message, Ask, ask_refusal, begin_refusal, BeginRefused, SendRefused, Refusal, Event, Begin, Send, Resume, Retune, Deliver, Stranger, IsInRange, Forged, is_forged, forged, frame_at, first_of-none, no_port, no_room, no_session, nothing_to_resume, send_refusal, IsAsked, all_append, all_get, all_made, at_place}
+use Rattle.ptpm_network.proofs.Common.{by_test, arith, map, ◌-◌, reading, Turned, all_weaker, sends_in, sent, cond-true, cond-false, IsMessage, IsForeignFrame, ◌≡◌, ℕ, ◌<◌, ◌^◌, ◌==◌, List, [], Option, Some, None, Result, Ok, refl, sym, ◌∙◌, ap, subst, length, same_Some, option_map, AllByRecursion, PortIdentity, Message, canonical, same_identity, Fits, message_of, ReplyValue, RequestValue, read_reply_to, reply_to, Entry, reply_messages, RequestCopy, copy_of, delivers_copy, heard_of, request_of, Clock, State, turn, judged, reply_by, turn-message, Verdict, Answers, AreDataSets, same_identity-true, answer_origin, delivery, reply_origin, strange_frame, AtPort, AtSession, End, HasEnd, IsNetwork, Network, peers, ports, Frame, Held, held, seen, turn_frames, after_turn, Origin, RequestOf, ReplyTo, Neither, Happened, unless_refused, network_event, delivers, reaches, hears, sent_posted, with_session_value, RunningNetwork, SessionValue, initial_history, DataSetsValue, Stands, initial_state, answered, begun, due_message, received_of, request_message, Ask, ask_refusal, begin_refusal, BeginRefused, SendRefused, Refusal, Event, Begin, Send, Resume, Retune, Deliver, Stranger, IsInRange, Forged, is_forged, forged, frame_at, first_of-none, no_port, no_room, no_session, nothing_to_resume, send_refusal, IsAsked, all_append, all_get, all_made, at_place}
 use Rattle.std.specs.FinMap.{get, insert}
 use Rattle.ptpm_manager.specs.declared.receiving.Received.{Received}
 use Rattle.ptpm_manager.specs.declared.receiving.Received.TheVariants as received
@@ -11,15 +11,17 @@ use Rattle.ptpm_agent.specs.Laws.{IsKept}
 use Rattle.ptpm_agent.specs.Turn.{kept_reply_of, next_by}
 use Rattle.ptpm_agent.proofs.Entries.{accepted_entry, get-insert_other, get-insert_same}
 use Rattle.ptpm_agent.proofs.Turns.{turn-next}
+use Rattle.ptpm_network.proofs.Answering.{rendered-says}
 use Rattle.ptpm_network.proofs.Messages.{canonical-message, request-fits, request-valid}
+use Rattle.ptpm_network.proofs.Origins.{IsCopyBy, IsTrue, IsTrueTo, foreign-true, is_copy_by, message-true}
 use Rattle.ptpm_network.proofs.Reaching.{port-exists, session-exists}
 use Rattle.ptpm_network.proofs.Refusals.{asked-not_refused, begin-not_refused, option_map-none}
 use Rattle.ptpm_network.proofs.Requests.{answered as reply-answers, kept, read_answered}
 use Rattle.ptpm_network.proofs.Steps.{has_peers}
 use Rattle.ptpm_network.proofs.Strangers.{strange-message}
-use Rattle.ptpm_network.proofs.Truth.{IsCopyBy, IsTrue, IsTrueTo, is_copy_by, message-true, passed_on-true, read-true, rendered-says, turn_frames-all}
+use Rattle.ptpm_network.proofs.Truth.{passed_on-true, turn_frames-all}
 use Rattle.ptpm_network.proofs.Turning.{turn-reads}
-use Rattle.ptpm_network.proofs.Unnumbered.{id-fits}
+use Rattle.ptpm_network.proofs.Unnumbered.{id-fits, read-foreign}
 
 -- ---- what clocks and sessions keep
 
@@ -118,7 +120,8 @@ module _ (N : Network) (n : IsNetwork N) (c port : ℕ) (end : HasEnd N (AtPort 
       → AllByRecursion (λ (m : ℕ × List ℕ). IsTrue N m.1 (answer_origin f.origin k)) (turn (N.clock c) s port f.octets).replies
   turned-true f None i e =
       subst (AllByRecursion (λ (m : ℕ × List ℕ). IsTrue N m.1 Neither)) (sym (turn-reads (N.clock c) s (delivery port f) (reading f.octets) refl e))
-      (read-true N c port s.sets f.octets f.origin (message_of f.octets) n end h.sets i refl)
+      (all_weaker (λ (m : ℕ × List ℕ). IsForeignFrame N m.1) (λ (m : ℕ × List ℕ). IsTrue N m.1 Neither) (λ m x. foreign-true N m.1 x) _
+      (read-foreign N c port s.sets f.octets f.origin (message_of f.octets) n end h.sets i refl))
   turned-true f (Some k) i e =
       let d = delivers_copy (N.clock c) (length s.sets.ports) (delivery port f) k e in
       let v : Message = d.message in

@@ -10,10 +10,10 @@ use Rattle.ptpm_network.proofs.Accepting.{in_step-begun, in_step-reported, in_st
 use Rattle.ptpm_network.proofs.Hearing.{answered-value, begun-value}
 use Rattle.ptpm_network.proofs.Honest.{IsSentBy}
 use Rattle.ptpm_network.proofs.Own.{IsLastOf, IsReplySaid, IsRequestSaid}
-use Rattle.ptpm_network.proofs.Receiving.{Takes, not_idle, takes-by}
+use Rattle.ptpm_network.proofs.Receiving.{Takes, not_idle, takes-by, takes-last, takes-own}
 use Rattle.ptpm_network.proofs.Refusals.{idle-not_waiting}
 use Rattle.ptpm_network.proofs.Steps.{unanswered-last}
-use Rattle.ptpm_network.proofs.Truth.{IsTrue, IsTrueTo}
+use Rattle.ptpm_network.proofs.Origins.{IsTrue, IsTrueTo}
 
 -- ---- the invariant of one session
 
@@ -55,11 +55,6 @@ abbrev pub reports_with : List Report → Received → List Report
 reports_with reports (received.Answered report) = reports ++ report ∷ []
 reports_with reports (received.Ignored reason) = reports
 
-same_number : (first k n : ℕ)
-    → 0 < k → k ≤ n → n ≤ k + 32768 → number_of first n ≡ number_of first k
-    → k ≡ n
-same_number first k n p le late e = omega arith
-
 -- what is said of request k is what is told of the last one, where its number is the last one's
 pub record IsToldOf (N : Network) (s : ℕ) (a : Account) (report : Report) : Type 0 where
   pub entry : Accepted
@@ -68,18 +63,21 @@ pub record IsToldOf (N : Network) (s : ℕ) (a : Account) (report : Report) : Ty
   pub one : entry.reply.answers ≡ answer ∷ []
   pub is : report ≡ report_of (length a.begun) entry answer
 
-told_of : (N : Network) (s : ℕ) (value : SessionValue) (a : Account) (k : ℕ) (octets : List ℕ) (report : Report)
-    → IsReplySaid (manager N s) (N.session s).setup.first a.accepted k octets → Takes value octets report
-    → value.setup.first ≡ (N.session s).setup.first → value.issued ≡ length a.begun
-    → greatest (manager N s) a.accepted ≤ length a.begun → length a.begun ≤ k + 32768
+told_of : (N : Network) (s : ℕ) (value : SessionValue) (a : Account) (octets : List ℕ) (o : Origin) (report : Report)
+    → IsNetwork N → s < N.sessions → (takes : Takes value octets report) → IsTrueTo N takes.message o → IsSaid N s a octets o
+    → ((k : ℕ) → o ≡ ReplyTo s k → length a.begun ≤ k + 32768)
+    → value.setup ≡ (N.session s).setup → value.issued ≡ length a.begun
+    → greatest (manager N s) a.accepted ≤ length a.begun
     → IsToldOf N s a report
-told_of N s value a k octets report said takes first issued most time =
-    let says = said.says takes.message takes.read in
+told_of N s value a octets o report n place takes i says time setup issued most =
+    let own = takes-own N s value octets o report n place setup takes i in
+    let k = own.0 in
+    let said : IsReplySaid (manager N s) (N.session s).setup.first a.accepted k octets = subst (IsSaid N s a octets) own.1 says refl in
+    let told = said.says takes.message takes.read in
     let within : k ≤ length a.begun = le_trans (kept-le (manager N s) k a.accepted said.entry said.kept) most in
-    let number : number_of (N.session s).setup.first (length a.begun) ≡ number_of (N.session s).setup.first k =
-    ap (λ f. number_of f (length a.begun)) (sym first) ∙ ap (number_of value.setup.first) (sym issued)
-    ∙ sym (eqb-true takes.message.number (number_of value.setup.first value.issued) takes.accepted.number) ∙ says.0 in
-    let last : k ≡ length a.begun = same_number (N.session s).setup.first k (length a.begun) said.positive within time number in
+    let last : k ≡ length a.begun =
+    takes-last (N.session s).setup.first k value octets report takes (ap (λ (x : Setup). x.first) setup) told.0 said.positive
+    (subst (λ b. k ≤ b) (sym issued) within) (subst (λ b. b ≤ k + 32768) (sym issued) (time k own.1)) ∙ issued in
     record {
       entry = said.entry;
       kept = ap (λ i. kept_reply (manager N s) i a.accepted) (sym last) ∙ said.kept;
@@ -87,30 +85,8 @@ told_of N s value a k octets report said takes first issued most time =
       one = said.one;
       is = sym takes.is
           ∙ ap (λ i. record { index = i; outcome = outcome_in takes.message.body }) issued
-          ∙ ap (λ x. record { index = length a.begun; outcome = x }) says.1;
+          ∙ ap (λ x. record { index = length a.begun; outcome = x }) told.1;
     }
-
--- a session takes nothing for its answer but a reply to itself
-told_by_own : (N : Network) (s : ℕ) (value : SessionValue) (a : Account) (octets : List ℕ) (o : Origin) (report : Report)
-    → IsNetwork N → s < N.sessions → (takes : Takes value octets report) → IsTrueTo N takes.message o → IsSaid N s a octets o
-    → ((k : ℕ) → o ≡ ReplyTo s k → length a.begun ≤ k + 32768)
-    → value.setup ≡ (N.session s).setup → value.issued ≡ length a.begun
-    → greatest (manager N s) a.accepted ≤ length a.begun
-    → IsToldOf N s a report
-told_by_own N s value a octets (RequestOf t k) report n place takes i says time setup issued most =
-    absurd (true≢false (sym takes.accepted.reply ∙ i.request))
-told_by_own N s value a octets (ReplyTo t k) report n place takes i says time setup issued most =
-    let target : manager N t ≡ manager N s =
-    sym i.target ∙ same_identity-true takes.message.target value.setup.me takes.accepted.target ∙ ap (λ (x : Setup). x.me) setup in
-    let ts : t ≡ s = n.sessions_apart t s i.place place target in
-    told_of N s value a k octets report (says ts) takes (ap (λ (x : Setup). x.first) setup) issued most (time k (ap (λ j. ReplyTo j k) ts))
-told_by_own N s value a octets Neither report n place takes i says time setup issued most =
-    let session = n.are_sessions s place in
-    let clock : takes.message.source.clock ≡ value.setup.target = same_clock-true takes.message.source.clock value.setup.target
-    (and_parts (same_clock takes.message.source.clock value.setup.target) (is_from_asked_port value.unanswered takes.message.source.port) takes.accepted.source).0 in
-    absurd (i.no_reply (N.session s).target s session.exists place
-    (clock ∙ ap (λ (x : Setup). x.target) setup ∙ session.target)
-    (same_identity-true takes.message.target value.setup.me takes.accepted.target ∙ ap (λ (x : Setup). x.me) setup))
 
 module _ (N : Network) (s : ℕ) (value : SessionValue) (reports : List Report) (clock : State) (frames : List Held) (a : Account) (at : IsOwn N s value reports clock frames a) where
   pub told : length reports ≤ length a.begun
@@ -196,5 +172,5 @@ module _ (N : Network) (s : ℕ) (value : SessionValue) (reports : List Report) 
   own-hears octets o (received.Answered report) n place i says time e =
       let takes = takes-by value octets report (reading octets) refl e in
       own-answered report takes.accepted.waiting
-      (told_by_own N s value a octets o report n place takes (i takes.message takes.read).1 says time
+      (told_of N s value a octets o report n place takes (i takes.message takes.read).1 says time
       (ap (λ (x : SessionValue). x.setup) at.value_is) (ap (λ (x : SessionValue). x.issued) at.value_is) at.step.begun_before)

@@ -18,7 +18,7 @@ use Rattle.ptpm_network.proofs.Reaching.{port-exists, session-exists}
 use Rattle.ptpm_network.proofs.Refusals.{begin-not_refused, option_map-none}
 use Rattle.ptpm_network.proofs.Serving.{Own, comes_own, own-turned}
 use Rattle.ptpm_network.proofs.Strangers.{strange-message}
-use Rattle.ptpm_network.proofs.Truth.{IsTrue}
+use Rattle.ptpm_network.proofs.Origins.{IsTrue}
 
 -- ---- what is in time
 

@@ -9,8 +9,8 @@ use Rattle.ptpm_agent.proofs.Entries.{accepted_entry, get-insert_other}
 use Rattle.ptpm_agent.proofs.Turns.{is_copy-new}
 use Rattle.ptpm_network.specs.ByManager.{Account, with_carried}
 use Rattle.ptpm_network.specs.CarriedOut.{carried_at}
-use Rattle.ptpm_network.proofs.Accepting.{in_step-joined, kept-joined, kept-le}
-use Rattle.ptpm_network.proofs.Answering.{rendered-one}
+use Rattle.ptpm_network.proofs.Accepting.{in_step-joined, in_step-window, kept-joined, kept-le}
+use Rattle.ptpm_network.proofs.Answering.{rendered-one, reply-message}
 use Rattle.ptpm_network.proofs.Arriving.{Gains, StaysOrGains}
 use Rattle.ptpm_network.proofs.Frames.{sendable-one}
 use Rattle.ptpm_network.proofs.Honest.{IsHonest}
@@ -18,7 +18,8 @@ use Rattle.ptpm_network.proofs.Messages.{IsPassedOn}
 use Rattle.ptpm_network.proofs.Own.{ComesOwn, IsLastOf, IsReplySaid, IsRequestSaid, Replied, accepted_after, does, turns_own}
 use Rattle.ptpm_network.proofs.Owned.{IsOwn, IsOwnFrame, IsSaid, said-stays, state_of}
 use Rattle.ptpm_network.proofs.Requests.{answered as reply-answers, once}
-use Rattle.ptpm_network.proofs.Truth.{IsTrue, is_copy_by, passed_on-says, reply-message, turn_frames-all}
+use Rattle.ptpm_network.proofs.Origins.{IsTrue, is_copy_by}
+use Rattle.ptpm_network.proofs.Truth.{passed_on-says, turn_frames-all}
 
 abbrev pub Own : Network → ℕ → RunningNetwork → Account → Type 0
 Own N s r a = IsOwn N s (r.session s) (r.reports s) (r.clock (N.session s).target) r.frames a
@@ -75,11 +76,6 @@ entries-others m c s v verdicts.AnsweredNew other = get-insert_other s.entries v
 entries-others m c s v _ other = refl
 
 -- ---- the session's target takes a turn
-
-window-of : (g k begun reports : ℕ)
-    → k ≤ begun → begun ≤ reports + 1 → reports ≤ g → g ≤ begun → begun ≤ k + 32768
-    → InWindow g k
-window-of g k begun reports a b d e l = record { not_far_ahead = omega arith; not_far_behind = omega arith }
 
 within_begun : (k n : ℕ) → 0 < k → k - 1 < n → k ≤ n
 within_begun k n p h = omega arith
@@ -232,7 +228,7 @@ module _ (N : Network) (n : IsNetwork N) (s : ℕ) (place : s < N.sessions) (r :
         positive = own.positive;
         number = says.0;
         begun_as = own.begun_as ∙ ap Some (sym says.1);
-        window = window-of (greatest (manager N s) a.accepted) k (length a.begun) (length (r.reports s)) within at.step.one_at_a_time at.step.accepted_before at.step.begun_before time;
+        window = in_step-window (manager N s) (ports N (N.session s).target) a.accepted (state_of (r.session s) (r.reports s) a) k at.step within time;
         step = at.step;
         last = at.last;
         answers = reply-answers (request_of v) ((N.clock c).rights v.source) (ports N c) (r.clock c).sets clock.sets;
