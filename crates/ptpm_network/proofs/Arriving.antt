@@ -1,7 +1,6 @@
 -- What a delivery at a clock does to what the clock accepted.
-use Rattle.ptpm_network.proofs.Common.{by_test, ◌≡◌, ℕ, ◌<◌, ◌≤◌, ◌-◌, ◌==◌, nat_lt, List, [], ◌∷◌, ◌++◌, Option, Some, None, true, false, refl, sym, ◌∙◌, ap, subst, ⊎_elim, ◌⊎◌, inl, inr, length, and_parts, cond-true, cond-false, eq-eqb, eqb-true, ltb-true, not-true, true≢false, same_Some, cons_option, slice_get, PortIdentity, Action, Message, same_identity, action_of, is_reply, message_of, Outcome, RequestValue, answer_body, Accepted, Delivery, History, RequestCopy, accepted_from, after_arrival, after_copy, applied_once, copies, initial_history, copy_from, copy_of, greatest, is_copy, joined, joins, kept_reply, Clock, DeliversCopy, applied_once-ports, delivers_copy, same_identity-true, copy_parts, number_of, AreDataSets, IsForOne, IsInStep, IsReached, arrives, delivery, index_of, IsNetwork, Network, manager, ports, Frame, NetworkState, Origin, RequestOf, ReplyTo, Neither, accepted_at_target, copies_at, history, reply_action-is_reply, with_place-other, with_place-same}
+use Rattle.ptpm_network.proofs.Common.{by_test, ◌≡◌, ℕ, ◌<◌, ◌≤◌, ◌-◌, ◌==◌, nat_lt, List, [], ◌∷◌, ◌++◌, Option, Some, None, true, false, refl, sym, ◌∙◌, ap, subst, ⊎_elim, ◌⊎◌, inl, inr, length, and_parts, cond-true, cond-false, eq-eqb, eqb-true, ltb-true, same_Some, cons_option, slice_get, PortIdentity, Message, same_identity, message_of, RequestValue, Accepted, Delivery, History, RequestCopy, accepted_from, after_arrival, after_copy, applied_once, copies, initial_history, copy_from, copy_of, greatest, is_copy, joined, joins, kept_reply, Clock, applied_once-ports, delivers_copy, same_identity-true, number_of, AreDataSets, IsForOne, IsInStep, IsReached, arrives, delivery, index_of, IsNetwork, Network, manager, ports, Frame, NetworkState, SessionState, RequestOf, accepted_at_target, copies_at, history, with_place-other, with_place-same}
 use Rattle.std.proofs.lemmas.List.Elements.{filter_map-append}
-use Rattle.ptpm_data.specs.Reply as reply
 use Rattle.ptpm_network.proofs.Accepting.{IsAbove, JoinsOwn, in_step-joined, kept-joined, kept-le}
 use Rattle.ptpm_network.proofs.Frames.{IsHeard, SaysRequest, same_read, says_request}
 use Rattle.ptpm_network.proofs.Messages.{request_at}
@@ -16,7 +15,7 @@ pub record IsCopyOf (N : Network) (w : NetworkState) (c port : ℕ) (f : Frame) 
   pub k : ℕ
   pub origin : f.origin ≡ RequestOf session k
   pub target : (N.session session).target ≡ c
-  pub says : SaysRequest N w session k f.octets
+  pub says : SaysRequest N session k (w.session session).begun f.octets
   -- the parts of the copy
   pub index : copy.index ≡ k
   pub ingress : copy.ingress ≡ port
@@ -145,6 +144,23 @@ pub record Gains (m : PortIdentity) (begun : List RequestValue) (new old : List 
 abbrev pub StaysOrGains : PortIdentity → List RequestValue → List Accepted → List Accepted → Type 0
 StaysOrGains m begun new old = (new ≡ old) ⊎ Gains m begun new old
 
+pub kept-gained : (m : PortIdentity) (begun : List RequestValue) (new old : List Accepted)
+    → StaysOrGains m begun new old → (k : ℕ) (e : Accepted)
+    → kept_reply m k old ≡ Some e
+    → kept_reply m k new ≡ Some e
+kept-gained m begun new old gains k e h = ⊎_elim
+    (λ (q : new ≡ old). ap (kept_reply m k) q ∙ h)
+    (λ (g : Gains m begun new old). ap (kept_reply m k) g.is ∙ kept-joined m old g.entry k g.above (kept-le m k old e h) ∙ h)
+    gains
+
+pub step-gained : (m : PortIdentity) (p : ℕ) (new old : List Accepted) (state : SessionState)
+    → StaysOrGains m state.begun new old → IsInStep m p old state
+    → IsInStep m p new state
+step-gained m p new old state gains at = ⊎_elim
+    (λ (q : new ≡ old). subst (λ es. IsInStep m p es state) (sym q) at)
+    (λ (g : Gains m state.begun new old). subst (λ es. IsInStep m p es state) (sym g.is) (in_step-joined m p old g.entry state g.above g.own at))
+    gains
+
 joins-own : (N : Network) (w : NetworkState) (c port : ℕ) (f : Frame)
     → IsReached N w → c < N.clocks → (j : JoinsAt N w c port f)
     → JoinsOwn (manager N j.of.session) (w.session j.of.session).begun
@@ -189,23 +205,13 @@ module _ (N : Network) (w : NetworkState) (c port : ℕ) (f : Frame) (n : IsNetw
 
 module _ (N : Network) (w : NetworkState) (c port : ℕ) (f : Frame) (n : IsNetwork N) (r : IsReached N w) (place : c < N.clocks) where
   pub kept-stays : IsHeard N w f.octets f.origin → KeptStays N w (arrives w c (delivery port f))
-  kept-stays i t k e exists h = ⊎_elim
-      (λ (q : accepted_at_target N (arrives w c (delivery port f)) t ≡ accepted_at_target N w t). ap (kept_reply (manager N t) k) q ∙ h)
-      (λ (g : Gains (manager N t) (w.session t).begun (accepted_at_target N (arrives w c (delivery port f)) t) (accepted_at_target N w t)).
-      ap (kept_reply (manager N t) k) g.is
-      ∙ kept-joined (manager N t) (accepted_at_target N w t) g.entry k g.above (kept-le (manager N t) k (accepted_at_target N w t) e h)
-      ∙ h)
-      (gains N w c port f n r place i t exists)
+  kept-stays i t k e exists h =
+      kept-gained (manager N t) (w.session t).begun (accepted_at_target N (arrives w c (delivery port f)) t) (accepted_at_target N w t) (gains N w c port f n r place i t exists) k e h
 
   pub arrives-reached : IsHeard N w f.octets f.origin → IsReached N (arrives w c (delivery port f))
   arrives-reached i = record {
-    sessions = λ t exists. ⊎_elim
-        (λ (q : accepted_at_target N (arrives w c (delivery port f)) t ≡ accepted_at_target N w t).
-        subst (λ es. IsInStep (manager N t) (ports N (N.session t).target) es (w.session t)) (sym q) (r.sessions t exists))
-        (λ (g : Gains (manager N t) (w.session t).begun (accepted_at_target N (arrives w c (delivery port f)) t) (accepted_at_target N w t)).
-        subst (λ es. IsInStep (manager N t) (ports N (N.session t).target) es (w.session t)) (sym g.is)
-        (in_step-joined (manager N t) (ports N (N.session t).target) (accepted_at_target N w t) g.entry (w.session t) g.above g.own (r.sessions t exists)))
-        (gains N w c port f n r place i t exists);
+    sessions = λ t exists.
+        step-gained (manager N t) (ports N (N.session t).target) (accepted_at_target N (arrives w c (delivery port f)) t) (accepted_at_target N w t) (w.session t) (gains N w c port f n r place i t exists) (r.sessions t exists);
     clocks = clocks-after N w c port f n r place i;
     frames = frames-stay N w (arrives w c (delivery port f)) (λ s j q e. e) (kept-stays i) w.frames r.frames;
   }

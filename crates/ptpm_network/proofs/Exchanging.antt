@@ -114,7 +114,7 @@ IsDueTo c h x = (r : ReplyValue) × (due_reply c h x ≡ Some r)
 
 -- the parts of a copy of the last request
 pub record IsLatestCopy (N : Network) (w : NetworkState) (s : ℕ) (octets : List ℕ) (x : RequestCopy) : Type 0 where
-  pub says : SaysRequest N w s (issued w s) octets
+  pub says : SaysRequest N s (issued w s) (w.session s).begun octets
   pub source : x.heard.source ≡ manager N s
   pub index : x.index ≡ issued w s
   pub request : x.request ≡ says.request

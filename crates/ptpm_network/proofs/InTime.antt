@@ -1,5 +1,5 @@
 -- A copy that is not late lies in the window of its manager.
-use Rattle.ptpm_network.proofs.Common.{by_test, arith, ◌≡◌, ℕ, ◌<◌, ◌≤◌, ◌+◌, ◌==◌, List, [], ◌∷◌, ◌++◌, Option, Some, None, false, refl, sym, ◌∙◌, ap, subst, length, eqb-true, ltb-false, append-nil, AllByRecursion, cons_option, first_of-none, option_or-none, PortIdentity, InWindow, initial_clock_state, turns, Delivery, History, RequestCopy, after_copy, applied_once, initial_history, copy_of, greatest, Clock, number_of, AreNumbered, IsInTime, IsInWindow, IsNumbered, KeepsWindow, sets_once, Event, Begin, Deliver, IsInRange, Refusal, Resume, Retune, Send, Stranger, frame_at, refusal, no_port, forged, no_room, is_forged, Forged, IsFrame, IsReached, AreInTime, arrives, delivered, delivered_at, delivery, happens, is_late_delivery, is_late_frame, run, step, step_by, strange_frame, AtPort, AtSession, End, HasEnd, IsNetwork, Network, manager, ports, AreFirsts, Frame, NetworkState, Origin, RequestOf, copies_at, initial_state, accepted_at_target, history, is_late, all_append}
+use Rattle.ptpm_network.proofs.Common.{by_test, ◌≡◌, ℕ, ◌<◌, ◌==◌, List, [], ◌∷◌, ◌++◌, Option, Some, None, false, refl, sym, ◌∙◌, ap, subst, eqb-true, ltb-false, append-nil, AllByRecursion, cons_option, first_of-none, option_or-none, PortIdentity, InWindow, initial_clock_state, turns, Delivery, History, RequestCopy, after_copy, applied_once, initial_history, copy_of, greatest, Clock, number_of, AreNumbered, IsInTime, IsInWindow, IsNumbered, KeepsWindow, sets_once, Event, Begin, Deliver, IsInRange, Refusal, Resume, Retune, Send, Stranger, frame_at, refusal, no_port, forged, no_room, is_forged, Forged, IsFrame, IsReached, AreInTime, arrives, delivered, delivered_at, delivery, happens, is_late_delivery, is_late_frame, run, step, step_by, strange_frame, AtPort, AtSession, End, HasEnd, IsNetwork, Network, manager, ports, AreFirsts, Frame, NetworkState, Origin, RequestOf, copies_at, initial_state, accepted_at_target, history, is_late, all_append}
 use Rattle.ptpm_network.proofs.Accepting.{in_step-window}
 use Rattle.ptpm_network.proofs.Arriving.{IsCopyOf, copies-elsewhere, copies-here, is_copy_of}
 use Rattle.ptpm_network.proofs.Frames.{IsHeard, heard-frame}

@@ -1,5 +1,5 @@
 -- Every event keeps the invariant, and so it holds after every schedule.
-use Rattle.ptpm_network.proofs.Common.{by_test, arith, ◌≡◌, ℕ, ◌<◌, ◌≤◌, ◌-◌, ◌^◌, ◌==◌, ◌&&◌, nat_lt, not, List, [], ◌∷◌, Option, Some, None, true, refl, sym, ◌∙◌, ap, subst, length, and_parts, cond-true, cond-false, eqb-true, eqb-false, leb-true, ltb-true, not-false, not-true, same_Some, nat_le, AllByRecursion, first_of-none, option_or-none, Message, message_of, has_port, Answer, Accepted, kept_reply, Ask, Report, ask_refusal, outcome_in, begin_refusal, BeginRefused, Begin, Deliver, Event, Forged, IsInRange, NoSuchName, Refusal, Resume, Retune, Send, Stranger, begin_refused, forged, frame_at, is_forged, no_port, no_room, no_session, refusal, IsAsked, IsFrame, IsOfOrigin, IsReached, delivered, delivered_at, happens, is_answer, report_from, reported, run, step, step_by, strange_frame, told_by, with_session, AtPort, AtSession, End, HasEnd, IsNetwork, Network, manager, ports, Frame, NetworkState, Origin, RequestOf, ReplyTo, Neither, SessionState, accepted_at_target, initial_state, is_idle, issued, session_value, all_get, get_append, le_trans}
+use Rattle.ptpm_network.proofs.Common.{by_test, arith, ◌≡◌, ℕ, ◌<◌, ◌≤◌, ◌^◌, ◌==◌, ◌&&◌, nat_lt, not, List, [], ◌∷◌, Option, Some, None, true, refl, sym, ◌∙◌, ap, subst, length, and_parts, cond-true, cond-false, eqb-true, eqb-false, leb-true, ltb-true, not-false, not-true, same_Some, nat_le, AllByRecursion, first_of-none, option_or-none, Message, message_of, has_port, Answer, Accepted, kept_reply, Ask, Report, ask_refusal, outcome_in, begin_refusal, BeginRefused, Begin, Deliver, Event, Forged, IsInRange, NoSuchName, Refusal, Resume, Retune, Send, Stranger, begin_refused, forged, frame_at, is_forged, no_port, no_room, no_session, refusal, IsAsked, IsFrame, IsOfOrigin, IsReached, delivered, delivered_at, happens, is_answer, report_from, reported, run, step, step_by, strange_frame, told_by, with_session, AtPort, AtSession, End, HasEnd, IsNetwork, Network, manager, ports, Frame, NetworkState, Origin, RequestOf, ReplyTo, Neither, SessionState, accepted_at_target, initial_state, is_idle, issued, session_value, frame_at-all, get_append, le_trans}
 use Rattle.ptpm_manager.specs.Ask as ask
 use Rattle.ptpm_network.proofs.Accepting.{in_step-begun, in_step-reported, report_of}
 use Rattle.ptpm_network.proofs.Frames.{heard-frame, says_reply}
@@ -88,9 +88,7 @@ delivered_at-reached N w f (AtSession s) q n r i h = reported-reached N w s f (r
 
 module _ (N : Network) (w : NetworkState) (k : ℕ) where
   pub frame_at-is : (f : Frame) → IsReached N w → frame_at w.frames k ≡ Some f → IsFrame N w f
-  frame_at-is f r e = by_test (k == 0)
-      (λ y. let none : None ≡ Some f = sym (cond-true _ _ _ y) ∙ e in absurd (cc))
-      (λ n. all_get (IsFrame N w) w.frames (k - 1) f r.frames (sym (cond-false _ _ _ n) ∙ e))
+  frame_at-is f r e = frame_at-all (IsFrame N w) w.frames k f r.frames e
 
   delivered-reached : (o : Option Frame)
       → IsNetwork N → IsReached N w → frame_at w.frames k ≡ o

@@ -1,5 +1,5 @@
 -- A session tells the answer to its request by octets as the machine tells it by origins.
-use Rattle.ptpm_network.proofs.Common.{by_test, arith, ◌≡◌, ℕ, ◌<◌, ◌≤◌, ◌+◌, ◌==◌, ◌&&◌, not, List, [], ◌∷◌, Option, Some, None, Result, Ok, Err, Bool, true, false, refl, sym, ◌∙◌, ap, subst, length, and_from, and_parts, cond-true, cond-false, eq-eqb, eqb-true, ltb-false, not-false, not-true, or_left, or_right, true≢false, false≢true, same_Some, is_some, unwrap_or, AllByRecursion, first_of-none, DecodeError, PortIdentity, Action, Message, every_port, same_clock, same_identity, action_of, id_of, is_reply, message_of, reading, is_of_port, Answer, Outcome, reply_action, answer_body, same_identity-refl, same_identity-true, same_clock-refl, same_clock-true, message_of-reading, reading-message_of, Report, first_of, answer_by, answer_to, is_answered_by, is_content, is_from_asked_port, is_from_target, is_in_domain, reason_of, received_of, outcome_in, SessionValue, is_waiting, number_of, Event, IsInRange, frame_at, IsOfOrigin, IsReached, is_answer, report_from, run, told_by, AtSession, HasEnd, IsNetwork, Network, SessionStart, manager, Frame, NetworkState, Origin, RequestOf, ReplyTo, Neither, SessionState, initial_state, is_idle, is_late, issued, session_value, unanswered, reply_action-is_reply}
+use Rattle.ptpm_network.proofs.Common.{by_test, arith, ◌≡◌, ℕ, ◌<◌, ◌≤◌, ◌+◌, ◌==◌, ◌&&◌, not, List, [], ◌∷◌, Option, Some, None, Result, Ok, Err, Bool, true, false, refl, sym, ◌∙◌, ap, subst, length, and_from, and_parts, cond-true, cond-false, eq-eqb, eqb-true, ltb-false, not-false, not-true, or_left, or_right, true≢false, false≢true, is_some, unwrap_or, AllByRecursion, first_of-none, DecodeError, PortIdentity, Action, Message, every_port, same_clock, same_identity, action_of, id_of, is_reply, message_of, reading, is_of_port, Answer, Outcome, reply_action, answer_body, same_identity-refl, same_identity-true, same_clock-refl, same_clock-true, message_of-reading, reading-message_of, Report, first_of, answer_by, answer_to, is_answered_by, is_content, is_from_asked_port, is_from_target, is_in_domain, reason_of, received_of, outcome_in, SessionValue, is_waiting, number_of, Event, IsInRange, frame_at, IsOfOrigin, IsReached, is_answer, report_from, run, told_by, AtSession, HasEnd, IsNetwork, Network, SessionStart, manager, Frame, NetworkState, Origin, RequestOf, ReplyTo, Neither, SessionState, accepted_at_target, initial_state, is_idle, is_late, issued, session_value, unanswered}
 use Rattle.ptpm_codec.specs.declared.message.Action.TheVariants as actions
 use Rattle.ptpm_data.specs.Reply as reply
 use Rattle.ptpm_manager.specs.declared.receiving.Reason.{Reason}
@@ -79,12 +79,12 @@ same_answer : (a b : Answer) → a ∷ [] ≡ b ∷ [] → a ≡ b
 same_answer a b e = cc
 
 abbrev message_said : (N : Network) (w : NetworkState) (s k : ℕ) (octets : List ℕ)
-    → SaysReply N w s k octets
+    → SaysReply N s k (w.session s).begun (accepted_at_target N w s) octets
     → Message
 message_said N w s k octets says = reply_at (N.session s).setup.target says.heard says.entry.reply says.ingress says.hops says.answer
 
 asked-port : (N : Network) (w : NetworkState) (s k : ℕ) (octets : List ℕ)
-    (says : SaysReply N w s k octets)
+    (says : SaysReply N s k (w.session s).begun (accepted_at_target N w s) octets)
     → is_from_asked_port (Some says.entry.request) (message_said N w s k octets says).source.port
     ≡ true
 asked-port N w s k octets says = by_test (is_of_port says.entry.request.id)
@@ -95,7 +95,7 @@ asked-port N w s k octets says = by_test (is_of_port says.entry.request.id)
     (λ n. or_left _ _ (eq-eqb says.entry.request.port every_port (says.says.asked.every n)))
 
 content-said : (N : Network) (w : NetworkState) (s k : ℕ) (octets : List ℕ)
-    (says : SaysReply N w s k octets)
+    (says : SaysReply N s k (w.session s).begun (accepted_at_target N w s) octets)
     → is_content (Some says.entry.request) (action_of (message_said N w s k octets says).body)
     (id_of (message_said N w s k octets says).body) ≡ true
 content-said N w s k octets says =
@@ -107,7 +107,7 @@ content-said N w s k octets says =
     (ap (is_answered_by q.action) action ∙ answered_by-reply_action q.action says.says.asked.action)
     (eq-eqb q.id _ (sym id))
 
-module _ (N : Network) (w : NetworkState) (s : ℕ) (octets : List ℕ) (says : SaysReply N w s (issued w s) octets) (busy : is_idle (w.session s) ≡ false) where
+module _ (N : Network) (w : NetworkState) (s : ℕ) (octets : List ℕ) (says : SaysReply N s (issued w s) (w.session s).begun (accepted_at_target N w s) octets) (busy : is_idle (w.session s) ≡ false) where
   -- what is unanswered is the request that the reply is to
   unanswered-said : unanswered (w.session s) ≡ Some says.entry.request
   unanswered-said = cond-false _ _ _ busy ∙ says.says.begun_as

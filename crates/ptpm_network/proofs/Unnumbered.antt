@@ -1,5 +1,5 @@
 -- Replies to what is not numbered go to no session, and a delivery at a clock keeps the invariant.
-use Rattle.ptpm_network.proofs.Common.{by_test, ◌≡◌, ℕ, ◌<◌, ◌+◌, ◌^◌, ◌==◌, ◌&&◌, ◌||◌, not, List, Option, Some, None, is_addressed, AreDataSets, DataSetsValue, Bool, true, false, refl, sym, ◌∙◌, ap, subst, ⊎_elim, ◌⊎◌, inl, inr, length, and_from, and_parts, cond-true, cond-false, not-true, true≢false, slice_get, AllByRecursion, PortIdentity, Body, Message, every_clock, same_clock, boundary_hops, BodyFits, Fits, action_of, id_of, is_reply, message_of, read_reply_to, ReplyValue, is_known, hops_passed, rendered, forwarded, RequestCopy, copy_of, due_reply, heard_of, is_for_this_clock, is_numbered, is_own, is_request, names_port, request_of, Clock, same_clock-true, Answers, IsForeign, IsForeignFrame, IsFrame, IsReached, answering_frames, arrives, delivered_at_clock, delivery, is_read, made_frames, read_messages, AtPort, HasEnd, IsNetwork, Network, manager, ports, Frame, NetworkState, Origin, RequestOf, ReplyTo, Neither, history, reply_action-is_reply, all_append}
+use Rattle.ptpm_network.proofs.Common.{by_test, ◌≡◌, ℕ, ◌<◌, ◌+◌, ◌^◌, ◌==◌, ◌||◌, not, List, Option, Some, None, is_addressed, AreDataSets, DataSetsValue, Bool, true, false, refl, sym, ◌∙◌, ap, subst, ⊎_elim, ◌⊎◌, inl, inr, length, and_from, and_parts, cond-true, cond-false, not-true, true≢false, slice_get, AllByRecursion, PortIdentity, Body, Message, every_clock, same_clock, boundary_hops, BodyFits, id_of, message_of, read_reply_to, is_known, forwarded, RequestCopy, copy_of, due_reply, is_for_this_clock, is_numbered, is_own, is_request, names_port, request_of, Clock, same_clock-true, IsForeign, IsForeignFrame, IsFrame, IsReached, answering_frames, arrives, delivered_at_clock, delivery, is_read, made_frames, read_messages, AtPort, HasEnd, IsNetwork, Network, manager, ports, Frame, NetworkState, Origin, RequestOf, ReplyTo, Neither, history, all_append}
 use Rattle.ptpm_codec.specs.declared.message.Body.TheVariants as bodies
 use Rattle.ptpm_network.proofs.Answering.{due-frames, rendered-says, reply_frames-are}
 use Rattle.ptpm_network.proofs.Arriving.{arrives-reached, is_copy_of, kept-stays}
@@ -24,11 +24,11 @@ record ReadParts (c : Clock) (d : DataSetsValue) (v : Message) : Type 0 where
 
 read_parts : (c : Clock) (d : DataSetsValue) (v : Message) → is_read c d v ≡ true → ReadParts c d v
 read_parts c d v y =
-    let one = and_parts _ _ y in
-    let two = and_parts _ _ one.1 in
-    let three = and_parts _ _ two.1 in
-    let four = and_parts _ _ three.1 in
-    let five = and_parts _ _ four.1 in
+    let one = and_parts (v.sdo == 0) _ y in
+    let two = and_parts (v.domain == d.default.domain) _ one.1 in
+    let three = and_parts (not (is_own c v)) _ two.1 in
+    let four = and_parts (is_addressed c d v) _ three.1 in
+    let five = and_parts (is_request v) _ four.1 in
     record { addressed = four.0; request = five.0; not_numbered = not-true _ five.1 }
 
 or_cases_ : (a b : Bool) → (a || b) ≡ true → (a ≡ true) ⊎ (b ≡ true)
