@@ -184,18 +184,24 @@ outcomes_kept-more m es n k e a next kept one =
     subst (λ i. kept_reply m i es ≡ Some e → outcomes_kept m es i ≡ outcomes_kept m es n ++ report_of i e a ∷ []) (sym next)
     (λ h. ap (λ rs. outcomes_kept m es n ++ rs) (reports_of-one (suc n) (kept_reply m (suc n) es) e a h one)) kept
 
+-- a report tells the one answer that is kept for request k
+pub record IsToldOf (m : PortIdentity) (k : ℕ) (es : List Accepted) (report : Report) : Type 0 where
+  pub entry : Accepted
+  pub kept : kept_reply m k es ≡ Some entry
+  pub answer : Answer
+  pub one : entry.reply.answers ≡ answer ∷ []
+  pub is : report ≡ report_of k entry answer
+
 -- it is told the answer to its last request, which was accepted
-pub in_step-reported : (m : PortIdentity) (ports : ℕ) (es : List Accepted) (s : SessionState)
-    (k : ℕ) (e : Accepted) (a : Answer)
-    → k ≡ length s.begun → (length s.reports ≡ length s.begun → ⊥) → kept_reply m k es ≡ Some e
-    → e.reply.answers ≡ a ∷ [] → IsInStep m ports es s
+pub in_step-reported : (m : PortIdentity) (ports : ℕ) (es : List Accepted) (s : SessionState) (k : ℕ) (report : Report)
+    → k ≡ length s.begun → (length s.reports ≡ length s.begun → ⊥) → IsToldOf m k es report → IsInStep m ports es s
     → IsInStep m ports es
-    (record { domain = s.domain; attempts_left = s.attempts_left; begun = s.begun; reports = s.reports ++ report_of k e a ∷ [] })
-in_step-reported m ports es s k e a last busy kept one at =
-    let bound : k ≤ greatest m es = kept-le m k es e kept in
-    let more : length (s.reports ++ report_of k e a ∷ []) ≡ length s.reports + 1 = length-append s.reports (report_of k e a ∷ []) in
+    (record { domain = s.domain; attempts_left = s.attempts_left; begun = s.begun; reports = s.reports ++ report ∷ [] })
+in_step-reported m ports es s k report last busy told at =
+    let bound : k ≤ greatest m es = kept-le m k es told.entry told.kept in
+    let more : length (s.reports ++ report ∷ []) ≡ length s.reports + 1 = length-append s.reports (report ∷ []) in
     let next : k ≡ suc (length s.reports) = omega (arith, at.one_at_a_time, at.begun_before, at.accepted_before) in
-    let size : k ≡ length (s.reports ++ report_of k e a ∷ []) = omega (arith, more, next) in
+    let size : k ≡ length (s.reports ++ report ∷ []) = omega (arith, more, next) in
     record {
       asked = at.asked;
       one_at_a_time = omega (arith, more, at.one_at_a_time);
@@ -203,8 +209,9 @@ in_step-reported m ports es s k e a last busy kept one at =
       accepted_before = omega (arith, more, bound, next);
       from_one = at.from_one;
       without_gap = at.without_gap;
-      reports = ap (λ rs. rs ++ report_of k e a ∷ []) at.reports
-          ∙ sym (outcomes_kept-more m es (length s.reports) k e a next kept one)
+      reports = ap (λ rs. rs ++ report ∷ []) at.reports
+          ∙ ap (λ (x : Report). outcomes_kept m es (length s.reports) ++ x ∷ []) told.is
+          ∙ sym (outcomes_kept-more m es (length s.reports) k told.entry told.answer next told.kept told.one)
           ∙ ap (outcomes_kept m es) size;
     }
 

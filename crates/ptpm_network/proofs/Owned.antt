@@ -1,5 +1,5 @@
 -- A session whose own messages come in time, and what its own acts and what it hears make of it.
-use Rattle.ptpm_network.proofs.Common.{◌-◌, Answer, ◌≡◌, ℕ, ◌+◌, ◌<◌, ◌≤◌, List, [], ◌∷◌, ◌++◌, length, Some, true, false, refl, sym, ◌∙◌, ap, subst, eqb-true, eqb-false, slice_get, get_append, all_weaker, AllByRecursion, Message, canonical, reading, RequestValue, Accepted, kept_reply, State, number_of, outcome_in, Report, received_of, IsAsked, IsInStep, request_message, with_less_hop, IsNetwork, Network, manager, ports, Held, Origin, RequestOf, ReplyTo, Neither, SessionState, SessionValue, session_value, answered, begun, resumed, retuned, sent, is_waiting, le_trans}
+use Rattle.ptpm_network.proofs.Common.{◌-◌, ◌≡◌, ℕ, ◌+◌, ◌<◌, ◌≤◌, List, [], ◌∷◌, ◌++◌, length, Some, true, false, refl, sym, ◌∙◌, ap, subst, eqb-true, eqb-false, slice_get, get_append, all_weaker, AllByRecursion, Message, canonical, reading, RequestValue, Accepted, kept_reply, State, number_of, outcome_in, Report, received_of, IsAsked, IsInStep, request_message, with_less_hop, IsNetwork, Network, manager, ports, Held, Origin, RequestOf, ReplyTo, Neither, SessionState, SessionValue, session_value, answered, begun, resumed, retuned, sent, is_waiting, le_trans}
 use Rattle.std.specs.FinMap.{get}
 use Rattle.ptpm_manager.specs.declared.receiving.Received.{Received}
 use Rattle.ptpm_manager.specs.declared.receiving.Received.TheVariants as received
@@ -7,7 +7,7 @@ use Rattle.ptpm_manager.specs.Receiving.{left_by}
 use Rattle.ptpm_manager.specs.declared.setup.Setup.{Setup}
 use Rattle.ptpm_network.specs.ByManager.{Account}
 use Rattle.ptpm_network.specs.Invariant.{IsReplyFrame, IsRequestFrame}
-use Rattle.ptpm_network.proofs.Accepting.{in_step-begun, in_step-reported, in_step-set, report_of}
+use Rattle.ptpm_network.proofs.Accepting.{IsToldOf, in_step-begun, in_step-reported, in_step-set}
 use Rattle.ptpm_network.proofs.Frames.{reply_passed, reply_says, request_passed, same_read}
 use Rattle.ptpm_network.proofs.Hearing.{answered-value, begun-value}
 use Rattle.ptpm_network.proofs.Honest.{IsSentBy}
@@ -60,20 +60,13 @@ abbrev pub reports_with : List Report → Received → List Report
 reports_with reports (received.Answered report) = reports ++ report ∷ []
 reports_with reports (received.Ignored reason) = reports
 
--- what is told of the last request is what is kept of it
-pub record IsToldOf (N : Network) (s : ℕ) (a : Account) (report : Report) : Type 0 where
-  pub entry : Accepted
-  pub kept : kept_reply (manager N s) (length a.begun) a.accepted ≡ Some entry
-  pub answer : Answer
-  pub one : entry.reply.answers ≡ answer ∷ []
-  pub is : report ≡ report_of (length a.begun) entry answer
-
+-- what it takes for its answer tells of the last request what is kept of it
 told_of : (N : Network) (s : ℕ) (value : SessionValue) (reports : List Report) (a : Account) (octets : List ℕ) (o : Origin) (report : Report)
     → IsNetwork N → s < N.sessions → (takes : Takes value octets report) → IsTrueTo N takes.message o → IsSaid N s a octets o
     → ((k : ℕ) → o ≡ ReplyTo s k → length a.begun ≤ k + 32768)
     → value.setup ≡ (N.session s).setup → value.issued ≡ length a.begun
     → IsInStep (manager N s) (ports N (N.session s).target) a.accepted (state_of value reports a)
-    → IsToldOf N s a report
+    → IsToldOf (manager N s) (length a.begun) a.accepted report
 told_of N s value reports a octets o report n place takes i says time setup issued step =
     let own = takes-own N s value octets o report n place setup takes i in
     let k = own.0 in
@@ -148,7 +141,7 @@ module _ (N : Network) (s : ℕ) (value : SessionValue) (reports : List Report) 
 
   -- ---- what it hears
 
-  own-answered : (report : Report) → is_waiting value ≡ true → IsToldOf N s a report
+  own-answered : (report : Report) → is_waiting value ≡ true → IsToldOf (manager N s) (length a.begun) a.accepted report
       → IsOwn N s (answered value) (reports ++ report ∷ []) clock frames a
   own-answered report waits t =
       let state = state_of value reports a in
@@ -156,8 +149,7 @@ module _ (N : Network) (s : ℕ) (value : SessionValue) (reports : List Report) 
       eqb-false (length reports) (length a.begun) (not_idle (N.session s) state (sym (ap is_waiting at.value_is) ∙ waits)) in
       record {
         value_is = ap answered at.value_is ∙ answered-value (N.session s) state report busy at.step.one_at_a_time told;
-        step = subst (λ (x : Report). IsInStep (manager N s) (ports N (N.session s).target) a.accepted (record { domain = value.domain; attempts_left = value.attempts_left; begun = a.begun; reports = reports ++ x ∷ [] })) (sym t.is)
-            (in_step-reported (manager N s) (ports N (N.session s).target) a.accepted state (length a.begun) t.entry t.answer refl busy t.kept t.one at.step);
+        step = in_step-reported (manager N s) (ports N (N.session s).target) a.accepted state (length a.begun) report refl busy t at.step;
         last = at.last;
         frames_say = at.frames_say;
       }

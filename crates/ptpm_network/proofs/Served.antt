@@ -1,5 +1,5 @@
 -- A session whose own messages come in time is served, after every list of events, whatever comes late of others.
-use Rattle.ptpm_network.proofs.Common.{by_test, arith, ◌≡◌, ℕ, ◌+◌, ◌<◌, ◌≤◌, ◌==◌, ◌^◌, ◌&&◌, Bool, List, [], ◌∷◌, ◌++◌, length, Option, Some, None, Result, Ok, Err, true, false, refl, sym, ◌∙◌, ap, subst, ⊎_elim, and_cases, and_from, cond-true, cond-false, eq-eqb, eqb-true, eqb-false, ne_eqb, ltb-false, true≢false, all_append, frame_at-all, AllByRecursion, Message, canonical, RequestValue, greatest, is_copy, Report, received_of, IsAsked, strange_frame, with_place, with_place-same, with_place-other, AtPort, AtSession, End, HasEnd, IsNetwork, Network, manager, ports, Held, seen, Origin, RequestOf, ReplyTo, Neither, SessionValue, Happened, network_event, network_run, goes_on, delivers, reaches, hears, RunningNetwork, initial_network, answered, begun, resumed, retuned, sent, due_message, Ask, begin_refusal, BeginRefused, SendRefused, Refusal, Event, Begin, Send, Resume, Retune, Deliver, Stranger, IsInRange, Forged, is_forged, forged, frame_at, first_of-none, no_port, no_room, no_session, nothing_to_resume, send_refusal, option_map, is_late_at, sends_in, PortIdentity, DataSetsValue, Entry, initial_history, StandsAfter, session_value}
+use Rattle.ptpm_network.proofs.Common.{by_test, arith, ◌≡◌, ℕ, ◌+◌, ◌<◌, ◌≤◌, ◌==◌, ◌^◌, ◌&&◌, Bool, List, [], ◌∷◌, ◌++◌, length, Option, Some, None, Result, Ok, Err, true, false, refl, sym, ◌∙◌, ap, subst, ⊎_elim, and_cases, and_from, cond-true, cond-false, eq-eqb, eqb-true, eqb-false, ne_eqb, ltb-false, true≢false, all_append, frame_at-all, AllByRecursion, Message, Fits, IsForeign, message_of, with_session_value, canonical, RequestValue, greatest, is_copy, Report, received_of, IsAsked, strange_frame, with_place, with_place-same, with_place-other, AtPort, AtSession, End, HasEnd, IsNetwork, Network, manager, ports, Held, seen, Origin, RequestOf, ReplyTo, Neither, SessionValue, Happened, network_event, network_run, goes_on, delivers, reaches, hears, RunningNetwork, initial_network, answered, begun, resumed, retuned, sent, due_message, Ask, begin_refusal, BeginRefused, SendRefused, Refusal, Event, Begin, Send, Resume, Retune, Deliver, Stranger, IsInRange, Forged, is_forged, forged, frame_at, first_of-none, no_port, no_room, no_session, nothing_to_resume, send_refusal, option_map, is_late_at, sends_in, PortIdentity, DataSetsValue, Entry, initial_history, StandsAfter, session_value}
 use Rattle.std.specs.FinMap.{get}
 use Rattle.ptpm_agent.specs.Laws.{IsKept}
 use Rattle.ptpm_manager.specs.Ask as ask
@@ -10,7 +10,7 @@ use Rattle.ptpm_network.specs.ByManager.{Account, StaysInTime, account_from, acc
 use Rattle.ptpm_network.specs.CarriedOut.{carried_at, carried_by_event, carried_of_frame}
 use Rattle.ptpm_network.specs.Served.{After, AtStart, HasAccount, IsServed, IsServedSoFar, IsTimelyCopy}
 use Rattle.ptpm_network.specs.State.{initial_session_state}
-use Rattle.ptpm_network.proofs.Honest.{IsHonest, IsSentBy, IsTrueFrame, Then, begins-honest, event-honest, first-honest, frame-true, nothing_kept, sent-all, sent_by, then_ok, then_unless}
+use Rattle.ptpm_network.proofs.Honest.{IsHonest, IsSentBy, IsTrueFrame, Then, begins-honest, first-honest, frame-true, nothing_kept, reaches-honest, sends-honest, sent-all, sent_by, session-honest, then_ok, then_unless, turns-honest}
 use Rattle.ptpm_network.specs.Invariant.{IsRequestFrame}
 use Rattle.ptpm_network.proofs.Own.{IsLastOf, TurnsOwn, turns_own}
 use Rattle.ptpm_network.proofs.Owned.{IsOwn, IsOwnFrame, own-begun, own-hears, own-message, own-resumed, own-retuned, own-sent, reports_with, state_of}
@@ -53,6 +53,13 @@ module _ (N : Network) (s : ℕ) (r : RunningNetwork) where
 flip : (s t : ℕ) → t == s ≡ false → s == t ≡ false
 flip s t n = ne_eqb s t (λ (e : s ≡ t). eqb-false t s n (sym e))
 
+-- every frame is true, and the session is as its account says
+pub record Stays (N : Network) (s : ℕ) (r : RunningNetwork) (a : Account) : Type 0 where
+  pub network : IsNetwork N
+  pub place : s < N.sessions
+  pub honest : IsHonest N r
+  pub own : Own N s r a
+
 module _ (N : Network) (n : IsNetwork N) (s : ℕ) (place : s < N.sessions) (r : RunningNetwork) (h : IsHonest N r) (a : Account) (at : Own N s r a) where
   -- a session becomes another: this one, or another one
   own-set : (f : SessionValue → SessionValue) (t : ℕ)
@@ -64,6 +71,13 @@ module _ (N : Network) (n : IsNetwork N) (s : ℕ) (place : s < N.sessions) (r :
       (ap f (ap r.session (sym ts)) ∙ sym (with_place-same r.session t (f (r.session t)) s (eq-eqb s t (sym ts)))) new)
       (λ o. subst (λ (x : SessionValue). IsOwn N s x (r.reports s) (r.clock (N.session s).target) r.frames a)
       (sym (with_place-other r.session t (f (r.session t)) s (flip s t o))) at)
+
+  moved-honest : (t : ℕ) (f : SessionValue → SessionValue) → t < N.sessions
+      → (f (r.session t)).setup ≡ (r.session t).setup → (f (r.session t)).unanswered ≡ (r.session t).unanswered
+      → IsHonest N (with_session_value r t (f (r.session t)))
+  moved-honest t f there setup unanswered =
+      let value = h.sessions t there in
+      session-honest N r t (f (r.session t)) h (record { setup = setup ∙ value.setup; asked = λ q e. value.asked q (sym unanswered ∙ e) })
 
   own-begins : (t : ℕ) (q : Ask) → t < N.sessions → q.id < 2 ^ 16 → begin_refusal (r.session t) q ≡ None
       → IsOwn N s (with_place r.session t (begun (r.session t) (ask.request_of q)) s) (r.reports s) (r.clock (N.session s).target) r.frames
@@ -129,42 +143,46 @@ module _ (N : Network) (n : IsNetwork N) (s : ℕ) (place : s < N.sessions) (r :
       (λ k o. subst (λ b. b ≤ k + 32768) issued-begun
       (session-in_time N s r x.origin k (subst (λ j. is_for N s (AtSession j) x.origin && is_behind r x.origin ≡ false) ts late) o)) refl))
 
-  own-delivers : (k : ℕ) (o : Option Held) → frame_at r.frames k ≡ o → is_late_frame_for N s r o ≡ false
-      → Then (delivers N r o)
-      (λ g. Own N s g.network (record { begun = a.begun; accepted = with_carried (manager N s) (N.clock (N.session s).target) (r.clock (N.session s).target) (carried_of_frame N r (N.session s).target o) a.accepted }))
-  own-delivers k None e late = λ g is. absurd (cc)
-  own-delivers k (Some x) e late =
-      let i = frame-true N n r h k x e in
-      then_unless _ (no_room r.frames) _ (λ room. then_ok _ (reaches N r x x.end) (own-reaches x x.end i (frame_at-all (IsOwnFrame N s a) r.frames k x at.frames_say e) i.end late))
+  -- both, after what happened
+  stays : (x : RunningNetwork) (b : Account) → IsHonest N x → Own N s x b → Stays N s x b
+  stays x b honest own = record { network = n; place = place; honest = honest; own = own }
 
-  own-event : (e : Event) → IsInRange e → is_late_for N s r e ≡ false
-      → Then (network_event N r e) (λ g. Own N s g.network (account_with N s r e a))
+  stays-delivers : (k : ℕ) (o : Option Held) → frame_at r.frames k ≡ o → is_late_frame_for N s r o ≡ false
+      → Then (delivers N r o)
+      (λ g. Stays N s g.network (record { begun = a.begun; accepted = with_carried (manager N s) (N.clock (N.session s).target) (r.clock (N.session s).target) (carried_of_frame N r (N.session s).target o) a.accepted }))
+  stays-delivers k None e late = λ g is. absurd (cc)
+  stays-delivers k (Some x) e late =
+      let i = frame-true N n r h k x e in
+      then_unless _ (no_room r.frames) _ (λ room. then_ok _ (reaches N r x x.end)
+      (stays _ _ (reaches-honest N n r h x x.end i.says i.end) (own-reaches x x.end i (frame_at-all (IsOwnFrame N s a) r.frames k x at.frames_say e) i.end late)))
+
+  stays-event : (e : Event) → IsInRange e → is_late_for N s r e ≡ false
+      → Then (network_event N r e) (λ g. Stays N s g.network (account_with N s r e a))
   unfolding network_event carried_by_event
-  own-event (Begin t q) id late =
+  stays-event (Begin t q) id late =
       then_unless _ (no_session N t) _ (λ there. then_unless _ (option_map BeginRefused (begin_refusal (r.session t) q)) _
-      (λ fine. then_ok _ _ (own-begins t q (session-exists N t there) id (option_map-none BeginRefused (begin_refusal (r.session t) q) fine))))
-  own-event (Send t) i late =
+      (λ fine.
+      let exists = session-exists N t there in
+      let none = option_map-none BeginRefused (begin_refusal (r.session t) q) fine in
+      then_ok _ _ (stays _ _ (session-honest N r t _ h (begins-honest N r t q n h exists id none)) (own-begins t q exists id none))))
+  stays-event (Send t) i late =
       then_unless _ (no_session N t) _ (λ there. then_unless _ (no_room r.frames) _ (λ room. then_unless _ (option_map SendRefused (send_refusal (r.session t))) _
-      (λ fine. then_ok _ _ (own-sends t (session-exists N t there)))))
-  own-event (Resume t attempts) i late =
+      (λ fine. let exists = session-exists N t there in then_ok _ _ (stays _ _ (sends-honest N r t n h exists) (own-sends t exists)))))
+  stays-event (Resume t attempts) i late =
       then_unless _ (no_session N t) _ (λ there. then_unless _ (nothing_to_resume (r.session t)) _
-      (λ fine. then_ok _ _ (own-set (λ x. resumed x attempts) t (own-resumed N s (r.session s) (r.reports s) (r.clock (N.session s).target) r.frames a at attempts))))
-  own-event (Retune t domain) i late =
+      (λ fine. then_ok _ _ (stays _ _ (moved-honest t (λ x. resumed x attempts) (session-exists N t there) refl refl) (own-set (λ x. resumed x attempts) t (own-resumed N s (r.session s) (r.reports s) (r.clock (N.session s).target) r.frames a at attempts)))))
+  stays-event (Retune t domain) i late =
       then_unless _ (no_session N t) _
-      (λ there. then_ok _ _ (own-set (λ x. retuned x domain) t (own-retuned N s (r.session s) (r.reports s) (r.clock (N.session s).target) r.frames a at domain)))
-  own-event (Deliver k) i late = own-delivers k (frame_at r.frames k) refl late
-  own-event (Stranger c port datagram) octets late =
+      (λ there. then_ok _ _ (stays _ _ (moved-honest t (λ x. retuned x domain) (session-exists N t there) refl refl) (own-set (λ x. retuned x domain) t (own-retuned N s (r.session s) (r.reports s) (r.clock (N.session s).target) r.frames a at domain))))
+  stays-event (Deliver k) i late = stays-delivers k (frame_at r.frames k) refl late
+  stays-event (Stranger c port datagram) octets late =
       then_unless _ (no_port N c port) _ (λ there. then_unless _ (forged N datagram) _ (λ fine. then_unless _ (no_room r.frames) _
-      (λ room. let honest = (first_of-none (is_forged N datagram) Forged [] fine).0 in
-      then_ok _ _ (own-turned N n s place r h a at port (strange_frame c port datagram) (λ v e. strange-message N datagram v octets honest e) tt c (port-exists N c port there) (λ k o here. no_origin s k o)))))
+      (λ room.
+      let says : (v : Message) → message_of datagram ≡ Some v → Fits v × IsForeign N v = λ v e. strange-message N datagram v octets (first_of-none (is_forged N datagram) Forged [] fine).0 e in
+      let end = port-exists N c port there in
+      then_ok _ _ (stays _ _ (turns-honest N r c port (strange_frame c port datagram) n h end says) (own-turned N n s place r h a at port (strange_frame c port datagram) says tt c end (λ k o here. no_origin s k o))))))
 
 -- ---- where the account begins
-
-pub record Stays (N : Network) (s : ℕ) (r : RunningNetwork) (a : Account) : Type 0 where
-  pub network : IsNetwork N
-  pub place : s < N.sessions
-  pub honest : IsHonest N r
-  pub own : Own N s r a
 
 nothing-last : (first : PortIdentity → ℕ) (d : DataSetsValue) (m : PortIdentity) (own : ℕ) (o : Option Entry)
     → IsKept first (initial_history d) m o
@@ -201,12 +219,7 @@ stays-first N s r place at =
 stays-by : (N : Network) (s : ℕ) (r : RunningNetwork) (a : Account) → HasAccount N s r a → Stays N s r a
 stays-by N s r a (AtStart start place at) = stays-first N s start place at
 stays-by N s new b (After r a e h before i is late) =
-    let at = stays-by N s r a before in record {
-      network = at.network;
-      place = at.place;
-      honest = event-honest N at.network r at.honest e i h is;
-      own = own-event N at.network s at.place r at.honest a at.own e i late h is;
-    }
+    let at = stays-by N s r a before in stays-event N at.network s at.place r at.honest a at.own e i late h is
 
 account-while : (N : Network) (s : ℕ) (r : RunningNetwork) (a b : Account) (es : List Event) (late : Bool) (x : Result Happened Refusal)
     → HasAccount N s r a → in_time_while x late (λ next. StaysInTime N s next es)

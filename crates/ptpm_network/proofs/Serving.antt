@@ -102,11 +102,12 @@ module _ (N : Network) (n : IsNetwork N) (s : ℕ) (place : s < N.sessions) (r :
   own-with : HasEnd N (AtPort (N.session s).target port)
       → (new : List Accepted) → StaysOrGains (manager N s) a.begun new a.accepted
       → IsLastOf (manager N s) (N.session s).setup.first new (get (turn (N.clock (N.session s).target) (r.clock (N.session s).target) port f.octets).next.entries (manager N s))
+      → (k : Option RequestCopy) → copy_of (N.clock (N.session s).target) (length (r.clock (N.session s).target).sets.ports) (delivery port f) ≡ k
       → (IsInStep (manager N s) (ports N (N.session s).target) new (state_of (r.session s) (r.reports s) a)
-      → AllByRecursion (λ (x : ℕ × List ℕ). IsSaid N s (with_accepted a new) x.1 (answer_origin f.origin (copy_of (N.clock (N.session s).target) (length (r.clock (N.session s).target).sets.ports) (delivery port f)))) (turn (N.clock (N.session s).target) (r.clock (N.session s).target) port f.octets).replies)
+      → AllByRecursion (λ (x : ℕ × List ℕ). IsSaid N s (with_accepted a new) x.1 (answer_origin f.origin k)) (turn (N.clock (N.session s).target) (r.clock (N.session s).target) port f.octets).replies)
       → IsOwn N s (r.session s) (r.reports s) (turn (N.clock (N.session s).target) (r.clock (N.session s).target) port f.octets).next
       (r.frames ++ map held (turn_frames N (r.clock (N.session s).target) (N.session s).target port f)) (with_accepted a new)
-  own-with end new gains last replied =
+  own-with end new gains last k e replied =
       let c = (N.session s).target in
       let step = step-gained (manager N s) (ports N c) new a.accepted (state_of (r.session s) (r.reports s) a) gains at.step in
       let kept = kept-gained (manager N s) a.begun new a.accepted gains in
@@ -118,15 +119,9 @@ module _ (N : Network) (n : IsNetwork N) (s : ℕ) (place : s < N.sessions) (r :
         last = last;
         frames_say = frames-after N s (r.session s) (r.reports s) (with_accepted a new) (r.clock c) c port f r.frames n place step
             (all_weaker (IsOwnFrame N s a) (IsOwnFrame N s (with_accepted a new)) (λ x i. stays x.octets x.origin i) r.frames at.frames_say)
-            (stays f.octets f.origin said) (replied step);
+            (stays f.octets f.origin said)
+            (subst (λ (o : Option RequestCopy). AllByRecursion (λ (x : ℕ × List ℕ). IsSaid N s (with_accepted a new) x.1 (answer_origin f.origin o)) (turn (N.clock c) (r.clock c) port f.octets).replies) (sym e) (replied step));
       }
-
-  replied_by : (new : List Accepted) (k : Option RequestCopy)
-      → copy_of (N.clock (N.session s).target) (length (r.clock (N.session s).target).sets.ports) (delivery port f) ≡ k
-      → AllByRecursion (λ (x : ℕ × List ℕ). IsSaid N s (with_accepted a new) x.1 (answer_origin f.origin k)) (turn (N.clock (N.session s).target) (r.clock (N.session s).target) port f.octets).replies
-      → AllByRecursion (λ (x : ℕ × List ℕ). IsSaid N s (with_accepted a new) x.1 (answer_origin f.origin (copy_of (N.clock (N.session s).target) (length (r.clock (N.session s).target).sets.ports) (delivery port f)))) (turn (N.clock (N.session s).target) (r.clock (N.session s).target) port f.octets).replies
-  replied_by new k e all =
-      subst (λ (o : Option RequestCopy). AllByRecursion (λ (x : ℕ × List ℕ). IsSaid N s (with_accepted a new) x.1 (answer_origin f.origin o)) (turn (N.clock (N.session s).target) (r.clock (N.session s).target) port f.octets).replies) (sym e) all
 
   -- nothing of the session changes
   last-kept : accepted_after (manager N s) (N.clock (N.session s).target) (r.clock (N.session s).target) f.octets a.accepted ≡ a.accepted
@@ -174,7 +169,7 @@ module _ (N : Network) (n : IsNetwork N) (s : ℕ) (place : s < N.sessions) (r :
       let new = accepted_after (manager N s) (N.clock c) (r.clock c) f.octets a.accepted in
       let same : new ≡ a.accepted = ap (λ rs. with_carried (manager N s) (N.clock c) (r.clock c) rs a.accepted) (carried-none (N.clock c) (r.clock c) (delivery port f) (reading f.octets) refl e) in
       own-with end new (inl same) (last-kept same (ap (λ (x : State). get x.entries (manager N s)) (turn-no_copy (N.clock c) (r.clock c) (delivery port f) e)))
-      (λ step. replied_by new None e (all_of _ (λ x. tt) _))
+      None e (λ step. all_of _ (λ x. tt) _)
   own-here end time (Some k) e =
       let c = (N.session s).target in
       let st = r.clock c in
@@ -191,8 +186,8 @@ module _ (N : Network) (n : IsNetwork N) (s : ℕ) (place : s < N.sessions) (r :
       let t = turns_own (manager N s) (N.session s).setup.first (ports N c) (N.clock c) st port f.octets v by.k a.accepted (state_of (r.session s) (r.reports s) a) copy.read o in
       let P : ℕ × List ℕ → Type 0 = λ x. IsReplyFrame (N.session s).setup new by.k x.1 in
       let state = state_of (r.session s) (r.reports s) a in
-      own-with end new t.gains t.last
-      (λ step. replied_by new (Some k) e
+      own-with end new t.gains t.last (Some k) e
+      (λ step.
       (subst (λ (z : Origin). AllByRecursion (λ (x : ℕ × List ℕ). IsSaid N s (with_accepted a new) x.1 (reply_origin z)) (turn (N.clock c) st port f.octets).replies) (sym origin)
       (all_weaker P (λ (x : ℕ × List ℕ). IsSaid N s (with_accepted a new) x.1 (ReplyTo s by.k)) (λ x i q. i) (turn (N.clock c) st port f.octets).replies
       (⊎_elim
@@ -207,8 +202,8 @@ module _ (N : Network) (n : IsNetwork N) (s : ℕ) (place : s < N.sessions) (r :
       (λ o. o) in
       let same : new ≡ a.accepted = ap (λ rs. with_carried (manager N s) (N.clock c) st rs a.accepted) d.carried ∙ with_carried-others (manager N s) (N.clock c) st v (judged (N.clock c) st v) a.accepted other in
       let entries = ap (λ (x : State). get x.entries (manager N s)) d.next ∙ entries-others (manager N s) (N.clock c) st v (judged (N.clock c) st v) other in
-      own-with end new (inl same) (last-kept same entries)
-      (λ step. replied_by new (Some k) e
+      own-with end new (inl same) (last-kept same entries) (Some k) e
+      (λ step.
       (replies-elsewhere c (with_accepted a new) (Some k) end.0 e
       (λ t j o q ts. let both : RequestOf by.session by.k ≡ RequestOf t j = sym by.origin ∙ o in let st' : by.session ≡ t = cc in ne (st' ∙ ts)))))
       (cases_eq by.session s)
