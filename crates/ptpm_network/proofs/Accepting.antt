@@ -1,5 +1,5 @@
 -- How what was accepted of a manager, its requests and its reports go on together.
-use Rattle.ptpm_network.proofs.Common.{by_test, suc, zero, arith, ◌≡◌, ℕ, ◌<◌, ◌≤◌, ◌+◌, ◌-◌, ◌==◌, ◌&&◌, max, List, [], ◌∷◌, ◌++◌, Option, Some, None, true, false, refl, sym, ◌∙◌, ap, subst, ⊎_elim, length, length-append, cases_eq, and_parts, and_from, and_left, and_right, eqb-true, eq-eqb, ne_eqb, cond-true, cond-false, slice_get, PortIdentity, same_identity, Answer, RequestValue, answer_body, Accepted, greatest, kept_reply, Report, outcome_in, Answers, HasOneAnswer, SessionState, outcomes_kept, reports_by, reports_of, IsAsked, IsInStep, InWindow, WasAccepted, get_append, get_appended}
+use Rattle.ptpm_network.proofs.Common.{by_test, suc, zero, arith, ◌≡◌, ℕ, ◌<◌, ◌≤◌, ◌+◌, ◌-◌, ◌==◌, ◌&&◌, max, List, [], ◌∷◌, ◌++◌, Option, Some, None, true, false, refl, sym, ◌∙◌, ap, subst, ⊎_elim, length, length-append, cases_eq, and_parts, and_from, and_left, and_right, eqb-true, eq-eqb, ne_eqb, cond-true, cond-false, slice_get, PortIdentity, same_identity, Answer, RequestValue, answer_body, Accepted, greatest, kept_reply, Report, outcome_in, Answers, HasOneAnswer, SessionState, outcomes_kept, reports_by, reports_of, IsAsked, IsInStep, InWindow, append_assoc, append-nil, WasAccepted, get_append, get_appended}
 
 -- ---- one more accepted request
 
@@ -225,3 +225,42 @@ in_step-window m ports es s k at within time = record {
   not_far_ahead = omega (arith, within, at.one_at_a_time, at.accepted_before);
   not_far_behind = omega (arith, time, at.begun_before);
 }
+
+-- ---- what a manager may rely on
+
+-- what a manager is to be told begins with what it is to be told of its first requests
+told-begins : (m : PortIdentity) (accepted : List Accepted) (g n : ℕ)
+    → n ≤ g
+    → (rest : List Report) × (outcomes_kept m accepted g ≡ outcomes_kept m accepted n ++ rest)
+told-begins m accepted zero n le =
+    let none : n ≡ 0 = omega arith in
+    ([], sym (append-nil (outcomes_kept m accepted n) ∙ ap (outcomes_kept m accepted) none))
+told-begins m accepted (suc g) n le = ⊎_elim
+    (λ (q : n ≡ suc g). ([], sym (append-nil (outcomes_kept m accepted n) ∙ ap (outcomes_kept m accepted) q)))
+    (λ (ne : n ≡ suc g → ⊥).
+    let p = told-begins m accepted g n (omega arith) in
+    let last : List Report = reports_of (suc g) (kept_reply m (suc g) accepted) in
+    (p.0 ++ last, ap (λ (rs : List Report). rs ++ last) p.1 ∙ append_assoc (outcomes_kept m accepted n) p.0 last))
+    (cases_eq n (suc g))
+
+-- its requests are accepted one after another, and its reports are the first of what the replies to them say
+pub record IsInOrder (m : PortIdentity) (begun : List RequestValue) (es : List Accepted) (reports : List Report) : Type 0 where
+  pub rest : (later : List Report) × (outcomes_kept m es (greatest m es) ≡ reports ++ later)
+  pub reported_accepted : length reports ≤ greatest m es
+  pub accepted_begun : greatest m es ≤ length begun
+  pub begun_accepted : length begun ≤ greatest m es + 1
+  pub begun_reported : length begun ≤ length reports + 1
+
+-- in the machine, and where it is served however late the messages of others come
+pub in_order : (m : PortIdentity) (ports : ℕ) (es : List Accepted) (s : SessionState)
+    → IsInStep m ports es s
+    → IsInOrder m s.begun es s.reports
+in_order m ports es s at =
+    let told = told-begins m es (greatest m es) (length s.reports) at.accepted_before in
+    record {
+      rest = (told.0, told.1 ∙ ap (λ rs. rs ++ told.0) (sym at.reports));
+      reported_accepted = at.accepted_before;
+      accepted_begun = at.begun_before;
+      begun_accepted = omega (arith, at.one_at_a_time, at.accepted_before);
+      begun_reported = at.one_at_a_time;
+    }

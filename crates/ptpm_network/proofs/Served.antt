@@ -1,5 +1,5 @@
 -- A session whose own messages come in time is served, after every list of events, whatever comes late of others.
-use Rattle.ptpm_network.proofs.Common.{by_test, arith, ◌≡◌, ℕ, ◌+◌, ◌<◌, ◌≤◌, ◌==◌, ◌^◌, ◌&&◌, Bool, List, [], ◌∷◌, ◌++◌, length, Option, Some, None, Result, Ok, Err, true, false, refl, sym, ◌∙◌, ap, subst, ⊎_elim, and_cases, and_from, cond-true, cond-false, eq-eqb, eqb-true, eqb-false, ne_eqb, ltb-false, true≢false, all_append, frame_at-all, AllByRecursion, Message, Fits, IsForeign, message_of, with_session_value, canonical, RequestValue, greatest, is_copy, Report, received_of, IsAsked, strange_frame, with_place, with_place-same, with_place-other, AtPort, AtSession, End, HasEnd, IsNetwork, Network, manager, ports, Held, seen, Origin, RequestOf, ReplyTo, Neither, SessionValue, Happened, network_event, network_run, goes_on, delivers, reaches, hears, RunningNetwork, initial_network, answered, begun, resumed, retuned, sent, due_message, Ask, begin_refusal, BeginRefused, SendRefused, Refusal, Event, Begin, Send, Resume, Retune, Deliver, Stranger, IsInRange, Forged, is_forged, forged, frame_at, first_of-none, no_port, no_room, no_session, nothing_to_resume, send_refusal, option_map, is_late_at, sends_in, PortIdentity, DataSetsValue, Entry, initial_history, StandsAfter, session_value}
+use Rattle.ptpm_network.proofs.Common.{by_test, ◌≡◌, ℕ, ◌+◌, ◌<◌, ◌≤◌, ◌==◌, ◌^◌, ◌&&◌, Bool, List, [], ◌∷◌, ◌++◌, length, Option, Some, None, Result, Ok, Err, true, false, refl, sym, ◌∙◌, ap, subst, ⊎_elim, and_cases, and_from, cond-true, cond-false, eq-eqb, eqb-true, eqb-false, ne_eqb, ltb-false, true≢false, all_append, frame_at-all, AllByRecursion, Message, Fits, IsForeign, message_of, with_session_value, canonical, RequestValue, is_copy, Report, received_of, IsAsked, strange_frame, with_place, with_place-same, with_place-other, AtPort, AtSession, End, HasEnd, IsNetwork, Network, manager, ports, Held, seen, Origin, RequestOf, ReplyTo, Neither, SessionValue, Happened, network_event, network_run, goes_on, delivers, reaches, hears, RunningNetwork, initial_network, answered, begun, resumed, retuned, sent, due_message, Ask, begin_refusal, BeginRefused, SendRefused, Refusal, Event, Begin, Send, Resume, Retune, Deliver, Stranger, IsInRange, Forged, is_forged, forged, frame_at, first_of-none, no_port, no_room, no_session, nothing_to_resume, send_refusal, option_map, is_late_at, sends_in, PortIdentity, DataSetsValue, Entry, initial_history, StandsAfter, session_value}
 use Rattle.std.specs.FinMap.{get}
 use Rattle.ptpm_agent.specs.Laws.{IsKept}
 use Rattle.ptpm_manager.specs.Ask as ask
@@ -10,11 +10,12 @@ use Rattle.ptpm_network.specs.ByManager.{Account, StaysInTime, account_from, acc
 use Rattle.ptpm_network.specs.CarriedOut.{carried_at, carried_by_event, carried_of_frame}
 use Rattle.ptpm_network.specs.Served.{After, AtStart, HasAccount, IsServed, IsServedSoFar, IsTimelyCopy}
 use Rattle.ptpm_network.specs.State.{initial_session_state}
+use Rattle.ptpm_network.proofs.Accepting.{in_order}
 use Rattle.ptpm_network.proofs.Honest.{IsHonest, IsSentBy, IsTrueFrame, Then, begins-honest, first-honest, frame-true, nothing_kept, reaches-honest, sends-honest, sent-all, sent_by, session-honest, then_ok, then_unless, turns-honest}
 use Rattle.ptpm_network.specs.Invariant.{IsRequestFrame}
 use Rattle.ptpm_network.proofs.Own.{IsLastOf, TurnsOwn, turns_own}
 use Rattle.ptpm_network.proofs.Owned.{IsOwn, IsOwnFrame, own-begun, own-hears, own-message, own-resumed, own-retuned, own-sent, reports_with, state_of}
-use Rattle.ptpm_network.proofs.Promise.{first_of_sessions, firsts, stands-first, told-begins}
+use Rattle.ptpm_network.proofs.Promise.{first_of_sessions, firsts, stands-first}
 use Rattle.ptpm_network.proofs.Reaching.{first-reached, port-exists, session-exists}
 use Rattle.ptpm_network.proofs.Refusals.{begin-not_refused, option_map-none}
 use Rattle.ptpm_network.proofs.Serving.{Own, comes_own, own-turned}
@@ -238,9 +239,6 @@ account-run N s r a (e ∷ es) at i time =
 
 -- ---- what it is served
 
-more : (begun reports g : ℕ) → begun ≤ reports + 1 → reports ≤ g → begun ≤ g + 1
-more begun reports g a b = omega arith
-
 module _ (N : Network) (s : ℕ) (r : RunningNetwork) (a : Account) (at : Stays N s r a) where
   timely : (number port k : ℕ) (x : Held) (v : Message) → IsTimelyCopy N s r number port k x v
       → TurnsOwn (manager N s) (N.session s).setup.first a.begun (N.clock (N.session s).target) (r.clock (N.session s).target) port x.octets v k a.accepted
@@ -255,17 +253,18 @@ module _ (N : Network) (s : ℕ) (r : RunningNetwork) (a : Account) (at : Stays 
       (comes_own N at.network s at.place r at.honest a at.own port (seen x) i.says said v k copy.origin time copy.read (subst (λ p. is_copy (N.clock c) p v ≡ true) many copy.copy))
 
   pub is-served : IsServed N s r a
-  is-served = record {
-    accepted = λ k p le. let was = at.own.step.without_gap k p le in (was.entry, was.is, was.begun_as);
-    accepted_begun = at.own.step.begun_before;
-    begun_accepted = more (length a.begun) (length (r.reports s)) (greatest (manager N s) a.accepted) at.own.step.one_at_a_time at.own.step.accepted_before;
-    reports = let rest = told-begins (manager N s) a.accepted (greatest (manager N s) a.accepted) (length (r.reports s)) at.own.step.accepted_before in
-        (rest.0, rest.1 ∙ ap (λ rs. rs ++ rest.0) (sym at.own.step.reports));
-    reported_accepted = at.own.step.accepted_before;
-    begun_reported = at.own.step.one_at_a_time;
-    latest = λ number port k x v copy e. let told = (timely number port k x v copy).latest e in (told.entry, told.kept, told.is);
-    older = λ number port k x v copy l. (timely number port k x v copy).older l;
-  }
+  is-served =
+      let order = in_order (manager N s) (ports N (N.session s).target) a.accepted (state_of (r.session s) (r.reports s) a) at.own.step in
+      record {
+        accepted = λ k p le. let was = at.own.step.without_gap k p le in (was.entry, was.is, was.begun_as);
+        accepted_begun = order.accepted_begun;
+        begun_accepted = order.begun_accepted;
+        reports = order.rest;
+        reported_accepted = order.reported_accepted;
+        begun_reported = order.begun_reported;
+        latest = λ number port k x v copy e. let told = (timely number port k x v copy).latest e in (told.entry, told.kept, told.is);
+        older = λ number port k x v copy l. (timely number port k x v copy).older l;
+      }
 
 served_by : (N : Network) (s : ℕ) (r : RunningNetwork) (a : Account) → HasAccount N s r a → IsServedSoFar N s r a
 served_by N s r a at = record { account = at; served = is-served N s r a (stays-by N s r a at) }
