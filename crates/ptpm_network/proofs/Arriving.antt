@@ -33,19 +33,19 @@ is_copy_of N w c port f copy n r place i e =
     let by = is_copy_by N c (ports N c) f.origin d.message n place (heard-true N w f.octets f.origin n r i d.message d.read).1 d.passes in
     let says = says_request N w by.session by.k f.octets n r (subst (IsHeard N w f.octets) by.origin i) in
     let v : Message = request_at N by.session by.k says.domain says.hops says.request in
-    let is : copy_from (delivery port f) v ≡ copy =
-    subst (λ (u : Message). copy_from (delivery port f) u ≡ copy) (same_read f.octets d.message v says.message d.read) d.copy in
+    let is : copy ≡ copy_from (delivery port f) v =
+    sym (subst (λ (u : Message). copy_from (delivery port f) u ≡ copy) (same_read f.octets d.message v says.message d.read) d.copy) in
     record {
       session = by.session;
       k = by.k;
       origin = by.origin;
       target = by.target;
       says = says;
-      index = sym (ap (λ (x : RequestCopy). x.index) is) ∙ ap index_of by.origin;
-      ingress = sym (ap (λ (x : RequestCopy). x.ingress) is);
-      source = sym (ap (λ (x : RequestCopy). x.heard.source) is);
-      number = sym (ap (λ (x : RequestCopy). x.heard.number) is);
-      request = sym (ap (λ (x : RequestCopy). x.request) is);
+      index = ap (λ (x : RequestCopy). x.index) is ∙ ap index_of by.origin;
+      ingress = ap (λ (x : RequestCopy). x.ingress) is;
+      source = ap (λ (x : RequestCopy). x.heard.source) is;
+      number = ap (λ (x : RequestCopy). x.heard.number) is;
+      request = ap (λ (x : RequestCopy). x.request) is;
       read = λ u h. subst (λ (z : Message). is_copy (N.clock c) (ports N c) z ≡ true) (same_Some d.message u (sym d.read ∙ h)) d.passes;
     }
 
