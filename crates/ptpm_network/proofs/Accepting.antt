@@ -1,5 +1,5 @@
 -- How what was accepted of a manager, its requests and its reports go on together.
-use Rattle.ptpm_network.proofs.Common.{by_test, suc, zero, arith, ◌≡◌, ℕ, ◌<◌, ◌≤◌, ◌+◌, ◌-◌, ◌==◌, ◌&&◌, max, List, [], ◌∷◌, ◌++◌, Option, Some, None, true, false, refl, sym, ◌∙◌, ap, subst, ⊎_elim, length, length-append, cases_eq, and_parts, and_from, and_left, and_right, eqb-true, eq-eqb, ne_eqb, cond-true, cond-false, slice_get, PortIdentity, same_identity, Answer, RequestValue, answer_body, Accepted, greatest, kept_reply, Report, outcome_in, Answers, HasOneAnswer, SessionState, outcomes_kept, reports_by, reports_of, IsAsked, IsInStep, WasAccepted, get_append, get_appended}
+use Rattle.ptpm_network.proofs.Common.{by_test, suc, zero, arith, ◌≡◌, ℕ, ◌<◌, ◌≤◌, ◌+◌, ◌-◌, ◌==◌, ◌&&◌, max, List, [], ◌∷◌, ◌++◌, Option, Some, None, true, false, refl, sym, ◌∙◌, ap, subst, ⊎_elim, length, length-append, cases_eq, and_parts, and_from, and_left, and_right, eqb-true, eq-eqb, ne_eqb, cond-true, cond-false, slice_get, PortIdentity, same_identity, Answer, RequestValue, answer_body, Accepted, greatest, kept_reply, Report, outcome_in, Answers, HasOneAnswer, SessionState, outcomes_kept, reports_by, reports_of, IsAsked, IsInStep, InWindow, append_assoc, append-nil, WasAccepted, get_append, get_appended}
 
 -- ---- one more accepted request
 
@@ -184,18 +184,24 @@ outcomes_kept-more m es n k e a next kept one =
     subst (λ i. kept_reply m i es ≡ Some e → outcomes_kept m es i ≡ outcomes_kept m es n ++ report_of i e a ∷ []) (sym next)
     (λ h. ap (λ rs. outcomes_kept m es n ++ rs) (reports_of-one (suc n) (kept_reply m (suc n) es) e a h one)) kept
 
+-- a report tells the one answer that is kept for request k
+pub record IsToldOf (m : PortIdentity) (k : ℕ) (es : List Accepted) (report : Report) : Type 0 where
+  pub entry : Accepted
+  pub kept : kept_reply m k es ≡ Some entry
+  pub answer : Answer
+  pub one : entry.reply.answers ≡ answer ∷ []
+  pub is : report ≡ report_of k entry answer
+
 -- it is told the answer to its last request, which was accepted
-pub in_step-reported : (m : PortIdentity) (ports : ℕ) (es : List Accepted) (s : SessionState)
-    (k : ℕ) (e : Accepted) (a : Answer)
-    → k ≡ length s.begun → (length s.reports ≡ length s.begun → ⊥) → kept_reply m k es ≡ Some e
-    → e.reply.answers ≡ a ∷ [] → IsInStep m ports es s
+pub in_step-reported : (m : PortIdentity) (ports : ℕ) (es : List Accepted) (s : SessionState) (k : ℕ) (report : Report)
+    → k ≡ length s.begun → (length s.reports ≡ length s.begun → ⊥) → IsToldOf m k es report → IsInStep m ports es s
     → IsInStep m ports es
-    (record { domain = s.domain; attempts_left = s.attempts_left; begun = s.begun; reports = s.reports ++ report_of k e a ∷ [] })
-in_step-reported m ports es s k e a last busy kept one at =
-    let bound : k ≤ greatest m es = kept-le m k es e kept in
-    let more : length (s.reports ++ report_of k e a ∷ []) ≡ length s.reports + 1 = length-append s.reports (report_of k e a ∷ []) in
+    (record { domain = s.domain; attempts_left = s.attempts_left; begun = s.begun; reports = s.reports ++ report ∷ [] })
+in_step-reported m ports es s k report last busy told at =
+    let bound : k ≤ greatest m es = kept-le m k es told.entry told.kept in
+    let more : length (s.reports ++ report ∷ []) ≡ length s.reports + 1 = length-append s.reports (report ∷ []) in
     let next : k ≡ suc (length s.reports) = omega (arith, at.one_at_a_time, at.begun_before, at.accepted_before) in
-    let size : k ≡ length (s.reports ++ report_of k e a ∷ []) = omega (arith, more, next) in
+    let size : k ≡ length (s.reports ++ report ∷ []) = omega (arith, more, next) in
     record {
       asked = at.asked;
       one_at_a_time = omega (arith, more, at.one_at_a_time);
@@ -203,7 +209,58 @@ in_step-reported m ports es s k e a last busy kept one at =
       accepted_before = omega (arith, more, bound, next);
       from_one = at.from_one;
       without_gap = at.without_gap;
-      reports = ap (λ rs. rs ++ report_of k e a ∷ []) at.reports
-          ∙ sym (outcomes_kept-more m es (length s.reports) k e a next kept one)
+      reports = ap (λ rs. rs ++ report ∷ []) at.reports
+          ∙ ap (λ (x : Report). outcomes_kept m es (length s.reports) ++ x ∷ []) told.is
+          ∙ sym (outcomes_kept-more m es (length s.reports) k told.entry told.answer next told.kept told.one)
           ∙ ap (outcomes_kept m es) size;
+    }
+
+-- ---- a copy in the window
+
+-- one of a request that was begun, where no more than 32,768 were begun since
+pub in_step-window : (m : PortIdentity) (ports : ℕ) (es : List Accepted) (s : SessionState) (k : ℕ)
+    → IsInStep m ports es s → k ≤ length s.begun → length s.begun ≤ k + 32768
+    → InWindow (greatest m es) k
+in_step-window m ports es s k at within time = record {
+  not_far_ahead = omega (arith, within, at.one_at_a_time, at.accepted_before);
+  not_far_behind = omega (arith, time, at.begun_before);
+}
+
+-- ---- what a manager may rely on
+
+-- what a manager is to be told begins with what it is to be told of its first requests
+told-begins : (m : PortIdentity) (accepted : List Accepted) (g n : ℕ)
+    → n ≤ g
+    → (rest : List Report) × (outcomes_kept m accepted g ≡ outcomes_kept m accepted n ++ rest)
+told-begins m accepted zero n le =
+    let none : n ≡ 0 = omega arith in
+    ([], sym (append-nil (outcomes_kept m accepted n) ∙ ap (outcomes_kept m accepted) none))
+told-begins m accepted (suc g) n le = ⊎_elim
+    (λ (q : n ≡ suc g). ([], sym (append-nil (outcomes_kept m accepted n) ∙ ap (outcomes_kept m accepted) q)))
+    (λ (ne : n ≡ suc g → ⊥).
+    let p = told-begins m accepted g n (omega arith) in
+    let last : List Report = reports_of (suc g) (kept_reply m (suc g) accepted) in
+    (p.0 ++ last, ap (λ (rs : List Report). rs ++ last) p.1 ∙ append_assoc (outcomes_kept m accepted n) p.0 last))
+    (cases_eq n (suc g))
+
+-- its requests are accepted one after another, and its reports are the first of what the replies to them say
+pub record IsInOrder (m : PortIdentity) (begun : List RequestValue) (es : List Accepted) (reports : List Report) : Type 0 where
+  pub rest : (later : List Report) × (outcomes_kept m es (greatest m es) ≡ reports ++ later)
+  pub reported_accepted : length reports ≤ greatest m es
+  pub accepted_begun : greatest m es ≤ length begun
+  pub begun_accepted : length begun ≤ greatest m es + 1
+  pub begun_reported : length begun ≤ length reports + 1
+
+-- in the machine, and where it is served however late the messages of others come
+pub in_order : (m : PortIdentity) (ports : ℕ) (es : List Accepted) (s : SessionState)
+    → IsInStep m ports es s
+    → IsInOrder m s.begun es s.reports
+in_order m ports es s at =
+    let told = told-begins m es (greatest m es) (length s.reports) at.accepted_before in
+    record {
+      rest = (told.0, told.1 ∙ ap (λ rs. rs ++ told.0) (sym at.reports));
+      reported_accepted = at.accepted_before;
+      accepted_begun = at.begun_before;
+      begun_accepted = omega (arith, at.one_at_a_time, at.accepted_before);
+      begun_reported = at.one_at_a_time;
     }

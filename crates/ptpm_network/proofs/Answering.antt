@@ -1,7 +1,9 @@
 -- The frames that a clock makes of one that comes in keep the invariant.
-use Rattle.ptpm_network.proofs.Common.{by_test, arith, ◌≡◌, ℕ, ◌<◌, ◌≤◌, ◌^◌, ◌==◌, List, [], ◌∷◌, Option, Some, None, true, false, refl, sym, ◌∙◌, ap, subst, and_from, cond-true, cond-false, eq-eqb, same_Some, map, AllByRecursion, ClockIdentity, PortIdentity, canonical, Answer, ReplyValue, Heard, same_request, hops_passed, rendered, reply_message, due_messages, Accepted, History, RequestCopy, accepted_from, after_arrival, after_copy, copy_of, due_reply, greatest, joins, kept_for, kept_reply, Clock, same_identity-refl, IsSendable, IsFrame, IsOfOrigin, IsReached, arrives, delivery, reply_frames, reply_origin, AtPort, HasEnd, IsNetwork, Network, manager, peers, ports, Frame, NetworkState, Origin, ReplyTo, accepted_at_target, history, all_flat, all_made}
+use Rattle.ptpm_network.proofs.Common.{by_test, arith, ◌≡◌, ℕ, ◌<◌, ◌≤◌, ◌^◌, ◌==◌, List, [], ◌∷◌, Option, Some, None, true, false, refl, sym, ◌∙◌, ap, subst, and_from, cond-true, cond-false, eq-eqb, same_Some, map, AllByRecursion, ClockIdentity, PortIdentity, Message, canonical, Fits, action_of, is_reply, heard_of, RequestValue, Answers, HasOneAnswer, IsMessage, number_of, all_weaker, Answer, ReplyValue, Heard, same_request, hops_passed, rendered, reply_message, due_messages, Accepted, History, RequestCopy, accepted_from, after_arrival, after_copy, copy_of, due_reply, greatest, joins, kept_for, kept_reply, Clock, same_identity-refl, IsSendable, IsFrame, IsOfOrigin, IsReached, arrives, delivery, reply_frames, reply_origin, AtPort, HasEnd, IsNetwork, Network, manager, peers, ports, Frame, NetworkState, Origin, ReplyTo, accepted_at_target, history, all_flat, all_made}
+use Rattle.ptpm_network.specs.Invariant.{IsReplyFrame}
 use Rattle.ptpm_network.proofs.Arriving.{IsCopyOf, history-here}
 use Rattle.ptpm_network.proofs.Frames.{SaysKept, says_kept}
+use Rattle.ptpm_network.proofs.Messages.{answer_body-is_reply, canonical-message, reply_at, reply-fits, reply-valid}
 use Rattle.ptpm_network.proofs.Steps.{has_peers, new_frames-are}
 
 -- ---- the reply that is due is the one that is kept from then on
@@ -70,16 +72,40 @@ pub rendered-all : (P : List ℕ → Type 0) (me : ClockIdentity) (heard : Heard
 unfolding rendered
 rendered-all P me heard r ingress each a = all_made IsSendable (λ (m : ℕ × List ℕ). P m.1) _ each r.answers a
 
--- ---- the reply to a numbered copy
-
 pub small : (p n : ℕ) → p ≤ n → n ≤ 8 → p < 2 ^ 16
 small p n a b = omega arith
+
+pub reply-message : (N : Network) (c port : ℕ) (v : Message) (q : RequestValue) (r : ReplyValue) (a : Answer)
+    → IsNetwork N → HasEnd N (AtPort c port) → Fits v → q.id < 2 ^ 16 → Answers q r → IsSendable a
+    → IsMessage (canonical (reply_message (N.clock c).identity (heard_of v) r.action r.id port a))
+    (reply_at (N.clock c).identity (heard_of v) r port (hops_passed (heard_of v)) a)
+reply-message N c port v q r a n end fits id answers s =
+    let clock = n.are_clocks c end.0 in
+    let me = (N.clock c).identity in
+    canonical-message (reply_at me (heard_of v) r port (hops_passed (heard_of v)) a)
+    (reply-valid me (heard_of v) q r port (hops_passed (heard_of v)) a answers s)
+    (reply-fits me (heard_of v) q r port (hops_passed (heard_of v)) a clock.identity fits.source.clock fits.source.port fits.number
+    (small port (ports N c) end.2 clock.at_most_eight) id answers s)
+
+-- each message of a reply, of which this holds
+pub rendered-says : (P : List ℕ → Type 0) (N : Network) (c port : ℕ) (v : Message) (q : RequestValue) (r : ReplyValue)
+    → IsNetwork N → HasEnd N (AtPort c port) → Fits v → q.id < 2 ^ 16 → Answers q r
+    → ((octets : List ℕ) (u : Message) → IsMessage octets u → u.source.clock ≡ (N.clock c).identity → u.target ≡ v.source
+    → is_reply (action_of u.body) ≡ true → P octets)
+    → AllByRecursion (λ (m : ℕ × List ℕ). P m.1) (rendered (N.clock c).identity (heard_of v) r port)
+rendered-says P N c port v q r n end fits id answers each =
+    let me = (N.clock c).identity in
+    rendered-all P me (heard_of v) r port
+    (λ a s. each _ (reply_at me (heard_of v) r port (hops_passed (heard_of v)) a) (reply-message N c port v q r a n end fits id answers s) refl refl (answer_body-is_reply q r a.outcome answers))
+    answers.sendable
+
+-- ---- the reply to a numbered copy
 
 -- what the clock keeps of the copy's request, once the copy came in
 pub record KeepsDue (N : Network) (u : NetworkState) (s k : ℕ) (r : ReplyValue) : Type 0 where
   pub entry : Accepted
   pub kept : kept_reply (manager N s) k (accepted_at_target N u s) ≡ Some entry
-  pub says : SaysKept N u s k entry
+  pub says : SaysKept N s k (u.session s).begun entry
   pub reply : entry.reply ≡ r
 
 pub keeps_due : (N : Network) (w : NetworkState) (c port : ℕ) (f : Frame) (copy : RequestCopy)
@@ -107,7 +133,33 @@ keeps_due N w c port f copy r reached of e d =
       reply = due.reply;
     }
 
--- it is a frame of the reply that is kept for the copy's request
+-- a reply that is kept for a session's request, as it is sent
+pub kept-frame : (N : Network) (s k port : ℕ) (accepted : List Accepted) (me : ClockIdentity) (heard : Heard) (entry : Accepted)
+    → me ≡ (N.session s).setup.target → 0 < k → kept_reply (manager N s) k accepted ≡ Some entry
+    → HasOneAnswer entry.request entry.reply
+    → heard.source ≡ manager N s → heard.number ≡ number_of (N.session s).setup.first k → port < 2 ^ 16
+    → AllByRecursion (λ (m : ℕ × List ℕ). IsReplyFrame (N.session s).setup accepted k m.1) (rendered me heard entry.reply port)
+kept-frame N s k port accepted me heard entry target positive kept one source number in' =
+    let r = entry.reply in
+    let a = one.answer in
+    subst (AllByRecursion (λ (m : ℕ × List ℕ). IsReplyFrame (N.session s).setup accepted k m.1)) (sym (rendered-one me heard r port a one.is)) (
+      record {
+        positive = positive;
+        entry = entry;
+        kept = kept;
+        answer = a;
+        one = one.is;
+        heard = heard;
+        source = source;
+        number = number;
+        ingress = port;
+        port = in';
+        hops = hops_passed heard;
+        is = ap (λ (x : ClockIdentity). canonical (reply_message x heard r.action r.id port a)) target;
+      },
+      tt,
+    )
+
 due-origin : (N : Network) (w : NetworkState) (c port : ℕ) (f : Frame) (copy : RequestCopy)
     (r : ReplyValue)
     → IsNetwork N → IsReached N (arrives w c (delivery port f)) → HasEnd N (AtPort c port)
@@ -118,34 +170,15 @@ due-origin : (N : Network) (w : NetworkState) (c port : ℕ) (f : Frame) (copy :
     (λ m. IsOfOrigin N (arrives w c (delivery port f)) m.1 (ReplyTo of.session of.k))
     (rendered (N.clock c).identity copy.heard r copy.ingress)
 due-origin N w c port f copy r n reached end of e d =
-    let u = arrives w c (delivery port f) in
+    let accepted = accepted_at_target N (arrives w c (delivery port f)) of.session in
     let keeps = keeps_due N w c port f copy r reached of e d in
-    let one = keeps.says.one in
-    let a = one.answer in
-    let session = n.are_sessions of.session of.says.place in
-    let target : (N.clock c).identity ≡ (N.session of.session).setup.target = sym (session.target ∙ ap (λ j. (N.clock j).identity) of.target) in
-    subst (AllByRecursion (λ m. IsOfOrigin N u m.1 (ReplyTo of.session of.k)))
-    (sym (rendered-one (N.clock c).identity copy.heard r copy.ingress a (ap (λ (z : ReplyValue). z.answers) (sym keeps.reply) ∙ one.is))) (
-      (
-        of.says.place,
-        record {
-          positive = of.says.positive;
-          entry = keeps.entry;
-          kept = keeps.kept;
-          answer = a;
-          one = one.is;
-          heard = copy.heard;
-          source = of.source;
-          number = of.number;
-          ingress = copy.ingress;
-          port = subst (λ p. p < 2 ^ 16) (sym of.ingress) (small port (ports N c) end.2 (n.are_clocks c end.0).at_most_eight);
-          hops = hops_passed copy.heard;
-          is = ap (λ (x : ClockIdentity). canonical (reply_message x copy.heard r.action r.id copy.ingress a)) target
-              ∙ ap (λ (z : ReplyValue). canonical (reply_message (N.session of.session).setup.target copy.heard z.action z.id copy.ingress a)) (sym keeps.reply);
-        },
-      ),
-      tt,
-    )
+    let target : (N.clock c).identity ≡ (N.session of.session).setup.target =
+    sym ((n.are_sessions of.session of.says.place).target ∙ ap (λ j. (N.clock j).identity) of.target) in
+    let in' : copy.ingress < 2 ^ 16 = subst (λ p. p < 2 ^ 16) (sym of.ingress) (small port (ports N c) end.2 (n.are_clocks c end.0).at_most_eight) in
+    let P : ℕ × List ℕ → Type 0 = λ m. IsReplyFrame (N.session of.session).setup accepted of.k m.1 in
+    all_weaker P _ (λ m x. (of.says.place, x)) (rendered (N.clock c).identity copy.heard r copy.ingress)
+    (subst (λ (z : ReplyValue). AllByRecursion P (rendered (N.clock c).identity copy.heard z copy.ingress)) keeps.reply
+    (kept-frame N of.session of.k copy.ingress accepted (N.clock c).identity copy.heard keeps.entry target of.says.positive keeps.kept keeps.says.one of.source of.number in'))
 
 pub due-frames : (N : Network) (w : NetworkState) (c port : ℕ) (f : Frame) (copy : RequestCopy)
     (o : Option ReplyValue)

@@ -1,10 +1,10 @@
 -- What a delivery at a clock does to what the clock accepted.
-use Rattle.ptpm_network.proofs.Common.{by_test, ◌≡◌, ℕ, ◌<◌, ◌≤◌, ◌-◌, ◌==◌, nat_lt, List, [], ◌∷◌, ◌++◌, Option, Some, None, true, false, refl, sym, ◌∙◌, ap, subst, ⊎_elim, ◌⊎◌, inl, inr, length, and_parts, cond-true, cond-false, eq-eqb, eqb-true, ltb-true, not-true, true≢false, same_Some, cons_option, slice_get, PortIdentity, Action, Message, same_identity, action_of, is_reply, message_of, Outcome, RequestValue, answer_body, Accepted, Delivery, History, RequestCopy, accepted_from, after_arrival, after_copy, applied_once, copies, initial_history, copy_from, copy_of, greatest, is_copy, joined, joins, kept_reply, Clock, DeliversCopy, applied_once-ports, delivers_copy, same_identity-true, copy_parts, number_of, AreDataSets, IsForOne, IsInStep, IsReached, arrives, delivery, index_of, IsNetwork, Network, manager, ports, Frame, NetworkState, Origin, RequestOf, ReplyTo, Neither, accepted_at_target, copies_at, history, reply_action-is_reply, with_place-other, with_place-same}
+use Rattle.ptpm_network.proofs.Common.{by_test, ◌≡◌, ℕ, ◌<◌, ◌≤◌, ◌-◌, ◌==◌, nat_lt, List, [], ◌∷◌, ◌++◌, Option, Some, None, true, false, refl, sym, ◌∙◌, ap, subst, ⊎_elim, ◌⊎◌, inl, inr, length, and_parts, cond-true, cond-false, eq-eqb, eqb-true, ltb-true, same_Some, cons_option, slice_get, PortIdentity, Message, same_identity, message_of, RequestValue, Accepted, Delivery, History, RequestCopy, accepted_from, after_arrival, after_copy, applied_once, copies, initial_history, copy_from, copy_of, greatest, is_copy, joined, joins, kept_reply, Clock, applied_once-ports, delivers_copy, same_identity-true, number_of, AreDataSets, IsForOne, IsInStep, IsReached, arrives, delivery, index_of, IsNetwork, Network, manager, ports, Frame, NetworkState, SessionState, RequestOf, accepted_at_target, copies_at, history, with_place-other, with_place-same}
 use Rattle.std.proofs.lemmas.List.Elements.{filter_map-append}
-use Rattle.ptpm_data.specs.Reply as reply
 use Rattle.ptpm_network.proofs.Accepting.{IsAbove, JoinsOwn, in_step-joined, kept-joined, kept-le}
-use Rattle.ptpm_network.proofs.Frames.{IsHeard, SaysRequest, same_read, says_reply, says_request}
+use Rattle.ptpm_network.proofs.Frames.{IsHeard, SaysRequest, same_read, says_request}
 use Rattle.ptpm_network.proofs.Messages.{request_at}
+use Rattle.ptpm_network.proofs.Origins.{heard-true, is_copy_by}
 use Rattle.ptpm_network.proofs.Requests.{answered, kept, once}
 use Rattle.ptpm_network.proofs.Steps.{KeptStays, frames-stay}
 
@@ -15,7 +15,7 @@ pub record IsCopyOf (N : Network) (w : NetworkState) (c port : ℕ) (f : Frame) 
   pub k : ℕ
   pub origin : f.origin ≡ RequestOf session k
   pub target : (N.session session).target ≡ c
-  pub says : SaysRequest N w session k f.octets
+  pub says : SaysRequest N session k (w.session session).begun f.octets
   -- the parts of the copy
   pub index : copy.index ≡ k
   pub ingress : copy.ingress ≡ port
@@ -24,59 +24,30 @@ pub record IsCopyOf (N : Network) (w : NetworkState) (c port : ℕ) (f : Frame) 
   pub request : copy.request ≡ says.request
   pub read : (v : Message) → message_of f.octets ≡ Some v → is_copy (N.clock c) (ports N c) v ≡ true
 
-pub action_of-answer_body : (action : Action) (id : ℕ) (o : Outcome)
-    → action_of (answer_body action id o) ≡ action
-action_of-answer_body action id (reply.Value octets) = refl
-action_of-answer_body action id reply.Done = refl
-action_of-answer_body action id (reply.Refused error) = refl
-
-copy_of-origin : (N : Network) (w : NetworkState) (c port : ℕ) (f : Frame) (o : Origin)
-    (copy : RequestCopy)
-    → f.origin ≡ o → IsNetwork N → IsReached N w → c < N.clocks → IsHeard N w f.octets o
-    → DeliversCopy (N.clock c) (ports N c) (delivery port f) copy
-    → IsCopyOf N w c port f copy
-copy_of-origin N w c port f (RequestOf t k) copy e n r place i d =
-    let says = says_request N w t k f.octets n r i in
-    let v : Message = request_at N t k says.domain says.hops says.request in
-    let same : d.message ≡ v = same_read f.octets d.message v says.message d.read in
-    let parts = copy_parts (N.clock c) (ports N c) d.message d.passes in
-    let m = n.managers c d.message.source place parts.known in
-    let source : manager N m.0 ≡ manager N t = m.2 ∙ ap (λ (u : Message). u.source) same in
-    let ts : m.0 ≡ t = n.sessions_apart m.0 t m.1 says.place source in
-    let is : copy_from (delivery port f) v ≡ copy = subst (λ (u : Message). copy_from (delivery port f) u ≡ copy) same d.copy in
-    record {
-      session = t;
-      k = k;
-      origin = e;
-      target = ap (λ j. (N.session j).target) (sym ts) ∙ m.3;
-      says = says;
-      index = sym (ap (λ (x : RequestCopy). x.index) is) ∙ ap index_of e;
-      ingress = sym (ap (λ (x : RequestCopy). x.ingress) is);
-      source = sym (ap (λ (x : RequestCopy). x.heard.source) is);
-      number = sym (ap (λ (x : RequestCopy). x.heard.number) is);
-      request = sym (ap (λ (x : RequestCopy). x.request) is);
-      read = λ u h. subst (λ (z : Message). is_copy (N.clock c) (ports N c) z ≡ true) (same_Some d.message u (sym d.read ∙ h)) d.passes;
-    }
-copy_of-origin N w c port f (ReplyTo t k) copy e n r place i d =
-    let says = says_reply N w t k f.octets n r i in
-    let same = same_read f.octets d.message _ says.message d.read in
-    let parts = copy_parts (N.clock c) (ports N c) d.message d.passes in
-    let answers : is_reply (action_of d.message.body) ≡ true =
-    ap (λ (u : Message). is_reply (action_of u.body)) same
-    ∙ ap is_reply (action_of-answer_body says.entry.reply.action says.entry.reply.id says.answer.outcome ∙ says.says.answers.action)
-    ∙ reply_action-is_reply says.entry.request.action in
-    absurd (true≢false (sym answers ∙ not-true _ parts.request))
-copy_of-origin N w c port f Neither copy e n r place i d =
-    let parts = copy_parts (N.clock c) (ports N c) d.message d.passes in
-    let m = n.managers c d.message.source place parts.known in
-    absurd ((i d.message d.read).1.no_request m.0 m.1 (sym m.2))
-
 pub is_copy_of : (N : Network) (w : NetworkState) (c port : ℕ) (f : Frame) (copy : RequestCopy)
     → IsNetwork N → IsReached N w → c < N.clocks → IsHeard N w f.octets f.origin
     → copy_of (N.clock c) (ports N c) (delivery port f) ≡ Some copy
     → IsCopyOf N w c port f copy
 is_copy_of N w c port f copy n r place i e =
-    copy_of-origin N w c port f f.origin copy refl n r place i (delivers_copy (N.clock c) (ports N c) (delivery port f) copy e)
+    let d = delivers_copy (N.clock c) (ports N c) (delivery port f) copy e in
+    let by = is_copy_by N c (ports N c) f.origin d.message n place (heard-true N w f.octets f.origin n r i d.message d.read).1 d.passes in
+    let says = says_request N w by.session by.k f.octets n r (subst (IsHeard N w f.octets) by.origin i) in
+    let v : Message = request_at N by.session by.k says.domain says.hops says.request in
+    let is : copy ≡ copy_from (delivery port f) v =
+    sym (subst (λ (u : Message). copy_from (delivery port f) u ≡ copy) (same_read f.octets d.message v says.message d.read) d.copy) in
+    record {
+      session = by.session;
+      k = by.k;
+      origin = by.origin;
+      target = by.target;
+      says = says;
+      index = ap (λ (x : RequestCopy). x.index) is ∙ ap index_of by.origin;
+      ingress = ap (λ (x : RequestCopy). x.ingress) is;
+      source = ap (λ (x : RequestCopy). x.heard.source) is;
+      number = ap (λ (x : RequestCopy). x.heard.number) is;
+      request = ap (λ (x : RequestCopy). x.request) is;
+      read = λ u h. subst (λ (z : Message). is_copy (N.clock c) (ports N c) z ≡ true) (same_Some d.message u (sym d.read ∙ h)) d.passes;
+    }
 
 -- ---- what a delivery leaves of a clock
 
@@ -173,6 +144,23 @@ pub record Gains (m : PortIdentity) (begun : List RequestValue) (new old : List 
 abbrev pub StaysOrGains : PortIdentity → List RequestValue → List Accepted → List Accepted → Type 0
 StaysOrGains m begun new old = (new ≡ old) ⊎ Gains m begun new old
 
+pub kept-gained : (m : PortIdentity) (begun : List RequestValue) (new old : List Accepted)
+    → StaysOrGains m begun new old → (k : ℕ) (e : Accepted)
+    → kept_reply m k old ≡ Some e
+    → kept_reply m k new ≡ Some e
+kept-gained m begun new old gains k e h = ⊎_elim
+    (λ (q : new ≡ old). ap (kept_reply m k) q ∙ h)
+    (λ (g : Gains m begun new old). ap (kept_reply m k) g.is ∙ kept-joined m old g.entry k g.above (kept-le m k old e h) ∙ h)
+    gains
+
+pub step-gained : (m : PortIdentity) (p : ℕ) (new old : List Accepted) (state : SessionState)
+    → StaysOrGains m state.begun new old → IsInStep m p old state
+    → IsInStep m p new state
+step-gained m p new old state gains at = ⊎_elim
+    (λ (q : new ≡ old). subst (λ es. IsInStep m p es state) (sym q) at)
+    (λ (g : Gains m state.begun new old). subst (λ es. IsInStep m p es state) (sym g.is) (in_step-joined m p old g.entry state g.above g.own at))
+    gains
+
 joins-own : (N : Network) (w : NetworkState) (c port : ℕ) (f : Frame)
     → IsReached N w → c < N.clocks → (j : JoinsAt N w c port f)
     → JoinsOwn (manager N j.of.session) (w.session j.of.session).begun
@@ -217,23 +205,13 @@ module _ (N : Network) (w : NetworkState) (c port : ℕ) (f : Frame) (n : IsNetw
 
 module _ (N : Network) (w : NetworkState) (c port : ℕ) (f : Frame) (n : IsNetwork N) (r : IsReached N w) (place : c < N.clocks) where
   pub kept-stays : IsHeard N w f.octets f.origin → KeptStays N w (arrives w c (delivery port f))
-  kept-stays i t k e exists h = ⊎_elim
-      (λ (q : accepted_at_target N (arrives w c (delivery port f)) t ≡ accepted_at_target N w t). ap (kept_reply (manager N t) k) q ∙ h)
-      (λ (g : Gains (manager N t) (w.session t).begun (accepted_at_target N (arrives w c (delivery port f)) t) (accepted_at_target N w t)).
-      ap (kept_reply (manager N t) k) g.is
-      ∙ kept-joined (manager N t) (accepted_at_target N w t) g.entry k g.above (kept-le (manager N t) k (accepted_at_target N w t) e h)
-      ∙ h)
-      (gains N w c port f n r place i t exists)
+  kept-stays i t k e exists h =
+      kept-gained (manager N t) (w.session t).begun (accepted_at_target N (arrives w c (delivery port f)) t) (accepted_at_target N w t) (gains N w c port f n r place i t exists) k e h
 
   pub arrives-reached : IsHeard N w f.octets f.origin → IsReached N (arrives w c (delivery port f))
   arrives-reached i = record {
-    sessions = λ t exists. ⊎_elim
-        (λ (q : accepted_at_target N (arrives w c (delivery port f)) t ≡ accepted_at_target N w t).
-        subst (λ es. IsInStep (manager N t) (ports N (N.session t).target) es (w.session t)) (sym q) (r.sessions t exists))
-        (λ (g : Gains (manager N t) (w.session t).begun (accepted_at_target N (arrives w c (delivery port f)) t) (accepted_at_target N w t)).
-        subst (λ es. IsInStep (manager N t) (ports N (N.session t).target) es (w.session t)) (sym g.is)
-        (in_step-joined (manager N t) (ports N (N.session t).target) (accepted_at_target N w t) g.entry (w.session t) g.above g.own (r.sessions t exists)))
-        (gains N w c port f n r place i t exists);
+    sessions = λ t exists.
+        step-gained (manager N t) (ports N (N.session t).target) (accepted_at_target N (arrives w c (delivery port f)) t) (accepted_at_target N w t) (w.session t) (gains N w c port f n r place i t exists) (r.sessions t exists);
     clocks = clocks-after N w c port f n r place i;
     frames = frames-stay N w (arrives w c (delivery port f)) (λ s j q e. e) (kept-stays i) w.frames r.frames;
   }

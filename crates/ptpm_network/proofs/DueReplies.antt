@@ -51,7 +51,7 @@ keeps-latest N w c port f copy r of latest =
       request = same_Some was.entry.request of.says.request (sym was.begun_as ∙ of.says.begun_as) ∙ sym of.request;
     }
 
-due-latest : (c : Clock) (h : History) (copy : RequestCopy)
+pub due-latest : (c : Clock) (h : History) (copy : RequestCopy)
     → greatest copy.heard.source h.accepted ≡ copy.index → (keeps : KeepsLatest c h copy)
     → due_reply c h copy ≡ Some keeps.kept.reply
 due-latest c h copy latest keeps =

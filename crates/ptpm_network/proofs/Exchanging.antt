@@ -1,8 +1,9 @@
 -- What one copy of a session's last request brings about at its target, and one of the reply at the session.
-use Rattle.ptpm_network.proofs.Common.{by_test, arith, ◌≡◌, ℕ, ◌<◌, ◌≤◌, ◌+◌, ◌-◌, ◌^◌, ◌==◌, List, [], ◌∷◌, ◌++◌, Option, Some, None, true, false, refl, sym, ◌∙◌, ap, subst, ⊎_elim, length, length-append, and_from, and_right, cases_eq, cond-false, cond-true, eq-eqb, eqb-false, false_from_ne_true, le-leb, le-ltb, lt-ltb, or_left, or_right, append-nil, same_Some, bytes_eq-Decides, nat_le, nat_lt, not, AllByRecursion, option_or, ClockIdentity, PortIdentity, Message, canonical, every_port, same_clock, boundary_hops, domain_number, message_length, Fits, IsValid, first_of, message_of, canonical_spells, same_clock-refl, same_clock-true, octet-take, message_of-some, message_of-spells, message_size, is_of_port, reply_to, Answer, ReplyValue, RequestValue, is_known, same_request, hops_passed, reply_message, due_messages, Accepted, History, RequestCopy, after_arrival, after_copy, copy_by, copy_from, copy_of, due_reply, greatest, is_copy, kept_for, kept_reply, is_for_this_clock, is_own, is_request, names_port, Clock, Report, outcome_in, Deliver, Event, FramesAtMaximum, IsInRange, frame_at, frames_limit, no_frame, no_room, refusal, HasReplied, HasReported, HasRoom, IsHeardBy, IsAsked, IsFrame, IsOfOrigin, IsReached, answering_frames, arrives, delivered, delivered_at, delivered_at_clock, delivery, forwarded_frames, happens, index_of, is_answer, made_frames, reply_frames, reply_origin, report_from, reported, run, step, step_by, told_by, AtPort, AtSession, End, HasEnd, IsNetwork, Network, manager, peers, ports, Frame, NetworkState, Origin, RequestOf, ReplyTo, SessionState, accepted_at_target, initial_state, greatest_accepted, history, is_idle, is_late, issued, new_frames, with_place-same, le_trans, forwarded-copy}
-use Rattle.ptpm_network.proofs.Answering.{is_due, rendered-one, small}
-use Rattle.ptpm_network.proofs.Arriving.{arrives-reached, history-here}
-use Rattle.ptpm_network.proofs.Frames.{SaysRequest, heard-frame, says_kept, says_reply, says_request, sendable-one}
+use Rattle.ptpm_network.proofs.Common.{by_test, arith, ◌≡◌, ℕ, ◌<◌, ◌≤◌, ◌+◌, ◌-◌, ◌^◌, ◌==◌, List, [], ◌∷◌, ◌++◌, Option, Some, None, true, false, refl, sym, ◌∙◌, ap, subst, ⊎_elim, length, length-append, and_from, cases_eq, cond-true, eq-eqb, eqb-false, false_from_ne_true, le-leb, le-ltb, lt-ltb, or_left, or_right, append-nil, same_Some, nat_le, nat_lt, not, AllByRecursion, option_or, ClockIdentity, PortIdentity, Message, canonical, every_port, same_clock, boundary_hops, domain_number, message_length, Fits, IsValid, first_of, message_of, canonical_spells, same_clock-refl, same_clock-true, octet-take, message_of-some, message_of-spells, message_size, is_of_port, reply_to, Answer, ReplyValue, RequestValue, is_known, hops_passed, reply_message, due_messages, History, RequestCopy, copy_by, copy_from, copy_of, due_reply, greatest, is_copy, kept_reply, is_for_this_clock, is_own, is_request, names_port, Clock, Report, outcome_in, Deliver, Event, FramesAtMaximum, IsInRange, frame_at, frames_limit, no_frame, no_room, refusal, HasReplied, HasReported, HasRoom, IsHeardBy, IsAsked, IsFrame, IsOfOrigin, IsReached, answering_frames, arrives, delivered, delivered_at, delivered_at_clock, delivery, forwarded_frames, happens, index_of, is_answer, made_frames, reply_frames, reply_origin, report_from, reported, run, step, step_by, told_by, AtPort, AtSession, End, HasEnd, IsNetwork, Network, manager, peers, ports, Frame, NetworkState, Origin, RequestOf, ReplyTo, SessionState, accepted_at_target, initial_state, greatest_accepted, history, is_idle, is_late, issued, new_frames, with_place-same, le_trans, forwarded-copy}
+use Rattle.ptpm_network.proofs.Answering.{keeps_due, rendered-one, small}
+use Rattle.ptpm_network.proofs.Arriving.{arrives-reached, is_copy_of}
+use Rattle.ptpm_network.proofs.DueReplies.{due-latest}
+use Rattle.ptpm_network.proofs.Frames.{SaysRequest, heard-frame, says_reply, says_request, sendable-one}
 use Rattle.ptpm_network.proofs.Messages.{message-hops, reply-fits, reply-valid, reply_at, request_at}
 use Rattle.ptpm_network.proofs.Reaching.{frame_at-is}
 use Rattle.ptpm_network.proofs.Schedule.{reached}
@@ -84,20 +85,6 @@ copy-is N s port f v e is =
 
 -- ---- a reply is due to it
 
-same_request-same : (a b : RequestValue) → a ≡ b → same_request a b ≡ true
-same_request-same a b e = subst (λ (x : RequestValue). same_request a x ≡ true) e
-    (and_from _ _ (eq-eqb _ _ refl) (and_from _ _ (eq-eqb a.id a.id refl) (and_from _ _ (eq-eqb a.port a.port refl) ((bytes_eq-Decides a.octets a.octets).1 refl))))
-
-due-latest : (c : Clock) (h : History) (x : RequestCopy) (e : Accepted)
-    → greatest x.heard.source h.accepted ≡ x.index
-    → kept_reply x.heard.source x.index h.accepted ≡ Some e → e.request ≡ x.request
-    → due_reply c h x ≡ Some e.reply
-due-latest c h x e g kept same =
-    cond-false _ _ _ (and_right (x.heard.domain == h.sets.default.domain) (nat_lt (greatest x.heard.source h.accepted) x.index) (le-ltb (greatest x.heard.source h.accepted) x.index (omega (arith, g))))
-    ∙ cond-true _ _ _ (eq-eqb (greatest x.heard.source h.accepted) x.index g)
-    ∙ ap (kept_for x) kept
-    ∙ cond-true _ _ _ (same_request-same e.request x.request same)
-
 due-new : (c : Clock) (h : History) (x : RequestCopy)
     → x.heard.domain ≡ h.sets.default.domain → greatest x.heard.source h.accepted < x.index
     → due_reply c h x ≡ Some (reply_to x.request (c.rights x.heard.source) h.sets)
@@ -114,7 +101,7 @@ IsDueTo c h x = (r : ReplyValue) × (due_reply c h x ≡ Some r)
 
 -- the parts of a copy of the last request
 pub record IsLatestCopy (N : Network) (w : NetworkState) (s : ℕ) (octets : List ℕ) (x : RequestCopy) : Type 0 where
-  pub says : SaysRequest N w s (issued w s) octets
+  pub says : SaysRequest N s (issued w s) (w.session s).begun octets
   pub source : x.heard.source ≡ manager N s
   pub index : x.index ≡ issued w s
   pub request : x.request ≡ says.request
@@ -130,7 +117,7 @@ module _ (N : Network) (w : NetworkState) (s : ℕ) (octets : List ℕ) (x : Req
       let kept : kept_reply x.heard.source x.index (accepted_at_target N w s) ≡ Some was.entry =
       ap (λ (m : PortIdentity). kept_reply m x.index (accepted_at_target N w s)) of.source ∙ ap (λ k. kept_reply (manager N s) k (accepted_at_target N w s)) of.index ∙ was.is in
       let same : was.entry.request ≡ x.request = same_Some was.entry.request of.says.request (sym was.begun_as ∙ of.says.begun_as) ∙ sym of.request in
-      (was.entry.reply, due-latest (N.clock (N.session s).target) (history N w (N.session s).target) x was.entry here kept same)
+      (was.entry.reply, due-latest (N.clock (N.session s).target) (history N w (N.session s).target) x here (record { kept = was.entry; is = kept; request = same }))
 
   due-first : domain_number octets ≡ (history N w (N.session s).target).sets.default.domain
       → (greatest_accepted N w s ≡ issued w s → ⊥)
@@ -174,12 +161,8 @@ reply-message N w s port f x r n reached place end origin i of ingress number e 
     let u = arrives w c (delivery port f) in
     let heard = heard-frame N w f.octets f.origin i in
     let reached_u : IsReached N u = arrives-reached N w c port f n reached session.exists heard in
-    let due = is_due (N.clock c) (history N w c) x r d in
-    let here : history N u c ≡ after_copy (N.clock c) (history N w c) x = history-here N w c (delivery port f) ∙ ap (after_arrival (N.clock c) (history N w c)) e in
-    let kept_x : kept_reply x.heard.source x.index (accepted_at_target N u s) ≡ Some due.entry = ap (λ (h : History). kept_reply x.heard.source x.index h.accepted) here ∙ due.kept in
-    let kept_m : kept_reply (manager N s) x.index (accepted_at_target N u s) ≡ Some due.entry = subst (λ (m : PortIdentity). kept_reply m x.index (accepted_at_target N u s) ≡ Some due.entry) of.source kept_x in
-    let kept : kept_reply (manager N s) (issued w s) (accepted_at_target N u s) ≡ Some due.entry = subst (λ k. kept_reply (manager N s) k (accepted_at_target N u s) ≡ Some due.entry) of.index kept_m in
-    let says = says_kept N u s (issued w s) due.entry reached_u place of.says.positive kept in
+    let due = keeps_due N w c port f x r reached_u (is_copy_of N w c port f x n reached session.exists heard e) e d in
+    let says = due.says in
     let sendable = sendable-one due.entry.request due.entry says.one.answer says.one.is says.answers in
     let clock = n.are_clocks c session.exists in
     let source : length x.heard.source.clock.0 ≡ 8 = subst (λ (m : PortIdentity). length m.clock.0 ≡ 8) (sym of.source) session.identity.clock in

@@ -1,80 +1,38 @@
 -- What a frame of each origin says, and that what a clock passes on keeps its origin.
-use Rattle.ptpm_network.proofs.Common.{arith, ◌≡◌, ℕ, ◌<◌, ◌≤◌, ◌+◌, ◌-◌, ◌^◌, List, [], ◌∷◌, Some, sym, ◌∙◌, ap, subst, length, same_Some, slice_get_within, slice_get, AllByRecursion, ClockIdentity, PortIdentity, Message, canonical, boundary_hops, Fits, message_of, Answer, RequestValue, Heard, with_less_hop, Accepted, kept_reply, number_of, Answers, HasOneAnswer, IsSendable, IsAsked, IsForeign, IsFrame, IsMessage, IsOfOrigin, IsReached, forwarded_frames, AtPort, HasEnd, IsNetwork, Network, manager, peers, ports, Frame, NetworkState, Origin, RequestOf, ReplyTo, Neither, accepted_at_target, frames_to, issued, all_flat, all_made, le_trans}
+use Rattle.ptpm_network.proofs.Common.{arith, ◌≡◌, ℕ, ◌<◌, ◌≤◌, ◌+◌, ◌-◌, ◌^◌, List, [], ◌∷◌, Some, sym, ◌∙◌, ap, subst, length, same_Some, slice_get_within, slice_get, AllByRecursion, ClockIdentity, PortIdentity, Message, canonical, boundary_hops, Fits, message_of, Answer, RequestValue, Heard, with_less_hop, Accepted, kept_reply, number_of, Answers, HasOneAnswer, IsSendable, IsAsked, IsForeign, IsFrame, IsInStep, IsMessage, IsOfOrigin, IsReached, SessionState, forwarded_frames, AtPort, HasEnd, IsNetwork, Network, manager, peers, ports, Frame, NetworkState, Origin, RequestOf, ReplyTo, Neither, accepted_at_target, frames_to, all_flat, all_made, le_trans}
+use Rattle.ptpm_network.specs.Invariant.{IsReplyFrame, IsRequestFrame}
 use Rattle.ptpm_network.proofs.Accepting.{kept-le}
 use Rattle.ptpm_network.proofs.Messages.{IsPassedOn, canonical-message, less_hop-canonical, less_hop-hops, less_hop-message, message-hops, reply_at, reply-fits, reply-valid, request_at, request-fits, request-valid}
 use Rattle.ptpm_network.proofs.Steps.{has_peers}
 
--- ---- a frame of a request
+-- ---- what a frame of a session says, where the session and its target are in step
 
-pub record SaysRequest (N : Network) (w : NetworkState) (s k : ℕ) (octets : List ℕ) : Type 0 where
+pub record SaysRequest (N : Network) (s k : ℕ) (begun : List RequestValue) (octets : List ℕ) : Type 0 where
   pub place : s < N.sessions
   pub positive : 0 < k
-  pub within : k ≤ issued w s
+  pub within : k ≤ length begun
   pub request : RequestValue
-  pub begun_as : slice_get (w.session s).begun (k - 1) ≡ Some request
+  pub begun_as : slice_get begun (k - 1) ≡ Some request
   pub asked : IsAsked (ports N (N.session s).target) request
   pub domain : ℕ
   pub hops : ℕ
   pub is : octets ≡ canonical (request_at N s k domain hops request)
   pub message : IsMessage octets (request_at N s k domain hops request)
 
-up_to : (k n : ℕ) → 0 < k → k - 1 < n → k ≤ n
-up_to k n p h = omega arith
-
-pub says_request : (N : Network) (w : NetworkState) (s k : ℕ) (octets : List ℕ)
-    → IsNetwork N → IsReached N w → IsOfOrigin N w octets (RequestOf s k)
-    → SaysRequest N w s k octets
-says_request N w s k octets n r (place, i) =
-    let asked = (r.sessions s place).asked (k - 1) i.request i.begun_as in
-    let v : Message = request_at N s k i.domain i.hops i.request in
-    record {
-      place = place;
-      positive = i.positive;
-      within = up_to k (issued w s) i.positive (slice_get_within (w.session s).begun (k - 1) i.request i.begun_as);
-      request = i.request;
-      begun_as = i.begun_as;
-      asked = asked;
-      domain = i.domain;
-      hops = i.hops;
-      is = i.is;
-      message = subst (λ m. IsMessage m v) (sym i.is)
-          (canonical-message v (request-valid N s k i.domain i.hops (ports N (N.session s).target) i.request asked)
-          (request-fits N s k i.domain i.hops (ports N (N.session s).target) i.request n place asked));
-    }
-
--- ---- a frame of a reply
-
 -- what was accepted as request k, with the one answer to it
-pub record SaysKept (N : Network) (w : NetworkState) (s k : ℕ) (e : Accepted) : Type 0 where
-  pub begun_as : slice_get (w.session s).begun (k - 1) ≡ Some e.request
+pub record SaysKept (N : Network) (s k : ℕ) (begun : List RequestValue) (e : Accepted) : Type 0 where
+  pub begun_as : slice_get begun (k - 1) ≡ Some e.request
   pub asked : IsAsked (ports N (N.session s).target) e.request
   pub answers : Answers e.request e.reply
   pub one : HasOneAnswer e.request e.reply
-  pub within : k ≤ issued w s
+  pub within : k ≤ length begun
 
-pub says_kept : (N : Network) (w : NetworkState) (s k : ℕ) (e : Accepted)
-    → IsReached N w → s < N.sessions → 0 < k
-    → kept_reply (manager N s) k (accepted_at_target N w s) ≡ Some e
-    → SaysKept N w s k e
-says_kept N w s k e r place positive kept =
-    let at = r.sessions s place in
-    let le = kept-le (manager N s) k (accepted_at_target N w s) e kept in
-    let was = at.without_gap k positive le in
-    let same : was.entry ≡ e = same_Some was.entry e (sym was.is ∙ kept) in
-    record {
-      begun_as = subst (λ (a : Accepted). slice_get (w.session s).begun (k - 1) ≡ Some a.request) same was.begun_as;
-      asked = subst (λ (a : Accepted). IsAsked (ports N (N.session s).target) a.request) same (at.asked (k - 1) was.entry.request was.begun_as);
-      answers = subst (λ (a : Accepted). Answers a.request a.reply) same was.answers;
-      one = subst (λ (a : Accepted). HasOneAnswer a.request a.reply) same was.one;
-      within = le_trans le at.begun_before;
-    }
-
-pub record SaysReply (N : Network) (w : NetworkState) (s k : ℕ) (octets : List ℕ) : Type 0 where
+pub record SaysReply (N : Network) (s k : ℕ) (begun : List RequestValue) (accepted : List Accepted) (octets : List ℕ) : Type 0 where
   pub place : s < N.sessions
   pub positive : 0 < k
   pub entry : Accepted
-  pub kept : kept_reply (manager N s) k (accepted_at_target N w s) ≡ Some entry
-  pub says : SaysKept N w s k entry
+  pub kept : kept_reply (manager N s) k accepted ≡ Some entry
+  pub says : SaysKept N s k begun entry
   pub answer : Answer
   pub one : entry.reply.answers ≡ answer ∷ []
   pub heard : Heard
@@ -88,6 +46,9 @@ pub record SaysReply (N : Network) (w : NetworkState) (s k : ℕ) (octets : List
   pub message : IsMessage octets
       (reply_at (N.session s).setup.target heard entry.reply ingress hops answer)
 
+up_to : (k n : ℕ) → 0 < k → k - 1 < n → k ≤ n
+up_to k n p h = omega arith
+
 number-fits : (n first k : ℕ) → n ≡ number_of first k → n < 2 ^ 16
 number-fits n first k e = omega arith
 
@@ -96,37 +57,131 @@ pub sendable-one : (q : RequestValue) (e : Accepted) (a : Answer)
     → IsSendable a
 sendable-one q e a one answers = (subst (AllByRecursion IsSendable) one answers.sendable).0
 
-pub says_reply : (N : Network) (w : NetworkState) (s k : ℕ) (octets : List ℕ)
-    → IsNetwork N → IsReached N w → IsOfOrigin N w octets (ReplyTo s k)
-    → SaysReply N w s k octets
-says_reply N w s k octets n r (place, i) =
-    let session = n.are_sessions s place in
-    let clock = n.are_clocks (N.session s).target session.exists in
-    let says = says_kept N w s k i.entry r place i.positive i.kept in
-    let sendable = sendable-one i.entry.request i.entry i.answer i.one says.answers in
-    let identity : length (N.session s).setup.target.0 ≡ 8 = subst (λ (c : ClockIdentity). length c.0 ≡ 8) (sym session.target) clock.identity in
-    let source : length i.heard.source.clock.0 ≡ 8 = subst (λ (m : PortIdentity). length m.clock.0 ≡ 8) (sym i.source) session.identity.clock in
-    let port : i.heard.source.port < 2 ^ 16 = subst (λ (m : PortIdentity). m.port < 2 ^ 16) (sym i.source) session.identity.port in
-    let v : Message = reply_at (N.session s).setup.target i.heard i.entry.reply i.ingress i.hops i.answer in
+pub kept_says : (N : Network) (s k : ℕ) (accepted : List Accepted) (state : SessionState) (e : Accepted)
+    → IsInStep (manager N s) (ports N (N.session s).target) accepted state → 0 < k → kept_reply (manager N s) k accepted ≡ Some e
+    → SaysKept N s k state.begun e
+kept_says N s k accepted state e step positive kept =
+    let le = kept-le (manager N s) k accepted e kept in
+    let was = step.without_gap k positive le in
+    let same : was.entry ≡ e = same_Some was.entry e (sym was.is ∙ kept) in
     record {
-      place = place;
-      positive = i.positive;
-      entry = i.entry;
-      kept = i.kept;
-      says = says;
-      answer = i.answer;
-      one = i.one;
-      heard = i.heard;
-      source = i.source;
-      number = i.number;
-      ingress = i.ingress;
-      port = i.port;
-      hops = i.hops;
-      is = i.is;
-      message = subst (λ m. IsMessage m v) (sym i.is)
-          (canonical-message v (reply-valid (N.session s).setup.target i.heard i.entry.request i.entry.reply i.ingress i.hops i.answer says.answers sendable)
-          (reply-fits (N.session s).setup.target i.heard i.entry.request i.entry.reply i.ingress i.hops i.answer identity source port (number-fits i.heard.number (N.session s).setup.first k i.number) i.port says.asked.id says.answers sendable));
+      begun_as = subst (λ (a : Accepted). slice_get state.begun (k - 1) ≡ Some a.request) same was.begun_as;
+      asked = subst (λ (a : Accepted). IsAsked (ports N (N.session s).target) a.request) same (step.asked (k - 1) was.entry.request was.begun_as);
+      answers = subst (λ (a : Accepted). Answers a.request a.reply) same was.answers;
+      one = subst (λ (a : Accepted). HasOneAnswer a.request a.reply) same was.one;
+      within = le_trans le step.begun_before;
     }
+
+module _ (N : Network) (s k : ℕ) (accepted : List Accepted) (state : SessionState) (n : IsNetwork N) (place : s < N.sessions) (step : IsInStep (manager N s) (ports N (N.session s).target) accepted state) where
+  pub request_says : (octets : List ℕ)
+      → IsRequestFrame (N.session s).setup state.begun k octets
+      → SaysRequest N s k state.begun octets
+  request_says octets i =
+      let asked = step.asked (k - 1) i.request i.begun_as in
+      let v : Message = request_at N s k i.domain i.hops i.request in
+      record {
+        place = place;
+        positive = i.positive;
+        within = up_to k (length state.begun) i.positive (slice_get_within state.begun (k - 1) i.request i.begun_as);
+        request = i.request;
+        begun_as = i.begun_as;
+        asked = asked;
+        domain = i.domain;
+        hops = i.hops;
+        is = i.is;
+        message = subst (λ m. IsMessage m v) (sym i.is)
+            (canonical-message v (request-valid N s k i.domain i.hops (ports N (N.session s).target) i.request asked)
+            (request-fits N s k i.domain i.hops (ports N (N.session s).target) i.request n place asked));
+      }
+
+  pub reply_says : (octets : List ℕ)
+      → IsReplyFrame (N.session s).setup accepted k octets
+      → SaysReply N s k state.begun accepted octets
+  reply_says octets i =
+      let session = n.are_sessions s place in
+      let clock = n.are_clocks (N.session s).target session.exists in
+      let says = kept_says N s k accepted state i.entry step i.positive i.kept in
+      let sendable = sendable-one i.entry.request i.entry i.answer i.one says.answers in
+      let identity : length (N.session s).setup.target.0 ≡ 8 = subst (λ (c : ClockIdentity). length c.0 ≡ 8) (sym session.target) clock.identity in
+      let source : length i.heard.source.clock.0 ≡ 8 = subst (λ (m : PortIdentity). length m.clock.0 ≡ 8) (sym i.source) session.identity.clock in
+      let port : i.heard.source.port < 2 ^ 16 = subst (λ (m : PortIdentity). m.port < 2 ^ 16) (sym i.source) session.identity.port in
+      let v : Message = reply_at (N.session s).setup.target i.heard i.entry.reply i.ingress i.hops i.answer in
+      record {
+        place = place;
+        positive = i.positive;
+        entry = i.entry;
+        kept = i.kept;
+        says = says;
+        answer = i.answer;
+        one = i.one;
+        heard = i.heard;
+        source = i.source;
+        number = i.number;
+        ingress = i.ingress;
+        port = i.port;
+        hops = i.hops;
+        is = i.is;
+        message = subst (λ m. IsMessage m v) (sym i.is)
+            (canonical-message v (reply-valid (N.session s).setup.target i.heard i.entry.request i.entry.reply i.ingress i.hops i.answer says.answers sendable)
+            (reply-fits (N.session s).setup.target i.heard i.entry.request i.entry.reply i.ingress i.hops i.answer identity source port (number-fits i.heard.number (N.session s).setup.first k i.number) i.port says.asked.id says.answers sendable));
+      }
+
+  -- ---- with one hop less
+
+  pub request_passed : (octets : List ℕ)
+      → IsRequestFrame (N.session s).setup state.begun k octets
+      → IsRequestFrame (N.session s).setup state.begun k (with_less_hop octets)
+  request_passed octets i =
+      let says = request_says octets i in
+      record {
+        positive = says.positive;
+        request = says.request;
+        begun_as = says.begun_as;
+        domain = says.domain;
+        hops = says.hops - 1;
+        is = ap with_less_hop says.is ∙ less_hop-canonical (request_at N s k says.domain says.hops says.request)
+            (request-valid N s k says.domain says.hops (ports N (N.session s).target) says.request says.asked) says.message.fits;
+      }
+
+  pub reply_passed : (octets : List ℕ)
+      → IsReplyFrame (N.session s).setup accepted k octets
+      → IsReplyFrame (N.session s).setup accepted k (with_less_hop octets)
+  reply_passed octets i =
+      let says = reply_says octets i in
+      record {
+        positive = says.positive;
+        entry = says.entry;
+        kept = says.kept;
+        answer = says.answer;
+        one = says.one;
+        heard = says.heard;
+        source = says.source;
+        number = says.number;
+        ingress = says.ingress;
+        port = says.port;
+        hops = says.hops - 1;
+        is = ap with_less_hop says.is ∙ less_hop-canonical (reply_at (N.session s).setup.target says.heard says.entry.reply says.ingress says.hops says.answer)
+            (reply-valid (N.session s).setup.target says.heard says.entry.request says.entry.reply says.ingress says.hops says.answer says.says.answers (sendable-one says.entry.request says.entry says.answer says.one says.says.answers)) says.message.fits;
+      }
+
+-- ---- in the machine, where all sessions are
+
+module _ (N : Network) (w : NetworkState) (s k : ℕ) where
+  pub says_request : (octets : List ℕ)
+      → IsNetwork N → IsReached N w → IsOfOrigin N w octets (RequestOf s k)
+      → SaysRequest N s k (w.session s).begun octets
+  says_request octets n r (place, i) = request_says N s k (accepted_at_target N w s) (w.session s) n place (r.sessions s place) octets i
+
+  pub says_kept : (e : Accepted)
+      → IsReached N w → s < N.sessions → 0 < k
+      → kept_reply (manager N s) k (accepted_at_target N w s) ≡ Some e
+      → SaysKept N s k (w.session s).begun e
+  says_kept e r place positive kept = kept_says N s k (accepted_at_target N w s) (w.session s) e (r.sessions s place) positive kept
+
+  pub says_reply : (octets : List ℕ)
+      → IsNetwork N → IsReached N w → IsOfOrigin N w octets (ReplyTo s k)
+      → SaysReply N s k (w.session s).begun (accepted_at_target N w s) octets
+  says_reply octets n r (place, i) = reply_says N s k (accepted_at_target N w s) (w.session s) n place (r.sessions s place) octets i
 
 -- ---- a frame that comes in
 
@@ -151,43 +206,15 @@ pub same_read : (octets : List ℕ) (v u : Message)
     → v ≡ u
 same_read octets v u m e = same_Some v u (sym e ∙ m.read)
 
--- ---- with one hop less
+-- ---- what is passed on
 
 pub passed_on-origin : (N : Network) (w : NetworkState) (octets : List ℕ) (o : Origin) (v : Message)
     → IsNetwork N → IsReached N w → IsHeard N w octets o → message_of octets ≡ Some v
     → IsOfOrigin N w (with_less_hop octets) o
-passed_on-origin N w octets (RequestOf s k) v n r i e =
-    let says = says_request N w s k octets n r i in (
-      says.place,
-      record {
-        positive = says.positive;
-        request = says.request;
-        begun_as = says.begun_as;
-        domain = says.domain;
-        hops = says.hops - 1;
-        is = ap with_less_hop says.is ∙ less_hop-canonical (request_at N s k says.domain says.hops says.request)
-            (request-valid N s k says.domain says.hops (ports N (N.session s).target) says.request says.asked) says.message.fits;
-      },
-    )
-passed_on-origin N w octets (ReplyTo s k) v n r i e =
-    let says = says_reply N w s k octets n r i in (
-      says.place,
-      record {
-        positive = says.positive;
-        entry = says.entry;
-        kept = says.kept;
-        answer = says.answer;
-        one = says.one;
-        heard = says.heard;
-        source = says.source;
-        number = says.number;
-        ingress = says.ingress;
-        port = says.port;
-        hops = says.hops - 1;
-        is = ap with_less_hop says.is ∙ less_hop-canonical (reply_at (N.session s).setup.target says.heard says.entry.reply says.ingress says.hops says.answer)
-            (reply-valid (N.session s).setup.target says.heard says.entry.request says.entry.reply says.ingress says.hops says.answer says.says.answers (sendable-one says.entry.request says.entry says.answer says.one says.says.answers)) says.message.fits;
-      },
-    )
+passed_on-origin N w octets (RequestOf s k) v n r (place, i) e =
+    (place, request_passed N s k (accepted_at_target N w s) (w.session s) n place (r.sessions s place) octets i)
+passed_on-origin N w octets (ReplyTo s k) v n r (place, i) e =
+    (place, reply_passed N s k (accepted_at_target N w s) (w.session s) n place (r.sessions s place) octets i)
 passed_on-origin N w octets Neither v n r i e =
     let p = i v e in
     record { message = record v { hops = v.hops - 1 }; is = less_hop-message v octets e p.0; foreign = record { no_request = p.1.no_request; no_reply = p.1.no_reply } }

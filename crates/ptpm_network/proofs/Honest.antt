@@ -1,6 +1,6 @@
 -- What holds of a running network after every list of events, whatever comes late: each frame is true to whom it is of, and
 -- clocks and sessions can send what they keep.
-use Rattle.ptpm_network.proofs.Common.{by_test, arith, map, ◌-◌, reading, Turned, all_weaker, sends_in, sent, cond-true, cond-false, IsMessage, ◌≡◌, ℕ, ◌<◌, ◌^◌, ◌==◌, List, [], Option, Some, None, Result, Ok, refl, sym, ◌∙◌, ap, subst, length, same_Some, option_map, AllByRecursion, PortIdentity, Message, canonical, same_identity, Fits, message_of, ReplyValue, RequestValue, read_reply_to, reply_to, Entry, reply_messages, RequestCopy, copy_of, delivers_copy, heard_of, request_of, Clock, State, turn, judged, reply_by, turn-message, Verdict, Answers, AreDataSets, same_identity-true, answer_origin, delivery, reply_origin, strange_frame, AtPort, AtSession, End, HasEnd, IsNetwork, Network, peers, ports, Frame, Held, held, seen, turn_frames, after_turn, Origin, RequestOf, ReplyTo, Neither, Happened, unless_refused, network_event, delivers, reaches, hears, sent_posted, with_session_value, RunningNetwork, SessionValue, initial_history, DataSetsValue, Stands, initial_state, answered, begun, due_message, received_of, request_message, Ask, ask_refusal, begin_refusal, BeginRefused, SendRefused, Refusal, Event, Begin, Send, Resume, Retune, Deliver, Stranger, IsInRange, Forged, is_forged, forged, frame_at, first_of-none, no_port, no_room, no_session, nothing_to_resume, send_refusal, IsAsked, all_append, all_get, all_made, at_place}
+use Rattle.ptpm_network.proofs.Common.{by_test, arith, map, reading, Turned, all_weaker, sends_in, sent, IsMessage, IsForeignFrame, ◌≡◌, ℕ, ◌<◌, ◌^◌, List, Option, Some, None, Result, Ok, refl, sym, ◌∙◌, ap, subst, length, same_Some, option_map, AllByRecursion, PortIdentity, Message, canonical, same_identity, Fits, message_of, ReplyValue, RequestValue, read_reply_to, reply_to, Entry, reply_messages, RequestCopy, copy_of, delivers_copy, heard_of, request_of, Clock, State, turn, judged, reply_by, turn-message, Verdict, Answers, AreDataSets, same_identity-true, answer_origin, delivery, reply_origin, AtPort, AtSession, End, HasEnd, IsNetwork, Network, peers, ports, Frame, Held, held, seen, turn_frames, after_turn, Origin, RequestOf, ReplyTo, Neither, Happened, unless_refused, reaches, hears, sent_posted, with_session_value, RunningNetwork, SessionValue, initial_history, DataSetsValue, Stands, initial_state, answered, begun, due_message, received_of, request_message, Ask, ask_refusal, begin_refusal, Refusal, frame_at, IsAsked, all_append, frame_at-all, all_made, at_place}
 use Rattle.std.specs.FinMap.{get, insert}
 use Rattle.ptpm_manager.specs.declared.receiving.Received.{Received}
 use Rattle.ptpm_manager.specs.declared.receiving.Received.TheVariants as received
@@ -11,15 +11,15 @@ use Rattle.ptpm_agent.specs.Laws.{IsKept}
 use Rattle.ptpm_agent.specs.Turn.{kept_reply_of, next_by}
 use Rattle.ptpm_agent.proofs.Entries.{accepted_entry, get-insert_other, get-insert_same}
 use Rattle.ptpm_agent.proofs.Turns.{turn-next}
+use Rattle.ptpm_network.proofs.Answering.{rendered-says}
 use Rattle.ptpm_network.proofs.Messages.{canonical-message, request-fits, request-valid}
-use Rattle.ptpm_network.proofs.Reaching.{port-exists, session-exists}
-use Rattle.ptpm_network.proofs.Refusals.{asked-not_refused, begin-not_refused, option_map-none}
+use Rattle.ptpm_network.proofs.Origins.{IsCopyBy, IsTrue, IsTrueTo, foreign-true, is_copy_by, message-true}
+use Rattle.ptpm_network.proofs.Refusals.{asked-not_refused, begin-not_refused}
 use Rattle.ptpm_network.proofs.Requests.{answered as reply-answers, kept, read_answered}
 use Rattle.ptpm_network.proofs.Steps.{has_peers}
-use Rattle.ptpm_network.proofs.Strangers.{strange-message}
-use Rattle.ptpm_network.proofs.Truth.{IsCopyBy, IsTrue, IsTrueTo, is_copy_by, message-true, passed_on-true, read-true, rendered-says, turn_frames-all}
+use Rattle.ptpm_network.proofs.Truth.{passed_on-true, turn_frames-all}
 use Rattle.ptpm_network.proofs.Turning.{turn-reads}
-use Rattle.ptpm_network.proofs.Unnumbered.{id-fits}
+use Rattle.ptpm_network.proofs.Unnumbered.{id-fits, read-foreign}
 
 -- ---- what clocks and sessions keep
 
@@ -118,7 +118,8 @@ module _ (N : Network) (n : IsNetwork N) (c port : ℕ) (end : HasEnd N (AtPort 
       → AllByRecursion (λ (m : ℕ × List ℕ). IsTrue N m.1 (answer_origin f.origin k)) (turn (N.clock c) s port f.octets).replies
   turned-true f None i e =
       subst (AllByRecursion (λ (m : ℕ × List ℕ). IsTrue N m.1 Neither)) (sym (turn-reads (N.clock c) s (delivery port f) (reading f.octets) refl e))
-      (read-true N c port s.sets f.octets f.origin (message_of f.octets) n end h.sets i refl)
+      (all_weaker (λ (m : ℕ × List ℕ). IsForeignFrame N m.1) (λ (m : ℕ × List ℕ). IsTrue N m.1 Neither) (λ m x. foreign-true N m.1 x) _
+      (read-foreign N c port s.sets f.octets f.origin (message_of f.octets) n end h.sets i refl))
   turned-true f (Some k) i e =
       let d = delivers_copy (N.clock c) (length s.sets.ports) (delivery port f) k e in
       let v : Message = d.message in
@@ -259,39 +260,11 @@ begins-honest N r t a n h place id e =
 
 module _ (N : Network) (n : IsNetwork N) (r : RunningNetwork) (h : IsHonest N r) where
   pub frame-true : (k : ℕ) (x : Held) → frame_at r.frames k ≡ Some x → IsTrueFrame N x
-  frame-true k x e = by_test (k == 0)
-      (λ y. let none : None ≡ Some x = sym (cond-true _ _ _ y) ∙ e in absurd (cc))
-      (λ o. all_get (IsTrueFrame N) r.frames (k - 1) x h.frames (sym (cond-false _ _ _ o) ∙ e))
+  frame-true k x e = frame_at-all (IsTrueFrame N) r.frames k x h.frames e
 
-  reaches-honest : (x : Held) (end : End) → IsTrue N x.octets x.origin → HasEnd N end → IsHonest N (reaches N r x end).network
+  pub reaches-honest : (x : Held) (end : End) → IsTrue N x.octets x.origin → HasEnd N end → IsHonest N (reaches N r x end).network
   reaches-honest x (AtPort c port) i end = turns-honest N r c port (seen x) n h end i
   reaches-honest x (AtSession t) i end = hears-honest N r t (received_of (r.session t) x.octets) h end
-
-  delivers-honest : (k : ℕ) (o : Option Held) → frame_at r.frames k ≡ o → Then (delivers N r o) (λ g. IsHonest N g.network)
-  delivers-honest k None e = λ g is. absurd (cc)
-  delivers-honest k (Some x) e =
-      let i = frame-true k x e in
-      then_unless _ (no_room r.frames) _ (λ room. then_ok _ (reaches N r x x.end) (reaches-honest x x.end i.says i.end))
-
-  pub event-honest : (e : Event) → IsInRange e → Then (network_event N r e) (λ g. IsHonest N g.network)
-  unfolding network_event
-  event-honest (Begin t a) id =
-      then_unless _ (no_session N t) _ (λ there. then_unless _ (option_map BeginRefused (begin_refusal (r.session t) a)) _
-      (λ fine. then_ok _ _ (session-honest N r t _ h (begins-honest N r t a n h (session-exists N t there) id (option_map-none BeginRefused (begin_refusal (r.session t) a) fine)))))
-  event-honest (Send t) i =
-      then_unless _ (no_session N t) _ (λ there. then_unless _ (no_room r.frames) _ (λ room. then_unless _ (option_map SendRefused (send_refusal (r.session t))) _
-      (λ fine. then_ok _ _ (sends-honest N r t n h (session-exists N t there)))))
-  event-honest (Resume t attempts) i =
-      then_unless _ (no_session N t) _ (λ there. then_unless _ (nothing_to_resume (r.session t)) _
-      (λ fine. let value = h.sessions t (session-exists N t there) in then_ok _ _ (session-honest N r t _ h (record { setup = value.setup; asked = value.asked }))))
-  event-honest (Retune t domain) i =
-      then_unless _ (no_session N t) _ (λ there.
-      (let value = h.sessions t (session-exists N t there) in then_ok _ _ (session-honest N r t _ h (record { setup = value.setup; asked = value.asked }))))
-  event-honest (Deliver k) i = delivers-honest k (frame_at r.frames k) refl
-  event-honest (Stranger c port datagram) octets =
-      then_unless _ (no_port N c port) _ (λ there. then_unless _ (forged N datagram) _ (λ fine. then_unless _ (no_room r.frames) _
-      (λ room. let honest = (first_of-none (is_forged N datagram) Forged [] fine).0 in
-      then_ok _ _ (turns-honest N r c port (strange_frame c port datagram) n h (port-exists N c port there) (λ v e. strange-message N datagram v octets honest e)))))
 
 -- ---- as it starts
 

@@ -1,5 +1,6 @@
 -- A copy that is not late lies in the window of its manager.
-use Rattle.ptpm_network.proofs.Common.{by_test, arith, ◌≡◌, ℕ, ◌<◌, ◌≤◌, ◌+◌, ◌==◌, List, [], ◌∷◌, ◌++◌, Option, Some, None, false, refl, sym, ◌∙◌, ap, subst, length, eqb-true, ltb-false, append-nil, AllByRecursion, cons_option, first_of-none, option_or-none, PortIdentity, InWindow, initial_clock_state, turns, Delivery, History, RequestCopy, after_copy, applied_once, initial_history, copy_of, greatest, Clock, number_of, AreNumbered, IsInTime, IsInWindow, IsNumbered, KeepsWindow, sets_once, Event, Begin, Deliver, IsInRange, Refusal, Resume, Retune, Send, Stranger, frame_at, refusal, no_port, forged, no_room, is_forged, Forged, IsFrame, IsReached, AreInTime, arrives, delivered, delivered_at, delivery, happens, is_late_delivery, is_late_frame, run, step, step_by, strange_frame, AtPort, AtSession, End, HasEnd, IsNetwork, Network, manager, ports, AreFirsts, Frame, NetworkState, Origin, RequestOf, copies_at, initial_state, greatest_accepted, history, is_late, all_append}
+use Rattle.ptpm_network.proofs.Common.{by_test, ◌≡◌, ℕ, ◌<◌, ◌==◌, List, [], ◌∷◌, ◌++◌, Option, Some, None, false, refl, sym, ◌∙◌, ap, subst, eqb-true, ltb-false, append-nil, AllByRecursion, cons_option, first_of-none, option_or-none, PortIdentity, InWindow, initial_clock_state, turns, Delivery, History, RequestCopy, after_copy, applied_once, initial_history, copy_of, greatest, Clock, number_of, AreNumbered, IsInTime, IsInWindow, IsNumbered, KeepsWindow, sets_once, Event, Begin, Deliver, IsInRange, Refusal, Resume, Retune, Send, Stranger, frame_at, refusal, no_port, forged, no_room, is_forged, Forged, IsFrame, IsReached, AreInTime, arrives, delivered, delivered_at, delivery, happens, is_late_delivery, is_late_frame, run, step, step_by, strange_frame, AtPort, AtSession, End, HasEnd, IsNetwork, Network, manager, ports, AreFirsts, Frame, NetworkState, Origin, RequestOf, copies_at, initial_state, accepted_at_target, history, is_late, all_append}
+use Rattle.ptpm_network.proofs.Accepting.{in_step-window}
 use Rattle.ptpm_network.proofs.Arriving.{IsCopyOf, copies-elsewhere, copies-here, is_copy_of}
 use Rattle.ptpm_network.proofs.Frames.{IsHeard, heard-frame}
 use Rattle.ptpm_network.proofs.Schedule.{reached}
@@ -7,26 +8,18 @@ use Rattle.ptpm_network.proofs.Reaching.{first-reached, frame_at-is, step-reache
 use Rattle.ptpm_network.proofs.Strangers.{strange-message}
 use Rattle.ptpm_network.proofs.Steps.{InStep}
 
-module _ (g h k begun : ℕ) where
-  not_ahead : (reports : ℕ) → g ≡ h → k ≤ begun → begun ≤ reports + 1 → reports ≤ h → k ≤ g + 32767
-  not_ahead reports a b c d = omega arith
-
-  not_behind : g ≡ h → h ≤ begun → begun ≤ k + 32768 → g ≤ k + 32768
-  not_behind a b late = omega arith
-
 copy-window : (N : Network) (w : NetworkState) (c port : ℕ) (f : Frame) (copy : RequestCopy)
     → IsReached N w → is_late w f.origin ≡ false → IsCopyOf N w c port f copy
     → InWindow (greatest copy.heard.source (history N w c).accepted) copy.index
 copy-window N w c port f copy r late of =
     let at : InStep N w of.session (w.session of.session) = r.sessions of.session of.says.place in
     let now : is_late w (RequestOf of.session of.k) ≡ false = subst (λ (o : Origin). is_late w o ≡ false) of.origin late in
-    let g : greatest copy.heard.source (history N w c).accepted ≡ greatest_accepted N w of.session =
-    ap (λ (m : PortIdentity). greatest m (history N w c).accepted) of.source
-    ∙ ap (λ d. greatest (manager N of.session) (history N w d).accepted) (sym of.target) in
-    subst (λ k. InWindow (greatest copy.heard.source (history N w c).accepted) k) (sym of.index) (record {
-      not_far_ahead = not_ahead (greatest copy.heard.source (history N w c).accepted) (greatest_accepted N w of.session) of.k (length (w.session of.session).begun) (length (w.session of.session).reports) g of.says.within at.one_at_a_time at.accepted_before;
-      not_far_behind = not_behind (greatest copy.heard.source (history N w c).accepted) (greatest_accepted N w of.session) of.k (length (w.session of.session).begun) g at.begun_before (ltb-false _ _ now);
-    })
+    let g : greatest (manager N of.session) (accepted_at_target N w of.session) ≡ greatest copy.heard.source (history N w c).accepted =
+    ap (λ d. greatest (manager N of.session) (history N w d).accepted) of.target
+    ∙ ap (λ (m : PortIdentity). greatest m (history N w c).accepted) (sym of.source) in
+    subst (λ k. InWindow (greatest copy.heard.source (history N w c).accepted) k) (sym of.index)
+    (subst (λ n. InWindow n of.k) g
+    (in_step-window (manager N of.session) (ports N (N.session of.session).target) (accepted_at_target N w of.session) (w.session of.session) of.k at of.says.within (ltb-false _ _ now)))
 
 module _ (first : PortIdentity → ℕ) (N : Network) (w : NetworkState) (c port : ℕ) (f : Frame) (copy : RequestCopy) (firsts : AreFirsts N first) where
   -- late or not, index and sequenceId go together

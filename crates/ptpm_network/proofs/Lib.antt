@@ -8,6 +8,7 @@ pub mod Refusals
 pub mod Steps
 pub mod Messages
 pub mod Frames
+pub mod Origins
 pub mod Arriving
 pub mod Answering
 pub mod Unnumbered

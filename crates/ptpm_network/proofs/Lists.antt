@@ -1,8 +1,9 @@
 -- What holds of each element of a list, and functions of places that change at one.
-use Rattle.std.proofs.Common.{suc, zero, ◌≡◌, ℕ, ◌*◌, ◌<◌, ◌≤◌, ◌==◌, ◌||◌, not, List, [], ◌∷◌, ◌++◌, Some, Bool, true, false, refl, sym, ◌∙◌, ap, subst, length, length-append, arith, slice_get, map, filter}
+use Rattle.std.proofs.Common.{suc, zero, ◌≡◌, ℕ, ◌*◌, ◌<◌, ◌≤◌, ◌==◌, ◌||◌, not, List, [], ◌∷◌, ◌++◌, Some, None, ◌-◌, Bool, true, false, refl, sym, ◌∙◌, ap, subst, length, length-append, arith, slice_get, map, filter}
 use Rattle.std.proofs.lemmas.Bool.{cond-true, cond-false, eqb-true, true≢false}
 use Rattle.std.specs.Prelude.{flat_map}
 use Rattle.std.specs.List.{AllByRecursion, list_any}
+use Rattle.ptpm_network.specs.Events.{frame_at}
 use Rattle.ptpm_network.specs.Machine.{with_place}
 use Rattle.ptpm_network.proofs.Tests.{by_test}
 
@@ -37,6 +38,14 @@ pub all_get : {X : Type 0} (P : X → Type 0)
 all_get P [] i x a e = absurd (cc)
 all_get P (y ∷ ys) zero x a e = let q : y ≡ x = cc in subst P q a.0
 all_get P (y ∷ ys) (suc i) x a e = all_get P ys i x a.1 e
+
+-- a frame by its number, from 1 on
+pub frame_at-all : {X : Type 0} (P : X → Type 0)
+    → (xs : List X) (n : ℕ) (x : X) → AllByRecursion P xs → frame_at xs n ≡ Some x
+    → P x
+frame_at-all P xs n x a e = by_test (n == 0)
+    (λ y. let none : None ≡ Some x = sym (cond-true _ _ _ y) ∙ e in absurd (cc))
+    (λ o. all_get P xs (n - 1) x a (sym (cond-false _ _ _ o) ∙ e))
 
 pub get_append : {X : Type 0} (xs ys : List X) (i : ℕ) (x : X)
     → slice_get xs i ≡ Some x

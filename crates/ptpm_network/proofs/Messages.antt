@@ -1,5 +1,5 @@
 -- What requests and replies say as octets, and what stays of them as they are passed on.
-use Rattle.ptpm_network.proofs.Common.{by_test, arith, ◌≡◌, ℕ, ◌<◌, ◌-◌, ◌^◌, ◌==◌, ◌&&◌, nat_lt, not, List, [], ◌∷◌, Option, Some, None, Bool, true, refl, sym, ◌∙◌, ap, subst, length, take, and_parts, cond-true, cond-false, ltb-true, append-nil, get_or-set_other, get_or-set_same, length-set, take_all, map, slice_set, unwrap_or, AllByRecursion, ErrorId, ClockIdentity, Action, Message, canonical, same_clock, boundary_hops, message_length, message_octets, BodyFits, Fits, IsReplyAction, IsValid, IsValidBody, error_number, is_reply, message_of, Spells, canonical_octets, canonical_spells, number_at-octets, octet-take, message_of-some, message_of-spells, message_size, spells-message_of, DataSetsValue, may_forward, Answer, Outcome, ReplyValue, RequestValue, Heard, reply_action-is_reply, answer_body, reply_message, egress_ports, forwarded, forwarded_by, is_forwarded, with_less_hop, request_message, Answers, IsPort, IsSendable, IsSendableOutcome, IsAsked, IsMessage, IsNetwork, Network}
+use Rattle.ptpm_network.proofs.Common.{by_test, arith, ◌≡◌, ℕ, ◌<◌, ◌-◌, ◌^◌, ◌==◌, ◌&&◌, nat_lt, not, List, [], ◌∷◌, Option, Some, None, Bool, true, refl, sym, ◌∙◌, ap, subst, length, take, and_parts, cond-true, cond-false, ltb-true, append-nil, get_or-set_other, get_or-set_same, length-set, take_all, map, slice_set, unwrap_or, AllByRecursion, ErrorId, ClockIdentity, Action, Message, canonical, same_clock, boundary_hops, message_length, message_octets, BodyFits, Fits, IsReplyAction, IsValid, IsValidBody, error_number, action_of, is_reply, message_of, Spells, canonical_octets, canonical_spells, number_at-octets, octet-take, message_of-some, message_of-spells, message_size, spells-message_of, DataSetsValue, may_forward, Answer, Outcome, ReplyValue, RequestValue, Heard, reply_action-is_reply, answer_body, reply_message, egress_ports, forwarded, forwarded_by, is_forwarded, with_less_hop, request_message, Answers, IsPort, IsSendable, IsSendableOutcome, IsAsked, IsMessage, IsNetwork, Network}
 use Rattle.ptpm_codec.specs.declared.error.ErrorId.TheVariants as errors
 use Rattle.ptpm_codec.proofs.RewritingLaws.{less_hop_message, set_hops}
 use Rattle.ptpm_data.specs.Reply as reply
@@ -134,6 +134,18 @@ answer_body-fits : (action : Action) (id : ℕ) (o : Outcome)
 answer_body-fits action id (reply.Value octets) h = h
 answer_body-fits action id reply.Done h = h
 answer_body-fits action id (reply.Refused error) h = (error_number-fits error, h)
+
+pub action_of-answer_body : (action : Action) (id : ℕ) (o : Outcome)
+    → action_of (answer_body action id o) ≡ action
+action_of-answer_body action id (reply.Value octets) = refl
+action_of-answer_body action id reply.Done = refl
+action_of-answer_body action id (reply.Refused error) = refl
+
+-- what is answered is a reply
+pub answer_body-is_reply : (q : RequestValue) (r : ReplyValue) (o : Outcome)
+    → Answers q r
+    → is_reply (action_of (answer_body r.action r.id o)) ≡ true
+answer_body-is_reply q r o answers = ap is_reply (action_of-answer_body r.action r.id o ∙ answers.action) ∙ reply_action-is_reply q.action
 
 port-fits : (o : Option ℕ) (ingress : ℕ)
     → IsPort o → ingress < 2 ^ 16

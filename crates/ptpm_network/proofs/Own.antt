@@ -1,14 +1,16 @@
 -- What a session has and what its target keeps of it, where its own messages came in time.
-use Rattle.ptpm_network.proofs.Common.{by_test, inl, inr, nat_lt, ltb-true, ltb-false, true≢false, ◌||◌, ◌⊎◌, arith, ◌≡◌, ℕ, ◌+◌, ◌-◌, ◌<◌, ◌≤◌, ◌==◌, List, [], ◌∷◌, length, Option, Some, None, true, false, refl, sym, ◌∙◌, ap, subst, ⊎_elim, and_from, cond-true, cond-false, cases_eq, eq-eqb, ne_eqb, lt-ltb, le-ltb, or_left, or_right, or_from, same_Some, slice_get, slice_get_within, PortIdentity, Message, same_identity, message_of, reading-message_of, Answer, RequestValue, Entry, answer_body, look_at, look_by, same_request, serial_of, InWindow, reply_messages, Accepted, greatest, kept_reply, heard_of, request_of, Clock, State, Turned, turn, turn-message, judged, look, is_repeat, verdict_at, Verdict, reply_by, same_identity-refl, number_of, outcome_in, Answers, HasOneAnswer, IsInStep, SessionState}
-use Rattle.std.specs.FinMap.{get, insert}
-use Rattle.ptpm_table.specs.declared.serial.Serial.TheVariants.{Same}
+use Rattle.ptpm_network.proofs.Common.{by_test, Bool, inl, inr, true≢false, ◌||◌, ◌⊎◌, arith, ◌≡◌, ℕ, ◌+◌, ◌-◌, ◌<◌, ◌≤◌, ◌==◌, List, [], ◌∷◌, length, Option, Some, None, true, false, refl, sym, ◌∙◌, ap, subst, ⊎_elim, and_from, cond-true, cond-false, eq-eqb, ne_eqb, lt-ltb, le-ltb, or_left, or_right, or_from, same_Some, slice_get, PortIdentity, Message, same_identity, message_of, reading-message_of, RequestValue, Entry, look_at, look_by, same_request, serial_of, InWindow, reply_messages, Accepted, greatest, kept_reply, heard_of, request_of, Clock, State, Turned, turn, turn-message, judged, look, is_repeat, verdict_at, Verdict, reply_by, same_identity-refl, number_of, Answers, HasOneAnswer, IsInStep, SessionState}
+use Rattle.std.specs.FinMap.{get}
+use Rattle.std.proofs.lemmas.Bool.{cases_order}
+use Rattle.ptpm_table.specs.declared.serial.Serial.{Serial}
+use Rattle.ptpm_table.specs.declared.serial.Serial.TheVariants.{Newer, Older, Same}
 use Rattle.ptpm_table.specs.declared.reply_table.Look.{Look}
 use Rattle.ptpm_table.specs.declared.reply_table.Look.TheVariants as looks
 use Rattle.ptpm_table.specs.Serial.{order_of}
 use Rattle.ptpm_agent.specs.CarriedOut.{carried_by, carried_in, carried_of}
 use Rattle.ptpm_agent.specs.declared.verdict.Verdict.TheVariants as verdicts
 use Rattle.ptpm_agent.specs.Turn.{kept_reply_of, new_reply, next_by}
-use Rattle.ptpm_agent.proofs.Entries.{accepted_at, accepted_entry, get-insert_same}
+use Rattle.ptpm_agent.proofs.Entries.{accepted_at, accepted_entry, accepted_kept}
 use Rattle.ptpm_agent.proofs.Numbers.{serial_of-number_of}
 use Rattle.ptpm_agent.proofs.Turns.{CopyParts, judged-elsewhere, judged-numbered, look-copy}
 use Rattle.ptpm_network.specs.ByManager.{with_carried}
@@ -27,63 +29,31 @@ abbrev pub IsLastOf : PortIdentity → ℕ → List Accepted → Option Entry �
 IsLastOf m first accepted None = greatest m accepted ≡ 0
 IsLastOf m first accepted (Some e) = IsLast m first accepted e
 
--- ---- its frames
-
-pub record IsRequestSaid (first : ℕ) (begun : List RequestValue) (k : ℕ) (octets : List ℕ) : Type 0 where
-  pub positive : 0 < k
-  pub request : RequestValue
-  pub begun_as : slice_get begun (k - 1) ≡ Some request
-  pub says : (v : Message) → message_of octets ≡ Some v → (v.number ≡ number_of first k) × (request_of v ≡ request)
-
-pub record IsReplySaid (m : PortIdentity) (first : ℕ) (accepted : List Accepted) (k : ℕ) (octets : List ℕ) : Type 0 where
-  pub positive : 0 < k
-  pub entry : Accepted
-  pub kept : kept_reply m k accepted ≡ Some entry
-  pub answer : Answer
-  pub one : entry.reply.answers ≡ answer ∷ []
-  pub says : (v : Message) → message_of octets ≡ Some v
-      → (v.number ≡ number_of first k) × (outcome_in v.body ≡ outcome_in (answer_body entry.reply.action entry.reply.id answer.outcome))
-
 -- ---- what the entry tells of a number
 
-module _ (m : PortIdentity) (first : ℕ) (accepted : List Accepted) (k : ℕ) (positive : 0 < k) where
-  serial : (e : Entry) → IsLast m first accepted e → InWindow (greatest m accepted) k
-      → serial_of e.number (number_of first k) ≡ order_of (greatest m accepted) k
-  serial e last w = ap (λ n. serial_of n (number_of first k)) last.number ∙ serial_of-number_of first (greatest m accepted) k last.some positive w
+order_of-same : (g k : ℕ) → k ≡ g → order_of g k ≡ Same
+order_of-same g k e = cond-true _ _ _ (eq-eqb g k (sym e))
 
-  looks-new : (o : Option Entry) (q : RequestValue)
-      → IsLastOf m first accepted o → InWindow (greatest m accepted) k → greatest m accepted < k
-      → look_at o (number_of first k) q ≡ looks.New
-  looks-new None q last w above = refl
-  looks-new (Some e) q last w above =
-      ap (λ z. look_by z (same_request e.request q))
-      (serial e last w ∙ cond-false _ _ _ (ne_eqb (greatest m accepted) k (λ (h : greatest m accepted ≡ k). omega arith)) ∙ cond-true _ _ _ (lt-ltb _ _ above))
+order_of-newer : (g k : ℕ) → g < k → order_of g k ≡ Newer
+order_of-newer g k l = cond-false _ _ _ (ne_eqb g k (λ (h : g ≡ k). omega arith)) ∙ cond-true _ _ _ (lt-ltb _ _ l)
 
-  looks-old : (o : Option Entry) (q : RequestValue)
-      → IsLastOf m first accepted o → InWindow (greatest m accepted) k → k < greatest m accepted
-      → look_at o (number_of first k) q ≡ looks.Old
-  looks-old None q last w below = absurd (omega (arith, last))
-  looks-old (Some e) q last w below =
-      ap (λ z. look_by z (same_request e.request q))
-      (serial e last w ∙ cond-false _ _ _ (ne_eqb (greatest m accepted) k (λ (h : greatest m accepted ≡ k). omega arith)) ∙ cond-false _ _ _ (le-ltb (greatest m accepted) k (omega arith)))
+order_of-older : (g k : ℕ) → k < g → order_of g k ≡ Older
+order_of-older g k l = cond-false _ _ _ (ne_eqb g k (λ (h : g ≡ k). omega arith)) ∙ cond-false _ _ _ (le-ltb g k (omega arith))
 
-  -- the latest once more
-  record LooksSame (o : Option Entry) (q : RequestValue) : Type 0 where
-    pub entry : Entry
-    pub is : o ≡ Some entry
-    pub last : IsLast m first accepted entry
-    pub look : look_at o (number_of first k) q ≡ look_by Same (same_request entry.request q)
+-- it is of this request
+abbrev asks_same : Option Entry → RequestValue → Bool
+asks_same None q = false
+asks_same (Some e) q = same_request e.request q
 
-  looks-same : (o : Option Entry) (q : RequestValue)
-      → IsLastOf m first accepted o → InWindow (greatest m accepted) k → k ≡ greatest m accepted
-      → LooksSame o q
-  looks-same None q last w here = absurd (omega (arith, last))
-  looks-same (Some e) q last w here = record {
-    entry = e;
-    is = refl;
-    last = last;
-    look = ap (λ z. look_by z (same_request e.request q)) (serial e last w ∙ cond-true _ _ _ (eq-eqb (greatest m accepted) k (sym here)));
-  }
+-- in the window, the order of the indexes
+look-own : (m : PortIdentity) (first : ℕ) (accepted : List Accepted) (k : ℕ) (o : Option Entry) (q : RequestValue) (z : Serial)
+    → 0 < k → IsLastOf m first accepted o → InWindow (greatest m accepted) k → order_of (greatest m accepted) k ≡ z
+    → look_at o (number_of first k) q ≡ look_by z (asks_same o q)
+look-own m first accepted k None q z positive last w e =
+    ap (λ y. look_by y false) (sym (order_of-newer (greatest m accepted) k (omega (arith, last, positive))) ∙ e)
+look-own m first accepted k (Some e) q z positive last w is =
+    ap (λ y. look_by y (same_request e.request q))
+    (ap (λ n. serial_of n (number_of first k)) last.number ∙ serial_of-number_of first (greatest m accepted) k last.some positive w ∙ is)
 
 -- ---- the verdict on a copy
 
@@ -104,15 +74,15 @@ judged-copy P c s v l p e home away =
 
 -- ---- what a verdict does with a message
 
-pub record Does (m : PortIdentity) (c : Clock) (s : State) (port : ℕ) (octets : List ℕ) (v : Message) (accepted : List Accepted) (w : Verdict) : Type 0 where
+pub record Does (c : Clock) (s : State) (port : ℕ) (octets : List ℕ) (v : Message) (w : Verdict) : Type 0 where
   pub carried : carried_in c s octets ≡ carried_by w v
   pub next : (turn c s port octets).next ≡ next_by w c s v
   pub replies : (turn c s port octets).replies ≡ reply_messages c port (heard_of v) (reply_by w c s v)
 
-pub does : (m : PortIdentity) (c : Clock) (s : State) (port : ℕ) (octets : List ℕ) (v : Message) (accepted : List Accepted)
+pub does : (c : Clock) (s : State) (port : ℕ) (octets : List ℕ) (v : Message)
     → message_of octets ≡ Some v
-    → Does m c s port octets v accepted (judged c s v)
-does m c s port octets v accepted e =
+    → Does c s port octets v (judged c s v)
+does c s port octets v e =
     let t = turn-message c s port octets v e in
     record {
       carried = ap (carried_of c s) (reading-message_of octets v e);
@@ -145,6 +115,7 @@ pub record ComesOwn (m : PortIdentity) (first p : ℕ) (c : Clock) (s : State) (
   pub parts : CopyParts c (length s.sets.ports) v
   pub source : v.source ≡ m
   pub positive : 0 < k
+  pub within : k ≤ length state.begun
   pub number : v.number ≡ number_of first k
   pub begun_as : slice_get state.begun (k - 1) ≡ Some (request_of v)
   pub window : InWindow (greatest m accepted) k
@@ -154,36 +125,36 @@ pub record ComesOwn (m : PortIdentity) (first p : ℕ) (c : Clock) (s : State) (
   pub answers : Answers (request_of v) (new_reply c s v)
   pub one : HasOneAnswer (request_of v) (new_reply c s v)
 
+not_below : (k g : ℕ) → k < g → k ≡ g → ⊥
+not_below k g l e = omega arith
+
+not_above : (g k : ℕ) → g < k → k ≡ g → ⊥
+not_above g k l e = omega arith
+
+not_both : (k : ℕ) → 0 < k → k ≡ 0 → ⊥
+not_both k p e = omega arith
+
 next_index : (g k begun reports : ℕ) → g < k → k ≤ begun → begun ≤ reports + 1 → reports ≤ g → g + 1 ≡ k
 next_index g k begun reports a b d e = omega arith
 
-strictly : (k g : ℕ) → k ≤ g → (k ≡ g → ⊥) → k < g
-strictly k g le ne = omega arith
+-- of the message's own source
+module _ (first p : ℕ) (c : Clock) (s : State) (port : ℕ) (octets : List ℕ) (v : Message) (k : ℕ) (accepted : List Accepted) (state : SessionState) (read : message_of octets ≡ Some v) (o : ComesOwn v.source first p c s v k accepted state) where
+  abbrev new_entry : Accepted
+  new_entry = accepted_at v.source (greatest v.source accepted + 1) (accepted_entry c s v)
 
-up_to : (k n : ℕ) → 0 < k → k - 1 < n → k ≤ n
-up_to k n p h = omega arith
-
-module _ (m : PortIdentity) (first p : ℕ) (c : Clock) (s : State) (port : ℕ) (octets : List ℕ) (v : Message) (k : ℕ) (accepted : List Accepted) (state : SessionState) (read : message_of octets ≡ Some v) (o : ComesOwn m first p c s v k accepted state) where
-  new_entry : Accepted
-  new_entry = record { manager = m; index = greatest m accepted + 1; request = request_of v; reply = new_reply c s v }
-
-  within : k ≤ length state.begun
-  within = up_to k (length state.begun) o.positive (slice_get_within state.begun (k - 1) (request_of v) o.begun_as)
+  abbrev Turns : Type 0
+  Turns = TurnsOwn v.source first state.begun c s port octets v k accepted
 
   -- it is carried out
-  own-new : greatest m accepted < k → Does m c s port octets v accepted verdicts.AnsweredNew
-      → TurnsOwn m first state.begun c s port octets v k accepted
-  unfolding new_entry
+  own-new : greatest v.source accepted < k → Does c s port octets v verdicts.AnsweredNew → Turns
   own-new above d =
-      let me : same_identity m v.source ≡ true = ap (same_identity m) o.source ∙ same_identity-refl m in
+      let m = v.source in
+      let me : same_identity m m ≡ true = same_identity-refl m in
       let here : accepted_after m c s octets accepted ≡ new_entry ∷ accepted =
       ap (λ rs. with_carried m c s rs accepted) d.carried ∙ cond-true _ _ _ me in
-      let index : greatest m accepted + 1 ≡ k = next_index (greatest m accepted) k (length state.begun) (length state.reports) above within o.step.one_at_a_time o.step.accepted_before in
-      let most : greatest m (new_entry ∷ accepted) ≡ k = cond-true _ _ _ (same_identity-refl m) ∙ omega (arith, index) in
-      let kept : kept_reply m k (new_entry ∷ accepted) ≡ Some new_entry = cond-true _ _ _ (and_from _ _ (same_identity-refl m) (eq-eqb (greatest m accepted + 1) k index)) in
-      let entries : get (turn c s port octets).next.entries m ≡ Some (accepted_entry c s v) =
-      ap (λ (x : State). get x.entries m) d.next
-      ∙ subst (λ (q : PortIdentity). get (insert s.entries v.source (accepted_entry c s v)) q ≡ Some (accepted_entry c s v)) o.source (get-insert_same s.entries v.source (accepted_entry c s v)) in
+      let index : greatest m accepted + 1 ≡ k = next_index (greatest m accepted) k (length state.begun) (length state.reports) above o.within o.step.one_at_a_time o.step.accepted_before in
+      let most : greatest m (new_entry ∷ accepted) ≡ k = cond-true _ _ _ me ∙ omega (arith, index) in
+      let kept : kept_reply m k (new_entry ∷ accepted) ≡ Some new_entry = cond-true _ _ _ (and_from _ _ me (eq-eqb (greatest m accepted + 1) k index)) in
       let at : IsLast m first (new_entry ∷ accepted) (accepted_entry c s v) = record {
         some = subst (λ i. 0 < i) (sym most) o.positive;
         kept = subst (λ i. kept_reply m i (new_entry ∷ accepted) ≡ Some (accepted_at m i (accepted_entry c s v))) (sym most)
@@ -196,91 +167,95 @@ module _ (m : PortIdentity) (first p : ℕ) (c : Clock) (s : State) (port : ℕ)
           is = here;
           above = λ y. omega arith;
           own = λ y. record {
-            index = subst (λ i. i ≤ length state.begun) (sym index) within;
+            index = subst (λ i. i ≤ length state.begun) (sym index) o.within;
             begun_as = subst (λ i. slice_get state.begun (i - 1) ≡ Some (request_of v)) (sym index) o.begun_as;
             answers = o.answers;
             one = o.one;
           };
         });
-        last = subst (λ es. IsLastOf m first es (get (turn c s port octets).next.entries m)) (sym here) (subst (IsLastOf m first (new_entry ∷ accepted)) (sym entries) at);
+        last = subst (λ es. IsLastOf m first es (get (turn c s port octets).next.entries m)) (sym here)
+            (subst (IsLastOf m first (new_entry ∷ accepted)) (sym (accepted_kept c s (turn c s port octets).next v d.next)) at);
         replies = inr (record { entry = new_entry; kept = ap (kept_reply m k) here ∙ kept; is = d.replies });
         latest = λ e. absurd (omega arith);
         older = λ l. absurd (omega arith);
       }
 
-  -- nothing is carried out
-  own-still : (w : Verdict) → carried_by w v ≡ [] → next_by w c s v ≡ s → Does m c s port octets v accepted w
-      → (k ≡ greatest m accepted → Replied m c s port octets v k accepted)
-      → (k ≡ greatest m accepted → ⊥) ⊎ (k ≡ greatest m accepted)
-      → ((k ≡ greatest m accepted → ⊥) → reply_by w c s v ≡ None)
-      → TurnsOwn m first state.begun c s port octets v k accepted
-  own-still w none stays d latest which silent =
+  -- nothing is carried out: it is answered where it is the latest, and nothing is sent where it is not
+  own-still : (w : Verdict) → carried_by w v ≡ [] → next_by w c s v ≡ s → Does c s port octets v w
+      → ((k ≡ greatest v.source accepted → ⊥) × (reply_by w c s v ≡ None))
+      ⊎ ((k ≡ greatest v.source accepted) × Replied v.source c s port octets v k accepted)
+      → Turns
+  own-still w none stays d which =
+      let m = v.source in
       let here : accepted_after m c s octets accepted ≡ accepted = ap (λ rs. with_carried m c s rs accepted) (d.carried ∙ none) in
-      let quiet : (k ≡ greatest m accepted → ⊥) → (turn c s port octets).replies ≡ [] =
-      λ other. d.replies ∙ ap (reply_messages c port (heard_of v)) (silent other) in
+      let quiet : reply_by w c s v ≡ None → (turn c s port octets).replies ≡ [] = λ silent. d.replies ∙ ap (reply_messages c port (heard_of v)) silent in
       record {
         gains = inl here;
         last = subst (λ es. IsLastOf m first es (get (turn c s port octets).next.entries m)) (sym here)
             (subst (λ (x : State). IsLastOf m first accepted (get x.entries m)) (sym (d.next ∙ stays)) o.last);
         replies = ⊎_elim
-            (λ (other : k ≡ greatest m accepted → ⊥). inl (quiet other))
-            (λ (same : k ≡ greatest m accepted). inr (subst (Replied m c s port octets v k) (sym here) (latest same)))
+            (λ (other : (k ≡ greatest m accepted → ⊥) × (reply_by w c s v ≡ None)). inl (quiet other.1))
+            (λ (same : (k ≡ greatest m accepted) × Replied m c s port octets v k accepted). inr (subst (Replied m c s port octets v k) (sym here) same.1))
             which;
-        latest = latest;
-        older = λ l. quiet (λ (e : k ≡ greatest m accepted). omega arith);
+        latest = λ e. ⊎_elim
+            (λ (other : (k ≡ greatest m accepted → ⊥) × (reply_by w c s v ≡ None)). absurd (other.0 e))
+            (λ (same : (k ≡ greatest m accepted) × Replied m c s port octets v k accepted). same.1)
+            which;
+        older = λ l. ⊎_elim
+            (λ (other : (k ≡ greatest m accepted → ⊥) × (reply_by w c s v ≡ None)). quiet other.1)
+            (λ (same : (k ≡ greatest m accepted) × Replied m c s port octets v k accepted). absurd (not_below k (greatest m accepted) l same.0))
+            which;
       }
 
-  looked : (l : Look) → look_at (get s.entries m) (number_of first k) (request_of v) ≡ l
-      → look_at (get s.entries v.source) v.number (request_of v) ≡ l
-  looked l e = ap (λ (q : PortIdentity). look_at (get s.entries q) v.number (request_of v)) o.source
-      ∙ ap (λ n. look_at (get s.entries m) n (request_of v)) o.number ∙ e
+  looked : (z : Serial) → order_of (greatest v.source accepted) k ≡ z
+      → look_at (get s.entries v.source) v.number (request_of v) ≡ look_by z (asks_same (get s.entries v.source) (request_of v))
+  looked z e =
+      ap (λ n. look_at (get s.entries v.source) n (request_of v)) o.number
+      ∙ look-own v.source first accepted k (get s.entries v.source) (request_of v) z o.positive o.last o.window e
 
-  -- the request that is kept as the latest is the copy's
-  repeats : k ≡ greatest m accepted → (e : Entry) → IsLast m first accepted e → e.request ≡ request_of v
-  repeats same e last =
+  -- what is kept as the latest is the request of the copy
+  own-repeat : (x : Option Entry) → k ≡ greatest v.source accepted → get s.entries v.source ≡ x → IsLastOf v.source first accepted x
+      → Turns
+  own-repeat None same is last = absurd (not_both k o.positive (same ∙ last))
+  own-repeat (Some e) same is last =
+      let m = v.source in
       let was = o.step.without_gap k o.positive (omega (arith, same)) in
-      let kept : Some was.entry ≡ Some (accepted_at m (greatest m accepted) e) = sym was.is ∙ ap (λ i. kept_reply m i accepted) same ∙ last.kept in
-      let entry : was.entry ≡ accepted_at m (greatest m accepted) e = same_Some was.entry _ kept in
-      sym (ap (λ (x : Accepted). x.request) entry) ∙ same_Some was.entry.request (request_of v) (sym was.begun_as ∙ o.begun_as)
+      let kept : kept_reply m k accepted ≡ Some (accepted_at m (greatest m accepted) e) = ap (λ i. kept_reply m i accepted) same ∙ last.kept in
+      let entry : was.entry ≡ accepted_at m (greatest m accepted) e = same_Some was.entry _ (sym was.is ∙ kept) in
+      let request : e.request ≡ request_of v =
+      sym (ap (λ (x : Accepted). x.request) entry) ∙ same_Some was.entry.request (request_of v) (sym was.begun_as ∙ o.begun_as) in
+      let repeat : look_at (get s.entries m) v.number (request_of v) ≡ looks.Repeat =
+      looked Same (order_of-same (greatest m accepted) k same)
+      ∙ ap (λ (x : Option Entry). look_by Same (asks_same x (request_of v))) is
+      ∙ ap (λ b. look_by Same b) (ap (λ (q : RequestValue). same_request q (request_of v)) request ∙ same_request-refl (request_of v)) in
+      judged-copy (λ w. Does c s port octets v w → Turns) c s v looks.Repeat o.parts repeat
+      (λ d. own-still verdicts.AnsweredRepeat refl refl d
+      (inr (same, record { entry = accepted_at m (greatest m accepted) e; kept = kept; is = d.replies ∙ ap (λ (x : Option Entry). reply_messages c port (heard_of v) (kept_reply_of x)) is })))
+      (λ n. absurd (true≢false n))
+      (does c s port octets v read)
 
-  own-repeat : (e : Entry) → k ≡ greatest m accepted → get s.entries m ≡ Some e → IsLast m first accepted e
-      → Does m c s port octets v accepted verdicts.AnsweredRepeat
-      → TurnsOwn m first state.begun c s port octets v k accepted
-  own-repeat e same is last d =
-      let entry : Accepted = accepted_at m (greatest m accepted) e in
-      let kept : kept_reply m k accepted ≡ Some entry = ap (λ i. kept_reply m i accepted) same ∙ last.kept in
-      own-still verdicts.AnsweredRepeat refl refl d
-      (λ h. record {
-        entry = entry;
-        kept = kept;
-        is = d.replies ∙ ap (λ (x : Option Entry). reply_messages c port (heard_of v) (kept_reply_of x)) (ap (get s.entries) o.source ∙ is);
-      })
-      (inr same) (λ other. absurd (other same))
-
-  pub turns_own : TurnsOwn m first state.begun c s port octets v k accepted
-  turns_own =
-      let g = greatest m accepted in
-      let fits = does m c s port octets v accepted read in
-      let by : (w : Verdict) → judged c s v ≡ w → Does m c s port octets v accepted w = λ w e. subst (Does m c s port octets v accepted) e fits in
-      let T = TurnsOwn m first state.begun c s port octets v k accepted in
-      let quiet : (w : Verdict) → carried_by w v ≡ [] → next_by w c s v ≡ s → reply_by w c s v ≡ None → (k ≡ g → ⊥) → Does m c s port octets v accepted w → T =
-      λ w none stays silent other d. own-still w none stays d (λ e. absurd (other e)) (inl other) (λ _. silent) in
+  own-turns : Turns
+  own-turns =
+      let g = greatest v.source accepted in
+      let fits = does c s port octets v read in
       ⊎_elim
-      (λ (same : k ≡ g).
-      let l = looks-same m first accepted k o.positive (get s.entries m) (request_of v) o.last o.window same in
-      let repeat : look_by Same (same_request l.entry.request (request_of v)) ≡ looks.Repeat =
-      ap (λ b. look_by Same b) (ap (λ (q : RequestValue). same_request q (request_of v)) (repeats same l.entry l.last) ∙ same_request-refl (request_of v)) in
-      judged-copy (λ w. Does m c s port octets v accepted w → T) c s v looks.Repeat o.parts (looked looks.Repeat (l.look ∙ repeat))
-      (λ d. own-repeat l.entry same l.is l.last d)
-      (λ n. absurd (true≢false n)) fits)
-      (λ (other : k ≡ g → ⊥). by_test (nat_lt g k)
-      (λ y. judged-copy (λ w. Does m c s port octets v accepted w → T) c s v looks.New o.parts
-      (looked looks.New (looks-new m first accepted k o.positive (get s.entries m) (request_of v) o.last o.window (ltb-true g k y)))
-      (λ d. own-new (ltb-true g k y) d)
-      (λ n d. quiet verdicts.OtherDomain refl refl refl other d) fits)
-      (λ n. let below : k ≤ g = ltb-false g k n in
-      judged-copy (λ w. Does m c s port octets v accepted w → T) c s v looks.Old o.parts
-      (looked looks.Old (looks-old m first accepted k o.positive (get s.entries m) (request_of v) o.last o.window (strictly k g below other)))
-      (λ d. quiet verdicts.DroppedOld refl refl refl other d)
-      (λ n d. quiet verdicts.OtherDomain refl refl refl other d) fits))
-      (cases_eq k g)
+      (λ (same : k ≡ g). own-repeat (get s.entries v.source) same refl o.last)
+      (⊎_elim
+      (λ (below : k < g).
+      let other : k ≡ g → ⊥ = not_below k g below in
+      judged-copy (λ w. Does c s port octets v w → Turns) c s v looks.Old o.parts (looked Older (order_of-older g k below))
+      (λ d. own-still verdicts.DroppedOld refl refl d (inl (other, refl)))
+      (λ n d. own-still verdicts.OtherDomain refl refl d (inl (other, refl))) fits)
+      (λ (above : g < k).
+      judged-copy (λ w. Does c s port octets v w → Turns) c s v looks.New o.parts (looked Newer (order_of-newer g k above))
+      (λ d. own-new above d)
+      (λ n d. own-still verdicts.OtherDomain refl refl d (inl (not_above g k above, refl))) fits))
+      (cases_order k g)
+
+pub turns_own : (m : PortIdentity) (first p : ℕ) (c : Clock) (s : State) (port : ℕ) (octets : List ℕ) (v : Message) (k : ℕ)
+    (accepted : List Accepted) (state : SessionState)
+    → message_of octets ≡ Some v → ComesOwn m first p c s v k accepted state
+    → TurnsOwn m first state.begun c s port octets v k accepted
+turns_own m first p c s port octets v k accepted state read o =
+    subst (λ (q : PortIdentity). ComesOwn q first p c s v k accepted state → TurnsOwn q first state.begun c s port octets v k accepted) o.source
+    (own-turns first p c s port octets v k accepted state read) o

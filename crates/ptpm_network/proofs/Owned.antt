@@ -1,19 +1,21 @@
 -- A session whose own messages come in time, and what its own acts and what it hears make of it.
-use Rattle.ptpm_network.proofs.Common.{◌-◌, Answer, arith, ◌≡◌, ℕ, ◌+◌, ◌<◌, ◌≤◌, List, [], ◌∷◌, ◌++◌, length, Some, true, false, refl, sym, ◌∙◌, ap, subst, and_parts, eqb-true, eqb-false, true≢false, same_Some, slice_get, get_append, all_weaker, AllByRecursion, Message, canonical, same_clock, reading, RequestValue, Accepted, greatest, kept_reply, request_of, State, same_identity-true, same_clock-true, number_of, outcome_in, Report, received_of, IsAsked, IsInStep, IsNetwork, Network, manager, ports, Held, Origin, RequestOf, ReplyTo, Neither, SessionState, SessionValue, session_value, answered, begun, resumed, retuned, sent, is_waiting, le_trans, is_from_asked_port}
+use Rattle.ptpm_network.proofs.Common.{◌-◌, ◌≡◌, ℕ, ◌+◌, ◌<◌, ◌≤◌, List, [], ◌∷◌, ◌++◌, length, Some, true, false, refl, sym, ◌∙◌, ap, subst, eqb-true, eqb-false, slice_get, get_append, all_weaker, AllByRecursion, Message, canonical, reading, RequestValue, Accepted, kept_reply, State, number_of, outcome_in, Report, received_of, IsAsked, IsInStep, request_message, with_less_hop, IsNetwork, Network, manager, ports, Held, Origin, RequestOf, ReplyTo, Neither, SessionState, SessionValue, session_value, answered, begun, resumed, retuned, sent, is_waiting, le_trans}
 use Rattle.std.specs.FinMap.{get}
 use Rattle.ptpm_manager.specs.declared.receiving.Received.{Received}
 use Rattle.ptpm_manager.specs.declared.receiving.Received.TheVariants as received
 use Rattle.ptpm_manager.specs.Receiving.{left_by}
 use Rattle.ptpm_manager.specs.declared.setup.Setup.{Setup}
 use Rattle.ptpm_network.specs.ByManager.{Account}
-use Rattle.ptpm_network.proofs.Accepting.{in_step-begun, in_step-reported, in_step-set, kept-le, report_of}
+use Rattle.ptpm_network.specs.Invariant.{IsReplyFrame, IsRequestFrame}
+use Rattle.ptpm_network.proofs.Accepting.{IsToldOf, in_step-begun, in_step-reported, in_step-set}
+use Rattle.ptpm_network.proofs.Frames.{reply_passed, reply_says, request_passed, same_read}
 use Rattle.ptpm_network.proofs.Hearing.{answered-value, begun-value}
 use Rattle.ptpm_network.proofs.Honest.{IsSentBy}
-use Rattle.ptpm_network.proofs.Own.{IsLastOf, IsReplySaid, IsRequestSaid}
-use Rattle.ptpm_network.proofs.Receiving.{Takes, not_idle, takes-by}
+use Rattle.ptpm_network.proofs.Own.{IsLastOf}
+use Rattle.ptpm_network.proofs.Receiving.{Takes, not_idle, takes-by, takes-last, takes-own}
 use Rattle.ptpm_network.proofs.Refusals.{idle-not_waiting}
-use Rattle.ptpm_network.proofs.Steps.{unanswered-last}
-use Rattle.ptpm_network.proofs.Truth.{IsTrue, IsTrueTo}
+use Rattle.ptpm_network.proofs.Steps.{reply-stays, request-sent, request-stays}
+use Rattle.ptpm_network.proofs.Origins.{IsTrue, IsTrueTo}
 
 -- ---- the invariant of one session
 
@@ -22,8 +24,8 @@ state_of value reports a = record { domain = value.domain; attempts_left = value
 
 -- what a frame says that is of the session
 abbrev pub IsSaid : Network → ℕ → Account → List ℕ → Origin → Type 0
-IsSaid N s a octets (RequestOf t k) = t ≡ s → IsRequestSaid (N.session s).setup.first a.begun k octets
-IsSaid N s a octets (ReplyTo t k) = t ≡ s → IsReplySaid (manager N s) (N.session s).setup.first a.accepted k octets
+IsSaid N s a octets (RequestOf t k) = t ≡ s → IsRequestFrame (N.session s).setup a.begun k octets
+IsSaid N s a octets (ReplyTo t k) = t ≡ s → IsReplyFrame (N.session s).setup a.accepted k octets
 IsSaid N s a octets Neither = Unit {0}
 
 abbrev pub IsOwnFrame : Network → ℕ → Account → Held → Type 0
@@ -41,45 +43,39 @@ pub said-stays : (N : Network) (s : ℕ) (a b : Account) (octets : List ℕ) (o 
     → ((k : ℕ) (e : Accepted) → kept_reply (manager N s) k a.accepted ≡ Some e → kept_reply (manager N s) k b.accepted ≡ Some e)
     → IsSaid N s a octets o
     → IsSaid N s b octets o
-said-stays N s a b octets (RequestOf t k) begun kept i = λ ts. let r = i ts in
-    record { positive = r.positive; request = r.request; begun_as = begun (k - 1) r.request r.begun_as; says = r.says }
-said-stays N s a b octets (ReplyTo t k) begun kept i = λ ts. let r = i ts in
-    record { positive = r.positive; entry = r.entry; kept = kept k r.entry r.kept; answer = r.answer; one = r.one; says = r.says }
+said-stays N s a b octets (RequestOf t k) begun kept i = λ ts. request-stays (N.session s).setup a.begun b.begun k octets begun (i ts)
+said-stays N s a b octets (ReplyTo t k) begun kept i = λ ts. reply-stays (N.session s).setup a.accepted b.accepted k octets (kept k) (i ts)
 said-stays N s a b octets Neither begun kept i = tt
 
-some-last : (begun : List RequestValue) (q : RequestValue) → slice_get begun (length begun - 1) ≡ Some q → 0 < length begun
-some-last [] q e = absurd (cc)
-some-last (b ∷ begun) q e = omega arith
+-- and of what is passed on
+pub said-passed : (N : Network) (s : ℕ) (value : SessionValue) (reports : List Report) (a : Account) (octets : List ℕ) (o : Origin)
+    → IsNetwork N → s < N.sessions → IsInStep (manager N s) (ports N (N.session s).target) a.accepted (state_of value reports a)
+    → IsSaid N s a octets o
+    → IsSaid N s a (with_less_hop octets) o
+said-passed N s value reports a octets (RequestOf t k) n place step i = λ ts. request_passed N s k a.accepted (state_of value reports a) n place step octets (i ts)
+said-passed N s value reports a octets (ReplyTo t k) n place step i = λ ts. reply_passed N s k a.accepted (state_of value reports a) n place step octets (i ts)
+said-passed N s value reports a octets Neither n place step i = tt
 
 abbrev pub reports_with : List Report → Received → List Report
 reports_with reports (received.Answered report) = reports ++ report ∷ []
 reports_with reports (received.Ignored reason) = reports
 
-same_number : (first k n : ℕ)
-    → 0 < k → k ≤ n → n ≤ k + 32768 → number_of first n ≡ number_of first k
-    → k ≡ n
-same_number first k n p le late e = omega arith
-
--- what is said of request k is what is told of the last one, where its number is the last one's
-pub record IsToldOf (N : Network) (s : ℕ) (a : Account) (report : Report) : Type 0 where
-  pub entry : Accepted
-  pub kept : kept_reply (manager N s) (length a.begun) a.accepted ≡ Some entry
-  pub answer : Answer
-  pub one : entry.reply.answers ≡ answer ∷ []
-  pub is : report ≡ report_of (length a.begun) entry answer
-
-told_of : (N : Network) (s : ℕ) (value : SessionValue) (a : Account) (k : ℕ) (octets : List ℕ) (report : Report)
-    → IsReplySaid (manager N s) (N.session s).setup.first a.accepted k octets → Takes value octets report
-    → value.setup.first ≡ (N.session s).setup.first → value.issued ≡ length a.begun
-    → greatest (manager N s) a.accepted ≤ length a.begun → length a.begun ≤ k + 32768
-    → IsToldOf N s a report
-told_of N s value a k octets report said takes first issued most time =
-    let says = said.says takes.message takes.read in
-    let within : k ≤ length a.begun = le_trans (kept-le (manager N s) k a.accepted said.entry said.kept) most in
-    let number : number_of (N.session s).setup.first (length a.begun) ≡ number_of (N.session s).setup.first k =
-    ap (λ f. number_of f (length a.begun)) (sym first) ∙ ap (number_of value.setup.first) (sym issued)
-    ∙ sym (eqb-true takes.message.number (number_of value.setup.first value.issued) takes.accepted.number) ∙ says.0 in
-    let last : k ≡ length a.begun = same_number (N.session s).setup.first k (length a.begun) said.positive within time number in
+-- what it takes for its answer tells of the last request what is kept of it
+told_of : (N : Network) (s : ℕ) (value : SessionValue) (reports : List Report) (a : Account) (octets : List ℕ) (o : Origin) (report : Report)
+    → IsNetwork N → s < N.sessions → (takes : Takes value octets report) → IsTrueTo N takes.message o → IsSaid N s a octets o
+    → ((k : ℕ) → o ≡ ReplyTo s k → length a.begun ≤ k + 32768)
+    → value.setup ≡ (N.session s).setup → value.issued ≡ length a.begun
+    → IsInStep (manager N s) (ports N (N.session s).target) a.accepted (state_of value reports a)
+    → IsToldOf (manager N s) (length a.begun) a.accepted report
+told_of N s value reports a octets o report n place takes i says time setup issued step =
+    let own = takes-own N s value octets o report n place setup takes i in
+    let k = own.0 in
+    let said = reply_says N s k a.accepted (state_of value reports a) n place step octets (subst (IsSaid N s a octets) own.1 says refl) in
+    let same = same_read octets takes.message _ said.message takes.read in
+    let number : takes.message.number ≡ number_of (N.session s).setup.first k = ap (λ (u : Message). u.number) same ∙ said.number in
+    let last : k ≡ length a.begun =
+    takes-last (N.session s).setup.first k value octets report takes (ap (λ (x : Setup). x.first) setup) number said.positive
+    (subst (λ b. k ≤ b) (sym issued) said.says.within) (subst (λ b. b ≤ k + 32768) (sym issued) (time k own.1)) ∙ issued in
     record {
       entry = said.entry;
       kept = ap (λ i. kept_reply (manager N s) i a.accepted) (sym last) ∙ said.kept;
@@ -87,30 +83,8 @@ told_of N s value a k octets report said takes first issued most time =
       one = said.one;
       is = sym takes.is
           ∙ ap (λ i. record { index = i; outcome = outcome_in takes.message.body }) issued
-          ∙ ap (λ x. record { index = length a.begun; outcome = x }) says.1;
+          ∙ ap (λ (u : Message). record { index = length a.begun; outcome = outcome_in u.body }) same;
     }
-
--- a session takes nothing for its answer but a reply to itself
-told_by_own : (N : Network) (s : ℕ) (value : SessionValue) (a : Account) (octets : List ℕ) (o : Origin) (report : Report)
-    → IsNetwork N → s < N.sessions → (takes : Takes value octets report) → IsTrueTo N takes.message o → IsSaid N s a octets o
-    → ((k : ℕ) → o ≡ ReplyTo s k → length a.begun ≤ k + 32768)
-    → value.setup ≡ (N.session s).setup → value.issued ≡ length a.begun
-    → greatest (manager N s) a.accepted ≤ length a.begun
-    → IsToldOf N s a report
-told_by_own N s value a octets (RequestOf t k) report n place takes i says time setup issued most =
-    absurd (true≢false (sym takes.accepted.reply ∙ i.request))
-told_by_own N s value a octets (ReplyTo t k) report n place takes i says time setup issued most =
-    let target : manager N t ≡ manager N s =
-    sym i.target ∙ same_identity-true takes.message.target value.setup.me takes.accepted.target ∙ ap (λ (x : Setup). x.me) setup in
-    let ts : t ≡ s = n.sessions_apart t s i.place place target in
-    told_of N s value a k octets report (says ts) takes (ap (λ (x : Setup). x.first) setup) issued most (time k (ap (λ j. ReplyTo j k) ts))
-told_by_own N s value a octets Neither report n place takes i says time setup issued most =
-    let session = n.are_sessions s place in
-    let clock : takes.message.source.clock ≡ value.setup.target = same_clock-true takes.message.source.clock value.setup.target
-    (and_parts (same_clock takes.message.source.clock value.setup.target) (is_from_asked_port value.unanswered takes.message.source.port) takes.accepted.source).0 in
-    absurd (i.no_reply (N.session s).target s session.exists place
-    (clock ∙ ap (λ (x : Setup). x.target) setup ∙ session.target)
-    (same_identity-true takes.message.target value.setup.me takes.accepted.target ∙ ap (λ (x : Setup). x.me) setup))
 
 module _ (N : Network) (s : ℕ) (value : SessionValue) (reports : List Report) (clock : State) (frames : List Held) (a : Account) (at : IsOwn N s value reports clock frames a) where
   pub told : length reports ≤ length a.begun
@@ -156,23 +130,18 @@ module _ (N : Network) (s : ℕ) (value : SessionValue) (reports : List Report) 
     frames_say = at.frames_say;
   }
 
-  pub own-message : (v : Message) → IsSentBy N s value v → IsRequestSaid (N.session s).setup.first a.begun value.issued (canonical v)
+  pub own-message : (v : Message) → IsSentBy N s value v → IsRequestFrame (N.session s).setup a.begun value.issued (canonical v)
   own-message v by =
-      let issued : value.issued ≡ length a.begun = ap (λ (x : SessionValue). x.issued) at.value_is in
-      let last : slice_get a.begun (length a.begun - 1) ≡ Some by.request =
-      unanswered-last (state_of value reports a) by.request (sym (ap (λ (x : SessionValue). x.unanswered) at.value_is) ∙ by.unanswered) in
-      record {
-        positive = subst (λ n. 0 < n) (sym issued) (some-last a.begun by.request last);
-        request = by.request;
-        begun_as = ap (λ n. slice_get a.begun (n - 1)) issued ∙ last;
-        says = λ u e.
-            let same : v ≡ u = same_Some v u (sym by.message.read ∙ e) in
-            subst (λ (x : Message). (x.number ≡ number_of (N.session s).setup.first value.issued) × (request_of x ≡ by.request)) (sym by.is ∙ same) (refl, refl);
-      }
+      let issued : length a.begun ≡ value.issued = sym (ap (λ (x : SessionValue). x.issued) at.value_is) in
+      let same : request_message (N.session s).setup value.domain (length a.begun) by.request ≡ v =
+      ap (λ i. request_message (N.session s).setup value.domain i by.request) issued ∙ sym by.is in
+      subst (λ i. IsRequestFrame (N.session s).setup a.begun i (canonical v)) issued
+      (subst (λ (x : Message). IsRequestFrame (N.session s).setup a.begun (length a.begun) (canonical x)) same
+      (request-sent (N.session s) (state_of value reports a) by.request (sym (ap (λ (x : SessionValue). x.unanswered) at.value_is) ∙ by.unanswered)))
 
   -- ---- what it hears
 
-  own-answered : (report : Report) → is_waiting value ≡ true → IsToldOf N s a report
+  own-answered : (report : Report) → is_waiting value ≡ true → IsToldOf (manager N s) (length a.begun) a.accepted report
       → IsOwn N s (answered value) (reports ++ report ∷ []) clock frames a
   own-answered report waits t =
       let state = state_of value reports a in
@@ -180,8 +149,7 @@ module _ (N : Network) (s : ℕ) (value : SessionValue) (reports : List Report) 
       eqb-false (length reports) (length a.begun) (not_idle (N.session s) state (sym (ap is_waiting at.value_is) ∙ waits)) in
       record {
         value_is = ap answered at.value_is ∙ answered-value (N.session s) state report busy at.step.one_at_a_time told;
-        step = subst (λ (x : Report). IsInStep (manager N s) (ports N (N.session s).target) a.accepted (record { domain = value.domain; attempts_left = value.attempts_left; begun = a.begun; reports = reports ++ x ∷ [] })) (sym t.is)
-            (in_step-reported (manager N s) (ports N (N.session s).target) a.accepted state (length a.begun) t.entry t.answer refl busy t.kept t.one at.step);
+        step = in_step-reported (manager N s) (ports N (N.session s).target) a.accepted state (length a.begun) report refl busy t at.step;
         last = at.last;
         frames_say = at.frames_say;
       }
@@ -196,5 +164,5 @@ module _ (N : Network) (s : ℕ) (value : SessionValue) (reports : List Report) 
   own-hears octets o (received.Answered report) n place i says time e =
       let takes = takes-by value octets report (reading octets) refl e in
       own-answered report takes.accepted.waiting
-      (told_by_own N s value a octets o report n place takes (i takes.message takes.read).1 says time
-      (ap (λ (x : SessionValue). x.setup) at.value_is) (ap (λ (x : SessionValue). x.issued) at.value_is) at.step.begun_before)
+      (told_of N s value reports a octets o report n place takes (i takes.message takes.read).1 says time
+      (ap (λ (x : SessionValue). x.setup) at.value_is) (ap (λ (x : SessionValue). x.issued) at.value_is) at.step)

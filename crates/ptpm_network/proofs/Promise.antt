@@ -1,5 +1,6 @@
 -- The promise of a network, and the states of a running network in which it holds.
-use Rattle.ptpm_network.proofs.Common.{by_test, suc, zero, arith, ◌≡◌, ℕ, ◌<◌, ◌≤◌, List, [], ◌∷◌, ◌++◌, Option, Some, None, false, sym, ◌∙◌, ap, subst, ⊎_elim, length, append_assoc, cases_eq, cond-true, cond-false, true≢false, append-nil, if◌then◌else◌, AllByRecursion, PortIdentity, same_identity, same_identity-refl, same_identity-true, Accepted, kept_reply, Report, Event, IsInRange, Refusal, refusal, RunningNetwork, initial_network, Happened, Ok, Result, network_event, network_run, result_err, Headline, IsPromised, StandsAfter, AreInTime, happens, is_late_delivery, run, step_by, taken, IsNetwork, Network, manager, AreFirsts, Stands, NetworkState, accepted_at_target, initial_state, greatest_accepted, history, outcomes_kept, reports_of, all_append}
+use Rattle.ptpm_network.proofs.Common.{by_test, suc, zero, arith, ◌≡◌, ℕ, ◌<◌, ◌≤◌, List, [], ◌∷◌, ◌++◌, Option, Some, None, false, sym, ◌∙◌, ap, subst, ⊎_elim, cases_eq, cond-true, cond-false, true≢false, if◌then◌else◌, AllByRecursion, PortIdentity, same_identity, same_identity-refl, same_identity-true, Event, IsInRange, Refusal, refusal, RunningNetwork, initial_network, Happened, Ok, Result, network_event, network_run, result_err, Headline, IsPromised, StandsAfter, AreInTime, happens, is_late_delivery, run, step_by, taken, IsNetwork, Network, manager, ports, AreFirsts, Stands, NetworkState, accepted_at_target, initial_state, history, all_append}
+use Rattle.ptpm_network.proofs.Accepting.{IsInOrder, in_order}
 use Rattle.ptpm_network.proofs.DueReplies.{copy-delivered, latest-kept, older-none}
 use Rattle.ptpm_network.proofs.Running.{follows, network_run-running}
 use Rattle.ptpm_network.proofs.Schedule.{reached}
@@ -36,21 +37,6 @@ firsts N is s place = first_of-session N N.sessions s is (omega arith) place
 
 -- ---- the promise
 
--- what a manager is to be told begins with what it is to be told of its first requests
-pub told-begins : (m : PortIdentity) (accepted : List Accepted) (g n : ℕ)
-    → n ≤ g
-    → (rest : List Report) × (outcomes_kept m accepted g ≡ outcomes_kept m accepted n ++ rest)
-told-begins m accepted zero n le =
-    let none : n ≡ 0 = omega arith in
-    ([], sym (append-nil (outcomes_kept m accepted n) ∙ ap (outcomes_kept m accepted) none))
-told-begins m accepted (suc g) n le = ⊎_elim
-    (λ (q : n ≡ suc g). ([], sym (append-nil (outcomes_kept m accepted n) ∙ ap (outcomes_kept m accepted) q)))
-    (λ (ne : n ≡ suc g → ⊥).
-    let p = told-begins m accepted g n (omega arith) in
-    let last : List Report = reports_of (suc g) (kept_reply m (suc g) accepted) in
-    (p.0 ++ last, ap (λ (rs : List Report). rs ++ last) p.1 ∙ append_assoc (outcomes_kept m accepted n) p.0 last))
-    (cases_eq n (suc g))
-
 pub stands-headline : (N : Network) (events : List Event) (r : RunningNetwork)
     → StandsAfter N events r
     → Headline N (run N (initial_state N) events) r
@@ -59,23 +45,19 @@ stands-headline N events r at =
     let w : NetworkState = run N (initial_state N) events in
     let is = reached N events p.network p.in_range in
     let there = at.stands (first_of_sessions N N.sessions) (firsts N p.network) in
+    let order : (s : ℕ) → s < N.sessions → IsInOrder (manager N s) (w.session s).begun (accepted_at_target N w s) (r.reports s) = λ s place.
+    subst (IsInOrder (manager N s) (w.session s).begun (accepted_at_target N w s)) (sym (there.reports s place))
+    (in_order (manager N s) (ports N (N.session s).target) (accepted_at_target N w s) (w.session s) (is.sessions s place)) in
     record {
       sets = λ c place. (there.clocks c place).sets;
       frames = there.frames;
       delivered = λ n c port f copy at_clock. copy-delivered N w n c port f copy at_clock;
       latest = λ n c port f copy at_clock newest. latest-kept N events n c port f copy p.network p.in_range at_clock newest;
       older = λ c copy below. older-none (N.clock c) (history N w c) copy below;
-      reports = λ s place.
-          let session = is.sessions s place in
-          let q = told-begins (manager N s) (accepted_at_target N w s) (greatest_accepted N w s) (length (w.session s).reports) session.accepted_before in
-          (q.0, q.1 ∙ ap (λ (rs : List Report). rs ++ q.0) (sym session.reports ∙ sym (there.reports s place)));
-      reported = λ s place.
-          let session = is.sessions s place in
-          omega (arith, ap length (there.reports s place), session.accepted_before);
-      accepted = λ s place. (is.sessions s place).begun_before;
-      begun = λ s place.
-          let session = is.sessions s place in
-          omega (arith, ap length (there.reports s place), session.one_at_a_time);
+      reports = λ s place. (order s place).rest;
+      reported = λ s place. (order s place).reported_accepted;
+      accepted = λ s place. (order s place).accepted_begun;
+      begun = λ s place. (order s place).begun_reported;
       strangers = λ c port d datagram octets. strangers-leave N events c port datagram d p.network p.in_range octets;
       refused = λ c x error. refused-leaves N w c x error.copy error.reply error.answer error.error error.heard error.due error.among error.is_error;
     }

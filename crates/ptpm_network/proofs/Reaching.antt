@@ -1,7 +1,7 @@
 -- Every event keeps the invariant, and so it holds after every schedule.
-use Rattle.ptpm_network.proofs.Common.{by_test, arith, ◌≡◌, ℕ, ◌<◌, ◌≤◌, ◌-◌, ◌^◌, ◌==◌, ◌&&◌, nat_lt, not, List, [], ◌∷◌, Option, Some, None, true, refl, sym, ◌∙◌, ap, subst, length, and_parts, cond-true, cond-false, eqb-true, eqb-false, leb-true, ltb-true, not-false, not-true, same_Some, nat_le, AllByRecursion, first_of-none, option_or-none, Message, message_of, has_port, Answer, Accepted, kept_reply, Ask, Report, ask_refusal, outcome_in, begin_refusal, BeginRefused, Begin, Deliver, Event, Forged, IsInRange, NoSuchName, Refusal, Resume, Retune, Send, Stranger, begin_refused, forged, frame_at, is_forged, no_port, no_room, no_session, refusal, IsAsked, IsFrame, IsOfOrigin, IsReached, delivered, delivered_at, happens, is_answer, report_from, reported, run, step, step_by, strange_frame, told_by, with_session, AtPort, AtSession, End, HasEnd, IsNetwork, Network, manager, ports, Frame, NetworkState, Origin, RequestOf, ReplyTo, Neither, SessionState, accepted_at_target, initial_state, is_idle, issued, session_value, all_get, get_append, le_trans}
+use Rattle.ptpm_network.proofs.Common.{by_test, arith, ◌≡◌, ℕ, ◌<◌, ◌≤◌, ◌^◌, ◌==◌, ◌&&◌, nat_lt, not, List, [], ◌∷◌, Option, Some, None, true, refl, sym, ◌∙◌, ap, subst, length, and_parts, cond-true, cond-false, eqb-true, eqb-false, leb-true, ltb-true, not-false, not-true, same_Some, nat_le, AllByRecursion, first_of-none, option_or-none, Message, message_of, has_port, kept_reply, Ask, Report, ask_refusal, outcome_in, begin_refusal, BeginRefused, Begin, Deliver, Event, Forged, IsInRange, NoSuchName, Refusal, Resume, Retune, Send, Stranger, begin_refused, forged, frame_at, is_forged, no_port, no_room, no_session, refusal, IsAsked, IsFrame, IsOfOrigin, IsReached, delivered, delivered_at, happens, is_answer, report_from, reported, run, step, step_by, strange_frame, told_by, with_session, AtPort, AtSession, End, HasEnd, IsNetwork, Network, manager, ports, Frame, NetworkState, Origin, RequestOf, ReplyTo, Neither, SessionState, accepted_at_target, initial_state, is_idle, issued, session_value, frame_at-all, get_append, le_trans}
 use Rattle.ptpm_manager.specs.Ask as ask
-use Rattle.ptpm_network.proofs.Accepting.{in_step-begun, in_step-reported, report_of}
+use Rattle.ptpm_network.proofs.Accepting.{IsToldOf, in_step-begun, in_step-reported}
 use Rattle.ptpm_network.proofs.Frames.{heard-frame, says_reply}
 use Rattle.ptpm_network.proofs.Messages.{reply_at}
 use Rattle.ptpm_network.proofs.Refusals.{asked-not_refused, begin-not_refused, idle-not_waiting, option_map-none}
@@ -14,11 +14,7 @@ use Rattle.ptpm_network.proofs.Unnumbered.{delivered_at_clock-reached}
 -- what is reported is what was kept for the last request
 pub record Reports (N : Network) (w : NetworkState) (s : ℕ) (report : Report) : Type 0 where
   pub busy : length (w.session s).reports ≡ length (w.session s).begun → ⊥
-  pub entry : Accepted
-  pub kept : kept_reply (manager N s) (issued w s) (accepted_at_target N w s) ≡ Some entry
-  pub answer : Answer
-  pub one : entry.reply.answers ≡ answer ∷ []
-  pub is : report ≡ report_of (issued w s) entry answer
+  pub told : IsToldOf (manager N s) (issued w s) (accepted_at_target N w s) report
 
 pub no_report : {X : Type 0} (r : Report) → None ≡ Some r → X
 no_report r e = absurd (cc)
@@ -52,11 +48,13 @@ reports-by N w s octets (ReplyTo t k) r n reached i y e =
     subst (λ j. kept_reply (manager N j) k (accepted_at_target N w j) ≡ Some says.entry) ts says.kept in
     record {
       busy = eqb-false _ _ (not-true _ inner.1);
-      entry = says.entry;
-      kept = subst (λ j. kept_reply (manager N s) j (accepted_at_target N w s) ≡ Some says.entry) last kept;
-      answer = says.answer;
-      one = says.one;
-      is = told;
+      told = record {
+        entry = says.entry;
+        kept = subst (λ j. kept_reply (manager N s) j (accepted_at_target N w s) ≡ Some says.entry) last kept;
+        answer = says.answer;
+        one = says.one;
+        is = told;
+      };
     }
 
 pub reports_of_frame : (N : Network) (w : NetworkState) (s : ℕ) (f : Frame) (r : Report)
@@ -74,9 +72,8 @@ reported-reached : (N : Network) (w : NetworkState) (s : ℕ) (f : Frame) (o : O
 reported-reached N w s f None n r place i e = session-changes N w s (w.session s) (λ j q h. h) (r.sessions s place) r
 reported-reached N w s f (Some report) n r place i e =
     let p = reports_of_frame N w s f report n r i e in
-    subst (λ (x : Report). IsReached N (with_session w s (reported (w.session s) (Some x)))) (sym p.is)
-    (session-changes N w s (reported (w.session s) (Some (report_of (issued w s) p.entry p.answer))) (λ j q h. h)
-    (in_step-reported (manager N s) (ports N (N.session s).target) (accepted_at_target N w s) (w.session s) (issued w s) p.entry p.answer refl p.busy p.kept p.one (r.sessions s place)) r)
+    session-changes N w s (reported (w.session s) (Some report)) (λ j q h. h)
+    (in_step-reported (manager N s) (ports N (N.session s).target) (accepted_at_target N w s) (w.session s) (issued w s) report refl p.busy p.told (r.sessions s place)) r
 
 -- ---- a frame comes in
 
@@ -88,9 +85,7 @@ delivered_at-reached N w f (AtSession s) q n r i h = reported-reached N w s f (r
 
 module _ (N : Network) (w : NetworkState) (k : ℕ) where
   pub frame_at-is : (f : Frame) → IsReached N w → frame_at w.frames k ≡ Some f → IsFrame N w f
-  frame_at-is f r e = by_test (k == 0)
-      (λ y. let none : None ≡ Some f = sym (cond-true _ _ _ y) ∙ e in absurd (cc))
-      (λ n. all_get (IsFrame N w) w.frames (k - 1) f r.frames (sym (cond-false _ _ _ n) ∙ e))
+  frame_at-is f r e = frame_at-all (IsFrame N w) w.frames k f r.frames e
 
   delivered-reached : (o : Option Frame)
       → IsNetwork N → IsReached N w → frame_at w.frames k ≡ o

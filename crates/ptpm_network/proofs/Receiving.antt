@@ -1,13 +1,14 @@
 -- A session tells the answer to its request by octets as the machine tells it by origins.
-use Rattle.ptpm_network.proofs.Common.{by_test, arith, ◌≡◌, ℕ, ◌<◌, ◌≤◌, ◌+◌, ◌==◌, ◌&&◌, not, List, [], ◌∷◌, Option, Some, None, Result, Ok, Err, Bool, true, false, refl, sym, ◌∙◌, ap, subst, length, and_from, and_parts, cond-true, cond-false, eq-eqb, eqb-true, ltb-false, not-false, not-true, or_left, or_right, true≢false, false≢true, same_Some, is_some, unwrap_or, AllByRecursion, first_of-none, DecodeError, PortIdentity, Action, Message, every_port, same_clock, same_identity, action_of, id_of, is_reply, message_of, reading, is_of_port, Answer, Outcome, reply_action, answer_body, same_identity-refl, same_identity-true, same_clock-refl, same_clock-true, message_of-reading, reading-message_of, Report, first_of, answer_by, answer_to, is_answered_by, is_content, is_from_asked_port, is_from_target, is_in_domain, reason_of, received_of, outcome_in, SessionValue, is_waiting, number_of, Event, IsInRange, frame_at, IsOfOrigin, IsReached, is_answer, report_from, run, told_by, AtSession, HasEnd, IsNetwork, Network, SessionStart, manager, Frame, NetworkState, Origin, RequestOf, ReplyTo, Neither, SessionState, initial_state, is_idle, is_late, issued, session_value, unanswered, reply_action-is_reply}
+use Rattle.ptpm_network.proofs.Common.{by_test, arith, ◌≡◌, ℕ, ◌<◌, ◌≤◌, ◌+◌, ◌==◌, ◌&&◌, not, List, [], ◌∷◌, Option, Some, None, Result, Ok, Err, Bool, true, false, refl, sym, ◌∙◌, ap, subst, length, and_from, and_parts, cond-true, cond-false, eq-eqb, eqb-true, ltb-false, not-false, not-true, or_left, or_right, true≢false, false≢true, is_some, unwrap_or, AllByRecursion, first_of-none, DecodeError, PortIdentity, Action, Message, every_port, same_clock, same_identity, action_of, id_of, is_reply, message_of, reading, is_of_port, Answer, Outcome, reply_action, answer_body, same_identity-refl, same_identity-true, same_clock-refl, same_clock-true, message_of-reading, reading-message_of, Report, first_of, answer_by, answer_to, is_answered_by, is_content, is_from_asked_port, is_from_target, is_in_domain, reason_of, received_of, outcome_in, SessionValue, is_waiting, number_of, Event, IsInRange, frame_at, IsOfOrigin, IsReached, is_answer, report_from, run, told_by, AtSession, HasEnd, IsNetwork, Network, SessionStart, manager, Frame, NetworkState, Origin, RequestOf, ReplyTo, Neither, SessionState, accepted_at_target, initial_state, is_idle, is_late, issued, session_value, unanswered}
 use Rattle.ptpm_codec.specs.declared.message.Action.TheVariants as actions
 use Rattle.ptpm_data.specs.Reply as reply
 use Rattle.ptpm_manager.specs.declared.receiving.Reason.{Reason}
 use Rattle.ptpm_manager.specs.declared.receiving.Reason.TheVariants as reasons
 use Rattle.ptpm_manager.specs.declared.receiving.Received.TheVariants as received
-use Rattle.ptpm_network.proofs.Arriving.{action_of-answer_body}
-use Rattle.ptpm_network.proofs.Frames.{SaysReply, same_read, says_reply, says_request}
-use Rattle.ptpm_network.proofs.Messages.{reply_at, request_at}
+use Rattle.ptpm_manager.specs.declared.setup.Setup.{Setup}
+use Rattle.ptpm_network.proofs.Frames.{SaysReply, heard-frame, same_read, says_reply}
+use Rattle.ptpm_network.proofs.Messages.{action_of-answer_body, answer_body-is_reply, reply_at}
+use Rattle.ptpm_network.proofs.Origins.{IsTrueTo, heard-true}
 use Rattle.ptpm_network.proofs.Reaching.{frame_at-is, no_report, told-message}
 use Rattle.ptpm_network.proofs.Schedule.{reached}
 
@@ -78,12 +79,12 @@ same_answer : (a b : Answer) → a ∷ [] ≡ b ∷ [] → a ≡ b
 same_answer a b e = cc
 
 abbrev message_said : (N : Network) (w : NetworkState) (s k : ℕ) (octets : List ℕ)
-    → SaysReply N w s k octets
+    → SaysReply N s k (w.session s).begun (accepted_at_target N w s) octets
     → Message
 message_said N w s k octets says = reply_at (N.session s).setup.target says.heard says.entry.reply says.ingress says.hops says.answer
 
 asked-port : (N : Network) (w : NetworkState) (s k : ℕ) (octets : List ℕ)
-    (says : SaysReply N w s k octets)
+    (says : SaysReply N s k (w.session s).begun (accepted_at_target N w s) octets)
     → is_from_asked_port (Some says.entry.request) (message_said N w s k octets says).source.port
     ≡ true
 asked-port N w s k octets says = by_test (is_of_port says.entry.request.id)
@@ -94,7 +95,7 @@ asked-port N w s k octets says = by_test (is_of_port says.entry.request.id)
     (λ n. or_left _ _ (eq-eqb says.entry.request.port every_port (says.says.asked.every n)))
 
 content-said : (N : Network) (w : NetworkState) (s k : ℕ) (octets : List ℕ)
-    (says : SaysReply N w s k octets)
+    (says : SaysReply N s k (w.session s).begun (accepted_at_target N w s) octets)
     → is_content (Some says.entry.request) (action_of (message_said N w s k octets says).body)
     (id_of (message_said N w s k octets says).body) ≡ true
 content-said N w s k octets says =
@@ -106,7 +107,7 @@ content-said N w s k octets says =
     (ap (is_answered_by q.action) action ∙ answered_by-reply_action q.action says.says.asked.action)
     (eq-eqb q.id _ (sym id))
 
-module _ (N : Network) (w : NetworkState) (s : ℕ) (octets : List ℕ) (says : SaysReply N w s (issued w s) octets) (busy : is_idle (w.session s) ≡ false) where
+module _ (N : Network) (w : NetworkState) (s : ℕ) (octets : List ℕ) (says : SaysReply N s (issued w s) (w.session s).begun (accepted_at_target N w s) octets) (busy : is_idle (w.session s) ≡ false) where
   -- what is unanswered is the request that the reply is to
   unanswered-said : unanswered (w.session s) ≡ Some says.entry.request
   unanswered-said = cond-false _ _ _ busy ∙ says.says.begun_as
@@ -119,7 +120,7 @@ module _ (N : Network) (w : NetworkState) (s : ℕ) (octets : List ℕ) (says : 
       let r = says.entry.reply in
       record {
         domain = domain;
-        reply = ap is_reply (action_of-answer_body r.action r.id says.answer.outcome ∙ says.says.answers.action) ∙ reply_action-is_reply says.entry.request.action;
+        reply = answer_body-is_reply says.entry.request r says.answer.outcome says.says.answers;
         target = ap (λ (m : PortIdentity). same_identity m (manager N s)) says.source ∙ same_identity-refl (manager N s);
         source = and_from _ _ (same_clock-refl (N.session s).setup.target)
             (ap (λ o. is_from_asked_port o (message_said N w s (issued w s) octets says).source.port) asked ∙ asked-port N w s (issued w s) octets says);
@@ -203,34 +204,50 @@ not_idle start s h = by_test (is_idle s)
     (λ y. absurd (false≢true (sym (ap is_some (cond-true _ _ _ y)) ∙ h)))
     (λ n. n)
 
+-- it takes nothing for its answer but a reply to itself
+pub takes-own : (N : Network) (s : ℕ) (value : SessionValue) (octets : List ℕ) (o : Origin) (r : Report)
+    → IsNetwork N → s < N.sessions → value.setup ≡ (N.session s).setup
+    → (takes : Takes value octets r) → IsTrueTo N takes.message o
+    → (k : ℕ) × (o ≡ ReplyTo s k)
+takes-own N s value octets (RequestOf t k) r n place setup takes i = absurd (true≢false (sym takes.accepted.reply ∙ i.request))
+takes-own N s value octets (ReplyTo t k) r n place setup takes i =
+    let target : manager N t ≡ manager N s =
+    sym i.target ∙ same_identity-true takes.message.target value.setup.me takes.accepted.target ∙ ap (λ (x : Setup). x.me) setup in
+    (k, ap (λ j. ReplyTo j k) (n.sessions_apart t s i.place place target))
+takes-own N s value octets Neither r n place setup takes i =
+    let session = n.are_sessions s place in
+    let clock : takes.message.source.clock ≡ value.setup.target = same_clock-true takes.message.source.clock value.setup.target
+    (and_parts (same_clock takes.message.source.clock value.setup.target) (is_from_asked_port value.unanswered takes.message.source.port) takes.accepted.source).0 in
+    absurd (i.no_reply (N.session s).target s session.exists place
+    (clock ∙ ap (λ (x : Setup). x.target) setup ∙ session.target)
+    (same_identity-true takes.message.target value.setup.me takes.accepted.target ∙ ap (λ (x : Setup). x.me) setup))
+
+-- and that to its last request, where it is not late
+pub takes-last : (first k : ℕ) (value : SessionValue) (octets : List ℕ) (r : Report) (takes : Takes value octets r)
+    → value.setup.first ≡ first → takes.message.number ≡ number_of first k → 0 < k → k ≤ value.issued
+    → value.issued ≤ k + 32768
+    → k ≡ value.issued
+takes-last first k value octets r takes same number positive within time =
+    same_number first k value.issued positive within time
+    (sym number
+    ∙ eqb-true takes.message.number (number_of value.setup.first value.issued) takes.accepted.number
+    ∙ ap (λ f. number_of f value.issued) same)
+
 takes-answer : (N : Network) (w : NetworkState) (s : ℕ) (octets : List ℕ) (o : Origin) (r : Report)
     → IsNetwork N → IsReached N w → s < N.sessions → IsOfOrigin N w octets o → is_late w o ≡ false
     → Takes (session_value (N.session s) (w.session s)) octets r
     → is_answer s (w.session s) o ≡ true
-takes-answer N w s octets (RequestOf t k) r n reached place i late takes =
-    let says = says_request N w t k octets n reached i in
-    let same = same_read octets takes.message (request_at N t k says.domain says.hops says.request) says.message takes.read in
-    absurd (true≢false (sym takes.accepted.reply ∙ (ap (λ (u : Message). is_reply (action_of u.body)) same ∙ says.asked.action)))
-takes-answer N w s octets Neither r n reached place i late takes =
-    let session = n.are_sessions s place in
-    let same : i.message ≡ takes.message = same_Some i.message takes.message (sym i.is.read ∙ takes.read) in
-    let clock : takes.message.source.clock ≡ (N.session s).setup.target = same_clock-true takes.message.source.clock (N.session s).setup.target
-    (and_parts (same_clock takes.message.source.clock (N.session s).setup.target) (is_from_asked_port (unanswered (w.session s)) takes.message.source.port) takes.accepted.source).0 in
-    absurd (i.foreign.no_reply (N.session s).target s session.exists place
-    (ap (λ (u : Message). u.source.clock) same ∙ clock ∙ session.target)
-    (ap (λ (u : Message). u.target) same ∙ same_identity-true takes.message.target (manager N s) takes.accepted.target))
-takes-answer N w s octets (ReplyTo t k) r n reached place i late takes =
-    let says = says_reply N w t k octets n reached i in
-    let same = same_read octets takes.message (message_said N w t k octets says) says.message takes.read in
-    let target : manager N t ≡ manager N s = sym says.source ∙ ap (λ (u : Message). u.target) (sym same) ∙ same_identity-true takes.message.target (manager N s) takes.accepted.target in
-    let ts : t ≡ s = n.sessions_apart t s says.place place target in
-    let within : k ≤ issued w s = subst (λ j. k ≤ issued w j) ts says.says.within in
-    let now : issued w s ≤ k + 32768 = subst (λ j. issued w j ≤ k + 32768) ts (ltb-false (k + 32768) (issued w t) late) in
-    let number : number_of (N.session s).setup.first k ≡ number_of (N.session s).setup.first (issued w s) =
-    subst (λ j. number_of (N.session j).setup.first k ≡ number_of (N.session s).setup.first (issued w s)) ts
-    (sym says.number ∙ ap (λ (u : Message). u.number) (sym same) ∙ eqb-true takes.message.number (number_of (N.session s).setup.first (issued w s)) takes.accepted.number) in
-    let last : k ≡ issued w s = same_number (N.session s).setup.first k (issued w s) says.positive within now number in
-    and_from _ _ (eq-eqb t s ts) (and_from _ _ (eq-eqb k (issued w s) last) (ap not (not_idle (N.session s) (w.session s) takes.accepted.waiting)))
+takes-answer N w s octets o r n reached place i late takes =
+    let value : SessionValue = session_value (N.session s) (w.session s) in
+    let own = takes-own N s value octets o r n place refl takes (heard-true N w octets o n reached (heard-frame N w octets o i) takes.message takes.read).1 in
+    let k = own.0 in
+    let says = says_reply N w s k octets n reached (subst (IsOfOrigin N w octets) own.1 i) in
+    let time : issued w s ≤ k + 32768 = ltb-false (k + 32768) (issued w s) (subst (λ (x : Origin). is_late w x ≡ false) own.1 late) in
+    let number : takes.message.number ≡ number_of (N.session s).setup.first k =
+    ap (λ (u : Message). u.number) (same_read octets takes.message (message_said N w s k octets says) says.message takes.read) ∙ says.number in
+    let last : k ≡ issued w s = takes-last (N.session s).setup.first k value octets r takes refl number says.positive says.says.within time in
+    subst (λ (x : Origin). is_answer s (w.session s) x ≡ true) (sym own.1)
+    (and_from _ _ (eq-eqb s s refl) (and_from _ _ (eq-eqb k (issued w s) last) (ap not (not_idle (N.session s) (w.session s) takes.accepted.waiting))))
 
 takes-told : (start : SessionStart) (state : SessionState) (octets : List ℕ) (r : Report)
     → Takes (session_value start state) octets r

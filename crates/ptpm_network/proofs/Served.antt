@@ -1,5 +1,5 @@
 -- A session whose own messages come in time is served, after every list of events, whatever comes late of others.
-use Rattle.ptpm_network.proofs.Common.{by_test, arith, ◌≡◌, ℕ, ◌+◌, ◌-◌, ◌<◌, ◌≤◌, ◌==◌, ◌^◌, ◌&&◌, Bool, List, [], ◌∷◌, ◌++◌, length, Option, Some, None, Result, Ok, Err, true, false, refl, sym, ◌∙◌, ap, subst, ⊎_elim, and_cases, and_from, cond-true, cond-false, eq-eqb, eqb-true, eqb-false, ne_eqb, ltb-false, true≢false, all_append, AllByRecursion, Message, canonical, RequestValue, greatest, is_copy, Report, received_of, IsAsked, strange_frame, with_place, with_place-same, with_place-other, AtPort, AtSession, End, HasEnd, IsNetwork, Network, manager, ports, Held, seen, Origin, RequestOf, ReplyTo, Neither, SessionValue, Happened, network_event, network_run, goes_on, delivers, reaches, hears, RunningNetwork, initial_network, answered, begun, resumed, retuned, sent, due_message, Ask, begin_refusal, BeginRefused, SendRefused, Refusal, Event, Begin, Send, Resume, Retune, Deliver, Stranger, IsInRange, Forged, is_forged, forged, frame_at, first_of-none, no_port, no_room, no_session, nothing_to_resume, send_refusal, option_map, is_late_at, all_get, sends_in, PortIdentity, DataSetsValue, Entry, initial_history, StandsAfter, session_value}
+use Rattle.ptpm_network.proofs.Common.{by_test, ◌≡◌, ℕ, ◌+◌, ◌<◌, ◌≤◌, ◌==◌, ◌^◌, ◌&&◌, Bool, List, [], ◌∷◌, ◌++◌, length, Option, Some, None, Result, Ok, Err, true, false, refl, sym, ◌∙◌, ap, subst, ⊎_elim, and_cases, and_from, cond-true, cond-false, eq-eqb, eqb-true, eqb-false, ne_eqb, ltb-false, true≢false, all_append, frame_at-all, AllByRecursion, Message, Fits, IsForeign, message_of, with_session_value, canonical, RequestValue, is_copy, Report, received_of, IsAsked, strange_frame, with_place, with_place-same, with_place-other, AtPort, AtSession, End, HasEnd, IsNetwork, Network, manager, ports, Held, seen, Origin, RequestOf, ReplyTo, Neither, SessionValue, Happened, network_event, network_run, goes_on, delivers, reaches, hears, RunningNetwork, initial_network, answered, begun, resumed, retuned, sent, due_message, Ask, begin_refusal, BeginRefused, SendRefused, Refusal, Event, Begin, Send, Resume, Retune, Deliver, Stranger, IsInRange, Forged, is_forged, forged, frame_at, first_of-none, no_port, no_room, no_session, nothing_to_resume, send_refusal, option_map, is_late_at, sends_in, PortIdentity, DataSetsValue, Entry, initial_history, StandsAfter, session_value}
 use Rattle.std.specs.FinMap.{get}
 use Rattle.ptpm_agent.specs.Laws.{IsKept}
 use Rattle.ptpm_manager.specs.Ask as ask
@@ -10,15 +10,16 @@ use Rattle.ptpm_network.specs.ByManager.{Account, StaysInTime, account_from, acc
 use Rattle.ptpm_network.specs.CarriedOut.{carried_at, carried_by_event, carried_of_frame}
 use Rattle.ptpm_network.specs.Served.{After, AtStart, HasAccount, IsServed, IsServedSoFar, IsTimelyCopy}
 use Rattle.ptpm_network.specs.State.{initial_session_state}
-use Rattle.ptpm_network.proofs.Honest.{IsHonest, IsSentBy, IsTrueFrame, Then, begins-honest, event-honest, first-honest, frame-true, nothing_kept, sent-all, sent_by, then_ok, then_unless}
-use Rattle.ptpm_network.proofs.Own.{IsLastOf, IsRequestSaid, TurnsOwn, turns_own}
+use Rattle.ptpm_network.proofs.Accepting.{in_order}
+use Rattle.ptpm_network.proofs.Honest.{IsHonest, IsSentBy, IsTrueFrame, Then, begins-honest, first-honest, frame-true, nothing_kept, reaches-honest, sends-honest, sent-all, sent_by, session-honest, then_ok, then_unless, turns-honest}
+use Rattle.ptpm_network.specs.Invariant.{IsRequestFrame}
+use Rattle.ptpm_network.proofs.Own.{IsLastOf, TurnsOwn, turns_own}
 use Rattle.ptpm_network.proofs.Owned.{IsOwn, IsOwnFrame, own-begun, own-hears, own-message, own-resumed, own-retuned, own-sent, reports_with, state_of}
-use Rattle.ptpm_network.proofs.Promise.{first_of_sessions, firsts, stands-first, told-begins}
-use Rattle.ptpm_network.proofs.Reaching.{port-exists, session-exists}
+use Rattle.ptpm_network.proofs.Promise.{first_of_sessions, firsts, stands-first}
+use Rattle.ptpm_network.proofs.Reaching.{first-reached, port-exists, session-exists}
 use Rattle.ptpm_network.proofs.Refusals.{begin-not_refused, option_map-none}
 use Rattle.ptpm_network.proofs.Serving.{Own, comes_own, own-turned}
 use Rattle.ptpm_network.proofs.Strangers.{strange-message}
-use Rattle.ptpm_network.proofs.Truth.{IsTrue}
 
 -- ---- what is in time
 
@@ -26,32 +27,39 @@ no_origin : {X : Type 0} (s k : ℕ) → Neither ≡ RequestOf s k → X
 no_origin s k e = absurd (cc)
 
 module _ (N : Network) (s : ℕ) (r : RunningNetwork) where
+  timely-for : (o p : Origin) (end : End) (k : ℕ)
+      → is_for N s end o && is_behind r o ≡ false → o ≡ p → is_for N s end p ≡ true
+      → is_behind r p ≡ is_late_at k (r.session s).issued
+      → (r.session s).issued ≤ k + 32768
+  timely-for o p end k late e here is =
+      let at : is_for N s end p && is_behind r p ≡ false = subst (λ (z : Origin). is_for N s end z && is_behind r z ≡ false) e late in
+      ⊎_elim
+      (λ (no : is_for N s end p ≡ false). absurd (true≢false (sym here ∙ no)))
+      (λ (in' : is_behind r p ≡ false). ltb-false (k + 32768) (r.session s).issued (sym is ∙ in'))
+      (and_cases (is_for N s end p) (is_behind r p) at)
+
   clock-in_time : (o : Origin) (d port k : ℕ)
       → is_for N s (AtPort d port) o && is_behind r o ≡ false → o ≡ RequestOf s k → d ≡ (N.session s).target
       → (r.session s).issued ≤ k + 32768
   clock-in_time o d port k late e here =
-      let at : is_for N s (AtPort d port) (RequestOf s k) && is_behind r (RequestOf s k) ≡ false =
-      subst (λ (z : Origin). is_for N s (AtPort d port) z && is_behind r z ≡ false) e late in
-      ⊎_elim
-      (λ (no : is_for N s (AtPort d port) (RequestOf s k) ≡ false). absurd (true≢false (sym (and_from (s == s) (d == (N.session s).target) (eq-eqb s s refl) (eq-eqb d (N.session s).target here)) ∙ no)))
-      (λ (in' : is_late_at k (r.session s).issued ≡ false). ltb-false (k + 32768) (r.session s).issued in')
-      (and_cases (is_for N s (AtPort d port) (RequestOf s k)) (is_behind r (RequestOf s k)) at)
+      timely-for o (RequestOf s k) (AtPort d port) k late e (and_from (s == s) (d == (N.session s).target) (eq-eqb s s refl) (eq-eqb d (N.session s).target here)) refl
 
   session-in_time : (o : Origin) (k : ℕ)
       → is_for N s (AtSession s) o && is_behind r o ≡ false → o ≡ ReplyTo s k
       → (r.session s).issued ≤ k + 32768
-  session-in_time o k late e =
-      let at : is_for N s (AtSession s) (ReplyTo s k) && is_behind r (ReplyTo s k) ≡ false =
-      subst (λ (z : Origin). is_for N s (AtSession s) z && is_behind r z ≡ false) e late in
-      ⊎_elim
-      (λ (no : is_for N s (AtSession s) (ReplyTo s k) ≡ false). absurd (true≢false (sym (and_from (s == s) (s == s) (eq-eqb s s refl) (eq-eqb s s refl)) ∙ no)))
-      (λ (in' : is_late_at k (r.session s).issued ≡ false). ltb-false (k + 32768) (r.session s).issued in')
-      (and_cases (is_for N s (AtSession s) (ReplyTo s k)) (is_behind r (ReplyTo s k)) at)
+  session-in_time o k late e = timely-for o (ReplyTo s k) (AtSession s) k late e (and_from (s == s) (s == s) (eq-eqb s s refl) (eq-eqb s s refl)) refl
 
 -- ---- one event
 
 flip : (s t : ℕ) → t == s ≡ false → s == t ≡ false
 flip s t n = ne_eqb s t (λ (e : s ≡ t). eqb-false t s n (sym e))
+
+-- every frame is true, and the session is as its account says
+pub record Stays (N : Network) (s : ℕ) (r : RunningNetwork) (a : Account) : Type 0 where
+  pub network : IsNetwork N
+  pub place : s < N.sessions
+  pub honest : IsHonest N r
+  pub own : Own N s r a
 
 module _ (N : Network) (n : IsNetwork N) (s : ℕ) (place : s < N.sessions) (r : RunningNetwork) (h : IsHonest N r) (a : Account) (at : Own N s r a) where
   -- a session becomes another: this one, or another one
@@ -64,6 +72,13 @@ module _ (N : Network) (n : IsNetwork N) (s : ℕ) (place : s < N.sessions) (r :
       (ap f (ap r.session (sym ts)) ∙ sym (with_place-same r.session t (f (r.session t)) s (eq-eqb s t (sym ts)))) new)
       (λ o. subst (λ (x : SessionValue). IsOwn N s x (r.reports s) (r.clock (N.session s).target) r.frames a)
       (sym (with_place-other r.session t (f (r.session t)) s (flip s t o))) at)
+
+  moved-honest : (t : ℕ) (f : SessionValue → SessionValue) → t < N.sessions
+      → (f (r.session t)).setup ≡ (r.session t).setup → (f (r.session t)).unanswered ≡ (r.session t).unanswered
+      → IsHonest N (with_session_value r t (f (r.session t)))
+  moved-honest t f there setup unanswered =
+      let value = h.sessions t there in
+      session-honest N r t (f (r.session t)) h (record { setup = setup ∙ value.setup; asked = λ q e. value.asked q (sym unanswered ∙ e) })
 
   own-begins : (t : ℕ) (q : Ask) → t < N.sessions → q.id < 2 ^ 16 → begin_refusal (r.session t) q ≡ None
       → IsOwn N s (with_place r.session t (begun (r.session t) (ask.request_of q)) s) (r.reports s) (r.clock (N.session s).target) r.frames
@@ -93,7 +108,7 @@ module _ (N : Network) (n : IsNetwork N) (s : ℕ) (place : s < N.sessions) (r :
             (sent-all (IsOwnFrame N s a) N t (r.session t).issued (due_message (r.session t)) n
             (λ v e end he. λ (ts : t ≡ s).
             let by : IsSentBy N s (r.session s) v = subst (λ j. IsSentBy N j (r.session j) v) ts (sent_by N t (r.session t) v n there (h.sessions t there) e) in
-            subst (λ j. IsRequestSaid (N.session s).setup.first a.begun (r.session j).issued (canonical v)) (sym ts)
+            subst (λ j. IsRequestFrame (N.session s).setup a.begun (r.session j).issued (canonical v)) (sym ts)
             (own-message N s (r.session s) (r.reports s) (r.clock (N.session s).target) r.frames a at v by)));
       }
 
@@ -129,64 +144,46 @@ module _ (N : Network) (n : IsNetwork N) (s : ℕ) (place : s < N.sessions) (r :
       (λ k o. subst (λ b. b ≤ k + 32768) issued-begun
       (session-in_time N s r x.origin k (subst (λ j. is_for N s (AtSession j) x.origin && is_behind r x.origin ≡ false) ts late) o)) refl))
 
-  own-frame : (k : ℕ) (x : Held) → frame_at r.frames k ≡ Some x → IsOwnFrame N s a x
-  own-frame k x e = by_test (k == 0)
-      (λ y. let none : None ≡ Some x = sym (cond-true _ _ _ y) ∙ e in absurd (cc))
-      (λ o. all_get (IsOwnFrame N s a) r.frames (k - 1) x at.frames_say (sym (cond-false _ _ _ o) ∙ e))
+  -- both, after what happened
+  stays : (x : RunningNetwork) (b : Account) → IsHonest N x → Own N s x b → Stays N s x b
+  stays x b honest own = record { network = n; place = place; honest = honest; own = own }
 
-  own-delivers : (k : ℕ) (o : Option Held) → frame_at r.frames k ≡ o → is_late_frame_for N s r o ≡ false
+  stays-delivers : (k : ℕ) (o : Option Held) → frame_at r.frames k ≡ o → is_late_frame_for N s r o ≡ false
       → Then (delivers N r o)
-      (λ g. Own N s g.network (record { begun = a.begun; accepted = with_carried (manager N s) (N.clock (N.session s).target) (r.clock (N.session s).target) (carried_of_frame N r (N.session s).target o) a.accepted }))
-  own-delivers k None e late = λ g is. absurd (cc)
-  own-delivers k (Some x) e late =
+      (λ g. Stays N s g.network (record { begun = a.begun; accepted = with_carried (manager N s) (N.clock (N.session s).target) (r.clock (N.session s).target) (carried_of_frame N r (N.session s).target o) a.accepted }))
+  stays-delivers k None e late = λ g is. absurd (cc)
+  stays-delivers k (Some x) e late =
       let i = frame-true N n r h k x e in
-      then_unless _ (no_room r.frames) _ (λ room. then_ok _ (reaches N r x x.end) (own-reaches x x.end i (own-frame k x e) i.end late))
+      then_unless _ (no_room r.frames) _ (λ room. then_ok _ (reaches N r x x.end)
+      (stays _ _ (reaches-honest N n r h x x.end i.says i.end) (own-reaches x x.end i (frame_at-all (IsOwnFrame N s a) r.frames k x at.frames_say e) i.end late)))
 
-  own-event : (e : Event) → IsInRange e → is_late_for N s r e ≡ false
-      → Then (network_event N r e) (λ g. Own N s g.network (account_with N s r e a))
+  stays-event : (e : Event) → IsInRange e → is_late_for N s r e ≡ false
+      → Then (network_event N r e) (λ g. Stays N s g.network (account_with N s r e a))
   unfolding network_event carried_by_event
-  own-event (Begin t q) id late =
+  stays-event (Begin t q) id late =
       then_unless _ (no_session N t) _ (λ there. then_unless _ (option_map BeginRefused (begin_refusal (r.session t) q)) _
-      (λ fine. then_ok _ _ (own-begins t q (session-exists N t there) id (option_map-none BeginRefused (begin_refusal (r.session t) q) fine))))
-  own-event (Send t) i late =
+      (λ fine.
+      let exists = session-exists N t there in
+      let none = option_map-none BeginRefused (begin_refusal (r.session t) q) fine in
+      then_ok _ _ (stays _ _ (session-honest N r t _ h (begins-honest N r t q n h exists id none)) (own-begins t q exists id none))))
+  stays-event (Send t) i late =
       then_unless _ (no_session N t) _ (λ there. then_unless _ (no_room r.frames) _ (λ room. then_unless _ (option_map SendRefused (send_refusal (r.session t))) _
-      (λ fine. then_ok _ _ (own-sends t (session-exists N t there)))))
-  own-event (Resume t attempts) i late =
+      (λ fine. let exists = session-exists N t there in then_ok _ _ (stays _ _ (sends-honest N r t n h exists) (own-sends t exists)))))
+  stays-event (Resume t attempts) i late =
       then_unless _ (no_session N t) _ (λ there. then_unless _ (nothing_to_resume (r.session t)) _
-      (λ fine. then_ok _ _ (own-set (λ x. resumed x attempts) t (own-resumed N s (r.session s) (r.reports s) (r.clock (N.session s).target) r.frames a at attempts))))
-  own-event (Retune t domain) i late =
+      (λ fine. then_ok _ _ (stays _ _ (moved-honest t (λ x. resumed x attempts) (session-exists N t there) refl refl) (own-set (λ x. resumed x attempts) t (own-resumed N s (r.session s) (r.reports s) (r.clock (N.session s).target) r.frames a at attempts)))))
+  stays-event (Retune t domain) i late =
       then_unless _ (no_session N t) _
-      (λ there. then_ok _ _ (own-set (λ x. retuned x domain) t (own-retuned N s (r.session s) (r.reports s) (r.clock (N.session s).target) r.frames a at domain)))
-  own-event (Deliver k) i late = own-delivers k (frame_at r.frames k) refl late
-  own-event (Stranger c port datagram) octets late =
+      (λ there. then_ok _ _ (stays _ _ (moved-honest t (λ x. retuned x domain) (session-exists N t there) refl refl) (own-set (λ x. retuned x domain) t (own-retuned N s (r.session s) (r.reports s) (r.clock (N.session s).target) r.frames a at domain))))
+  stays-event (Deliver k) i late = stays-delivers k (frame_at r.frames k) refl late
+  stays-event (Stranger c port datagram) octets late =
       then_unless _ (no_port N c port) _ (λ there. then_unless _ (forged N datagram) _ (λ fine. then_unless _ (no_room r.frames) _
-      (λ room. let honest = (first_of-none (is_forged N datagram) Forged [] fine).0 in
-      then_ok _ _ (own-turned N n s place r h a at port (strange_frame c port datagram) (λ v e. strange-message N datagram v octets honest e) tt c (port-exists N c port there) (λ k o here. no_origin s k o)))))
+      (λ room.
+      let says : (v : Message) → message_of datagram ≡ Some v → Fits v × IsForeign N v = λ v e. strange-message N datagram v octets (first_of-none (is_forged N datagram) Forged [] fine).0 e in
+      let end = port-exists N c port there in
+      then_ok _ _ (stays _ _ (turns-honest N r c port (strange_frame c port datagram) n h end says) (own-turned N n s place r h a at port (strange_frame c port datagram) says tt c end (λ k o here. no_origin s k o))))))
 
--- ---- a list of events
-
-pub record Stays (N : Network) (s : ℕ) (r : RunningNetwork) (a : Account) : Type 0 where
-  pub honest : IsHonest N r
-  pub own : Own N s r a
-
-stays-while : (N : Network) (s : ℕ) (r : RunningNetwork) (a b : Account) (es : List Event) (late : Bool) (x : Result Happened Refusal)
-    → Stays N s r a → in_time_while x late (λ next. StaysInTime N s next es)
-    → ((h : Happened) → x ≡ Ok h → late ≡ false → StaysInTime N s h.network es → Stays N s (network_run N h.network es) (account_from N s h.network b es))
-    → Stays N s (goes_on r x (λ next. network_run N next es)) (account_while x a (λ next. account_from N s next b es))
-stays-while N s r a b es late (Ok h) at time behind = behind h refl time.0 time.1
-stays-while N s r a b es late (Err reason) at time behind = at
-
-pub stays-run : (N : Network) (s : ℕ) (r : RunningNetwork) (a : Account) (es : List Event)
-    → IsNetwork N → s < N.sessions → Stays N s r a → AllByRecursion IsInRange es → StaysInTime N s r es
-    → Stays N s (network_run N r es) (account_from N s r a es)
-stays-run N s r a [] n place at i time = at
-stays-run N s r a (e ∷ es) n place at i time =
-    stays-while N s r a (account_with N s r e a) es (is_late_for N s r e) (network_event N r e) at time
-    (λ h is late rest. stays-run N s h.network (account_with N s r e a) es n place
-    (record { honest = event-honest N n r at.honest e i.0 h is; own = own-event N n s place r at.honest a at.own e i.0 late h is }) i.1 rest)
-
-not_both : (k : ℕ) → 0 < k → k ≤ 0 → ⊥
-not_both k p le = omega arith
+-- ---- where the account begins
 
 nothing-last : (first : PortIdentity → ℕ) (d : DataSetsValue) (m : PortIdentity) (own : ℕ) (o : Option Entry)
     → IsKept first (initial_history d) m o
@@ -203,89 +200,81 @@ stays-first N s r place at =
     let target = (N.session s).target in
     let value : SessionValue = session_value (N.session s) (initial_session_state (N.session s)) in
     record {
+      network = n;
+      place = place;
       honest = first-honest N first r n there;
       own = subst (λ (v : SessionValue). IsOwn N s v (r.reports s) (r.clock target) r.frames a) (sym (there.sessions s place))
           (subst (λ (rs : List Report). IsOwn N s value rs (r.clock target) r.frames a) (sym (there.reports s place))
           (subst (λ (hs : List Held). IsOwn N s value [] (r.clock target) hs a) (sym there.frames)
           (record {
             value_is = refl;
-            step = record {
-              asked = λ i q e. absurd (cc);
-              one_at_a_time = omega arith;
-              begun_before = omega arith;
-              accepted_before = omega arith;
-              from_one = refl;
-              without_gap = λ k p le. absurd (not_both k p le);
-              reports = refl;
-            };
+            step = (first-reached N n).sessions s place;
             last = nothing-last first (N.start target) (manager N s) (N.session s).setup.first (get (r.clock target).entries (manager N s))
                 ((there.clocks target (n.are_sessions s place).exists).entries (manager N s));
             frames_say = tt;
           })));
     }
 
+-- ---- every event
+
+stays-by : (N : Network) (s : ℕ) (r : RunningNetwork) (a : Account) → HasAccount N s r a → Stays N s r a
+stays-by N s r a (AtStart start place at) = stays-first N s start place at
+stays-by N s new b (After r a e h before i is late) =
+    let at = stays-by N s r a before in stays-event N at.network s at.place r at.honest a at.own e i late h is
+
+account-while : (N : Network) (s : ℕ) (r : RunningNetwork) (a b : Account) (es : List Event) (late : Bool) (x : Result Happened Refusal)
+    → HasAccount N s r a → in_time_while x late (λ next. StaysInTime N s next es)
+    → ((h : Happened) → x ≡ Ok h → late ≡ false → StaysInTime N s h.network es → HasAccount N s (network_run N h.network es) (account_from N s h.network b es))
+    → HasAccount N s (goes_on r x (λ next. network_run N next es)) (account_while x a (λ next. account_from N s next b es))
+account-while N s r a b es late (Ok h) at time behind = behind h refl time.0 time.1
+account-while N s r a b es late (Err reason) at time behind = at
+
+account-run : (N : Network) (s : ℕ) (r : RunningNetwork) (a : Account) (es : List Event)
+    → HasAccount N s r a → AllByRecursion IsInRange es → StaysInTime N s r es
+    → HasAccount N s (network_run N r es) (account_from N s r a es)
+account-run N s r a [] at i time = at
+account-run N s r a (e ∷ es) at i time =
+    account-while N s r a (account_with N s r e a) es (is_late_for N s r e) (network_event N r e) at time
+    (λ h is late rest. account-run N s h.network (account_with N s r e a) es (After r a e h at i.0 is late) i.1 rest)
+
 -- ---- what it is served
 
-more : (begun reports g : ℕ) → begun ≤ reports + 1 → reports ≤ g → begun ≤ g + 1
-more begun reports g a b = omega arith
-
-module _ (N : Network) (n : IsNetwork N) (s : ℕ) (place : s < N.sessions) (r : RunningNetwork) (a : Account) (at : Stays N s r a) where
+module _ (N : Network) (s : ℕ) (r : RunningNetwork) (a : Account) (at : Stays N s r a) where
   timely : (number port k : ℕ) (x : Held) (v : Message) → IsTimelyCopy N s r number port k x v
       → TurnsOwn (manager N s) (N.session s).setup.first a.begun (N.clock (N.session s).target) (r.clock (N.session s).target) port x.octets v k a.accepted
   timely number port k x v copy =
       let c = (N.session s).target in
-      let i = frame-true N n r at.honest number x copy.frame in
-      let said = own-frame N n s place r at.honest a at.own number x copy.frame in
-      let source = (subst (λ (o : Origin). IsTrue N x.octets o) copy.origin i.says v copy.read).1.source in
+      let i = frame-true N at.network r at.honest number x copy.frame in
+      let said = frame_at-all (IsOwnFrame N s a) r.frames number x at.own.frames_say copy.frame in
       let late : is_late_at k (r.session s).issued ≡ false = subst (λ (o : Origin). is_behind r o ≡ false) copy.origin copy.in_time in
-      let time : length a.begun ≤ k + 32768 = subst (λ b. b ≤ k + 32768) (issued-begun N n s place r at.honest a at.own) (ltb-false (k + 32768) (r.session s).issued late) in
-      let many : ports N c ≡ length (r.clock c).sets.ports = sym (at.honest.clocks c (n.are_sessions s place).exists).sets.ports_are in
+      let time : length a.begun ≤ k + 32768 = subst (λ b. b ≤ k + 32768) (issued-begun N at.network s at.place r at.honest a at.own) (ltb-false (k + 32768) (r.session s).issued late) in
+      let many : ports N c ≡ length (r.clock c).sets.ports = sym (at.honest.clocks c (at.network.are_sessions s at.place).exists).sets.ports_are in
       turns_own (manager N s) (N.session s).setup.first (ports N c) (N.clock c) (r.clock c) port x.octets v k a.accepted (state_of (r.session s) (r.reports s) a) copy.read
-      (comes_own N n s place r at.honest a at.own port (seen x) i.says said v k copy.origin time copy.read (subst (λ p. is_copy (N.clock c) p v ≡ true) many copy.copy) source)
+      (comes_own N at.network s at.place r at.honest a at.own port (seen x) i.says said v k copy.origin time copy.read (subst (λ p. is_copy (N.clock c) p v ≡ true) many copy.copy))
 
   pub is-served : IsServed N s r a
-  is-served = record {
-    accepted = λ k p le. let was = at.own.step.without_gap k p le in (was.entry, was.is, was.begun_as);
-    accepted_begun = at.own.step.begun_before;
-    begun_accepted = more (length a.begun) (length (r.reports s)) (greatest (manager N s) a.accepted) at.own.step.one_at_a_time at.own.step.accepted_before;
-    reports = let rest = told-begins (manager N s) a.accepted (greatest (manager N s) a.accepted) (length (r.reports s)) at.own.step.accepted_before in
-        (rest.0, rest.1 ∙ ap (λ rs. rs ++ rest.0) (sym at.own.step.reports));
-    reported_accepted = at.own.step.accepted_before;
-    begun_reported = at.own.step.one_at_a_time;
-    latest = λ number port k x v copy e. let told = (timely number port k x v copy).latest e in (told.entry, told.kept, told.is);
-    older = λ number port k x v copy l. (timely number port k x v copy).older l;
-  }
+  is-served =
+      let order = in_order (manager N s) (ports N (N.session s).target) a.accepted (state_of (r.session s) (r.reports s) a) at.own.step in
+      record {
+        accepted = λ k p le. let was = at.own.step.without_gap k p le in (was.entry, was.is, was.begun_as);
+        accepted_begun = order.accepted_begun;
+        begun_accepted = order.begun_accepted;
+        reports = order.rest;
+        reported_accepted = order.reported_accepted;
+        begun_reported = order.begun_reported;
+        latest = λ number port k x v copy e. let told = (timely number port k x v copy).latest e in (told.entry, told.kept, told.is);
+        older = λ number port k x v copy l. (timely number port k x v copy).older l;
+      }
+
+served_by : (N : Network) (s : ℕ) (r : RunningNetwork) (a : Account) → HasAccount N s r a → IsServedSoFar N s r a
+served_by N s r a at = record { account = at; served = is-served N s r a (stays-by N s r a at) }
 
 pub served-after : (N : Network) (s : ℕ) (es : List Event)
     → IsNetwork N → s < N.sessions → AllByRecursion IsInRange es → StaysInTime N s (initial_network N) es
     → IsServed N s (network_run N (initial_network N) es) (account_of N s es)
 served-after N s es n place i time =
-    is-served N n s place (network_run N (initial_network N) es) (account_of N s es)
-    (stays-run N s (initial_network N) (account_of N s []) es n place (stays-first N s (initial_network N) place (stands-first N n)) i time)
-
--- ---- so far
-
-record HasStayed (N : Network) (s : ℕ) (r : RunningNetwork) (a : Account) : Type 0 where
-  pub network : IsNetwork N
-  pub place : s < N.sessions
-  pub stays : Stays N s r a
-
-has_stayed : (N : Network) (s : ℕ) (r : RunningNetwork) (a : Account) → HasAccount N s r a → HasStayed N s r a
-has_stayed N s r a (AtStart start place at) = record { network = at.promised.network; place = place; stays = stays-first N s start place at }
-has_stayed N s new b (After r a e h before i is late) =
-    let so_far = has_stayed N s r a before in record {
-      network = so_far.network;
-      place = so_far.place;
-      stays = record {
-        honest = event-honest N so_far.network r so_far.stays.honest e i h is;
-        own = own-event N so_far.network s so_far.place r so_far.stays.honest a so_far.stays.own e i late h is;
-      };
-    }
-
-served_by : (N : Network) (s : ℕ) (r : RunningNetwork) (a : Account) → HasAccount N s r a → IsServedSoFar N s r a
-served_by N s r a at =
-    let so_far = has_stayed N s r a at in
-    record { account = at; served = is-served N so_far.network s so_far.place r a so_far.stays }
+    (served_by N s (network_run N (initial_network N) es) (account_of N s es)
+    (account-run N s (initial_network N) (account_of N s []) es (AtStart (initial_network N) place (stands-first N n)) i time)).served
 
 pub served-first : (N : Network) (s : ℕ) (r : RunningNetwork) → s < N.sessions → StandsAfter N [] r → IsServedSoFar N s r (account_of N s [])
 served-first N s r place at = served_by N s r (account_of N s []) (AtStart r place at)

@@ -1,5 +1,5 @@
--- What every event makes of a session whose own messages come in time, whatever comes late of others; and so after every list.
-use Rattle.ptpm_network.proofs.Common.{by_test, IsForOne, arith, ◌≡◌, ℕ, ◌+◌, ◌-◌, ◌<◌, ◌≤◌, ◌==◌, inl, List, [], ◌∷◌, ◌++◌, length, Option, Some, None, Result, Ok, Err, true, false, refl, sym, ◌∙◌, ap, subst, ⊎_elim, cases_eq, cond-true, cond-false, eq-eqb, eqb-true, eqb-false, true≢false, same_Some, map, slice_get_within, all_append, all_weaker, AllByRecursion, PortIdentity, Message, DecodeError, same_identity, Fits, message_of, reading, message_of-reading, RequestValue, answer_body, reply_messages, Accepted, greatest, kept_reply, Delivery, RequestCopy, copy_of, delivers_copy, copy_parts, no_copy, is_copy, heard_of, request_of, Clock, State, turn, judged, Verdict, same_identity-true, number_of, outcome_in, Answers, HasOneAnswer, IsInStep, InWindow, answer_origin, delivery, reply_origin, with_place, with_place-same, with_place-other, AtPort, HasEnd, IsNetwork, Network, manager, ports, Frame, Held, held, turn_frames, after_turn, Origin, RequestOf, ReplyTo, Neither, SessionState, RunningNetwork, begun}
+-- What a turn of any clock makes of a session whose own messages come in time, whatever comes late of others.
+use Rattle.ptpm_network.proofs.Common.{by_test, IsForOne, ◌≡◌, ℕ, ◌+◌, ◌<◌, ◌≤◌, ◌==◌, inl, List, [], ◌∷◌, ◌++◌, length, Option, Some, None, Result, Ok, Err, true, false, refl, sym, ◌∙◌, ap, subst, ⊎_elim, cases_eq, cond-true, cond-false, eq-eqb, eqb-true, eqb-false, true≢false, map, all_append, all_weaker, AllByRecursion, PortIdentity, Message, DecodeError, same_identity, message_of, reading, message_of-reading, RequestValue, Accepted, Delivery, RequestCopy, copy_of, delivers_copy, copy_parts, no_copy, is_copy, heard_of, request_of, Clock, State, turn, judged, Verdict, same_identity-true, IsInStep, answer_origin, delivery, reply_origin, with_place, with_place-same, with_place-other, AtPort, HasEnd, IsNetwork, Network, manager, ports, Frame, Held, held, turn_frames, after_turn, Origin, RequestOf, ReplyTo, SessionValue, Report, RunningNetwork}
 use Rattle.std.specs.FinMap.{get}
 use Rattle.ptpm_agent.specs.CarriedOut.{carried_by, carried_of}
 use Rattle.ptpm_agent.specs.declared.verdict.Verdict.TheVariants as verdicts
@@ -9,16 +9,17 @@ use Rattle.ptpm_agent.proofs.Entries.{accepted_entry, get-insert_other}
 use Rattle.ptpm_agent.proofs.Turns.{is_copy-new}
 use Rattle.ptpm_network.specs.ByManager.{Account, with_carried}
 use Rattle.ptpm_network.specs.CarriedOut.{carried_at}
-use Rattle.ptpm_network.proofs.Accepting.{in_step-joined, kept-joined, kept-le}
-use Rattle.ptpm_network.proofs.Answering.{rendered-one}
-use Rattle.ptpm_network.proofs.Arriving.{Gains, StaysOrGains}
-use Rattle.ptpm_network.proofs.Frames.{sendable-one}
+use Rattle.ptpm_network.specs.Invariant.{IsReplyFrame}
+use Rattle.ptpm_network.proofs.Accepting.{in_step-window}
+use Rattle.ptpm_network.proofs.Answering.{kept-frame, small}
+use Rattle.ptpm_network.proofs.Arriving.{StaysOrGains, kept-gained, step-gained}
+use Rattle.ptpm_network.proofs.Frames.{kept_says, request_says, same_read}
 use Rattle.ptpm_network.proofs.Honest.{IsHonest}
-use Rattle.ptpm_network.proofs.Messages.{IsPassedOn}
-use Rattle.ptpm_network.proofs.Own.{ComesOwn, IsLastOf, IsReplySaid, IsRequestSaid, Replied, accepted_after, does, turns_own}
-use Rattle.ptpm_network.proofs.Owned.{IsOwn, IsOwnFrame, IsSaid, said-stays, state_of}
+use Rattle.ptpm_network.proofs.Own.{ComesOwn, IsLastOf, Replied, accepted_after, does, turns_own}
+use Rattle.ptpm_network.proofs.Owned.{IsOwn, IsOwnFrame, IsSaid, said-passed, said-stays, state_of}
 use Rattle.ptpm_network.proofs.Requests.{answered as reply-answers, once}
-use Rattle.ptpm_network.proofs.Truth.{IsTrue, is_copy_by, passed_on-says, reply-message, turn_frames-all}
+use Rattle.ptpm_network.proofs.Origins.{IsTrue, is_copy_by}
+use Rattle.ptpm_network.proofs.Truth.{turn_frames-all}
 
 abbrev pub Own : Network → ℕ → RunningNetwork → Account → Type 0
 Own N s r a = IsOwn N s (r.session s) (r.reports s) (r.clock (N.session s).target) r.frames a
@@ -26,27 +27,6 @@ Own N s r a = IsOwn N s (r.session s) (r.reports s) (r.clock (N.session s).targe
 all_of : {X : Type 0} (P : X → Type 0) → ((x : X) → P x) → (xs : List X) → AllByRecursion P xs
 all_of P f [] = tt
 all_of P f (x ∷ xs) = (f x, all_of P f xs)
-
--- ---- frames of the session
-
-passed-said : (N : Network) (s : ℕ) (a : Account) (octets : List ℕ) (m : ℕ × List ℕ) (o : Origin)
-    → IsPassedOn octets m → ((v : Message) → message_of octets ≡ Some v → Fits v) → IsSaid N s a octets o
-    → IsSaid N s a m.1 o
-passed-said N s a octets m (RequestOf t k) p fits i = λ ts. let r = i ts in record {
-  positive = r.positive;
-  request = r.request;
-  begun_as = r.begun_as;
-  says = passed_on-says (λ v. (v.number ≡ number_of (N.session s).setup.first k) × (request_of v ≡ r.request)) octets m (λ v n q. q) p fits r.says;
-}
-passed-said N s a octets m (ReplyTo t k) p fits i = λ ts. let r = i ts in record {
-  positive = r.positive;
-  entry = r.entry;
-  kept = r.kept;
-  answer = r.answer;
-  one = r.one;
-  says = passed_on-says (λ v. (v.number ≡ number_of (N.session s).setup.first k) × (outcome_in v.body ≡ outcome_in (answer_body r.entry.reply.action r.entry.reply.id r.answer.outcome))) octets m (λ v n q. q) p fits r.says;
-}
-passed-said N s a octets m Neither p fits i = tt
 
 -- ---- a turn that is no turn on the session's own copy
 
@@ -76,73 +56,21 @@ entries-others m c s v _ other = refl
 
 -- ---- the session's target takes a turn
 
-window-of : (g k begun reports : ℕ)
-    → k ≤ begun → begun ≤ reports + 1 → reports ≤ g → g ≤ begun → begun ≤ k + 32768
-    → InWindow g k
-window-of g k begun reports a b d e l = record { not_far_ahead = omega arith; not_far_behind = omega arith }
-
-within_begun : (k n : ℕ) → 0 < k → k - 1 < n → k ≤ n
-within_begun k n p h = omega arith
-
 -- the account of a session, with this accepted
 abbrev with_accepted : Account → List Accepted → Account
 with_accepted a es = record { begun = a.begun; accepted = es }
 
-kept-gained : (m : PortIdentity) (begun : List RequestValue) (new old : List Accepted)
-    → StaysOrGains m begun new old → (k : ℕ) (e : Accepted)
-    → kept_reply m k old ≡ Some e
-    → kept_reply m k new ≡ Some e
-kept-gained m begun new old gains k e h = ⊎_elim
-    (λ (q : new ≡ old). ap (kept_reply m k) q ∙ h)
-    (λ (g : Gains m begun new old). ap (kept_reply m k) g.is ∙ kept-joined m old g.entry k g.above (kept-le m k old e h) ∙ h)
-    gains
-
-step-gained : (m : PortIdentity) (p : ℕ) (new old : List Accepted) (state : SessionState)
-    → StaysOrGains m state.begun new old → IsInStep m p old state
-    → IsInStep m p new state
-step-gained m p new old state gains at = ⊎_elim
-    (λ (q : new ≡ old). subst (λ es. IsInStep m p es state) (sym q) at)
-    (λ (g : Gains m state.begun new old). subst (λ es. IsInStep m p es state) (sym g.is) (in_step-joined m p old g.entry state g.above g.own at))
-    gains
-
--- a reply that is kept for the session's request k, as it is sent
-module _ (N : Network) (n : IsNetwork N) (s : ℕ) (place : s < N.sessions) (port : ℕ) (end : HasEnd N (AtPort (N.session s).target port)) (v : Message) (fits : Fits v) (k : ℕ) (positive : 0 < k) (number : v.number ≡ number_of (N.session s).setup.first k) (accepted : List Accepted) (state : SessionState) (step : IsInStep (manager N s) (ports N (N.session s).target) accepted state) where
-  kept-said : (entry : Accepted) → kept_reply (manager N s) k accepted ≡ Some entry
-      → AllByRecursion (λ (x : ℕ × List ℕ). IsReplySaid (manager N s) (N.session s).setup.first accepted k x.1)
-      (reply_messages (N.clock (N.session s).target) port (heard_of v) (Some entry.reply))
-  kept-said entry kept =
-      let c = (N.session s).target in
-      let was = step.without_gap k positive (kept-le (manager N s) k accepted entry kept) in
-      let same : was.entry ≡ entry = same_Some was.entry entry (sym was.is ∙ kept) in
-      let asked = step.asked (k - 1) was.entry.request was.begun_as in
-      let answers : Answers was.entry.request entry.reply = subst (λ (x : Accepted). Answers was.entry.request x.reply) same was.answers in
-      let one = subst (λ (x : Accepted). HasOneAnswer was.entry.request x.reply) same was.one in
-      let b = one.answer in
-      let message = reply-message N c port v was.entry.request entry.reply b n end fits asked.id answers (sendable-one was.entry.request entry b one.is answers) in
-      subst (AllByRecursion (λ (x : ℕ × List ℕ). IsReplySaid (manager N s) (N.session s).setup.first accepted k x.1))
-      (sym (rendered-one (N.clock c).identity (heard_of v) entry.reply port b one.is)) (
-        record {
-          positive = positive;
-          entry = entry;
-          kept = kept;
-          answer = b;
-          one = one.is;
-          says = λ u e. subst (λ (x : Message). (x.number ≡ number_of (N.session s).setup.first k) × (outcome_in x.body ≡ outcome_in (answer_body entry.reply.action entry.reply.id b.outcome)))
-              (same_Some _ u (sym message.read ∙ e)) (number, refl);
-        },
-        tt,
-      )
-
 -- the session's frames, once a clock took its turn at a frame
-module _ (N : Network) (n : IsNetwork N) (s : ℕ) (a b : Account) (clock : State) (d port : ℕ) (f : Frame) (fits : (v : Message) → message_of f.octets ≡ Some v → Fits v) (frames : List Held) where
-  frames-after : AllByRecursion (IsOwnFrame N s b) frames → IsSaid N s b f.octets f.origin
-      → AllByRecursion (λ (x : ℕ × List ℕ). IsSaid N s b x.1 (answer_origin f.origin (copy_of (N.clock d) (length clock.sets.ports) (delivery port f)))) (turn (N.clock d) clock port f.octets).replies
-      → AllByRecursion (IsOwnFrame N s b) (frames ++ map held (turn_frames N clock d port f))
-  frames-after old said replied =
-      all_append (IsOwnFrame N s b) frames _ old
-      (turn_frames-all (IsOwnFrame N s b) N clock d port f n
-      (λ x p e he. passed-said N s b f.octets x f.origin p fits said)
-      (all_weaker (λ (x : ℕ × List ℕ). IsSaid N s b x.1 (answer_origin f.origin (copy_of (N.clock d) (length clock.sets.ports) (delivery port f)))) _ (λ x i e he. i) _ replied))
+frames-after : (N : Network) (s : ℕ) (value : SessionValue) (reports : List Report) (b : Account) (clock : State) (d port : ℕ) (f : Frame) (frames : List Held)
+    → IsNetwork N → s < N.sessions → IsInStep (manager N s) (ports N (N.session s).target) b.accepted (state_of value reports b)
+    → AllByRecursion (IsOwnFrame N s b) frames → IsSaid N s b f.octets f.origin
+    → AllByRecursion (λ (x : ℕ × List ℕ). IsSaid N s b x.1 (answer_origin f.origin (copy_of (N.clock d) (length clock.sets.ports) (delivery port f)))) (turn (N.clock d) clock port f.octets).replies
+    → AllByRecursion (IsOwnFrame N s b) (frames ++ map held (turn_frames N clock d port f))
+frames-after N s value reports b clock d port f frames n place step old said replied =
+    all_append (IsOwnFrame N s b) frames _ old
+    (turn_frames-all (IsOwnFrame N s b) N clock d port f n
+    (λ x p e he. subst (λ octets. IsSaid N s b octets f.origin) (sym p.octets) (said-passed N s value reports b f.octets f.origin n place step said))
+    (all_weaker (λ (x : ℕ × List ℕ). IsSaid N s b x.1 (answer_origin f.origin (copy_of (N.clock d) (length clock.sets.ports) (delivery port f)))) _ (λ x i e he. i) _ replied))
 
 module _ (N : Network) (n : IsNetwork N) (s : ℕ) (place : s < N.sessions) (r : RunningNetwork) (h : IsHonest N r) (a : Account) (at : Own N s r a) (port : ℕ) (f : Frame) (true' : IsTrue N f.octets f.origin) (said : IsSaid N s a f.octets f.origin) where
   -- no reply of another clock, or to a copy of another session, is to the session
@@ -164,7 +92,7 @@ module _ (N : Network) (n : IsNetwork N) (s : ℕ) (place : s < N.sessions) (r :
     value_is = at.value_is;
     step = at.step;
     last = at.last;
-    frames_say = frames-after N n s a a (r.clock d) d port f (λ v e. (true' v e).0) r.frames at.frames_say said
+    frames_say = frames-after N s (r.session s) (r.reports s) a (r.clock d) d port f r.frames n place at.step at.frames_say said
         (replies-elsewhere d a (copy_of (N.clock d) (length (r.clock d).sets.ports) (delivery port f)) end.0 refl
         (λ t j o q ts. eqb-false (N.session s).target d other (ap (λ i. (N.session i).target) (sym ts) ∙ q)));
   }
@@ -174,11 +102,12 @@ module _ (N : Network) (n : IsNetwork N) (s : ℕ) (place : s < N.sessions) (r :
   own-with : HasEnd N (AtPort (N.session s).target port)
       → (new : List Accepted) → StaysOrGains (manager N s) a.begun new a.accepted
       → IsLastOf (manager N s) (N.session s).setup.first new (get (turn (N.clock (N.session s).target) (r.clock (N.session s).target) port f.octets).next.entries (manager N s))
+      → (k : Option RequestCopy) → copy_of (N.clock (N.session s).target) (length (r.clock (N.session s).target).sets.ports) (delivery port f) ≡ k
       → (IsInStep (manager N s) (ports N (N.session s).target) new (state_of (r.session s) (r.reports s) a)
-      → AllByRecursion (λ (x : ℕ × List ℕ). IsSaid N s (with_accepted a new) x.1 (answer_origin f.origin (copy_of (N.clock (N.session s).target) (length (r.clock (N.session s).target).sets.ports) (delivery port f)))) (turn (N.clock (N.session s).target) (r.clock (N.session s).target) port f.octets).replies)
+      → AllByRecursion (λ (x : ℕ × List ℕ). IsSaid N s (with_accepted a new) x.1 (answer_origin f.origin k)) (turn (N.clock (N.session s).target) (r.clock (N.session s).target) port f.octets).replies)
       → IsOwn N s (r.session s) (r.reports s) (turn (N.clock (N.session s).target) (r.clock (N.session s).target) port f.octets).next
       (r.frames ++ map held (turn_frames N (r.clock (N.session s).target) (N.session s).target port f)) (with_accepted a new)
-  own-with end new gains last replied =
+  own-with end new gains last k e replied =
       let c = (N.session s).target in
       let step = step-gained (manager N s) (ports N c) new a.accepted (state_of (r.session s) (r.reports s) a) gains at.step in
       let kept = kept-gained (manager N s) a.begun new a.accepted gains in
@@ -188,22 +117,11 @@ module _ (N : Network) (n : IsNetwork N) (s : ℕ) (place : s < N.sessions) (r :
         value_is = at.value_is;
         step = step;
         last = last;
-        frames_say = frames-after N n s a (with_accepted a new) (r.clock c) c port f (λ v e. (true' v e).0) r.frames
+        frames_say = frames-after N s (r.session s) (r.reports s) (with_accepted a new) (r.clock c) c port f r.frames n place step
             (all_weaker (IsOwnFrame N s a) (IsOwnFrame N s (with_accepted a new)) (λ x i. stays x.octets x.origin i) r.frames at.frames_say)
-            (stays f.octets f.origin said) (replied step);
+            (stays f.octets f.origin said)
+            (subst (λ (o : Option RequestCopy). AllByRecursion (λ (x : ℕ × List ℕ). IsSaid N s (with_accepted a new) x.1 (answer_origin f.origin o)) (turn (N.clock c) (r.clock c) port f.octets).replies) (sym e) (replied step));
       }
-
-  OwnHere : Type 0
-  OwnHere = IsOwn N s (r.session s) (r.reports s) (turn (N.clock (N.session s).target) (r.clock (N.session s).target) port f.octets).next
-      (r.frames ++ map held (turn_frames N (r.clock (N.session s).target) (N.session s).target port f))
-      (with_accepted a (accepted_after (manager N s) (N.clock (N.session s).target) (r.clock (N.session s).target) f.octets a.accepted))
-
-  replied_by : (new : List Accepted) (k : Option RequestCopy)
-      → copy_of (N.clock (N.session s).target) (length (r.clock (N.session s).target).sets.ports) (delivery port f) ≡ k
-      → AllByRecursion (λ (x : ℕ × List ℕ). IsSaid N s (with_accepted a new) x.1 (answer_origin f.origin k)) (turn (N.clock (N.session s).target) (r.clock (N.session s).target) port f.octets).replies
-      → AllByRecursion (λ (x : ℕ × List ℕ). IsSaid N s (with_accepted a new) x.1 (answer_origin f.origin (copy_of (N.clock (N.session s).target) (length (r.clock (N.session s).target).sets.ports) (delivery port f)))) (turn (N.clock (N.session s).target) (r.clock (N.session s).target) port f.octets).replies
-  replied_by new k e all =
-      subst (λ (o : Option RequestCopy). AllByRecursion (λ (x : ℕ × List ℕ). IsSaid N s (with_accepted a new) x.1 (answer_origin f.origin o)) (turn (N.clock (N.session s).target) (r.clock (N.session s).target) port f.octets).replies) (sym e) all
 
   -- nothing of the session changes
   last-kept : accepted_after (manager N s) (N.clock (N.session s).target) (r.clock (N.session s).target) f.octets a.accepted ≡ a.accepted
@@ -217,27 +135,27 @@ module _ (N : Network) (n : IsNetwork N) (s : ℕ) (place : s < N.sessions) (r :
   -- the session's own copy comes in at its target
   pub comes_own : (v : Message) (k : ℕ) → f.origin ≡ RequestOf s k → length a.begun ≤ k + 32768
       → message_of f.octets ≡ Some v → is_copy (N.clock (N.session s).target) (length (r.clock (N.session s).target).sets.ports) v ≡ true
-      → v.source ≡ manager N s
       → ComesOwn (manager N s) (N.session s).setup.first (ports N (N.session s).target) (N.clock (N.session s).target) (r.clock (N.session s).target) v k a.accepted (state_of (r.session s) (r.reports s) a)
-  comes_own v k origin time read passes source =
+  comes_own v k origin time read passes =
       let c = (N.session s).target in
+      let state = state_of (r.session s) (r.reports s) a in
       let clock = h.clocks c (n.are_sessions s place).exists in
-      let own : IsRequestSaid (N.session s).setup.first a.begun k f.octets = subst (IsSaid N s a f.octets) origin said refl in
-      let says = own.says v read in
-      let asked = at.step.asked (k - 1) own.request own.begun_as in
-      let within : k ≤ length a.begun = within_begun k (length a.begun) own.positive (slice_get_within a.begun (k - 1) own.request own.begun_as) in
+      let says = request_says N s k a.accepted state n place at.step f.octets (subst (IsSaid N s a f.octets) origin said refl) in
+      let same = same_read f.octets v _ says.message read in
+      let request : request_of v ≡ says.request = ap request_of same in
       record {
         parts = copy_parts (N.clock c) (length (r.clock c).sets.ports) v passes;
-        source = source;
-        positive = own.positive;
-        number = says.0;
-        begun_as = own.begun_as ∙ ap Some (sym says.1);
-        window = window-of (greatest (manager N s) a.accepted) k (length a.begun) (length (r.reports s)) within at.step.one_at_a_time at.step.accepted_before at.step.begun_before time;
+        source = ap (λ (u : Message). u.source) same;
+        positive = says.positive;
+        within = says.within;
+        number = ap (λ (u : Message). u.number) same;
+        begun_as = says.begun_as ∙ ap Some (sym request);
+        window = in_step-window (manager N s) (ports N c) a.accepted state k at.step says.within time;
         step = at.step;
         last = at.last;
         answers = reply-answers (request_of v) ((N.clock c).rights v.source) (ports N c) (r.clock c).sets clock.sets;
         one = once (request_of v) ((N.clock c).rights v.source) (ports N c) (r.clock c).sets clock.sets
-            (subst (λ (q : RequestValue). IsForOne (ports N c) q) (sym says.1) asked.one);
+            (subst (λ (q : RequestValue). IsForOne (ports N c) q) (sym request) says.asked.one);
       }
 
   own-here : HasEnd N (AtPort (N.session s).target port) → ((k : ℕ) → f.origin ≡ RequestOf s k → length a.begun ≤ k + 32768)
@@ -251,7 +169,7 @@ module _ (N : Network) (n : IsNetwork N) (s : ℕ) (place : s < N.sessions) (r :
       let new = accepted_after (manager N s) (N.clock c) (r.clock c) f.octets a.accepted in
       let same : new ≡ a.accepted = ap (λ rs. with_carried (manager N s) (N.clock c) (r.clock c) rs a.accepted) (carried-none (N.clock c) (r.clock c) (delivery port f) (reading f.octets) refl e) in
       own-with end new (inl same) (last-kept same (ap (λ (x : State). get x.entries (manager N s)) (turn-no_copy (N.clock c) (r.clock c) (delivery port f) e)))
-      (λ step. replied_by new None e (all_of _ (λ x. tt) _))
+      None e (λ step. all_of _ (λ x. tt) _)
   own-here end time (Some k) e =
       let c = (N.session s).target in
       let st = r.clock c in
@@ -260,21 +178,23 @@ module _ (N : Network) (n : IsNetwork N) (s : ℕ) (place : s < N.sessions) (r :
       let v : Message = copy.message in
       let says = true' v copy.read in
       let by = is_copy_by N c (length st.sets.ports) f.origin v n end.0 says.1 copy.passes in
-      let d = does (manager N s) (N.clock c) st port f.octets v a.accepted copy.read in
+      let d = does (N.clock c) st port f.octets v copy.read in
       ⊎_elim
       (λ (ts : by.session ≡ s).
       let origin : f.origin ≡ RequestOf s by.k = by.origin ∙ ap (λ j. RequestOf j by.k) ts in
-      let o = comes_own v by.k origin (time by.k origin) copy.read copy.passes (by.source ∙ ap (manager N) ts) in
+      let o = comes_own v by.k origin (time by.k origin) copy.read copy.passes in
       let t = turns_own (manager N s) (N.session s).setup.first (ports N c) (N.clock c) st port f.octets v by.k a.accepted (state_of (r.session s) (r.reports s) a) copy.read o in
-      let P : ℕ × List ℕ → Type 0 = λ x. IsReplySaid (manager N s) (N.session s).setup.first new by.k x.1 in
-      own-with end new t.gains t.last
-      (λ step. replied_by new (Some k) e
+      let P : ℕ × List ℕ → Type 0 = λ x. IsReplyFrame (N.session s).setup new by.k x.1 in
+      let state = state_of (r.session s) (r.reports s) a in
+      own-with end new t.gains t.last (Some k) e
+      (λ step.
       (subst (λ (z : Origin). AllByRecursion (λ (x : ℕ × List ℕ). IsSaid N s (with_accepted a new) x.1 (reply_origin z)) (turn (N.clock c) st port f.octets).replies) (sym origin)
       (all_weaker P (λ (x : ℕ × List ℕ). IsSaid N s (with_accepted a new) x.1 (ReplyTo s by.k)) (λ x i q. i) (turn (N.clock c) st port f.octets).replies
       (⊎_elim
       (λ (nil : (turn (N.clock c) st port f.octets).replies ≡ []). subst (AllByRecursion P) (sym nil) tt)
       (λ (told : Replied (manager N s) (N.clock c) st port f.octets v by.k new). subst (AllByRecursion P) (sym told.is)
-      (kept-said N n s place port end v says.0 by.k o.positive o.number new (state_of (r.session s) (r.reports s) a) step told.entry told.kept))
+      (kept-frame N s by.k port new (N.clock c).identity (heard_of v) told.entry (sym (n.are_sessions s place).target) o.positive told.kept
+      (kept_says N s by.k new state told.entry step o.positive told.kept).one o.source o.number (small port (ports N c) end.2 (n.are_clocks c end.0).at_most_eight)))
       t.replies)))))
       (λ (ne : by.session ≡ s → ⊥).
       let other : same_identity (manager N s) v.source ≡ false = by_test (same_identity (manager N s) v.source)
@@ -282,8 +202,8 @@ module _ (N : Network) (n : IsNetwork N) (s : ℕ) (place : s < N.sessions) (r :
       (λ o. o) in
       let same : new ≡ a.accepted = ap (λ rs. with_carried (manager N s) (N.clock c) st rs a.accepted) d.carried ∙ with_carried-others (manager N s) (N.clock c) st v (judged (N.clock c) st v) a.accepted other in
       let entries = ap (λ (x : State). get x.entries (manager N s)) d.next ∙ entries-others (manager N s) (N.clock c) st v (judged (N.clock c) st v) other in
-      own-with end new (inl same) (last-kept same entries)
-      (λ step. replied_by new (Some k) e
+      own-with end new (inl same) (last-kept same entries) (Some k) e
+      (λ step.
       (replies-elsewhere c (with_accepted a new) (Some k) end.0 e
       (λ t j o q ts. let both : RequestOf by.session by.k ≡ RequestOf t j = sym by.origin ∙ o in let st' : by.session ≡ t = cc in ne (st' ∙ ts)))))
       (cases_eq by.session s)

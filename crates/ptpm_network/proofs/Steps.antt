@@ -1,5 +1,7 @@
 -- What sessions do keeps the invariant.
-use Rattle.ptpm_network.proofs.Common.{by_test, arith, ◌≡◌, ℕ, ◌<◌, ◌-◌, ◌==◌, List, [], ◌∷◌, ◌++◌, Option, Some, None, Bool, refl, sym, ◌∙◌, subst, length, eqb-true, cond-true, cond-false, slice_get_within, option_map, slice_get, AllByRecursion, filter, list_any, RequestValue, Accepted, kept_reply, request_message, IsFrame, IsInStep, IsOfOrigin, IsReached, sends, sent_frames, with_frames, with_session, End, AtSession, HasEnd, IsLink, IsNetwork, Network, manager, peers, ports, same_end, Frame, NetworkState, Origin, RequestOf, ReplyTo, Neither, SessionState, accepted_at_target, is_idle, new_frames, unanswered, all_append, all_made, all_weaker, with_place-other, with_place-same}
+use Rattle.ptpm_network.proofs.Common.{by_test, arith, ◌≡◌, ℕ, ◌<◌, ◌-◌, ◌==◌, List, [], ◌∷◌, ◌++◌, Option, Some, None, Bool, refl, sym, ◌∙◌, subst, length, eqb-true, cond-true, cond-false, slice_get_within, option_map, slice_get, AllByRecursion, filter, list_any, canonical, RequestValue, Accepted, kept_reply, request_message, IsFrame, IsInStep, IsOfOrigin, IsReached, sends, sent_frames, with_frames, with_session, End, AtSession, HasEnd, IsLink, IsNetwork, Network, SessionStart, manager, peers, ports, same_end, Frame, NetworkState, Origin, RequestOf, ReplyTo, Neither, SessionState, accepted_at_target, is_idle, new_frames, unanswered, all_append, all_made, all_weaker, with_place-other, with_place-same}
+use Rattle.ptpm_manager.specs.declared.setup.Setup.{Setup}
+use Rattle.ptpm_network.specs.Invariant.{IsReplyFrame, IsRequestFrame}
 use Rattle.ptpm_network.proofs.Accepting.{in_step-set}
 
 -- ---- ends
@@ -34,38 +36,40 @@ BegunStays w u = (s i : ℕ) (q : RequestValue) → slice_get (w.session s).begu
 abbrev pub KeptStays : Network → NetworkState → NetworkState → Type 0
 KeptStays N w u = (s k : ℕ) (e : Accepted) → s < N.sessions → kept_reply (manager N s) k (accepted_at_target N w s) ≡ Some e → kept_reply (manager N s) k (accepted_at_target N u s) ≡ Some e
 
+-- so what a frame of a session says is still said
+pub request-stays : (setup : Setup) (begun more : List RequestValue) (k : ℕ) (octets : List ℕ)
+    → ((i : ℕ) (q : RequestValue) → slice_get begun i ≡ Some q → slice_get more i ≡ Some q)
+    → IsRequestFrame setup begun k octets
+    → IsRequestFrame setup more k octets
+request-stays setup begun more k octets stays r =
+    record { positive = r.positive; request = r.request; begun_as = stays (k - 1) r.request r.begun_as; domain = r.domain; hops = r.hops; is = r.is }
+
+pub reply-stays : (setup : Setup) (accepted more : List Accepted) (k : ℕ) (octets : List ℕ)
+    → ((e : Accepted) → kept_reply setup.me k accepted ≡ Some e → kept_reply setup.me k more ≡ Some e)
+    → IsReplyFrame setup accepted k octets
+    → IsReplyFrame setup more k octets
+reply-stays setup accepted more k octets stays r = record {
+  positive = r.positive;
+  entry = r.entry;
+  kept = stays r.entry r.kept;
+  answer = r.answer;
+  one = r.one;
+  heard = r.heard;
+  source = r.source;
+  number = r.number;
+  ingress = r.ingress;
+  port = r.port;
+  hops = r.hops;
+  is = r.is;
+}
+
 module _ (N : Network) (w u : NetworkState) (begun : BegunStays w u) (kept : KeptStays N w u) where
   pub origin-stays : (octets : List ℕ) (o : Origin)
       → IsOfOrigin N w octets o
       → IsOfOrigin N u octets o
-  origin-stays octets (RequestOf s k) (place, r) = (
-    place,
-    record {
-      positive = r.positive;
-      request = r.request;
-      begun_as = begun s (k - 1) r.request r.begun_as;
-      domain = r.domain;
-      hops = r.hops;
-      is = r.is;
-    },
-  )
-  origin-stays octets (ReplyTo s k) (place, r) = (
-    place,
-    record {
-      positive = r.positive;
-      entry = r.entry;
-      kept = kept s k r.entry place r.kept;
-      answer = r.answer;
-      one = r.one;
-      heard = r.heard;
-      source = r.source;
-      number = r.number;
-      ingress = r.ingress;
-      port = r.port;
-      hops = r.hops;
-      is = r.is;
-    },
-  )
+  origin-stays octets (RequestOf s k) (place, r) = (place, request-stays (N.session s).setup (w.session s).begun (u.session s).begun k octets (begun s) r)
+  origin-stays octets (ReplyTo s k) (place, r) =
+      (place, reply-stays (N.session s).setup (accepted_at_target N w s) (accepted_at_target N u s) k octets (λ e. kept s k e place) r)
   origin-stays octets Neither r = r
 
   pub frame-stays : (f : Frame) → IsFrame N w f → IsFrame N u f
@@ -139,6 +143,21 @@ unanswered-last s q e = by_test (is_idle s)
 positive : (n : ℕ) → n - 1 < n → 0 < n
 positive n h = omega arith
 
+-- it is sent in its canonical spelling
+pub request-sent : (start : SessionStart) (s : SessionState) (q : RequestValue)
+    → unanswered s ≡ Some q
+    → IsRequestFrame start.setup s.begun (length s.begun) (canonical (request_message start.setup s.domain (length s.begun) q))
+request-sent start s q e =
+    let last = unanswered-last s q e in
+    record {
+      positive = positive (length s.begun) (slice_get_within s.begun (length s.begun - 1) q last);
+      request = q;
+      begun_as = last;
+      domain = s.domain;
+      hops = start.setup.hops;
+      is = refl;
+    }
+
 module _ (N : Network) (w : NetworkState) (s : ℕ) where
   sent_frames-are : (o : Option RequestValue)
       → s < N.sessions → AllByRecursion (HasEnd N) (peers N.links (AtSession s))
@@ -147,18 +166,8 @@ module _ (N : Network) (w : NetworkState) (s : ℕ) where
       (sent_frames (peers N.links (AtSession s)) s (length (w.session s).begun) (option_map (request_message (N.session s).setup (w.session s).domain (length (w.session s).begun)) o))
   sent_frames-are None place ends e = tt
   sent_frames-are (Some q) place ends e =
-      let last = unanswered-last (w.session s) q e in
-      new_frames-are N w (peers N.links (AtSession s)) _ (RequestOf s (length (w.session s).begun)) ends (
-        place,
-        record {
-          positive = positive (length (w.session s).begun) (slice_get_within (w.session s).begun (length (w.session s).begun - 1) q last);
-          request = q;
-          begun_as = last;
-          domain = (w.session s).domain;
-          hops = (N.session s).setup.hops;
-          is = refl;
-        },
-      )
+      new_frames-are N w (peers N.links (AtSession s)) _ (RequestOf s (length (w.session s).begun)) ends
+      (place, request-sent (N.session s) (w.session s) q e)
 
   pub sends-reached : IsNetwork N → s < N.sessions → IsReached N w → IsReached N (sends N w s)
   sends-reached n place r =
