@@ -1,5 +1,4 @@
 pub mod WordLemmas
-pub mod NumberLemmas
 mod OctetTextLemmas
 pub mod EntryLemmas
 pub mod PlaceLemmas

@@ -1,6 +1,14 @@
 -- A text cut at its first space.
-use Rattle.std.proofs.Common.{◌≡◌, ◌≢◌, ℕ, suc, ◌<◌, ◌==◌, true, false, List, [], ◌∷◌, ◌++◌, length, get_or, refl, arith}
-use Rattle.std.proofs.lemmas.Bool.{eqb-true}
+use Rattle.std.proofs.Common.{◌≡◌, ◌≢◌, ℕ, suc, zero, ◌<◌, ◌≤◌, ◌+◌, ◌==◌, true, false, not, Bool, List, [], ◌∷◌, ◌++◌, Option, Some, None, nat_lt, if◌then◌else◌, ⊎_elim, length, get_or, take, drop, refl, sym, ap, subst, ◌∙◌, arith}
+use Rattle.std.specs.List.{position, position_or_len}
+use Rattle.std.specs.Str.{IsCharBoundary, IsUtf8}
+use Rattle.std.proofs.Math.ListN.{drop_of_length-le}
+use Rattle.std.proofs.lemmas.Bool.{cases_Bool, cond-true, eq-eqb, eqb-true, true≢false}
+use Rattle.std.proofs.lemmas.Bool.Decides.{nat_tests}
+use Rattle.std.proofs.lemmas.List.{drop_more, get_or-take, length-take, take-append-drop}
+use Rattle.std.proofs.lemmas.List.Quantifiers.{position-Some}
+use Rattle.std.proofs.lemmas.List.Sums.{fails_before_first, prefix_len-le-length}
+use Rattle.std.proofs.lemmas.Str.{IsCharBoundary-after_ascii, IsCharBoundary-before_ascii, IsCharBoundary-start}
 use Rattle.ptpm_script.specs.Words.{space, pieces, words}
 
 abbrev pub HasNoSpace : List ℕ → Type 0
@@ -52,12 +60,137 @@ pub words_after_space : (rest : List ℕ) → words (space ∷ rest) ≡ words r
 unfolding words
 words_after_space rest = refl
 
-pub words_after_nothing : (text rest : List ℕ)
-    → length text ≡ 0
-    → words (text ++ space ∷ rest) ≡ words rest
-words_after_nothing [] rest none = words_after_space rest
-words_after_nothing (octet ∷ text) rest none = absurd (omega arith)
+-- ---- spaces before a word
 
-pub words_of_nothing : (text : List ℕ) → length text ≡ 0 → words text ≡ []
-words_of_nothing [] none = words_of_none
-words_of_nothing (octet ∷ text) none = absurd (omega arith)
+pub words_past_spaces : (text : List ℕ) (start : ℕ)
+    → start ≤ length text
+    → ((i : ℕ) → i < start → get_or text i 0 ≡ space)
+    → words text ≡ words (drop start text)
+words_past_spaces text zero inside spaces = refl
+words_past_spaces [] (suc start) inside spaces = refl
+words_past_spaces (x ∷ xs) (suc start) inside spaces =
+    ap (λ octet. words (octet ∷ xs)) (spaces 0 (omega arith)) ∙ words_after_space xs
+    ∙ words_past_spaces xs start (omega (arith, inside)) (λ i below. spaces (suc i) (omega (arith, below)))
+
+pub words_of_spaces : (text : List ℕ)
+    → ((i : ℕ) → i < length text → get_or text i 0 ≡ space)
+    → words text ≡ []
+words_of_spaces text spaces =
+    words_past_spaces text (length text) (omega arith) spaces ∙ ap words (drop_of_length-le text {i = length text} (omega arith)) ∙ words_of_none
+
+-- a character begins behind them
+pub after_spaces : (text : List ℕ) (start : ℕ)
+    → IsUtf8 text
+    → start ≤ length text
+    → ((i : ℕ) → i < start → get_or text i 0 ≡ space)
+    → IsCharBoundary text start
+after_spaces text zero utf8 inside spaces = IsCharBoundary-start text utf8
+after_spaces text (suc n) utf8 inside spaces =
+    subst (IsCharBoundary text) (omega arith) (IsCharBoundary-after_ascii text n utf8 (omega (arith, inside)) (omega (arith, spaces n (omega arith))))
+
+-- ---- a word before a space
+
+pub words_cut : (text : List ℕ) (size : ℕ)
+    → 0 < size
+    → size < length text
+    → ((i : ℕ) → i < size → get_or text i 0 ≢ space)
+    → get_or text size 0 ≡ space
+    → words text ≡ take size text ∷ words (drop size text)
+words_cut text size some inside none is =
+    let line = take size text in
+    let more = drop (size + 1) text in
+    let size_is : length line ≡ size = omega (arith, length-take size text, inside) in
+    let free : HasNoSpace line = λ i below. subst (λ octet. octet ≢ space) (sym (get_or-take size text i 0 (omega (arith, below, size_is)))) (none i (omega (arith, below, size_is))) in
+    let rest : drop size text ≡ space ∷ more = drop_more text size 0 inside ∙ ap (λ octet. octet ∷ more) is in
+    let whole : text ≡ line ++ space ∷ more = sym (take-append-drop size text) ∙ ap (λ l. line ++ l) rest in
+    ap words whole ∙ words_after_word line more free (omega (arith, size_is, some))
+    ∙ ap (λ l. line ∷ l) (sym (words_after_space more) ∙ ap words (sym rest))
+
+behind_first : (text : List ℕ) (size : ℕ) → get_or text 0 0 ≢ space → get_or text size 0 ≡ space → 0 < size
+behind_first text zero other is = absurd (other is)
+behind_first text (suc n) other is = omega arith
+
+-- ---- what `position` tells
+
+past_all : (n m : ℕ) → n ≤ m → ◌≡◌ {A = Option ℕ} None (if nat_lt n m then Some n else None) → n ≡ m
+past_all n m h e = ⊎_elim
+    (λ (b : nat_lt n m ≡ true). let some : None ≡ Some n = e ∙ cond-true _ _ _ b in absurd (cc))
+    (λ (b : nat_lt n m ≡ false). let past : m ≤ n = grind (arith, nat_tests) in omega arith)
+    (cases_Bool (nat_lt n m))
+
+pub position_none : (p : ℕ → Bool) (xs : List ℕ) (i : ℕ)
+    → None ≡ position p xs
+    → i < length xs
+    → p (get_or xs i 0) ≡ false
+position_none p xs i none inside =
+    fails_before_first p xs i 0 (omega (arith, past_all (position_or_len p xs) (length xs) (prefix_len-le-length _ xs) none, inside))
+
+is_space : (octet : ℕ) → not (octet == space) ≡ false → octet ≡ space
+is_space octet h = eqb-true octet space (is_true (octet == space) h)
+  where
+    is_true : (b : Bool) → not b ≡ false → b ≡ true
+    is_true true e = refl
+    is_true false e = absurd (cc)
+
+is_no_space : (octet : ℕ) → (octet == space) ≡ false → octet ≢ space
+is_no_space octet h e = true≢false (sym (eq-eqb octet space e) ∙ h)
+
+-- the first octet that is no space begins the first word
+start_found : (text : List ℕ) (start : ℕ)
+    → Some start ≡ position (λ octet. not (octet == space)) text
+    → (start < length text)
+    × ((i : ℕ) → i < start → get_or text i 0 ≡ space)
+    × (get_or text start 0 ≢ space)
+start_found text start is =
+    let p = position-Some (λ octet. not (octet == space)) text start 0 (sym is) in (
+      p.0,
+      (λ i below. is_space (get_or text i 0) (p.2 i below)),
+      (λ e. absurd (true≢false (sym p.1 ∙ ap not (eq-eqb (get_or text start 0) space e)))),
+    )
+
+-- a character begins there
+pub start_boundary : (text : List ℕ) (start : ℕ)
+    → IsUtf8 text
+    → Some start ≡ position (λ octet. not (octet == space)) text
+    → IsCharBoundary text start
+start_boundary text start utf8 is =
+    let found = start_found text start is in
+    after_spaces text start utf8 (omega (arith, found.0)) found.1
+
+-- the rest of the text from there
+pub rest_found : (text rest : List ℕ) (start : ℕ)
+    → Some start ≡ position (λ octet. not (octet == space)) text
+    → rest ≡ drop start text
+    → (words text ≡ words rest) × (get_or rest 0 0 ≢ space) × (0 < length rest)
+rest_found text rest start is cut =
+    let found = start_found text start is in
+    let more : rest ≡ get_or text start 0 ∷ drop (start + 1) text = cut ∙ drop_more text start 0 found.0 in
+    let first : get_or rest 0 0 ≡ get_or text start 0 = ap (λ l. get_or l 0 0) more in (
+      words_past_spaces text start (omega (arith, found.0)) found.1 ∙ ap words (sym cut),
+      (λ e. found.2 (sym first ∙ e)),
+      omega (arith, ap length more),
+    )
+
+pub start_missing : (text : List ℕ)
+    → None ≡ position (λ octet. not (octet == space)) text
+    → words text ≡ []
+start_missing text none = words_of_spaces text (λ i inside. is_space (get_or text i 0) (position_none _ text i none inside))
+
+-- the first space ends it
+pub end_found : (text : List ℕ) (size : ℕ)
+    → Some size ≡ position (λ octet. octet == space) text
+    → get_or text 0 0 ≢ space
+    → (words text ≡ take size text ∷ words (drop size text)) × IsCharBoundary text size
+end_found text size is other =
+    let p = position-Some (λ octet. octet == space) text size 0 (sym is) in
+    let at : get_or text size 0 ≡ space = eqb-true (get_or text size 0) space p.1 in
+    let some : 0 < size = behind_first text size other at in (
+      words_cut text size some p.0 (λ i below. is_no_space (get_or text i 0) (p.2 i below)) at,
+      IsCharBoundary-before_ascii text size p.0 (omega (arith, at)),
+    )
+
+pub end_missing : (text : List ℕ)
+    → None ≡ position (λ octet. octet == space) text
+    → 0 < length text
+    → words text ≡ text ∷ words []
+end_missing text none some = words_of_last text (λ i inside. is_no_space (get_or text i 0) (position_none _ text i none inside)) some

@@ -1,30 +1,24 @@
 //! Numbers as scripts and network files write them.
 
 ghost use Rattle.std.specs.Prelude.{◌≡◌, ◌<◌};
-ghost use Rattle.std.specs.Str.{all_ascii_digits};
 ghost use Rattle.ptpm_script.specs.Numbers.{decimal, decimal_up_to, four_digits};
-
-/// Whether each octet is a decimal digit.
-fn is_digits(text: &str) -> bool
-    ensures { result ≡ all_ascii_digits text.now }
-{
-    for octet in text.as_bytes() {
-        if !matches!(octet, b'0'..=b'9') {
-            return false;
-        }
-    }
-    true
-}
 
 /// The number that decimal digits write, at least one and at most ten.
 #[tactic(auto, unfolding(crate::specs::Numbers::decimal))]
 fn decimal(text: &str) -> Option<u64>
     ensures { result ≡ decimal text.now }
 {
-    if text.is_empty() || text.len() > 10 || !is_digits(text) {
+    if text.is_empty() || text.len() > 10 {
         return None;
     }
-    text.parse::<u64>().ok()
+    let mut number = 0;
+    for octet in text.as_bytes() {
+        if !matches!(octet, b'0'..=b'9') {
+            return None;
+        }
+        number = number * 10 + (*octet - b'0') as u64;
+    }
+    Some(number)
 }
 
 /// The same, where the number is at most so much.

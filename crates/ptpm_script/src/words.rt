@@ -1,25 +1,33 @@
 //! The words of a line.
 
-ghost use Rattle.std.specs.Prelude.{◌≡◌, ◌∷◌, [], None, Some, MatchOption, option_map, drop};
-ghost use Rattle.ptpm_script.specs.Words.{words, one_word, two_words, three_words, first_words};
+ghost use Rattle.std.specs.Prelude.{◌≡◌, ◌==◌, ◌∷◌, [], None, Some, MatchOption, option_map, drop, not, position};
+ghost use Rattle.ptpm_script.specs.Words.{space, words, one_word, two_words, three_words, first_words};
 
 /// The first word of a text and what follows it; `None` where it has no words.
 pub fn split_word<'a>(text: &'a str) -> Option<(&'a str, &'a str)>
     ensures { MatchOption result (words text.now ≡ [])
         (λ r. words text.now ≡ r.0.now ∷ words r.1.now) }
 {
-    let mut rest = text;
-    while let Some((piece, after)) = rest.split_once(' ') {
-        if !piece.is_empty() {
-            return Some((piece, after));
-        }
-        rest = after;
+    let start = word_start(text)?;
+    let text = &text[start..];
+    match word_size(text) {
+        Some(size) => Some(text.split_at(size)),
+        None => Some((text, "")),
     }
-    if rest.is_empty() {
-        None
-    } else {
-        Some((rest, ""))
-    }
+}
+
+/// The place of the first octet that is no space.
+fn word_start(text: &str) -> Option<usize>
+    ensures { result ≡ position (λ octet. not (octet == space)) text.now }
+{
+    text.as_bytes().iter().position(|octet| *octet != b' ')
+}
+
+/// The place of the first space.
+fn word_size(text: &str) -> Option<usize>
+    ensures { result ≡ position (λ octet. octet == space) text.now }
+{
+    text.as_bytes().iter().position(|octet| *octet == b' ')
 }
 
 /// The word of a text that has one and no more.

@@ -1,28 +1,31 @@
-use Rattle.std.proofs.Common.{rules, arith, ◌≡◌, ◌<◌, length, ap, ◌∙◌}
-use Rattle.std.proofs.lemmas.Str.Pattern.{split_parts}
+use Rattle.std.proofs.Common.{◌∷◌, drop, sym, ap, ◌∙◌, rules}
 use Rattle.ptpm_script.specs.Words.{words}
-use Rattle.ptpm_script.proofs.WordLemmas.{words_after_word, words_after_nothing, words_of_last, words_of_nothing}
+use Rattle.ptpm_script.proofs.WordLemmas.{end_found, end_missing, rest_found, start_boundary, start_missing}
 use Rattle.ptpm_script.proofs.words.split_word.Goals as goal
 
-pub returns-then-not-is_empty : goal.returns-then-not-is_empty
-returns-then-not-is_empty c =
-    let parts = rw c.in-Some.is at (split_parts 32 c.loop-piece.rest.now c.split_once.result c.split_once.ensures.cases (omega arith)) in
-    let some : 0 < length c.in-Some.piece.now = search rules in
-    c.loop-piece.invariant.1 ∙ ap words parts.0 ∙ words_after_word _ _ parts.1 some
+pub returns-in_err-start : goal.returns-in_err-start
+returns-in_err-start c = search (rules, start_missing c.args.text.now c.in_err-start.ensures)
 
-pub loop-piece-preserved : goal.loop-piece-preserved
-loop-piece-preserved c =
-    let parts = rw c.in-Some.is at (split_parts 32 c.loop-piece.rest.now c.split_once.result c.split_once.ensures.cases (omega arith)) in
-    let none : length c.in-Some.piece.now ≡ 0 = search rules in
-    (search rules, c.loop-piece.invariant.1 ∙ ap words parts.0 ∙ words_after_nothing _ _ none)
+pub range_from-text-requires : goal.range_from-text-requires
+range_from-text-requires c = λ _. start_boundary c.args.text.now c.in_ok-start.start c.utf8.text c.in_ok-start.ensures
 
-pub returns-then-is_empty : goal.returns-then-is_empty
-returns-then-is_empty c =
-    let none : length c.loop-piece.rest.now ≡ 0 = search rules in
-    c.loop-piece.invariant.1 ∙ words_of_nothing _ none
+pub split_at-requires : goal.split_at-requires
+split_at-requires c =
+    let rest = c.range_from-text.result.now in
+    let found = rest_found c.args.text.now rest c.in_ok-start.start c.in_ok-start.ensures c.range_from-text.ensures.value in
+    (end_found rest c.in-Some.size c.in-Some.ensures found.1).1
 
-pub returns-else-is_empty : goal.returns-else-is_empty
-returns-else-is_empty c =
-    let none = rw c.in_default.is at (split_parts 32 c.loop-piece.rest.now c.split_once.result c.split_once.ensures.cases (omega arith)) in
-    let some : 0 < length c.loop-piece.rest.now = search rules in
-    c.loop-piece.invariant.1 ∙ words_of_last _ none some
+pub returns-in-Some : goal.returns-in-Some
+returns-in-Some c =
+    let rest = c.range_from-text.result.now in
+    let size = c.in-Some.size in
+    let cut = c.split_at.ensures in
+    let found = rest_found c.args.text.now rest c.in_ok-start.start c.in_ok-start.ensures c.range_from-text.ensures.value in
+    found.0 ∙ (end_found rest size c.in-Some.ensures found.1).0
+    ∙ ap (λ word. word ∷ words (drop size rest)) (sym cut.front) ∙ ap (λ more. c.split_at.result.0.now ∷ words more) (sym cut.back)
+
+pub returns-in-None : goal.returns-in-None
+returns-in-None c =
+    let rest = c.range_from-text.result.now in
+    let found = rest_found c.args.text.now rest c.in_ok-start.start c.in_ok-start.ensures c.range_from-text.ensures.value in
+    found.0 ∙ end_missing rest c.in-None.ensures found.2
