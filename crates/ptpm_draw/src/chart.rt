@@ -10,7 +10,7 @@ use crate::shapes::{Arrow, write_mark};
 use crate::sizes::{MEMBER, STUB, Sizes, row_height};
 use crate::strokes::{LOST, Stroke, stroke_of};
 use crate::text::Escaped;
-use crate::words::{LabelText, LineText, ListText, LostText, OutcomeText, spell};
+use crate::words::{LabelText, LineText, ListText, LostText, OutcomeText, error_told, spell};
 use ptpm_codec::OutOfMemory;
 use ptpm_world::{Event, Script, ScriptError};
 use std::alloc::Global;
@@ -214,7 +214,7 @@ impl<'a> Chart<'a> {
         };
         write!(out, "<g><title>{number}: {label}")?;
         self.write_ends(row, out)?;
-        write!(out, "</title><desc>{}", OutcomeText(row))?;
+        write!(out, "</title><desc>{}", OutcomeText { picture, row })?;
         writeln!(out, "{}</desc>", ListText(line.changed))?;
         write!(out, r##"<text x="{MARGIN}" y="{base}" fill="#57606a">"##)?;
         writeln!(out, "{number}</text>")?;
@@ -225,10 +225,10 @@ impl<'a> Chart<'a> {
 
     /// Writes what became of a row's event, and below it each member that it changed.
     fn write_outcome<W: Write>(&self, line: &Line<'_>, base: usize, out: &mut W) -> io::Result<()> {
-        let right = self.right;
-        let colour = stroke_of(line.row.outcome()).colour;
+        let (right, picture, row) = (self.right, self.picture, line.row);
+        let colour = self.stroke(row).colour;
         write!(out, r#"<text x="{right}" y="{base}" fill="{colour}">"#)?;
-        write!(out, "{}</text>", OutcomeText(line.row))?;
+        write!(out, "{}</text>", OutcomeText { picture, row })?;
         let mut below = base;
         for text in line.changed {
             below = below.saturating_add(MEMBER);
@@ -259,7 +259,7 @@ impl<'a> Chart<'a> {
 
     /// Writes the arrow or the mark of a row.
     fn write_way<W: Write>(&self, row: &Row, y: usize, label: &str, out: &mut W) -> io::Result<()> {
-        let stroke = stroke_of(row.outcome());
+        let stroke = self.stroke(row);
         let at = self.x(row.at);
         match row.way {
             Way::Mark => write_mark(at, y, stroke, label, out),
@@ -308,6 +308,11 @@ impl<'a> Chart<'a> {
             }
         }
         Ok(top)
+    }
+
+    /// How a row is drawn.
+    fn stroke(&self, row: &Row) -> Stroke {
+        stroke_of(row.outcome(), error_told(self.picture, row).is_some())
     }
 
     /// The arrow of a message, at this height.

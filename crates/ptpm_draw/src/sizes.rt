@@ -90,7 +90,7 @@ impl Sizes {
         };
         spell(text, label)?;
         self.label = self.label.max(text.len());
-        spell(text, OutcomeText(row))?;
+        spell(text, OutcomeText { picture, row })?;
         self.outcome = self.outcome.max(text.len());
         let line = row.line;
         spell(text, LineText { line, event })?;

@@ -27,25 +27,33 @@ pub(crate) struct Stroke {
     pub(crate) head: Head,
 }
 
+/// The colour of what went wrong.
+const RED: &str = "#b42318";
+
 /// How a lost message is drawn.
 pub(crate) const LOST: Stroke = Stroke {
-    colour: "#b42318",
+    colour: RED,
     width: "1.5",
     dashes: "2 3",
     head: Head::Cross,
 };
 
-/// How an event with an outcome is drawn.
-pub(crate) fn stroke_of(outcome: Outcome) -> Stroke {
+/// How an event with an outcome is drawn. Where a clock answered by an error, or a session was told one, it is red, and nothing is
+/// drawn as carried out.
+pub(crate) fn stroke_of(outcome: Outcome, has_error: bool) -> Stroke {
     match outcome {
+        Outcome::CarriedOut if has_error => make_stroke(RED, "1.5", "none", Head::Empty),
         Outcome::CarriedOut => make_stroke("#1a7f37", "2.5", "none", Head::Filled),
+        Outcome::AnsweredAgain if has_error => make_stroke(RED, "2", "10 4", Head::Empty),
         Outcome::AnsweredAgain => make_stroke("#0550ae", "2", "10 4", Head::Empty),
+        Outcome::Answered if has_error => make_stroke(RED, "1.5", "none", Head::Empty),
         Outcome::Answered => make_stroke("#0550ae", "1.5", "none", Head::Empty),
         Outcome::PassedOn => make_stroke("#57606a", "1.5", "none", Head::Open),
+        Outcome::Reported if has_error => make_stroke(RED, "1.5", "none", Head::Filled),
         Outcome::Reported => make_stroke("#1a7f37", "1.5", "none", Head::Filled),
-        Outcome::Dropped(_) => make_stroke("#b42318", "1.5", "6 4", Head::Cross),
+        Outcome::Dropped(_) => make_stroke(RED, "1.5", "6 4", Head::Cross),
         Outcome::Ignored(_) => make_stroke("#8a4600", "1.5", "6 4", Head::Ring),
-        Outcome::Refused(_) => make_stroke("#b42318", "1.5", "none", Head::Cross),
+        Outcome::Refused(_) => make_stroke(RED, "1.5", "none", Head::Cross),
         Outcome::Done => make_stroke("#24292f", "1.5", "none", Head::Ring),
     }
 }

@@ -53,13 +53,31 @@ fn two_copies_drawn(rt: HostRuntime) -> Result<(), Fail> {
     let octets = drawn(rt.alloc(), TWO_COPIES, 2, 5)?;
     let picture = std::str::from_utf8(octets.as_slice())?;
     let rows = "\
-        <title>2 send: send SET PRIORITY1 7, at m</title><desc>done, sends 1</desc>\n\
-        <title>3 deliver 1: SET PRIORITY1 7, from m to K</title><desc>carried out, sends 2, priority1 100, grandmaster_priority1 100</desc>\n\
-        <title>4 deliver 2: RESPONSE 7, from K to m</title><desc>reported</desc>\n\
-        <title>5 deliver 1: SET PRIORITY1 7, from m to K</title><desc>answered again, sends 3</desc>\n\
-        <title>3 RESPONSE 7 lost, from K to m</title><desc>lost</desc>\n";
+        <title>2 send: send SET PRIORITY1 #7, at m</title><desc>done, sends 1</desc>\n\
+        <title>3 deliver 1: SET PRIORITY1 #7, from m to K</title><desc>carried out, sends 2, priority1 100, grandmaster_priority1 100</desc>\n\
+        <title>4 deliver 2: RESPONSE #7, from K to m</title><desc>reported</desc>\n\
+        <title>5 deliver 1: SET PRIORITY1 #7, from m to K</title><desc>answered again, sends 3</desc>\n\
+        <title>frame 3 lost: RESPONSE #7, from K to m</title><desc>lost</desc>\n";
     assert!(rt; lacks(picture, rows).is_none());
     assert!(rt; !picture.contains("begin"));
+    Ok(())
+}
+
+/// A SET without the right to it is answered by an error, and is not drawn as carried out.
+#[test]
+fn refused_set_drawn(rt: HostRuntime) -> Result<(), Fail> {
+    let alloc = rt.alloc();
+    let network = TWO_COPIES.replace(alloc, "version = 1", "version = 2")?;
+    let network = network
+        .as_str()
+        .replace(alloc, "attempts = 3", "attempts = 3, rights = []")?;
+    let octets = drawn(alloc, network.as_str(), 2, 6)?;
+    let picture = std::str::from_utf8(octets.as_slice())?;
+    let rows = "\
+        <title>3 deliver 1: SET PRIORITY1 #7, from m to K</title><desc>answered: NOT_SUPPORTED, sends 2</desc>\n\
+        <title>4 deliver 2: RESPONSE #7 NOT_SUPPORTED, from K to m</title><desc>reported: NOT_SUPPORTED</desc>\n\
+        <title>5 deliver 1: SET PRIORITY1 #7, from m to K</title><desc>answered again: NOT_SUPPORTED, sends 3</desc>\n";
+    assert!(rt; lacks(picture, rows).is_none());
     Ok(())
 }
 

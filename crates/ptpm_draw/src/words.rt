@@ -13,7 +13,8 @@ use std::fmt;
 /// An act shows a value of at most so many octets.
 const SHOWN_OCTETS: usize = 8;
 
-/// What a message says: action, id and sequenceId of a request; action and sequenceId of a reply, and the error that it tells.
+/// What a message says: action, id and sequenceId of a request; action and sequenceId of a reply, and the error that it tells. A
+/// sequenceId stands behind a `#`.
 #[derive(Clone, Copy)]
 pub(crate) struct SaysText(pub Option<Says>);
 
@@ -23,9 +24,9 @@ impl fmt::Display for SaysText {
             return f.write_str("no management message");
         };
         match says.error {
-            Some(error) => write!(f, "{} {} {}", says.action, says.number, ErrorText(error)),
-            None if says.action.is_reply() => write!(f, "{} {}", says.action, says.number),
-            None => write!(f, "{} {} {}", says.action, IdText(says.id), says.number),
+            Some(error) => write!(f, "{} #{} {}", says.action, says.number, ErrorText(error)),
+            None if says.action.is_reply() => write!(f, "{} #{}", says.action, says.number),
+            None => write!(f, "{} {} #{}", says.action, IdText(says.id), says.number),
         }
     }
 }
@@ -90,22 +91,52 @@ impl fmt::Display for AskText<'_> {
     }
 }
 
-/// What became of a row's event, that it was late, and which frames it made.
+/// What became of a row's event, and by which error it was answered; that it was late, and which frames it made.
 #[derive(Clone, Copy)]
-pub(crate) struct OutcomeText<'a>(pub &'a Row);
+pub(crate) struct OutcomeText<'a> {
+    pub(crate) picture: &'a Picture,
+    pub(crate) row: &'a Row,
+}
 
 impl fmt::Display for OutcomeText<'_> {
     fn fmt<W: fmt::Write>(&self, f: &mut fmt::Formatter<W>) -> fmt::Result {
-        let outcome = self.0.outcome();
-        write!(f, "{outcome}")?;
-        if self.0.is_late {
+        let row = self.row;
+        match (row.outcome(), error_told(self.picture, row)) {
+            (Outcome::CarriedOut, Some(error)) => write!(f, "answered: {}", ErrorText(error))?,
+            (outcome, Some(error)) => write!(f, "{outcome}: {}", ErrorText(error))?,
+            (outcome, None) => write!(f, "{outcome}")?,
+        }
+        if row.is_late {
             f.write_str(", late")?;
         }
-        if self.0.before < self.0.after {
-            write!(f, ", sends {}", FramesText(self.0))?;
+        if row.before < row.after {
+            write!(f, ", sends {}", FramesText(row))?;
         }
         Ok(())
     }
+}
+
+/// The managementErrorId by which a clock answered a row's event, or which it brought to a session; none where there is no error.
+pub(crate) fn error_told(picture: &Picture, row: &Row) -> Option<u16> {
+    match (row.outcome(), row.way) {
+        (Outcome::CarriedOut | Outcome::AnsweredAgain | Outcome::Answered, _) => {
+            error_sent(picture, row)
+        }
+        (Outcome::Reported, Way::Arrow(frame)) => picture.says(frame)?.error,
+        _ => None,
+    }
+}
+
+/// The first error among the messages that a row's event made.
+fn error_sent(picture: &Picture, row: &Row) -> Option<u16> {
+    for count in row.before..row.after {
+        if let Some(says) = picture.says(count.saturating_add(1)) {
+            if says.error.is_some() {
+                return says.error;
+            }
+        }
+    }
+    None
 }
 
 /// The members that an event changed, each behind a comma.
@@ -190,7 +221,11 @@ pub(crate) struct LostText<'a> {
 impl fmt::Display for LostText<'_> {
     fn fmt<W: fmt::Write>(&self, f: &mut fmt::Formatter<W>) -> fmt::Result {
         let frame = self.frame;
-        write!(f, "{frame} {} lost", SaysText(self.picture.says(frame)))
+        write!(
+            f,
+            "frame {frame} lost: {}",
+            SaysText(self.picture.says(frame))
+        )
     }
 }
 
