@@ -39,6 +39,17 @@ turned_to held left b c d port datagram verdict number messages is_b is_c turned
     subst (λ (o : Option HostedClock). IsSomeAnd o (λ e. IsTurnedTo c port datagram number messages e)) (sym is_d)
     (subst (λ (x : HostedClock). IsTurnedTo x port datagram number messages d) same at_b)
 
+-- what differs from data sets in the clock that was taken out differs in the clock that is held
+pub differ_from : (held : Option HostedClock) (b c : HostedClock) (sets before : DataSetsValue) (members : ChangedMembers)
+    → held ≡ Some b
+    → held ≡ Some c
+    → sets ≡ b.agent.sets
+    → members ≡ changed before sets
+    → members ≡ changed before c.agent.sets
+differ_from held b c sets before members is_b is_c of_b between =
+    let of_c : sets ≡ c.agent.sets = of_b ∙ ap (λ (x : HostedClock). x.agent.sets) (one_value held b c is_b is_c) in
+    between ∙ ap (λ (s : DataSetsValue). changed before s) of_c
+
 -- a clock that stays is where the turn led
 pub turned_still : (between left : Option HostedClock) (c : HostedClock) (port : ℕ) (datagram : List ℕ) (number : ℕ)
     (messages : List (ℕ × List ℕ))
