@@ -2,6 +2,8 @@
 
 ghost use Rattle.std.specs.Prelude.{◌++◌, ◌∷◌, OnOk, [], codes};
 ghost use Rattle.std.specs.Io.KnownBytes.{Appends};
+ghost use Rattle.ptpm_schedule.specs.Going.{Goes};
+ghost use Rattle.ptpm_schedule.specs.Scheduled.{IsScheduled};
 
 use crate::chances::Chances;
 use crate::left_out::LeftOut;
@@ -31,7 +33,9 @@ pub fn schedule<R: Read + Drop, W: Write, E: Write>(
     reader: R,
     out: &mut W,
     err: &mut E,
-) -> Result<(), ScriptError> {
+) -> Result<(), ScriptError>
+    ensures { OnOk result (IsScheduled (W.contents out.old) (W.contents out.new)) }
+{
     let script = read_script(alloc, reader)?;
     judge(script.lines.as_slice())?;
     let mut world = World::new(alloc, &script.network)?;
@@ -43,13 +47,17 @@ pub fn schedule<R: Read + Drop, W: Write, E: Write>(
 }
 
 /// Lets the events of a script happen, each in its turn, and what follows of them. Those that are refused are told.
+#[tactic(auto, using(crate::proofs::Going::goes_both, crate::proofs::Going::stands_still))]
 fn play<W: Write, E: Write>(
     traffic: &mut Traffic<'_>,
     lines: &[EventLine],
     world: &mut World,
     out: &mut W,
     err: &mut E,
-) -> Result<(), ScriptError> {
+) -> Result<(), ScriptError>
+    ensures { OnOk result
+        (Goes world.old world.new (W.contents out.old) (W.contents out.new)) }
+{
     for line in lines {
         if let Some(why) = traffic.ask(world, &line.event, out)? {
             let line = line.number;
