@@ -22,7 +22,7 @@ const DIVIDER: &str = "%%";
 ///
 /// An event waits until its session's request before it is answered or has no attempts left. Where it is refused then, it has no
 /// line, and is told on `err`; what `err` does changes nothing. Each line that is written is one that happens, and none of them
-/// delivers a frame late. The same chances and the same script give the same octets.
+/// delivers a frame late (`IsScheduled`). The same chances and the same script give the same octets.
 ///
 /// A script that cannot be read is refused as `run_script` refuses it; any other event is UnknownWord. Nothing is written then. Ends
 /// for every reader. What would have over 2,000,000 lines ends with TooManyLines behind as many.
@@ -47,7 +47,6 @@ pub fn schedule<R: Read + Drop, W: Write, E: Write>(
 }
 
 /// Lets the events of a script happen, each in its turn, and what follows of them. Those that are refused are told.
-#[tactic(auto, using(crate::proofs::Going::goes_both, crate::proofs::Going::stands_still))]
 fn play<W: Write, E: Write>(
     traffic: &mut Traffic<'_>,
     lines: &[EventLine],

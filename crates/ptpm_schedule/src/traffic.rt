@@ -85,7 +85,6 @@ impl<'a> Traffic<'a> {
     }
 
     /// The same for the session at this place, which waits no more.
-    #[tactic(auto, using(crate::proofs::Going::goes_both, crate::proofs::Going::stands_still))]
     fn ask_settled<W: Write>(
         &mut self,
         world: &mut World,
@@ -108,7 +107,6 @@ impl<'a> Traffic<'a> {
     }
 
     /// Lets the network go on until nothing is under way and no session waits.
-    #[tactic(auto, using(crate::proofs::Going::goes_both, crate::proofs::Going::stands_still))]
     pub(crate) fn finish<W: Write>(
         &mut self,
         world: &mut World,
@@ -127,7 +125,7 @@ impl<'a> Traffic<'a> {
     }
 
     /// Lets the network go on until the session at this place, if there is one, waits no more.
-    #[tactic(auto, using(crate::proofs::Going::goes_both, crate::proofs::Going::stands_still))]
+    #[tactic(auto, using(crate::proofs::Going::stands_still))]
     fn settle<W: Write>(
         &mut self,
         world: &mut World,
@@ -150,7 +148,6 @@ impl<'a> Traffic<'a> {
     }
 
     /// Delivers one of the frames that are under way. Where there are none, one of the sessions that wait sends again.
-    #[tactic(auto, using(crate::proofs::Going::stands_still))]
     fn go_on<W: Write>(&mut self, world: &mut World, out: &mut W) -> Result<(), ScriptError>
         ensures { OnOk result
             (Goes world.old world.new (W.contents out.old) (W.contents out.new)) }
@@ -223,7 +220,6 @@ impl<'a> Traffic<'a> {
     }
 
     /// Lets an event happen, unless it is a late delivery, and prints its line. What it sends is lost or under way.
-    #[tactic(auto, using(crate::proofs::Going::goes_once, crate::proofs::Going::stays))]
     fn happen<W: Write>(
         &mut self,
         world: &mut World,
