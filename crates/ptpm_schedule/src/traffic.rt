@@ -268,7 +268,7 @@ fn write_line<W: Write>(event: &Event, out: &mut W) -> io::Result<()>
 }
 
 /// Lets an event happen in a network, unless it is a late delivery.
-#[tactic(auto, using(crate::proofs::Going::same_self, crate::proofs::Going::same_step, crate::proofs::Going::took_step))]
+#[tactic(auto, using(crate::proofs::Going::same_self, crate::proofs::Going::took_step))]
 fn try_event(world: &mut World, event: &Event) -> Result<Tried, OutOfMemory>
     ensures same { IsSame world.old world.new }
     ensures became { IfOk result (λ t. Became world.old world.new event.now t) }
