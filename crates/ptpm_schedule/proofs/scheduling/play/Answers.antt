@@ -7,7 +7,7 @@ loop-line-init g c = stands_still c.args.world.now (g.W.Write.contents c.args.ou
 pub loop-line-preserved : goal.loop-line-preserved
 loop-line-preserved g c =
     let W = g.W.Write.contents in
-    goes_both c.args.world.now c.loop-line.world c.ask.new.world (W c.args.out.now) (W c.loop-line.out) (W c.ask.new.out) c.loop-line.invariant c.in_ok-ask.ensures
+    goes_both c.args.world.now c.loop-line.world c.ask.new.world (W c.args.out.now) (W c.loop-line.out) (W c.ask.new.out) c.loop-line.invariant c.in_ok-why.ensures
 
 pub returns : goal.returns
 returns g c =
