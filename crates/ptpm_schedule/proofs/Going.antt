@@ -1,5 +1,5 @@
 -- What a schedule goes through, one part after another.
-use Rattle.std.proofs.Common.{◌≡◌, ℕ, Bool, false, List, [], ◌∷◌, ◌++◌, None, Option, Ok, Result, codes, refl, sym, ap, ◌∙◌, subst, append_assoc, append-nil, flat_map, is_none, map, Err, OnOk}
+use Rattle.std.proofs.Common.{◌≡◌, ℕ, Bool, false, List, [], ◌∷◌, ◌++◌, Option, Ok, Result, codes, refl, sym, ap, ◌∙◌, subst, append_assoc, append-nil, is_none, map, Err, OnOk}
 use Rattle.std.proofs.KnownBytes.{Appends-nil, Appends-trans}
 use Rattle.std.proofs.lemmas.Bool.{cond-true}
 use Rattle.std.proofs.lemmas.Grind.{flat_map-append}
@@ -8,7 +8,7 @@ use Rattle.std.specs.Io.KnownBytes.{Appends, Keeps}
 use Rattle.ptpm_network.proofs.Taking.{run-append, taken-append}
 use Rattle.ptpm_network.specs.Events as machine
 use Rattle.ptpm_network.specs.Stands.{StandsAfter}
-use Rattle.ptpm_network.specs.Machine.{is_late_delivery, run, state_after, taken}
+use Rattle.ptpm_network.specs.Machine.{is_late_delivery, state_after, taken}
 use Rattle.ptpm_network.specs.Network.{Network}
 use Rattle.ptpm_network.specs.State.{NetworkState, initial_state}
 use Rattle.ptpm_schedule.specs.EventText.{event_text}
