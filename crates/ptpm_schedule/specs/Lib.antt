@@ -1,1 +1,3 @@
 pub mod EventText
+pub mod Going
+pub mod Scheduled

@@ -2,6 +2,8 @@
 
 ghost use Rattle.std.specs.Prelude.{◌++◌, ◌∷◌, OnOk, [], codes};
 ghost use Rattle.std.specs.Io.KnownBytes.{Appends};
+ghost use Rattle.ptpm_schedule.specs.Going.{Goes};
+ghost use Rattle.ptpm_schedule.specs.Scheduled.{IsScheduled};
 
 use crate::chances::Chances;
 use crate::left_out::LeftOut;
@@ -20,7 +22,7 @@ const DIVIDER: &str = "%%";
 ///
 /// An event waits until its session's request before it is answered or has no attempts left. Where it is refused then, it has no
 /// line, and is told on `err`; what `err` does changes nothing. Each line that is written is one that happens, and none of them
-/// delivers a frame late. The same chances and the same script give the same octets.
+/// delivers a frame late (`IsScheduled`). The same chances and the same script give the same octets.
 ///
 /// A script that cannot be read is refused as `run_script` refuses it; any other event is UnknownWord. Nothing is written then. Ends
 /// for every reader. What would have over 2,000,000 lines ends with TooManyLines behind as many.
@@ -31,7 +33,9 @@ pub fn schedule<R: Read + Drop, W: Write, E: Write>(
     reader: R,
     out: &mut W,
     err: &mut E,
-) -> Result<(), ScriptError> {
+) -> Result<(), ScriptError>
+    ensures { OnOk result (IsScheduled (W.contents out.old) (W.contents out.new)) }
+{
     let script = read_script(alloc, reader)?;
     judge(script.lines.as_slice())?;
     let mut world = World::new(alloc, &script.network)?;
@@ -49,7 +53,10 @@ fn play<W: Write, E: Write>(
     world: &mut World,
     out: &mut W,
     err: &mut E,
-) -> Result<(), ScriptError> {
+) -> Result<(), ScriptError>
+    ensures { OnOk result
+        (Goes world.old world.new (W.contents out.old) (W.contents out.new)) }
+{
     for line in lines {
         if let Some(why) = traffic.ask(world, &line.event, out)? {
             let line = line.number;

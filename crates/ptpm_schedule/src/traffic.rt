@@ -1,10 +1,13 @@
 //! What is under way in a network that loses, repeats and reorders messages.
 
-ghost use Rattle.std.specs.Prelude.{◌≡◌, List};
+ghost use Rattle.std.specs.Prelude.{◌≡◌, ◌++◌, ◌∷◌, IfOk, List, OnOk, []};
+ghost use Rattle.std.specs.Io.KnownBytes.{Appends};
 ghost use Rattle.ptpm_network.specs.Events as machine;
 ghost use Rattle.ptpm_network.specs.Stands.{StandsAfter};
 ghost use Rattle.ptpm_network.specs.Machine.{is_late_delivery, state_after};
 ghost use Rattle.ptpm_network.specs.Network as net;
+ghost use Rattle.ptpm_schedule.specs.EventText.{event_text};
+ghost use Rattle.ptpm_schedule.specs.Going.{Became, Goes, IsSame};
 ghost use Rattle.ptpm_world.specs.Placed.{names_in, placed};
 ghost use Rattle.ptpm_world.specs.Running.{running};
 
@@ -14,6 +17,7 @@ use ptpm_codec::OutOfMemory;
 use ptpm_script::{Name, NetworkSession};
 use ptpm_world::{End, Event, Network, ScriptError, StepError, Took, World};
 use std::alloc::Global;
+use std::io;
 use std::io::Write;
 
 /// A script has at most so many lines (this project's profile).
@@ -71,11 +75,26 @@ impl<'a> Traffic<'a> {
         world: &mut World,
         event: &Event,
         out: &mut W,
-    ) -> Result<Option<StepError>, ScriptError> {
+    ) -> Result<Option<StepError>, ScriptError>
+        ensures { OnOk result
+            (Goes world.old world.new (W.contents out.old) (W.contents out.new)) }
+    {
         let place = place_of(self.network, event);
-        if let Some(place) = place {
-            self.settle(world, place, out)?;
-        }
+        self.settle(world, place, out)?;
+        self.ask_settled(world, event, place, out)
+    }
+
+    /// The same for the session at this place, which waits no more.
+    fn ask_settled<W: Write>(
+        &mut self,
+        world: &mut World,
+        event: &Event,
+        place: Option<u16>,
+        out: &mut W,
+    ) -> Result<Option<StepError>, ScriptError>
+        ensures { OnOk result
+            (Goes world.old world.new (W.contents out.old) (W.contents out.new)) }
+    {
         match (self.happen(world, event, out)?, event, place) {
             (Tried::Refused(why), _, _) => Ok(Some(why)),
             (Tried::Happened(_), Event::Begin(..) | Event::Resume(..), Some(place)) => {
@@ -92,7 +111,10 @@ impl<'a> Traffic<'a> {
         &mut self,
         world: &mut World,
         out: &mut W,
-    ) -> Result<(), ScriptError> {
+    ) -> Result<(), ScriptError>
+        ensures { OnOk result
+            (Goes world.old world.new (W.contents out.old) (W.contents out.new)) }
+    {
         for _ in 0..u64::MAX {
             if self.under_way.is_empty() && self.waiting.is_empty() {
                 break;
@@ -102,13 +124,20 @@ impl<'a> Traffic<'a> {
         Ok(())
     }
 
-    /// Lets the network go on until the session at this place waits no more.
+    /// Lets the network go on until the session at this place, if there is one, waits no more.
+    #[tactic(auto, using(crate::proofs::Going::stands_still))]
     fn settle<W: Write>(
         &mut self,
         world: &mut World,
-        place: u16,
+        place: Option<u16>,
         out: &mut W,
-    ) -> Result<(), ScriptError> {
+    ) -> Result<(), ScriptError>
+        ensures { OnOk result
+            (Goes world.old world.new (W.contents out.old) (W.contents out.new)) }
+    {
+        let Some(place) = place else {
+            return Ok(());
+        };
         for _ in 0..u64::MAX {
             if !self.waiting.contains(&place) {
                 break;
@@ -119,7 +148,10 @@ impl<'a> Traffic<'a> {
     }
 
     /// Delivers one of the frames that are under way. Where there are none, one of the sessions that wait sends again.
-    fn go_on<W: Write>(&mut self, world: &mut World, out: &mut W) -> Result<(), ScriptError> {
+    fn go_on<W: Write>(&mut self, world: &mut World, out: &mut W) -> Result<(), ScriptError>
+        ensures { OnOk result
+            (Goes world.old world.new (W.contents out.old) (W.contents out.new)) }
+    {
         if !self.under_way.is_empty() {
             let place = self.draws.place(self.under_way.len());
             let frame = self.under_way.swap_remove(place);
@@ -139,7 +171,10 @@ impl<'a> Traffic<'a> {
         world: &mut World,
         frame: u32,
         out: &mut W,
-    ) -> Result<(), ScriptError> {
+    ) -> Result<(), ScriptError>
+        ensures { OnOk result
+            (Goes world.old world.new (W.contents out.old) (W.contents out.new)) }
+    {
         let tried = self.happen(world, &Event::Deliver(frame), out)?;
         if let Tried::Happened(Took::Answered) = tried {
             if let Some(End::Session(place)) = world.frame(frame).map(|frame| frame.end()) {
@@ -155,18 +190,33 @@ impl<'a> Traffic<'a> {
         world: &mut World,
         session: u16,
         out: &mut W,
-    ) -> Result<(), ScriptError> {
-        let tried = match self.network.sessions().get(session as usize) {
-            Some(listed) => {
-                let event = Event::Send(listed.name.copy(self.alloc)?);
-                self.happen(world, &event, out)?
-            }
-            None => Tried::Refused(StepError::NoSuchName),
-        };
+    ) -> Result<(), ScriptError>
+        ensures { OnOk result
+            (Goes world.old world.new (W.contents out.old) (W.contents out.new)) }
+    {
+        let tried = self.try_send(world, session, out)?;
         if let Tried::Refused(_) = tried {
             self.waiting.retain(|waits| *waits != session);
         }
         Ok(())
+    }
+
+    /// Lets the session at a place send. It is refused where there is none.
+    #[tactic(auto, using(crate::proofs::Going::stands_still))]
+    fn try_send<W: Write>(
+        &mut self,
+        world: &mut World,
+        session: u16,
+        out: &mut W,
+    ) -> Result<Tried, ScriptError>
+        ensures { OnOk result
+            (Goes world.old world.new (W.contents out.old) (W.contents out.new)) }
+    {
+        let Some(listed) = self.network.sessions().get(session as usize) else {
+            return Ok(Tried::Refused(StepError::NoSuchName));
+        };
+        let event = Event::Send(listed.name.copy(self.alloc)?);
+        self.happen(world, &event, out)
     }
 
     /// Lets an event happen, unless it is a late delivery, and prints its line. What it sends is lost or under way.
@@ -175,18 +225,24 @@ impl<'a> Traffic<'a> {
         world: &mut World,
         event: &Event,
         out: &mut W,
-    ) -> Result<Tried, ScriptError> {
+    ) -> Result<Tried, ScriptError>
+        ensures { OnOk result
+            (Goes world.old world.new (W.contents out.old) (W.contents out.new)) }
+    {
         if self.lines >= LINES {
             return Err(ScriptError::TooManyLines);
         }
         let sent = world.frames();
-        let tried = try_event(world, event)?;
-        if let Tried::Happened(_) = tried {
-            writeln!(out, "{}", EventText(event))?;
-            self.lines += 1;
-            self.draw_frames(sent, world.frames())?;
+        match try_event(world, event)? {
+            Tried::Happened(took) => {
+                write_line(event, out)?;
+                self.lines += 1;
+                self.draw_frames(sent, world.frames())?;
+                Ok(Tried::Happened(took))
+            }
+            Tried::Late => Ok(Tried::Late),
+            Tried::Refused(why) => Ok(Tried::Refused(why)),
         }
-        Ok(tried)
     }
 
     /// Draws which of the frames between two counts are under way, and which of these twice.
@@ -203,8 +259,20 @@ impl<'a> Traffic<'a> {
     }
 }
 
+/// Writes the line of an event.
+fn write_line<W: Write>(event: &Event, out: &mut W) -> io::Result<()>
+    ensures { OnOk result (Appends (W.contents out.old) (W.contents out.new)
+        (event_text event.now ++ 10 ∷ [])) }
+{
+    writeln!(out, "{}", EventText(event))
+}
+
 /// Lets an event happen in a network, unless it is a late delivery.
-fn try_event(world: &mut World, event: &Event) -> Result<Tried, OutOfMemory> {
+#[tactic(auto, using(crate::proofs::Going::same_self, crate::proofs::Going::took_step))]
+fn try_event(world: &mut World, event: &Event) -> Result<Tried, OutOfMemory>
+    ensures same { IsSame world.old world.new }
+    ensures became { IfOk result (λ t. Became world.old world.new event.now t) }
+{
     if is_late(world, event) {
         return Ok(Tried::Late);
     }
