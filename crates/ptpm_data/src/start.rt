@@ -245,15 +245,16 @@ impl PortStart {
     pub fn new() -> PortStart
         ensures { result ≡ default_port }
     {
+        let set = PortDataSet::default();
         PortStart {
-            state: 6,
-            log_min_delay_req: 0,
-            peer_delay: 0,
-            log_announce: 1,
-            receipt_timeout: 3,
-            log_sync: 0,
-            delay_mechanism: 1,
-            log_min_pdelay: 0,
+            state: set.state.number(),
+            log_min_delay_req: set.log_min_delay_req,
+            peer_delay: set.peer_delay,
+            log_announce: set.log_announce,
+            receipt_timeout: set.receipt_timeout,
+            log_sync: set.log_sync,
+            delay_mechanism: set.delay_mechanism.number(),
+            log_min_pdelay: set.log_min_pdelay,
         }
     }
 
