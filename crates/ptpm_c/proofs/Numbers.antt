@@ -5,8 +5,7 @@ use Rattle.ptpm_manager.specs.declared.error.BeginError.{BeginError}
 use Rattle.ptpm_manager.specs.declared.error.BeginError.TheVariants as begins
 use Rattle.ptpm_host.specs.declared.refusal.StartRefusal.{StartRefusal}
 use Rattle.ptpm_host.specs.declared.refusal.StartRefusal.TheVariants as starts
-use Rattle.ptpm_host.specs.Numbers.{no_memory, start_number}
-use Rattle.ptpm_host.specs.SessionNumbers.{begin_number}
+use Rattle.ptpm_host.specs.Numbers.{begin_number, no_memory, start_number}
 
 one_reason : {E : Type 0} (first : Option E) (r e : E)
     → first ≡ Some r

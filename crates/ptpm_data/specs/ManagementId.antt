@@ -9,6 +9,8 @@ use Rattle.ptpm_data.specs.declared.management_id.Scope.TheVariants.{Clock, Port
 use Rattle.ptpm_data.specs.declared.management_id.Layout.{Layout}
 use Rattle.ptpm_data.specs.declared.management_id.Layout.TheVariants.{NullPtpManagement, UserDescription, DefaultDataSet, CurrentDataSet, ParentDataSet, TimePropertiesDataSet, PortDataSet, Priority1, Priority2, Domain, SlaveOnly, LogAnnounceInterval, AnnounceReceiptTimeout, LogSyncInterval, VersionNumber, EnablePort, DisablePort, ClockAccuracy, UtcProperties, DelayMechanism, LogMinPdelayReqInterval}
 use Rattle.ptpm_data.specs.declared.management_id.Row.{Row}
+use Rattle.ptpm_data.specs.declared.management_id.SetForm.{SetForm}
+use Rattle.ptpm_data.specs.declared.management_id.SetForm.TheVariants as forms
 
 infix 30 from◌to◌ minus◌to◌ either◌to◌or◌
 -- ---- sets of actions: GET is 1, SET is 2, COMMAND is 4
@@ -96,6 +98,18 @@ line LogMinPdelayReqInterval = port 0x6001 "LOG_MIN_PDELAY_REQ_INTERVAL" get_set
 -- what the dataField of a SET may be, where an id's dataField has this layout
 unfoldable pub set_of : Layout → SetField
 set_of layout = (line layout).set
+
+-- a form of the program, as a value
+abbrev pub set_field : SetForm → SetField
+set_field forms.NoSet = NoSet
+set_field forms.Empty = Empty
+set_field (forms.TextUpTo limit) = TextUpTo limit
+set_field forms.AnyOctet = AnyOctet
+set_field (forms.FromTo low high) = from low to high
+set_field (forms.FromToOr low high other) = either low to high or other
+set_field forms.MechanismNumber = MechanismNumber
+set_field (forms.MinusTo low high) = minus low to high
+set_field forms.NotBothLeaps = NotBothLeaps
 
 -- a row of the table, as the program has it: its layout says what its dataField holds
 pub record RowValue : Type 0 where

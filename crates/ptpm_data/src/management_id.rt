@@ -2,7 +2,7 @@
 
 ghost use Rattle.std.specs.Prelude.{◌≡◌, option_map, Some};
 ghost use Rattle.ptpm_data.specs.declared.management_id.Scope.TheVariants.{Clock, Port};
-ghost use Rattle.ptpm_data.specs.ManagementId.{row_with, row_value, row_of, row_named, if_named};
+ghost use Rattle.ptpm_data.specs.ManagementId.{row_with, row_value, row_of, row_named, if_named, set_field, set_of};
 
 use crate::actions::Actions;
 
@@ -37,6 +37,57 @@ pub enum Layout {
     UtcProperties,
     DelayMechanism,
     LogMinPdelayReqInterval,
+}
+
+/// The form of a SET's dataField (15.5.3), behind whose octets a reserved one may stand.
+#[derive(Clone, Copy, Debug, PartialEq, Eq)]
+pub(crate) enum SetForm {
+    /// The id has no SET.
+    NoSet,
+    /// No octet.
+    Empty,
+    /// A PTPText of at most so many octets, which are UTF-8.
+    TextUpTo(u8),
+    AnyOctet,
+    /// An octet of a range.
+    FromTo(u8, u8),
+    /// An octet of a range, or one value more.
+    FromToOr(u8, u8, u8),
+    /// The number of a delay mechanism.
+    MechanismNumber,
+    /// An Integer8, from minus the first number to the second.
+    MinusTo(u8, u8),
+    /// UTC_PROPERTIES, of whose two leap flags one at most is set.
+    NotBothLeaps,
+}
+
+/// What a SET may be, where the id's dataField has this layout; a start keeps to the same (this project's profile).
+#[tactic(auto, unfolding(crate::specs::ManagementId::set_of))]
+#[inline(always)]
+pub(crate) fn set_of(layout: Layout) -> SetForm
+    ensures { set_field result ≡ set_of layout }
+{
+    match layout {
+        Layout::NullPtpManagement => SetForm::Empty,
+        Layout::UserDescription => SetForm::TextUpTo(128),
+        Layout::Priority1 | Layout::Priority2 | Layout::Domain => SetForm::AnyOctet,
+        Layout::LogAnnounceInterval => SetForm::MinusTo(4, 4),
+        Layout::AnnounceReceiptTimeout => SetForm::FromTo(2, 10),
+        Layout::LogSyncInterval => SetForm::MinusTo(8, 1),
+        Layout::ClockAccuracy => SetForm::FromToOr(0x17, 0x31, 0xfe),
+        Layout::UtcProperties => SetForm::NotBothLeaps,
+        Layout::DelayMechanism => SetForm::MechanismNumber,
+        Layout::LogMinPdelayReqInterval => SetForm::MinusTo(8, 5),
+        Layout::DefaultDataSet
+        | Layout::CurrentDataSet
+        | Layout::ParentDataSet
+        | Layout::TimePropertiesDataSet
+        | Layout::PortDataSet
+        | Layout::SlaveOnly
+        | Layout::VersionNumber
+        | Layout::EnablePort
+        | Layout::DisablePort => SetForm::NoSet,
+    }
 }
 
 /// A management id of this profile.

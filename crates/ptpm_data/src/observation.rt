@@ -9,9 +9,9 @@ use crate::data_sets::{
     ClockPrecedence, CurrentDataSet, DataSets, DefaultDataSet, ParentDataSet, PortDataSet,
     TimePropertiesDataSet,
 };
+use crate::management_id::{Layout, set_of};
 use crate::members::Member;
 use crate::port_state::PortState;
-use crate::ranges;
 use arrayvec::ArrayVec;
 use ptpm_codec::{ClockIdentity, PortIdentity};
 use std::fmt;
@@ -337,7 +337,7 @@ impl DataSets {
         let time = clock.time_after(&self.time);
         if self.ports.len() < ports.len() {
             Err(ObservationError::NoPort)
-        } else if !ranges::is_clock_accuracy(default.precedence.accuracy) {
+        } else if !set_of(Layout::ClockAccuracy).allows_octet(default.precedence.accuracy) {
             Err(ObservationError::BadValue(Member::ClockAccuracy))
         } else if time.leap61 && time.leap59 {
             Err(ObservationError::BadValue(Member::Leap59))

@@ -1,9 +1,12 @@
-//! The ranges of members, which a start and a SET keep to (this project's profile).
+//! What a form of a SET allows: the ranges that a start and a SET keep to (this project's profile).
 
 ghost use Rattle.std.specs.Prelude.{◌≡◌};
 ghost use Rattle.std.specs.Str.{is_utf8};
-ghost use Rattle.ptpm_data.specs.Ranges.{is_description, is_clock_accuracy, is_announce_interval, is_receipt_timeout, is_sync_interval, is_pdelay_interval};
+ghost use Rattle.ptpm_data.specs.ManagementId.{set_field};
+ghost use Rattle.ptpm_data.specs.Ranges.{allows_integer, allows_octet, allows_text};
 
+use crate::management_id::SetForm;
+use crate::port_state::DelayMechanism;
 use std::str;
 
 /// Whether the octets are UTF-8.
@@ -16,50 +19,40 @@ fn is_utf8(octets: &[u8]) -> bool
     }
 }
 
-/// userDescription: at most 128 octets of UTF-8.
-#[tactic(auto, unfolding(crate::specs::Ranges::is_description, crate::specs::ManagementId::set_of))]
-pub(crate) fn is_description(text: &[u8]) -> bool
-    ensures { result ≡ is_description text.now }
-{
-    text.len() <= 128 && is_utf8(text)
-}
+impl SetForm {
+    pub(crate) fn allows_text(self, text: &[u8]) -> bool
+        ensures { result ≡ allows_text (set_field self) text.now }
+    {
+        match self {
+            SetForm::TextUpTo(limit) => text.len() <= limit as usize && is_utf8(text),
+            _ => false,
+        }
+    }
 
-/// clockAccuracy: 0x17 to 0x31, or 0xFE, which means that it is not known.
-#[tactic(auto, unfolding(crate::specs::ManagementId::set_of))]
-pub(crate) fn is_clock_accuracy(accuracy: u8) -> bool
-    ensures { result ≡ is_clock_accuracy accuracy }
-{
-    matches!(accuracy, 0x17..=0x31 | 0xfe)
-}
+    #[inline(always)]
+    pub(crate) fn allows_octet(self, octet: u8) -> bool
+        ensures { result ≡ allows_octet (set_field self) octet }
+    {
+        match self {
+            SetForm::AnyOctet => true,
+            SetForm::FromTo(low, high) => low <= octet && octet <= high,
+            SetForm::FromToOr(low, high, other) => {
+                low <= octet && octet <= high || octet == other
+            }
+            SetForm::MechanismNumber => DelayMechanism::from_number(octet).is_some(),
+            _ => false,
+        }
+    }
 
-/// logAnnounceInterval: -4 to 4.
-#[tactic(auto, unfolding(crate::specs::ManagementId::set_of))]
-pub(crate) fn is_announce_interval(interval: i8) -> bool
-    ensures { result ≡ is_announce_interval interval }
-{
-    -4 <= interval && interval <= 4
-}
-
-/// announceReceiptTimeout: 2 to 10.
-#[tactic(auto, unfolding(crate::specs::ManagementId::set_of))]
-pub(crate) fn is_receipt_timeout(timeout: u8) -> bool
-    ensures { result ≡ is_receipt_timeout timeout }
-{
-    matches!(timeout, 2..=10)
-}
-
-/// logSyncInterval: -8 to 1.
-#[tactic(auto, unfolding(crate::specs::ManagementId::set_of))]
-pub(crate) fn is_sync_interval(interval: i8) -> bool
-    ensures { result ≡ is_sync_interval interval }
-{
-    -8 <= interval && interval <= 1
-}
-
-/// logMinPdelayReqInterval: -8 to 5.
-#[tactic(auto, unfolding(crate::specs::ManagementId::set_of))]
-pub(crate) fn is_pdelay_interval(interval: i8) -> bool
-    ensures { result ≡ is_pdelay_interval interval }
-{
-    -8 <= interval && interval <= 5
+    #[inline(always)]
+    pub(crate) fn allows_integer(self, number: i8) -> bool
+        ensures { result ≡ allows_integer (set_field self) number }
+    {
+        match self {
+            SetForm::MinusTo(low, high) => {
+                -(low as i16) <= number as i16 && number as i16 <= high as i16
+            }
+            _ => false,
+        }
+    }
 }

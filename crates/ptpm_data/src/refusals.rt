@@ -1,13 +1,11 @@
 //! Why a request is refused (15.5.4.3); the order and choice of the errors are this project's profile.
 
 ghost use Rattle.std.specs.Prelude.{◌≡◌, true};
-ghost use Rattle.ptpm_data.specs.ManagementId.{row_value, has_action, set_of};
+ghost use Rattle.ptpm_data.specs.ManagementId.{row_value, has_action, set_field, set_of};
 ghost use Rattle.ptpm_data.specs.Refusals.{row_refusal, is_length, is_set_length, is_set_value, is_value, needed_right, unpermitted};
 
 use crate::actions::Actions;
-use crate::management_id::{Layout, Row, Scope};
-use crate::port_state::DelayMechanism;
-use crate::ranges;
+use crate::management_id::{Layout, Row, Scope, SetForm, set_of};
 use crate::request::Request;
 use crate::rights::Rights;
 use crate::set_field::first_i8;
@@ -72,31 +70,27 @@ fn is_length(action: Action, layout: Layout, octets: &[u8]) -> bool
     ensures { result ≡ is_length action (set_of layout) octets.now }
 {
     match action {
-        Action::Set => is_set_length(layout, octets),
+        Action::Set => is_set_length(set_of(layout), octets),
         Action::Command => octets.is_empty(),
         _ => true,
     }
 }
 
 /// No length is right where the id has no SET.
-#[tactic(auto, unfolding(crate::specs::Refusals::is_set_length, crate::specs::ManagementId::set_of))]
-fn is_set_length(layout: Layout, octets: &[u8]) -> bool
-    ensures { result ≡ is_set_length (set_of layout) octets.now }
+#[tactic(auto, unfolding(crate::specs::Refusals::is_set_length))]
+fn is_set_length(form: SetForm, octets: &[u8]) -> bool
+    ensures { result ≡ is_set_length (set_field form) octets.now }
 {
-    match layout {
-        Layout::NullPtpManagement => octets.is_empty(),
-        Layout::UserDescription => is_ptp_text(octets),
-        Layout::UtcProperties => octets.len() == 4,
-        Layout::DefaultDataSet
-        | Layout::CurrentDataSet
-        | Layout::ParentDataSet
-        | Layout::TimePropertiesDataSet
-        | Layout::PortDataSet
-        | Layout::SlaveOnly
-        | Layout::VersionNumber
-        | Layout::EnablePort
-        | Layout::DisablePort => false,
-        _ => octets.len() == 2,
+    match form {
+        SetForm::NoSet => false,
+        SetForm::Empty => octets.is_empty(),
+        SetForm::TextUpTo(_) => is_ptp_text(octets),
+        SetForm::NotBothLeaps => octets.len() == 4,
+        SetForm::AnyOctet
+        | SetForm::FromTo(..)
+        | SetForm::FromToOr(..)
+        | SetForm::MechanismNumber
+        | SetForm::MinusTo(..) => octets.len() == 2,
     }
 }
 
@@ -105,24 +99,23 @@ fn is_value(action: Action, layout: Layout, octets: &[u8]) -> bool
     requires { is_length action (set_of layout) octets.now ≡ true }
     ensures { result ≡ is_value action (set_of layout) octets.now }
 {
-    action != Action::Set || is_set_value(layout, octets)
+    action != Action::Set || is_set_value(set_of(layout), octets)
 }
 
-#[tactic(auto, unfolding(crate::specs::Refusals::is_set_value, crate::specs::Refusals::is_set_length, crate::specs::Ranges::is_description, crate::specs::ManagementId::set_of))]
-fn is_set_value(layout: Layout, octets: &[u8]) -> bool
-    requires { is_set_length (set_of layout) octets.now ≡ true }
-    ensures { result ≡ is_set_value (set_of layout) octets.now }
+#[tactic(auto, unfolding(crate::specs::Refusals::is_set_value, crate::specs::Refusals::is_set_length))]
+fn is_set_value(form: SetForm, octets: &[u8]) -> bool
+    requires { is_set_length (set_field form) octets.now ≡ true }
+    ensures { result ≡ is_set_value (set_field form) octets.now }
 {
-    match layout {
-        Layout::NullPtpManagement | Layout::Priority1 | Layout::Priority2 | Layout::Domain => true,
-        Layout::UserDescription => ranges::is_description(text_of_ptp_text(octets)),
-        Layout::LogAnnounceInterval => ranges::is_announce_interval(first_i8(octets)),
-        Layout::AnnounceReceiptTimeout => ranges::is_receipt_timeout(octets[0]),
-        Layout::LogSyncInterval => ranges::is_sync_interval(first_i8(octets)),
-        Layout::ClockAccuracy => ranges::is_clock_accuracy(octets[0]),
-        Layout::UtcProperties => !(octets[2] & 1 == 1 && octets[2] & 2 == 2),
-        Layout::DelayMechanism => DelayMechanism::from_number(octets[0]).is_some(),
-        Layout::LogMinPdelayReqInterval => ranges::is_pdelay_interval(first_i8(octets)),
-        _ => false,
+    match form {
+        SetForm::NoSet => false,
+        SetForm::Empty => true,
+        SetForm::TextUpTo(_) => form.allows_text(text_of_ptp_text(octets)),
+        SetForm::MinusTo(..) => form.allows_integer(first_i8(octets)),
+        SetForm::NotBothLeaps => !(octets[2] & 1 == 1 && octets[2] & 2 == 2),
+        SetForm::AnyOctet
+        | SetForm::FromTo(..)
+        | SetForm::FromToOr(..)
+        | SetForm::MechanismNumber => form.allows_octet(octets[0]),
     }
 }

@@ -7,9 +7,9 @@ use crate::data_sets::{
     ClockPrecedence, CurrentDataSet, DataSets, DefaultDataSet, ParentDataSet, PortDataSet,
     TimePropertiesDataSet, description_of,
 };
+use crate::management_id::{Layout, set_of};
 use crate::members::Member;
 use crate::port_state::{DelayMechanism, PortState};
-use crate::ranges;
 use arrayvec::ArrayVec;
 use ptpm_codec::{ClockIdentity, PortIdentity};
 use std::fmt;
@@ -155,15 +155,15 @@ impl ClockStart {
     }
 
     /// Whether each member is in its range; if not, the first that is not.
-    #[tactic(auto, unfolding(crate::specs::Start::clock_fault))]
+    #[tactic(auto, unfolding(crate::specs::Start::clock_fault, crate::specs::Ranges::is_description))]
     pub(crate) fn judge(&self) -> Result<(), StartError>
         ensures { result ≡ unless (clock_fault self.now) tt }
     {
         if self.identity == ClockIdentity::EVERY {
             Err(StartError::BadValue(Member::Identity))
-        } else if !ranges::is_description(self.user_description.as_slice()) {
+        } else if !set_of(Layout::UserDescription).allows_text(self.user_description.as_slice()) {
             Err(StartError::BadValue(Member::UserDescription))
-        } else if !ranges::is_clock_accuracy(self.clock_accuracy) {
+        } else if !set_of(Layout::ClockAccuracy).allows_octet(self.clock_accuracy) {
             Err(StartError::BadValue(Member::ClockAccuracy))
         } else if self.leap61 && self.leap59 {
             Err(StartError::BadValue(Member::Leap59))
@@ -245,15 +245,16 @@ impl PortStart {
     pub fn new() -> PortStart
         ensures { result ≡ default_port }
     {
+        let set = PortDataSet::default();
         PortStart {
-            state: 6,
-            log_min_delay_req: 0,
-            peer_delay: 0,
-            log_announce: 1,
-            receipt_timeout: 3,
-            log_sync: 0,
-            delay_mechanism: 1,
-            log_min_pdelay: 0,
+            state: set.state.number(),
+            log_min_delay_req: set.log_min_delay_req,
+            peer_delay: set.peer_delay,
+            log_announce: set.log_announce,
+            receipt_timeout: set.receipt_timeout,
+            log_sync: set.log_sync,
+            delay_mechanism: set.delay_mechanism.number(),
+            log_min_pdelay: set.log_min_pdelay,
         }
     }
 
@@ -263,19 +264,19 @@ impl PortStart {
         ensures { result ≡ port_start_of self.now }
     {
         let state = PortState::from_number(self.state).ok_or(StartError::BadValue(Member::State))?;
-        if !ranges::is_announce_interval(self.log_announce) {
+        if !set_of(Layout::LogAnnounceInterval).allows_integer(self.log_announce) {
             return Err(StartError::BadValue(Member::LogAnnounce));
         }
-        if !ranges::is_receipt_timeout(self.receipt_timeout) {
+        if !set_of(Layout::AnnounceReceiptTimeout).allows_octet(self.receipt_timeout) {
             return Err(StartError::BadValue(Member::ReceiptTimeout));
         }
-        if !ranges::is_sync_interval(self.log_sync) {
+        if !set_of(Layout::LogSyncInterval).allows_integer(self.log_sync) {
             return Err(StartError::BadValue(Member::LogSync));
         }
         let delay_mechanism = DelayMechanism::from_number(self.delay_mechanism).ok_or(
             StartError::BadValue(Member::DelayMechanism),
         )?;
-        if !ranges::is_pdelay_interval(self.log_min_pdelay) {
+        if !set_of(Layout::LogMinPdelayReqInterval).allows_integer(self.log_min_pdelay) {
             return Err(StartError::BadValue(Member::LogMinPdelay));
         }
         Ok(PortDataSet {

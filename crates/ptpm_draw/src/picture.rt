@@ -275,7 +275,7 @@ fn play_event(world: &mut World, line: &EventLine, at: Option<Party>) -> Result<
     ensures names { names_in world.new ≡ names_in world.old }
 {
     let event = &line.event;
-    let is_late = is_late_delivery(world, event);
+    let is_late = world.is_late_delivery(event);
     let before = world.frames();
     let answer = world.step(event);
     if is_out_of_memory(&answer) {
@@ -297,20 +297,6 @@ fn is_out_of_memory(answer: &Result<Took, StepError>) -> bool
     ensures { result ≡ is_out_of_memory answer.now }
 {
     matches!(answer, Err(StepError::OutOfMemory))
-}
-
-/// Whether an event delivers a late frame.
-fn is_late_delivery(world: &World, event: &Event) -> bool
-    ensures { result ≡ is_late_event (running world.now) (placed (names_in world.now) event.now) }
-{
-    match event {
-        Event::Deliver(frame) => world.is_late(*frame),
-        Event::Begin(..)
-        | Event::Send(_)
-        | Event::Resume(..)
-        | Event::Retune(..)
-        | Event::Stranger(..) => false,
-    }
 }
 
 /// How an event is drawn that was answered so.

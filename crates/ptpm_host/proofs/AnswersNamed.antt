@@ -21,8 +21,7 @@ use Rattle.ptpm_manager.specs.ErrorText.{begin_error_text, send_error_text}
 use Rattle.ptpm_host.specs.AnswerNames.{answer_name, name_in, cause_word, reason_word, verdict_word, words_in_capitals}
 use Rattle.ptpm_host.specs.ErrorNames.{error_name}
 use Rattle.ptpm_host.specs.Names.{capitals}
-use Rattle.ptpm_host.specs.Numbers.{cause_number, values_number, verdict_number}
-use Rattle.ptpm_host.specs.SessionNumbers.{begin_number, reason_number, resume_number}
+use Rattle.ptpm_host.specs.Numbers.{begin_number, cause_number, reason_number, resume_number, values_number, verdict_number}
 
 cause_named : (c : DecodeError) → answer_name (cause_number c) ≡ cause_word c
 unfolding name_in

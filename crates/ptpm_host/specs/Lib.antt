@@ -5,10 +5,8 @@ pub mod Reading
 pub mod Told
 pub mod SessionSettings
 pub mod Session
-pub mod SessionNumbers
 pub mod SurveySettings
 pub mod Survey
-pub mod SurveyNumbers
 pub mod Names
 pub mod AnswerNames
 pub mod ErrorNames

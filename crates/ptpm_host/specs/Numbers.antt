@@ -1,5 +1,5 @@
--- The numbers that stand for what a call answers (this project's profile): 0 for a clock that started, below 32 what became
--- of a datagram, from 32 on why a call changed nothing.
+-- The numbers that stand for what a call answers, in one table (this project's profile): 0 where it was done, below 32 what
+-- became of a datagram or of a request, from 32 on why a call changed nothing.
 use Rattle.std.specs.Prelude.{ℕ, ◌+◌}
 use Rattle.ptpm_codec.specs.declared.error.DecodeError.{DecodeError}
 use Rattle.ptpm_codec.specs.declared.error.DecodeError.TheVariants as causes
@@ -13,14 +13,32 @@ use Rattle.ptpm_table.specs.declared.error.TableError.{TableError}
 use Rattle.ptpm_table.specs.declared.error.TableError.TheVariants as tables
 use Rattle.ptpm_agent.specs.declared.verdict.Verdict.{Verdict}
 use Rattle.ptpm_agent.specs.declared.verdict.Verdict.TheVariants as verdicts
+use Rattle.ptpm_manager.specs.declared.error.BeginError.{BeginError}
+use Rattle.ptpm_manager.specs.declared.error.BeginError.TheVariants as begins
+use Rattle.ptpm_manager.specs.declared.error.SendError.{SendError}
+use Rattle.ptpm_manager.specs.declared.error.SendError.TheVariants as errors
+use Rattle.ptpm_manager.specs.declared.receiving.Reason.{Reason}
+use Rattle.ptpm_manager.specs.declared.receiving.Reason.TheVariants as reasons
+use Rattle.ptpm_manager.specs.declared.receiving.Surveyed.{Surveyed}
+use Rattle.ptpm_manager.specs.declared.receiving.Surveyed.TheVariants as surveyed
 use Rattle.ptpm_host.specs.declared.refusal.HandleRefusal.{HandleRefusal}
 use Rattle.ptpm_host.specs.declared.refusal.HandleRefusal.TheVariants as handles
 use Rattle.ptpm_host.specs.declared.refusal.ReadRefusal.{ReadRefusal}
 use Rattle.ptpm_host.specs.declared.refusal.ReadRefusal.TheVariants as reads
 use Rattle.ptpm_host.specs.declared.refusal.StartRefusal.{StartRefusal}
 use Rattle.ptpm_host.specs.declared.refusal.StartRefusal.TheVariants as refusals
+use Rattle.ptpm_host.specs.declared.refusal.ReportRefusal.{ReportRefusal}
+use Rattle.ptpm_host.specs.declared.refusal.ReportRefusal.TheVariants as reports
+use Rattle.ptpm_host.specs.declared.refusal.SendRefusal.{SendRefusal}
+use Rattle.ptpm_host.specs.declared.refusal.SendRefusal.TheVariants as sends
+use Rattle.ptpm_host.specs.declared.refusal.SessionRefusal.{SessionRefusal}
+use Rattle.ptpm_host.specs.declared.refusal.SessionRefusal.TheVariants as sessions
+use Rattle.ptpm_host.specs.declared.session.Heard.{Heard}
+use Rattle.ptpm_host.specs.declared.session.Heard.TheVariants as heard
+use Rattle.ptpm_host.specs.declared.told.Told.{Told}
+use Rattle.ptpm_host.specs.declared.told.Told.TheVariants as told
 
--- ---- what became of a datagram
+-- ---- what became of a datagram or of a request
 
 -- why it holds no management message, 16 to 24
 abbrev pub cause_number : DecodeError → ℕ
@@ -34,6 +52,7 @@ cause_number causes.BadTlvLength = 22
 cause_number causes.BadText = 23
 cause_number causes.OutOfMemory = 24
 
+-- what a clock decides, 1 to 9, or why it is malformed
 abbrev pub verdict_number : Verdict → ℕ
 verdict_number (verdicts.Malformed cause) = cause_number cause
 verdict_number verdicts.OtherDomain = 1
@@ -46,6 +65,34 @@ verdict_number verdicts.DroppedOld = 7
 verdict_number verdicts.DroppedConflict = 8
 verdict_number verdicts.AnsweredUnnumbered = 9
 
+-- why a session or a survey ignores it, 1, 10 to 15 and 16 to 24
+abbrev pub reason_number : Reason → ℕ
+reason_number (reasons.Malformed cause) = cause_number cause
+reason_number reasons.OtherDomain = 1
+reason_number reasons.NotAReply = 10
+reason_number reasons.OtherTarget = 11
+reason_number reasons.OtherSource = 12
+reason_number reasons.NothingAsked = 13
+reason_number reasons.OtherNumber = 14
+reason_number reasons.OtherContent = 15
+
+abbrev pub heard_number : Heard → ℕ
+heard_number heard.Answered = 0
+heard_number (heard.Ignored reason) = reason_number reason
+
+-- what a survey makes of it: 0, 27 or 28 for an answer, or why it is ignored
+abbrev pub surveyed_number : Surveyed → ℕ
+surveyed_number surveyed.Taken = 0
+surveyed_number surveyed.Again = 27
+surveyed_number surveyed.Full = 28
+surveyed_number (surveyed.Ignored reason) = reason_number reason
+
+-- what became of a request, 0, 25 or 26
+abbrev pub told_number : Told → ℕ
+told_number (told.Value size) = 0
+told_number told.Done = 25
+told_number (told.Refused error) = 26
+
 -- ---- why a call changed nothing
 
 -- no clock stands behind a handle
@@ -56,6 +103,14 @@ no_clock = 32
 abbrev pub no_memory : ℕ
 no_memory = 35
 
+-- no session stands behind a handle
+abbrev pub no_session : ℕ
+no_session = 37
+
+-- no survey stands behind a handle
+abbrev pub no_survey : ℕ
+no_survey = 46
+
 abbrev pub handle_number : HandleRefusal → ℕ
 handle_number handles.NoPort = 33
 handle_number handles.NoRoom = 34
@@ -64,6 +119,28 @@ abbrev pub read_number : ReadRefusal → ℕ
 read_number reads.NoPort = 33
 read_number reads.NoRoom = 34
 read_number reads.NotReadable = 36
+
+abbrev pub begin_number : BeginError → ℕ
+begin_number begins.OutOfMemory = no_memory
+begin_number begins.Busy = 38
+begin_number begins.NeedsPort = 39
+begin_number begins.NotPermitted = 40
+begin_number begins.BadValue = 41
+begin_number begins.CountAtMaximum = 42
+
+abbrev pub resume_number : SendError → ℕ
+resume_number errors.Idle = 43
+resume_number errors.GaveUp = 44
+
+abbrev pub send_number : SendRefusal → ℕ
+send_number sends.NoRoom = 34
+send_number (sends.Session refusal) = resume_number refusal
+
+abbrev pub report_number : ReportRefusal → ℕ
+report_number reports.NoRoom = 34
+report_number reports.NoReport = 45
+
+-- ---- why nothing starts, or an observation is refused
 
 -- the place of a member in the order in which a start judges them
 abbrev pub member_number : Member → ℕ
@@ -126,3 +203,10 @@ abbrev pub start_number : StartRefusal → ℕ
 start_number (refusals.Values fault) = values_number fault
 start_number (refusals.Managers fault) = managers_number fault
 start_number refusals.OutOfMemory = no_memory
+
+abbrev pub session_number : SessionRefusal → ℕ
+session_number sessions.NoPorts = 48
+session_number sessions.TooManyPorts = 49
+session_number sessions.ManagerIsEvery = 53
+session_number sessions.TargetIsEvery = 54
+session_number sessions.SameClock = 55

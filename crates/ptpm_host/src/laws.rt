@@ -16,8 +16,7 @@ ghost use Rattle.ptpm_manager.specs.ErrorText.{begin_error_text, send_error_text
 ghost use Rattle.ptpm_host.specs.AnswerNames.{answer_name, reason_word, verdict_word, words_in_capitals};
 ghost use Rattle.ptpm_host.specs.ErrorNames.{error_name};
 ghost use Rattle.ptpm_host.specs.Names.{capitals, id_name};
-ghost use Rattle.ptpm_host.specs.Numbers.{values_number, verdict_number};
-ghost use Rattle.ptpm_host.specs.SessionNumbers.{begin_number, reason_number, resume_number};
+ghost use Rattle.ptpm_host.specs.Numbers.{begin_number, reason_number, resume_number, values_number, verdict_number};
 
 /// The number of a verdict, of a reason and of a refusal has its name, in words of capitals as `ANSWERED_NEW` for `AnsweredNew`;
 /// a malformed datagram the name of its cause. The number of a member has its name behind `BAD_`. A managementErrorId that a

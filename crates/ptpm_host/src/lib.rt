@@ -15,11 +15,9 @@ mod reading;
 mod refusal;
 mod sent;
 mod session;
-mod session_numbers;
 mod session_settings;
 mod settings;
 mod survey;
-mod survey_numbers;
 mod survey_settings;
 mod told;
 
@@ -30,7 +28,9 @@ pub use id_names::{NO_ID, id_name, id_named};
 pub use laws::names_law;
 pub use names::hand_out_name;
 pub use numbers::{
-    NO_CLOCK, NO_MEMORY, handle_number, observe_number, read_number, start_number, verdict_number,
+    NO_CLOCK, NO_MEMORY, NO_SESSION, NO_SURVEY, begin_number, handle_number, heard_number,
+    observe_number, read_number, report_number, resume_number, send_number, session_number,
+    start_number, surveyed_number, told_number, verdict_number,
 };
 pub use observing::{ObservedClock, ObservedPort, left_number};
 pub use refusal::{
@@ -38,14 +38,9 @@ pub use refusal::{
 };
 pub use sent::{Sent, hand_out};
 pub use session::{Heard, HostedSession};
-pub use session_numbers::{
-    NO_SESSION, begin_number, heard_number, report_number, resume_number, send_number,
-    session_number, told_number,
-};
 pub use session_settings::SessionSettings;
 pub use settings::{ClockSettings, ManagerSettings, PortSettings};
 pub use survey::{HostedSurvey, Source, SurveyAnswer};
-pub use survey_numbers::{NO_SURVEY, surveyed_number};
 pub use survey_settings::SurveySettings;
 pub use told::Told;
 

@@ -1,12 +1,22 @@
-//! The numbers that stand for what a call answers.
+//! The numbers that stand for what a call answers, in one table: 0 where it was done, 1 to 31 what became of a datagram or of a
+//! request, from 32 on why a call changed nothing.
+//!
+//! 1 to 9 are verdicts, 10 to 15 why a session or a survey ignores a datagram, 16 to 24 why it holds no message, 25 and 26 what
+//! became of a request, 27 and 28 what a survey makes of an answer; 29 to 31 are free. 32 to 46 are refusals of a call, 48 to 55
+//! of a start, and from 64 on the members that may be out of range, in their order.
 
 ghost use Rattle.std.specs.Prelude.{◌≡◌, ◌≤◌};
-ghost use Rattle.ptpm_host.specs.Numbers.{cause_number, handle_number, managers_number, member_number, observe_number, read_number, start_number, values_number, verdict_number};
+ghost use Rattle.ptpm_host.specs.Numbers.{begin_number, cause_number, handle_number, heard_number, managers_number, member_number, observe_number, read_number, reason_number, report_number, resume_number, send_number, session_number, start_number, surveyed_number, told_number, values_number, verdict_number};
 
-use crate::refusal::{HandleRefusal, ReadRefusal, StartRefusal};
+use crate::refusal::{
+    HandleRefusal, ReadRefusal, ReportRefusal, SendRefusal, SessionRefusal, StartRefusal,
+};
+use crate::session::Heard;
+use crate::told::Told;
 use ptpm_agent::Verdict;
 use ptpm_codec::DecodeError;
 use ptpm_data::{Member, ObservationError, StartError};
+use ptpm_manager::{BeginError, Reason, SendError, Surveyed};
 use ptpm_table::TableError;
 
 /// No clock stands behind a handle.
@@ -14,6 +24,12 @@ pub const NO_CLOCK: u32 = 32;
 
 /// Memory was refused.
 pub const NO_MEMORY: u32 = 35;
+
+/// No session stands behind a handle.
+pub const NO_SESSION: u32 = 37;
+
+/// No survey stands behind a handle.
+pub const NO_SURVEY: u32 = 46;
 
 /// What became of a datagram, 1 to 24. A datagram that is no management message is told apart first: the numbers of the other
 /// verdicts are in the order of the verdicts, so that LLVM makes no table of them.
@@ -37,8 +53,34 @@ pub fn verdict_number(verdict: Verdict) -> u32
     }
 }
 
+/// What a session makes of a datagram: 0 for the answer, or 1 and 10 to 24.
+pub fn heard_number(heard: Heard) -> u32
+    ensures { result ≡ heard_number heard }
+{
+    match heard {
+        Heard::Answered => 0,
+        Heard::Ignored(reason) => reason_number(reason),
+    }
+}
+
+/// Why a datagram is ignored.
+fn reason_number(reason: Reason) -> u32
+    ensures { result ≡ reason_number reason }
+{
+    match reason {
+        Reason::Malformed(cause) => cause_number(cause),
+        Reason::OtherDomain => 1,
+        Reason::NotAReply => 10,
+        Reason::OtherTarget => 11,
+        Reason::OtherSource => 12,
+        Reason::NothingAsked => 13,
+        Reason::OtherNumber => 14,
+        Reason::OtherContent => 15,
+    }
+}
+
 /// Why a datagram holds no management message, 16 to 24.
-pub(crate) fn cause_number(cause: DecodeError) -> u32
+fn cause_number(cause: DecodeError) -> u32
     ensures { result ≡ cause_number cause }
 {
     match cause {
@@ -51,6 +93,29 @@ pub(crate) fn cause_number(cause: DecodeError) -> u32
         DecodeError::BadTlvLength => 22,
         DecodeError::BadText => 23,
         DecodeError::OutOfMemory => 24,
+    }
+}
+
+/// What became of a request, 0, 25 or 26.
+pub fn told_number(told: Told) -> u32
+    ensures { result ≡ told_number told }
+{
+    match told {
+        Told::Value(_) => 0,
+        Told::Done => 25,
+        Told::Refused(_) => 26,
+    }
+}
+
+/// What a survey makes of a datagram: 0, 27 or 28 for an answer, or 1 and 10 to 24.
+pub fn surveyed_number(surveyed: Surveyed) -> u32
+    ensures { result ≡ surveyed_number surveyed }
+{
+    match surveyed {
+        Surveyed::Taken => 0,
+        Surveyed::Again => 27,
+        Surveyed::Full => 28,
+        Surveyed::Ignored(reason) => reason_number(reason),
     }
 }
 
@@ -128,4 +193,63 @@ fn member_number(member: Member) -> u32
     ensures few { result ≤ 37 }
 {
     member as u32
+}
+
+/// Why a request is not begun, 35 or 38 to 42.
+pub fn begin_number(refusal: BeginError) -> u32
+    ensures number { result ≡ begin_number refusal }
+    ensures some { 1 ≤ result }
+{
+    match refusal {
+        BeginError::OutOfMemory => NO_MEMORY,
+        BeginError::Busy => 38,
+        BeginError::NeedsPort => 39,
+        BeginError::NotPermitted => 40,
+        BeginError::BadValue => 41,
+        BeginError::CountAtMaximum => 42,
+    }
+}
+
+/// Why a request has no further attempts, 43 or 44.
+pub fn resume_number(refusal: SendError) -> u32
+    ensures { result ≡ resume_number refusal }
+{
+    match refusal {
+        SendError::Idle => 43,
+        SendError::GaveUp => 44,
+    }
+}
+
+/// Why no request is handed out, 34, 43 or 44.
+pub fn send_number(refusal: SendRefusal) -> u32
+    ensures { result ≡ send_number refusal }
+{
+    match refusal {
+        SendRefusal::NoRoom => 34,
+        SendRefusal::Session(refusal) => resume_number(refusal),
+    }
+}
+
+/// Why an answer is not told, 34 or 45.
+pub fn report_number(refusal: ReportRefusal) -> u32
+    ensures { result ≡ report_number refusal }
+{
+    match refusal {
+        ReportRefusal::NoRoom => 34,
+        ReportRefusal::NoReport => 45,
+    }
+}
+
+/// Why a session does not start, 48, 49 or 53 to 55.
+pub fn session_number(refusal: SessionRefusal) -> u32
+    ensures number { result ≡ session_number refusal }
+    ensures some { 1 ≤ result }
+{
+    match refusal {
+        SessionRefusal::NoPorts => 48,
+        SessionRefusal::TooManyPorts => 49,
+        SessionRefusal::ManagerIsEvery => 53,
+        SessionRefusal::TargetIsEvery => 54,
+        SessionRefusal::SameClock => 55,
+    }
 }

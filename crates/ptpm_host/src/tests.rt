@@ -5,7 +5,7 @@ mod surveys;
 
 use crate::*;
 use ptpm_agent::Verdict;
-use ptpm_manager::BeginError;
+use ptpm_manager::{BeginError, SendError};
 use std::alloc::Global;
 use std::process::Abort;
 
@@ -175,21 +175,21 @@ fn start_refusals(rt: HostRuntime) {
 fn start_after_refused_memory(rt: HostRuntime) {
     let first = refusal(rt.alloc(), &settings(), &[PortSettings::new()], &[MANAGER]);
     let again = refusal(rt.alloc(), &settings(), &[PortSettings::new()], &[MANAGER]);
-    assert!(rt; first == 0 || first == 35 && again == 0);
+    assert!(rt; first == 0 || first == NO_MEMORY && again == 0);
 }
 
 #[test]
 fn start_boxed_after_refused_memory(rt: HostRuntime) {
     let first = boxed_refusal(rt.alloc(), &settings(), &[PortSettings::new()], &[MANAGER]);
     let again = boxed_refusal(rt.alloc(), &settings(), &[PortSettings::new()], &[MANAGER]);
-    assert!(rt; first == 0 || first == 35 && again == 0);
+    assert!(rt; first == 0 || first == NO_MEMORY && again == 0);
 }
 
 /// The number of what a session makes of a datagram.
 fn hears(session: &mut HostedSession, datagram: &[u8]) -> u32 {
     match session.receive(datagram) {
         Ok(heard) => heard_number(heard),
-        Err(_) => 35,
+        Err(_) => NO_MEMORY,
     }
 }
 
@@ -226,7 +226,7 @@ fn requests_of_a_session(rt: HostRuntime) {
     let alloc = rt.alloc();
     match HostedSession::start(alloc, &SESSION) {
         Ok(mut session) => {
-            sends_nothing(&rt, &mut session, 1472, 43);
+            sends_nothing(&rt, &mut session, 1472, resume_number(SendError::Idle));
             assert!(rt; session.resume(1).is_err());
             assert!(rt; begins(&mut session, 0, 0x200b, 0, &[]) == 39);
             assert!(rt; begins(&mut session, 2, 0x2005, 0, &[]) == 40);

@@ -5,21 +5,20 @@ ghost use Rattle.ptpm_table.specs.Numbering.{look_by, same_request};
 ghost use Rattle.ptpm_table.specs.Serial.{serial_of};
 
 use crate::reply_table::Look;
+use crate::serial::{Serial, compare};
 use arrayvec::ArrayVec;
 use ptpm_data::{PortAnswer, Reply, Request, Value, What};
 
-/// What a request of this number is, where `kept` is the latest accepted one, of the number `latest`. The numbers are told
-/// apart as by `compare`, in one step with the answer.
-#[tactic(auto, unfolding(crate::specs::Serial::serial_of))]
+/// What a request of this number is, where `kept` is the latest accepted one, of the number `latest`.
 pub(crate) fn judge(latest: u16, kept: &Request<'_>, number: u16, request: &Request<'_>) -> Look
     ensures look { result ≡ look_by (serial_of latest number) (same_request kept.now request.now) }
     ensures repeat { result ≡ Look.Repeat → latest ≡ number }
 {
-    match number.wrapping_sub(latest) {
-        0 if is_same(kept, request) => Look::Repeat,
-        0 => Look::Conflict,
-        1..=32767 => Look::New,
-        _ => Look::Old,
+    match compare(latest, number) {
+        Serial::Same if is_same(kept, request) => Look::Repeat,
+        Serial::Same => Look::Conflict,
+        Serial::Newer => Look::New,
+        Serial::Older => Look::Old,
     }
 }
 

@@ -14,6 +14,7 @@ pub enum Serial {
 /// Compares a number with the latest by their difference modulo 65,536 (RFC 1982): 1 to 32,767 ahead is newer, all else
 /// but the same number is older, 32,768 ahead too (this project's profile).
 #[tactic(auto, unfolding(crate::specs::Serial::serial_of))]
+#[inline(always)]
 pub fn compare(latest: u16, number: u16) -> Serial
     ensures class { result ≡ serial_of latest number }
     ensures same { result ≡ Serial.Same → latest ≡ number }

@@ -100,12 +100,12 @@ deliver_clock-fine N old new n c port x y h verdict out is change e at room turn
     turn-step N old new c port x y (seen h) verdict out is change turned (Deliver n) sent
     (delivered N (running old) n h e room ∙ ap (λ (end : End). Ok (reaches N (running old) h end)) at)
 
-pub deliver-no_frame : (N : Network) (w : World) (n : ℕ)
-    → IsOf N w
-    → frame_at (held_in w.frames) n ≡ None
-    → IsStep N w w (Deliver n) (Err errors.NoSuchFrame)
+pub deliver-no_frame : (N : Network) (old new : World) (n : ℕ)
+    → IsOf N new
+    → frame_at (held_in old.frames) n ≡ None
+    → IsStep N old new (Deliver n) (Err errors.NoSuchFrame)
 unfolding network_event
-deliver-no_frame N w n is e = step_refused N w w (Deliver n) NoSuchFrame (ap (delivers N (running w)) e) is
+deliver-no_frame N old new n is e = step_refused N old new (Deliver n) NoSuchFrame (ap (delivers N (running old)) e) is
 
 pub deliver-too_many : (N : Network) (old new : World) (n : ℕ) (h : Held)
     → IsOf N new

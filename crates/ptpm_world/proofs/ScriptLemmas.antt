@@ -238,14 +238,20 @@ script-stopped r e all second before after n names start k given goes h =
     (λ inside. ap (λ x. x.end) is.0 ∙ ap (closing names) (p.0 inside), λ other. subst (λ t. TakesFirst t before after) (sym (ap (λ x. x.text) is.0)) (p.1 other)))
     goes h)
 
+-- the lines of all events lead to this last network, and what they print was written
+abbrev pub ArePlayed : NetworkValue → Names → RunningNetwork → RunningNetwork → ℕ → Option (List ℕ)
+    → Option (List ℕ)
+    → List ℕ
+    → Type 0
+ArePlayed n names start last k o0 o1 ys =
+    ((played (described n) names start k 1 (whole_lines ys)).end ≡ Ok last)
+    × (Appends o0 o1 (played (described n) names start k 1 (whole_lines ys)).text
+    × AreInRange names (played (described n) names start k 1 (whole_lines ys)).events)
+
 pub script-prints : (all second o0 o1 o2 o3 o4 : Option (List ℕ)) (n : NetworkValue) (names : Names)
     (start last : RunningNetwork) (k : ℕ)
     → ScriptGoes all second n names start k
-    → IfSome second
-    (λ ys.
-    ((played (described n) names start k 1 (whole_lines ys)).end ≡ Ok last)
-    × (Appends o0 o1 (played (described n) names start k 1 (whole_lines ys)).text
-    × AreInRange names (played (described n) names start k 1 (whole_lines ys)).events))
+    → IfSome second (ArePlayed n names start last k o0 o1)
     → Appends o1 o2 (report_lines names last) → Appends o2 o3 (data_lines names last) → Keeps o3 o4
     → IfSome all (λ input. (text : List ℕ) × (Prints input text × Appends o0 o4 text))
 script-prints all second o0 o1 o2 o3 o4 n names start last k goes h reports sets kept =
@@ -298,11 +304,7 @@ pub script-shows : (all second o0 o1 : Option (List ℕ)) (n : NetworkValue) (na
     → names ≡ names_of n
     → StandsAfter (described n) [] start
     → ScriptGoes all second n names start k
-    → IfSome second
-    (λ ys.
-    ((played (described n) names start k 1 (whole_lines ys)).end ≡ Ok last)
-    × (Appends o0 o1 (played (described n) names start k 1 (whole_lines ys)).text
-    × AreInRange names (played (described n) names start k 1 (whole_lines ys)).events))
+    → IfSome second (ArePlayed n names start last k o0 o1)
     → IfSome all ShowsNetwork
 script-shows all second o0 o1 n names start last k called at goes h =
     both-some all second (λ input ys is p. shows input (whole_lines ys) n names start last k called is.1 is.0 at p.0 p.1.1) goes h

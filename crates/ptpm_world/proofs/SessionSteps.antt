@@ -269,16 +269,17 @@ pub posted_same : (new mid old : List Held) (some links : List (List End)) (from
 posted_same new mid old some links from sent octets origin e m l o =
     e ∙ ap (λ hs. hs ++ posted (peers some from) sent origin) m ∙ ap (λ (ls : List (List End)). old ++ posted (peers ls from) sent origin) l ∙ ap (λ os. old ++ posted (peers links from) os origin) o
 
-pub hear-unchanged : (w : World) (place : ℕ) (x y : RunningSession) (result : Result Took StepError)
+pub hear-unchanged : (w : World) (place : ℕ) (x y : RunningSession) (frames : List Held)
+    (result : Result Took StepError)
     → slice_get w.sessions.items place ≡ Some x
+    → frames ≡ held_in w.frames
     → OnErr result ((y.session ≡ x.session) × (y.reports.items ≡ x.reports.items))
     → OnErr result
-    (running_by w.clocks.items (slice_set w.sessions.items place y) (held_in w.frames)
-    ≡ running w)
-hear-unchanged w place x y (Ok t) at same = tt
-hear-unchanged w place x y (Err e) at same = λ i. record {
+    (running_by w.clocks.items (slice_set w.sessions.items place y) frames ≡ running w)
+hear-unchanged w place x y frames (Ok t) at kept same = tt
+hear-unchanged w place x y frames (Err e) at kept same = λ i. record {
   clock = (running w).clock;
   session = λ s. read-kept session_of w.sessions.items place x y at same.0 s i;
   reports = λ s. read-kept reports_of w.sessions.items place x y at same.1 s i;
-  frames = held_in w.frames;
+  frames = kept i;
 }

@@ -1,5 +1,5 @@
 -- A frame of a world has an end that is there, and belongs to a session that is there.
-use Rattle.ptpm_world.proofs.Common.{◌≡◌, ℕ, ◌<◌, ◌≤◌, List, Option, Some, None, refl, sym, ◌∙◌, ap, subst, length, option_map, ◌==◌, ◌-◌, Bool, true, false, if◌then◌else◌, All, IsSomeAnd, same_Some, slice_get-map, slice_get_within, get_or_from_slice_get, map, slice_get, HasPort, frame_at, Held, Frames, Stored, World, RunningClock, described_end, IsOfSession, IsStoredFrame, IsThere, port_counts, frame_in, held_in, origin_of}
+use Rattle.ptpm_world.proofs.Common.{◌≡◌, ℕ, ◌<◌, ◌≤◌, List, Option, Some, None, refl, sym, ◌∙◌, ap, subst, length, option_map, ◌==◌, ◌-◌, Bool, true, false, if◌then◌else◌, All, same_Some, slice_get-map, slice_get_within, get_or_from_slice_get, map, slice_get, HasPort, frame_at, Held, Frames, Stored, World, RunningClock, described_end, IsOfSession, IsStoredFrame, IsThere, port_counts, frame_in, held_in, origin_of}
 use Rattle.ptpm_network.specs.Network as machine
 use Rattle.ptpm_script.specs.declared.network.End.{End}
 use Rattle.ptpm_script.specs.declared.network.End.TheVariants as ends
@@ -134,31 +134,26 @@ pub record IsAtClock (w : World) (place port : ℕ) (origin : Origin) (h : Held)
   pub there : IsPort w.clocks.items place port
   pub session : IsOfSession (length w.sessions.items) origin
 
-some_and : {X : Type 0} (P : X → Type 0) (o : Option X) (x : X) → IsSomeAnd o P → o ≡ Some x → P x
-some_and P o x h e = subst (λ (u : Option _). IsSomeAnd u P) e h
-
 pub at_clock : (w : World) (n place port : ℕ) (origin : Origin) (h : Held)
-    → IsSomeAnd (frame_at (held_in w.frames) n)
-    (λ x. (x.end ≡ machine.AtPort place port) × (x.origin ≡ origin_of origin))
     → frame_at (held_in w.frames) n ≡ Some h
+    → h.end ≡ machine.AtPort place port
+    → h.origin ≡ origin_of origin
     → IsAtClock w place port origin h
-at_clock w n place port origin h some e =
-    let both = some_and (λ x. (x.end ≡ machine.AtPort place port) × (x.origin ≡ origin_of origin)) (frame_at (held_in w.frames) n) h some e in
+at_clock w n place port origin h e end same =
     let as' = stored_as w.frames (port_counts w.clocks.items) (length w.sessions.items) n h w.frames_there e in
     record {
-      end = both.0;
-      origin_is = both.1;
-      there = port_there w.clocks.items (length w.sessions.items) place port h as' both.0;
-      session = origin_there (port_counts w.clocks.items) (length w.sessions.items) h origin as' both.1;
+      end = end;
+      origin_is = same;
+      there = port_there w.clocks.items (length w.sessions.items) place port h as' end;
+      session = origin_there (port_counts w.clocks.items) (length w.sessions.items) h origin as' same;
     }
 
 pub at_session : (w : World) (n place : ℕ) (h : Held)
-    → IsSomeAnd (frame_at (held_in w.frames) n) (λ x. x.end ≡ machine.AtSession place)
     → frame_at (held_in w.frames) n ≡ Some h
-    → (h.end ≡ machine.AtSession place) × (place < length w.sessions.items)
-at_session w n place h some e =
-    let end = some_and (λ x. x.end ≡ machine.AtSession place) (frame_at (held_in w.frames) n) h some e in
-    (end, session_there (port_counts w.clocks.items) (length w.sessions.items) place h (stored_as w.frames (port_counts w.clocks.items) (length w.sessions.items) n h w.frames_there e) end)
+    → h.end ≡ machine.AtSession place
+    → place < length w.sessions.items
+at_session w n place h e end =
+    session_there (port_counts w.clocks.items) (length w.sessions.items) place h (stored_as w.frames (port_counts w.clocks.items) (length w.sessions.items) n h w.frames_there e) end
 
 -- ---- octets as they were lent
 

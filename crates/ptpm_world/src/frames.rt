@@ -125,14 +125,16 @@ impl Frames {
         })
     }
 
-    /// Asks for the memory of all frames that one event makes, where more may be sent. Where it is refused, the frames stay
+    /// Asks for the memory of all frames that one event makes, unless nothing more is sent. Where it is refused, the frames stay
     /// as they were.
     pub(crate) fn make_room(&mut self) -> Result<(), OutOfMemory>
-        requires { length (held_in self.old) ≤ FRAMES_LIMIT }
         ensures frames { held_in self.new ≡ held_in self.old }
         ensures stored { self.new.stored.items ≡ self.old.stored.items }
-        ensures room { OnOk result (HasRoom 15 self.new) }
+        ensures room { OnOk result (length (held_in self.old) ≤ FRAMES_LIMIT → HasRoom 15 self.new) }
     {
+        if self.is_full() {
+            return Ok(());
+        }
         if self.stored.reserve(FRAMES_OF_AN_EVENT).is_err()
             || self.octets.reserve(OCTETS_OF_AN_EVENT).is_err()
         {

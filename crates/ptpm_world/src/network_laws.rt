@@ -37,13 +37,13 @@ pub fn placed_event(event: &Event)
     ensures { (names : Names) → IsInRange (placed names event.now) }
 {
     match event {
-        Event::Begin(_, ask) => managementid_fits(ask.id),
+        Event::Begin(_, ask) => id_fits(ask.id),
         Event::Stranger(_, _, octets) => octets_fit(octets.as_slice()),
         _ => {}
     }
 }
 
-fn managementid_fits(id: u16)
+fn id_fits(id: u16)
     ensures { id < 2 ^ 16 }
 {
     let _ = id;

@@ -1,9 +1,8 @@
 //! A script: a network file, a line `%%`, and events, one a line.
 
-ghost use Rattle.std.specs.Prelude.{◌≡◌, ◌≢◌, ◌==◌, ◌+◌, ◌++◌, ◌<◌, ◌≤◌, ℕ, Err, IfErr, IfOk, IfSome, List, None, Ok, OnOk, Option, Some, false, find, length, not, string_bytes, true};
-ghost use Rattle.std.specs.Io.KnownBytes.{Appends, Keeps};
+ghost use Rattle.std.specs.Prelude.{◌≡◌, ◌==◌, ◌+◌, ◌++◌, ◌<◌, ◌≤◌, ℕ, Err, IfErr, IfOk, IfSome, List, None, Ok, OnOk, Option, Some, false, find, length, not, string_bytes, true};
+ghost use Rattle.std.specs.Io.KnownBytes.{Keeps};
 ghost use Rattle.std.specs.Option.{option_copied};
-ghost use Rattle.ptpm_network.specs.Events.{IsInRange};
 ghost use Rattle.ptpm_network.specs.Network as machine;
 ghost use Rattle.ptpm_script.specs.EventLine.{reading};
 ghost use Rattle.ptpm_script.specs.NetworkText.{network_of};
@@ -12,12 +11,12 @@ ghost use Rattle.ptpm_script.specs.Words.{space};
 ghost use Rattle.ptpm_world.specs.declared.script_error.ScriptError.TheVariants as faults;
 ghost use Rattle.ptpm_world.specs.Lines.{BothKnown, left_in, whole_lines};
 ghost use Rattle.ptpm_world.specs.MachineTrace.{ShowsNetwork};
-ghost use Rattle.ptpm_world.specs.Placed.{Names, names_in, placed};
+ghost use Rattle.ptpm_world.specs.Placed.{names_in};
 ghost use Rattle.ptpm_world.specs.Running.{IsOf, running};
 ghost use Rattle.ptpm_world.specs.Script.{HasPlayed, HasPrinted, Played, Prints, StandsFor, ends, from_file, in_network, is_divider, is_skipped, network_text, played, read_as, scripted_from};
 ghost use Rattle.ptpm_world.specs.ScriptError.{is_outside};
 ghost use Rattle.ptpm_world.specs.Took.{after};
-ghost use Rattle.ptpm_world.specs.Trace.{event_line, line_feed};
+ghost use Rattle.ptpm_world.specs.Trace.{line_feed};
 
 use crate::lines::Lines;
 use crate::network_laws::placed_event;
@@ -190,37 +189,12 @@ fn play<R: Read + Drop, W: Write>(
             continue;
         }
         let event = event_of(alloc, number, line)?;
-        play_event(world, number, event, is_awaited, out)?;
+        // it is in the range that the laws of networks ask for
+        placed_event(&event);
+        write_event(world, number, &event, out)?;
+        show_written(is_awaited, out)?;
     }
     Ok(())
-}
-
-/// Lets an event happen and writes its line, which is flushed where the next line is awaited.
-fn play_event<W: Write>(
-    world: &mut World,
-    number: u32,
-    event: Event,
-    is_awaited: bool,
-    out: &mut W,
-) -> Result<(), ScriptError>
-    ensures line { (N : machine.Network) → IsOf N world.old
-        → OnOk result (Appends (W.contents out.old) (W.contents out.new)
-        (event_line N (names_in world.old) (running world.old) number event)) }
-    ensures after { (N : machine.Network)
-        → IsOf N world.old
-        → OnOk result
-        (running world.new ≡ after N (running world.old) (placed (names_in world.old) event)) }
-    ensures range { (names : Names) → IsInRange (placed names event) }
-    ensures names { names_in world.new ≡ names_in world.old }
-    ensures network { (N : machine.Network) → IsOf N world.old → IsOf N world.new }
-    ensures fault { IfErr result (λ e. is_outside e ≡ true) }
-    ensures kept { IfErr result
-        (λ e. e ≢ faults.WriteFault → W.contents out.new ≡ W.contents out.old) }
-{
-    // it is in the range that the laws of networks ask for
-    placed_event(&event);
-    write_event(world, number, &event, out)?;
-    show_written(is_awaited, out)
 }
 
 /// Flushes what was written, where the next line is awaited.

@@ -1,6 +1,6 @@
 //! One event after another.
 
-ghost use Rattle.std.specs.Prelude.{◌≡◌, ◌<◌, ◌≤◌, ◌++◌, ℕ, All, IfErr, IfOk, IsSomeAnd, List, OnErr, OnOk, false, flat_map, length, nat_lt};
+ghost use Rattle.std.specs.Prelude.{◌≡◌, ◌<◌, ◌≤◌, ◌++◌, ℕ, All, IfErr, IfOk, List, OnErr, OnOk, false, flat_map, length};
 ghost use Rattle.std.specs.List.{list_any};
 ghost use Rattle.ptpm_codec.specs.Identity.{same_clock, same_identity};
 ghost use Rattle.ptpm_codec.specs.Layout.{source_port_identity};
@@ -12,12 +12,11 @@ ghost use Rattle.ptpm_table.specs.Outbox.{sent};
 ghost use Rattle.ptpm_network.specs.ByManager.{Account, StaysInTime, account_from, account_with, is_late_for};
 ghost use Rattle.ptpm_network.specs.CarriedOut.{carried_by_event, carried_by_events};
 ghost use Rattle.ptpm_network.specs.Events as machine;
-ghost use Rattle.ptpm_network.specs.Events.{frame_at, is_forged};
+ghost use Rattle.ptpm_network.specs.Events.{is_forged};
 ghost use Rattle.ptpm_network.specs.Served.{IsServedSoFar};
 ghost use Rattle.ptpm_network.specs.Stands.{StandsAfter};
 ghost use Rattle.ptpm_network.specs.Machine.{AreInTime, state_after};
 ghost use Rattle.ptpm_network.specs.Network.{Network};
-ghost use Rattle.ptpm_network.specs.Network as net;
 ghost use Rattle.ptpm_network.specs.Replying.{origin_by, posted_by};
 ghost use Rattle.ptpm_world.specs.Stepping.{IsMachineRun, IsMachineStep, IsRun, IsStep, carried_out};
 ghost use Rattle.ptpm_world.specs.declared.took.StepError.{StepError};
@@ -27,7 +26,7 @@ ghost use Rattle.ptpm_world.specs.Running.{AreLinks, IsOf, IsOfSession, IsStored
 ghost use Rattle.ptpm_manager.specs.Receiving.{left_by, received_of};
 ghost use Rattle.ptpm_world.specs.Took.{heard, reports_in};
 
-use crate::frames::{FRAMES_LIMIT, Frames, Origin};
+use crate::frames::{Frames, Origin};
 use crate::network_laws::placed_event;
 use crate::took::{StepError, Took};
 use crate::world::{RunningClock, RunningSession, World};
@@ -215,37 +214,8 @@ impl World {
         Ok(Took::Fine)
     }
 
-    /// A frame reaches its end.
+    /// A frame reaches its end. Room for what a clock then sends is asked for before the frame is lent.
     fn deliver(&mut self, number: u32) -> Result<Took, StepError>
-        ensures step { (N : Network)
-            → IsOf N self.old
-            → IsStep N self.old self.new (machine.Deliver number) result }
-        ensures unchanged { OnErr result (running self.new ≡ running self.old) }
-        ensures names { names_in self.new ≡ names_in self.old }
-    {
-        let Some(frame) = self.frames.get(number) else {
-            return Err(StepError::NoSuchFrame);
-        };
-        let (end, origin) = (frame.end(), frame.origin());
-        if self.frames.is_full() {
-            return Err(StepError::FramesAtMaximum);
-        }
-        match end {
-            End::Clock(place, port) => self.deliver_at_clock(number, place, port, origin),
-            End::Session(place) => self.deliver_at_session(number, place),
-        }
-    }
-
-    fn deliver_at_clock(
-        &mut self,
-        number: u32,
-        place: u8,
-        port: u16,
-        origin: Origin,
-    ) -> Result<Took, StepError>
-        requires frame { IsSomeAnd (frame_at (held_in self.old.frames) number)
-            (λ h. (h.end ≡ net.AtPort place port) × (h.origin ≡ origin_of origin)) }
-        requires room { nat_lt FRAMES_LIMIT (length (held_in self.old.frames)) ≡ false }
         ensures step { (N : Network)
             → IsOf N self.old
             → IsStep N self.old self.new (machine.Deliver number) result }
@@ -254,36 +224,29 @@ impl World {
     {
         self.frames.make_room()?;
         let Some(frame) = self.frames.get(number) else {
-            unreachable!()
+            return Err(StepError::NoSuchFrame);
         };
-        let clock = &mut self.clocks[place as usize];
-        let verdict = clock.take_turn(port, frame.octets(), &mut self.outbox);
-        post_turn(
-            &mut self.frames,
-            self.links.as_slice(),
-            place,
-            port,
-            origin,
-            verdict,
-            self.outbox.entries(),
-        );
-        Ok(Took::AtClock(verdict))
-    }
-
-    fn deliver_at_session(&mut self, number: u32, place: u16) -> Result<Took, StepError>
-        requires frame { IsSomeAnd (frame_at (held_in self.old.frames) number)
-            (λ h. h.end ≡ net.AtSession place) }
-        requires room { nat_lt FRAMES_LIMIT (length (held_in self.old.frames)) ≡ false }
-        ensures step { (N : Network)
-            → IsOf N self.old
-            → IsStep N self.old self.new (machine.Deliver number) result }
-        ensures unchanged { OnErr result (running self.new ≡ running self.old) }
-        ensures names { names_in self.new ≡ names_in self.old }
-    {
-        let Some(frame) = self.frames.get(number) else {
-            unreachable!()
-        };
-        self.sessions[place as usize].hear(frame.octets())
+        if self.frames.is_full() {
+            return Err(StepError::FramesAtMaximum);
+        }
+        match frame.end() {
+            End::Clock(place, port) => {
+                let origin = frame.origin();
+                let clock = &mut self.clocks[place as usize];
+                let verdict = clock.take_turn(port, frame.octets(), &mut self.outbox);
+                post_turn(
+                    &mut self.frames,
+                    self.links.as_slice(),
+                    place,
+                    port,
+                    origin,
+                    verdict,
+                    self.outbox.entries(),
+                );
+                Ok(Took::AtClock(verdict))
+            }
+            End::Session(place) => self.sessions[place as usize].hear(frame.octets()),
+        }
     }
 
     /// A stranger's datagram comes in at a port of a clock.

@@ -10,7 +10,7 @@ ghost use Rattle.ptpm_world.specs.Running.{IsOf, running};
 ghost use Rattle.ptpm_world.specs.declared.script_error.ScriptError.TheVariants as faults;
 ghost use Rattle.ptpm_world.specs.ScriptError.{is_outside};
 ghost use Rattle.ptpm_world.specs.Took.{after};
-ghost use Rattle.ptpm_world.specs.Trace.{answer_text, clock_lines, data_line, data_lines, data_set_lines, event_line, event_text, frames_text, is_late_event, is_out_of_memory, outcome_text, port_line, report_line, report_lines};
+ghost use Rattle.ptpm_world.specs.Trace.{answer_text, clock_lines, data_line, data_lines, data_set_lines, event_line, event_text, frames_text, is_out_of_memory, outcome_text, port_line, report_line, report_lines};
 
 use crate::script_error::ScriptError;
 use crate::took::{StepError, Took};
@@ -49,7 +49,7 @@ pub(crate) fn write_event<W: Write>(
     ensures kept { IfErr result
         (λ e. e ≢ faults.WriteFault → W.contents out.new ≡ W.contents out.old) }
 {
-    let is_late = is_late_delivery(world, event);
+    let is_late = world.is_late_delivery(event);
     let before = world.frames();
     let took = world.step(event);
     if is_out_of_memory(&took) {
@@ -106,20 +106,6 @@ fn is_out_of_memory(took: &Result<Took, StepError>) -> bool
     ensures { result ≡ is_out_of_memory took.now }
 {
     matches!(took, Err(StepError::OutOfMemory))
-}
-
-/// Whether an event delivers a late frame.
-fn is_late_delivery(world: &World, event: &Event) -> bool
-    ensures { result ≡ is_late_event (running world.now) (placed (names_in world.now) event.now) }
-{
-    match event {
-        Event::Deliver(frame) => world.is_late(*frame),
-        Event::Begin(..)
-        | Event::Send(_)
-        | Event::Resume(..)
-        | Event::Retune(..)
-        | Event::Stranger(..) => false,
-    }
 }
 
 /// What an event did or why it was refused, and whether it is the delivery of a late frame.

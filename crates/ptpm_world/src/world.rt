@@ -8,7 +8,7 @@ use ptpm_agent::Agent;
 use ptpm_codec::{Buffer, PortIdentity};
 use ptpm_data::DataSets;
 use ptpm_manager::{Report, Session};
-use ptpm_script::{Name, NetworkLink};
+use ptpm_script::{Event, Name, NetworkLink};
 use ptpm_table::{BoundTable, Outbox};
 
 /// A clock at its place.
@@ -47,18 +47,18 @@ pub struct World {
 impl World {
     ghost use Rattle.ptpm_agent.specs.Once.{applied_once, initial_history};
     ghost use Rattle.ptpm_manager.specs.declared.report.Report.{Report};
-    ghost use Rattle.ptpm_manager.specs.Session.{count_limit};
     ghost use Rattle.ptpm_network.specs.Events as machine;
     ghost use Rattle.ptpm_network.specs.Events.{frame_at};
     ghost use Rattle.ptpm_network.specs.Stands.{StandsAfter};
     ghost use Rattle.ptpm_network.specs.Machine.{is_late_delivery, run, state_after};
     ghost use Rattle.ptpm_network.specs.Network.{Network};
     ghost use Rattle.ptpm_network.specs.RunningNetwork.{held};
-    ghost use Rattle.ptpm_network.specs.State.{copies_at, initial_state, is_late_at};
+    ghost use Rattle.ptpm_network.specs.State.{copies_at, initial_state};
     ghost use Rattle.ptpm_network.specs.Worth.{IsWorth};
-    ghost use Rattle.ptpm_world.specs.Frames.{frame_value};
-    ghost use Rattle.ptpm_world.specs.Placed.{names_in, place_in};
-    ghost use Rattle.ptpm_world.specs.Running.{IsOf, is_late_held, reports_named, running, sets_named};
+    ghost use Rattle.ptpm_world.specs.Frames.{frame_value, origin_of};
+    ghost use Rattle.ptpm_world.specs.Placed.{names_in, place_in, placed};
+    ghost use Rattle.ptpm_world.specs.Running.{IsOf, IsOfSession, is_late_held, is_late_of, reports_named, running, sets_named};
+    ghost use Rattle.ptpm_world.specs.Trace.{is_late_event};
 
     /// A clock's data sets as they stand, if there is a clock of this name. Where no frame was delivered late, they are those that
     /// it started with after the requests accepted among the copies that came in at it, each applied once, in order of first
@@ -136,31 +136,42 @@ impl World {
         ensures there { IsTrue result
             → ((1 ≤ number) × (number ≤ length (running self.now).frames)) }
     {
-        self.is_overtaken(number)
-    }
-
-    /// Whether it belongs to a request that its session has left behind.
-    fn is_overtaken(&self, number: u32) -> bool
-        ensures { result
-            ≡ is_late_held (running self.now) (frame_at (running self.now).frames number) }
-    {
-        let Some(frame) = self.frames.get(number) else {
-            return false;
-        };
-        match frame.origin() {
-            Origin::Request { session, index } => self.is_left_behind(session, index),
-            Origin::Reply { session, index } => self.is_left_behind(session, index),
-            Origin::Other => false,
+        match self.frames.get(number) {
+            Some(frame) => self.is_left_behind(frame.origin()),
+            None => false,
         }
     }
 
-    /// Whether a session has begun over 32,768 requests since this one.
-    fn is_left_behind(&self, session: u16, index: u64) -> bool
-        requires session { session < length self.now.sessions.items }
-        requires index { index ≤ count_limit }
-        ensures { result ≡ is_late_at index ((running self.now).session session).issued }
+    /// Whether an event delivers a late frame.
+    pub fn is_late_delivery(&self, event: &Event) -> bool
+        ensures late { result
+            ≡ is_late_event (running self.now) (placed (names_in self.now) event.now) }
+        ensures late_after { (N : Network) (past : List machine.Event)
+            → StandsAfter N past (running self.now)
+            → result
+            ≡ is_late_delivery (state_after N past) (placed (names_in self.now) event.now) }
     {
-        self.sessions[session as usize].session.issued() > index + 32_768
+        match event {
+            Event::Deliver(frame) => self.is_late(*frame),
+            Event::Begin(..)
+            | Event::Send(_)
+            | Event::Resume(..)
+            | Event::Retune(..)
+            | Event::Stranger(..) => false,
+        }
+    }
+
+    /// Whether the session that something belongs to has begun over 32,768 requests since.
+    fn is_left_behind(&self, origin: Origin) -> bool
+        requires { IsOfSession (length self.now.sessions.items) origin }
+        ensures { result ≡ is_late_of (running self.now) (origin_of origin) }
+    {
+        match origin {
+            Origin::Request { session, index } | Origin::Reply { session, index } => {
+                self.sessions[session as usize].session.issued() > index + 32_768
+            }
+            Origin::Other => false,
+        }
     }
 
     /// The place of a clock's name.

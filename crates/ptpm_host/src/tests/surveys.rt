@@ -38,7 +38,7 @@ const SURVEY: SurveySettings = SurveySettings {
 fn surveys(survey: &mut HostedSurvey, datagram: &[u8]) -> u32 {
     match survey.receive(datagram) {
         Ok(surveyed) => surveyed_number(surveyed),
-        Err(_) => 35,
+        Err(_) => NO_MEMORY,
     }
 }
 
@@ -107,7 +107,7 @@ fn survey_after_refused_memory(rt: HostRuntime) {
             for datagram in [REPLY.as_slice(), NO_SUCH_ID.as_slice()] {
                 let count = survey.count();
                 let first = surveys(&mut survey, datagram);
-                if first == 35 {
+                if first == NO_MEMORY {
                     assert!(rt; survey.count() == count);
                     assert!(rt; surveys(&mut survey, datagram) == 0);
                 } else {

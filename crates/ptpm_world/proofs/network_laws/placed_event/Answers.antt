@@ -4,7 +4,7 @@ use Rattle.ptpm_script.specs.declared.event.Event.{Event}
 use Rattle.ptpm_world.proofs.network_laws.placed_event.Goals as goal
 
 pub returns-in-Begin : goal.returns-in-Begin
-returns-in-Begin c = λ names. subst (λ (e : Event). IsInRange (placed names e)) (sym c.in-Begin.is) c.managementid_fits.ensures
+returns-in-Begin c = λ names. subst (λ (e : Event). IsInRange (placed names e)) (sym c.in-Begin.is) c.id_fits.ensures
 
 pub returns-in-Stranger : goal.returns-in-Stranger
 returns-in-Stranger c = λ names.

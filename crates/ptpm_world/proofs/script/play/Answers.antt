@@ -1,7 +1,7 @@
 use Rattle.ptpm_world.proofs.Common.{◌≡◌, ◌+◌, List, [], ◌∷◌, arith, refl, rules, true, false, None, Some, Ok, Err, ap, subst, sym, ◌∙◌, Appends, reading, left_in, names_in, placed, running, is_outside, is_skipped, after, event_line, behind, read_as}
 use Rattle.ptpm_world.specs.declared.whole_script.EventLine.{EventLine}
 use Rattle.ptpm_world.proofs.FaultLemmas.{outside}
-use Rattle.ptpm_world.proofs.Playing.{at-event, at-line, at-size, event-read, event-skip, keeps-nil, next-is, none-is, others_played, play-guards, playing, plays-end, plays-err, plays-first, plays-more}
+use Rattle.ptpm_world.proofs.Playing.{appends-keeps, at-event, at-line, at-size, event-read, event-skip, keeps-nil, next-is, none-is, others_played, play-guards, playing, plays-end, plays-err, plays-first, plays-more}
 use Rattle.ptpm_world.proofs.script.play.Goals as goal
 
 pub loop-number-init : goal.loop-number-init
@@ -41,7 +41,7 @@ loop-number-preserved g c =
     let event = c.in_ok-event.event in
     let added : List EventLine = record { number = n; event = event } ∷ [] in
     let written = g.W.Write.contents c.loop-number.out in
-    let more = g.W.Write.contents c.play_event.new.out in
+    let more = g.W.Write.contents c.show_written-2.new.out in
     let counted = c.in_ok-read.ensures.count (ap Ok c.if-branch.true) in
     let take : is_skipped line ≡ false = ap is_skipped (sym c.in_ok-line.ensures.text) ∙ sym c.is_skipped.ensures ∙ c.if-is_skipped.false in
     let read = sym (ap (λ l. read_as n (reading l)) c.in_ok-line.ensures.text) ∙ c.in_ok-event.ensures.event in
@@ -49,15 +49,17 @@ loop-number-preserved g c =
     c.if-branch.true c.in_ok-read.ensures.whole counted c.in_ok-line.ensures.none in
     record {
       few = omega (arith, h.few, counted);
-      names = c.in_ok-play_event.ensures.names ∙ h.names;
-      network = λ N is. c.in_ok-play_event.ensures.network N (h.network N is);
+      names = c.in_ok-write_event.ensures.names ∙ h.names;
+      network = λ N is. c.in_ok-write_event.ensures.network N (h.network N is);
       plays = λ N is.
-          let went : running c.play_event.new.world ≡ after N now (placed called event) =
-          subst (λ m. running c.play_event.new.world ≡ after N now (placed m event)) h.names (c.in_ok-play_event.ensures.after N (h.network N is)) in
+          let went : running c.write_event.new.world ≡ after N now (placed called event) =
+          subst (λ m. running c.write_event.new.world ≡ after N now (placed m event)) h.names (c.in_ok-write_event.ensures.after N (h.network N is)) in
           plays-more added (event_line N called now n event) (Ok (Some event)) (h.plays N is) came
           (event-read n line (Ok (Some event)) take read) (λ others. ap (λ r. behind added (event_line N called now n event) (others r)) (sym went))
-          (c.in_ok-play_event.ensures.range called, tt)
-          (subst (λ m. Appends written more (event_line N m now n event)) h.names (c.in_ok-play_event.ensures.line N (h.network N is)))
+          (c.placed_event.ensures called, tt)
+          (appends-keeps written (g.W.Write.contents c.write_event.new.out) more (event_line N called now n event)
+          (subst (λ m. Appends written (g.W.Write.contents c.write_event.new.out) (event_line N m now n event)) h.names (c.in_ok-write_event.ensures.line N (h.network N is)))
+          c.show_written-2.ensures.kept)
           (ap (λ k. k + 1) counted);
     }
 
@@ -106,12 +108,17 @@ returns-in_err-event-clause-played g c = λ N is.
     plays-err c.from_residual-in_err-event.result c.in_err-event.field-0.0 _ (g.W.Write.contents c.loop-number.out) c.from_residual-in_err-event.ensures.1 (c.loop-number.invariant.plays N is) (λ other. refl)
     (λ inside. at-event N (names_in c.args.world.now) (running c.loop-number.world) p e came (event-read p line (Err e) take (ap (λ l. read_as p (reading l)) (sym c.in_ok-line.ensures.text) ∙ c.in_err-event.ensures.fault inside)))
 
-pub returns-in_err-play_event-clause-played : goal.returns-in_err-play_event-clause-played
-returns-in_err-play_event-clause-played g c = λ N is.
-    plays-err c.from_residual-in_err-play_event.result c.in_err-play_event.field-0.0 _ (g.W.Write.contents c.play_event.new.out) c.from_residual-in_err-play_event.ensures.1 (c.loop-number.invariant.plays N is) c.in_err-play_event.ensures.kept
-    (λ inside. outside c.in_err-play_event.field-0.0 c.in_err-play_event.ensures.fault inside)
+pub returns-in_err-write_event-clause-played : goal.returns-in_err-write_event-clause-played
+returns-in_err-write_event-clause-played g c = λ N is.
+    plays-err c.from_residual-in_err-write_event.result c.in_err-write_event.field-0.0 _ (g.W.Write.contents c.write_event.new.out) c.from_residual-in_err-write_event.ensures.1 (c.loop-number.invariant.plays N is) c.in_err-write_event.ensures.kept
+    (λ inside. outside c.in_err-write_event.field-0.0 c.in_err-write_event.ensures.fault inside)
 
 pub returns-in_err-show_written-clause-played : goal.returns-in_err-show_written-clause-played
 returns-in_err-show_written-clause-played g c = λ N is.
     plays-err c.from_residual-in_err-show_written.result c.in_err-show_written.field-0.0 _ (g.W.Write.contents c.show_written.new.out) c.from_residual-in_err-show_written.ensures.1 (c.loop-number.invariant.plays N is) (λ other. absurd (other c.in_err-show_written.ensures.fault))
     (λ inside. outside c.in_err-show_written.field-0.0 (ap is_outside c.in_err-show_written.ensures.fault) inside)
+
+pub returns-in_err-show_written-2-clause-played : goal.returns-in_err-show_written-2-clause-played
+returns-in_err-show_written-2-clause-played g c = λ N is.
+    plays-err c.from_residual-in_err-show_written-2.result c.in_err-show_written-2.field-0.0 _ (g.W.Write.contents c.show_written-2.new.out) c.from_residual-in_err-show_written-2.ensures.1 (c.loop-number.invariant.plays N is) (λ other. absurd (other c.in_err-show_written-2.ensures.fault))
+    (λ inside. outside c.in_err-show_written-2.field-0.0 (ap is_outside c.in_err-show_written-2.ensures.fault) inside)

@@ -13,7 +13,7 @@ returns-clause-line g c = λ N is.
     let made = c.frames-after.ensures.count ∙ ap (λ (x : RunningNetwork). length x.frames) both.1 in
     let same : event_text c.args.number (verb_of c.args.event.now) c.step-took.result c.is_late_delivery-is_late.result c.frames-before.result c.frames-after.result
     ≡ event_line N (names_in c.args.world.now) r c.args.number c.args.event.now =
-    λ i. event_text c.args.number (verb_of c.args.event.now) (both.0 i) (c.is_late_delivery-is_late.ensures i) (c.frames-before.ensures.count i) (made i) in
+    λ i. event_text c.args.number (verb_of c.args.event.now) (both.0 i) (c.is_late_delivery-is_late.ensures.late i) (c.frames-before.ensures.count i) (made i) in
     subst (Appends (g.W.Write.contents c.args.out.now) (g.W.Write.contents c.write_line.new.out)) same c.in_ok-write_line.ensures
 
 pub returns-clause-after : goal.returns-clause-after
