@@ -42,6 +42,9 @@ impl DataSets {
         requires { buffer.old.items ≡ [] }
         ensures { buffer.new.items ≡ clock_field_of layout self.now }
     {
+        if let Some(octet) = self.octet_of_clock(layout) {
+            return put_octet(buffer, octet);
+        }
         match layout {
             Layout::UserDescription => put_ptp_text(buffer, self.description.as_slice()),
             Layout::DefaultDataSet => put_default_data_set(
@@ -52,13 +55,31 @@ impl DataSets {
             Layout::CurrentDataSet => put_current_data_set(buffer, &self.current),
             Layout::ParentDataSet => put_parent_data_set(buffer, &self.parent),
             Layout::TimePropertiesDataSet => put_time_properties_data_set(buffer, &self.time),
-            Layout::Priority1 => put_octet(buffer, self.default.precedence.priority1),
-            Layout::Priority2 => put_octet(buffer, self.default.precedence.priority2),
-            Layout::Domain => put_octet(buffer, self.default.domain),
-            Layout::SlaveOnly => put_octet(buffer, 0),
-            Layout::ClockAccuracy => put_octet(buffer, self.default.precedence.accuracy),
             Layout::UtcProperties => put_utc_properties(buffer, &self.time),
             _ => {}
+        }
+    }
+
+    /// The octet that an id shows of one member of the clock. None for every other id.
+    #[inline(always)]
+    #[tactic(auto, unfolding(crate::specs::DataField::clock_field_of))]
+    pub(crate) fn octet_of_clock(&self, layout: Layout) -> Option<u8>
+        ensures shown { IfSome result (λ octet. clock_field_of layout self.now
+            ≡ octet_data_field octet) }
+        ensures other { IfNone result ((layout ≢ Layout.Priority1)
+            × ((layout ≢ Layout.Priority2)
+            × ((layout ≢ Layout.Domain)
+            × ((layout ≢ Layout.SlaveOnly)
+            × (layout ≢ Layout.ClockAccuracy))))) }
+    {
+        let precedence = &self.default.precedence;
+        match layout {
+            Layout::Priority1 => Some(precedence.priority1),
+            Layout::Priority2 => Some(precedence.priority2),
+            Layout::Domain => Some(self.default.domain),
+            Layout::SlaveOnly => Some(0),
+            Layout::ClockAccuracy => Some(precedence.accuracy),
+            _ => None,
         }
     }
 

@@ -9,11 +9,11 @@ use crate::request::Request;
 use ptpm_codec::{Action, ErrorId, PortIdentity};
 
 impl DataSets {
-    ghost use Rattle.std.specs.Prelude.{◌≡◌, Some, map, [], ◌∷◌, ◌-◌, ◌<◌, ◌≤◌, ◌+◌, length};
+    ghost use Rattle.std.specs.Prelude.{◌≡◌, None, Some, map, [], ◌∷◌, ◌-◌, ◌<◌, ◌≤◌, ◌+◌, length};
     ghost use Rattle.std.specs.List.{range_with_len};
     ghost use Rattle.ptpm_data.specs.ManagementId.{row_value, row_of};
     ghost use Rattle.ptpm_data.specs.Changes.{IsTargetPort};
-    ghost use Rattle.ptpm_data.specs.DataField.{data_field_of};
+    ghost use Rattle.ptpm_data.specs.DataField.{clock_field_of, data_field_of};
     ghost use Rattle.ptpm_data.specs.Reply.{Value};
     ghost use Rattle.ptpm_data.specs.Replies.{answer, named_ports, outcome, reply_of};
 
@@ -89,13 +89,37 @@ impl DataSets {
             answers.new }
     {
         match port {
-            None => {
-                let mut value = Value::new();
-                self.put_clock_field(layout, &mut value);
-                answers.take_value(None, value.as_slice());
-            }
+            None => self.put_clock_value(layout, answers),
             Some(number) => self.put_port_value(layout, number, answers),
         }
+    }
+
+    /// Puts the dataField of an id of the clock: what shows one member right by its size.
+    #[inline(always)]
+    fn put_clock_value<A: Answers>(&self, layout: Layout, answers: &mut A)
+        requires { A.count answers.old < A.most }
+        ensures { A.taken answers.old
+            (record { port = None; outcome = Value (clock_field_of layout self.now) } ∷ [])
+            answers.new }
+    {
+        if let Some(octet) = self.octet_of_clock(layout) {
+            answers.take_value(None, &[octet, 0]);
+        } else {
+            self.put_larger_value(layout, answers);
+        }
+    }
+
+    /// Puts the dataField of an id of the clock. It is never inlined: the room of a dataField is in its frame.
+    #[inline(never)]
+    fn put_larger_value<A: Answers>(&self, layout: Layout, answers: &mut A)
+        requires { A.count answers.old < A.most }
+        ensures { A.taken answers.old
+            (record { port = None; outcome = Value (clock_field_of layout self.now) } ∷ [])
+            answers.new }
+    {
+        let mut value = Value::new();
+        self.put_clock_field(layout, &mut value);
+        answers.take_value(None, value.as_slice());
     }
 
     /// Puts the dataField of an id of a port.
