@@ -12,8 +12,8 @@ use crate::kept::copy_what;
 use arrayvec::ArrayVec;
 use ptpm_codec::{Action, ClockIdentity, ErrorId, OutOfMemory, PortIdentity};
 use ptpm_data::{PortAnswer, Reply, Request, Rights, What};
+use std::alloc::Global;
 use std::process::Abort;
-use std::test::Fail;
 
 const K: ClockIdentity = ClockIdentity([0xaa, 0xbb, 0xcc, 0xff, 0xfe, 0xdd, 0xee, 0x01]);
 
@@ -43,29 +43,30 @@ fn serial_numbers(rt: HostRuntime) {
         (0, 32768, Serial::Older),
     ];
     for (latest, number, class) in rows {
-        assert_eq!(rt; compare(latest, number), class, "{number} after {latest}");
+        assert!(rt; compare(latest, number) == class, "{number} after {latest}");
     }
 }
 
+/// Why no plain table is made of these managers, and no bound one.
+fn plain_fault(alloc: Global, managers: &[(PortIdentity, Rights)]) -> Option<TableError> {
+    PlainTable::new(alloc, K, managers).err()
+}
+
+fn bound_fault(managers: &[(PortIdentity, Rights)]) -> Option<TableError> {
+    BoundTable::new(K, managers).err()
+}
+
 #[test]
-fn table_constructors(rt: HostRuntime) -> Result<(), Fail> {
+fn table_constructors(rt: HostRuntime) -> Result<(), TableError> {
     let all = Rights(7);
     let none = Rights(0);
     let many = [(M, all); 17];
     let twice = [(M, all), (M2, all), (M, none)];
     let two = [(M, all), (M2, none)];
-    let refused = PlainTable::new(rt.alloc(), K, &many).map(|_| ());
-    assert_eq!(rt; refused, Err(TableError::TooMany));
-    let refused = PlainTable::new(rt.alloc(), K, &twice).map(|_| ());
-    assert_eq!(rt; refused, Err(TableError::Twice));
-    assert_eq!(rt;
-        BoundTable::new(K, &many).map(|_| ()),
-        Err(TableError::TooMany)
-    );
-    assert_eq!(rt;
-        BoundTable::new(K, &twice).map(|_| ()),
-        Err(TableError::Twice)
-    );
+    assert!(rt; plain_fault(rt.alloc(), &many) == Some(TableError::TooMany));
+    assert!(rt; plain_fault(rt.alloc(), &twice) == Some(TableError::Twice));
+    assert!(rt; bound_fault(&many) == Some(TableError::TooMany));
+    assert!(rt; bound_fault(&twice) == Some(TableError::Twice));
     knows_its_managers(&rt, &PlainTable::new(rt.alloc(), K, &two)?);
     knows_its_managers(&rt, &BoundTable::new(K, &two)?);
     Ok(())
@@ -73,28 +74,29 @@ fn table_constructors(rt: HostRuntime) -> Result<(), Fail> {
 
 /// A table of two slots is as any other; one slot is too few for two managers.
 #[test]
-fn tables_of_other_sizes(rt: HostRuntime) -> Result<(), Fail> {
+fn tables_of_other_sizes(rt: HostRuntime) -> Result<(), TableError> {
     let two = [(M, Rights(7)), (M2, Rights(0))];
     let twice = [(M, Rights(7)), (M, Rights(0))];
-    let refused = SlotTable::<1>::of_size(K, &two).map(|_| ());
-    assert_eq!(rt; refused, Err(TableError::TooMany));
-    let refused = SlotTable::<2>::of_size(K, &twice).map(|_| ());
-    assert_eq!(rt; refused, Err(TableError::Twice));
+    assert!(rt; SlotTable::<1>::of_size(K, &two).err() == Some(TableError::TooMany));
+    assert!(rt; SlotTable::<2>::of_size(K, &twice).err() == Some(TableError::Twice));
     knows_its_managers(&rt, &SlotTable::<2>::of_size(K, &two)?);
     set_log_sync_interval(&rt, &mut SlotTable::<2>::of_size(K, &two)?);
     values_of_eight_ports(&rt, &mut SlotTable::<1>::of_size(K, &two[..1])?);
     Ok(())
 }
 
+/// What a request is to a table. No clause of `look` goes along, so that the tests stay quick to prove.
+fn seen<T: ReplyTable>(table: &T, who: &PortIdentity, number: u16, request: &Request<'_>) -> Look {
+    table.look(who, number, request)
+}
+
 fn knows_its_managers<T: ReplyTable>(rt: &impl Abort, table: &T) {
-    assert_eq!(rt; table.clock(), K);
+    assert!(rt; table.clock() == K);
     assert!(rt; table.knows(&M) && table.knows(&M2) && !table.knows(&STRANGER));
-    assert_eq!(rt; table.rights(&M), Rights(7));
-    assert_eq!(rt; table.rights(&M2), Rights(0));
-    assert_eq!(rt; table.rights(&STRANGER), Rights(0));
-    let request = get(PRIORITY1);
-    assert_eq!(rt; table.look(&M, 7, &request), Look::New);
-    assert_eq!(rt; table.look(&STRANGER, 7, &request), Look::Unknown);
+    assert!(rt; table.rights(&M) == Rights(7));
+    assert!(rt; table.rights(&M2) == Rights(0) && table.rights(&STRANGER) == Rights(0));
+    assert!(rt; seen(table, &M, 7, &get(PRIORITY1)) == Look::New);
+    assert!(rt; seen(table, &STRANGER, 7, &get(PRIORITY1)) == Look::Unknown);
 }
 
 /// GET of PRIORITY1, and of PRIORITY2.
@@ -112,50 +114,57 @@ const ENABLE_PORT: u16 = 0x200d;
 
 const DISABLE_PORT: u16 = 0x200e;
 
+/// The managers of the tables in which replies are kept.
+const TWO: [(PortIdentity, Rights); 2] = [(M, Rights(7)), (M2, Rights(7))];
+
+fn plain(alloc: Global) -> Result<PlainTable, TableError> {
+    PlainTable::new(alloc, K, &TWO)
+}
+
+fn bound() -> Result<BoundTable, TableError> {
+    BoundTable::new(K, &TWO)
+}
+
 #[test]
-fn kept_replies_of_a_plain_table(rt: HostRuntime) -> Result<(), Fail> {
-    let two = [(M, Rights(7)), (M2, Rights(7))];
-    set_log_sync_interval(&rt, &mut PlainTable::new(rt.alloc(), K, &two)?);
-    repeat_gets_kept_reply(&rt, &mut PlainTable::new(rt.alloc(), K, &two)?);
-    same_number_other_request(&rt, &mut PlainTable::new(rt.alloc(), K, &two)?);
-    numbers_wrap(&rt, &mut PlainTable::new(rt.alloc(), K, &two)?);
-    half_the_number_space(&rt, &mut PlainTable::new(rt.alloc(), K, &two)?);
+fn kept_replies_of_a_plain_table(rt: HostRuntime) -> Result<(), TableError> {
+    set_log_sync_interval(&rt, &mut plain(rt.alloc())?);
+    repeat_gets_kept_reply(&rt, &mut plain(rt.alloc())?);
+    same_number_other_request(&rt, &mut plain(rt.alloc())?);
+    numbers_wrap(&rt, &mut plain(rt.alloc())?);
+    half_the_number_space(&rt, &mut plain(rt.alloc())?);
     Ok(())
 }
 
 #[test]
-fn kept_replies_of_a_bound_table(rt: HostRuntime) -> Result<(), Fail> {
-    let two = [(M, Rights(7)), (M2, Rights(7))];
-    set_log_sync_interval(&rt, &mut BoundTable::new(K, &two)?);
-    repeat_gets_kept_reply(&rt, &mut BoundTable::new(K, &two)?);
-    same_number_other_request(&rt, &mut BoundTable::new(K, &two)?);
-    numbers_wrap(&rt, &mut BoundTable::new(K, &two)?);
-    half_the_number_space(&rt, &mut BoundTable::new(K, &two)?);
+fn kept_replies_of_a_bound_table(rt: HostRuntime) -> Result<(), TableError> {
+    set_log_sync_interval(&rt, &mut bound()?);
+    repeat_gets_kept_reply(&rt, &mut bound()?);
+    same_number_other_request(&rt, &mut bound()?);
+    numbers_wrap(&rt, &mut bound()?);
+    half_the_number_space(&rt, &mut bound()?);
     Ok(())
 }
 
 #[test]
-fn replies_of_ports_in_a_plain_table(rt: HostRuntime) -> Result<(), Fail> {
-    let two = [(M, Rights(7)), (M2, Rights(7))];
-    port_disabled(&rt, &mut PlainTable::new(rt.alloc(), K, &two)?);
-    refused_get_of_two_ports(&rt, &mut PlainTable::new(rt.alloc(), K, &two)?);
-    refused_command_of_two_ports(&rt, &mut PlainTable::new(rt.alloc(), K, &two)?);
-    values_of_two_ports(&rt, &mut PlainTable::new(rt.alloc(), K, &two)?);
-    values_of_eight_ports(&rt, &mut PlainTable::new(rt.alloc(), K, &two)?);
-    longest_user_description(&rt, &mut PlainTable::new(rt.alloc(), K, &two)?);
+fn replies_of_ports_in_a_plain_table(rt: HostRuntime) -> Result<(), TableError> {
+    port_disabled(&rt, &mut plain(rt.alloc())?);
+    refused_get_of_two_ports(&rt, &mut plain(rt.alloc())?);
+    refused_command_of_two_ports(&rt, &mut plain(rt.alloc())?);
+    values_of_two_ports(&rt, &mut plain(rt.alloc())?);
+    values_of_eight_ports(&rt, &mut plain(rt.alloc())?);
+    longest_user_description(&rt, &mut plain(rt.alloc())?);
     Ok(())
 }
 
 #[test]
-fn replies_of_ports_in_a_bound_table(rt: HostRuntime) -> Result<(), Fail> {
-    let two = [(M, Rights(7)), (M2, Rights(7))];
-    port_disabled(&rt, &mut BoundTable::new(K, &two)?);
-    refused_get_of_two_ports(&rt, &mut BoundTable::new(K, &two)?);
-    refused_command_of_two_ports(&rt, &mut BoundTable::new(K, &two)?);
-    values_of_two_ports(&rt, &mut BoundTable::new(K, &two)?);
-    values_of_eight_ports(&rt, &mut BoundTable::new(K, &two)?);
-    longest_user_description(&rt, &mut BoundTable::new(K, &two)?);
-    replaced_reply(&rt, &mut BoundTable::new(K, &two)?);
+fn replies_of_ports_in_a_bound_table(rt: HostRuntime) -> Result<(), TableError> {
+    port_disabled(&rt, &mut bound()?);
+    refused_get_of_two_ports(&rt, &mut bound()?);
+    refused_command_of_two_ports(&rt, &mut bound()?);
+    values_of_two_ports(&rt, &mut bound()?);
+    values_of_eight_ports(&rt, &mut bound()?);
+    longest_user_description(&rt, &mut bound()?);
+    replaced_reply(&rt, &mut bound()?);
     Ok(())
 }
 
@@ -182,15 +191,28 @@ fn set_log_sync_interval<T: ReplyTable>(rt: &impl Abort, table: &mut T) {
         "0d12003800000000000000000000000000000000aabbccfffeddee0100010008047f00112233445566770001000002000001000420\
         0bff00";
     assert_resent(rt, table, &heard(&M, 0, 8, 1, 1), &long, sent);
-    assert_eq!(rt; table.look(&M, 7, &too_long), Look::Old);
+    assert!(rt; seen(table, &M, 7, &too_long) == Look::Old);
+}
+
+/// M's GET of PRIORITY1 is accepted under a number, and answered by 128.
+#[tactic(auto, unfolding(ptpm_data::specs::ManagementId::row_of))]
+fn accept_get<T: ReplyTable>(rt: &impl Abort, table: &mut T, number: u16) {
+    let asked = get(PRIORITY1);
+    let reply = reply_to(&asked, None, value(&[0x80, 0]));
+    accept(rt, table, &M, number, &asked, &reply);
+}
+
+/// M's GET of PRIORITY1, number 7, is answered by 128.
+fn assert_get_resent<T: ReplyTable>(rt: &impl Abort, table: &T) {
+    let sent =
+        "0d12003800000000000000000000000000000000aabbccfffeddee0100010007047f00112233445566770001000002000001000420058000";
+    assert_resent(rt, table, &heard(&M, 0, 7, 1, 1), &get(PRIORITY1), sent);
 }
 
 /// A reply that was kept stays what it was, whatever is kept of others, and whatever comes under its number.
 #[tactic(auto, unfolding(ptpm_data::specs::ManagementId::row_of))]
 fn repeat_gets_kept_reply<T: ReplyTable>(rt: &impl Abort, table: &mut T) {
-    let asked = get(PRIORITY1);
-    let first = reply_to(&asked, None, value(&[0x80, 0]));
-    accept(rt, table, &M, 7, &asked, &first);
+    accept_get(rt, table, 7);
     let changed = Request {
         action: Action::Set,
         id: PRIORITY1,
@@ -199,40 +221,27 @@ fn repeat_gets_kept_reply<T: ReplyTable>(rt: &impl Abort, table: &mut T) {
     };
     let second = reply_to(&changed, None, value(&[0x64, 0]));
     accept(rt, table, &M2, 1, &changed, &second);
-    let sent =
-        "0d12003800000000000000000000000000000000aabbccfffeddee0100010007047f00112233445566770001000002000001000420058000";
-    assert_resent(rt, table, &heard(&M, 0, 7, 1, 1), &asked, sent);
+    assert_get_resent(rt, table);
 }
 
 /// Another request under the number of the latest changes nothing.
-#[tactic(auto, unfolding(ptpm_data::specs::ManagementId::row_of))]
 fn same_number_other_request<T: ReplyTable>(rt: &impl Abort, table: &mut T) {
-    let asked = get(PRIORITY1);
-    let reply = reply_to(&asked, None, value(&[0x80, 0]));
-    accept(rt, table, &M, 7, &asked, &reply);
-    assert_eq!(rt; table.look(&M, 7, &get(PRIORITY2)), Look::Conflict);
-    let sent =
-        "0d12003800000000000000000000000000000000aabbccfffeddee0100010007047f00112233445566770001000002000001000420058000";
-    assert_resent(rt, table, &heard(&M, 0, 7, 1, 1), &asked, sent);
+    accept_get(rt, table, 7);
+    assert!(rt; seen(table, &M, 7, &get(PRIORITY2)) == Look::Conflict);
+    assert_get_resent(rt, table);
 }
 
-#[tactic(auto, unfolding(ptpm_data::specs::ManagementId::row_of))]
 fn numbers_wrap<T: ReplyTable>(rt: &impl Abort, table: &mut T) {
-    let asked = get(PRIORITY1);
-    let reply = reply_to(&asked, None, value(&[0x80, 0]));
-    accept(rt, table, &M, 65535, &asked, &reply);
-    accept(rt, table, &M, 0, &asked, &reply);
-    assert_eq!(rt; table.look(&M, 65535, &asked), Look::Old);
+    accept_get(rt, table, 65535);
+    accept_get(rt, table, 0);
+    assert!(rt; seen(table, &M, 65535, &get(PRIORITY1)) == Look::Old);
 }
 
-#[tactic(auto, unfolding(ptpm_data::specs::ManagementId::row_of))]
 fn half_the_number_space<T: ReplyTable>(rt: &impl Abort, table: &mut T) {
-    let asked = get(PRIORITY1);
-    let reply = reply_to(&asked, None, value(&[0x80, 0]));
-    accept(rt, table, &M, 32769, &asked, &reply);
-    assert_eq!(rt; table.look(&M, 1, &asked), Look::Old);
-    accept(rt, table, &M, 32770, &asked, &reply);
-    assert_eq!(rt; table.look(&M, 1, &asked), Look::New);
+    accept_get(rt, table, 32769);
+    assert!(rt; seen(table, &M, 1, &get(PRIORITY1)) == Look::Old);
+    accept_get(rt, table, 32770);
+    assert!(rt; seen(table, &M, 1, &get(PRIORITY1)) == Look::New);
 }
 
 /// A COMMAND is answered by an ACKNOWLEDGE with an empty dataField, from the port that it names, wherever its copy came in.
@@ -343,15 +352,13 @@ fn values_of_eight_ports<T: ReplyTable>(rt: &impl Abort, table: &mut T) {
     ];
     let reply = reply_of_ports(&asked, 8, &value(&members));
     accept(rt, table, &M, 7, &asked, &reply);
-    let mut out = Outbox::new();
-    assert_eq!(rt; table.look(&M, 7, &asked), Look::Repeat);
-    table.resend(&heard(&M, 0, 7, 1, 1), 1, &mut out);
-    assert_eq!(rt; out.entries().len(), 8);
+    let out = resent(rt, table, &heard(&M, 0, 7, 1, 1), 1, &asked);
+    assert!(rt; out.entries().len() == 8);
     let before = "0d12005000000000000000000000000000000000aabbccfffeddee01";
     let after =
         "0007047f00112233445566770001000002000001001c2004aabbccfffeddee01000106000000000000000000010300010002";
     for (place, entry) in out.entries().iter().enumerate() {
-        assert_eq!(rt; entry.0, 1);
+        assert!(rt; entry.0 == 1);
         match rest_after(entry.1.as_slice(), before.as_bytes()) {
             Some([0, port, rest @ ..]) => {
                 assert!(rt;
@@ -378,14 +385,12 @@ fn longest_user_description<T: ReplyTable>(rt: &impl Abort, table: &mut T) {
     };
     let reply = reply_to(&asked, None, value(&text));
     accept(rt, table, &M, 7, &asked, &reply);
-    let mut out = Outbox::new();
-    assert_eq!(rt; table.look(&M, 7, &asked), Look::Repeat);
-    table.resend(&heard(&M, 0, 7, 1, 1), 2, &mut out);
-    assert_eq!(rt; out.entries().len(), 1);
+    let out = resent(rt, table, &heard(&M, 0, 7, 1, 1), 2, &asked);
+    assert!(rt; out.entries().len() == 1);
     let before =
         "0d1200b800000000000000000000000000000000aabbccfffeddee0100020007047f0011223344556677000100000200000100840002";
     for entry in out.entries() {
-        assert_eq!(rt; entry.0, 2);
+        assert!(rt; entry.0 == 2);
         match rest_after(entry.1.as_slice(), before.as_bytes()) {
             Some(rest) => assert!(rt; rest == &text[..]),
             None => assert!(rt; false, "not {before}"),
@@ -396,15 +401,7 @@ fn longest_user_description<T: ReplyTable>(rt: &impl Abort, table: &mut T) {
 /// What cannot be refused stands in place of what was kept.
 #[tactic(auto, unfolding(ptpm_data::specs::ManagementId::row_of))]
 fn replaced_reply<T: SureTable>(rt: &impl Abort, table: &mut T) {
-    let asked = get(PRIORITY1);
-    accept(
-        rt,
-        table,
-        &M,
-        7,
-        &asked,
-        &reply_to(&asked, None, value(&[0x80, 0])),
-    );
+    accept_get(rt, table, 7);
     let changed = Request {
         action: Action::Set,
         id: PRIORITY1,
@@ -414,14 +411,14 @@ fn replaced_reply<T: SureTable>(rt: &impl Abort, table: &mut T) {
     let reply = reply_to(&changed, None, value(&[0x64, 0]));
     assert!(rt; table.knows(&M));
     table.replace(&M, 8, &changed, &reply);
-    assert_eq!(rt; table.look(&M, 7, &asked), Look::Old);
+    assert!(rt; seen(table, &M, 7, &get(PRIORITY1)) == Look::Old);
     let sent =
         "0d12003800000000000000000000000000000000aabbccfffeddee0100010008047f00112233445566770001000002000001000420056400";
     assert_resent(rt, table, &heard(&M, 0, 8, 1, 1), &changed, sent);
 }
 
 #[test]
-fn plain_table_new_succeeds_with_ample_memory(rt: HostRuntime) -> Result<(), Fail> {
+fn plain_table_new_succeeds_with_ample_memory(rt: HostRuntime) -> Result<(), TableError> {
     let two = [(M, Rights(7)), (M2, Rights(0))];
     knows_its_managers(&rt, &PlainTable::new(rt.alloc(), K, &two)?);
     Ok(())
@@ -429,13 +426,13 @@ fn plain_table_new_succeeds_with_ample_memory(rt: HostRuntime) -> Result<(), Fai
 
 #[test]
 #[tactic(auto, unfolding(ptpm_data::specs::ManagementId::row_of))]
-fn keep_succeeds_with_ample_memory(rt: HostRuntime) -> Result<(), Fail> {
+fn keep_succeeds_with_ample_memory(rt: HostRuntime) -> Result<(), TableError> {
     let mut table = PlainTable::new(rt.alloc(), K, &[(M, Rights(7))])?;
     let asked = get(PRIORITY1);
     let reply = reply_to(&asked, None, value(&[0x80, 0]));
     assert!(rt; table.knows(&M));
-    assert_eq!(rt; table.keep(&M, 7, &asked, &reply), Ok(()));
-    assert_eq!(rt; table.look(&M, 7, &asked), Look::Repeat);
+    assert!(rt; table.keep(&M, 7, &asked, &reply) == Ok(()));
+    assert!(rt; seen(&table, &M, 7, &asked) == Look::Repeat);
     Ok(())
 }
 
@@ -443,15 +440,11 @@ fn keep_succeeds_with_ample_memory(rt: HostRuntime) -> Result<(), Fail> {
 /// answers as it would have.
 #[test]
 #[tactic(auto, unfolding(ptpm_data::specs::ManagementId::row_of))]
-fn refused_memory_changes_nothing(rt: HostRuntime) -> Result<(), Fail> {
+fn refused_memory_changes_nothing(rt: HostRuntime) -> Result<(), TableError> {
     let two = [(M, Rights(7)), (M2, Rights(0))];
-    let made = PlainTable::new(rt.alloc(), K, &two);
-    if let Err(error) = &made {
-        assert_eq!(rt; *error, TableError::OutOfMemory);
-    }
-    let mut table = match made {
-        Ok(table) => table,
-        Err(_) => PlainTable::new(rt.alloc(), K, &two)?,
+    let mut table = match PlainTable::new(rt.alloc(), K, &two) {
+        Err(TableError::OutOfMemory) => PlainTable::new(rt.alloc(), K, &two)?,
+        made => made?,
     };
     knows_its_managers(&rt, &table);
     let long = set_port(&[0xff, 0]);
@@ -476,16 +469,16 @@ fn keep_twice_at_most<T: ReplyTable>(
     requires fits { FitsRequest request.now reply.now }
 {
     assert!(rt; table.knows(who));
-    let before = table.look(who, number.wrapping_sub(1), request);
-    assert_eq!(rt; table.look(who, number, request), Look::New);
+    let before = seen(table, who, number.wrapping_sub(1), request);
+    assert!(rt; seen(table, who, number, request) == Look::New);
     if let Err(error) = table.keep(who, number, request, reply) {
-        assert_eq!(rt; error, OutOfMemory);
-        assert_eq!(rt; table.look(who, number, request), Look::New);
-        assert_eq!(rt; table.look(who, number.wrapping_sub(1), request), before);
+        assert!(rt; error == OutOfMemory);
+        assert!(rt; seen(table, who, number, request) == Look::New);
+        assert!(rt; seen(table, who, number.wrapping_sub(1), request) == before);
         assert!(rt; table.knows(who));
-        assert_eq!(rt; table.keep(who, number, request, reply), Ok(()));
+        assert!(rt; table.keep(who, number, request, reply) == Ok(()));
     }
-    assert_eq!(rt; table.look(who, number, request), Look::Repeat);
+    assert!(rt; seen(table, who, number, request) == Look::Repeat);
 }
 
 /// Keeps a new request of a manager, as an agent does.
@@ -502,7 +495,7 @@ fn accept<T: ReplyTable>(
     requires fits { FitsRequest request.now reply.now }
 {
     assert!(rt; table.knows(who));
-    assert_eq!(rt; table.look(who, number, request), Look::New);
+    assert!(rt; seen(table, who, number, request) == Look::New);
     assert!(rt; table.keep(who, number, request, reply).is_ok());
 }
 
@@ -517,6 +510,20 @@ fn assert_resent<T: ReplyTable>(
     assert_each_resent(rt, table, heard, 1, request, &[sent]);
 }
 
+/// What is sent at a port for a copy that is a repeat.
+fn resent<T: ReplyTable>(
+    rt: &impl Abort,
+    table: &T,
+    heard: &Heard,
+    ingress: u16,
+    request: &Request<'_>,
+) -> Outbox {
+    assert!(rt; table.look(&heard.source, heard.number, request) == Look::Repeat);
+    let mut out = Outbox::new();
+    table.resend(heard, ingress, &mut out);
+    out
+}
+
 /// Checks what is sent at a port for a copy that is a repeat.
 fn assert_each_resent<T: ReplyTable>(
     rt: &impl Abort,
@@ -526,16 +533,11 @@ fn assert_each_resent<T: ReplyTable>(
     request: &Request<'_>,
     sent: &[&str],
 ) {
-    assert_eq!(rt;
-        table.look(&heard.source, heard.number, request),
-        Look::Repeat
-    );
-    let mut out = Outbox::new();
-    table.resend(heard, ingress, &mut out);
+    let out = resent(rt, table, heard, ingress, request);
     let entries = out.entries();
-    assert_eq!(rt; entries.len(), sent.len());
+    assert!(rt; entries.len() == sent.len());
     for (entry, digits) in entries.iter().zip(sent.iter()) {
-        assert_eq!(rt; entry.0, ingress);
+        assert!(rt; entry.0 == ingress);
         assert!(rt;
             is_hex(entry.1.as_slice(), digits.as_bytes()),
             "not {digits}"
