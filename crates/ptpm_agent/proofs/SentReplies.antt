@@ -17,23 +17,23 @@ use Rattle.ptpm_table.specs.Rendering.{rendered, reply_message}
 use Rattle.ptpm_table.specs.Sending.{HasSent, IsSentReply, empty_reply, last_of_port, message_like}
 
 -- a sender of the answers of this clock, action and id, as it is made
-pub record IsSenderOf (s : Sender) (me : ClockIdentity) (heard : Heard) (action : Action) (id ingress : ℕ) (held : List (ℕ × List ℕ)) : Type 0 where
-  pub held_is : s.out.now ≡ held
+pub record IsSenderOf {O : Type 0} (shown : O → List (ℕ × List ℕ)) (s : Sender O) (me : ClockIdentity) (heard : Heard) (action : Action) (id ingress : ℕ) (held : List (ℕ × List ℕ)) : Type 0 where
+  pub held_is : shown s.out.now ≡ held
   pub ingress_is : s.ingress ≡ ingress
   pub id_is : s.id ≡ id
   pub envelope_is : s.envelope ≡ envelope_of (empty_reply me heard action id ingress) action id
   pub fits : Fits (empty_reply me heard action id ingress)
 
-pub sender_as_made : (s : Sender) (me mine : ClockIdentity) (heard : Heard) (action : Action) (id ingress : ℕ)
+pub sender_as_made : {O : Type 0} (shown : O → List (ℕ × List ℕ)) (s : Sender O) (me mine : ClockIdentity) (heard : Heard) (action : Action) (id ingress : ℕ)
     (held before : List (ℕ × List ℕ))
-    → s.out.now ≡ before → before ≡ held
+    → shown s.out.now ≡ before → before ≡ held
     → s.ingress ≡ ingress → s.id ≡ id
     → s.envelope ≡ envelope_of (empty_reply mine heard action id ingress) action id
     → Fits (empty_reply mine heard action id ingress)
     → mine ≡ me
-    → IsSenderOf s me heard action id ingress held
-sender_as_made s me mine heard action id ingress held before out same at named envelope fits own =
-    subst (λ (m : ClockIdentity). IsSenderOf s m heard action id ingress held) own
+    → IsSenderOf shown s me heard action id ingress held
+sender_as_made shown s me mine heard action id ingress held before out same at named envelope fits own =
+    subst (λ (m : ClockIdentity). IsSenderOf shown s m heard action id ingress held) own
     (record { held_is = out ∙ same; ingress_is = at; id_is = named; envelope_is = envelope; fits = fits })
 
 messages_rendered : (me : ClockIdentity) (heard : Heard) (r : ReplyValue) (ingress : ℕ)
@@ -42,26 +42,26 @@ messages_rendered : (me : ClockIdentity) (heard : Heard) (r : ReplyValue) (ingre
 unfolding rendered
 messages_rendered me heard r ingress = refl
 
-sent_by : (s t : Sender) (me : ClockIdentity) (heard : Heard) (r : ReplyValue) (ingress : ℕ)
+sent_by : {O : Type 0} (shown : O → List (ℕ × List ℕ)) (grown : O → O → Type 0) (s t : Sender O) (me : ClockIdentity) (heard : Heard) (r : ReplyValue) (ingress : ℕ)
     (held : List (ℕ × List ℕ))
-    → IsSenderOf s me heard r.action r.id ingress held
-    → HasSent s r.answers t
-    → t.out.now ≡ held ++ rendered me heard r ingress
-sent_by s t me heard r ingress held is sent =
+    → IsSenderOf shown s me heard r.action r.id ingress held
+    → HasSent shown grown s r.answers t
+    → shown t.out.now ≡ held ++ rendered me heard r ingress
+sent_by shown grown s t me heard r ingress held is sent =
     let v = empty_reply me heard r.action r.id ingress in
     sent.messages v r.action is.fits (is.envelope_is ∙ ap (λ (id : ℕ). envelope_of v r.action id) (sym is.id_is))
     ∙ (λ i. is.held_is i ++ map (λ a. (is.ingress_is i, canonical (message_like v r.action (is.id_is i) (is.ingress_is i) a))) r.answers)
     ∙ ap (λ ms. held ++ ms) (messages_rendered me heard r ingress)
 
 -- a reply of this action and id, by its answers
-pub sent_rendered : (s t : Sender) (me : ClockIdentity) (heard : Heard) (r : ReplyValue)
+pub sent_rendered : {O : Type 0} (shown : O → List (ℕ × List ℕ)) (grown : O → O → Type 0) (s t : Sender O) (me : ClockIdentity) (heard : Heard) (r : ReplyValue)
     (action : Action) (id ingress : ℕ) (held : List (ℕ × List ℕ))
     → record { action = action; id = id; answers = r.answers } ≡ r
-    → IsSenderOf s me heard action id ingress held
-    → HasSent s r.answers t
-    → t.out.now ≡ held ++ rendered me heard r ingress
-sent_rendered s t me heard r action id ingress held parts is sent =
-    sent_by s t me heard (record { action = action; id = id; answers = r.answers }) ingress held is sent
+    → IsSenderOf shown s me heard action id ingress held
+    → HasSent shown grown s r.answers t
+    → shown t.out.now ≡ held ++ rendered me heard r ingress
+sent_rendered shown grown s t me heard r action id ingress held parts is sent =
+    sent_by shown grown s t me heard (record { action = action; id = id; answers = r.answers }) ingress held is sent
     ∙ ap (λ (x : ReplyValue). held ++ rendered me heard x ingress) parts
 
 -- ---- what is kept
@@ -90,42 +90,42 @@ count_some : (b : Bool) (count : ℕ) → FitsCount b count → 1 ≤ count
 count_some true count fits = fits.0
 count_some false count fits = omega (arith, fits)
 
-all_fit : (s t : Sender) (me : ClockIdentity) (heard : Heard) (r : ReplyValue) (ingress : ℕ)
+all_fit : {O : Type 0} (shown : O → List (ℕ × List ℕ)) (grown : O → O → Type 0) (s t : Sender O) (me : ClockIdentity) (heard : Heard) (r : ReplyValue) (ingress : ℕ)
     (held : List (ℕ × List ℕ))
-    → IsSenderOf s me heard r.action r.id ingress held
-    → HasSent s r.answers t
+    → IsSenderOf shown s me heard r.action r.id ingress held
+    → HasSent shown grown s r.answers t
     → All (λ a. Fits (reply_message me heard r.action r.id ingress a)) r.answers
-all_fit s t me heard r ingress held is sent =
+all_fit shown grown s t me heard r ingress held is sent =
     let v = empty_reply me heard r.action r.id ingress in
     subst (λ (p : ℕ × ℕ). All (λ a. Fits (message_like v r.action p.0 p.1 a)) r.answers) (λ i. (is.id_is i, is.ingress_is i))
     (sent.fits v r.action is.fits (subst (λ (id : ℕ). id < 2 ^ 16) (sym is.id_is) is.fits.body))
 
 -- the last answer that was sent is of a port where the id is
-pub sent_of_port : (q : RequestValue) (s t : Sender) (r : ReplyValue)
+pub sent_of_port : {O : Type 0} (shown : O → List (ℕ × List ℕ)) (grown : O → O → Type 0) (q : RequestValue) (s t : Sender O) (r : ReplyValue)
     → FitsRequest q r
-    → HasSent s r.answers t
+    → HasSent shown grown s r.answers t
     → t.of_port ≡ is_of_port q.id
-sent_of_port q s t r fits sent =
+sent_of_port shown grown q s t r fits sent =
     sent.of_port ∙ some_of_port (is_of_port q.id) q.action s.of_port r.answers (count_some (is_of_port q.id) (length r.answers) fits.count) fits.answers
 
-pub sent_reply : (q : RequestValue) (s t : Sender) (me : ClockIdentity) (heard : Heard) (r : ReplyValue)
+pub sent_reply : {O : Type 0} (shown : O → List (ℕ × List ℕ)) (grown : O → O → Type 0) (q : RequestValue) (s t : Sender O) (me : ClockIdentity) (heard : Heard) (r : ReplyValue)
     (ingress : ℕ) (of_port : Bool) (messages : List (ℕ × List ℕ))
-    → IsSenderOf s me heard (reply_action q.action) q.id ingress []
+    → IsSenderOf shown s me heard (reply_action q.action) q.id ingress []
     → FitsRequest q r
-    → HasSent s r.answers t
+    → HasSent shown grown s r.answers t
     → of_port ≡ t.of_port
-    → messages ≡ t.out.now
+    → messages ≡ shown t.out.now
     → IsSentReply me heard q.action q.id of_port messages r
-sent_reply q s t me heard r ingress of_port messages is fits sent port held =
-    let own : of_port ≡ is_of_port q.id = port ∙ sent_of_port q s t r fits sent in
-    let named : IsSenderOf s me heard r.action r.id ingress [] =
-    subst (λ (p : Action × ℕ). IsSenderOf s me heard p.0 p.1 ingress []) (λ i. (sym fits.action i, sym fits.id i)) is in
+sent_reply shown grown q s t me heard r ingress of_port messages is fits sent port held =
+    let own : of_port ≡ is_of_port q.id = port ∙ sent_of_port shown grown q s t r fits sent in
+    let named : IsSenderOf shown s me heard r.action r.id ingress [] =
+    subst (λ (p : Action × ℕ). IsSenderOf shown s me heard p.0 p.1 ingress []) (λ i. (sym fits.action i, sym fits.id i)) is in
     record {
       ingress = ingress;
       action_is = fits.action;
       id_is = fits.id;
       count = subst (λ (b : Bool). FitsCount b (length r.answers)) (sym own) fits.count;
       answers = subst (λ (b : Bool). All (FitsAnswer b q.action) r.answers) (sym own) fits.answers;
-      fits = all_fit s t me heard r ingress [] named sent;
-      messages_are = held ∙ sent_by s t me heard r ingress [] named sent;
+      fits = all_fit shown grown s t me heard r ingress [] named sent;
+      messages_are = held ∙ sent_by shown grown s t me heard r ingress [] named sent;
     }

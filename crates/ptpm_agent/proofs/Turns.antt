@@ -14,7 +14,7 @@ use Rattle.ptpm_codec.specs.Refusal.{refusal}
 use Rattle.ptpm_data.specs.Members.{DataSetsValue}
 use Rattle.ptpm_table.specs.declared.reply_table.Look.{Look}
 use Rattle.ptpm_table.specs.declared.reply_table.Look.TheVariants as looks
-use Rattle.ptpm_table.specs.Entries.{is_known}
+use Rattle.ptpm_table.specs.Entries.{Entry, is_known}
 use Rattle.ptpm_table.specs.Numbering.{look_at}
 use Rattle.ptpm_table.specs.Rendering.{rendered}
 use Rattle.ptpm_agent.specs.Agent.{IsTurned}
@@ -22,7 +22,7 @@ use Rattle.ptpm_agent.specs.declared.verdict.Verdict.{Verdict}
 use Rattle.ptpm_agent.specs.declared.verdict.Verdict.TheVariants as verdicts
 use Rattle.ptpm_agent.specs.Forwarding.{egress_ports, forwarded, forwarded_by, is_forwarded, with_less_hop}
 use Rattle.ptpm_agent.specs.Addressing.{heard_of, is_addressed, is_for_this_clock, is_numbered, is_own, is_request, names_port, request_of}
-use Rattle.ptpm_agent.specs.Turn.{Clock, State, carried_out, is_accepted_repeat, is_in_domain, is_repeat, judged, look, new_reply, next_by, reply_by, reply_messages, turn, turn_by, verdict_at, verdict_of}
+use Rattle.ptpm_agent.specs.Turn.{Clock, State, carried_out, is_accepted_repeat, is_in_domain, is_repeat, judged, kept_reply_of, look, new_reply, next_by, reply_by, reply_messages, turn, turn_by, verdict_at, verdict_of}
 use Rattle.ptpm_agent.specs.Once.{is_copy}
 use Rattle.ptpm_agent.specs.Laws.{AreOfManagers}
 use Rattle.ptpm_table.proofs.Identities.{same_identity-true}
@@ -323,6 +323,28 @@ is_unnumbered : Verdict → Bool
 is_unnumbered verdicts.AnsweredUnnumbered = true
 is_unnumbered _ = false
 
+is_again : Verdict → Bool
+is_again verdicts.AnsweredRepeat = true
+is_again _ = false
+
+-- what is answered as before is for this clock
+target-is_again : (c : Clock) (s : State) (v : Message)
+    → is_again (judged c s v) ≡ true
+    → is_for_this_clock c v ≡ true
+unfolding is_again
+target-is_again c s v = judged-each (λ (w : Verdict). is_again w ≡ true → is_for_this_clock c v ≡ true) c s v
+    (λ e. absurd (false≢true e)) (λ e. absurd (false≢true e)) (λ e. absurd (false≢true e)) (λ e. absurd (false≢true e))
+    (λ d o a q e. ⊎_elim
+    (λ (n : is_numbered c v ≡ true). (and_parts (is_known v.source c.managers) (is_for_this_clock c v) n).1)
+    (λ (n : is_numbered c v ≡ false). absurd (false≢true (sym (ap is_again (verdict_at-unnumbered c s v n)) ∙ e)))
+    (cases_Bool (is_numbered c v)))
+
+target-repeat : (c : Clock) (s : State) (v : Message)
+    → judged c s v ≡ verdicts.AnsweredRepeat
+    → is_for_this_clock c v ≡ true
+unfolding is_again
+target-repeat c s v e = target-is_again c s v (ap is_again e)
+
 -- what is carried out is a copy
 is_copy-is_new : (c : Clock) (s : State) (v : Message)
     → is_new (judged c s v) ≡ true
@@ -428,6 +450,23 @@ turned_new c s ingress datagram v w out next e verdict new sent left =
     (sent ∙ (sym (ap (λ (f : List (ℕ × List ℕ)). f ++ rendered c.identity (heard_of v) (new_reply c s v) ingress) none)
     ∙ sym (ap (λ (u : Verdict). forwarded c.identity ingress s.sets datagram ++ reply_messages c ingress (heard_of v) (reply_by u c s v)) new)))
     (left ∙ sym (ap (λ (u : Verdict). next_by u c s v) new))
+
+pub turned_repeat : (c : Clock) (s : State) (ingress : ℕ) (datagram : List ℕ) (v : Message)
+    (w : Verdict) (out : List (ℕ × List ℕ)) (next : State) (e : Entry)
+    → reading datagram ≡ Ok v
+    → w ≡ judged c s v
+    → w ≡ verdicts.AnsweredRepeat
+    → get s.entries v.source ≡ Some e
+    → out ≡ rendered c.identity (heard_of v) e.reply ingress
+    → next ≡ s
+    → IsTurned (turn c s ingress datagram) w out next
+turned_repeat c s ingress datagram v w out next e read verdict repeat kept sent same =
+    let none : forwarded c.identity ingress s.sets datagram ≡ [] =
+    forwarded-copy c ingress s.sets datagram v (message_of-reading datagram v read) (target-repeat c s v (sym verdict ∙ repeat)) in
+    turned_at c s ingress datagram v w out next read verdict
+    (sent ∙ sym ((λ i. none i ++ reply_messages c ingress (heard_of v) (reply_by (repeat i) c s v))
+    ∙ ap (λ (k : Option Entry). reply_messages c ingress (heard_of v) (kept_reply_of k)) kept))
+    (same ∙ sym (ap (λ (u : Verdict). next_by u c s v) repeat))
 
 next_by-not_new : (w : Verdict) (c : Clock) (s : State) (v : Message)
     → (w ≡ verdicts.AnsweredNew → ⊥)

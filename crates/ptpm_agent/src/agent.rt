@@ -28,7 +28,9 @@ use ptpm_data::{
     ClockObservation, DataSets, ObservationError, PortObservation, PortsLeftDisabled, Reply,
     Request, Rights, data_sets_law,
 };
-use ptpm_table::{Heard, Look, Outbox, ReplyTable, Sender, SlotTable, SureTable, render};
+use ptpm_table::{
+    Heard, Look, Outbox, Outgoing, ReplyTable, Sender, SlotTable, SureTable, render,
+};
 
 /// A clock's data sets and its reply table, and what becomes of the datagrams that come in at its ports.
 #[derive(Drop)]
@@ -97,7 +99,14 @@ impl<T: ReplyTable + Drop> Agent<T> {
                 let reply = self.try_accept(&message, rights)?;
                 self.send(&reply, ingress, &message, out);
             }
-            _ => self.answer(verdict, ingress, datagram, &message, out),
+            Verdict::AnsweredRepeat => {
+                out.clear();
+                self.table.resend(&heard_of(&message), ingress, out);
+            }
+            _ => {
+                out.clear();
+                self.answer(verdict, ingress, datagram, &message, out);
+            }
         }
         Ok(verdict)
     }
@@ -202,31 +211,30 @@ impl<T: ReplyTable + Drop> Agent<T> {
             .look_with_rights(&message.source(), message.number(), &request_of(message))
     }
 
-    /// Leaves in the outbox what is sent for a message that is not carried out, and nothing else.
-    fn answer(
-        &mut self,
+    /// Sends what is sent for a message that is neither carried out nor a repeat.
+    fn answer<O: Outgoing>(
+        &self,
         verdict: Verdict,
         ingress: u16,
         datagram: &[u8],
         message: &View<'_>,
-        out: &mut Outbox,
+        out: &mut O,
     )
-        requires port { HasPort ingress self.old.sets }
+        requires port { HasPort ingress self.now.sets }
         requires read { reading datagram.now ≡ Ok message.now }
         requires spelled { Spells message.now (message_octets datagram.now) }
         requires verdict { verdict ≡ judged
-            (clock_of T.owner self.old) (state_of T.entries self.old) message.now }
-        requires repeat { verdict ≡ Verdict.AnsweredRepeat →
-            CanResend (T.entries self.old.table) message.now.source message.now.number }
+            (clock_of T.owner self.now) (state_of T.entries self.now) message.now }
         requires not_new { verdict ≢ Verdict.AnsweredNew }
+        requires not_repeat { verdict ≢ Verdict.AnsweredRepeat }
         requires valid { IsValid message.now }
-        ensures sent { out.new
-            ≡ forwarded (clock_of T.owner self.old).identity ingress self.old.sets datagram.now
-            ++ reply_messages (clock_of T.owner self.old) ingress (heard_of message.now)
-            (reply_by verdict (clock_of T.owner self.old) (state_of T.entries self.old)
+        requires empty { O.sent out.old ≡ [] }
+        ensures sent { O.sent out.new
+            ≡ forwarded (clock_of T.owner self.now).identity ingress self.now.sets datagram.now
+            ++ reply_messages (clock_of T.owner self.now) ingress (heard_of message.now)
+            (reply_by verdict (clock_of T.owner self.now) (state_of T.entries self.now)
             message.now) }
-        ensures sets { self.new.sets ≡ self.old.sets }
-        ensures table { self.new.table ≡ self.old.table }
+        ensures grown { O.grown out.old out.new }
     {
         forward(
             &self.table.clock(),
@@ -239,32 +247,26 @@ impl<T: ReplyTable + Drop> Agent<T> {
         self.reply(verdict, ingress, message, out);
     }
 
-    /// Appends the reply to a message that is not carried out, if it gets one.
-    fn reply(&mut self, verdict: Verdict, ingress: u16, message: &View<'_>, out: &mut Outbox)
+    /// Sends the reply to a message that is neither carried out nor a repeat, if it gets one.
+    fn reply<O: Outgoing>(&self, verdict: Verdict, ingress: u16, message: &View<'_>, out: &mut O)
         requires verdict { verdict ≡ judged
-            (clock_of T.owner self.old) (state_of T.entries self.old) message.now }
-        requires repeat { verdict ≡ Verdict.AnsweredRepeat →
-            CanResend (T.entries self.old.table) message.now.source message.now.number }
+            (clock_of T.owner self.now) (state_of T.entries self.now) message.now }
         requires not_new { verdict ≢ Verdict.AnsweredNew }
+        requires not_repeat { verdict ≢ Verdict.AnsweredRepeat }
         requires valid { IsValid message.now }
-        requires room { length out.old ≤ 7 }
-        ensures sent { out.new
-            ≡ out.old
-            ++ reply_messages (clock_of T.owner self.old) ingress (heard_of message.now)
-            (reply_by verdict (clock_of T.owner self.old) (state_of T.entries self.old)
+        requires room { length (O.sent out.old) ≤ 7 }
+        ensures sent { O.sent out.new
+            ≡ O.sent out.old
+            ++ reply_messages (clock_of T.owner self.now) ingress (heard_of message.now)
+            (reply_by verdict (clock_of T.owner self.now) (state_of T.entries self.now)
             message.now) }
-        ensures sets { self.new.sets ≡ self.old.sets }
-        ensures table { self.new.table ≡ self.old.table }
+        ensures grown { O.grown out.old out.new }
     {
-        match verdict {
-            Verdict::AnsweredRepeat => self.table.resend(&heard_of(message), ingress, out),
-            Verdict::AnsweredUnnumbered => {
-                let request = request_of(message);
-                let heard = heard_of(message);
-                let mut sender = Sender::new(&self.table.clock(), &heard, &request, ingress, out);
-                self.sets.read_into(&request, &mut sender);
-            }
-            _ => {}
+        if verdict == Verdict::AnsweredUnnumbered {
+            let request = request_of(message);
+            let heard = heard_of(message);
+            let mut sender = Sender::new(&self.table.clock(), &heard, &request, ingress, out);
+            self.sets.read_into(&request, &mut sender);
         }
     }
 
@@ -346,16 +348,34 @@ impl<T: SureTable + Drop> Agent<T> {
             result out.new (state_of T.entries self.new) }
         ensures clock { clock_of T.owner self.new ≡ clock_of T.owner self.old }
     {
+        out.clear();
+        self.handle_into(ingress, datagram, out)
+    }
+
+    /// What `handle` does, with each message made right where it goes. Nothing was sent there before; at most fifteen messages are.
+    #[inline(always)]
+    pub fn handle_into<O: Outgoing>(
+        &mut self,
+        ingress: u16,
+        datagram: &[u8],
+        out: &mut O,
+    ) -> Verdict
+        requires port { HasPort ingress self.old.sets }
+        requires empty { O.sent out.old ≡ [] }
+        ensures turned { IsTurned (turn
+            (clock_of T.owner self.old) (state_of T.entries self.old) ingress datagram.now)
+            result (O.sent out.new) (state_of T.entries self.new) }
+        ensures grown { O.grown out.old out.new }
+        ensures clock { clock_of T.owner self.new ≡ clock_of T.owner self.old }
+    {
         let message = match view(datagram) {
             Ok(message) => message,
-            Err(cause) => {
-                out.clear();
-                return Verdict::Malformed(cause);
-            }
+            Err(cause) => return Verdict::Malformed(cause),
         };
         let (verdict, rights) = self.judge(&message);
         match verdict {
             Verdict::AnsweredNew => self.accept(ingress, &message, rights, out),
+            Verdict::AnsweredRepeat => self.table.send_again(&heard_of(&message), ingress, out),
             _ => self.answer(verdict, ingress, datagram, &message, out),
         }
         verdict
@@ -399,25 +419,32 @@ impl<T: SureTable + Drop> Agent<T> {
         }
     }
 
-    /// Carries out a new request, keeps it with its reply, and leaves the messages of the reply in the outbox, and nothing else.
-    fn accept(&mut self, ingress: u16, message: &View<'_>, rights: Rights, out: &mut Outbox)
+    /// Carries out a new request, keeps it with its reply, and sends the messages of the reply.
+    fn accept<O: Outgoing>(
+        &mut self,
+        ingress: u16,
+        message: &View<'_>,
+        rights: Rights,
+        out: &mut O,
+    )
         requires new { judged
             (clock_of T.owner self.old) (state_of T.entries self.old) message.now
             ≡ Verdict.AnsweredNew }
         requires rights { rights ≡ (clock_of T.owner self.old).rights message.now.source }
         requires valid { IsValid message.now }
+        requires empty { O.sent out.old ≡ [] }
         ensures accepted { state_of T.entries self.new ≡ carried_out
             (clock_of T.owner self.old) (state_of T.entries self.old) message.now }
-        ensures sent { out.new
+        ensures sent { O.sent out.new
             ≡ rendered (clock_of T.owner self.old).identity (heard_of message.now)
             (new_reply (clock_of T.owner self.old) (state_of T.entries self.old) message.now)
             ingress }
+        ensures grown { O.grown out.old out.new }
         ensures clock { clock_of T.owner self.new ≡ clock_of T.owner self.old }
     {
         let heard = heard_of(message);
         let request = request_of(message);
         data_sets_law(&self.sets);
-        out.clear();
         let mut sender = Sender::new(&self.table.clock(), &heard, &request, ingress, out);
         self.sets.decide_into(&request, rights, &mut sender);
         let of_port = sender.of_port();

@@ -9,25 +9,26 @@ ghost use Rattle.ptpm_agent.specs.Forwarding.{egress_ports, forwarded, is_forwar
 
 use ptpm_codec::{ClockIdentity, View};
 use ptpm_data::{DataSets, data_sets_law};
-use ptpm_table::Outbox;
+use ptpm_table::Outgoing;
 
-/// Leaves in the outbox the copies of a datagram that the clock passes on, and nothing else. Takes no memory.
+/// Sends the copies of a datagram that the clock passes on, before anything else was sent. Takes no memory.
 #[inline(always)]
-pub(crate) fn forward(
+pub(crate) fn forward<O: Outgoing>(
     me: &ClockIdentity,
     sets: &DataSets,
     ingress: u16,
     datagram: &[u8],
     message: &View<'_>,
-    out: &mut Outbox,
+    out: &mut O,
 )
     requires port { HasPort ingress sets.now }
     requires read { reading datagram.now ≡ Ok message.now }
     requires spelled { Spells message.now (message_octets datagram.now) }
-    ensures copies { out.new ≡ forwarded me.now ingress sets.now datagram.now }
-    ensures few { length out.new ≤ 7 }
+    requires empty { O.sent out.old ≡ [] }
+    ensures copies { O.sent out.new ≡ forwarded me.now ingress sets.now datagram.now }
+    ensures few { length (O.sent out.new) ≤ 7 }
+    ensures grown { O.grown out.old out.new }
 {
-    out.clear();
     if is_forwarded(me, sets, ingress, message) {
         send_on(sets, ingress, datagram, out);
     }
@@ -45,15 +46,16 @@ fn is_forwarded(me: &ClockIdentity, sets: &DataSets, ingress: u16, message: &Vie
         && sets.may_forward(ingress)
 }
 
-/// Appends a copy for each egress port.
-fn send_on(sets: &DataSets, ingress: u16, datagram: &[u8], out: &mut Outbox)
-    requires empty { out.old ≡ [] }
+/// Sends a copy at each egress port.
+fn send_on<O: Outgoing>(sets: &DataSets, ingress: u16, datagram: &[u8], out: &mut O)
+    requires empty { O.sent out.old ≡ [] }
     requires port { HasPort ingress sets.now }
     requires well_formed { IsWellFormed datagram.now }
     requires hops { 0 < boundary_hops datagram.now }
-    ensures copies { out.new ≡ map (λ port. (port, with_less_hop datagram.now))
+    ensures copies { O.sent out.new ≡ map (λ port. (port, with_less_hop datagram.now))
         (egress_ports ingress sets.now) }
-    ensures few { length out.new ≤ 7 }
+    ensures few { length (O.sent out.new) ≤ 7 }
+    ensures grown { O.grown out.old out.new }
 {
     data_sets_law(sets);
     for port in 1..sets.port_count() + 1 {

@@ -4,8 +4,11 @@ ghost use Rattle.std.specs.Prelude.{◌≡◌, ◌≤◌, ◌+◌, ◌++◌, len
 ghost use Rattle.arrayvec.specs.ArrayVec.{array_vec_len};
 ghost use Rattle.byteorder.specs.Endian.{big_bytes};
 
+use crate::encoding::{Buffer, MESSAGE_OCTETS};
 use arrayvec::ArrayVec;
 use byteorder::{BigEndian, ByteOrder};
+
+const ZEROS: &[u8; MESSAGE_OCTETS] = &[0; MESSAGE_OCTETS];
 
 /// Appends a copy of these octets.
 pub fn put<const N: usize>(buffer: &mut ArrayVec<u8, N>, octets: &[u8])
@@ -85,4 +88,26 @@ fn resize_over_by_two<const N: usize>(buffer: &mut ArrayVec<u8, N>, front: &[u8]
 {
     overwrite(buffer, front);
     put(buffer, back);
+}
+
+/// Leaves so many octets in the buffer, whatever they are. Where it had as many, none is written.
+#[inline(always)]
+pub(crate) fn fit(buffer: &mut Buffer, size: usize)
+    requires { size ≤ MESSAGE_OCTETS }
+    ensures { array_vec_len buffer.new ≡ size }
+{
+    if buffer.len() != size {
+        resize(buffer, size);
+    }
+}
+
+/// The same where the size changes.
+#[inline(never)]
+fn resize(buffer: &mut Buffer, size: usize)
+    requires { size ≤ MESSAGE_OCTETS }
+    ensures { array_vec_len buffer.new ≡ size }
+{
+    buffer.truncate(size);
+    let missing = size - buffer.len();
+    let _ = buffer.try_extend_from_slice(&ZEROS[..missing]);
 }

@@ -9,14 +9,17 @@ ghost use Rattle.ptpm_codec.specs.Canonical.{canonical};
 ghost use Rattle.ptpm_codec.specs.Envelope.{envelope_of, sent_with, written};
 ghost use Rattle.ptpm_codec.specs.Message.{Fits, IsValid, PortIdentityFits, action_of};
 
-use crate::buffers::{overwrite_by_two, put};
+use crate::buffers::fit;
 use crate::draft::Draft;
-use crate::encoding::{Buffer, Head, put_error_status};
+use crate::encoding::Buffer;
 use crate::identity::PortIdentity;
 use std::marker::Model;
 
 /// How many octets stand before the dataField of a message.
 const HEAD_OCTETS: usize = 54;
+
+/// How many octets an error status has that tells no text.
+pub const REFUSAL_OCTETS: usize = 60;
 
 /// What the messages of one reply have in common, put together once: the message with an empty dataField. Contracts see its
 /// octets.
@@ -68,12 +71,26 @@ impl Envelope {
             self.now ≡ envelope_of v action id →
             buffer.new.items ≡ canonical (sent_with v port (bodies.Answer action id octets.now)) }
     {
-        overwrite_by_two(buffer, &self.head, octets);
+        fit(buffer, HEAD_OCTETS + octets.len());
+        self.answer_in(port, octets, buffer.as_mut_slice());
+    }
+
+    /// Writes the message that answers this dataField from this port over a place of its size: 54 octets and the dataField's.
+    #[inline(always)]
+    pub fn answer_in(&self, port: u16, octets: &[u8], place: &mut [u8])
+        requires small { length octets.now ≤ 1418 }
+        requires size { length place.old ≡ 54 + length octets.now }
+        ensures { (v : Message) (action : Action) (id : ℕ) → Fits v →
+            self.now ≡ envelope_of v action id →
+            place.new ≡ canonical (sent_with v port (bodies.Answer action id octets.now)) }
+    {
+        let (head, data_field) = place.split_at_mut(HEAD_OCTETS);
+        head.copy_from_slice(&self.head);
+        data_field.copy_from_slice(octets);
         let size = octets.len() as u16;
-        let message = buffer.as_mut_slice();
-        write_u16(message, 2, 54 + size);
-        write_u16(message, 28, port);
-        write_u16(message, 50, 2 + size);
+        write_u16(place, 2, 54 + size);
+        write_u16(place, 28, port);
+        write_u16(place, 50, 2 + size);
     }
 
     /// Leaves the error status without text that refuses an id from this port in the buffer, and nothing else. Takes no
@@ -84,14 +101,25 @@ impl Envelope {
             self.now ≡ envelope_of v action answered →
             buffer.new.items ≡ canonical (sent_with v port (bodies.Fault action error id [])) }
     {
-        let mut head = Head::new();
-        let (header, _) = self.head.split_at(48);
-        put(&mut head, header);
-        buffer.clear();
-        put_error_status(buffer, &mut head, error, id, &[]);
-        let message = buffer.as_mut_slice();
-        write_u16(message, 2, 60);
-        write_u16(message, 28, port);
+        fit(buffer, REFUSAL_OCTETS);
+        self.refuse_in(port, error, id, buffer.as_mut_slice());
+    }
+
+    /// Writes the error status without text that refuses an id from this port over a place of its size, 60 octets. It is never
+    /// inlined: most answers are none.
+    #[inline(never)]
+    pub fn refuse_in(&self, port: u16, error: u16, id: u16, place: &mut [u8])
+        requires { length place.old ≡ 60 }
+        ensures { (v : Message) (action : Action) (answered : ℕ) → Fits v →
+            self.now ≡ envelope_of v action answered →
+            place.new ≡ canonical (sent_with v port (bodies.Fault action error id [])) }
+    {
+        let (header, tlv) = place.split_at_mut(48);
+        header.copy_from_slice(&self.head[..48]);
+        let (error, id) = (error.to_be_bytes(), id.to_be_bytes());
+        tlv.copy_from_slice(&[0, 2, 0, 8, error[0], error[1], id[0], id[1], 0, 0, 0, 0]);
+        write_u16(place, 2, 60);
+        write_u16(place, 28, port);
     }
 }
 

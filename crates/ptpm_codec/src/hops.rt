@@ -1,11 +1,10 @@
 //! A message as a boundary clock passes it on.
 
-ghost use Rattle.std.specs.Prelude.{◌≡◌, ◌-◌, ◌<◌, slice_set};
-ghost use Rattle.arrayvec.specs.ArrayVec.{array_vec_len};
+ghost use Rattle.std.specs.Prelude.{◌≡◌, ◌-◌, ◌<◌, ◌≤◌, length, slice_set};
 ghost use Rattle.ptpm_codec.specs.Layout.{boundary_hops, message_octets, octet};
 ghost use Rattle.ptpm_codec.specs.Reading.{IsWellFormed};
 
-use crate::buffers::overwrite;
+use crate::buffers::fit;
 use crate::encoding::Buffer;
 use crate::places::u16_at;
 
@@ -18,16 +17,41 @@ pub fn less_hop(datagram: &[u8], buffer: &mut Buffer)
     ensures { buffer.new.items
         ≡ slice_set (message_octets datagram.now) 45 (boundary_hops datagram.now - 1) }
 {
-    let length = u16_at(datagram, 2) as usize;
-    overwrite(buffer, &datagram[..length]);
-    lower(buffer, 45);
+    fit(buffer, message_size(datagram));
+    less_hop_in(datagram, buffer.as_mut_slice());
 }
 
-fn lower(buffer: &mut Buffer, place: usize)
-    requires inside { place < array_vec_len buffer.old }
-    requires above { 0 < octet place buffer.old.items }
-    ensures { buffer.new.items
-        ≡ slice_set buffer.old.items place (octet place buffer.old.items - 1) }
+/// Writes the same over a place of its size, as many octets as `message_size` tells.
+#[inline(always)]
+pub fn less_hop_in(datagram: &[u8], place: &mut [u8])
+    requires well_formed { IsWellFormed datagram.now }
+    requires hops { 0 < boundary_hops datagram.now }
+    requires size { length place.old ≡ length (message_octets datagram.now) }
+    ensures { place.new
+        ≡ slice_set (message_octets datagram.now) 45 (boundary_hops datagram.now - 1) }
 {
-    buffer[place] -= 1;
+    place.copy_from_slice(&datagram[..place.len()]);
+    lower(place, 45);
+}
+
+/// Lowers the octet at a place by one.
+#[inline(always)]
+fn lower(message: &mut [u8], place: usize)
+    requires inside { place < length message.old }
+    requires above { 0 < octet place message.old }
+    ensures { message.new ≡ slice_set message.old place (octet place message.old - 1) }
+{
+    message[place] -= 1;
+}
+
+/// How many octets the message of a datagram has that `view` takes: its messageLength, from 54 to 1,472.
+#[inline(always)]
+pub fn message_size(datagram: &[u8]) -> usize
+    requires { IsWellFormed datagram.now }
+    ensures size { result ≡ length (message_octets datagram.now) }
+    ensures long { 54 ≤ result }
+    ensures small { result ≤ 1472 }
+    ensures inside { result ≤ length datagram.now }
+{
+    u16_at(datagram, 2) as usize
 }

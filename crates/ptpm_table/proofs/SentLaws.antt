@@ -1,7 +1,7 @@
 -- The messages that were sent, as they are kept.
-use Rattle.std.proofs.Common.{All, Bool, true, false, ◌≡◌, ◌≤◌, ℕ, suc, ◌+◌, ◌-◌, ◌*◌, ◌++◌, ◌∷◌, [], List, ap, arith, drop, get_or, length, map, refl, subst, sym, take, ◌∙◌}
-use Rattle.std.proofs.lemmas.List.{drop-append-le, drop_all, length-append, length-drop, take-append-le, take_all}
-use Rattle.arrayvec.specs.ArrayVec.{ArrayVec}
+use Rattle.std.proofs.Common.{All, Bool, true, false, ◌≡◌, ◌<◌, ◌≤◌, ℕ, zero, suc, ◌+◌, ◌*◌, ◌++◌, ◌∷◌, [], List, ap, append-nil, append_assoc, arith, drop, get_or, length, map, refl, subst, sym, take, ◌∙◌}
+use Rattle.std.proofs.Math.Seq.{take-suc}
+use Rattle.std.proofs.lemmas.List.{drop-append-le, drop_all, length-append, map-append, take-append-drop, take-append-le, take_all}
 use Rattle.ptpm_codec.specs.declared.message.Action.{Action}
 use Rattle.ptpm_codec.specs.Canonical.{canonical}
 use Rattle.ptpm_codec.specs.Message.{Fits, IsReplyAction, IsRequestAction, IsValid, IsValidBody, is_reply, reply_action}
@@ -12,45 +12,65 @@ use Rattle.ptpm_table.specs.declared.heard.Heard.{Heard}
 use Rattle.ptpm_table.specs.declared.kept_messages.Exchange.{Exchange}
 use Rattle.ptpm_table.specs.Entries.{FitsAnswer, FitsCount, FitsOutcome}
 use Rattle.ptpm_table.specs.KeptMessages.{AreSizes, EachKept, Envelope, IsCopyOf, IsKeptReply, answer_in, envelope_of, pieces, sent_message}
-use Rattle.ptpm_table.specs.Outbox.{sent}
 use Rattle.ptpm_table.specs.Rendering.{answer_body, rendered, reply_message}
 use Rattle.ptpm_table.specs.Sending.{AreSmall, IsSentReply, all_octets, messages_of}
 use Rattle.ptpm_table.proofs.KeptMessageLaws.{IsEncoded, encoded, most_octets, most_of_all}
 
--- ---- the first of some
+-- ---- one after the other
 
-pub rest_of : (xs : List (ℕ × ArrayVec ℕ)) → take (length xs - 1) (drop 1 xs) ≡ drop 1 xs
-rest_of xs = take_all (length xs - 1) (drop 1 xs) (omega (arith, length-drop 1 xs))
+pub messages_of-append : (xs ys : List (ℕ × List ℕ)) → messages_of (xs ++ ys) ≡ messages_of xs ++ messages_of ys
+messages_of-append [] ys = refl
+messages_of-append (x ∷ xs) ys = ap (λ ms. x.1 ∷ ms) (messages_of-append xs ys)
 
-pub split : (xs : List (ℕ × ArrayVec ℕ)) (x : ℕ × ArrayVec ℕ)
-    → 1 ≤ length xs
-    → x ≡ get_or xs 0 x
-    → messages_of (sent xs) ≡ x.1.items ∷ messages_of (sent (drop 1 xs))
-split [] x some is = absurd (omega arith)
-split (y ∷ ys) x some is = ap (λ (z : ℕ × ArrayVec ℕ). z.1.items ∷ messages_of (sent ys)) (sym is)
+pub all_octets-append : (xs ys : List (List ℕ)) → all_octets (xs ++ ys) ≡ all_octets xs ++ all_octets ys
+all_octets-append [] ys = refl
+all_octets-append (x ∷ xs) ys = ap (λ o. x ++ o) (all_octets-append xs ys) ∙ sym (append_assoc x (all_octets xs) (all_octets ys))
 
-pub only_message : (xs : List (ℕ × ArrayVec ℕ)) (x : ℕ × ArrayVec ℕ)
+-- the messages up to a place, and the one there
+pub one_more : (xs : List (ℕ × List ℕ)) (place : ℕ)
+    → place < length xs
+    → messages_of (take (suc place) xs) ≡ messages_of (take place xs) ++ (get_or xs place (0, [])).1 ∷ []
+one_more xs place inside =
+    ap messages_of (take-suc xs place (0, []) inside) ∙ messages_of-append (take place xs) (get_or xs place (0, []) ∷ [])
+
+pub octets_more : (xs : List (ℕ × List ℕ)) (place : ℕ)
+    → place < length xs
+    → all_octets (messages_of (take (suc place) xs)) ≡ all_octets (messages_of (take place xs)) ++ (get_or xs place (0, [])).1
+octets_more xs place inside =
+    ap all_octets (one_more xs place inside)
+    ∙ all_octets-append (messages_of (take place xs)) ((get_or xs place (0, [])).1 ∷ [])
+    ∙ ap (λ o. all_octets (messages_of (take place xs)) ++ o) (append-nil (get_or xs place (0, [])).1)
+
+pub sizes_more : (xs : List (ℕ × List ℕ)) (place : ℕ)
+    → place < length xs
+    → map length (messages_of (take (suc place) xs)) ≡ map length (messages_of (take place xs)) ++ length (get_or xs place (0, [])).1 ∷ []
+sizes_more xs place inside =
+    ap (map length) (one_more xs place inside)
+    ∙ map-append length (messages_of (take place xs)) ((get_or xs place (0, [])).1 ∷ [])
+
+pub small_at : (xs : List (ℕ × List ℕ)) (place : ℕ)
+    → place < length xs
+    → AreSmall (messages_of xs)
+    → length (get_or xs place (0, [])).1 ≤ 184
+small_at [] place inside small = absurd (omega (arith, inside))
+small_at (x ∷ xs) zero inside small = small.0
+small_at (x ∷ xs) (suc place) inside small = small_at xs place (omega (arith, inside)) small.1
+
+-- what the messages up to a place have together is no more than what all have
+pub octets_within : (xs : List (ℕ × List ℕ)) (place : ℕ)
+    → length (all_octets (messages_of (take place xs))) ≤ length (all_octets (messages_of xs))
+octets_within xs place =
+    let both = ap (λ ys. length (all_octets (messages_of ys))) (sym (take-append-drop place xs)) in
+    let cut = ap (λ ms. length (all_octets ms)) (messages_of-append (take place xs) (drop place xs)) in
+    let parts = ap length (all_octets-append (messages_of (take place xs)) (messages_of (drop place xs))) in
+    omega (arith, both, cut, parts, length-append (all_octets (messages_of (take place xs))) (all_octets (messages_of (drop place xs))))
+
+pub only_message : (xs : List (ℕ × List ℕ))
     → length xs ≡ 1
-    → x ≡ get_or xs 0 x
-    → messages_of (sent xs) ≡ x.1.items ∷ []
-only_message [] x one is = absurd (omega arith)
-only_message (y ∷ []) x one is = ap (λ (z : ℕ × ArrayVec ℕ). z.1.items ∷ []) (sym is)
-only_message (y ∷ z ∷ ys) x one is = absurd (omega arith)
-
-pub small_parts : (xs : List (ℕ × ArrayVec ℕ)) (x : ℕ × ArrayVec ℕ)
-    → 1 ≤ length xs
-    → x ≡ get_or xs 0 x
-    → AreSmall (messages_of (sent xs))
-    → (length x.1.items ≤ 184) × AreSmall (messages_of (sent (drop 1 xs)))
-small_parts xs x some is small = subst AreSmall (split xs x some is) small
-
-pub octets_parts : (xs : List (ℕ × ArrayVec ℕ)) (x : ℕ × ArrayVec ℕ)
-    → 1 ≤ length xs
-    → x ≡ get_or xs 0 x
-    → length (all_octets (messages_of (sent xs)))
-    ≡ length x.1.items + length (all_octets (messages_of (sent (drop 1 xs))))
-octets_parts xs x some is =
-    ap (λ ms. length (all_octets ms)) (split xs x some is) ∙ length-append x.1.items _
+    → messages_of xs ≡ (get_or xs 0 (0, [])).1 ∷ []
+only_message [] one = absurd (omega (arith, one))
+only_message (x ∷ []) one = refl
+only_message (x ∷ y ∷ xs) one = absurd (omega (arith, one))
 
 -- ---- messages that spell answers
 
@@ -183,10 +203,6 @@ pub sent_encoded : (x : Exchange) (heard : Heard) (of_port : Bool) (messages : L
 sent_encoded x heard of_port messages r asks copy s =
     each_encoded of_port (envelope_of x) heard s.ingress x.action r.answers refl asks copy s.answers
     (subst (λ (p : Action × ℕ). All (λ a. Fits (reply_message x.clock heard p.0 p.1 s.ingress a)) r.answers) (λ i. (s.action_is i, s.id_is i)) s.fits)
-
-pub entries_count : (es : List (ℕ × ArrayVec ℕ)) → length (sent es) ≡ length es
-entries_count [] = refl
-entries_count (e ∷ es) = omega (arith, entries_count es)
 
 pub sent_kept : (of_port : Bool) (e : Envelope) (first : Heard) (at : ℕ) (xs : List Answer)
     (sizes octets : List ℕ)

@@ -1,4 +1,4 @@
--- What a sender has sent, which is no promise: it holds the outbox, and each answer is a message more there.
+-- What a sender has sent, which is no promise: each answer is a message more where they go.
 use Rattle.std.specs.Prelude.{All, ◌≤◌, ◌<◌, ◌^◌, ◌≡◌, ℕ, ◌+◌, Bool, List, [], ◌∷◌, ◌++◌, None, is_some, length, map, unwrap_or}
 use Rattle.ptpm_codec.specs.declared.identity.ClockIdentity.{ClockIdentity}
 use Rattle.ptpm_codec.specs.declared.message.Action.{Action}
@@ -26,18 +26,19 @@ abbrev pub last_of_port : Bool → List Answer → Bool
 last_of_port b [] = b
 last_of_port b (a ∷ xs) = last_of_port (is_some a.port) xs
 
-pub record HasSent (s : Sender) (xs : List Answer) (t : Sender) : Type 0 where
+pub record HasSent {O : Type 0} (sent : O → List (ℕ × List ℕ)) (grown : O → O → Type 0) (s : Sender O) (xs : List Answer) (t : Sender O) : Type 0 where
+  pub grown_is : grown s.out.now t.out.now
   pub same_reference : t.out.ghost_name ≡ s.out.ghost_name
   pub envelope : t.envelope ≡ s.envelope
   pub id : t.id ≡ s.id
   pub ingress : t.ingress ≡ s.ingress
   pub of_port : t.of_port ≡ last_of_port s.of_port xs
-  pub count : length t.out.now ≡ length s.out.now + length xs
+  pub count : length (sent t.out.now) ≡ length (sent s.out.now) + length xs
   pub fits : (v : Message) (action : Action) → Fits v → s.id < 2 ^ 16
       → All (λ a. Fits (message_like v action s.id s.ingress a)) xs
   pub messages : (v : Message) (action : Action) → Fits v
       → s.envelope ≡ envelope_of v action s.id
-      → t.out.now ≡ s.out.now ++ map (λ a. (s.ingress, canonical (message_like v action s.id s.ingress a))) xs
+      → sent t.out.now ≡ sent s.out.now ++ map (λ a. (s.ingress, canonical (message_like v action s.id s.ingress a))) xs
 
 -- The messages are those of this reply to a request of this action and id, as it was sent for the copy that was heard.
 pub record IsSentReply (me : ClockIdentity) (heard : Heard) (action : Action) (id : ℕ) (of_port : Bool) (messages : List (ℕ × List ℕ))

@@ -17,8 +17,12 @@ last_of_both : (b : Bool) (xs ys : List Answer) → last_of_port (last_of_port b
 last_of_both b [] ys = refl
 last_of_both b (a ∷ xs) ys = last_of_both _ xs ys
 
-pub sent_none : (a : Sender) → HasSent a [] a
-sent_none a = record {
+pub sent_none : {O : Type 0} (sent : O → List (ℕ × List ℕ)) (grown : O → O → Type 0)
+    → ((o : O) → grown o o)
+    → (a : Sender O)
+    → HasSent sent grown a [] a
+sent_none sent grown none a = record {
+  grown_is = none a.out.now;
   same_reference = refl;
   envelope = refl;
   id = refl;
@@ -26,14 +30,17 @@ sent_none a = record {
   ingress = refl;
   of_port = refl;
   count = omega arith;
-  messages = λ v action fits is. sym (append-nil a.out.now);
+  messages = λ v action fits is. sym (append-nil (sent a.out.now));
 }
 
-pub sent_twice : (a b c : Sender) (xs ys : List Answer)
-    → HasSent a xs b
-    → HasSent b ys c
-    → HasSent a (xs ++ ys) c
-sent_twice a b c xs ys first second = record {
+pub sent_twice : {O : Type 0} (sent : O → List (ℕ × List ℕ)) (grown : O → O → Type 0)
+    → ((o p q : O) → grown o p → grown p q → grown o q)
+    → (a b c : Sender O) (xs ys : List Answer)
+    → HasSent sent grown a xs b
+    → HasSent sent grown b ys c
+    → HasSent sent grown a (xs ++ ys) c
+sent_twice sent grown twice a b c xs ys first second = record {
+  grown_is = twice a.out.now b.out.now c.out.now first.grown_is second.grown_is;
   same_reference = second.same_reference ∙ first.same_reference;
   envelope = second.envelope ∙ first.envelope;
   id = second.id ∙ first.id;
@@ -47,15 +54,15 @@ sent_twice a b c xs ys first second = record {
       let here = first.envelope ∙ (is ∙ ap (λ (i : ℕ). envelope_of v action i) (sym first.id)) in
       second.messages v action fits here
       ∙ (λ i. first.messages v action fits is i ++ map (λ x. (first.ingress i, canonical (message_like v action (first.id i) (first.ingress i) x))) ys)
-      ∙ append_assoc a.out.now (map (λ x. (a.ingress, canonical (message_like v action a.id a.ingress x))) xs)
+      ∙ append_assoc (sent a.out.now) (map (λ x. (a.ingress, canonical (message_like v action a.id a.ingress x))) xs)
       (map (λ x. (a.ingress, canonical (message_like v action a.id a.ingress x))) ys)
-      ∙ ap (λ z. a.out.now ++ z) (sym (map-append (λ x. (a.ingress, canonical (message_like v action a.id a.ingress x))) xs ys));
+      ∙ ap (λ z. sent a.out.now ++ z) (sym (map-append (λ x. (a.ingress, canonical (message_like v action a.id a.ingress x))) xs ys));
 }
 
-pub sent_count : (a b : Sender) (xs : List Answer)
-    → HasSent a xs b
-    → length b.out.now ≡ length a.out.now + length xs
-sent_count a b xs sent = sent.count
+pub sent_count : {O : Type 0} (sent : O → List (ℕ × List ℕ)) (grown : O → O → Type 0) (a b : Sender O) (xs : List Answer)
+    → HasSent sent grown a xs b
+    → length (sent b.out.now) ≡ length (sent a.out.now) + length xs
+sent_count sent grown a b xs has = has.count
 
 pub one_fits : (v : Message) (action : Action) (id ingress : ℕ) (a : Answer)
     → Fits v

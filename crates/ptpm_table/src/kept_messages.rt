@@ -5,14 +5,13 @@ ghost use Rattle.arrayvec.specs.ArrayVec.{array_vec_len};
 ghost use Rattle.ptpm_codec.specs.Canonical.{canonical, tlv_octets};
 ghost use Rattle.ptpm_codec.specs.Message.{Fits, IsRequestAction, IsValid};
 ghost use Rattle.ptpm_data.specs.Reply.{ReplyValue, answer_of, outcome_of};
-ghost use Rattle.ptpm_table.specs.Outbox.{sent};
 ghost use Rattle.ptpm_table.specs.Sending.{AreSmall, IsSentReply, all_octets, messages_of};
 ghost use Rattle.ptpm_table.specs.Entries.{FitsAnswer, FitsCount};
 ghost use Rattle.ptpm_table.specs.Rendering.{IsEvenOutcome};
 ghost use Rattle.ptpm_table.specs.KeptMessages.{AreSizes, IsCopyOf, IsKeptReply, answer_in, envelope_of, has_port, kept_message, pieces, port_for, renewed};
 
 use crate::heard::Heard;
-use crate::outbox::Outbox;
+use crate::outgoing::Outgoing;
 use crate::rendering::draft_of;
 use crate::renewal::Renewal;
 use arrayvec::ArrayVec;
@@ -57,19 +56,20 @@ impl Exchange {
 }
 
 /// Appends messages of these sizes, each for this port and with what depends on the copy written over.
-pub(crate) fn resend_each(
+pub(crate) fn resend_each<O: Outgoing>(
     sizes: &[u8],
     messages: &[u8],
     renewal: &Renewal,
     port: u16,
-    out: &mut Outbox,
+    out: &mut O,
 )
     requires cut { AreSizes sizes.now (length messages.now) }
-    requires room { length out.old + length sizes.now ≤ 15 }
-    ensures { out.new
-        ≡ out.old
+    requires room { length (O.sent out.old) + length sizes.now ≤ 15 }
+    ensures messages { O.sent out.new
+        ≡ O.sent out.old
         ++ map (λ m. (port, renewed renewal.now.domain renewal.now.port renewal.now.hops m))
         (pieces sizes.now messages.now) }
+    ensures grown { O.grown out.old out.new }
 {
     if let [size, sizes @ ..] = sizes {
         let (message, messages) = messages.split_at(*size as usize);
@@ -137,63 +137,61 @@ pub(crate) fn port_for(of_port: bool, ingress: u16) -> Option<u16>
 
 /// Leaves copies of the messages of the reply that was sent for a copy of the request, and nothing else.
 #[inline(always)]
-pub(crate) fn keep_each(
+pub(crate) fn keep_each<O: Outgoing>(
     exchange: &Exchange,
     heard: &Heard,
     of_port: bool,
-    entries: &[(u16, Buffer)],
+    out: &O,
     sizes: &mut Sizes,
     messages: &mut Messages,
 )
     requires asks { IsRequestAction exchange.now.action }
     requires copy { IsCopyOf (envelope_of exchange.now) heard.now }
     requires sent { (r : ReplyValue) × IsSentReply exchange.now.clock heard.now
-        exchange.now.action exchange.now.id of_port (sent entries.now) r }
+        exchange.now.action exchange.now.id of_port (O.sent out.now) r }
     ensures kept { IsKeptReply (envelope_of exchange.now) of_port sizes.new.items
         messages.new.items }
     ensures answers { (r : ReplyValue) → IsSentReply exchange.now.clock heard.now
-        exchange.now.action exchange.now.id of_port (sent entries.now) r →
+        exchange.now.action exchange.now.id of_port (O.sent out.now) r →
         map (answer_in of_port) (pieces sizes.new.items messages.new.items) ≡ r.answers }
 {
-    copy_all(entries, sizes, messages);
+    copy_all(out, sizes, messages);
 }
 
 /// Leaves copies of messages, and their sizes, and nothing else. Most replies are one message, which is written over the
 /// former.
 #[inline(always)]
-fn copy_all(entries: &[(u16, Buffer)], sizes: &mut Sizes, messages: &mut Messages)
-    requires few { length entries.now ≤ 8 }
-    requires small { AreSmall (messages_of (sent entries.now)) }
-    requires room { length (all_octets (messages_of (sent entries.now))) ≤ 640 }
-    ensures sizes { sizes.new.items ≡ map length (messages_of (sent entries.now)) }
-    ensures messages { messages.new.items ≡ all_octets (messages_of (sent entries.now)) }
+fn copy_all<O: Outgoing>(out: &O, sizes: &mut Sizes, messages: &mut Messages)
+    requires few { length (O.sent out.now) ≤ 8 }
+    requires small { AreSmall (messages_of (O.sent out.now)) }
+    requires room { length (all_octets (messages_of (O.sent out.now))) ≤ 640 }
+    ensures sizes { sizes.new.items ≡ map length (messages_of (O.sent out.now)) }
+    ensures messages { messages.new.items ≡ all_octets (messages_of (O.sent out.now)) }
 {
     *sizes = Sizes::new();
-    if let [only] = entries {
-        let message = only.1.as_slice();
+    if out.count() == 1 {
+        let message = out.message(0);
         sizes.push(message.len() as u8);
         overwrite(messages, message);
     } else {
         messages.clear();
-        copy_each(entries, sizes, messages);
+        copy_each(out, sizes, messages);
     }
 }
 
-/// Appends copies of messages, and their sizes.
-fn copy_each(entries: &[(u16, Buffer)], sizes: &mut Sizes, messages: &mut Messages)
-    requires few { array_vec_len sizes.old + length entries.now ≤ 8 }
-    requires small { AreSmall (messages_of (sent entries.now)) }
-    requires room { array_vec_len messages.old
-        + length (all_octets (messages_of (sent entries.now))) ≤ 640 }
-    ensures sizes { sizes.new.items
-        ≡ sizes.old.items ++ map length (messages_of (sent entries.now)) }
-    ensures messages { messages.new.items
-        ≡ messages.old.items ++ all_octets (messages_of (sent entries.now)) }
+/// Appends copies of the messages, and their sizes, where there were none.
+fn copy_each<O: Outgoing>(out: &O, sizes: &mut Sizes, messages: &mut Messages)
+    requires no_sizes { sizes.old.items ≡ [] }
+    requires none { messages.old.items ≡ [] }
+    requires few { length (O.sent out.now) ≤ 8 }
+    requires small { AreSmall (messages_of (O.sent out.now)) }
+    requires room { length (all_octets (messages_of (O.sent out.now))) ≤ 640 }
+    ensures sizes { sizes.new.items ≡ map length (messages_of (O.sent out.now)) }
+    ensures messages { messages.new.items ≡ all_octets (messages_of (O.sent out.now)) }
 {
-    if let [first, rest @ ..] = entries {
-        let message = first.1.as_slice();
+    for place in 0..out.count() {
+        let message = out.message(place);
         sizes.push(message.len() as u8);
         put(messages, message);
-        copy_each(rest, sizes, messages);
     }
 }

@@ -1,17 +1,11 @@
 //! What one call at a clock sends.
 
-ghost use Rattle.std.specs.Prelude.{◌≡◌, ◌<◌, ◌≤◌, ◌-◌, ◌+◌, ◌∷◌, ◌++◌, [], ℕ, length, slice_set};
+ghost use Rattle.std.specs.Prelude.{◌≡◌, ◌<◌, ◌≤◌, ◌∷◌, ◌++◌, [], length};
 ghost use Rattle.ptpm_codec.specs.Canonical.{canonical};
-ghost use Rattle.ptpm_codec.specs.Layout.{boundary_hops, message_octets};
-ghost use Rattle.ptpm_codec.specs.declared.message.Action.{Action};
-ghost use Rattle.ptpm_codec.specs.declared.message.Body.TheVariants as bodies;
-ghost use Rattle.ptpm_codec.specs.declared.message.Message.{Message};
-ghost use Rattle.ptpm_codec.specs.Envelope.{envelope_of, sent_with};
-ghost use Rattle.ptpm_codec.specs.Message.{Fits, IsValid};
-ghost use Rattle.ptpm_codec.specs.Reading.{IsWellFormed};
-ghost use Rattle.ptpm_table.specs.KeptMessages.{renewed};
+ghost use Rattle.ptpm_codec.specs.Message.{IsValid};
 ghost use Rattle.ptpm_table.specs.Outbox.{sent};
 
+use crate::outgoing::Outgoing;
 use crate::renewal::{Renewal, renew};
 use ptpm_codec::{Buffer, Draft, Envelope, MESSAGE_OCTETS, encode, less_hop, overwrite};
 use std::marker::Model;
@@ -88,75 +82,50 @@ impl Outbox {
         encode(draft, &mut place.1);
         self.count += 1;
     }
+}
 
-    /// Appends the message of an envelope that answers this dataField from the source port.
+impl Outgoing for Outbox {
+    ghost use Rattle.std.specs.Prelude.{⊤};
+
+    ghost sent = { λ o. o };
+
+    ghost grown = { λ a b. ⊤ };
+
+    ghost grown_by_none = { λ a. tt };
+
+    ghost grown_twice = { λ a b c first second. tt };
+
+    fn count(&self) -> usize {
+        self.count
+    }
+
+    fn message(&self, place: usize) -> &[u8] {
+        self.places[place].1.as_slice()
+    }
+
     #[inline(always)]
-    pub(crate) fn push_answer(&mut self, port: u16, envelope: &Envelope, source: u16, octets: &[u8])
-        requires room { length self.old < 15 }
-        requires small { length octets.now ≤ 1418 }
-        ensures messages { (v : Message) (action : Action) (id : ℕ) → Fits v →
-            envelope.now ≡ envelope_of v action id →
-            self.new ≡ self.old
-            ++ (port, canonical (sent_with v source (bodies.Answer action id octets.now))) ∷ [] }
-        ensures count { length self.new ≡ length self.old + 1 }
-    {
+    fn push_answer(&mut self, port: u16, envelope: &Envelope, source: u16, octets: &[u8]) {
         let place = &mut self.places[self.count];
         place.0 = port;
         envelope.answer(source, octets, &mut place.1);
         self.count += 1;
     }
 
-    /// Appends the message of an envelope that refuses this id from the source port.
-    pub(crate) fn push_refusal(
-        &mut self,
-        port: u16,
-        envelope: &Envelope,
-        source: u16,
-        error: u16,
-        id: u16,
-    )
-        requires room { length self.old < 15 }
-        ensures messages { (v : Message) (action : Action) (answered : ℕ) → Fits v →
-            envelope.now ≡ envelope_of v action answered →
-            self.new ≡ self.old
-            ++ (port, canonical (sent_with v source (bodies.Fault action error id []))) ∷ [] }
-        ensures count { length self.new ≡ length self.old + 1 }
-    {
+    fn push_refusal(&mut self, port: u16, envelope: &Envelope, source: u16, error: u16, id: u16) {
         let place = &mut self.places[self.count];
         place.0 = port;
         envelope.refuse(source, error, id, &mut place.1);
         self.count += 1;
     }
 
-    /// Appends a well-formed datagram's message for a port, with boundaryHops less by one (15.3.3).
-    pub fn push_less_hop(&mut self, port: u16, datagram: &[u8])
-        requires room { length self.old < 15 }
-        requires well_formed { IsWellFormed datagram.now }
-        requires hops { 0 < boundary_hops datagram.now }
-        ensures { self.new
-            ≡ self.old
-            ++ (
-              port,
-              slice_set (message_octets datagram.now) 45
-                  (boundary_hops datagram.now - 1),
-            ) ∷ [] }
-    {
+    fn push_less_hop(&mut self, port: u16, datagram: &[u8]) {
         let place = &mut self.places[self.count];
         place.0 = port;
         less_hop(datagram, &mut place.1);
         self.count += 1;
     }
 
-    /// Appends a copy of a kept message for a port, with what depends on the copy that is answered written over.
-    pub(crate) fn push_renewed(&mut self, port: u16, message: &[u8], renewal: &Renewal)
-        requires room { length self.old < 15 }
-        requires long { 54 ≤ length message.now }
-        requires small { length message.now ≤ MESSAGE_OCTETS }
-        ensures { self.new
-            ≡ self.old
-            ++ (port, renewed renewal.now.domain renewal.now.port renewal.now.hops message.now)
-            ∷ [] }
-    {
+    fn push_renewed(&mut self, port: u16, message: &[u8], renewal: &Renewal) {
         let place = &mut self.places[self.count];
         place.0 = port;
         overwrite(&mut place.1, message);

@@ -8,6 +8,7 @@ ghost use Rattle.ptpm_table.specs.Rendering.{IsEvenOutcome, answer_body, hops_pa
 
 use crate::heard::Heard;
 use crate::outbox::Outbox;
+use crate::outgoing::Outgoing;
 use ptpm_codec::{Action, ClockIdentity, Draft, DraftBody, Envelope, ErrorId, PortIdentity};
 use ptpm_data::{Answers, PortAnswer, Reply, Request, What};
 
@@ -119,19 +120,19 @@ fn body_of_answer(action: Action, id: u16, what: &What) -> DraftBody<'_>
     }
 }
 
-/// Sends the answers to a request, each as a message that is made right where the outbox keeps it. They go out at the port
-/// where the copy came in that they answer (15.4.1). Takes no memory.
+/// Sends the answers to a request, each as a message that is made right where it goes. They go out at the port where the copy came
+/// in that they answer (15.4.1). Takes no memory.
 #[derive(Drop)]
-pub struct Sender<'a> {
+pub struct Sender<'a, O: Outgoing> {
     envelope: Envelope,
     id: u16,
     ingress: u16,
     /// Whether the last answer was of a port.
     of_port: bool,
-    out: &'a mut Outbox,
+    out: &'a mut O,
 }
 
-impl<'a> Sender<'a> {
+impl<'a, O: Outgoing> Sender<'a, O> {
     ghost use Rattle.std.specs.Prelude.{◌≡◌, false};
     ghost use Rattle.ptpm_codec.specs.Envelope.{envelope_of};
     ghost use Rattle.ptpm_codec.specs.Message.{Fits, reply_action};
@@ -144,8 +145,8 @@ impl<'a> Sender<'a> {
         heard: &Heard,
         request: &Request<'_>,
         ingress: u16,
-        out: &'a mut Outbox,
-    ) -> Sender<'a>
+        out: &'a mut O,
+    ) -> Sender<'a, O>
         ensures same_reference { result.out.ghost_name ≡ out.entry.ghost_name }
         ensures held { result.out.now ≡ out.old }
         ensures ingress { result.ingress ≡ ingress }
@@ -177,22 +178,22 @@ impl<'a> Sender<'a> {
     }
 }
 
-impl Answers for Sender<'_> {
+impl<O: Outgoing> Answers for Sender<'_, O> {
     ghost use Rattle.std.specs.Prelude.{length};
     ghost use Rattle.ptpm_table.specs.Sending.{HasSent};
     ghost use Rattle.ptpm_table.specs.SendingLaws.{sent_count, sent_none, sent_twice};
 
     ghost most = { 15 };
 
-    ghost count = { λ s. length s.out.now };
+    ghost count = { λ s. length (O.sent s.out.now) };
 
-    ghost taken = { HasSent };
+    ghost taken = { HasSent O.sent O.grown };
 
-    ghost none_taken = { sent_none };
+    ghost none_taken = { sent_none O.sent O.grown O.grown_by_none };
 
-    ghost taken_after = { sent_twice };
+    ghost taken_after = { sent_twice O.sent O.grown O.grown_twice };
 
-    ghost counted = { sent_count };
+    ghost counted = { sent_count O.sent O.grown };
 
     #[inline(always)]
     fn take_value(&mut self, port: Option<u16>, octets: &[u8]) {

@@ -3,18 +3,18 @@
 ghost use Rattle.std.specs.Prelude.{◌≡◌, ◌≤◌, length};
 ghost use Rattle.ptpm_table.specs.KeptMessages.{renewed};
 
-/// What depends on the copy that is answered.
+/// What a kept message takes from the copy of the request that it answers.
 #[derive(Clone, Copy)]
-pub(crate) struct Renewal {
-    pub(crate) domain: u8,
+pub struct Renewal {
+    pub domain: u8,
     /// The source's portNumber, where the answer is of the clock.
-    pub(crate) port: Option<u16>,
+    pub port: Option<u16>,
     /// Both hop fields.
-    pub(crate) hops: u8,
+    pub hops: u8,
 }
 
 /// Writes over what depends on the copy, in a message.
-pub(crate) fn renew(message: &mut [u8], renewal: &Renewal)
+pub fn renew(message: &mut [u8], renewal: &Renewal)
     requires { 54 ≤ length message.old }
     ensures { message.new
         ≡ renewed renewal.now.domain renewal.now.port renewal.now.hops message.old }

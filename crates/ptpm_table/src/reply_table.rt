@@ -11,6 +11,7 @@ ghost use Rattle.ptpm_table.specs.Sending.{IsSentReply};
 
 use crate::heard::Heard;
 use crate::outbox::Outbox;
+use crate::outgoing::Outgoing;
 use ptpm_codec::{ClockIdentity, OutOfMemory, PortIdentity};
 use ptpm_data::{Reply, Request, Rights};
 
@@ -118,17 +119,32 @@ pub trait SureTable: ReplyTable {
             (record { number = number; request = request.now; reply = reply.now }) }
         ensures owner { Self.owner self.new ≡ Self.owner self.old };
 
-    /// Keeps number and request with the reply that was sent for the copy that was heard: the outbox holds its messages, and no
-    /// others.
-    fn keep_sent(&mut self, heard: &Heard, request: &Request<'_>, of_port: bool, out: &Outbox)
+    /// Keeps number and request with the reply that was sent for the copy that was heard: its messages are those that went out, and
+    /// no others did.
+    fn keep_sent<O: Outgoing>(
+        &mut self,
+        heard: &Heard,
+        request: &Request<'_>,
+        of_port: bool,
+        out: &O,
+    )
         requires known { IsTrue (is_known heard.now.source (Self.owner self.old).managers) }
         requires action { IsRequestAction request.now.action }
         requires octets { IsDataField request.now.octets }
         requires sent { (r : ReplyValue) × IsSentReply (Self.owner self.old).identity heard.now
-            request.now.action request.now.id of_port out.now r }
+            request.now.action request.now.id of_port (O.sent out.now) r }
         ensures kept { (r : ReplyValue) → IsSentReply (Self.owner self.old).identity heard.now
-            request.now.action request.now.id of_port out.now r →
+            request.now.action request.now.id of_port (O.sent out.now) r →
             Self.entries self.new ≡ fin.insert (Self.entries self.old) heard.now.source
             (record { number = heard.now.number; request = request.now; reply = r }) }
         ensures owner { Self.owner self.new ≡ Self.owner self.old };
+
+    /// What `resend` does, wherever the messages go.
+    fn send_again<O: Outgoing>(&self, heard: &Heard, ingress: u16, out: &mut O)
+        requires kept { HasEntry (Self.entries self.now) heard.now.source heard.now.number }
+        requires room { HasRoom (Self.entries self.now) heard.now.source (length (O.sent out.old)) }
+        ensures messages { (e : Entry) → fin.get (Self.entries self.now) heard.now.source ≡ Some e →
+            O.sent out.new
+            ≡ O.sent out.old ++ rendered (Self.owner self.now).identity heard.now e.reply ingress }
+        ensures grown { O.grown out.old out.new };
 }

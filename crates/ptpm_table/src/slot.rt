@@ -4,7 +4,6 @@ ghost use Rattle.std.specs.Prelude.{◌≡◌, ◌≤◌, ◌+◌, ◌++◌, len
 ghost use Rattle.ptpm_codec.specs.Message.{IsDataField, IsRequestAction};
 ghost use Rattle.ptpm_data.specs.Reply.{ReplyValue};
 ghost use Rattle.ptpm_table.specs.Entries.{FitsRequest};
-ghost use Rattle.ptpm_table.specs.Outbox.{sent};
 ghost use Rattle.ptpm_table.specs.Sending.{IsSentReply};
 ghost use Rattle.ptpm_table.specs.Rendering.{rendered};
 
@@ -12,10 +11,10 @@ use crate::heard::Heard;
 use crate::kept_messages::{
     Exchange, Messages, Sizes, encode_each, has_port, keep_each, port_for, resend_each,
 };
-use crate::outbox::Outbox;
+use crate::outgoing::Outgoing;
 use crate::renewal::Renewal;
 use arrayvec::ArrayVec;
-use ptpm_codec::{Action, Buffer, ClockIdentity, DATA_FIELD_OCTETS, PortIdentity, overwrite};
+use ptpm_codec::{Action, ClockIdentity, DATA_FIELD_OCTETS, PortIdentity, overwrite};
 use ptpm_data::{Reply, Request, Rights};
 use std::marker::Model;
 
@@ -162,20 +161,20 @@ impl Kept {
     /// Keeps another request, with its number, in place of this one, and the messages of the reply to it as they were sent
     /// for the copy that was heard.
     #[inline(always)]
-    pub(crate) fn keep_sent(
+    pub(crate) fn keep_sent<O: Outgoing>(
         &mut self,
         heard: &Heard,
         request: &Request<'_>,
         of_port: bool,
-        entries: &[(u16, Buffer)],
+        out: &O,
     )
         requires action { IsRequestAction request.now.action }
         requires octets { IsDataField request.now.octets }
         requires manager { heard.now.source ≡ self.old.manager }
         requires sent { (r : ReplyValue) × IsSentReply self.old.clock heard.now
-            request.now.action request.now.id of_port (sent entries.now) r }
+            request.now.action request.now.id of_port (O.sent out.now) r }
         ensures { (r : ReplyValue) → IsSentReply self.old.clock heard.now
-            request.now.action request.now.id of_port (sent entries.now) r →
+            request.now.action request.now.id of_port (O.sent out.now) r →
             self.new ≡ record { clock = self.old.clock; manager = self.old.manager; entry = record { number = heard.now.number; request = request.now; reply = r } } }
     {
         self.number = heard.number;
@@ -192,17 +191,18 @@ impl Kept {
             id: request.id,
         };
         let (sizes, messages) = (&mut self.sizes, &mut self.messages);
-        keep_each(&exchange, heard, of_port, entries, sizes, messages);
+        keep_each(&exchange, heard, of_port, out, sizes, messages);
     }
 
     /// Appends the messages of the reply, for the copy of the request that was heard.
     #[inline(always)]
-    pub(crate) fn resend(&self, heard: &Heard, ingress: u16, out: &mut Outbox)
+    pub(crate) fn resend<O: Outgoing>(&self, heard: &Heard, ingress: u16, out: &mut O)
         requires manager { heard.now.source ≡ self.now.manager }
         requires number { heard.now.number ≡ self.now.entry.number }
-        requires room { length out.old + length self.now.entry.reply.answers ≤ 15 }
-        ensures { out.new
-            ≡ out.old ++ rendered self.now.clock heard.now self.now.entry.reply ingress }
+        requires room { length (O.sent out.old) + length self.now.entry.reply.answers ≤ 15 }
+        ensures messages { O.sent out.new
+            ≡ O.sent out.old ++ rendered self.now.clock heard.now self.now.entry.reply ingress }
+        ensures grown { O.grown out.old out.new }
     {
         let renewal = Renewal {
             domain: heard.domain,

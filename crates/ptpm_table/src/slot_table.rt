@@ -8,7 +8,6 @@ ghost use Rattle.ptpm_codec.specs.Identity.{identity_cmp, same_identity};
 ghost use Rattle.ptpm_codec.specs.Message.{IsDataField, IsRequestAction};
 ghost use Rattle.ptpm_table.specs.Entries.{FitsRequest, is_known};
 ghost use Rattle.ptpm_data.specs.Reply.{ReplyValue};
-ghost use Rattle.ptpm_table.specs.Outbox.{sent};
 ghost use Rattle.ptpm_table.specs.Sending.{IsSentReply};
 ghost use Rattle.ptpm_table.specs.Managers.{IsFresh, has_twice, identities, most_managers, rights_in, slots_refusal, table_refusal};
 ghost use Rattle.ptpm_table.specs.Slots.{clocks, configured, entry_in, rights_at, slot_of, used};
@@ -18,10 +17,11 @@ use crate::heard::Heard;
 use crate::kept::judge;
 use crate::managers::{MANAGERS, refusal};
 use crate::outbox::Outbox;
+use crate::outgoing::Outgoing;
 use crate::reply_table::{Look, ReplyTable, SureTable};
 use crate::slot::{Kept, Slot};
 use arrayvec::ArrayVec;
-use ptpm_codec::{Buffer, ClockIdentity, OutOfMemory, PortIdentity};
+use ptpm_codec::{ClockIdentity, OutOfMemory, PortIdentity};
 use ptpm_data::{Reply, Request, Rights};
 
 /// The latest accepted requests in so many slots inside the value, one for each manager. A clock has sixteen managers at
@@ -181,12 +181,12 @@ fn put(slots: &mut [Slot], who: &PortIdentity, number: u16, request: &Request<'_
 
 /// Keeps a request in its manager's slot, and the messages of its reply as they were sent for the copy that was heard.
 #[inline(always)]
-fn put_sent(
+fn put_sent<O: Outgoing>(
     slots: &mut [Slot],
     heard: &Heard,
     request: &Request<'_>,
     of_port: bool,
-    messages: &[(u16, Buffer)],
+    out: &O,
 )
     requires action { IsRequestAction request.now.action }
     requires known { IsTrue (is_known heard.now.source (identities (configured slots.old))) }
@@ -194,11 +194,11 @@ fn put_sent(
     requires octets { IsDataField request.now.octets }
     requires sent { (clock : ClockIdentity) × (r : ReplyValue)
         × All (λ c. c ≡ clock) (clocks slots.old) × IsSentReply clock heard.now
-        request.now.action request.now.id of_port (sent messages.now) r }
+        request.now.action request.now.id of_port (O.sent out.now) r }
     ensures entries { (clock : ClockIdentity) (r : ReplyValue)
         → All (λ c. c ≡ clock) (clocks slots.old)
         → IsSentReply clock heard.now request.now.action request.now.id of_port
-        (sent messages.now) r
+        (O.sent out.now) r
         → fin.from_entries {R = identity_cmp} (used slots.new)
         ≡ fin.insert (fin.from_entries (used slots.old)) heard.now.source
         (record { number = heard.now.number; request = request.now; reply = r }) }
@@ -208,7 +208,7 @@ fn put_sent(
     if let Some(place) = place_of(slots, &heard.source) {
         let slot = &mut slots[place];
         slot.taken = true;
-        slot.kept.keep_sent(heard, request, of_port, messages);
+        slot.kept.keep_sent(heard, request, of_port, out);
     }
 }
 
@@ -287,12 +287,8 @@ impl<const SLOTS: usize> ReplyTable for SlotTable<SLOTS> {
         Ok(())
     }
 
-    #[inline(always)]
     fn resend(&self, heard: &Heard, ingress: u16, out: &mut Outbox) {
-        match slot_at(self.slots.as_slice(), &heard.source) {
-            Some(slot) => slot.kept.resend(heard, ingress, out),
-            None => unreachable!(),
-        }
+        self.send_again(heard, ingress, out);
     }
 }
 
@@ -303,8 +299,22 @@ impl<const SLOTS: usize> SureTable for SlotTable<SLOTS> {
     }
 
     #[inline(always)]
-    fn keep_sent(&mut self, heard: &Heard, request: &Request<'_>, of_port: bool, out: &Outbox) {
+    fn keep_sent<O: Outgoing>(
+        &mut self,
+        heard: &Heard,
+        request: &Request<'_>,
+        of_port: bool,
+        out: &O,
+    ) {
         let slots = self.slots.as_mut_slice();
-        put_sent(slots, heard, request, of_port, out.entries());
+        put_sent(slots, heard, request, of_port, out);
+    }
+
+    #[inline(always)]
+    fn send_again<O: Outgoing>(&self, heard: &Heard, ingress: u16, out: &mut O) {
+        match slot_at(self.slots.as_slice(), &heard.source) {
+            Some(slot) => slot.kept.resend(heard, ingress, out),
+            None => unreachable!(),
+        }
     }
 }

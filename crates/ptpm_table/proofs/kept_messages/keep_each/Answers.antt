@@ -1,9 +1,8 @@
 use Rattle.std.proofs.Common.{◌∙◌, ap, arith, length, map, subst, sym}
 use Rattle.std.proofs.lemmas.List.{length-map}
 use Rattle.ptpm_table.specs.KeptMessages.{envelope_of}
-use Rattle.ptpm_table.specs.Outbox.{sent}
 use Rattle.ptpm_table.specs.Sending.{AreSmall, all_octets}
-use Rattle.ptpm_table.proofs.SentLaws.{all_room, count_of, each_room, each_small, entries_count, message_at, sent_back, sent_encoded, sent_kept, sent_messages}
+use Rattle.ptpm_table.proofs.SentLaws.{all_room, count_of, each_room, each_small, message_at, sent_back, sent_encoded, sent_kept, sent_messages}
 use Rattle.ptpm_table.proofs.kept_messages.keep_each.Goals as goal
 
 pub copy_all-requires-clause-few : goal.copy_all-requires-clause-few
@@ -17,8 +16,7 @@ copy_all-requires-clause-few c =
       arith,
       room.1,
       same,
-      count_of (sent c.args.entries.now),
-      entries_count c.args.entries.now,
+      count_of _,
       length-map c.requires.sent.0.answers (message_at (envelope_of x) c.args.heard.now s.ingress),
     )
 

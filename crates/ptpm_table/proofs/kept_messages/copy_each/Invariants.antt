@@ -1,0 +1,9 @@
+use Rattle.std.proofs.Common.{◌≡◌, length, map, take}
+use Rattle.ptpm_table.specs.Sending.{all_octets, messages_of}
+use Rattle.ptpm_table.proofs.kept_messages.copy_each.Given as goal
+
+abbrev pub invariant-loop-place : goal.invariant-loop-place
+invariant-loop-place g l = record {
+  sizes : l.sizes.items ≡ map length (messages_of (take l.place (g.O.sent l.out)));
+  messages : l.messages.items ≡ all_octets (messages_of (take l.place (g.O.sent l.out)));
+}
