@@ -1,5 +1,5 @@
 -- The messages that were sent, as they are kept.
-use Rattle.std.proofs.Common.{All, Bool, true, false, ◌≡◌, ◌<◌, ◌≤◌, ℕ, zero, suc, ◌+◌, ◌*◌, ◌++◌, ◌∷◌, [], List, ap, append-nil, append_assoc, arith, drop, get_or, length, map, refl, subst, sym, take, ◌∙◌}
+use Rattle.std.proofs.Common.{All, Bool, true, false, ◌≡◌, ◌<◌, ◌≤◌, ℕ, zero, suc, ◌+◌, ◌-◌, ◌*◌, ◌++◌, ◌∷◌, [], List, ap, append-nil, append_assoc, arith, drop, get_or, length, map, refl, subst, sym, take, ◌∙◌}
 use Rattle.std.proofs.Math.Seq.{take-suc}
 use Rattle.std.proofs.lemmas.List.{drop-append-le, drop_all, length-append, map-append, take-append-drop, take-append-le, take_all}
 use Rattle.ptpm_codec.specs.declared.message.Action.{Action}
@@ -29,13 +29,14 @@ all_octets-append (x ∷ xs) ys = ap (λ o. x ++ o) (all_octets-append xs ys) �
 -- the messages up to a place, and the one there
 pub one_more : (xs : List (ℕ × List ℕ)) (place : ℕ)
     → place < length xs
-    → messages_of (take (suc place) xs) ≡ messages_of (take place xs) ++ (get_or xs place (0, [])).1 ∷ []
+    → messages_of (take (place + 1) xs) ≡ messages_of (take place xs) ++ (get_or xs place (0, [])).1 ∷ []
 one_more xs place inside =
-    ap messages_of (take-suc xs place (0, []) inside) ∙ messages_of-append (take place xs) (get_or xs place (0, []) ∷ [])
+    let next : place + 1 ≡ suc place = omega arith in
+    ap (λ n. messages_of (take n xs)) next ∙ ap messages_of (take-suc xs place (0, []) inside) ∙ messages_of-append (take place xs) (get_or xs place (0, []) ∷ [])
 
 pub octets_more : (xs : List (ℕ × List ℕ)) (place : ℕ)
     → place < length xs
-    → all_octets (messages_of (take (suc place) xs)) ≡ all_octets (messages_of (take place xs)) ++ (get_or xs place (0, [])).1
+    → all_octets (messages_of (take (place + 1) xs)) ≡ all_octets (messages_of (take place xs)) ++ (get_or xs place (0, [])).1
 octets_more xs place inside =
     ap all_octets (one_more xs place inside)
     ∙ all_octets-append (messages_of (take place xs)) ((get_or xs place (0, [])).1 ∷ [])
@@ -43,7 +44,7 @@ octets_more xs place inside =
 
 pub sizes_more : (xs : List (ℕ × List ℕ)) (place : ℕ)
     → place < length xs
-    → map length (messages_of (take (suc place) xs)) ≡ map length (messages_of (take place xs)) ++ length (get_or xs place (0, [])).1 ∷ []
+    → map length (messages_of (take (place + 1) xs)) ≡ map length (messages_of (take place xs)) ++ length (get_or xs place (0, [])).1 ∷ []
 sizes_more xs place inside =
     ap (map length) (one_more xs place inside)
     ∙ map-append length (messages_of (take place xs)) ((get_or xs place (0, [])).1 ∷ [])

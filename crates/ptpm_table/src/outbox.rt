@@ -100,7 +100,7 @@ impl Outgoing for Outbox {
     }
 
     fn message(&self, place: usize) -> &[u8] {
-        self.places[place].1.as_slice()
+        self.entries()[place].1.as_slice()
     }
 
     #[inline(always)]

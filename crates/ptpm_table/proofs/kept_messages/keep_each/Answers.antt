@@ -6,7 +6,7 @@ use Rattle.ptpm_table.proofs.SentLaws.{all_room, count_of, each_room, each_small
 use Rattle.ptpm_table.proofs.kept_messages.keep_each.Goals as goal
 
 pub copy_all-requires-clause-few : goal.copy_all-requires-clause-few
-copy_all-requires-clause-few c =
+copy_all-requires-clause-few g c =
     let x = c.args.exchange.now in
     let s = c.requires.sent.1 in
     let each = sent_encoded x c.args.heard.now c.args.of_port _ c.requires.sent.0 c.requires.asks c.requires.copy s in
@@ -16,12 +16,12 @@ copy_all-requires-clause-few c =
       arith,
       room.1,
       same,
-      count_of _,
+      count_of (g.O.Outgoing.sent c.args.out.now),
       length-map c.requires.sent.0.answers (message_at (envelope_of x) c.args.heard.now s.ingress),
     )
 
 pub copy_all-requires-clause-small : goal.copy_all-requires-clause-small
-copy_all-requires-clause-small c =
+copy_all-requires-clause-small g c =
     let x = c.args.exchange.now in
     let s = c.requires.sent.1 in
     let each = sent_encoded x c.args.heard.now c.args.of_port _ c.requires.sent.0 c.requires.asks c.requires.copy s in
@@ -29,7 +29,7 @@ copy_all-requires-clause-small c =
     (each_small c.args.of_port (envelope_of x) c.args.heard.now s.ingress c.requires.sent.0.answers each)
 
 pub copy_all-requires-clause-room : goal.copy_all-requires-clause-room
-copy_all-requires-clause-room c =
+copy_all-requires-clause-room g c =
     let x = c.args.exchange.now in
     let s = c.requires.sent.1 in
     let room = all_room c.args.of_port _ _ s.count (each_room c.args.of_port (envelope_of x) c.args.heard.now s.ingress c.requires.sent.0.answers
@@ -38,7 +38,7 @@ copy_all-requires-clause-room c =
     omega (arith, room.0, same)
 
 pub returns-clause-kept : goal.returns-clause-kept
-returns-clause-kept c =
+returns-clause-kept g c =
     let x = c.args.exchange.now in
     let s = c.requires.sent.1 in
     let each = sent_encoded x c.args.heard.now c.args.of_port _ c.requires.sent.0 c.requires.asks c.requires.copy s in
@@ -48,7 +48,7 @@ returns-clause-kept c =
     (c.copy_all.ensures.messages ∙ ap all_octets same)
 
 pub returns-clause-answers : goal.returns-clause-answers
-returns-clause-answers c = λ r s.
+returns-clause-answers g c = λ r s.
     let x = c.args.exchange.now in
     let each = sent_encoded x c.args.heard.now c.args.of_port _ r c.requires.asks c.requires.copy s in
     let same = sent_messages x c.args.heard.now c.args.of_port _ r s in

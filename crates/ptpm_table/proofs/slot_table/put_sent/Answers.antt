@@ -4,7 +4,6 @@ use Rattle.std.proofs.lemmas.List.Quantifiers.{position-Some}
 use Rattle.ptpm_codec.specs.declared.identity.ClockIdentity.{ClockIdentity}
 use Rattle.ptpm_codec.specs.Identity.{identity_cmp, same_identity}
 use Rattle.ptpm_table.specs.KeptMessages.{KeptValue}
-use Rattle.ptpm_table.specs.Outbox.{sent}
 use Rattle.ptpm_table.specs.Sending.{IsSentReply}
 use Rattle.ptpm_table.specs.Slots.{used}
 use Rattle.ptpm_table.specs.declared.slot.Slot.{Slot}
@@ -13,42 +12,42 @@ use Rattle.ptpm_table.proofs.Slots.{clock_at, clocks_set, configured_set, entrie
 use Rattle.ptpm_table.proofs.slot_table.put_sent.Goals as goal
 
 pub keep_sent-requires-clause-manager : goal.keep_sent-requires-clause-manager
-keep_sent-requires-clause-manager c =
+keep_sent-requires-clause-manager g c =
     let old : Slot = get_or c.args.slots.now c.in-Some.place c.index-slots-place.result in
     let p = position-Some (λ (s : Slot). same_identity c.args.heard.now.source s.kept.manager) c.args.slots.now c.in-Some.place c.index-slots-place.result (sym c.in-Some.ensures) in
     same_identity-true c.args.heard.now.source old.kept.manager p.1
 
 pub keep_sent-requires-clause-sent : goal.keep_sent-requires-clause-sent
-keep_sent-requires-clause-sent c =
+keep_sent-requires-clause-sent g c =
     let p = position-Some (λ (s : Slot). same_identity c.args.heard.now.source s.kept.manager) c.args.slots.now c.in-Some.place c.index-slots-place.result (sym c.in-Some.ensures) in
     let is = clock_at c.requires.sent.0 c.args.slots.now c.in-Some.place c.index-slots-place.result p.0 c.requires.sent.2 in
-    (c.requires.sent.1, subst (λ (k : ClockIdentity). IsSentReply k c.args.heard.now c.args.request.now.action c.args.request.now.id c.args.of_port (sent c.args.messages.now) c.requires.sent.1) (sym is) c.requires.sent.3)
+    (c.requires.sent.1, subst (λ (k : ClockIdentity). IsSentReply k c.args.heard.now c.args.request.now.action c.args.request.now.id c.args.of_port (g.O.Outgoing.sent c.args.out.now) c.requires.sent.1) (sym is) c.requires.sent.3)
 
 pub returns-in-Some-clause-entries : goal.returns-in-Some-clause-entries
-returns-in-Some-clause-entries c = λ clock r own s.
+returns-in-Some-clause-entries g c = λ clock r own s.
     let new : Slot = record { rights = (get_or c.args.slots.now c.in-Some.place c.index-slots-place.result).rights; taken = true; kept = c.keep_sent.new.self } in
     let p = position-Some (λ (s : Slot). same_identity c.args.heard.now.source s.kept.manager) c.args.slots.now c.in-Some.place c.index-slots-place.result (sym c.in-Some.ensures) in
     let is = clock_at clock c.args.slots.now c.in-Some.place c.index-slots-place.result p.0 own in
-    let kept = c.keep_sent.ensures r (subst (λ (k : ClockIdentity). IsSentReply k c.args.heard.now c.args.request.now.action c.args.request.now.id c.args.of_port (sent c.args.messages.now) r) (sym is) s) in
+    let kept = c.keep_sent.ensures r (subst (λ (k : ClockIdentity). IsSentReply k c.args.heard.now c.args.request.now.action c.args.request.now.id c.args.of_port (g.O.Outgoing.sent c.args.out.now) r) (sym is) s) in
     entries_set c.args.heard.now.source c.args.slots.now c.in-Some.place c.index-slots-place.result new c.requires.distinct p.0 p.1
     (ap (λ (k : KeptValue). k.manager) kept) refl refl
     ∙ ap (λ (k : KeptValue). insert (from_entries {R = identity_cmp} (used c.args.slots.now)) c.args.heard.now.source k.entry) kept
 
 pub returns-in-Some-clause-configured : goal.returns-in-Some-clause-configured
-returns-in-Some-clause-configured c =
+returns-in-Some-clause-configured g c =
     let new : Slot = record { rights = (get_or c.args.slots.now c.in-Some.place c.index-slots-place.result).rights; taken = true; kept = c.keep_sent.new.self } in
     let p = position-Some (λ (s : Slot). same_identity c.args.heard.now.source s.kept.manager) c.args.slots.now c.in-Some.place c.index-slots-place.result (sym c.in-Some.ensures) in
-    let kept = c.keep_sent.ensures c.requires.sent.1 (subst (λ (k : ClockIdentity). IsSentReply k c.args.heard.now c.args.request.now.action c.args.request.now.id c.args.of_port (sent c.args.messages.now) c.requires.sent.1)
+    let kept = c.keep_sent.ensures c.requires.sent.1 (subst (λ (k : ClockIdentity). IsSentReply k c.args.heard.now c.args.request.now.action c.args.request.now.id c.args.of_port (g.O.Outgoing.sent c.args.out.now) c.requires.sent.1)
     (sym (clock_at c.requires.sent.0 c.args.slots.now c.in-Some.place c.index-slots-place.result p.0 c.requires.sent.2)) c.requires.sent.3) in
     configured_set c.args.slots.now c.in-Some.place c.index-slots-place.result new p.0 (ap (λ (k : KeptValue). k.manager) kept) refl
 
 pub returns-in-Some-clause-clocks : goal.returns-in-Some-clause-clocks
-returns-in-Some-clause-clocks c =
+returns-in-Some-clause-clocks g c =
     let p = position-Some (λ (s : Slot). same_identity c.args.heard.now.source s.kept.manager) c.args.slots.now c.in-Some.place c.index-slots-place.result (sym c.in-Some.ensures) in
     let new : Slot = record { rights = (get_or c.args.slots.now c.in-Some.place c.index-slots-place.result).rights; taken = true; kept = c.keep_sent.new.self } in
-    let kept = c.keep_sent.ensures c.requires.sent.1 (subst (λ (k : ClockIdentity). IsSentReply k c.args.heard.now c.args.request.now.action c.args.request.now.id c.args.of_port (sent c.args.messages.now) c.requires.sent.1)
+    let kept = c.keep_sent.ensures c.requires.sent.1 (subst (λ (k : ClockIdentity). IsSentReply k c.args.heard.now c.args.request.now.action c.args.request.now.id c.args.of_port (g.O.Outgoing.sent c.args.out.now) c.requires.sent.1)
     (sym (clock_at c.requires.sent.0 c.args.slots.now c.in-Some.place c.index-slots-place.result p.0 c.requires.sent.2)) c.requires.sent.3) in
     clocks_set c.args.slots.now c.in-Some.place c.index-slots-place.result new p.0 (ap (λ (k : KeptValue). k.clock) kept)
 
 pub returns-in_default-clause-entries : goal.returns-in_default-clause-entries
-returns-in_default-clause-entries c = absurd (has_place c.args.heard.now.source c.args.slots.now c.requires.known (sym c.in_default.ensures))
+returns-in_default-clause-entries g c = absurd (has_place c.args.heard.now.source c.args.slots.now c.requires.known (sym c.in_default.ensures))

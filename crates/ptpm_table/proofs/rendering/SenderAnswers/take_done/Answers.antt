@@ -7,9 +7,10 @@ use Rattle.ptpm_table.proofs.rendering.SenderAnswers.take_done.Goals as goal
 
 -- the message of no octets
 pub returns : goal.returns
-returns c =
+returns g c =
     let sent = c.take_value.ensures in
     record {
+      grown_is = sent.grown_is;
       same_reference = sent.same_reference;
       envelope = sent.envelope;
       id = sent.id;

@@ -3,7 +3,8 @@ use Rattle.ptpm_table.specs.SendingLaws.{one_fits}
 use Rattle.ptpm_table.proofs.rendering.SenderAnswers.take_value.Goals as goal
 
 pub returns : goal.returns
-returns c = record {
+returns g c = record {
+  grown_is = search rules;
   same_reference = search rules;
   envelope = search rules;
   id = search rules;

@@ -6,23 +6,23 @@ use Rattle.ptpm_table.proofs.KeptMessageLaws.{length_answers, renewed_reply}
 use Rattle.ptpm_table.proofs.slot.Kept.resend.Goals as goal
 
 pub resend_each-requires-clause-room : goal.resend_each-requires-clause-room
-resend_each-requires-clause-room c =
+resend_each-requires-clause-room g c =
     let count = length_answers c.self.inside.of_port c.self.inside.sizes.items c.self.inside.messages.items in
     let kept = ap (λ (v : KeptValue). length v.entry.reply.answers) c.self.view_is in
     let sizes = ap length c.as_slice-sizes.ensures.value in
     omega (arith, count, kept, sizes, c.requires.room)
 
-pub returns : goal.returns
-returns c =
+pub returns-clause-messages : goal.returns-clause-messages
+returns-clause-messages g c =
     let e : Envelope = record { clock = c.self.inside.clock; manager = c.self.inside.manager; number = c.self.inside.number; action = reply_action c.self.inside.action; id = c.self.inside.id } in
     let low : c.args.ingress < 2 ^ 16 = omega arith in
     let copy : IsCopyOf e c.args.heard.now = record {
       source_is = c.requires.manager ∙ sym (ap (λ (v : KeptValue). v.manager) c.self.view_is);
       number_is = c.requires.number ∙ sym (ap (λ (v : KeptValue). v.entry.number) c.self.view_is);
     } in
-    c.resend_each.ensures
-    ∙ ((λ i. c.args.out.now ++ map (λ m. (c.args.ingress, renewed c.args.heard.now.domain (c.port_for.ensures i) (c.saturating_sub.ensures i) m))
+    c.resend_each.ensures.messages
+    ∙ ((λ i. g.O.Outgoing.sent c.args.out.now ++ map (λ m. (c.args.ingress, renewed c.args.heard.now.domain (c.port_for.ensures i) (c.saturating_sub.ensures i) m))
     (pieces (c.as_slice-sizes.ensures.value i) (c.as_slice.ensures.value i)))
-    ∙ ((λ i. c.args.out.now ++ renewed_reply c.self.inside.of_port e c.args.heard.now c.args.ingress
+    ∙ ((λ i. g.O.Outgoing.sent c.args.out.now ++ renewed_reply c.self.inside.of_port e c.args.heard.now c.args.ingress
     (pieces c.self.inside.sizes.items c.self.inside.messages.items) copy low c.self.invariant.each i)
-    ∙ (λ i. c.args.out.now ++ rendered (c.self.view_is i).clock c.args.heard.now (c.self.view_is i).entry.reply c.args.ingress)))
+    ∙ (λ i. g.O.Outgoing.sent c.args.out.now ++ rendered (c.self.view_is i).clock c.args.heard.now (c.self.view_is i).entry.reply c.args.ingress)))

@@ -4,7 +4,6 @@ use Rattle.std.specs.FinMap.{from_entries, insert}
 use Rattle.std.specs.List.{refill}
 use Rattle.arrayvec.specs.ArrayVec.{array_vec_len}
 use Rattle.ptpm_codec.specs.Identity.{identity_cmp}
-use Rattle.ptpm_table.specs.Sending.{IsSentReply}
 use Rattle.ptpm_table.specs.Slots.{clocks, used}
 use Rattle.ptpm_table.specs.declared.slot.Slot.{Slot}
 use Rattle.ptpm_table.proofs.slot_table.SlotTableSureTable.keep_sent.Goals as goal
@@ -19,8 +18,7 @@ refilled n xs ws same few =
 pub returns-clause-kept : goal.returns-clause-kept
 returns-clause-kept g c = λ r s.
     let own = subst (λ ss. All (λ k. k ≡ c.args.self.now.clock) (clocks ss)) (sym c.as_mut_slice-slots.ensures.value) c.args.self.now.own in
-    let there = subst (λ ms. IsSentReply c.args.self.now.clock c.args.heard.now c.args.request.now.action c.args.request.now.id c.args.of_port ms r) (sym c.entries.ensures.messages) s in
-    let kept = c.put_sent.ensures.entries c.args.self.now.clock r own there in
+    let kept = c.put_sent.ensures.entries c.args.self.now.clock r own s in
     let size = ap length c.as_mut_slice-slots.ensures.value in
     ap (λ (ss : List Slot). from_entries {R = identity_cmp} (used ss))
     (refilled (array_vec_len c.args.self.now.slots) c.args.self.now.slots.items c.put_sent.new.slots (omega (arith, size, c.put_sent.auto.slots)) (omega arith))
