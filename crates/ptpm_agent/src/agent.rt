@@ -28,9 +28,7 @@ use ptpm_data::{
     ClockObservation, DataSets, ObservationError, PortObservation, PortsLeftDisabled, Reply,
     Request, Rights, data_sets_law,
 };
-use ptpm_table::{
-    Heard, Look, Outbox, Outgoing, ReplyTable, Sender, SlotTable, SureTable, render,
-};
+use ptpm_table::{Heard, Look, Outbox, Outgoing, ReplyTable, Sender, SlotTable, SureTable, render};
 
 /// A clock's data sets and its reply table, and what becomes of the datagrams that come in at its ports.
 #[derive(Drop)]
@@ -262,11 +260,14 @@ impl<T: ReplyTable + Drop> Agent<T> {
             message.now) }
         ensures grown { O.grown out.old out.new }
     {
-        if verdict == Verdict::AnsweredUnnumbered {
-            let request = request_of(message);
-            let heard = heard_of(message);
-            let mut sender = Sender::new(&self.table.clock(), &heard, &request, ingress, out);
-            self.sets.read_into(&request, &mut sender);
+        match verdict {
+            Verdict::AnsweredUnnumbered => {
+                let request = request_of(message);
+                let heard = heard_of(message);
+                let mut sender = Sender::new(&self.table.clock(), &heard, &request, ingress, out);
+                self.sets.read_into(&request, &mut sender);
+            }
+            _ => {}
         }
     }
 
@@ -420,13 +421,7 @@ impl<T: SureTable + Drop> Agent<T> {
     }
 
     /// Carries out a new request, keeps it with its reply, and sends the messages of the reply.
-    fn accept<O: Outgoing>(
-        &mut self,
-        ingress: u16,
-        message: &View<'_>,
-        rights: Rights,
-        out: &mut O,
-    )
+    fn accept<O: Outgoing>(&mut self, ingress: u16, message: &View<'_>, rights: Rights, out: &mut O)
         requires new { judged
             (clock_of T.owner self.old) (state_of T.entries self.old) message.now
             ≡ Verdict.AnsweredNew }

@@ -25,5 +25,4 @@ pub same_clock : (o : ObservedClock) (ports : List ObservedPort) (c : HostedCloc
 same_clock o ports c more = record {
   sets_are = rw (observed-refused (clock_observation o) (port_observations ports) c.agent.sets NoPort (no_port o ports c more)) refl;
   table_is = refl;
-  outbox_is = refl;
 }

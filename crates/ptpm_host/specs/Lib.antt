@@ -1,6 +1,8 @@
 pub mod Settings
 pub mod Numbers
 pub mod Clock
+pub mod Places
+pub mod PlacesLaws
 pub mod Reading
 pub mod Told
 pub mod SessionSettings

@@ -72,11 +72,10 @@ observe_refusal o ports c = observation_refusal (clock_observation o) (port_obse
 abbrev pub ports_left : List ObservedPort → HostedClock → List Bool
 ports_left ports c = left_disabled (port_observations ports) c.agent.sets.ports
 
--- The data sets are those after the observation; what is kept of each manager is as it was, and so is what was sent last.
+-- The data sets are those after the observation; what is kept of each manager is as it was.
 pub record IsObserved (o : ObservedClock) (ports : List ObservedPort) (before after : HostedClock) : Type 0 where
   pub sets_are : after.agent.sets ≡ observed (clock_observation o) (port_observations ports) before.agent.sets
   pub table_is : after.agent.table ≡ before.agent.table
-  pub outbox_is : after.outbox ≡ before.outbox
 
 -- ---- the ports that stayed disabled as a number: 1 for port 1, 2 for port 2, 4 for port 3, and so on, summed up
 

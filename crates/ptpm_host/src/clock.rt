@@ -14,23 +14,22 @@ ghost use Rattle.ptpm_data.specs.Start.{unless};
 
 use crate::judged::JudgedStart;
 use crate::observing::{ObservedClock, ObservedPort, port_observations};
+use crate::places::Places;
 use crate::refusal::{HandleRefusal, StartRefusal};
-use crate::sent::{Sent, hand_out};
+use crate::sent::Sent;
 use crate::settings::{ClockSettings, ManagerSettings, PortSettings};
 use ptpm_agent::{Agent, Verdict};
 use ptpm_data::{ChangedMembers, DataSets, ObservationError, PortsLeftDisabled};
-use ptpm_table::{BoundTable, Outbox, ReplyTable, SlotTable};
+use ptpm_table::{BoundTable, Outgoing, ReplyTable, SlotTable};
 use std::alloc::Global;
 
 /// How many messages a clock sends at most for a datagram: seven copies that it passes on, and eight replies.
 pub const MOST_SENT: usize = 15;
 
-/// A clock, and room for what it sends.
+/// A clock. What it sends is written right into places of its host.
 #[derive(Drop)]
 pub struct HostedClock {
     agent: Agent<BoundTable>,
-    /// What the latest datagram had sent.
-    outbox: Outbox,
 }
 
 /// What became of a datagram.
@@ -100,7 +99,6 @@ impl HostedClock {
         let table = SlotTable::without_managers(sets.identity());
         HostedClock {
             agent: Agent::new(sets, table),
-            outbox: Outbox::new(),
         }
     }
 
@@ -121,7 +119,7 @@ impl HostedClock {
         self.agent.sets()
     }
 
-    /// What becomes of a datagram that comes in at a port: one turn of the clock. What it sends is copied into the first
+    /// What becomes of a datagram that comes in at a port: one turn of the clock. What it sends is written into the first
     /// places of `room`; the places behind them stay as they are, and so does what stands behind each message. Where it is
     /// refused, nothing changes. Takes no memory.
     #[tactic(auto, using(crate::proofs::Behind::kept_at_first))]
@@ -134,9 +132,7 @@ impl HostedClock {
         ensures turned { IfOk result
             (λ h.
             IsTurned (turn (clock_in self.old) (state_in self.old) port datagram.now) h.verdict
-            self.new.outbox (state_in self.new)) }
-        ensures messages { IfOk result
-            (λ h. messages_in (take h.count room.new) ≡ self.new.outbox) }
+            (messages_in (take h.count room.new)) (state_in self.new)) }
         ensures count { IfOk result (λ h. h.count ≤ length room.new) }
         ensures places { IfOk result (λ h. drop h.count room.new ≡ drop h.count room.old) }
         ensures behind { AllZip KeepsBehind room.old room.new }
@@ -153,12 +149,11 @@ impl HostedClock {
         if room.len() < MOST_SENT {
             return Err(HandleRefusal::NoRoom);
         }
-        let verdict = self.agent.handle(port, datagram, &mut self.outbox);
-        let messages = self.outbox.entries();
-        hand_out(messages, room);
+        let mut places = Places::new(room);
+        let verdict = self.agent.handle_into(port, datagram, &mut places);
         Ok(Handled {
             verdict,
-            count: messages.len(),
+            count: places.count(),
         })
     }
 
@@ -173,13 +168,11 @@ impl HostedClock {
         ensures turned { IfOk result
             (λ h.
             IsTurned (turn (clock_in self.old) (state_in self.old) port datagram.now) h.0.verdict
-            self.new.outbox (state_in self.new)) }
+            (messages_in (take h.0.count room.new)) (state_in self.new)) }
         ensures changed { IfOk result
             (λ h. h.1 ≡ changed self.old.agent.sets self.new.agent.sets) }
         ensures new_alone { IfOk result
             (λ h. h.0.verdict ≢ Verdict.AnsweredNew → h.1 ≡ no_members) }
-        ensures messages { IfOk result
-            (λ h. messages_in (take h.0.count room.new) ≡ self.new.outbox) }
         ensures count { IfOk result (λ h. h.0.count ≤ length room.new) }
         ensures places { IfOk result (λ h. drop h.0.count room.new ≡ drop h.0.count room.old) }
         ensures behind { AllZip KeepsBehind room.old room.new }

@@ -11,6 +11,7 @@ mod laws;
 mod names;
 mod numbers;
 mod observing;
+mod places;
 mod reading;
 mod refusal;
 mod sent;
@@ -36,7 +37,7 @@ pub use observing::{ObservedClock, ObservedPort, left_number};
 pub use refusal::{
     HandleRefusal, ReadRefusal, ReportRefusal, SendRefusal, SessionRefusal, StartRefusal,
 };
-pub use sent::{Sent, hand_out};
+pub use sent::Sent;
 pub use session::{Heard, HostedSession};
 pub use session_settings::SessionSettings;
 pub use settings::{ClockSettings, ManagerSettings, PortSettings};

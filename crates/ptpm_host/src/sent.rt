@@ -1,11 +1,19 @@
-//! Messages as a host in C takes them over.
+//! Messages as a host in C takes them over, each written right where it stays.
 
-ghost use Rattle.std.specs.Prelude.{◌≡◌, ◌≤◌, [], drop, length, take};
-ghost use Rattle.std.specs.List.{AllZip};
-ghost use Rattle.ptpm_table.specs.Outbox.{sent};
-ghost use Rattle.ptpm_host.specs.Clock.{KeepsBehind, message_in, messages_in};
+ghost use Rattle.std.specs.Prelude.{◌≡◌, ◌-◌, ◌<◌, ◌≤◌, ℕ, [], length, slice_set};
+ghost use Rattle.ptpm_codec.specs.Canonical.{canonical};
+ghost use Rattle.ptpm_codec.specs.Layout.{boundary_hops, message_octets};
+ghost use Rattle.ptpm_codec.specs.declared.message.Action.{Action};
+ghost use Rattle.ptpm_codec.specs.declared.message.Body.TheVariants as bodies;
+ghost use Rattle.ptpm_codec.specs.declared.message.Message.{Message};
+ghost use Rattle.ptpm_codec.specs.Envelope.{envelope_of, sent_with};
+ghost use Rattle.ptpm_codec.specs.Message.{Fits};
+ghost use Rattle.ptpm_codec.specs.Reading.{IsWellFormed};
+ghost use Rattle.ptpm_table.specs.KeptMessages.{renewed};
+ghost use Rattle.ptpm_host.specs.Clock.{KeepsBehind, message_in};
 
-use ptpm_codec::Buffer;
+use ptpm_codec::{Envelope, REFUSAL_OCTETS, less_hop_in, message_size};
+use ptpm_table::{Renewal, renew};
 
 /// A message, and the port that it is to be sent at.
 #[repr(C)]
@@ -32,15 +40,77 @@ impl Sent {
         }
     }
 
-    /// Puts a message in place of the one that stands here.
-    fn put(&mut self, port: u16, message: &Buffer)
-        ensures message { message_in self.new ≡ (port, message.now.items) }
+    /// The message, without its port.
+    pub(crate) fn message(&self) -> &[u8]
+        ensures { result.now ≡ (message_in self.now).1 }
+    {
+        &self.octets[..(self.size as usize).min(1472)]
+    }
+
+    /// Writes the message of an envelope that answers this dataField from the source port in place of the one that stands here.
+    #[inline(always)]
+    pub(crate) fn put_answer(&mut self, port: u16, envelope: &Envelope, source: u16, octets: &[u8])
+        requires { length octets.now ≤ 1418 }
+        ensures message { (v : Message) (action : Action) (id : ℕ) → Fits v →
+            envelope.now ≡ envelope_of v action id →
+            message_in self.new
+            ≡ (port, canonical (sent_with v source (bodies.Answer action id octets.now))) }
         ensures behind { KeepsBehind self.old self.new }
     {
-        let octets = message.as_slice();
+        let size = 54 + octets.len();
         self.port = port;
-        self.size = octets.len() as u16;
-        copy(&mut self.octets[..octets.len()], octets);
+        self.size = size as u16;
+        envelope.answer_in(source, octets, &mut self.octets[..size]);
+    }
+
+    /// Writes the message of an envelope that refuses this id from the source port in place of the one that stands here.
+    pub(crate) fn put_refusal(
+        &mut self,
+        port: u16,
+        envelope: &Envelope,
+        source: u16,
+        error: u16,
+        id: u16,
+    )
+        ensures message { (v : Message) (action : Action) (answered : ℕ) → Fits v →
+            envelope.now ≡ envelope_of v action answered →
+            message_in self.new
+            ≡ (port, canonical (sent_with v source (bodies.Fault action error id []))) }
+        ensures behind { KeepsBehind self.old self.new }
+    {
+        self.port = port;
+        self.size = REFUSAL_OCTETS as u16;
+        envelope.refuse_in(source, error, id, &mut self.octets[..REFUSAL_OCTETS]);
+    }
+
+    /// Writes a well-formed datagram's message, with boundaryHops less by one, in place of the one that stands here.
+    pub(crate) fn put_less_hop(&mut self, port: u16, datagram: &[u8])
+        requires well_formed { IsWellFormed datagram.now }
+        requires hops { 0 < boundary_hops datagram.now }
+        ensures message { message_in self.new ≡ (port,
+            slice_set (message_octets datagram.now) 45 (boundary_hops datagram.now - 1)) }
+        ensures behind { KeepsBehind self.old self.new }
+    {
+        let size = message_size(datagram);
+        self.port = port;
+        self.size = size as u16;
+        less_hop_in(datagram, &mut self.octets[..size]);
+    }
+
+    /// Writes a copy of a kept message, with what depends on the copy that is answered written over, in place of the one that
+    /// stands here.
+    pub(crate) fn put_renewed(&mut self, port: u16, message: &[u8], renewal: &Renewal)
+        requires long { 54 ≤ length message.now }
+        requires small { length message.now ≤ 1472 }
+        ensures message { message_in self.new ≡ (port,
+            renewed renewal.now.domain renewal.now.port renewal.now.hops message.now) }
+        ensures behind { KeepsBehind self.old self.new }
+    {
+        self.port = port;
+        self.size = message.len() as u16;
+        let octets = &mut self.octets[..message.len()];
+        copy(octets, message);
+        renew(octets, renewal);
     }
 }
 
@@ -81,20 +151,4 @@ fn copy_array<const N: usize>(place: &mut [u8], octets: &[u8])
         unreachable!()
     };
     *place = *octets;
-}
-
-/// Copies messages into the first places. The places behind them stay as they are, and so does what stands behind each
-/// message.
-#[tactic(auto, using(crate::proofs::Behind::kept_at_first, crate::proofs::Behind::kept_at_write))]
-pub fn hand_out(messages: &[(u16, Buffer)], room: &mut [Sent])
-    requires room { length messages.now ≤ length room.old }
-    ensures messages { messages_in (take (length messages.now) room.new) ≡ sent messages.now }
-    ensures places { drop (length messages.now) room.new ≡ drop (length messages.now) room.old }
-    ensures behind { AllZip KeepsBehind room.old room.new }
-    ensures size { length room.new ≡ length room.old }
-{
-    for place in 0..messages.len() {
-        let (port, message) = &messages[place];
-        room[place].put(*port, message);
-    }
 }

@@ -4,6 +4,6 @@ use Rattle.ptpm_agent.proofs.forwarding.send_on.Given as goal
 
 abbrev pub invariant-loop-port : goal.invariant-loop-port
 invariant-loop-port g l = record {
-  copies : g.O.sent l.out ≡ copies_up_to l.ingress l.sets l.datagram (l.port - 1);
-  grown : g.O.grown l.initial.out l.out;
+  copies : g.O.Outgoing.sent l.out ≡ copies_up_to l.ingress l.sets l.datagram (l.port - 1);
+  grown : g.O.Outgoing.grown l.initial.out l.out;
 }

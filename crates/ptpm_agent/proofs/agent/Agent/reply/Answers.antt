@@ -28,20 +28,20 @@ returns-in-AnsweredUnnumbered-clause-sent g c =
     let state = state_of g.T.ReplyTable.entries c.args.self.now in
     let q = c.request_of-request.result in
     let sets = c.args.self.now.sets in
-    let sent : c.read_into.new.answers.out.now
-    ≡ c.args.out.now
+    let sent : g.O.Outgoing.sent c.read_into.new.answers.out.now
+    ≡ g.O.Outgoing.sent c.args.out.now
     ++ reply_messages clock c.args.ingress (heard_of c.args.message.now) (reply_by c.args.verdict clock state c.args.message.now) =
-    sent_rendered c.new-sender.result c.read_into.new.answers c.clock.result c.heard_of-heard.result (read_reply_to q sets)
-    (reply_action q.action) q.id c.args.ingress c.args.out.now (read_reply_to-parts q sets)
+    sent_rendered g.O.Outgoing.sent g.O.Outgoing.grown c.new-sender.result c.read_into.new.answers c.clock.result c.heard_of-heard.result (read_reply_to q sets)
+    (reply_action q.action) q.id c.args.ingress (g.O.Outgoing.sent c.args.out.now) (read_reply_to-parts q sets)
     (record {
-      held_is = c.new-sender.ensures.held;
+      held_is = ap g.O.Outgoing.sent c.new-sender.ensures.held;
       ingress_is = c.new-sender.ensures.ingress;
       id_is = c.new-sender.ensures.id;
       envelope_is = c.new-sender.ensures.envelope;
       fits = c.new-sender.ensures.fits;
     })
     c.read_into.ensures
-    ∙ (λ i. c.args.out.now ++ rendered (c.clock.ensures i) (c.heard_of-heard.ensures i) (read_reply_to (c.request_of-request.ensures i) sets) c.args.ingress)
-    ∙ ap (λ (w : Verdict). c.args.out.now ++ reply_messages clock c.args.ingress (heard_of c.args.message.now) (reply_by w clock state c.args.message.now))
+    ∙ (λ i. g.O.Outgoing.sent c.args.out.now ++ rendered (c.clock.ensures i) (c.heard_of-heard.ensures i) (read_reply_to (c.request_of-request.ensures i) sets) c.args.ingress)
+    ∙ ap (λ (w : Verdict). g.O.Outgoing.sent c.args.out.now ++ reply_messages clock c.args.ingress (heard_of c.args.message.now) (reply_by w clock state c.args.message.now))
     (sym c.in-AnsweredUnnumbered.is) in
     search (rules, sent)

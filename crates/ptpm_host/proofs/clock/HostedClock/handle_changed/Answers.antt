@@ -10,5 +10,5 @@ returns-in-AnsweredNew-clause-changed c =
 
 pub returns-in_default-clause-changed : goal.returns-in_default-clause-changed
 returns-in_default-clause-changed c =
-    nothing_moved c.args.self.now c.handle.new.self c.args.port c.args.datagram.now c.in_ok-handled.handled.verdict c.handle.new.self.outbox
+    nothing_moved c.args.self.now c.handle.new.self c.args.port c.args.datagram.now c.in_ok-handled.handled.verdict _
     c.in_ok-handled.ensures.turned c.in_default.not-AnsweredNew

@@ -1,0 +1,13 @@
+-- Places into which messages were written, behind those that stood there.
+use Rattle.std.specs.Prelude.{◌≡◌, ◌≤◌, drop, take}
+use Rattle.std.specs.List.{AllZip}
+use Rattle.ptpm_host.specs.declared.places.Places.{Places}
+use Rattle.ptpm_host.specs.Clock.{KeepsBehind}
+
+-- the messages stay, the places behind the last one stay, and what stands behind each message stays
+pub record HasGrown (a b : Places) : Type 0 where
+  pub same_reference : b.room.ghost_name ≡ a.room.ghost_name
+  pub more : a.count ≤ b.count
+  pub messages : take a.count b.room.now ≡ take a.count a.room.now
+  pub places : drop b.count b.room.now ≡ drop b.count a.room.now
+  pub behind : AllZip KeepsBehind a.room.now b.room.now

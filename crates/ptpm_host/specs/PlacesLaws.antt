@@ -1,0 +1,62 @@
+-- What is written into places after what was written.
+use Rattle.std.proofs.Common.{◌≡◌, ◌∙◌, ◌+◌, ◌-◌, ◌≤◌, ℕ, zero, suc, List, [], ◌∷◌, ap, arith, drop, refl, subst, sym, take}
+use Rattle.std.proofs.lemmas.List.{drop-drop}
+use Rattle.std.specs.List.{AllZip}
+use Rattle.ptpm_host.specs.declared.places.Places.{Places}
+use Rattle.ptpm_host.specs.declared.sent.Sent.{Sent}
+use Rattle.ptpm_host.specs.Clock.{KeepsBehind}
+use Rattle.ptpm_host.specs.Places.{HasGrown}
+
+kept_by_none : (room : List Sent) → AllZip KeepsBehind room room
+kept_by_none [] = tt
+kept_by_none (s ∷ ss) = (refl, kept_by_none ss)
+
+pub grown_by_none : (a : Places) → HasGrown a a
+grown_by_none a = record { same_reference = refl; more = omega arith; messages = refl; places = refl; behind = kept_by_none a.room.now }
+
+first_same : (r b : Sent) (rs bs : List Sent) → r ∷ rs ≡ b ∷ bs → r ≡ b
+first_same r b rs bs h = cc
+
+rest_same : (r b : Sent) (rs bs : List Sent) → r ∷ rs ≡ b ∷ bs → rs ≡ bs
+rest_same r b rs bs h = cc
+
+-- what was written in two steps, of which the second left what the first wrote
+kept_twice : (n : ℕ) (as bs cs : List Sent)
+    → AllZip KeepsBehind as bs
+    → AllZip KeepsBehind bs cs
+    → take n cs ≡ take n bs
+    → drop n bs ≡ drop n as
+    → AllZip KeepsBehind as cs
+kept_twice zero as bs cs first second messages places = subst (λ xs. AllZip KeepsBehind xs cs) places second
+kept_twice (suc n) [] [] cs first second messages places = second
+kept_twice (suc n) [] (b ∷ bs) cs first second messages places = absurd first
+kept_twice (suc n) (a ∷ as) [] cs first second messages places = absurd first
+kept_twice (suc n) (a ∷ as) (b ∷ bs) [] first second messages places = absurd second
+kept_twice (suc n) (a ∷ as) (b ∷ bs) (c ∷ cs) first second messages places = (
+  subst (λ (x : Sent). KeepsBehind a x) (sym (first_same c b (take n cs) (take n bs) messages)) first.0,
+  kept_twice n as bs cs first.1 second.1 (rest_same c b (take n cs) (take n bs) messages) places,
+)
+
+-- fewer of the first, and more of the last
+take_fewer : (n m : ℕ) (xs ys : List Sent) → n ≤ m → take m xs ≡ take m ys → take n xs ≡ take n ys
+take_fewer zero m xs ys less same = refl
+take_fewer (suc n) zero xs ys less same = absurd (omega (arith, less))
+take_fewer (suc n) (suc m) [] [] less same = refl
+take_fewer (suc n) (suc m) [] (y ∷ ys) less same = cc
+take_fewer (suc n) (suc m) (x ∷ xs) [] less same = cc
+take_fewer (suc n) (suc m) (x ∷ xs) (y ∷ ys) less same =
+    (λ i. first_same x y (take m xs) (take m ys) same i ∷ take_fewer n m xs ys (omega (arith, less)) (rest_same x y (take m xs) (take m ys) same) i)
+
+drop_more : (n m : ℕ) (xs ys : List Sent) → n ≤ m → drop n xs ≡ drop n ys → drop m xs ≡ drop m ys
+drop_more n m xs ys less same =
+    let parts : m ≡ n + (m - n) = omega (arith, less) in
+    ap (λ k. drop k xs) parts ∙ sym (drop-drop (m - n) n xs) ∙ ap (drop (m - n)) same ∙ drop-drop (m - n) n ys ∙ sym (ap (λ k. drop k ys) parts)
+
+pub grown_twice : (a b c : Places) → HasGrown a b → HasGrown b c → HasGrown a c
+grown_twice a b c first second = record {
+  same_reference = second.same_reference ∙ first.same_reference;
+  more = omega (arith, first.more, second.more);
+  messages = take_fewer a.count b.count c.room.now b.room.now first.more second.messages ∙ first.messages;
+  places = second.places ∙ drop_more b.count c.count b.room.now a.room.now second.more first.places;
+  behind = kept_twice b.count a.room.now b.room.now c.room.now first.behind second.behind second.messages first.places;
+}

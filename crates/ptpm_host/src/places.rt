@@ -1,0 +1,74 @@
+//! A host's places, into which a clock's messages are written.
+
+ghost use Rattle.std.specs.Prelude.{◌≡◌, ◌≤◌, length};
+
+use crate::sent::Sent;
+use ptpm_codec::Envelope;
+use ptpm_table::{Outgoing, Renewal};
+
+/// A host's places, fifteen at least, of which the first have messages.
+#[derive(Drop)]
+pub(crate) struct Places<'a> {
+    room: &'a mut [Sent],
+    /// How many have a message.
+    count: usize,
+    ghost wide: { 15 ≤ length room.now },
+    ghost few: { count ≤ 15 },
+}
+
+impl<'a> Places<'a> {
+    /// These places, without messages.
+    #[inline(always)]
+    pub(crate) fn new(room: &'a mut [Sent]) -> Places<'a>
+        requires { 15 ≤ length room.old }
+        ensures same_reference { result.room.ghost_name ≡ room.entry.ghost_name }
+        ensures room { result.room.now ≡ room.old }
+        ensures count { result.count ≡ 0 }
+    {
+        Places { room, count: 0 }
+    }
+}
+
+impl Outgoing for Places<'_> {
+    ghost use Rattle.std.specs.Prelude.{take};
+    ghost use Rattle.ptpm_host.specs.Clock.{messages_in};
+    ghost use Rattle.ptpm_host.specs.Places.{HasGrown};
+    ghost use Rattle.ptpm_host.specs.PlacesLaws.{grown_by_none, grown_twice};
+
+    ghost sent = { λ p. messages_in (take p.count p.room.now) };
+
+    ghost grown = { HasGrown };
+
+    ghost grown_by_none = { grown_by_none };
+
+    ghost grown_twice = { grown_twice };
+
+    fn count(&self) -> usize {
+        self.count
+    }
+
+    fn message(&self, place: usize) -> &[u8] {
+        self.room[place].message()
+    }
+
+    #[inline(always)]
+    fn push_answer(&mut self, port: u16, envelope: &Envelope, source: u16, octets: &[u8]) {
+        self.room[self.count].put_answer(port, envelope, source, octets);
+        self.count += 1;
+    }
+
+    fn push_refusal(&mut self, port: u16, envelope: &Envelope, source: u16, error: u16, id: u16) {
+        self.room[self.count].put_refusal(port, envelope, source, error, id);
+        self.count += 1;
+    }
+
+    fn push_less_hop(&mut self, port: u16, datagram: &[u8]) {
+        self.room[self.count].put_less_hop(port, datagram);
+        self.count += 1;
+    }
+
+    fn push_renewed(&mut self, port: u16, message: &[u8], renewal: &Renewal) {
+        self.room[self.count].put_renewed(port, message, renewal);
+        self.count += 1;
+    }
+}
