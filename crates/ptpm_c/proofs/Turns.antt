@@ -21,17 +21,16 @@ pub turned_to : (held left : Option HostedClock) (b c d : HostedClock) (port : �
     (datagram : List ℕ) (verdict : Verdict) (number : ℕ) (messages : List (ℕ × List ℕ))
     → held ≡ Some b
     → held ≡ Some c
-    → IsTurned (turn_of b port datagram) verdict d.outbox (state_in d)
+    → IsTurned (turn_of b port datagram) verdict messages (state_in d)
     → number ≡ verdict_number verdict
-    → messages ≡ d.outbox
     → clock_in d ≡ clock_in b
     → left ≡ Some d
     → IsSomeAnd left (λ e. IsTurnedTo c port datagram number messages e)
-turned_to held left b c d port datagram verdict number messages is_b is_c turned numbered handed clock is_d =
+turned_to held left b c d port datagram verdict number messages is_b is_c turned numbered clock is_d =
     let same : b ≡ c = one_value held b c is_b is_c in
     let at_b : IsTurnedTo b port datagram number messages d = record {
       number_is = numbered ∙ ap verdict_number turned.verdict_is;
-      messages_are = handed ∙ turned.outbox_is;
+      messages_are = turned.outbox_is;
       sets_are = turned.sets_are;
       entries_are = turned.entries_are;
       clock_is = clock;

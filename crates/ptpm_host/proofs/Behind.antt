@@ -1,9 +1,11 @@
 -- What stands behind the messages of places stays, also where a message is put into one of them.
-use Rattle.std.proofs.Common.{◌≡◌, ◌+◌, ℕ, zero, suc, List, [], ◌∷◌, drop, slice_index_or, slice_set, refl, sym, subst, ap, ◌∙◌, arith}
-use Rattle.std.proofs.lemmas.List.{drop-set-lt}
+use Rattle.std.proofs.Common.{◌≡◌, ◌+◌, ℕ, zero, suc, List, [], ◌∷◌, drop, slice_index_or, slice_set, refl, sym, subst, take, ap, ◌∙◌, arith}
+use Rattle.std.proofs.lemmas.List.{drop-set-lt, take-set}
 use Rattle.std.specs.List.{AllZip}
 use Rattle.ptpm_host.specs.declared.sent.Sent.{Sent}
+use Rattle.ptpm_host.specs.declared.places.Places.{Places}
 use Rattle.ptpm_host.specs.Clock.{KeepsBehind}
+use Rattle.ptpm_host.specs.Places.{HasGrown}
 
 pub kept_at_first : (room : List Sent) → AllZip KeepsBehind room room
 kept_at_first [] = tt
@@ -43,3 +45,21 @@ places_at_write before room place s same =
     ∙ ap (λ (places : List Sent). drop 1 places) same
     ∙ sym (drop_next place before)
     ∙ sym (ap (λ (n : ℕ). drop n before) next)
+
+-- a message more, behind those that stand there
+pub grown_at_write : (a b : Places) (d s : Sent)
+    → b.room.ghost_name ≡ a.room.ghost_name
+    → b.room.now ≡ slice_set a.room.now a.count s
+    → b.count ≡ a.count + 1
+    → KeepsBehind (slice_index_or a.room.now a.count d) s
+    → HasGrown a b
+grown_at_write a b d s same written counted put = record {
+  same_reference = same;
+  more = omega (arith, counted);
+  messages = ap (take a.count) written ∙ take-set a.room.now a.count s;
+  places =
+      (λ i. drop (counted i) (written i))
+      ∙ places_at_write a.room.now a.room.now a.count s refl
+      ∙ sym (ap (λ (n : ℕ). drop n a.room.now) counted);
+  behind = subst (AllZip KeepsBehind a.room.now) (sym written) (kept_at_write a.room.now a.room.now a.count d s (kept_at_first a.room.now) refl put);
+}

@@ -21,20 +21,20 @@ rest_same : (r b : Sent) (rs bs : List Sent) → r ∷ rs ≡ b ∷ bs → rs �
 rest_same r b rs bs h = cc
 
 -- what was written in two steps, of which the second left what the first wrote
-kept_twice : (n : ℕ) (as bs cs : List Sent)
-    → AllZip KeepsBehind as bs
-    → AllZip KeepsBehind bs cs
-    → take n cs ≡ take n bs
-    → drop n bs ≡ drop n as
-    → AllZip KeepsBehind as cs
-kept_twice zero as bs cs first second messages places = subst (λ xs. AllZip KeepsBehind xs cs) places second
-kept_twice (suc n) [] [] cs first second messages places = second
-kept_twice (suc n) [] (b ∷ bs) cs first second messages places = absurd first
-kept_twice (suc n) (a ∷ as) [] cs first second messages places = absurd first
-kept_twice (suc n) (a ∷ as) (b ∷ bs) [] first second messages places = absurd second
-kept_twice (suc n) (a ∷ as) (b ∷ bs) (c ∷ cs) first second messages places = (
-  subst (λ (x : Sent). KeepsBehind a x) (sym (first_same c b (take n cs) (take n bs) messages)) first.0,
-  kept_twice n as bs cs first.1 second.1 (rest_same c b (take n cs) (take n bs) messages) places,
+kept_twice : (n : ℕ) (xs ys zs : List Sent)
+    → AllZip KeepsBehind xs ys
+    → AllZip KeepsBehind ys zs
+    → take n zs ≡ take n ys
+    → drop n ys ≡ drop n xs
+    → AllZip KeepsBehind xs zs
+kept_twice zero xs ys zs first second messages places = subst (λ ws. AllZip KeepsBehind ws zs) places second
+kept_twice (suc n) [] [] zs first second messages places = second
+kept_twice (suc n) [] (y ∷ ys) zs first second messages places = absurd first
+kept_twice (suc n) (x ∷ xs) [] zs first second messages places = absurd first
+kept_twice (suc n) (x ∷ xs) (y ∷ ys) [] first second messages places = absurd second
+kept_twice (suc n) (x ∷ xs) (y ∷ ys) (z ∷ zs) first second messages places = (
+  subst (λ (w : Sent). KeepsBehind x w) (sym (first_same z y (take n zs) (take n ys) messages)) first.0,
+  kept_twice n xs ys zs first.1 second.1 (rest_same z y (take n zs) (take n ys) messages) places,
 )
 
 -- fewer of the first, and more of the last

@@ -195,7 +195,7 @@ impl HostedClock {
     /// What the host observes of its clock and of its ports from 1 on: the observed members move, and no other; but for the
     /// state of a disabled port, which stays and is told, and for the quality of a grandmaster that is the clock itself. What
     /// is kept of each manager stays. Refused by the first reason that holds, and then nothing changes. Takes no memory.
-    #[tactic(auto, using(crate::proofs::Places::no_port, crate::proofs::Places::same_clock))]
+    #[tactic(auto, using(crate::proofs::ObservedPlaces::no_port, crate::proofs::ObservedPlaces::same_clock))]
     pub fn observe(
         &mut self,
         clock: &ObservedClock,

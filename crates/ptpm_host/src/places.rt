@@ -48,27 +48,32 @@ impl Outgoing for Places<'_> {
     }
 
     fn message(&self, place: usize) -> &[u8] {
-        self.room[place].message()
+        let room = &*self.room;
+        room[place].message()
     }
 
     #[inline(always)]
     fn push_answer(&mut self, port: u16, envelope: &Envelope, source: u16, octets: &[u8]) {
-        self.room[self.count].put_answer(port, envelope, source, octets);
+        let room = &mut *self.room;
+        room[self.count].put_answer(port, envelope, source, octets);
         self.count += 1;
     }
 
     fn push_refusal(&mut self, port: u16, envelope: &Envelope, source: u16, error: u16, id: u16) {
-        self.room[self.count].put_refusal(port, envelope, source, error, id);
+        let room = &mut *self.room;
+        room[self.count].put_refusal(port, envelope, source, error, id);
         self.count += 1;
     }
 
     fn push_less_hop(&mut self, port: u16, datagram: &[u8]) {
-        self.room[self.count].put_less_hop(port, datagram);
+        let room = &mut *self.room;
+        room[self.count].put_less_hop(port, datagram);
         self.count += 1;
     }
 
     fn push_renewed(&mut self, port: u16, message: &[u8], renewal: &Renewal) {
-        self.room[self.count].put_renewed(port, message, renewal);
+        let room = &mut *self.room;
+        room[self.count].put_renewed(port, message, renewal);
         self.count += 1;
     }
 }

@@ -87,8 +87,10 @@ impl Sent {
     pub(crate) fn put_less_hop(&mut self, port: u16, datagram: &[u8])
         requires well_formed { IsWellFormed datagram.now }
         requires hops { 0 < boundary_hops datagram.now }
-        ensures message { message_in self.new ≡ (port,
-            slice_set (message_octets datagram.now) 45 (boundary_hops datagram.now - 1)) }
+        ensures message { message_in self.new ≡ (
+          port,
+          slice_set (message_octets datagram.now) 45 (boundary_hops datagram.now - 1),
+        ) }
         ensures behind { KeepsBehind self.old self.new }
     {
         let size = message_size(datagram);
@@ -102,8 +104,10 @@ impl Sent {
     pub(crate) fn put_renewed(&mut self, port: u16, message: &[u8], renewal: &Renewal)
         requires long { 54 ≤ length message.now }
         requires small { length message.now ≤ 1472 }
-        ensures message { message_in self.new ≡ (port,
-            renewed renewal.now.domain renewal.now.port renewal.now.hops message.now) }
+        ensures message { message_in self.new ≡ (
+          port,
+          renewed renewal.now.domain renewal.now.port renewal.now.hops message.now,
+        ) }
         ensures behind { KeepsBehind self.old self.new }
     {
         self.port = port;

@@ -1,0 +1,15 @@
+use Rattle.std.proofs.Common.{◌≡◌, ◌∙◌, ◌++◌, ap, arith, drop, length}
+use Rattle.std.proofs.lemmas.List.{drop-append-le, drop_all, take-append-le, take_all}
+use Rattle.ptpm_host.proofs.sent.Sent.put_refusal.Goals as goal
+
+pub returns-clause-message : goal.returns-clause-message
+returns-clause-message c = λ v action answered fits is.
+    let size : length c.refuse_in.new.place ≡ 60 = omega (arith, c.refuse_in.auto.place) in
+    let whole = take-append-le 60 c.refuse_in.new.place (drop 60 c.args.self.now.octets) (omega (arith, size)) ∙ take_all 60 c.refuse_in.new.place (omega (arith, size)) in
+    ap (λ m. (c.args.port, m)) (whole ∙ c.refuse_in.ensures v action answered fits is)
+
+pub returns-clause-behind : goal.returns-clause-behind
+returns-clause-behind c =
+    let size : length c.refuse_in.new.place ≡ 60 = omega (arith, c.refuse_in.auto.place) in
+    drop-append-le 60 c.refuse_in.new.place (drop 60 c.args.self.now.octets) (omega (arith, size))
+    ∙ ap (λ o. o ++ drop 60 c.args.self.now.octets) (drop_all 60 c.refuse_in.new.place (omega (arith, size)))
