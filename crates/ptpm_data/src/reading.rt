@@ -35,7 +35,7 @@ impl DataSets {
     }
 
     /// Does what `read` does, and puts the answers where they go: one of the clock, or up to eight of ports. It is never
-    /// inlined: the room of a dataField is in its frame.
+    /// inlined, so that a datagram without an answer pays nothing for its frame.
     #[inline(never)]
     pub fn read_into<A: Answers>(&self, request: &Request<'_>, answers: &mut A)
         requires action { IsRequestAction request.now.action }

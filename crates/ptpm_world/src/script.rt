@@ -192,6 +192,7 @@ fn play<R: Read + Drop, W: Write>(
         // it is in the range that the laws of networks ask for
         placed_event(&event);
         write_event(world, number, &event, out)?;
+        drop(event);
         show_written(is_awaited, out)?;
     }
     Ok(())

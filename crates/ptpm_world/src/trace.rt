@@ -1,6 +1,7 @@
 //! The trace of a script: what each event did, and how the network stands at the end.
 
 ghost use Rattle.std.specs.Prelude.{◌≡◌, ◌≢◌, IfErr, IfSome, OnOk, decimal, flat_map, true};
+ghost use Rattle.std.specs.Fmt.{WritesOnOk};
 ghost use Rattle.std.specs.Io.KnownBytes.{Appends};
 ghost use Rattle.ptpm_data.specs.Members.{HasPort};
 ghost use Rattle.ptpm_network.specs.Network.{Network};
@@ -24,8 +25,8 @@ use ptpm_script::{Event, Hexadecimal};
 use std::io::Write;
 use std::{fmt, io};
 
-/// Room for what is displayed in one piece.
-const SHORT: usize = 64;
+/// Room for what is displayed in one piece: a line of any event, and of a report whose value is short.
+const SHORT: usize = 128;
 
 /// Lets an event happen and writes its line: its number, its verb, what it did or why it was refused, whether it was the
 /// delivery of a late frame, and which frames were made.
@@ -61,7 +62,6 @@ pub(crate) fn write_event<W: Write>(
     Ok(())
 }
 
-#[tactic(auto, unfolding(crate::specs::Trace::event_text))]
 fn write_line<W: Write>(
     number: u32,
     event: &Event,
@@ -72,21 +72,13 @@ fn write_line<W: Write>(
     ensures { OnOk result (Appends (W.contents out.old) (W.contents out.new)
         (event_text number (verb_of event.now) answer.took answer.is_late made.before made.after)) }
 {
-    write_number(number as u64, out)?;
-    out.write_all(b" ")?;
-    out.write_all(event.verb().as_bytes())?;
-    out.write_all(b" ")?;
-    write_answer(answer, out)?;
-    write_frames(made, out)?;
-    out.write_all(b"\n")
-}
-
-/// A number in decimal.
-fn write_number<W: Write>(number: u64, out: &mut W) -> io::Result<()>
-    ensures { OnOk result (Appends (W.contents out.old) (W.contents out.new) (decimal number)) }
-{
-    let mut buffer = Buffer::new();
-    out.write_all(buffer.format(number).as_bytes())
+    let line = EventText {
+        number,
+        verb: event.verb(),
+        answer,
+        made,
+    };
+    write_shown(&line, out)
 }
 
 /// What a value displays: in one piece where it is short, since each piece costs a writer as much again.
@@ -108,6 +100,40 @@ fn is_out_of_memory(took: &Result<Took, StepError>) -> bool
     matches!(took, Err(StepError::OutOfMemory))
 }
 
+/// What an event's line tells.
+#[derive(Clone, Copy)]
+struct EventText<'a> {
+    number: u32,
+    verb: &'a str,
+    answer: Answer,
+    made: MadeFrames,
+}
+
+impl fmt::Display for EventText<'_> {
+    ghost use Rattle.std.specs.Prelude.{Some};
+
+    ghost output = { λ e. Some (event_text e.number e.verb.now e.answer.took e.answer.is_late
+        e.made.before e.made.after) };
+
+    fn fmt<W: fmt::Write>(&self, f: &mut fmt::Formatter<W>) -> fmt::Result {
+        show_number(self.number as u64, f)?;
+        f.write_str(" ")?;
+        f.write_str(self.verb)?;
+        f.write_str(" ")?;
+        show_answer(self.answer, f)?;
+        show_frames(self.made, f)?;
+        f.write_str("\n")
+    }
+}
+
+/// A number in decimal.
+fn show_number<W: fmt::Write>(number: u64, f: &mut fmt::Formatter<W>) -> fmt::Result
+    ensures { WritesOnOk W.write_str_gives f.old result (decimal number) f.new }
+{
+    let mut buffer = Buffer::new();
+    f.write_str(buffer.format(number))
+}
+
 /// What an event did or why it was refused, and whether it is the delivery of a late frame.
 #[derive(Clone, Copy)]
 struct Answer {
@@ -115,21 +141,21 @@ struct Answer {
     is_late: bool,
 }
 
-fn write_answer<W: Write>(answer: Answer, out: &mut W) -> io::Result<()>
-    ensures { OnOk result (Appends (W.contents out.old) (W.contents out.new)
-        (answer_text answer.took answer.is_late)) }
+fn show_answer<W: fmt::Write>(answer: Answer, f: &mut fmt::Formatter<W>) -> fmt::Result
+    ensures { WritesOnOk W.write_str_gives f.old result (answer_text answer.took answer.is_late)
+        f.new }
 {
     match answer.took {
         Ok(took) => {
-            write_shown(&took, out)?;
+            write!(f, "{took}")?;
             if answer.is_late {
-                out.write_all(b" late")?;
+                f.write_str(" late")?;
             }
             Ok(())
         }
         Err(error) => {
-            out.write_all(b"refused ")?;
-            write_shown(&error, out)
+            f.write_str("refused ")?;
+            write!(f, "{error}")
         }
     }
 }
@@ -141,15 +167,14 @@ struct MadeFrames {
     after: u32,
 }
 
-fn write_frames<W: Write>(made: MadeFrames, out: &mut W) -> io::Result<()>
-    ensures { OnOk result (Appends (W.contents out.old) (W.contents out.new)
-        (frames_text made.before made.after)) }
+fn show_frames<W: fmt::Write>(made: MadeFrames, f: &mut fmt::Formatter<W>) -> fmt::Result
+    ensures { WritesOnOk W.write_str_gives f.old result (frames_text made.before made.after) f.new }
 {
     if made.before < made.after {
-        out.write_all(b" frames ")?;
-        write_number(made.before as u64 + 1, out)?;
-        out.write_all(b"-")?;
-        write_number(made.after as u64, out)?;
+        f.write_str(" frames ")?;
+        show_number(made.before as u64 + 1, f)?;
+        f.write_str("-")?;
+        show_number(made.after as u64, f)?;
     }
     Ok(())
 }
@@ -176,18 +201,15 @@ fn write_session<W: Write>(name: &str, reports: &[Report], out: &mut W) -> io::R
     Ok(())
 }
 
-#[tactic(auto, unfolding(crate::specs::Trace::report_line))]
 fn write_report<W: Write>(name: &str, report: &Report, out: &mut W) -> io::Result<()>
     ensures { OnOk result (Appends (W.contents out.old) (W.contents out.new)
         (report_line name.now report.now)) }
 {
-    out.write_all(b"report ")?;
-    out.write_all(name.as_bytes())?;
-    out.write_all(b" ")?;
-    write_number(report.index, out)?;
-    out.write_all(b" ")?;
-    write_shown(&OutcomeText(&report.outcome), out)?;
-    out.write_all(b"\n")
+    let line = ReportText {
+        session: name,
+        report,
+    };
+    write_shown(&line, out)
 }
 
 /// A line for each data set of the clocks and of their ports.
@@ -252,6 +274,29 @@ fn write_port<W: Write>(name: &str, sets: &DataSets, port: u16, out: &mut W) -> 
     sets.lay(0x2004, port, &mut value);
     let value = Hexadecimal(value.as_slice());
     writeln!(out, "data {name}.{port} 2004 {value}")
+}
+
+/// What a report's line tells.
+#[derive(Clone, Copy)]
+struct ReportText<'a> {
+    session: &'a str,
+    report: &'a Report,
+}
+
+impl fmt::Display for ReportText<'_> {
+    ghost use Rattle.std.specs.Prelude.{Some};
+
+    ghost output = { λ r. Some (report_line r.session.now r.report.now) };
+
+    fn fmt<W: fmt::Write>(&self, f: &mut fmt::Formatter<W>) -> fmt::Result {
+        f.write_str("report ")?;
+        f.write_str(self.session)?;
+        f.write_str(" ")?;
+        show_number(self.report.index, f)?;
+        f.write_str(" ")?;
+        write!(f, "{}", OutcomeText(&self.report.outcome))?;
+        f.write_str("\n")
+    }
 }
 
 /// What a report tells.

@@ -41,7 +41,7 @@ loop-number-preserved g c =
     let event = c.in_ok-event.event in
     let added : List EventLine = record { number = n; event = event } ∷ [] in
     let written = g.W.Write.contents c.loop-number.out in
-    let more = g.W.Write.contents c.show_written-2.new.out in
+    let more = g.W.Write.contents c.show_written-in-loop-number.new.out in
     let counted = c.in_ok-read.ensures.count (ap Ok c.if-branch.true) in
     let take : is_skipped line ≡ false = ap is_skipped (sym c.in_ok-line.ensures.text) ∙ sym c.is_skipped.ensures ∙ c.if-is_skipped.false in
     let read = sym (ap (λ l. read_as n (reading l)) c.in_ok-line.ensures.text) ∙ c.in_ok-event.ensures.event in
@@ -59,7 +59,7 @@ loop-number-preserved g c =
           (c.placed_event.ensures called, tt)
           (appends-keeps written (g.W.Write.contents c.write_event.new.out) more (event_line N called now n event)
           (subst (λ m. Appends written (g.W.Write.contents c.write_event.new.out) (event_line N m now n event)) h.names (c.in_ok-write_event.ensures.line N (h.network N is)))
-          c.show_written-2.ensures.kept)
+          c.show_written-in-loop-number.ensures.kept)
           (ap (λ k. k + 1) counted);
     }
 
@@ -120,5 +120,5 @@ returns-in_err-show_written-clause-played g c = λ N is.
 
 pub returns-in_err-show_written-2-clause-played : goal.returns-in_err-show_written-2-clause-played
 returns-in_err-show_written-2-clause-played g c = λ N is.
-    plays-err c.from_residual-in_err-show_written-2.result c.in_err-show_written-2.field-0.0 _ (g.W.Write.contents c.show_written-2.new.out) c.from_residual-in_err-show_written-2.ensures.1 (c.loop-number.invariant.plays N is) (λ other. absurd (other c.in_err-show_written-2.ensures.fault))
+    plays-err c.from_residual-in_err-show_written-2.result c.in_err-show_written-2.field-0.0 _ (g.W.Write.contents c.show_written-in-loop-number.new.out) c.from_residual-in_err-show_written-2.ensures.1 (c.loop-number.invariant.plays N is) (λ other. absurd (other c.in_err-show_written-2.ensures.fault))
     (λ inside. outside c.in_err-show_written-2.field-0.0 (ap is_outside c.in_err-show_written-2.ensures.fault) inside)

@@ -1,0 +1,14 @@
+use Rattle.ptpm_world.proofs.Common.{refl, report_line}
+use Rattle.std.proofs.lemmas.Grind.{put_two}
+use Rattle.ptpm_world.proofs.trace.ReportTextDisplay.fmt.Goals as goal
+
+pub returns-clause-writes : goal.returns-clause-writes
+unfolding report_line
+returns-clause-writes g c = λ plain ok.
+    let one = c.in_ok-write_str.ensures.writes plain refl in
+    let two = put_two _ _ _ _ _ _ _ one (c.in_ok-write_str-2.ensures.writes one.plain refl) refl in
+    let three = put_two _ _ _ _ _ _ _ two (c.in_ok-write_str-3.ensures.writes two.plain refl) refl in
+    let four = put_two _ _ _ _ _ _ _ three (c.in_ok-show_number.ensures three.plain refl) refl in
+    let five = put_two _ _ _ _ _ _ _ four (c.in_ok-write_str-4.ensures.writes four.plain refl) refl in
+    let six = put_two _ _ _ _ _ _ _ five (c.in_ok-write.ensures.writes five.plain refl) refl in
+    put_two _ _ _ _ _ _ _ six (c.write_str-5.ensures.writes six.plain ok) refl
