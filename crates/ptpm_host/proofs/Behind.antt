@@ -6,13 +6,10 @@ use Rattle.ptpm_host.specs.declared.sent.Sent.{Sent}
 use Rattle.ptpm_host.specs.declared.places.Places.{Places}
 use Rattle.ptpm_host.specs.Clock.{KeepsBehind}
 use Rattle.ptpm_host.specs.Places.{HasGrown}
+use Rattle.ptpm_host.specs.PlacesLaws.{first_same, kept_by_none}
 
 pub kept_at_first : (room : List Sent) → AllZip KeepsBehind room room
-kept_at_first [] = tt
-kept_at_first (s ∷ ss) = (refl, kept_at_first ss)
-
-first_same : (r b : Sent) (rs bs : List Sent) → r ∷ rs ≡ b ∷ bs → r ≡ b
-first_same r b rs bs h = cc
+kept_at_first room = kept_by_none room
 
 -- the place that is written is still as it was before
 pub kept_at_write : (before room : List Sent) (place : ℕ) (d s : Sent)

@@ -7,14 +7,14 @@ use Rattle.ptpm_host.specs.declared.sent.Sent.{Sent}
 use Rattle.ptpm_host.specs.Clock.{KeepsBehind}
 use Rattle.ptpm_host.specs.Places.{HasGrown}
 
-kept_by_none : (room : List Sent) → AllZip KeepsBehind room room
+pub kept_by_none : (room : List Sent) → AllZip KeepsBehind room room
 kept_by_none [] = tt
 kept_by_none (s ∷ ss) = (refl, kept_by_none ss)
 
 pub grown_by_none : (a : Places) → HasGrown a a
 grown_by_none a = record { same_reference = refl; more = omega arith; messages = refl; places = refl; behind = kept_by_none a.room.now }
 
-first_same : (r b : Sent) (rs bs : List Sent) → r ∷ rs ≡ b ∷ bs → r ≡ b
+pub first_same : (r b : Sent) (rs bs : List Sent) → r ∷ rs ≡ b ∷ bs → r ≡ b
 first_same r b rs bs h = cc
 
 rest_same : (r b : Sent) (rs bs : List Sent) → r ∷ rs ≡ b ∷ bs → rs ≡ bs

@@ -19,9 +19,11 @@ pub fn compare(latest: u16, number: u16) -> Serial
     ensures class { result ≡ serial_of latest number }
     ensures same { result ≡ Serial.Same → latest ≡ number }
 {
-    match number.wrapping_sub(latest) {
-        0 => Serial::Same,
-        1..=32767 => Serial::Newer,
-        _ => Serial::Older,
+    if number == latest {
+        Serial::Same
+    } else if number.wrapping_sub(latest) <= 32767 {
+        Serial::Newer
+    } else {
+        Serial::Older
     }
 }
