@@ -38,7 +38,7 @@ extern "C" {
 #define PTPM_VERSION "0.1.0"
 #define PTPM_VERSION_NUMBER 100
 
-/* A clock, about 58,000 octets behind one pointer. All zeros hold no clock: struct ptpm_clock clock = { 0 }; */
+/* A clock, about 34,600 octets behind one pointer. All zeros hold no clock: struct ptpm_clock clock = { 0 }; */
 struct ptpm_clock { void *at; bool live; };
 
 /* The start values of a clock's own members: ptpm_clock_defaults writes them all, then the host writes its own over them.
