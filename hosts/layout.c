@@ -240,9 +240,16 @@ static void observed_of_a_clock(void) {
         check(start(&s) == PTPM_STARTED && ptpm_clock_observe(&clock_held, &o, &none, 0, &left) == PTPM_OBSERVED
               && reads(cases[i].id, 0, cases[i].wanted), cases[i].name);
     }
+}
+
+/* A clock with another grandmaster becomes its own. */
+static void observed_grandmaster(void) {
+    const struct ptpm_observed_port none = { .peer_delay = 0 };
+    const struct ptpm_clock_settings s = own_values();
+    uint8_t left;
     struct ptpm_observed_clock o = observed_values();
     o.has_grandmaster = 1;
-    check(ptpm_clock_observe(&clock_held, &o, &none, 0, &left) == PTPM_OBSERVED, "another grandmaster");
+    check(start(&s) == PTPM_STARTED && ptpm_clock_observe(&clock_held, &o, &none, 0, &left) == PTPM_OBSERVED, "another grandmaster");
     o.is_grandmaster = 0x80;
     check(ptpm_clock_observe(&clock_held, &o, &none, 0, &left) == PTPM_OBSERVED
           && reads(0x2002, 0, ME "0000" "0000" "5152" "21222324" "434422313246" ME), "is_grandmaster");
@@ -301,7 +308,7 @@ static void managers(void) {
           "the port of a manager");
 }
 
-/* The members that a datagram changes, and no others; and each constant stands where the fault of its member does. */
+/* The members that a datagram changes, and no others. */
 static void changes(void) {
     static const struct { const char *source, *target, *tlv; unsigned action; uint32_t clock; uint8_t ports[2]; } cases[] = {
         { "0911", ME "ffff", "0001" "0004" "2005" "6700", PTPM_SET, PTPM_CHANGED_PRIORITY1 | PTPM_CHANGED_GRANDMASTER_PRIORITY1, { 0 } },
@@ -339,6 +346,10 @@ static void changes(void) {
         check(ptpm_clock_handle_changed(&clock_held, 1, octets, size, sent, PTPM_MOST_SENT, &count, &changed) == PTPM_ANSWERED_REPEAT
               && changed.clock == 0 && changed.ports[0] == 0 && changed.ports[1] == 0, "a request again changes nothing");
     }
+}
+
+/* Each constant of a changed member stands where the fault of its member does. */
+static void changed_members(void) {
 #define MEMBER(name) check(PTPM_CHANGED_##name == 1 << (PTPM_BAD_##name - PTPM_BAD_IDENTITY), "PTPM_CHANGED_" #name);
     MEMBER(IDENTITY) MEMBER(DOMAIN) MEMBER(USER_DESCRIPTION) MEMBER(TWO_STEP) MEMBER(PRIORITY1) MEMBER(CLOCK_CLASS)
     MEMBER(CLOCK_ACCURACY) MEMBER(VARIANCE) MEMBER(PRIORITY2) MEMBER(STEPS_REMOVED) MEMBER(OFFSET_FROM_MASTER)
@@ -492,9 +503,11 @@ int main(void) {
     given_values();
     refusals();
     observed_of_a_clock();
+    observed_grandmaster();
     observed_of_ports();
     managers();
     changes();
+    changed_members();
     sessions();
     surveys();
     answer_names();
