@@ -264,7 +264,8 @@ impl<T: ReplyTable + Drop> Agent<T> {
             Verdict::AnsweredUnnumbered => {
                 let request = request_of(message);
                 let heard = heard_of(message);
-                let mut sender = Sender::new(&self.table.clock(), &heard, &request, ingress, out);
+                let mut sender = Sender::new(out);
+                sender.address(&self.table.clock(), &heard, &request, ingress);
                 self.sets.read_into(&request, &mut sender);
             }
             _ => {}
@@ -440,7 +441,8 @@ impl<T: SureTable + Drop> Agent<T> {
         let heard = heard_of(message);
         let request = request_of(message);
         data_sets_law(&self.sets);
-        let mut sender = Sender::new(&self.table.clock(), &heard, &request, ingress, out);
+        let mut sender = Sender::new(out);
+        sender.address(&self.table.clock(), &heard, &request, ingress);
         self.sets.decide_into(&request, rights, &mut sender);
         let of_port = sender.of_port();
         self.table.keep_sent(&heard, &request, of_port, out);

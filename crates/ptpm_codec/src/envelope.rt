@@ -1,6 +1,6 @@
 //! The messages of one reply, of which each has a port and an answer of its own.
 
-ghost use Rattle.std.specs.Prelude.{◌≡◌, ◌<◌, ◌≤◌, ◌+◌, ◌^◌, [], ℕ, length};
+ghost use Rattle.std.specs.Prelude.{◌≡◌, ◌<◌, ◌≤◌, ◌+◌, ◌^◌, [], ℕ, length, replicate};
 ghost use Rattle.byteorder.specs.Endian.{big_bytes};
 ghost use Rattle.ptpm_codec.specs.declared.message.Action.{Action};
 ghost use Rattle.ptpm_codec.specs.declared.message.Body.TheVariants as bodies;
@@ -37,30 +37,36 @@ impl Model for Envelope {
 }
 
 impl Envelope {
-    /// The envelope of the messages like this draft, which is an answer of this id without octets.
+    /// An envelope without address, to be addressed where it stays: one that is returned with its octets would be moved.
     #[inline(always)]
-    pub fn of(draft: &Draft<'_>, id: u16) -> Envelope
+    pub fn blank() -> Envelope
+        ensures { result ≡ replicate 54 0 }
+    {
+        Envelope {
+            head: [0; HEAD_OCTETS],
+        }
+    }
+
+    /// Makes of a blank envelope that of the messages like this draft, which is an answer of this id without octets.
+    #[inline(always)]
+    pub fn address(&mut self, draft: &Draft<'_>, id: u16)
+        requires blank { self.old ≡ replicate 54 0 }
         requires valid { IsValid draft.now }
         requires empty { draft.now.body ≡ bodies.Answer (action_of draft.now.body) id [] }
-        ensures octets { result ≡ canonical draft.now }
+        ensures octets { self.new ≡ canonical draft.now }
         ensures fits { Fits draft.now }
     {
-        let mut head = [0; HEAD_OCTETS];
-        write_at(
-            &mut head,
-            0,
-            &[(draft.sdo / 256) as u8 * 16 + 0xd, 0x12, 0, 54],
-        );
-        write_at(&mut head, 4, &[draft.domain, (draft.sdo % 256) as u8]);
-        write_identity(&mut head, 20, &draft.source);
-        write_u16(&mut head, 30, draft.number);
-        write_at(&mut head, 32, &[0x04, 0x7f]);
-        write_identity(&mut head, 34, &draft.target);
+        let head = &mut self.head;
+        write_at(head, 0, &[(draft.sdo / 256) as u8 * 16 + 0xd, 0x12, 0, 54]);
+        write_at(head, 4, &[draft.domain, (draft.sdo % 256) as u8]);
+        write_identity(head, 20, &draft.source);
+        write_u16(head, 30, draft.number);
+        write_at(head, 32, &[0x04, 0x7f]);
+        write_identity(head, 34, &draft.target);
         let action = draft.body.action().code();
-        write_at(&mut head, 44, &[draft.starting_hops, draft.hops, action, 0]);
-        write_at(&mut head, 48, &[0, 1, 0, 2]);
-        write_u16(&mut head, 52, id);
-        Envelope { head }
+        write_at(head, 44, &[draft.starting_hops, draft.hops, action, 0]);
+        write_at(head, 48, &[0, 1, 0, 2]);
+        write_u16(head, 52, id);
     }
 
     /// Leaves the message that answers this dataField from this port in the buffer, and nothing else. Takes no memory.

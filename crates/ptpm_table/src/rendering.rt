@@ -133,27 +133,45 @@ pub struct Sender<'a, O: Outgoing> {
 }
 
 impl<'a, O: Outgoing> Sender<'a, O> {
-    ghost use Rattle.std.specs.Prelude.{◌≡◌, false};
+    ghost use Rattle.std.specs.Prelude.{◌≡◌, false, replicate};
     ghost use Rattle.ptpm_codec.specs.Envelope.{envelope_of};
     ghost use Rattle.ptpm_codec.specs.Message.{Fits, reply_action};
     ghost use Rattle.ptpm_table.specs.Sending.{empty_reply};
 
-    /// Sends the answers of this clock to a request, for the copy of it that was heard at the ingress port.
+    /// A sender that is not told yet whom it answers.
     #[inline(always)]
-    pub fn new(
+    pub fn new(out: &'a mut O) -> Sender<'a, O>
+        ensures same_reference { result.out.ghost_name ≡ out.entry.ghost_name }
+        ensures held { result.out.now ≡ out.old }
+        ensures of_port { result.of_port ≡ false }
+        ensures blank { result.envelope ≡ replicate 54 0 }
+    {
+        Sender {
+            envelope: Envelope::blank(),
+            id: 0,
+            ingress: 0,
+            of_port: false,
+            out,
+        }
+    }
+
+    /// Has it send the answers of this clock to a request, for the copy of it that was heard at the ingress port. What the
+    /// messages have in common is put together right where the sender stays.
+    #[inline(always)]
+    pub fn address(
+        &mut self,
         me: &ClockIdentity,
         heard: &Heard,
         request: &Request<'_>,
         ingress: u16,
-        out: &'a mut O,
-    ) -> Sender<'a, O>
-        ensures same_reference { result.out.ghost_name ≡ out.entry.ghost_name }
-        ensures held { result.out.now ≡ out.old }
-        ensures ingress { result.ingress ≡ ingress }
-        ensures id { result.id ≡ request.now.id }
-        ensures of_port { result.of_port ≡ false }
+    )
+        requires blank { self.old.envelope ≡ replicate 54 0 }
+        ensures place { self.new.out ≡ self.old.out }
+        ensures ingress { self.new.ingress ≡ ingress }
+        ensures id { self.new.id ≡ request.now.id }
+        ensures of_port { self.new.of_port ≡ self.old.of_port }
         ensures envelope { let action = reply_action request.now.action in
-            result.envelope ≡ envelope_of
+            self.new.envelope ≡ envelope_of
             (empty_reply me.now heard.now action request.now.id ingress) action request.now.id }
         ensures fits { Fits (empty_reply me.now heard.now
             (reply_action request.now.action) request.now.id ingress) }
@@ -161,13 +179,9 @@ impl<'a, O: Outgoing> Sender<'a, O> {
         let empty = PortAnswer::default();
         let action = request.action.reply();
         let draft = draft_of(me, heard, action, request.id, &empty, ingress);
-        Sender {
-            envelope: Envelope::of(&draft, request.id),
-            id: request.id,
-            ingress,
-            of_port: false,
-            out,
-        }
+        self.id = request.id;
+        self.ingress = ingress;
+        self.envelope.address(&draft, request.id);
     }
 
     /// Whether the last answer was of a port.

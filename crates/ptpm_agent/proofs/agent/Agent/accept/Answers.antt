@@ -43,10 +43,10 @@ keep_sent-requires-clause-sent g c =
     let heard = c.heard_of-heard.result in
     let reply = reply_to q c.args.rights c.args.self.now.sets in (
       reply,
-      sent_reply g.O.Outgoing.sent g.O.Outgoing.grown q c.new-sender.result c.decide_into.new.answers (g.T.ReplyTable.owner c.args.self.now.table).identity heard reply
+      sent_reply g.O.Outgoing.sent g.O.Outgoing.grown q c.address.new.self c.decide_into.new.answers (g.T.ReplyTable.owner c.args.self.now.table).identity heard reply
           c.args.ingress c.of_port-of_port.result _
-          (sender_as_made g.O.Outgoing.sent c.new-sender.result _ _ heard _ _ _ [] _ (ap g.O.Outgoing.sent c.new-sender.ensures.held) c.requires.empty
-          c.new-sender.ensures.ingress c.new-sender.ensures.id c.new-sender.ensures.envelope c.new-sender.ensures.fits c.clock.ensures)
+          (sender_as_made g.O.Outgoing.sent c.address.new.self _ _ heard _ _ _ [] _ (ap (λ r. g.O.Outgoing.sent r.now) c.address.ensures.place ∙ ap g.O.Outgoing.sent c.new-sender.ensures.held) c.requires.empty
+          c.address.ensures.ingress c.address.ensures.id c.address.ensures.envelope c.address.ensures.fits c.clock.ensures)
           (fits_numbered q c.args.rights c.args.self.now.sets c.args.message.now reply
           c.request_of-request.ensures c.data_sets_law.ensures.sized p.request p.port c.requires.valid refl)
           c.decide_into.ensures.reply c.of_port-of_port.ensures (search rules),
@@ -62,10 +62,10 @@ returns-clause-accepted g c =
     let reply = reply_to q c.args.rights sets in
     let fits = fits_numbered q c.args.rights sets c.args.message.now reply
     c.request_of-request.ensures c.data_sets_law.ensures.sized p.request p.port c.requires.valid refl in
-    let sent = sent_reply g.O.Outgoing.sent g.O.Outgoing.grown q c.new-sender.result c.decide_into.new.answers (g.T.ReplyTable.owner c.args.self.now.table).identity heard reply
+    let sent = sent_reply g.O.Outgoing.sent g.O.Outgoing.grown q c.address.new.self c.decide_into.new.answers (g.T.ReplyTable.owner c.args.self.now.table).identity heard reply
     c.args.ingress c.of_port-of_port.result _
-    (sender_as_made g.O.Outgoing.sent c.new-sender.result _ _ heard _ _ _ [] _ (ap g.O.Outgoing.sent c.new-sender.ensures.held) c.requires.empty
-    c.new-sender.ensures.ingress c.new-sender.ensures.id c.new-sender.ensures.envelope c.new-sender.ensures.fits c.clock.ensures)
+    (sender_as_made g.O.Outgoing.sent c.address.new.self _ _ heard _ _ _ [] _ (ap (λ r. g.O.Outgoing.sent r.now) c.address.ensures.place ∙ ap g.O.Outgoing.sent c.new-sender.ensures.held) c.requires.empty
+    c.address.ensures.ingress c.address.ensures.id c.address.ensures.envelope c.address.ensures.fits c.clock.ensures)
     fits c.decide_into.ensures.reply c.of_port-of_port.ensures (search rules) in
     λ i. record {
       sets = (c.decide_into.ensures.changed ∙ (λ j. changed_by (c.request_of-request.ensures j) (c.requires.rights j) sets)) i;
@@ -84,10 +84,10 @@ returns-clause-sent g c =
     let sets = c.args.self.now.sets in
     let sent : g.O.Outgoing.sent c.decide_into.new.answers.out.now
     ≡ rendered clock.identity (heard_of c.args.message.now) (new_reply clock (state_of g.T.ReplyTable.entries c.args.self.now) c.args.message.now) c.args.ingress =
-    sent_rendered g.O.Outgoing.sent g.O.Outgoing.grown c.new-sender.result c.decide_into.new.answers clock.identity heard (reply_to q c.args.rights sets)
+    sent_rendered g.O.Outgoing.sent g.O.Outgoing.grown c.address.new.self c.decide_into.new.answers clock.identity heard (reply_to q c.args.rights sets)
     (reply_action q.action) q.id c.args.ingress [] (reply_to-parts q c.args.rights sets)
-    (sender_as_made g.O.Outgoing.sent c.new-sender.result _ _ heard _ _ _ [] _ (ap g.O.Outgoing.sent c.new-sender.ensures.held) c.requires.empty
-    c.new-sender.ensures.ingress c.new-sender.ensures.id c.new-sender.ensures.envelope c.new-sender.ensures.fits c.clock.ensures)
+    (sender_as_made g.O.Outgoing.sent c.address.new.self _ _ heard _ _ _ [] _ (ap (λ r. g.O.Outgoing.sent r.now) c.address.ensures.place ∙ ap g.O.Outgoing.sent c.new-sender.ensures.held) c.requires.empty
+    c.address.ensures.ingress c.address.ensures.id c.address.ensures.envelope c.address.ensures.fits c.clock.ensures)
     c.decide_into.ensures.reply
     ∙ (λ i. rendered clock.identity (c.heard_of-heard.ensures i) (reply_to (c.request_of-request.ensures i) (c.requires.rights i) sets) c.args.ingress) in
     search (rules, sent)

@@ -31,14 +31,14 @@ returns-in-AnsweredUnnumbered-clause-sent g c =
     let sent : g.O.Outgoing.sent c.read_into.new.answers.out.now
     ≡ g.O.Outgoing.sent c.args.out.now
     ++ reply_messages clock c.args.ingress (heard_of c.args.message.now) (reply_by c.args.verdict clock state c.args.message.now) =
-    sent_rendered g.O.Outgoing.sent g.O.Outgoing.grown c.new-sender.result c.read_into.new.answers c.clock.result c.heard_of-heard.result (read_reply_to q sets)
+    sent_rendered g.O.Outgoing.sent g.O.Outgoing.grown c.address.new.self c.read_into.new.answers c.clock.result c.heard_of-heard.result (read_reply_to q sets)
     (reply_action q.action) q.id c.args.ingress (g.O.Outgoing.sent c.args.out.now) (read_reply_to-parts q sets)
     (record {
-      held_is = ap g.O.Outgoing.sent c.new-sender.ensures.held;
-      ingress_is = c.new-sender.ensures.ingress;
-      id_is = c.new-sender.ensures.id;
-      envelope_is = c.new-sender.ensures.envelope;
-      fits = c.new-sender.ensures.fits;
+      held_is = ap (λ r. g.O.Outgoing.sent r.now) c.address.ensures.place ∙ ap g.O.Outgoing.sent c.new-sender.ensures.held;
+      ingress_is = c.address.ensures.ingress;
+      id_is = c.address.ensures.id;
+      envelope_is = c.address.ensures.envelope;
+      fits = c.address.ensures.fits;
     })
     c.read_into.ensures
     ∙ (λ i. g.O.Outgoing.sent c.args.out.now ++ rendered (c.clock.ensures i) (c.heard_of-heard.ensures i) (read_reply_to (c.request_of-request.ensures i) sets) c.args.ingress)

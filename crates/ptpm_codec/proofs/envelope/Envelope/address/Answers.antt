@@ -1,4 +1,4 @@
-use Rattle.std.proofs.Common.{[], ◌∷◌, ◌∙◌, ◌%◌, ap, subst, sym}
+use Rattle.std.proofs.Common.{[], ◌∷◌, ◌∙◌, ◌%◌, ◌/◌, ◌*◌, ◌+◌, ap, subst, sym}
 use Rattle.byteorder.specs.Endian.{big_bytes}
 use Rattle.ptpm_codec.specs.Canonical.{canonical}
 use Rattle.ptpm_codec.specs.Draft.{drafted}
@@ -7,7 +7,7 @@ use Rattle.ptpm_codec.specs.declared.message.Message.{Message}
 use Rattle.ptpm_codec.specs.Envelope.{written}
 use Rattle.ptpm_codec.specs.Message.{action_code, action_of, Fits, BodyFits}
 use Rattle.ptpm_codec.proofs.EnvelopeLaws.{by_place, envelope_written, written_both}
-use Rattle.ptpm_codec.proofs.envelope.Envelope.of.Goals as goal
+use Rattle.ptpm_codec.proofs.envelope.Envelope.address.Goals as goal
 
 pub returns-clause-fits : goal.returns-clause-fits
 returns-clause-fits c =
@@ -23,7 +23,8 @@ returns-clause-octets c =
     let d = c.draft.inside in
     let v : Message = drafted d in
     let action = c.code-action.ensures ∙ ap action_code c.action.ensures in
-    let e2 = c.write_at-2.ensures ∙ ap (written 4 (d.domain ∷ d.sdo % 256 ∷ [])) c.write_at.ensures in
+    let e1 = c.write_at.ensures ∙ ap (written 0 ((d.sdo / 256 * 16 + 0xd) ∷ 0x12 ∷ 0 ∷ 54 ∷ [])) (c.self.view_is ∙ c.requires.blank) in
+    let e2 = c.write_at-2.ensures ∙ ap (written 4 (d.domain ∷ d.sdo % 256 ∷ [])) e1 in
     let e3 = c.write_identity.ensures.octets ∙ ap (λ m. written 28 (big_bytes 2 d.source.port) (written 20 d.source.clock.0 m)) e2 in
     let e4 = c.write_u16.ensures.octets ∙ ap (written 30 (big_bytes 2 d.number)) e3 in
     let e5 = c.write_at-3.ensures ∙ ap (written 32 (0x04 ∷ 0x7f ∷ [])) e4 in
