@@ -6,17 +6,15 @@ use Rattle.std.proofs.lemmas.Bool.{false≢true}
 use Rattle.std.proofs.lemmas.List.Elements.{All-cons, All-map}
 use Rattle.std.specs.List.{All}
 use Rattle.ptpm_codec.specs.declared.error.ErrorId.{ErrorId}
-use Rattle.ptpm_codec.specs.declared.message.Body.{Body}
-use Rattle.ptpm_codec.specs.declared.message.Body.TheVariants as bodies
 use Rattle.ptpm_codec.specs.declared.message.Message.{Message}
-use Rattle.ptpm_codec.specs.Message.{IsDataField, IsRequestAction, IsValid, IsValidBody, octets_of}
+use Rattle.ptpm_codec.specs.Message.{IsRequestAction, IsValid}
 use Rattle.ptpm_data.specs.declared.rights.Rights.{Rights}
 use Rattle.ptpm_data.specs.Changes.{IsTargetOf, IsTargetPort, changed_by}
 use Rattle.ptpm_data.specs.ManagementId.{is_of_port}
 use Rattle.ptpm_data.specs.Members.{DataSetsValue}
 use Rattle.ptpm_data.specs.Refusals.{refusal_of}
 use Rattle.ptpm_data.specs.RequestLaws.{IsOutcomeOf, IsSized, field_limit, is_get_or_set}
-use Rattle.ptpm_data.specs.Replies.{answer, named_ports, read_reply_to, reply_of, reply_to}
+use Rattle.ptpm_data.specs.Replies.{answer, named_ports, reply_of, reply_to}
 use Rattle.ptpm_data.specs.Reply as reply
 use Rattle.ptpm_data.specs.Reply.{Answer, Outcome, ReplyValue}
 use Rattle.ptpm_data.specs.Request.{RequestValue}
@@ -39,14 +37,6 @@ pub IsTargetPort-request : (d : DataSetsValue) (v : Message)
     → names_port (length d.ports) v.target.port ≡ true
     → IsTargetPort (request_of v).port d
 IsTargetPort-request d v h = target_port v.target.port d h
-
-IsDataField-body : (b : Body) → IsValidBody b → IsDataField (octets_of b)
-IsDataField-body (bodies.Request action id octets) valid = valid.1
-IsDataField-body (bodies.Answer action id octets) valid = valid.1
-IsDataField-body (bodies.Fault action error id text) valid = record { even = refl; small = omega arith }
-
-pub IsDataField-request : (v : Message) → IsValid v → IsDataField (request_of v).octets
-IsDataField-request v valid = IsDataField-body v.body valid.body
 
 -- ---- what a reply is
 
@@ -119,14 +109,6 @@ FitsRequest-reply_to q r d sized request target =
     FitsRequest-reply_of q (refusal_of q r) (changed_by q r d) (changed_by-sized q r d sized) request
     (subst (λ n. IsTargetOf q.port n) (sym (changed_by-ports q r d)) target)
 
-pub FitsRequest-read_reply_to : (q : RequestValue) (d : DataSetsValue)
-    → IsSized d
-    → IsRequestAction q.action
-    → IsTargetPort q.port d
-    → FitsRequest q (read_reply_to q d)
-unfolding read_reply_to
-FitsRequest-read_reply_to q d sized request target = FitsRequest-reply_of q _ d sized request target
-
 -- ---- the same of a request as it was read
 
 pub may_judge_action : (q : RequestValue) (v : Message)
@@ -141,12 +123,6 @@ pub may_judge_port : (q : RequestValue) (d : DataSetsValue) (v : Message)
     → IsTargetPort q.port d
 may_judge_port q d v e h = subst (λ (r : RequestValue). IsTargetPort r.port d) (sym e) (IsTargetPort-request d v h)
 
-pub may_judge_octets : (q : RequestValue) (v : Message)
-    → q ≡ request_of v
-    → IsValid v
-    → IsDataField q.octets
-may_judge_octets q v e valid = subst (λ (r : RequestValue). IsDataField r.octets) (sym e) (IsDataField-request v valid)
-
 pub fits_numbered : (q : RequestValue) (r : Rights) (d : DataSetsValue) (v : Message)
     (reply : ReplyValue)
     → q ≡ request_of v
@@ -159,15 +135,3 @@ pub fits_numbered : (q : RequestValue) (r : Rights) (d : DataSetsValue) (v : Mes
 fits_numbered q r d v reply e sized request port valid is =
     subst (λ (a : ReplyValue). FitsRequest q a) (sym is)
     (FitsRequest-reply_to q r d sized (may_judge_action q v e request) (may_judge_port q d v e port))
-
-pub fits_unnumbered : (q : RequestValue) (d : DataSetsValue) (v : Message) (reply : ReplyValue)
-    → q ≡ request_of v
-    → IsSized d
-    → is_request v ≡ true
-    → names_port (length d.ports) v.target.port ≡ true
-    → IsValid v
-    → reply ≡ read_reply_to q d
-    → FitsRequest q reply
-fits_unnumbered q d v reply e sized request port valid is =
-    subst (λ (a : ReplyValue). FitsRequest q a) (sym is)
-    (FitsRequest-read_reply_to q d sized (may_judge_action q v e request) (may_judge_port q d v e port))

@@ -1,9 +1,8 @@
 -- What is sent where it is answered is the reply, and is kept as it was sent.
-use Rattle.std.proofs.Common.{All, arith, ◌≡◌, ◌≤◌, ◌<◌, ◌^◌, ◌∙◌, ℕ, suc, Bool, true, false, List, [], ◌∷◌, ◌++◌, Option, Some, None, ap, length, map, refl, subst, sym}
+use Rattle.std.proofs.Common.{All, arith, ◌≡◌, ◌≤◌, ◌<◌, ◌^◌, ◌∙◌, ℕ, suc, Bool, true, false, List, [], ◌∷◌, ◌++◌, ap, length, map, refl, subst, sym}
 use Rattle.std.specs.Prelude.{is_some}
 use Rattle.ptpm_codec.specs.declared.identity.ClockIdentity.{ClockIdentity}
 use Rattle.ptpm_codec.specs.declared.message.Action.{Action}
-use Rattle.ptpm_codec.specs.declared.message.Message.{Message}
 use Rattle.ptpm_codec.specs.Canonical.{canonical}
 use Rattle.ptpm_codec.specs.Envelope.{envelope_of}
 use Rattle.ptpm_codec.specs.Message.{Fits, reply_action}

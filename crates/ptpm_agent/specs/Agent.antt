@@ -13,7 +13,7 @@ clock_of owner agent = owner agent.table
 abbrev pub state_of : {T : Type 0} → (T → Entries) → Agent T → State
 state_of entries agent = record { sets = agent.sets; entries = entries agent.table }
 
--- a call answers this verdict, and leaves this outbox and this state, as the turn says
+-- a call answers this verdict, sends these messages, and leaves this state, as the turn says
 pub record IsTurned (t : Turned) (verdict : Verdict) (outbox : List (ℕ × List ℕ))
     (next : State) : Type 0 where
   pub verdict_is : verdict ≡ t.verdict

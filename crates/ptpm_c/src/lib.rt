@@ -1,5 +1,5 @@
-//! A clock, and a manager's session or survey, for hosts in C: a static library of a few calls, each one of `ptpm_host`.
-//! `hosts/ptpm.h` is its header.
+//! A clock, and a manager's session or survey, for hosts in C: a static library of calls over `ptpm_host`. `hosts/ptpm.h` is
+//! its header.
 #![tactic(auto)]
 
 ghost use Rattle.std.specs.Prelude.{◌≡◌, ◌≢◌, ◌≤◌, IfNone, IfSome, IsSomeAnd, None, Ok, Some, drop, length, take};
@@ -97,7 +97,7 @@ pub extern "C" fn ptpm_clock_start(
 /// What becomes of a datagram that comes in at a port: the number of the verdict, or of the refusal. The first `count`
 /// places of `sent` get what the clock sends; the places behind them stay as they are, and so does what stands behind each
 /// message. Takes no memory.
-#[tactic(auto, using(crate::proofs::Turns::turned_to, ptpm_host::proofs::Behind::kept_at_first))]
+#[tactic(auto, using(crate::proofs::Turns::turned_to, ptpm_host::specs::PlacesLaws::kept_by_none))]
 #[unsafe(no_mangle)]
 pub extern "C" fn ptpm_clock_handle(
     alloc: Global,
@@ -143,7 +143,7 @@ pub extern "C" fn ptpm_clock_handle(
 
 /// What `ptpm_clock_handle` does, and leaves in `members` those that have another value behind it than before: none but where
 /// the number is that of AnsweredNew. Takes no memory.
-#[tactic(auto, using(crate::proofs::Turns::turned_still, crate::proofs::Turns::changed_to, crate::proofs::Turns::none_to, ptpm_host::proofs::Behind::kept_at_first))]
+#[tactic(auto, using(crate::proofs::Turns::turned_still, crate::proofs::Turns::changed_to, crate::proofs::Turns::none_to, ptpm_host::specs::PlacesLaws::kept_by_none))]
 #[unsafe(no_mangle)]
 pub extern "C" fn ptpm_clock_handle_changed(
     alloc: Global,

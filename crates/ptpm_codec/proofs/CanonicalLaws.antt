@@ -9,7 +9,7 @@ use Rattle.ptpm_codec.specs.declared.message.Message.{Message}
 use Rattle.ptpm_codec.specs.declared.message.Body.{Body}
 use Rattle.ptpm_codec.specs.declared.message.Body.TheVariants as bodies
 use Rattle.ptpm_codec.specs.Layout as layout
-use Rattle.ptpm_codec.specs.Layout.{number_at, port_identity_at, even_up, message_octets}
+use Rattle.ptpm_codec.specs.Layout.{number_at, port_identity_at, message_octets}
 use Rattle.ptpm_codec.specs.Message.{action_code, action_of, IsValid, IsValidBody, Fits, BodyFits}
 use Rattle.ptpm_codec.specs.Spelling.{Spells, SpellsBody, SpellsText}
 use Rattle.ptpm_codec.specs.PtpText.{ptp_text_octets}
@@ -231,12 +231,6 @@ has_tlv (bodies.Fault action error id text) (answers, small) (error_fits, id_fit
         },
       );
     }
-
-pub tlv_at_most : (body : Body) → IsValidBody body → length (tlv_octets body) ≤ 1424
-unfolding tlv_octets
-tlv_at_most (bodies.Request action id octets) (asks, field) = let small = field.small in omega arith
-tlv_at_most (bodies.Answer action id octets) (answers, field) = let small = field.small in omega arith
-tlv_at_most (bodies.Fault action error id text) (answers, small) = let most = (padded text).most in omega arith
 
 -- ---- the whole
 

@@ -1,6 +1,5 @@
 -- The messages of one reply are their envelope with what differs written over.
-use Rattle.std.proofs.Common.{◌≡◌, ℕ, ◌+◌, ◌*◌, ◌%◌, ◌/◌, List, [], ◌∷◌, ◌++◌, ◌∙◌, length, take, drop, refl, arith}
-use Rattle.std.proofs.lemmas.List.{take-append-le, take_all}
+use Rattle.std.proofs.Common.{◌≡◌, ℕ, ◌+◌, ◌*◌, ◌%◌, ◌/◌, List, [], ◌∷◌, ◌++◌, length, take, refl, arith}
 use Rattle.std.specs.Prelude.{replicate}
 use Rattle.byteorder.specs.Endian.{big_bytes}
 use Rattle.ptpm_codec.specs.declared.message.Action.{Action}
@@ -31,11 +30,6 @@ answered_by size port field m = written 50 (big_bytes 2 field) (written 28 (big_
 
 pub written_both : (place : ℕ) (a b m n : List ℕ) → a ≡ b → m ≡ n → written place a m ≡ written place b n
 written_both place a b m n same old = λ i. written place (same i) (old i)
-
--- a slice of the same length, written back
-pub written_back : (m xs : List ℕ) → length m ≡ length xs → take (length xs) (m ++ drop (length m) xs) ≡ m
-written_back m xs same =
-    take-append-le (length xs) m (drop (length m) xs) (omega (arith, same)) ∙ take_all (length xs) m (omega (arith, same))
 
 answer_by : (v : Message) (action : Action) (id port size field : ℕ) (octets : List ℕ) → Fits v
     → size ≡ 48 + length (management_octets id octets)

@@ -10,7 +10,7 @@ use byteorder::{BigEndian, ByteOrder};
 
 const ZEROS: &[u8; MESSAGE_OCTETS] = &[0; MESSAGE_OCTETS];
 
-/// Appends a copy of these octets.
+/// Appends a copy of these octets. The buffer has room for them behind what it holds.
 pub fn put<const N: usize>(buffer: &mut ArrayVec<u8, N>, octets: &[u8])
     requires { array_vec_len buffer.old + length octets.now ≤ N }
     ensures items { buffer.new.items ≡ buffer.old.items ++ octets.now }
@@ -19,7 +19,7 @@ pub fn put<const N: usize>(buffer: &mut ArrayVec<u8, N>, octets: &[u8])
     let _ = buffer.try_extend_from_slice(octets);
 }
 
-/// Appends a number as two octets, the most significant first.
+/// Appends a number as two octets, the most significant first. The buffer has room for two more.
 pub fn put_u16<const N: usize>(buffer: &mut ArrayVec<u8, N>, number: u16)
     requires { array_vec_len buffer.old + 2 ≤ N }
     ensures items { buffer.new.items ≡ buffer.old.items ++ big_bytes 2 number }
@@ -30,7 +30,8 @@ pub fn put_u16<const N: usize>(buffer: &mut ArrayVec<u8, N>, number: u16)
     put(buffer, &octets);
 }
 
-/// Leaves a copy of these octets in the buffer, and nothing else. Where it had as many, all are written over.
+/// Leaves a copy of these octets in the buffer, and nothing else. They are no more than it has room for. Where it had as many,
+/// all are written over.
 pub fn overwrite<const N: usize>(buffer: &mut ArrayVec<u8, N>, octets: &[u8])
     requires { length octets.now ≤ N }
     ensures { buffer.new.items ≡ octets.now }
@@ -56,6 +57,58 @@ fn resize_over<const N: usize>(buffer: &mut ArrayVec<u8, N>, octets: &[u8])
     if !back.is_empty() {
         let _ = buffer.try_extend_from_slice(back);
     }
+}
+
+/// What `overwrite` does, of a message: most have one of a few sizes.
+#[inline(always)]
+pub fn overwrite_message<const N: usize>(buffer: &mut ArrayVec<u8, N>, message: &[u8])
+    requires { length message.now ≤ N }
+    ensures { buffer.new.items ≡ message.now }
+{
+    if buffer.len() == message.len() {
+        copy_message(buffer.as_mut_slice(), message);
+    } else {
+        resize_over(buffer, message);
+    }
+}
+
+/// Copies a message over as many octets. Most messages have one of these sizes, at which LLVM makes a few moves of the copy.
+#[inline(always)]
+pub fn copy_message(place: &mut [u8], message: &[u8])
+    requires { length place.old ≡ length message.now }
+    ensures { place.new ≡ message.now }
+{
+    match message.len() {
+        54 => copy_array::<54>(place, message),
+        56 => copy_array::<56>(place, message),
+        80 => copy_array::<80>(place, message),
+        _ => copy_any(place, message),
+    }
+}
+
+/// The same of any size. It is never inlined, since its loop would take registers from the others.
+#[inline(never)]
+fn copy_any(place: &mut [u8], message: &[u8])
+    requires { length place.old ≡ length message.now }
+    ensures { place.new ≡ message.now }
+{
+    place.copy_from_slice(message);
+}
+
+/// The same of so many octets, which are read before any of them is written.
+#[inline(always)]
+fn copy_array<const N: usize>(place: &mut [u8], message: &[u8])
+    requires place { length place.old ≡ N }
+    requires message { length message.now ≡ N }
+    ensures { place.new ≡ message.now }
+{
+    let Some(octets) = message.as_array::<N>() else {
+        unreachable!()
+    };
+    let Some(place) = place.as_mut_array::<N>() else {
+        unreachable!()
+    };
+    *place = *octets;
 }
 
 /// Leaves copies of these octets in the buffer, one behind the other, and nothing else. Where it had as many octets, all are

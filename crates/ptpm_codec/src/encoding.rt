@@ -22,7 +22,7 @@ pub const MESSAGE_OCTETS: usize = 1472;
 pub type Buffer = ArrayVec<u8, MESSAGE_OCTETS>;
 
 /// Room for what stands before the dataField or the displayData: it is put together here, and appended in one piece.
-pub(crate) type Head = ArrayVec<u8, 60>;
+type Head = ArrayVec<u8, 60>;
 
 /// Leaves the canonical spelling of a valid draft in the buffer, and nothing else: 54 to 1,472 octets. Free octets are sent
 /// as this project's profile has them: minorVersionPTP 1, controlField 0x04, logMessageInterval 0x7F, all others 0; an empty text has no
@@ -134,13 +134,9 @@ fn put_management_head(head: &mut Head, id: u16, size: u16)
     put_u16(head, id);
 }
 
-pub(crate) fn put_error_status(
-    buffer: &mut Buffer,
-    head: &mut Head,
-    error: u16,
-    id: u16,
-    text: &[u8],
-)
+/// Appends the head, which holds the 48 octets before the TLV, and a MANAGEMENT_ERROR_STATUS TLV behind it. The head is left with
+/// the octets up to displayData.
+fn put_error_status(buffer: &mut Buffer, head: &mut Head, error: u16, id: u16, text: &[u8])
     requires small { length text.now ≤ 255 }
     requires header { array_vec_len head.old ≡ 48 }
     requires room { array_vec_len buffer.old + 60 + length (text_octets text.now) ≤ MESSAGE_OCTETS }

@@ -16,7 +16,7 @@ use crate::identity::PortIdentity;
 use std::marker::Model;
 
 /// How many octets stand before the dataField of a message.
-const HEAD_OCTETS: usize = 54;
+pub const HEAD_OCTETS: usize = 54;
 
 /// How many octets an error status has that tells no text.
 pub const REFUSAL_OCTETS: usize = 60;
@@ -57,7 +57,12 @@ impl Envelope {
         ensures fits { Fits draft.now }
     {
         let head = &mut self.head;
-        write_at(head, 0, &[(draft.sdo / 256) as u8 * 16 + 0xd, 0x12, 0, 54]);
+        let size = HEAD_OCTETS as u8;
+        write_at(
+            head,
+            0,
+            &[(draft.sdo / 256) as u8 * 16 + 0xd, 0x12, 0, size],
+        );
         write_at(head, 4, &[draft.domain, (draft.sdo % 256) as u8]);
         write_identity(head, 20, &draft.source);
         write_u16(head, 30, draft.number);
@@ -69,7 +74,8 @@ impl Envelope {
         write_u16(head, 52, id);
     }
 
-    /// Leaves the message that answers this dataField from this port in the buffer, and nothing else. Takes no memory.
+    /// Leaves the message that answers this dataField from this port in the buffer, and nothing else. The dataField has 1,418
+    /// octets at most. Takes no memory.
     #[inline(always)]
     pub fn answer(&self, port: u16, octets: &[u8], buffer: &mut Buffer)
         requires { length octets.now ≤ 1418 }
@@ -81,7 +87,8 @@ impl Envelope {
         self.answer_in(port, octets, buffer.as_mut_slice());
     }
 
-    /// Writes the message that answers this dataField from this port over a place of its size: 54 octets and the dataField's.
+    /// Writes the message that answers this dataField from this port over a place of its size: 54 octets and the
+    /// dataField's, which are 1,418 at most.
     #[inline(always)]
     pub fn answer_in(&self, port: u16, octets: &[u8], place: &mut [u8])
         requires small { length octets.now ≤ 1418 }
@@ -94,7 +101,7 @@ impl Envelope {
         head.copy_from_slice(&self.head);
         data_field.copy_from_slice(octets);
         let size = octets.len() as u16;
-        write_u16(place, 2, 54 + size);
+        write_u16(place, 2, HEAD_OCTETS as u16 + size);
         write_u16(place, 28, port);
         write_u16(place, 50, 2 + size);
     }
@@ -124,7 +131,7 @@ impl Envelope {
         header.copy_from_slice(&self.head[..48]);
         let (error, id) = (error.to_be_bytes(), id.to_be_bytes());
         tlv.copy_from_slice(&[0, 2, 0, 8, error[0], error[1], id[0], id[1], 0, 0, 0, 0]);
-        write_u16(place, 2, 60);
+        write_u16(place, 2, REFUSAL_OCTETS as u16);
         write_u16(place, 28, port);
     }
 }

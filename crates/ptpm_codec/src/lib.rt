@@ -17,11 +17,11 @@ mod ptp_text;
 mod tlv;
 mod viewing;
 
-pub use buffers::{overwrite, put, put_u16};
+pub use buffers::{copy_message, overwrite, overwrite_message, put, put_u16};
 pub use decoding::{decode, view};
 pub use draft::{DATA_FIELD_OCTETS, Draft, DraftBody, is_data_field};
 pub use encoding::{Buffer, MESSAGE_OCTETS, encode};
-pub use envelope::{Envelope, REFUSAL_OCTETS};
+pub use envelope::{Envelope, HEAD_OCTETS, REFUSAL_OCTETS};
 pub use error::{DecodeError, ErrorId, OutOfMemory};
 pub use hops::{less_hop, less_hop_in, message_size};
 pub use identity::{ClockIdentity, PortIdentity};

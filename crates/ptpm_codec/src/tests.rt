@@ -1,7 +1,6 @@
 //! Worked messages, limits and damaged datagrams.
 
 use crate::*;
-use arrayvec::ArrayVec;
 use std::alloc::{AllocError, Global};
 use std::process::Abort;
 
@@ -378,7 +377,7 @@ fn two_longer(alloc: Global, datagram: &[u8]) -> Result<Vec<u8>, AllocError> {
 }
 
 #[test]
-fn make_and_limits(rt: HostRuntime) -> Result<(), AllocError> {
+fn largest_message(rt: HostRuntime) -> Result<(), AllocError> {
     let largest = largest();
     assert!(rt; is_seen_with(largest.as_slice(), 1418));
     assert!(rt; is_sent_as(rt.alloc(), largest.as_slice(), largest.as_slice()));
@@ -427,7 +426,7 @@ fn values_past_a_limit_are_not_valid(rt: HostRuntime) {
 }
 
 #[test]
-fn malformed_and_user_description(rt: HostRuntime) {
+fn malformed(rt: HostRuntime) {
     let (cut, _) = REQUEST.split_at(53);
     let (_, tlv) = REQUEST.split_at(48);
     let cases: [(&[u8], &[(usize, u8)], &[u8], DecodeError); 6] = [

@@ -8,9 +8,6 @@ use Rattle.ptpm_host.specs.Clock.{KeepsBehind}
 use Rattle.ptpm_host.specs.Places.{HasGrown}
 use Rattle.ptpm_host.specs.PlacesLaws.{first_same, kept_by_none}
 
-pub kept_at_first : (room : List Sent) → AllZip KeepsBehind room room
-kept_at_first room = kept_by_none room
-
 -- the place that is written is still as it was before
 pub kept_at_write : (before room : List Sent) (place : ℕ) (d s : Sent)
     → AllZip KeepsBehind before room
@@ -58,5 +55,5 @@ grown_at_write a b d s same written counted put = record {
       (λ i. drop (counted i) (written i))
       ∙ places_at_write a.room.now a.room.now a.count s refl
       ∙ sym (ap (λ (n : ℕ). drop n a.room.now) counted);
-  behind = subst (AllZip KeepsBehind a.room.now) (sym written) (kept_at_write a.room.now a.room.now a.count d s (kept_at_first a.room.now) refl put);
+  behind = subst (AllZip KeepsBehind a.room.now) (sym written) (kept_at_write a.room.now a.room.now a.count d s (kept_by_none a.room.now) refl put);
 }

@@ -1,4 +1,4 @@
--- A clock that a host keeps, as the definitions of a turn see it, and the messages that are handed out to the host.
+-- A clock that a host keeps, as the definitions of a turn see it, and the messages that are written into its host's places.
 use denote.Param.{number}
 use Rattle.std.specs.Prelude.{◌≡◌, ℕ, Bool, not, nat_lt, List, [], ◌∷◌, drop, take, map, Option, Some, None, Result, Ok, Err}
 use Rattle.ptpm_codec.specs.Ordered.{first_of}

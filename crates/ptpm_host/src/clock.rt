@@ -1,4 +1,4 @@
-//! A clock with the messages that it sends, as a host keeps it.
+//! A clock, as a host keeps it.
 
 ghost use Rattle.std.specs.Prelude.{◌≡◌, ◌≢◌, ◌≤◌, Ok, None, Some, IfErr, IfOk, MatchResult, OnErr, OnOk, [], drop, length, take};
 ghost use Rattle.std.specs.List.{AllZip};
@@ -31,6 +31,8 @@ pub const MOST_SENT: usize = 15;
 pub struct HostedClock {
     agent: Agent<BoundTable>,
 }
+
+const _: () = prove!(size_of::<HostedClock>() == 34_624);
 
 /// What became of a datagram.
 #[derive(Clone, Copy, Debug)]
@@ -122,7 +124,7 @@ impl HostedClock {
     /// What becomes of a datagram that comes in at a port: one turn of the clock. What it sends is written into the first
     /// places of `room`; the places behind them stay as they are, and so does what stands behind each message. Where it is
     /// refused, nothing changes. Takes no memory.
-    #[tactic(auto, using(crate::proofs::Behind::kept_at_first))]
+    #[tactic(auto, using(crate::specs::PlacesLaws::kept_by_none))]
     pub fn handle(
         &mut self,
         port: u16,

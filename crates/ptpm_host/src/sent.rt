@@ -12,7 +12,9 @@ ghost use Rattle.ptpm_codec.specs.Reading.{IsWellFormed};
 ghost use Rattle.ptpm_table.specs.KeptMessages.{renewed};
 ghost use Rattle.ptpm_host.specs.Clock.{KeepsBehind, message_in};
 
-use ptpm_codec::{Envelope, REFUSAL_OCTETS, less_hop_in, message_size};
+use ptpm_codec::{
+    Envelope, MESSAGE_OCTETS, REFUSAL_OCTETS, copy_message, less_hop_in, message_size,
+};
 use ptpm_table::{Renewal, renew};
 
 /// A message, and the port that it is to be sent at.
@@ -23,7 +25,7 @@ pub struct Sent {
     /// How many octets the message has.
     pub size: u16,
     /// The message, and behind it what stood there before.
-    pub octets: [u8; 1472],
+    pub octets: [u8; MESSAGE_OCTETS],
 }
 
 const _: () = prove!(size_of::<Sent>() == 1_476);
@@ -36,7 +38,7 @@ impl Sent {
         Sent {
             port: 0,
             size: 0,
-            octets: [0; 1472],
+            octets: [0; MESSAGE_OCTETS],
         }
     }
 
@@ -44,7 +46,7 @@ impl Sent {
     pub(crate) fn message(&self) -> &[u8]
         ensures { result.now ≡ (message_in self.now).1 }
     {
-        &self.octets[..(self.size as usize).min(1472)]
+        &self.octets[..(self.size as usize).min(MESSAGE_OCTETS)]
     }
 
     /// Writes the message of an envelope that answers this dataField from the source port in place of the one that stands here.
@@ -113,46 +115,7 @@ impl Sent {
         self.port = port;
         self.size = message.len() as u16;
         let octets = &mut self.octets[..message.len()];
-        copy(octets, message);
+        copy_message(octets, message);
         renew(octets, renewal);
     }
-}
-
-/// Copies octets over as many others. Most messages have one of these sizes, at which LLVM makes a few moves of the copy.
-#[inline(always)]
-fn copy(place: &mut [u8], octets: &[u8])
-    requires { length place.old ≡ length octets.now }
-    ensures { place.new ≡ octets.now }
-{
-    match octets.len() {
-        54 => copy_array::<54>(place, octets),
-        56 => copy_array::<56>(place, octets),
-        80 => copy_array::<80>(place, octets),
-        _ => copy_any(place, octets),
-    }
-}
-
-/// The same of any size. It is never inlined, since its loop would take registers from the others.
-#[inline(never)]
-fn copy_any(place: &mut [u8], octets: &[u8])
-    requires { length place.old ≡ length octets.now }
-    ensures { place.new ≡ octets.now }
-{
-    place.copy_from_slice(octets);
-}
-
-/// The same of so many octets, which are read before any of them is written.
-#[inline(always)]
-fn copy_array<const N: usize>(place: &mut [u8], octets: &[u8])
-    requires place { length place.old ≡ N }
-    requires octets { length octets.now ≡ N }
-    ensures { place.new ≡ octets.now }
-{
-    let Some(octets) = octets.as_array::<N>() else {
-        unreachable!()
-    };
-    let Some(place) = place.as_mut_array::<N>() else {
-        unreachable!()
-    };
-    *place = *octets;
 }

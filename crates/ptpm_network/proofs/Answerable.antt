@@ -1,7 +1,8 @@
 -- The request of a session is answered along a way, whatever else happens meanwhile, and so also where nothing does.
 use Rattle.ptpm_network.proofs.Common.{arith, ◌≡◌, ℕ, ◌<◌, ◌≤◌, ◌+◌, ◌*◌, List, [], ◌∷◌, ◌++◌, false, refl, sym, ◌∙◌, ap, subst, length, append-nil, cond-true, eqb-false, is_none, AllByRecursion, Deliver, Event, IsInRange, Send, frames_limit, HasReported, IsReached, AreInTime, is_late_frame, run, step, taken, AtPort, AtSession, End, IsNetwork, Network, NetworkState, initial_state, is_idle, ComeIn, ComesIn, Hop, IsAnswerable, IsWay, LinksHaveAtMost, ends_of, handed_in, made_each_way, passed_at_most, visited, le_trans}
+use Rattle.std.proofs.Math.Nat.{ne_of_gt}
 use Rattle.ptpm_network.specs.Meanwhile.{ComeInMeanwhile, IsAnswerableMeanwhile, LeavesWay}
-use Rattle.ptpm_network.proofs.Meanwhile.{sent-goes}
+use Rattle.ptpm_network.proofs.Meanwhile.{sent-goes, some_room}
 use Rattle.ptpm_network.proofs.Schedule.{reached}
 use Rattle.ptpm_network.proofs.Sending.{send-frames, send-taken}
 use Rattle.ptpm_network.proofs.Taking.{run-append}
@@ -12,12 +13,6 @@ use Rattle.ptpm_network.proofs.Worth.{unanswered-some}
 fewer : (reports begun : ℕ) → reports ≤ begun → (reports ≡ begun → ⊥) → reports < begun
 fewer reports begun a ne = omega arith
 
-not_zero : (n : ℕ) → 0 < n → n ≡ 0 → ⊥
-not_zero n lt e = omega arith
-
-some_room : (a b limit : ℕ) → a + b ≤ limit → a ≤ limit
-some_room a b limit le = omega arith
-
 module _ (N : Network) (w : NetworkState) (s : ℕ) (hops : List Hop) (port ends : ℕ) where
   answerable-at : IsNetwork N → IsReached N w → s < N.sessions → LinksHaveAtMost N ends
       → is_idle (w.session s) ≡ false → 0 < (w.session s).attempts_left → IsWay N w s hops port
@@ -26,7 +21,7 @@ module _ (N : Network) (w : NetworkState) (s : ℕ) (hops : List Hop) (port ends
   answerable-at n r place all busy attempts way room =
       let at = r.sessions s place in
       let waits = unanswered-some (w.session s) (fewer (length (w.session s).reports) (length (w.session s).begun) (le_trans at.accepted_before at.begun_before) (eqb-false _ _ busy)) in
-      let goes = send-taken N w s waits.0 place (some_room (length w.frames) (made_each_way ends hops) frames_limit room) waits.1 (not_zero (w.session s).attempts_left attempts) in
+      let goes = send-taken N w s waits.0 place (some_room (length w.frames) (made_each_way ends hops) frames_limit room) waits.1 (ne_of_gt attempts) in
       record { sent = goes; come_in = sent-goes N w s hops port ends n r place all busy (send-frames N w s waits.0 n r place waits.1) goes way room }
 
 pub answerable-meanwhile : (N : Network) (es : List Event) (s : ℕ) (hops : List Hop) (port ends : ℕ)

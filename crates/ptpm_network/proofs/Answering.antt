@@ -13,15 +13,12 @@ pub record IsDue (c : Clock) (h : History) (copy : RequestCopy) (r : ReplyValue)
   pub kept : kept_reply copy.heard.source copy.index (after_copy c h copy).accepted ≡ Some entry
   pub reply : entry.reply ≡ r
 
-same_reply : (r u : ReplyValue) → Some r ≡ Some u → r ≡ u
-same_reply r u e = same_Some r u e
-
 kept_for-some : (copy : RequestCopy) (o : Option Accepted) (r : ReplyValue)
     → kept_for copy o ≡ Some r
     → (e : Accepted) × (o ≡ Some e) × (e.reply ≡ r)
 kept_for-some copy None r e = absurd (cc)
 kept_for-some copy (Some a) r e = by_test (same_request a.request copy.request)
-    (λ y. (a, refl, same_reply a.reply r (sym (cond-true _ _ _ y) ∙ e)))
+    (λ y. (a, refl, same_Some a.reply r (sym (cond-true _ _ _ y) ∙ e)))
     (λ n. let none : None ≡ Some r = sym (cond-false _ _ _ n) ∙ e in absurd (cc))
 
 kept-accepted : (c : Clock) (h : History) (copy : RequestCopy)
@@ -34,7 +31,7 @@ module _ (c : Clock) (h : History) (copy : RequestCopy) (r : ReplyValue) where
   due-joins y e = record {
     entry = accepted_from c h copy;
     kept = ap (λ (g : History). kept_reply copy.heard.source copy.index g.accepted) (cond-true _ _ _ y) ∙ kept-accepted c h copy;
-    reply = same_reply (accepted_from c h copy).reply r (sym (cond-true _ _ _ y) ∙ e);
+    reply = same_Some (accepted_from c h copy).reply r (sym (cond-true _ _ _ y) ∙ e);
   }
 
   due-repeats : joins h copy ≡ false → due_reply c h copy ≡ Some r → IsDue c h copy r

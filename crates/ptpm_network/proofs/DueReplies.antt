@@ -1,5 +1,6 @@
 -- What is due to a copy of a request, and what its delivery makes.
 use Rattle.ptpm_network.proofs.Common.{arith, ◌≡◌, ℕ, ◌<◌, ◌≤◌, List, [], ◌++◌, Option, Some, None, true, false, refl, sym, ◌∙◌, ap, subst, and_from, and_right, cond-true, cond-false, eq-eqb, le-ltb, ne_eqb, same_Some, bytes_eq-Decides, AllByRecursion, PortIdentity, action_code, RequestValue, same_request, forwarded, due_messages, Accepted, History, RequestCopy, copy_of, due_reply, greatest, joins, kept_for, kept_reply, Clock, delivers_copy, copy_parts, forwarded-copy, Deliver, Event, IsInRange, IsReached, answering_frames, delivered, delivered_at, delivery, forwarded_frames, happens, made_frames, reply_frames, reply_origin, run, End, HasEnd, IsNetwork, Network, manager, ports, Frame, NetworkState, accepted_at_target, initial_state, history}
+use Rattle.std.proofs.Math.Nat.{ne_of_gt}
 use Rattle.ptpm_network.specs.Copies.{IsCopyAt}
 use Rattle.ptpm_network.proofs.Arriving.{IsCopyOf, is_copy_of}
 use Rattle.ptpm_network.proofs.Frames.{heard-frame}
@@ -76,15 +77,12 @@ latest-kept N es n c port f copy is i at latest =
 
 -- ---- older ones none
 
-other_index : (index g : ℕ) → index < g → g ≡ index → ⊥
-other_index index g l e = omega arith
-
 pub older-none : (c : Clock) (h : History) (copy : RequestCopy)
     → copy.index < greatest copy.heard.source h.accepted
     → due_reply c h copy ≡ None
 older-none c h copy below =
     cond-false _ _ _ (not_above c h copy (omega (arith, below)))
-    ∙ cond-false _ _ _ (ne_eqb _ _ (other_index copy.index (greatest copy.heard.source h.accepted) below))
+    ∙ cond-false _ _ _ (ne_eqb _ _ (ne_of_gt below))
 
 -- ---- the delivery of a copy
 

@@ -81,25 +81,22 @@ pub record IsReplyTo (q : RequestValue) (r : ReplyValue) : Type 0 where
   pub id : q.id < 2 ^ 16
   pub answers : Answers q r
 
-same_reply : (r u : ReplyValue) → Some r ≡ Some u → r ≡ u
-same_reply r u e = same_Some r u e
-
 kept-replies : (o : Option Entry) (r : ReplyValue)
     → ((e : Entry) → o ≡ Some e → IsSendableEntry e) → kept_reply_of o ≡ Some r
     → (q : RequestValue) × IsReplyTo q r
 kept-replies None r sendable e = absurd (cc)
 kept-replies (Some entry) r sendable e =
     let s = sendable entry refl in
-    (entry.request, subst (IsReplyTo entry.request) (same_reply entry.reply r e) (record { id = s.id; answers = s.answers }))
+    (entry.request, subst (IsReplyTo entry.request) (same_Some entry.reply r e) (record { id = s.id; answers = s.answers }))
 
 replies : (c : Clock) (p : ℕ) (s : State) (v : Message) (w : Verdict) (r : ReplyValue)
     → Fits v → IsHonestClock p s → reply_by w c s v ≡ Some r
     → (q : RequestValue) × IsReplyTo q r
 replies c p s v verdicts.AnsweredNew r fits h e =
-    (request_of v, subst (IsReplyTo (request_of v)) (same_reply (reply_to (request_of v) (c.rights v.source) s.sets) r e) (record { id = id-fits v.body fits.body; answers = reply-answers (request_of v) (c.rights v.source) p s.sets h.sets }))
+    (request_of v, subst (IsReplyTo (request_of v)) (same_Some (reply_to (request_of v) (c.rights v.source) s.sets) r e) (record { id = id-fits v.body fits.body; answers = reply-answers (request_of v) (c.rights v.source) p s.sets h.sets }))
 replies c p s v verdicts.AnsweredRepeat r fits h e = kept-replies (get s.entries v.source) r (λ x is. h.kept v.source x is) e
 replies c p s v verdicts.AnsweredUnnumbered r fits h e =
-    (request_of v, subst (IsReplyTo (request_of v)) (same_reply (read_reply_to (request_of v) s.sets) r e) (record { id = id-fits v.body fits.body; answers = read_answered (request_of v) p s.sets h.sets }))
+    (request_of v, subst (IsReplyTo (request_of v)) (same_Some (read_reply_to (request_of v) s.sets) r e) (record { id = id-fits v.body fits.body; answers = read_answered (request_of v) p s.sets h.sets }))
 replies c p s v _ r fits h e = absurd (cc)
 
 module _ (N : Network) (n : IsNetwork N) (c port : ℕ) (end : HasEnd N (AtPort c port)) (s : State) (h : IsHonestClock (ports N c) s) where

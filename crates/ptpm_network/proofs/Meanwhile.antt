@@ -133,7 +133,7 @@ plus_one lost = omega arith
 some_lost : (lost : ℕ) → 0 < lost + 1
 some_lost lost = omega arith
 
-some_room : (a m limit : ℕ) → a + m ≤ limit → a ≤ limit
+pub some_room : (a m limit : ℕ) → a + m ≤ limit → a ≤ limit
 some_room a m limit le = omega arith
 
 -- the clocks of a part of the way

@@ -2,6 +2,7 @@
 use Rattle.ptpm_network.proofs.Common.{by_test, Bool, inl, inr, true≢false, ◌||◌, ◌⊎◌, arith, ◌≡◌, ℕ, ◌+◌, ◌-◌, ◌<◌, ◌≤◌, ◌==◌, List, [], ◌∷◌, length, Option, Some, None, true, false, refl, sym, ◌∙◌, ap, subst, ⊎_elim, and_from, cond-true, cond-false, eq-eqb, ne_eqb, lt-ltb, le-ltb, or_left, or_right, or_from, same_Some, slice_get, PortIdentity, Message, same_identity, message_of, reading-message_of, RequestValue, Entry, look_at, look_by, same_request, serial_of, InWindow, reply_messages, Accepted, greatest, kept_reply, heard_of, request_of, Clock, State, Turned, turn, turn-message, judged, look, is_repeat, verdict_at, Verdict, reply_by, same_identity-refl, number_of, Answers, HasOneAnswer, IsInStep, SessionState}
 use Rattle.std.specs.FinMap.{get}
 use Rattle.std.proofs.lemmas.Bool.{cases_order}
+use Rattle.std.proofs.Math.Nat.{ne_of_gt, ne_of_lt}
 use Rattle.ptpm_table.specs.declared.serial.Serial.{Serial}
 use Rattle.ptpm_table.specs.declared.serial.Serial.TheVariants.{Newer, Older, Same}
 use Rattle.ptpm_table.specs.declared.reply_table.Look.{Look}
@@ -125,15 +126,6 @@ pub record ComesOwn (m : PortIdentity) (first p : ℕ) (c : Clock) (s : State) (
   pub answers : Answers (request_of v) (new_reply c s v)
   pub one : HasOneAnswer (request_of v) (new_reply c s v)
 
-not_below : (k g : ℕ) → k < g → k ≡ g → ⊥
-not_below k g l e = omega arith
-
-not_above : (g k : ℕ) → g < k → k ≡ g → ⊥
-not_above g k l e = omega arith
-
-not_both : (k : ℕ) → 0 < k → k ≡ 0 → ⊥
-not_both k p e = omega arith
-
 next_index : (g k begun reports : ℕ) → g < k → k ≤ begun → begun ≤ reports + 1 → reports ≤ g → g + 1 ≡ k
 next_index g k begun reports a b d e = omega arith
 
@@ -203,7 +195,7 @@ module _ (first p : ℕ) (c : Clock) (s : State) (port : ℕ) (octets : List ℕ
             which;
         older = λ l. ⊎_elim
             (λ (other : (k ≡ greatest m accepted → ⊥) × (reply_by w c s v ≡ None)). quiet other.1)
-            (λ (same : (k ≡ greatest m accepted) × Replied m c s port octets v k accepted). absurd (not_below k (greatest m accepted) l same.0))
+            (λ (same : (k ≡ greatest m accepted) × Replied m c s port octets v k accepted). absurd (ne_of_lt l same.0))
             which;
       }
 
@@ -216,7 +208,7 @@ module _ (first p : ℕ) (c : Clock) (s : State) (port : ℕ) (octets : List ℕ
   -- what is kept as the latest is the request of the copy
   own-repeat : (x : Option Entry) → k ≡ greatest v.source accepted → get s.entries v.source ≡ x → IsLastOf v.source first accepted x
       → Turns
-  own-repeat None same is last = absurd (not_both k o.positive (same ∙ last))
+  own-repeat None same is last = absurd (ne_of_gt o.positive (same ∙ last))
   own-repeat (Some e) same is last =
       let m = v.source in
       let was = o.step.without_gap k o.positive (omega (arith, same)) in
@@ -242,14 +234,14 @@ module _ (first p : ℕ) (c : Clock) (s : State) (port : ℕ) (octets : List ℕ
       (λ (same : k ≡ g). own-repeat (get s.entries v.source) same refl o.last)
       (⊎_elim
       (λ (below : k < g).
-      let other : k ≡ g → ⊥ = not_below k g below in
+      let other : k ≡ g → ⊥ = ne_of_lt below in
       judged-copy (λ w. Does c s port octets v w → Turns) c s v looks.Old o.parts (looked Older (order_of-older g k below))
       (λ d. own-still verdicts.DroppedOld refl refl d (inl (other, refl)))
       (λ n d. own-still verdicts.OtherDomain refl refl d (inl (other, refl))) fits)
       (λ (above : g < k).
       judged-copy (λ w. Does c s port octets v w → Turns) c s v looks.New o.parts (looked Newer (order_of-newer g k above))
       (λ d. own-new above d)
-      (λ n d. own-still verdicts.OtherDomain refl refl d (inl (not_above g k above, refl))) fits))
+      (λ n d. own-still verdicts.OtherDomain refl refl d (inl (ne_of_gt above, refl))) fits))
       (cases_order k g)
 
 pub turns_own : (m : PortIdentity) (first p : ℕ) (c : Clock) (s : State) (port : ℕ) (octets : List ℕ) (v : Message) (k : ℕ)

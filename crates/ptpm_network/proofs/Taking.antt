@@ -1,9 +1,5 @@
 -- One list of events after another, and what is taken of a list: all before the first that is refused.
-use Rattle.ptpm_network.proofs.Common.{by_test, ◌≡◌, List, [], ◌∷◌, ◌++◌, Option, Some, None, true, refl, sym, ◌∙◌, ap, subst, cond-true, cond-false, is_none, AllByRecursion, Event, IsInRange, refusal, AreInTime, run, step, taken, Network, NetworkState}
-
-pub is_none-none : {A : Type 0} (o : Option A) → is_none o ≡ true → o ≡ None
-is_none-none None y = refl
-is_none-none (Some a) y = absurd (cc)
+use Rattle.ptpm_network.proofs.Common.{by_test, ◌≡◌, List, [], ◌∷◌, ◌++◌, None, refl, sym, ◌∙◌, ap, subst, cond-true, cond-false, is_none, AllByRecursion, Event, IsInRange, refusal, AreInTime, run, step, taken, Network, NetworkState}
 
 -- ---- one list after another
 

@@ -8,7 +8,7 @@ use Rattle.ptpm_network.proofs.Strangers.{strange-message}
 
 -- ---- strangers
 
-of_nothing : {X : Type 0} (s k : ℕ) → Neither ≡ RequestOf s k → X
+pub of_nothing : {X : Type 0} (s k : ℕ) → Neither ≡ RequestOf s k → X
 of_nothing s k e = absurd (cc)
 
 -- what belongs to nothing is no copy

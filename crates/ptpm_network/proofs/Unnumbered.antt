@@ -1,5 +1,5 @@
 -- Replies to what is not numbered go to no session, and a delivery at a clock keeps the invariant.
-use Rattle.ptpm_network.proofs.Common.{by_test, ◌≡◌, ℕ, ◌<◌, ◌+◌, ◌^◌, ◌==◌, ◌||◌, not, List, Option, Some, None, is_addressed, AreDataSets, DataSetsValue, Bool, true, false, refl, sym, ◌∙◌, ap, subst, ⊎_elim, ◌⊎◌, inl, inr, length, and_from, and_parts, cond-true, cond-false, not-true, true≢false, slice_get, AllByRecursion, PortIdentity, Body, Message, every_clock, same_clock, boundary_hops, BodyFits, id_of, message_of, read_reply_to, is_known, forwarded, RequestCopy, copy_of, due_reply, is_for_this_clock, is_numbered, is_own, is_request, names_port, request_of, Clock, same_clock-true, IsForeign, IsForeignFrame, IsFrame, IsReached, answering_frames, arrives, delivered_at_clock, delivery, is_read, made_frames, read_messages, AtPort, HasEnd, IsNetwork, Network, manager, ports, Frame, NetworkState, Origin, RequestOf, ReplyTo, Neither, history, all_append}
+use Rattle.ptpm_network.proofs.Common.{by_test, ◌≡◌, ℕ, ◌<◌, ◌+◌, ◌^◌, ◌==◌, ◌||◌, not, List, Option, Some, None, is_addressed, AreDataSets, DataSetsValue, true, false, refl, sym, ◌∙◌, ap, subst, ⊎_elim, ◌⊎◌, length, and_from, and_parts, cond-true, cond-false, not-true, or_cases, true≢false, slice_get, AllByRecursion, PortIdentity, Body, Message, every_clock, same_clock, boundary_hops, BodyFits, id_of, message_of, read_reply_to, is_known, forwarded, RequestCopy, copy_of, due_reply, is_for_this_clock, is_numbered, is_own, is_request, names_port, request_of, Clock, same_clock-true, IsForeign, IsForeignFrame, IsFrame, IsReached, answering_frames, arrives, delivered_at_clock, delivery, is_read, made_frames, read_messages, AtPort, HasEnd, IsNetwork, Network, manager, ports, Frame, NetworkState, Origin, RequestOf, ReplyTo, Neither, history, all_append}
 use Rattle.ptpm_codec.specs.declared.message.Body.TheVariants as bodies
 use Rattle.ptpm_network.proofs.Answering.{due-frames, rendered-says, reply_frames-are}
 use Rattle.ptpm_network.proofs.Arriving.{arrives-reached, is_copy_of, kept-stays}
@@ -31,10 +31,6 @@ read_parts c d v y =
     let five = and_parts (is_request v) _ four.1 in
     record { addressed = four.0; request = five.0; not_numbered = not-true _ five.1 }
 
-or_cases_ : (a b : Bool) → (a || b) ≡ true → (a ≡ true) ⊎ (b ≡ true)
-or_cases_ true b y = inl refl
-or_cases_ false b y = inr y
-
 -- a session's own request is numbered at its target, and goes nowhere else
 request-numbered : (N : Network) (c t : ℕ) (d : DataSetsValue) (v : Message)
     → IsNetwork N → c < N.clocks → t < N.sessions → v.source ≡ manager N t
@@ -53,7 +49,7 @@ request-numbered N c t d v n place exists source target addressed =
     (subst (λ d. is_known (manager N t) (N.clock d).managers ≡ true) same (n.configured t exists)) in
     and_from _ _ known here)
     (λ (every : same_clock v.target.clock every_clock ≡ true). absurd (clock.is_one (sym at ∙ same_clock-true v.target.clock every_clock every)))
-    (or_cases_ (is_for_this_clock (N.clock c) v) (same_clock v.target.clock every_clock) (and_parts (is_for_this_clock (N.clock c) v || same_clock v.target.clock every_clock) (names_port (length d.ports) v.target.port) addressed).0)
+    (or_cases (is_for_this_clock (N.clock c) v) (same_clock v.target.clock every_clock) (and_parts (is_for_this_clock (N.clock c) v || same_clock v.target.clock every_clock) (names_port (length d.ports) v.target.port) addressed).0)
 
 -- what is not numbered is of no session
 no_session : (N : Network) (c : ℕ) (d : DataSetsValue) (o : Origin) (v : Message)

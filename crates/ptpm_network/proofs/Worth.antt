@@ -1,5 +1,6 @@
 -- What a report is worth: its request was carried out exactly once, and the report tells the answer of that moment.
 use Rattle.ptpm_network.proofs.Common.{by_test, suc, zero, arith, ◌≡◌, ℕ, ◌<◌, ◌≤◌, ◌+◌, ◌-◌, ◌==◌, ◌&&◌, max, Bool, List, [], ◌∷◌, ◌++◌, Some, None, true, refl, sym, ◌∙◌, ap, subst, ⊎_elim, ◌⊎◌, inl, inr, length, length-append, append_assoc, and_parts, and_left, and_right, eqb-true, ltb-true, ne_eqb, cond-true, cond-false, lt-ltb, append-nil, is_some, nat_lt, not, option_map, slice_get, option_or, AllByRecursion, find, PortIdentity, same_identity, first_of, DataSetsValue, Answer, RequestValue, same_identity-true, Accepted, History, RequestCopy, accepted_from, after_copy, applied_once, initial_history, greatest, joins, kept_reply, Clock, Ask, Report, ask_refusal, SessionValue, begin_refusal, count_limit, is_waiting, Begin, BeginRefused, Event, IsInRange, NoSuchName, begin_refused, no_session, refusal, IsReached, WasAccepted, run, IsNetwork, Network, manager, NetworkState, SessionState, accepted_at_target, copies_at, initial_state, history, issued, outcomes_kept, reports_by, reports_of, session_value, unanswered, IsWorth, WasCarriedOut, entries_of, all_weaker}
+use Rattle.std.proofs.Math.Nat.{ne_of_lt}
 use Rattle.ptpm_manager.specs.declared.error.BeginError.TheVariants as begins
 use Rattle.ptpm_network.proofs.Accepting.{report_of}
 use Rattle.ptpm_network.proofs.Refusals.{get-below}
@@ -246,16 +247,13 @@ session-named N s place = ap (λ b. first_of ((not b, NoSuchName) ∷ [])) (lt-l
 below_some : (reports begun : ℕ) → reports < begun → begun - 1 < begun
 below_some reports begun lt = omega arith
 
-not_equal : (a b : ℕ) → a < b → a ≡ b → ⊥
-not_equal a b lt e = omega arith
-
 -- the request that is not answered, where fewer were reported than begun
 pub unanswered-some : (s : SessionState)
     → length s.reports < length s.begun
     → (q : RequestValue) × (unanswered s ≡ Some q)
 unanswered-some s lt =
     let last = get-below s.begun (length s.begun - 1) (below_some (length s.reports) (length s.begun) lt) in
-    (last.0, cond-false _ _ _ (ne_eqb (length s.reports) (length s.begun) (not_equal (length s.reports) (length s.begun) lt)) ∙ last.1)
+    (last.0, cond-false _ _ _ (ne_eqb (length s.reports) (length s.begun) (ne_of_lt lt)) ∙ last.1)
 
 pub begins-busy : (N : Network) (w : NetworkState) (s : ℕ) (a : Ask)
     → s < N.sessions → length (w.session s).reports < issued w s

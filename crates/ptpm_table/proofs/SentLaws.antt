@@ -66,13 +66,6 @@ octets_within xs place =
     let parts = ap length (all_octets-append (messages_of (take place xs)) (messages_of (drop place xs))) in
     omega (arith, both, cut, parts, length-append (all_octets (messages_of (take place xs))) (all_octets (messages_of (drop place xs))))
 
-pub only_message : (xs : List (ℕ × List ℕ))
-    → length xs ≡ 1
-    → messages_of xs ≡ (get_or xs 0 (0, [])).1 ∷ []
-only_message [] one = absurd (omega (arith, one))
-only_message (x ∷ []) one = refl
-only_message (x ∷ y ∷ xs) one = absurd (omega (arith, one))
-
 -- ---- messages that spell answers
 
 body_valid : (request action : Action) (id most : ℕ) (o : Outcome)

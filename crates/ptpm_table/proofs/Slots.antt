@@ -8,6 +8,7 @@ use Rattle.std.specs.Prelude.{IfSome, MatchOption, ⊤, is_some, slice_get, posi
 use Rattle.std.proofs.lemmas.List.Folds.{find_at}
 use Rattle.std.proofs.lemmas.List.{map-append, take_more}
 use Rattle.std.proofs.lemmas.List.Elements.{All-push}
+use Rattle.std.proofs.lemmas.Option.{slice_get_past}
 use Rattle.std.specs.FinMap.{get, insert, from_entries}
 use Rattle.ptpm_codec.specs.Identity.{identity_cmp, same_identity}
 use Rattle.ptpm_codec.specs.declared.identity.ClockIdentity.{ClockIdentity}
@@ -173,11 +174,6 @@ clocks_set [] i d new inside e = absurd (omega arith)
 clocks_set (s ∷ ss) zero d new inside e = ap (λ c. c ∷ clocks ss) e
 clocks_set (s ∷ ss) (suc i) d new inside e = ap (λ cs. s.kept.clock ∷ cs) (clocks_set ss i d new (omega arith) e)
 
-get_past : {X : Type 0} (xs : List X) (i : ℕ) → length xs ≤ i → slice_get xs i ≡ None
-get_past [] i l = refl
-get_past (x ∷ xs) zero l = absurd (omega arith)
-get_past (x ∷ xs) (suc i) l = get_past xs i (omega arith)
-
 -- a configured manager has a place
 pub has_place : (who : PortIdentity) (ss : List Slot) → is_known who (managers ss) ≡ true →
     position (λ s. same_identity who s.kept.manager) ss ≡ None → ⊥
@@ -186,7 +182,7 @@ has_place who ss known none =
     ⊎_elim
     (λ (y : nat_lt at (length ss) ≡ true). let e : Some at ≡ None = sym (cond-true _ _ _ y) ∙ none in absurd (cc))
     (λ (n : nat_lt at (length ss) ≡ false).
-    let past : slice_get ss at ≡ None = get_past ss _ (ltb-false _ _ n) in
+    let past : slice_get ss at ≡ None = slice_get_past ss _ (ltb-false _ _ n) in
     false≢true (sym (known_slot who ss ∙ ap is_some (find_at (λ (s : Slot). same_identity who s.kept.manager) ss ∙ past)) ∙ known))
     (cases_Bool (nat_lt at (length ss)))
 

@@ -1,4 +1,5 @@
-//! A kept reply as octets: encoded once, and sent again with the fields that depend on the copy written over.
+//! A kept reply as octets: encoded, or copied as it was sent, and sent again with the fields that depend on the copy of the
+//! request written over.
 
 ghost use Rattle.std.specs.Prelude.{All, ◌≡◌, ◌+◌, ◌∷◌, ◌++◌, ◌≤◌, ◌<◌, [], length, map};
 ghost use Rattle.arrayvec.specs.ArrayVec.{array_vec_len};
@@ -15,7 +16,9 @@ use crate::outgoing::Outgoing;
 use crate::rendering::draft_of;
 use crate::renewal::Renewal;
 use arrayvec::ArrayVec;
-use ptpm_codec::{Action, Buffer, ClockIdentity, Draft, PortIdentity, encode, overwrite, put};
+use ptpm_codec::{
+    Action, Buffer, ClockIdentity, Draft, PortIdentity, encode, overwrite_message, put,
+};
 use ptpm_data::PortAnswer;
 
 /// Room for the sizes of a reply's messages.
@@ -172,7 +175,7 @@ fn copy_all<O: Outgoing>(out: &O, sizes: &mut Sizes, messages: &mut Messages)
     if out.count() == 1 {
         let message = out.message(0);
         sizes.push(message.len() as u8);
-        overwrite(messages, message);
+        overwrite_message(messages, message);
     } else {
         messages.clear();
         copy_each(out, sizes, messages);

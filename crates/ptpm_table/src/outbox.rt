@@ -7,7 +7,7 @@ ghost use Rattle.ptpm_table.specs.Outbox.{sent};
 
 use crate::outgoing::Outgoing;
 use crate::renewal::{Renewal, renew};
-use ptpm_codec::{Buffer, Draft, Envelope, MESSAGE_OCTETS, encode, less_hop, overwrite};
+use ptpm_codec::{Buffer, Draft, Envelope, encode, less_hop, overwrite_message};
 use std::marker::Model;
 
 /// At most fifteen messages, each with the port that it is sent at: seven forwarded copies and eight replies. All fifteen
@@ -59,19 +59,7 @@ impl Outbox {
         self.count = 0;
     }
 
-    /// Appends a copy of these octets, at most 1,472, for a port, where the outbox has fewer than fifteen messages.
-    pub fn push(&mut self, port: u16, octets: &[u8])
-        requires room { length self.old < 15 }
-        requires small { length octets.now ≤ MESSAGE_OCTETS }
-        ensures { self.new ≡ self.old ++ (port, octets.now) ∷ [] }
-    {
-        let place = &mut self.places[self.count];
-        place.0 = port;
-        overwrite(&mut place.1, octets);
-        self.count += 1;
-    }
-
-    /// Appends the canonical spelling of a draft for a port.
+    /// Appends the canonical spelling of a valid draft for a port, where the outbox has fewer than fifteen messages.
     pub fn push_draft(&mut self, port: u16, draft: &Draft<'_>)
         requires room { length self.old < 15 }
         requires valid { IsValid draft.now }
@@ -128,7 +116,7 @@ impl Outgoing for Outbox {
     fn push_renewed(&mut self, port: u16, message: &[u8], renewal: &Renewal) {
         let place = &mut self.places[self.count];
         place.0 = port;
-        overwrite(&mut place.1, message);
+        overwrite_message(&mut place.1, message);
         renew(place.1.as_mut_slice(), renewal);
         self.count += 1;
     }

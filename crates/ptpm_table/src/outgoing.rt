@@ -3,8 +3,9 @@
 use crate::renewal::Renewal;
 use ptpm_codec::Envelope;
 
-/// Takes the messages that a call at a clock sends, each with the port that it is sent at: fifteen at most. An `Outbox` keeps them;
-/// a host can have them written right where it sends them from. Contracts see a list of pairs.
+/// Takes the messages that a call at a clock sends, each with the port that it is sent at. An `Outbox` keeps them; a host can
+/// have them written right where it sends them from. Each `push_..` appends one message, where there are fewer than fifteen: so
+/// there are fifteen at most. Contracts see a list of pairs.
 pub trait Outgoing {
     ghost use Rattle.std.specs.Prelude.{◌≡◌, ◌<◌, ◌≤◌, ◌-◌, ◌+◌, ◌∷◌, ◌++◌, [], ℕ, List, get_or, length, slice_set};
     ghost use Rattle.ptpm_codec.specs.Canonical.{canonical};
@@ -32,7 +33,7 @@ pub trait Outgoing {
         requires { place < length (sent self.now) }
         ensures { result.now ≡ (get_or (sent self.now) place (0, [])).1 };
 
-    /// Appends the message of an envelope that answers this dataField from the source port.
+    /// Appends the message of an envelope that answers this dataField, of 1,418 octets at most, from the source port.
     fn push_answer(&mut self, port: u16, envelope: &Envelope, source: u16, octets: &[u8])
         requires room { length (sent self.old) < 15 }
         requires small { length octets.now ≤ 1418 }
@@ -53,7 +54,7 @@ pub trait Outgoing {
         ensures count { length (sent self.new) ≡ length (sent self.old) + 1 }
         ensures grown { grown self.old self.new };
 
-    /// Appends a well-formed datagram's message for a port, with boundaryHops less by one (15.3.3).
+    /// Appends a well-formed datagram's message for a port, with boundaryHops less by one (15.3.3); they are not 0.
     fn push_less_hop(&mut self, port: u16, datagram: &[u8])
         requires room { length (sent self.old) < 15 }
         requires well_formed { IsWellFormed datagram.now }
@@ -67,7 +68,8 @@ pub trait Outgoing {
             ) ∷ [] }
         ensures grown { grown self.old self.new };
 
-    /// Appends a copy of a kept message for a port, with what depends on the copy that is answered written over.
+    /// Appends a copy of a kept message, of 54 to 1,472 octets, for a port, with what depends on the copy of the request that
+    /// is answered written over.
     fn push_renewed(&mut self, port: u16, message: &[u8], renewal: &Renewal)
         requires room { length (sent self.old) < 15 }
         requires long { 54 ≤ length message.now }

@@ -52,7 +52,7 @@ fn render_answers(
 
 /// Both hop fields of a reply: how many hops the copy has lost on its way.
 #[inline(always)]
-fn hops_passed(heard: &Heard) -> u8
+pub(crate) fn hops_passed(heard: &Heard) -> u8
     ensures { result ≡ hops_passed heard.now }
 {
     heard.starting_hops.saturating_sub(heard.hops)

@@ -6,6 +6,7 @@ ghost use Rattle.ptpm_table.specs.KeptMessages.{renewed};
 /// What a kept message takes from the copy of the request that it answers.
 #[derive(Clone, Copy)]
 pub struct Renewal {
+    /// The domainNumber.
     pub domain: u8,
     /// The source's portNumber, where the answer is of the clock.
     pub port: Option<u16>,
@@ -13,7 +14,7 @@ pub struct Renewal {
     pub hops: u8,
 }
 
-/// Writes over what depends on the copy, in a message.
+/// Writes over what depends on the copy, in a message of 54 octets at least.
 pub fn renew(message: &mut [u8], renewal: &Renewal)
     requires { 54 ≤ length message.old }
     ensures { message.new

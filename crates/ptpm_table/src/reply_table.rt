@@ -120,7 +120,7 @@ pub trait SureTable: ReplyTable {
         ensures owner { Self.owner self.new ≡ Self.owner self.old };
 
     /// Keeps number and request with the reply that was sent for the copy that was heard: its messages are those that went out, and
-    /// no others did.
+    /// no others did. `of_port` says whether its answers are of ports; else its one answer is of the clock.
     fn keep_sent<O: Outgoing>(
         &mut self,
         heard: &Heard,

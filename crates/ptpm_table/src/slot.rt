@@ -12,6 +12,7 @@ use crate::kept_messages::{
     Exchange, Messages, Sizes, encode_each, has_port, keep_each, port_for, resend_each,
 };
 use crate::outgoing::Outgoing;
+use crate::rendering::hops_passed;
 use crate::renewal::Renewal;
 use arrayvec::ArrayVec;
 use ptpm_codec::{Action, ClockIdentity, DATA_FIELD_OCTETS, PortIdentity, overwrite};
@@ -207,7 +208,7 @@ impl Kept {
         let renewal = Renewal {
             domain: heard.domain,
             port: port_for(self.of_port, ingress),
-            hops: heard.starting_hops.saturating_sub(heard.hops),
+            hops: hops_passed(heard),
         };
         let sizes = self.sizes.as_slice();
         resend_each(sizes, self.messages.as_slice(), &renewal, ingress, out);

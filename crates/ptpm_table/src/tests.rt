@@ -99,7 +99,7 @@ fn knows_its_managers<T: ReplyTable>(rt: &impl Abort, table: &T) {
     assert!(rt; seen(table, &STRANGER, 7, &get(PRIORITY1)) == Look::Unknown);
 }
 
-/// GET of PRIORITY1, and of PRIORITY2.
+/// The managementIds.
 const PRIORITY1: u16 = 0x2005;
 
 const PRIORITY2: u16 = 0x2006;
@@ -132,6 +132,7 @@ fn kept_replies_of_a_plain_table(rt: HostRuntime) -> Result<(), TableError> {
     same_number_other_request(&rt, &mut plain(rt.alloc())?);
     numbers_wrap(&rt, &mut plain(rt.alloc())?);
     half_the_number_space(&rt, &mut plain(rt.alloc())?);
+    longest_user_description(&rt, &mut plain(rt.alloc())?);
     Ok(())
 }
 
@@ -142,6 +143,8 @@ fn kept_replies_of_a_bound_table(rt: HostRuntime) -> Result<(), TableError> {
     same_number_other_request(&rt, &mut bound()?);
     numbers_wrap(&rt, &mut bound()?);
     half_the_number_space(&rt, &mut bound()?);
+    longest_user_description(&rt, &mut bound()?);
+    replaced_reply(&rt, &mut bound()?);
     Ok(())
 }
 
@@ -152,7 +155,6 @@ fn replies_of_ports_in_a_plain_table(rt: HostRuntime) -> Result<(), TableError> 
     refused_command_of_two_ports(&rt, &mut plain(rt.alloc())?);
     values_of_two_ports(&rt, &mut plain(rt.alloc())?);
     values_of_eight_ports(&rt, &mut plain(rt.alloc())?);
-    longest_user_description(&rt, &mut plain(rt.alloc())?);
     Ok(())
 }
 
@@ -163,8 +165,6 @@ fn replies_of_ports_in_a_bound_table(rt: HostRuntime) -> Result<(), TableError> 
     refused_command_of_two_ports(&rt, &mut bound()?);
     values_of_two_ports(&rt, &mut bound()?);
     values_of_eight_ports(&rt, &mut bound()?);
-    longest_user_description(&rt, &mut bound()?);
-    replaced_reply(&rt, &mut bound()?);
     Ok(())
 }
 

@@ -21,7 +21,7 @@ returns-clause-messages g c =
       number_is = c.requires.number ∙ sym (ap (λ (v : KeptValue). v.entry.number) c.self.view_is);
     } in
     c.resend_each.ensures.messages
-    ∙ ((λ i. g.O.Outgoing.sent c.args.out.now ++ map (λ m. (c.args.ingress, renewed c.args.heard.now.domain (c.port_for.ensures i) (c.saturating_sub.ensures i) m))
+    ∙ ((λ i. g.O.Outgoing.sent c.args.out.now ++ map (λ m. (c.args.ingress, renewed c.args.heard.now.domain (c.port_for.ensures i) (c.hops_passed.ensures i) m))
     (pieces (c.as_slice-sizes.ensures.value i) (c.as_slice.ensures.value i)))
     ∙ ((λ i. g.O.Outgoing.sent c.args.out.now ++ renewed_reply c.self.inside.of_port e c.args.heard.now c.args.ingress
     (pieces c.self.inside.sizes.items c.self.inside.messages.items) copy low c.self.invariant.each i)
