@@ -17,7 +17,7 @@ use crate::rendering::draft_of;
 use crate::renewal::Renewal;
 use arrayvec::ArrayVec;
 use ptpm_codec::{
-    Action, Buffer, ClockIdentity, Draft, PortIdentity, encode, overwrite_message, put,
+    Action, Buffer, ClockIdentity, Draft, PortIdentity, encode, overwrite_message, put, put_message,
 };
 use ptpm_data::PortAnswer;
 
@@ -195,6 +195,6 @@ fn copy_each<O: Outgoing>(out: &O, sizes: &mut Sizes, messages: &mut Messages)
     for place in 0..out.count() {
         let message = out.message(place);
         sizes.push(message.len() as u8);
-        put(messages, message);
+        put_message(messages, message);
     }
 }

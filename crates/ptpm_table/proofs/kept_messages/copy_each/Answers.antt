@@ -27,8 +27,8 @@ push-requires g c =
     ) in
     (omega arith, few)
 
-pub put-requires : goal.put-requires
-put-requires g c =
+pub put_message-requires : goal.put_message-requires
+put_message-requires g c =
     let all = g.O.Outgoing.sent c.args.out.now in
     let more = ap length (octets_more all c.loop-place.place (omega (arith, c.loop-place-test.true, c.count-place-end.ensures))) in
     let room : array_vec_len c.loop-place.messages + length c.message-message.result.now ≤ 640 =
@@ -53,7 +53,7 @@ loop-place-preserved g c =
           ∙ (λ i. c.loop-place.invariant.sizes i ++ length (c.message-message.ensures i) ∷ [])
           ∙ sym (sizes_more all c.loop-place.place inside);
       messages =
-          c.put.ensures.items
+          c.put_message.ensures.items
           ∙ (λ i. c.loop-place.invariant.messages i ++ c.message-message.ensures i)
           ∙ sym (octets_more all c.loop-place.place inside);
     }
