@@ -1,5 +1,5 @@
 -- What a request that is not refused meets, and what carrying it out keeps.
-use Rattle.std.proofs.Common.{◌≡◌, refl, ℕ, Bool, true, false, not, List, [], ◌∷◌, length, drop, Option, Some, None}
+use Rattle.std.proofs.Common.{◌≡◌, refl, ℕ, Bool, true, not, List, [], length, drop, Option, Some, None}
 use Rattle.std.specs.Option.{is_some}
 use Rattle.std.proofs.lemmas.Bool.{not-false}
 use Rattle.std.proofs.lemmas.List.{length-map}
@@ -8,7 +8,7 @@ use Rattle.ptpm_codec.specs.declared.message.Action.{Action}
 use Rattle.ptpm_codec.specs.declared.message.Action.TheVariants as actions
 use Rattle.ptpm_codec.specs.declared.error.ErrorId.{ErrorId}
 use Rattle.ptpm_codec.specs.declared.error.ErrorId.TheVariants.{NotSupported, WrongLength, WrongValue}
-use Rattle.ptpm_codec.specs.Ordered.{first_of}
+use Rattle.ptpm_codec.proofs.OrderedLaws.{first_of-none}
 use Rattle.ptpm_data.specs.declared.rights.Rights.{Rights}
 use Rattle.ptpm_data.specs.declared.management_id.Layout.{Layout}
 use Rattle.ptpm_data.specs.declared.management_id.Layout.TheVariants as layouts
@@ -23,12 +23,6 @@ use Rattle.ptpm_data.specs.Refusals.{row_refusal, has_right, is_length, is_value
 use Rattle.ptpm_data.specs.Changes.{applied, commanded, named_changed, set_members, with_mechanism}
 
 -- ---- the tests of a request that is not refused
-
-pub first_of-none : {A : Type 0} (test : Bool) (a : A) (rest : List (Bool × A))
-    → first_of ((test, a) ∷ rest) ≡ None
-    → (test ≡ false) × (first_of rest ≡ None)
-first_of-none true a rest e = absurd cc
-first_of-none false a rest e = (refl, e)
 
 -- the dataField of a request that is not refused suits its id
 pub record Suits (layout : Layout) (q : RequestValue) : Type 0 where

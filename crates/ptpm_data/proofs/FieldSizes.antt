@@ -1,5 +1,6 @@
 -- How many octets a dataField has.
-use Rattle.std.proofs.Common.{◌≡◌, refl, ℕ, ◌%◌, ◌≤◌, Bool, true, false, not, ◌&&◌, ◌==◌, cond, if◌then◌else◌, List, [], ◌∷◌, length, length-append, Option, Some, None, arith}
+use Rattle.std.proofs.Common.{◌≡◌, refl, ℕ, ◌%◌, ◌≤◌, Bool, true, false, not, ◌==◌, cond, if◌then◌else◌, List, [], ◌∷◌, length, length-append, Option, Some, None, arith}
+use Rattle.std.proofs.lemmas.Bool.{and_parts}
 use Rattle.std.specs.List.{find, list_all}
 use Rattle.ptpm_codec.specs.declared.identity.ClockIdentity.{ClockIdentity}
 use Rattle.ptpm_codec.proofs.PtpTextLaws.{ptp_text_size}
@@ -123,10 +124,6 @@ of_layout layout (Some n) d s = of_either (is_port_layout layout) (at_port layou
 
 -- ---- the table's scopes are those of its layouts
 
-pub both_parts : (a b : Bool) → (a && b) ≡ true → (a ≡ true) × (b ≡ true)
-both_parts true b e = (refl, e)
-both_parts false b e = cc
-
 module _ {X : Type 0} (test good : X → Bool) where
   found_first : (b : Bool) (y x : X) (rest : Option X)
       → cond b (Some y) rest ≡ Some x
@@ -144,7 +141,7 @@ module _ {X : Type 0} (test good : X → Bool) where
       → good x ≡ true
   found [] x all e = cc
   found (y ∷ ys) x all e =
-      let parts = both_parts (good y) (list_all good ys) all in
+      let parts = and_parts (good y) (list_all good ys) all in
       found_first (test y) y x (find test ys) e parts.0 (found ys x parts.1)
 
 abbrev scope_agrees : RowValue → Bool

@@ -1,5 +1,5 @@
 -- What a request keeps of the data sets.
-use Rattle.std.proofs.Common.{◌≡◌, refl, ℕ, ◌≤◌, Bool, true, false, List, length, Option, Some, None, leb-true}
+use Rattle.std.proofs.Common.{◌≡◌, refl, ℕ, ◌≤◌, Bool, true, false, List, length, Option, Some, None}
 use Rattle.std.specs.List.{Contains}
 use Rattle.std.proofs.lemmas.List.Elements.{All-contains}
 use Rattle.ptpm_codec.specs.declared.message.Action.{Action}
@@ -24,8 +24,8 @@ use Rattle.ptpm_data.specs.Changes.{applied, changed_at, changed_by, commanded, 
 use Rattle.ptpm_data.specs.Replies.{answer, outcome, reply_of, reply_to}
 use Rattle.ptpm_data.specs.RequestLaws.{IsSized}
 use Rattle.ptpm_data.proofs.Carrying.{Suits, suits_from, applied-ports}
-use Rattle.ptpm_data.proofs.FieldSizes.{both_parts}
 use Rattle.ptpm_data.proofs.ReplyLemmas.{reply_of-all}
+use Rattle.ptpm_data.proofs.StartLemmas.{description_small}
 
 -- ---- what carrying out keeps
 
@@ -75,10 +75,6 @@ applied-keeps layout q _ d = same d
 
 -- ---- the text
 
-pub described : (text : List ℕ) → is_description text ≡ true → length text ≤ 128
-unfolding is_description set_of
-described text good = leb-true _ _ (both_parts _ _ good).0
-
 with_mechanism-text : (port : ℕ) (d : DataSetsValue) (m : Option DelayMechanism)
     → (with_mechanism port d m).description ≡ d.description
 with_mechanism-text port d None = refl
@@ -89,7 +85,7 @@ set_members-text : (layout : Layout) (port : ℕ) (octets : List ℕ) (d : DataS
     → length d.description ≤ 128
     → length (set_members layout port octets d).description ≤ 128
 unfolding set_members is_set_value is_description set_of
-set_members-text layouts.UserDescription port octets d good small = described (ptp_text octets) good
+set_members-text layouts.UserDescription port octets d good small = description_small (ptp_text octets) good
 set_members-text layouts.DelayMechanism port octets d good small = rw (with_mechanism-text port d (mechanism_of (octet 0 octets))) small
 set_members-text _ port octets d good small = small
 

@@ -1,6 +1,7 @@
 -- Data sets are no more than their map of members.
 use Rattle.std.proofs.Common.{arith, ◌≡◌, ◌==◌, ℕ, suc, ◌+◌, ◌-◌, ℤ, Bool, true, false, List, [], ◌∷◌, Option, Some, None, option_and_then, slice_get, refl, ap, sym, ◌∙◌}
 use Rattle.std.proofs.lemmas.Bool.Decides.{nat_tests}
+use Rattle.std.proofs.lemmas.Option.{same_Some}
 use Rattle.ptpm_codec.specs.declared.identity.ClockIdentity.{ClockIdentity}
 use Rattle.ptpm_codec.specs.declared.identity.PortIdentity.{PortIdentity}
 use Rattle.ptpm_data.specs.declared.members.Member.{Member}
@@ -15,9 +16,6 @@ use Rattle.ptpm_data.specs.Members.{DataSetsValue, port_of}
 use Rattle.ptpm_data.specs.MemberMap.{MemberValue, Octets, Place, OfClock, OfPort, natural, integer, flag, identity, port_identity, port_member, value_of}
 
 -- ---- a value tells what it is the value of
-
-some_same : {A : Type 0} (x y : A) → Some x ≡ Some y → x ≡ y
-some_same x y h = cc
 
 natural_same : (m n : ℕ) → natural m ≡ natural n → m ≡ n
 natural_same m n h = cc
@@ -55,7 +53,7 @@ state_back states.Uncalibrated = refl
 state_back states.Slave = refl
 
 state_same : (s t : PortState) → natural (state_number s) ≡ natural (state_number t) → s ≡ t
-state_same s t h = some_same s t (sym (state_back s) ∙ ap state_of (natural_same _ _ h) ∙ state_back t)
+state_same s t h = same_Some s t (sym (state_back s) ∙ ap state_of (natural_same _ _ h) ∙ state_back t)
 
 mechanism_back : (m : DelayMechanism) → mechanism_of (mechanism_number m) ≡ Some m
 mechanism_back mechanisms.EndToEnd = refl
@@ -65,7 +63,7 @@ mechanism_back mechanisms.NoMechanism = refl
 mechanism_same : (m n : DelayMechanism)
     → natural (mechanism_number m) ≡ natural (mechanism_number n)
     → m ≡ n
-mechanism_same m n h = some_same m n (sym (mechanism_back m) ∙ ap mechanism_of (natural_same _ _ h) ∙ mechanism_back n)
+mechanism_same m n h = same_Some m n (sym (mechanism_back m) ∙ ap mechanism_of (natural_same _ _ h) ∙ mechanism_back n)
 
 -- ---- ports
 
@@ -103,7 +101,7 @@ ports_same [] [] h = refl
 ports_same [] (q ∷ qs) h = let e = h 0 in cc
 ports_same (p ∷ ps) [] h = let e = h 0 in cc
 ports_same (p ∷ ps) (q ∷ qs) h =
-    let first = some_same p q (h 0) in
+    let first = same_Some p q (h 0) in
     let rest = ports_same ps qs (λ i. h (suc i)) in
     λ i. first i ∷ rest i
 

@@ -1,6 +1,7 @@
 -- What an observation moves and keeps, member by member.
-use Rattle.std.proofs.Common.{◌≡◌, ◌∙◌, ap, refl, sym, ℕ, zero, suc, ◌==◌, ◌-◌, ℤ, Bool, true, false, ◌&&◌, ◌||◌, not, if◌then◌else◌, List, [], ◌∷◌, map, length, slice_get, Option, Some, None, option_and_then, unwrap_or}
+use Rattle.std.proofs.Common.{◌≡◌, ◌∙◌, ap, refl, sym, ℕ, zero, suc, ◌==◌, ◌-◌, ℤ, Bool, true, false, ◌&&◌, not, if◌then◌else◌, List, [], ◌∷◌, map, length, slice_get, Option, Some, None, option_and_then, unwrap_or}
 use Rattle.std.specs.Option.{option_or}
+use Rattle.std.proofs.lemmas.Bool.{or_parts}
 use Rattle.ptpm_data.specs.declared.members.Member.{Member}
 use Rattle.ptpm_data.specs.declared.members.Member.TheVariants as members
 use Rattle.ptpm_data.specs.declared.port_state.PortState.{PortState}
@@ -226,10 +227,6 @@ state_stays true x s is free = refl
 state_stays false None s is free = refl
 state_stays false (Some t) s is free = only_first (is_disabled t) free ∙ sym is
 
-neither : (a b : Bool) → (a || b) ≡ false → (a ≡ false) × (b ≡ false)
-neither true b h = cc
-neither false b h = (refl, h)
-
 disabled_stay : (os : List PortObservation) (ports : List PortDataSet)
     → disables_one os ports ≡ false
     → map (λ p. is_disabled p.state) (ports_after os ports) ≡ map (λ p. is_disabled p.state) ports
@@ -237,7 +234,7 @@ unfolding ports_after disables_one
 disabled_stay [] ports free = refl
 disabled_stay (o ∷ os) [] free = refl
 disabled_stay (o ∷ os) (p ∷ ports) free =
-    let both = neither (disables o p) _ free in
+    let both = or_parts (disables o p) _ free in
     let here = state_stays (is_disabled p.state) o.state p.state refl both.0 in
     let rest = disabled_stay os ports both.1 in
     λ i. here i ∷ rest i

@@ -2,7 +2,7 @@
 use Rattle.std.proofs.Common.{◌≡◌, arith, refl, ℕ, zero, suc, ◌+◌, ◌*◌, ◌/◌, ◌%◌, ◌^◌, ◌<◌, ◌≤◌, ◌==◌, Bool, true, List, [], ◌∷◌, ◌++◌, length, take, replicate, Option, Some, None, inl, inr}
 use Rattle.std.specs.Int.{w16}
 use Rattle.std.specs.List.{list_all, range_with_len}
-use Rattle.std.proofs.lemmas.Bool.{cases_lt, eqb-true}
+use Rattle.std.proofs.lemmas.Bool.{and_parts, cases_lt, eqb-true}
 use Rattle.std.proofs.lemmas.Int.{of_z-to_z}
 use Rattle.std.proofs.lemmas.List.{length-take-le}
 use Rattle.byteorder.specs.Endian.{big_number}
@@ -15,7 +15,6 @@ use Rattle.ptpm_data.specs.Changes.{with_utc_properties}
 use Rattle.ptpm_data.specs.DataField.{bit, field_of_port, i16_octets, port_field_of, utc_properties_data_field}
 use Rattle.ptpm_data.specs.SetField.{first_i16, has_bit, octet}
 use Rattle.ptpm_data.specs.SetLaws.{AreOctets}
-use Rattle.ptpm_data.proofs.FieldSizes.{both_parts}
 
 -- ---- a text
 
@@ -46,7 +45,7 @@ in_range : (test : ℕ → Bool) (a n c : ℕ)
     → test c ≡ true
 in_range test a zero c all low high = absurd (omega arith)
 in_range test a (suc n) c all low high =
-    let parts = both_parts (test a) (list_all test (range_with_len (a + 1) n)) all in
+    let parts = and_parts (test a) (list_all test (range_with_len (a + 1) n)) all in
     elim (cases_lt a c) [
       | inl above ↦ in_range test (a + 1) n c parts.1 (omega arith) (omega arith)
       | inr here ↦

@@ -4,6 +4,7 @@ use Rattle.std.specs.List.{list_all}
 use Rattle.std.proofs.lemmas.Bool.{not-false}
 use Rattle.ptpm_codec.specs.declared.message.Action.{Action}
 use Rattle.ptpm_codec.specs.declared.message.Action.TheVariants as actions
+use Rattle.ptpm_codec.proofs.OrderedLaws.{first_of-none}
 use Rattle.ptpm_data.specs.declared.rights.Rights.{Rights}
 use Rattle.ptpm_data.specs.ManagementId.{RowValue, has_action, id_table, row_of}
 use Rattle.ptpm_data.specs.Members.{DataSetsValue}
@@ -13,7 +14,6 @@ use Rattle.ptpm_data.specs.Changes.{changed_by, set_members}
 use Rattle.ptpm_data.specs.Rights.{no_rights}
 use Rattle.ptpm_data.specs.Replies.{answer, read_reply_to, reply_of, reply_to}
 use Rattle.ptpm_data.specs.SetLaws.{IsAcceptedSet, get_of}
-use Rattle.ptpm_data.proofs.Carrying.{first_of-none}
 use Rattle.ptpm_data.proofs.FieldSizes.{found}
 
 -- ---- an id that permits SET permits GET

@@ -14,7 +14,6 @@ use crate::refusals::refusal;
 use crate::request::Request;
 use crate::rights::Rights;
 use crate::set_field::{first_i8, first_i16};
-use arrayvec::ArrayVec;
 use ptpm_codec::{Action, ErrorId, PortIdentity, overwrite, text_of_ptp_text};
 
 impl DataSets {
@@ -109,11 +108,12 @@ impl DataSets {
         }
     }
 
+    #[tactic(auto, unfolding(crate::specs::Ranges::is_description, crate::specs::ManagementId::set_of))]
     fn set_description(&mut self, text: &[u8])
         requires { is_description text.now ≡ true }
         ensures { self.new ≡ record self.old { description = text.now } }
     {
-        put_description(&mut self.description, text);
+        overwrite(&mut self.description, text);
     }
 
     /// In a clock that is its own grandmaster the grandmaster's member changes with its own (9.3.5, table 30).
@@ -132,14 +132,6 @@ impl DataSets {
     {
         change_named(self.ports.as_mut_slice(), port, change);
     }
-}
-
-#[tactic(auto, unfolding(crate::specs::Ranges::is_description, crate::specs::ManagementId::set_of))]
-fn put_description(description: &mut ArrayVec<u8, 128>, text: &[u8])
-    requires { is_description text.now ≡ true }
-    ensures { description.new.items ≡ text.now }
-{
-    overwrite(description, text);
 }
 
 fn set_utc_properties(time: &mut TimePropertiesDataSet, octets: &[u8])

@@ -9,6 +9,7 @@ use crate::port_state::PortState;
 use crate::start::{ClockStart, PortStart};
 use crate::tests::{K, OTHER};
 use ptpm_codec::PortIdentity;
+use std::alloc::Global;
 use std::process::Abort;
 
 /// Its priority1 is 100.
@@ -119,72 +120,108 @@ fn grandmaster_again(rt: HostRuntime) {
     assert!(rt; sets.default.precedence.class == 187 && sets.parent.precedence.class == 187);
 }
 
-#[test]
-fn refused_observations(rt: HostRuntime) {
+/// What a clock of two ports refuses for its grandmaster: another with its own identity.
+fn differing() -> ClockObservation {
     let impostor = AnnouncedGrandmaster {
         identity: K,
         ..other(90)
     };
-    let differing = ClockObservation {
+    ClockObservation {
         steps_removed: Some(9),
         grandmaster: Some(ObservedGrandmaster::Announced(impostor)),
         ..ClockObservation::default()
-    };
-    let leap = ClockObservation {
+    }
+}
+
+/// The same, with leap59 beside leap61.
+fn two_leaps() -> ClockObservation {
+    ClockObservation {
         leap59: Some(true),
-        ..differing
-    };
-    let accuracy = ClockObservation {
+        ..differing()
+    }
+}
+
+/// The same, with a clockAccuracy out of range.
+fn bad_accuracy() -> ClockObservation {
+    ClockObservation {
         clock_accuracy: Some(0x16),
-        ..leap
-    };
+        ..two_leaps()
+    }
+}
+
+/// The observation is refused for this cause, which has this text, and no member changes.
+fn refuses(
+    rt: &impl Abort,
+    alloc: Global,
+    clock: &ClockObservation,
+    ports: &[PortObservation],
+    want: ObservationError,
+    text: &str,
+) {
+    let mut sets = sets(rt);
+    let before = sets.copy();
+    match sets.observe(clock, ports) {
+        Ok(_) => panic!(rt; "{text}"),
+        Err(fault) => {
+            assert!(rt; fault == want, "{fault} for {text}");
+            assert!(rt; format!(in alloc; "{fault}").is_ok_and(|shown| shown.as_str() == text));
+        }
+    }
+    assert!(rt; sets.default == before.default && sets.current == before.current);
+    assert!(rt; sets.parent == before.parent && sets.time == before.time);
+    assert!(rt; sets.ports.as_slice() == before.ports.as_slice());
+}
+
+/// A port that the clock lacks is told before all else.
+#[test]
+fn refused_ports(rt: HostRuntime) {
     let disabled = state(PortState::Disabled);
     let none = PortObservation::default();
-    let mut sets = sets(&rt);
-    let before = sets.copy();
-    for (clock, ports, want, text) in [
+    let ports = [disabled, none, none];
+    refuses(
+        &rt,
+        rt.alloc(),
+        &bad_accuracy(),
+        &ports,
+        ObservationError::NoPort,
+        "NoPort",
+    );
+}
+
+/// Of several bad values the first member is told, and a grandmaster that differs behind them.
+#[test]
+fn refused_values(rt: HostRuntime) {
+    for (clock, member, text) in [
         (
-            &accuracy,
-            &[disabled, none, none][..],
-            ObservationError::NoPort,
-            "NoPort",
-        ),
-        (
-            &accuracy,
-            &[disabled][..],
-            ObservationError::BadValue(Member::ClockAccuracy),
+            bad_accuracy(),
+            Member::ClockAccuracy,
             "BadValue clock_accuracy",
         ),
-        (
-            &leap,
-            &[disabled][..],
-            ObservationError::BadValue(Member::Leap59),
-            "BadValue leap59",
-        ),
-        (
-            &differing,
-            &[disabled][..],
-            ObservationError::BadValue(Member::State),
-            "BadValue state",
-        ),
-        (
-            &differing,
-            &[none, disabled][..],
-            ObservationError::GrandmasterDiffers,
-            "GrandmasterDiffers",
-        ),
+        (two_leaps(), Member::Leap59, "BadValue leap59"),
+        (differing(), Member::State, "BadValue state"),
     ] {
-        match sets.observe(clock, ports) {
-            Ok(_) => panic!(rt; "{text}"),
-            Err(fault) => {
-                assert!(rt; fault == want, "{fault} for {text}");
-                assert!(rt;
-                    format!(in rt.alloc(); "{fault}").is_ok_and(|shown| shown.as_str() == text)
-                );
-            }
-        }
-        assert!(rt; sets.default == before.default && sets.current == before.current);
-        assert!(rt; sets.parent == before.parent && sets.time == before.time);
-        assert!(rt; sets.ports.as_slice() == before.ports.as_slice());
+        let ports = [state(PortState::Disabled)];
+        refuses(
+            &rt,
+            rt.alloc(),
+            &clock,
+            &ports,
+            ObservationError::BadValue(member),
+            text,
+        );
     }
+}
+
+/// A port that is disabled may be told to be so.
+#[test]
+fn refused_grandmaster(rt: HostRuntime) {
+    let ports = [PortObservation::default(), state(PortState::Disabled)];
+    refuses(
+        &rt,
+        rt.alloc(),
+        &differing(),
+        &ports,
+        ObservationError::GrandmasterDiffers,
+        "GrandmasterDiffers",
+    );
 }

@@ -374,7 +374,7 @@ fn enable_port_at_each_state(rt: HostRuntime) {
     }
 }
 
-/// The texts of this vector; its malformed messages are the codec's.
+/// An empty text and one of six letters are taken. An empty dataField and a text that is no UTF-8 are refused.
 #[test]
 fn malformed_and_user_description(rt: HostRuntime) {
     run_fresh(

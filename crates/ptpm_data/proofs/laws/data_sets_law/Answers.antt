@@ -1,4 +1,4 @@
-use Rattle.ptpm_data.proofs.Keeping.{described}
+use Rattle.ptpm_data.proofs.StartLemmas.{description_small}
 use Rattle.ptpm_data.proofs.laws.data_sets_law.Goals as goal
 
 pub returns-clause-sized : goal.returns-clause-sized
@@ -7,7 +7,7 @@ returns-clause-sized c =
     (record {
       some_port = c.sets.invariant.some_port;
       at_most_eight = c.sets.invariant.at_most_eight;
-      text = described _ c.sets.invariant.description;
+      text = description_small _ c.sets.invariant.description;
       identity = c.identity_law.ensures;
       parent = c.identity_law-2.ensures;
       grandmaster = c.identity_law-3.ensures;
