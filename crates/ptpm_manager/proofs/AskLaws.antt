@@ -1,6 +1,6 @@
 -- Laws of asks: what is not refused is a request with one answer.
 use Rattle.std.proofs.Common.{◌≡◌, ◌≤◌, ℕ, Bool, true, false, not, ◌&&◌, cond, nat_le, Option, Some, None, refl, sym, subst}
-use Rattle.std.proofs.lemmas.Bool.{and_parts, cond-false, leb-true}
+use Rattle.std.proofs.lemmas.Bool.{and_parts, cond-false, leb-true, not-false}
 use Rattle.ptpm_codec.specs.Identity.{every_port}
 use Rattle.ptpm_codec.specs.Message.{is_data_field, is_reply}
 use Rattle.ptpm_codec.proofs.MessageLaws.{is_data_field-IsDataField}
@@ -14,10 +14,6 @@ passes : {A : Type 0} (t : Bool) (e : A) (o : Option A)
     → (t ≡ false) × (o ≡ None)
 passes true e o h = cc
 passes false e o h = (refl, h)
-
-not-false : (b : Bool) → not b ≡ false → b ≡ true
-not-false true h = refl
-not-false false h = sym h
 
 -- where the first of two tests holds and they do not both, the second's opposite does
 other-true : (p q : Bool) → (p && not q) ≡ false → p ≡ true → q ≡ true

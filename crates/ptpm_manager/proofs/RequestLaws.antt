@@ -1,12 +1,10 @@
 -- Laws of a session's unanswered request.
 use Rattle.std.proofs.Common.{◌≡◌, ℕ, Option, Some, None, option_map, sym, ap, ◌∙◌}
+use Rattle.std.proofs.lemmas.Option.{same_Some}
 use Rattle.ptpm_codec.specs.declared.message.Message.{Message}
 use Rattle.ptpm_data.specs.Request.{RequestValue}
 use Rattle.ptpm_manager.specs.declared.setup.Setup.{Setup}
 use Rattle.ptpm_manager.specs.Setup.{request_message}
-
-some-some : {A : Type 0} (x y : A) → Some x ≡ Some y → x ≡ y
-some-some x y h = cc
 
 -- in another domain a request is the same message but for that
 pub in_domain : (setup : Setup) (domain other k : ℕ) (o : Option RequestValue) (v w : Message)
@@ -15,4 +13,4 @@ pub in_domain : (setup : Setup) (domain other k : ℕ) (o : Option RequestValue)
     → w ≡ record v { domain = other }
 in_domain setup domain other k None v w p q = cc
 in_domain setup domain other k (Some r) v w p q =
-    sym (some-some _ w q) ∙ ap (λ (u : Message). record u { domain = other }) (some-some _ v p)
+    sym (same_Some _ w q) ∙ ap (λ (u : Message). record u { domain = other }) (same_Some _ v p)
