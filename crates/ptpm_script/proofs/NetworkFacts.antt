@@ -3,6 +3,7 @@ use Rattle.std.proofs.Common.{◌≡◌, ℕ, ◌≤◌, Some, length, sym, ◌�
 use Rattle.std.proofs.Props.{props}
 use mathlib.Core.HLevel.{Σ_prop_path}
 use mathlib.Core.Logic.{∥∥₁_elim}
+use Rattle.std.proofs.lemmas.Option.{same_Some}
 use Rattle.std.specs.Coded.{le_prop}
 use Rattle.std.specs.Prelude.{slice_get}
 use Rattle.ptpm_data.specs.contracts.start.ClockStart as clock_start
@@ -11,7 +12,7 @@ use Rattle.ptpm_script.specs.declared.network.End.{End}
 use Rattle.ptpm_script.specs.declared.network.End.TheVariants as ends
 use Rattle.ptpm_script.specs.NetworkText.{IsOfText}
 use Rattle.ptpm_script.specs.NetworkValue.{ClockValue, IsAccepted, IsEndOf, NetworkValue}
-use Rattle.ptpm_script.proofs.NetworkLaw.{accepted, some_same}
+use Rattle.ptpm_script.proofs.NetworkLaw.{accepted}
 
 ClockValue-set : IsSet ClockValue
 ClockValue-set = hlevel (props, clock_start.the_row.coded, port_start.the_row.coded)
@@ -22,7 +23,7 @@ IsPlace n place port c = (slice_get n.clocks place ≡ Some c) × ((1 ≤ port) 
 
 is_place : (n : NetworkValue) (place port : ℕ) → IsProp ((c : ClockValue) × IsPlace n place port c)
 is_place n place port x y =
-    Σ_prop_path {B = IsPlace n place port} (λ c. hlevel (props, ClockValue-set)) (some_same x.0 y.0 (sym x.1.0 ∙ y.1.0))
+    Σ_prop_path {B = IsPlace n place port} (λ c. hlevel (props, ClockValue-set)) (same_Some x.0 y.0 (sym x.1.0 ∙ y.1.0))
 
 IsEndOf-prop : (n : NetworkValue) (e : End) → IsProp (IsEndOf n e)
 IsEndOf-prop n (ends.Clock place port) x y =

@@ -3,8 +3,9 @@ use Rattle.std.proofs.Common.{◌≡◌, ◌≢◌, ℕ, zero, suc, ◌≤◌, n
 use Rattle.std.specs.Prelude.{slice_get, flat_map, bytes_eq, IsOk, option_map, option_and_then, codes}
 use Rattle.std.specs.List.{list_all, list_any, count_by}
 use Rattle.std.proofs.lemmas.List.FromFn.{length-map-range_with_len}
-use Rattle.std.proofs.lemmas.Option.{slice_get_within, cond_some}
+use Rattle.std.proofs.lemmas.Option.{same_Some, slice_get_within, cond_some}
 use Rattle.std.proofs.lemmas.Slice.Eq.{bytes_eq-Decides}
+use Rattle.std.proofs.lemmas.Bool.{and_from, both_ways, or_left, or_parts, or_right}
 use Rattle.std.proofs.lemmas.Bool.Decides.{Decides-eqb, nat_tests}
 use Rattle.std.specs.Result.{result_ok}
 use Rattle.hex.specs.Hex.{decode_sized}
@@ -35,29 +36,13 @@ use Rattle.ptpm_script.specs.NetworkFile.{FileValue, file_of, file_of_table, fil
 use Rattle.ptpm_script.specs.NetworkText.{all_ports, and_then, clock_of, clock_place, end_by_name, end_by_place, given, has_like, has_own_ports, has_port, has_too_many, has_twice, if_started, is_clock, link_of, managers_of, map_all, network_of, network_of_file, placed, port_at_clock, same_end, same_name_or_clock, same_name_or_identity, same_port, session_at, session_of}
 use Rattle.ptpm_script.specs.NetworkValue.{CanStart, ClockValue, IsAccepted, IsEndOf, IsLinkOf, IsSessionOf, NetworkValue}
 use Rattle.ptpm_script.specs.Values.{natural_at, port_at, text_at}
-use Rattle.ptpm_script.proofs.NetworkLemmas.{or_none, or_second, none_at, and_then_ok, given_ok, made_length, made_from, made_of, made_count, none_or_one, all_made, made_apart, made_flat, found}
+use Rattle.ptpm_script.proofs.NetworkLemmas.{none_at, nothing_at, and_then_ok, given_ok, made_length, made_from, made_of, made_count, none_or_one, all_made, made_apart, made_flat, found}
+use Rattle.ptpm_script.proofs.PlaceLemmas.{not_more}
 
 -- ---- options and tests
 
-and_both : (a b : Bool) → a ≡ true → b ≡ true → (a && b) ≡ true
-and_both true b x y = y
-and_both false b x y = cc
-
-pub some_same : {A : Type 0} (x y : A) → Some x ≡ Some y → x ≡ y
-some_same x y h = cc
-
 ok_same : {A : Type 0} (x y : A) → ◌≡◌ {A = Result A NetError} (Ok x) (Ok y) → x ≡ y
 ok_same x y h = cc
-
-different : (b : Bool) → b ≡ false → b ≡ true → ⊥
-different b fails passes = cc
-
-none_in : {A : Type 0} (i : ℕ) (x : A) → slice_get [] i ≡ Some x → ⊥
-none_in i x e = cc
-
-or_lead : (a b : Bool) → a ≡ true → (a || b) ≡ true
-or_lead true b h = refl
-or_lead false b h = cc
 
 pub opt_inv : {A B : Type 0} (f : A → Option B) (o : Option A) (b : B)
     → option_and_then f o ≡ Some b
@@ -100,7 +85,7 @@ same_clocks a b h = subst (λ c. same_clock a c ≡ true) h (same_clock-refl a)
 
 same_identities : (a b : PortIdentity) → a ≡ b → same_identity a b ≡ true
 same_identities a b h =
-    subst (λ c. same_identity a c ≡ true) h (and_both _ _ (same_clock-refl a.clock) ((Decides-eqb a.port a.port).1 refl))
+    subst (λ c. same_identity a c ≡ true) h (and_from _ _ (same_clock-refl a.clock) ((Decides-eqb a.port a.port).1 refl))
 
 -- ---- identities in a file are not all ones
 
@@ -109,7 +94,7 @@ unfolding clock_identity
 clock_is_one text c h every =
     let o = opt_inv if_one_clock (result_ok (decode_sized text 8)) c h in
     let p = else_some (same_clock (record { 0 = o.0 }) every_clock) _ c o.2 in
-    different _ p.0 (same_clocks (record { 0 = o.0 }) every_clock (p.1 ∙ every))
+    both_ways _ p.0 (same_clocks (record { 0 = o.0 }) every_clock (p.1 ∙ every))
 
 pub clock_part : (a : Option ClockIdentity) (b : Option ℕ) (p : PortIdentity)
     → port_of a b ≡ Some p
@@ -129,7 +114,7 @@ port_is_one text p h =
 session_part : (ms : Members) (i : Option PortIdentity) (f h a : Option ℕ)
     (r : Option (Option Rights)) (s : SessionEntry)
     → session_with ms i f h a r ≡ Some s → i ≡ Some s.identity
-session_part ms (Some i) (Some f) (Some h) (Some a) (Some r) s e = let q = some_same _ _ e in ap (λ t. Some t.identity) q
+session_part ms (Some i) (Some f) (Some h) (Some a) (Some r) s e = let q = same_Some _ _ e in ap (λ t. Some t.identity) q
 session_part ms _ _ _ _ _ s e = cc
 
 pub identity_part : (ms : Members) (s : SessionEntry)
@@ -161,8 +146,8 @@ read_at : {A : Type 0} (of : Data → Option A) (ds : Items) (xs : List A) (i : 
     → slice_get xs i ≡ Some x
     → (d : Data) × (of d ≡ Some x)
 read_at of no_items xs i x h e =
-    let q = some_same [] xs h in
-    absurd (none_in i x (subst (λ l. slice_get l i ≡ Some x) (sym q) e))
+    let q = same_Some [] xs h in
+    absurd (nothing_at i x (subst (λ l. slice_get l i ≡ Some x) (sym q) e))
 read_at of (item d ds) xs i x h e =
     let a = opt_inv _ _ xs h in
     let more = map_inv _ _ xs a.2 in
@@ -233,26 +218,23 @@ record Sound (f : FileValue) : Type 0 where
       → slice_get f.sessions i ≡ Some s
       → managers_of s.target f.sessions ≤ 16
 
-not_more : (most n : ℕ) → nat_lt most n ≡ false → n ≤ most
-not_more most n h = grind (arith, nat_tests)
-
 is_sound : (f : FileValue) → has_too_many f ≡ false → has_twice f ≡ false → Sound f
 unfolding has_too_many has_twice
 is_sound f many twice =
-    let m = or_none _ _ many in
-    let l = or_none _ _ m.0 in
-    let k = or_none _ _ l.0 in
-    let c = or_none _ _ k.0 in
-    let e = or_none _ _ twice in
-    let s = or_none _ _ e.0 in
-    let n = or_none _ _ s.0 in
-    let p = or_none _ _ n.0 in
+    let m = or_parts _ _ many in
+    let l = or_parts _ _ m.0 in
+    let k = or_parts _ _ l.0 in
+    let c = or_parts _ _ k.0 in
+    let e = or_parts _ _ twice in
+    let s = or_parts _ _ e.0 in
+    let n = or_parts _ _ s.0 in
+    let p = or_parts _ _ n.0 in
     record {
       clock_count = not_more 64 _ c.0;
       session_count = not_more 256 _ c.1;
       link_count = not_more 256 _ k.1;
       sizes = λ i x at. (
-          let b = or_none _ _ (none_at _ f.links i x l.1 at) in
+          let b = or_parts _ _ (none_at _ f.links i x l.1 at) in
           (not_more (length x) 2 b.0, not_more 16 (length x) b.1));
       clocks = p.1;
       no_clock = λ i x at. none_at _ f.sessions i x n.1 at;
@@ -285,7 +267,7 @@ not_every : (c : ClockStart) → clock_fault c ≡ None → c.identity ≢ every
 unfolding clock_fault
 not_every c h every =
     let fails = (passes (bytes_eq c.identity.0 all_ones) _ _ h).0 in
-    different (bytes_eq c.identity.0 all_ones) fails (bytes_same _ _ (ap (λ k. k.0) every))
+    both_ways (bytes_eq c.identity.0 all_ones) fails (bytes_same _ _ (ap (λ k. k.0) every))
 
 pub clock_made : (c : ClockEntryValue) (y : ClockValue) → clock_of c ≡ Ok y
     → (record { name = c.name; start = c.start; ports = all_ports c } ≡ y)
@@ -337,14 +319,14 @@ is_session f n p w one i s t at h =
     subst (IsSessionOf n) m.2 (record {
       is_one = one i s at;
       no_name = all_made clock_of (λ y. s.name ≢ y.name) f.clocks n.clocks p.clocks (λ j d y dj made same.
-          let fails = (or_none _ _ (none_at (is_clock s) f.clocks j d (w.no_clock i s at) dj)).0 in
+          let fails = (or_parts _ _ (none_at (is_clock s) f.clocks j d (w.no_clock i s at) dj)).0 in
           let own = ap (λ v. v.name) (clock_made d y made).0 in
-          different _ fails (bytes_same d.name s.name (own ∙ sym same)));
+          both_ways _ fails (bytes_same d.name s.name (own ∙ sym same)));
       no_clock = all_made clock_of (λ y. s.identity.clock ≢ y.start.identity) f.clocks n.clocks p.clocks (λ j d y dj made same.
-          let fails = (or_none _ _ (none_at (is_clock s) f.clocks j d (w.no_clock i s at) dj)).1 in
+          let fails = (or_parts _ _ (none_at (is_clock s) f.clocks j d (w.no_clock i s at) dj)).1 in
           let own = ap (λ v. v.start.identity) (clock_made d y made).0 in
           let holds = same_clocks d.start.identity s.identity.clock (own ∙ sym same) in
-          different _ fails holds);
+          both_ways _ fails holds);
       target = omega arith;
     })
 
@@ -360,7 +342,7 @@ same_target cs x s y t place h k ey et =
     let at : a.0 ≡ b.0 =
     ap (λ v. v.target) a.2 ∙ (Decides-eqb y.target place).0 ey ∙ sym ((Decides-eqb t.target place).0 et) ∙ sym (ap (λ v. v.target) b.2) in
     let there : slice_get cs a.0 ≡ Some d.0 = subst (λ i. slice_get cs i ≡ Some d.0) (sym at) d.1 in
-    let clock : c.0 ≡ d.0 = some_same _ _ (sym c.1 ∙ there) in
+    let clock : c.0 ≡ d.0 = same_Some _ _ (sym c.1 ∙ there) in
     sym (same_bytes _ _ c.2) ∙ ap (λ k. k.name) clock ∙ same_bytes _ _ d.2
 
 managers_is : (target : List ℕ) (ss : List SessionEntry)
@@ -462,7 +444,7 @@ same_clock_end cs an bn p q u v a b e =
     let place : a.place ≡ b.place = cc in
     let port : p ≡ q = cc in
     let there : slice_get cs a.place ≡ Some b.clock = subst (λ i. slice_get cs i ≡ Some b.clock) (sym place) b.there in
-    let clock : a.clock ≡ b.clock = some_same _ _ (sym a.there ∙ there) in
+    let clock : a.clock ≡ b.clock = same_Some _ _ (sym a.there ∙ there) in
     (sym b.named ∙ ap (λ c. c.name) (sym clock) ∙ a.named, sym port)
 
 same_session_end : (ss : List SessionEntry) (an bn : List ℕ) (u v : End)
@@ -474,7 +456,7 @@ same_session_end ss an bn u v a b e =
     let both : ends.Session a.place ≡ ends.Session b.place = a.is ∙ e ∙ sym b.is in
     let place : a.place ≡ b.place = cc in
     let there : slice_get ss a.place ≡ Some b.session = subst (λ i. slice_get ss i ≡ Some b.session) (sym place) b.there in
-    let session : a.session ≡ b.session = some_same _ _ (sym a.there ∙ there) in
+    let session : a.session ≡ b.session = same_Some _ _ (sym a.there ∙ there) in
     sym b.named ∙ ap (λ s. s.name) (sym session) ∙ a.named
 
 -- ends at one place are one end
@@ -485,7 +467,7 @@ one_place : (cs : List ClockEntryValue) (ss : List SessionEntry) (an bn : List �
     → u ≡ v
     → (bytes_eq bn an && same_port q p) ≡ true
 one_place cs ss an bn None None u v a b e =
-    and_both _ _ (bytes_same _ _ (same_session_end ss an bn u v (at_session cs ss an u a) (at_session cs ss bn v b) e)) refl
+    and_from _ _ (bytes_same _ _ (same_session_end ss an bn u v (at_session cs ss an u a) (at_session cs ss bn v b) e)) refl
 one_place cs ss an bn None (Some q) u v a b e =
     let s = at_session cs ss an u a in
     let c = at_clock cs ss bn q v b in
@@ -498,7 +480,7 @@ one_place cs ss an bn (Some p) None u v a b e =
     cc
 one_place cs ss an bn (Some p) (Some q) u v a b e =
     let same = same_clock_end cs an bn p q u v (at_clock cs ss an p u a) (at_clock cs ss bn q v b) e in
-    and_both _ _ (bytes_same _ _ same.0) ((Decides-eqb q p).1 same.1)
+    and_from _ _ (bytes_same _ _ same.0) ((Decides-eqb q p).1 same.1)
 
 is_link : (f : FileValue) (n : NetworkValue)
     → Placed f n
@@ -538,25 +520,25 @@ is_accepted f n p w one =
           (λ x z u v hx hz e.
           let xu = ap (λ y. y.name) (clock_made x u hx).0 in
           let zv = ap (λ y. y.name) (clock_made z v hz).0 in
-          or_lead (bytes_eq z.name x.name) _ (bytes_same z.name x.name (zv ∙ sym e ∙ sym xu)))
+          or_left (bytes_eq z.name x.name) _ (bytes_same z.name x.name (zv ∙ sym e ∙ sym xu)))
           f.clocks n.clocks p.clocks w.clocks;
       clock_identities = made_apart clock_of same_name_or_clock (λ y. y.start.identity)
           (λ x z u v hx hz e.
           let xu = ap (λ y. y.start.identity) (clock_made x u hx).0 in
           let zv = ap (λ y. y.start.identity) (clock_made z v hz).0 in
-          or_second (bytes_eq z.name x.name) _ (same_clocks z.start.identity x.start.identity (zv ∙ sym e ∙ sym xu)))
+          or_right (bytes_eq z.name x.name) _ (same_clocks z.start.identity x.start.identity (zv ∙ sym e ∙ sym xu)))
           f.clocks n.clocks p.clocks w.clocks;
       session_names = made_apart (session_of f.clocks) same_name_or_identity (λ t. t.name)
           (λ x z u v hx hz e.
           let xu = ap (λ t. t.name) (session_made f.clocks x u hx).2 in
           let zv = ap (λ t. t.name) (session_made f.clocks z v hz).2 in
-          or_lead (bytes_eq z.name x.name) _ (bytes_same z.name x.name (zv ∙ sym e ∙ sym xu)))
+          or_left (bytes_eq z.name x.name) _ (bytes_same z.name x.name (zv ∙ sym e ∙ sym xu)))
           f.sessions n.sessions p.sessions w.sessions;
       session_identities = made_apart (session_of f.clocks) same_name_or_identity (λ t. t.identity)
           (λ x z u v hx hz e.
           let xu = ap (λ t. t.identity) (session_made f.clocks x u hx).2 in
           let zv = ap (λ t. t.identity) (session_made f.clocks z v hz).2 in
-          or_second (bytes_eq z.name x.name) _ (same_identities z.identity x.identity (zv ∙ sym e ∙ sym xu)))
+          or_right (bytes_eq z.name x.name) _ (same_identities z.identity x.identity (zv ∙ sym e ∙ sym xu)))
           f.sessions n.sessions p.sessions w.sessions;
       ends_once = made_apart (place_of f.clocks f.sessions) same_end (λ e. e)
           (λ x z u v hx hz e. one_place f.clocks f.sessions x.name z.name x.port z.port u v

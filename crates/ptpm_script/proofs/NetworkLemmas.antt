@@ -2,35 +2,21 @@
 use Rattle.std.proofs.Common.{◌≡◌, ℕ, zero, suc, ◌+◌, Bool, true, false, ◌||◌, cond, List, [], ◌∷◌, ◌++◌, length, Option, Some, None, Result, Ok, Err, refl, ap, sym, subst, ◌∙◌, arith, ◌≤◌, ◌⊎◌, inl, inr}
 use Rattle.std.specs.Prelude.{slice_get, flat_map}
 use Rattle.std.specs.List.{AllByRecursion, list_any, position_from, count_by}
+use Rattle.std.proofs.lemmas.Bool.{or_parts}
 use Rattle.std.proofs.lemmas.List.Recursion.{is_count_by}
+use Rattle.std.proofs.lemmas.Map.Keys.{any_passes_from_place}
 use Rattle.ptpm_script.specs.declared.net_error.NetError.{NetError}
 use Rattle.ptpm_script.specs.NetworkText.{and_then, given, map_all, has_like}
 
 -- ---- tests
-
-pub or_none : (a b : Bool) → (a || b) ≡ false → (a ≡ false) × (b ≡ false)
-or_none true b h = cc
-or_none false b h = (refl, h)
-
-pub or_second : (a b : Bool) → b ≡ true → (a || b) ≡ true
-or_second true b h = refl
-or_second false b h = h
-
-pub any_at : {A : Type 0} (p : A → Bool) (xs : List A) (i : ℕ) (x : A)
-    → slice_get xs i ≡ Some x
-    → p x ≡ true
-    → list_any p xs ≡ true
-any_at p [] i x e h = absurd (cc)
-any_at p (y ∷ ys) zero x e h = let q : y ≡ x = cc in rw (q, h) refl
-any_at p (y ∷ ys) (suc i) x e h = or_second (p y) (list_any p ys) (any_at p ys i x e h)
 
 pub none_at : {A : Type 0} (p : A → Bool) (xs : List A) (i : ℕ) (x : A)
     → list_any p xs ≡ false
     → slice_get xs i ≡ Some x
     → p x ≡ false
 none_at p [] i x h e = absurd (cc)
-none_at p (y ∷ ys) zero x h e = let q : y ≡ x = cc in ap p (sym q) ∙ (or_none (p y) _ h).0
-none_at p (y ∷ ys) (suc i) x h e = none_at p ys i x (or_none (p y) _ h).1 e
+none_at p (y ∷ ys) zero x h e = let q : y ≡ x = cc in ap p (sym q) ∙ (or_parts (p y) _ h).0
+none_at p (y ∷ ys) (suc i) x h e = none_at p ys i x (or_parts (p y) _ h).1 e
 
 -- two elements that are alike either way stand at one place
 pub apart : {A : Type 0} (like : A → A → Bool) (xs : List A)
@@ -41,16 +27,16 @@ apart like [] h i j x y ei ej l r = absurd (cc)
 apart like (z ∷ zs) h zero zero x y ei ej l r = refl
 apart like (z ∷ zs) h zero (suc j) x y ei ej l r =
     let q : z ≡ x = cc in
-    let here = any_at (like z) zs j y ej (ap (λ a. like a y) q ∙ l) in
-    let none = (or_none (list_any (like z) zs) _ h).0 in
+    let here = any_passes_from_place (like z) zs j y ej (ap (λ a. like a y) q ∙ l) in
+    let none = (or_parts (list_any (like z) zs) _ h).0 in
     absurd (cc)
 apart like (z ∷ zs) h (suc i) zero x y ei ej l r =
     let q : z ≡ y = cc in
-    let here = any_at (like z) zs i x ei (ap (λ a. like a x) q ∙ r) in
-    let none = (or_none (list_any (like z) zs) _ h).0 in
+    let here = any_passes_from_place (like z) zs i x ei (ap (λ a. like a x) q ∙ r) in
+    let none = (or_parts (list_any (like z) zs) _ h).0 in
     absurd (cc)
 apart like (z ∷ zs) h (suc i) (suc j) x y ei ej l r =
-    ap suc (apart like zs (or_none (list_any (like z) zs) _ h).1 i j x y ei ej l r)
+    ap suc (apart like zs (or_parts (list_any (like z) zs) _ h).1 i j x y ei ej l r)
 
 -- ---- answers
 
@@ -82,7 +68,7 @@ made_length make (x ∷ xs) ys h =
     let m = made_cons make x xs ys h in
     ap length m.4 ∙ ap suc (made_length make xs m.1 m.3)
 
-nothing_at : {A : Type 0} (i : ℕ) (x : A) → slice_get [] i ≡ Some x → ⊥
+pub nothing_at : {A : Type 0} (i : ℕ) (x : A) → slice_get [] i ≡ Some x → ⊥
 nothing_at i x e = cc
 
 -- of what an element was made

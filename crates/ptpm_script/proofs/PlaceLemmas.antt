@@ -1,6 +1,6 @@
 -- What is made of each element of a list, element by element; the place of the first element that passes a test.
 use Rattle.std.proofs.Common.{◌≡◌, ℕ, ◌+◌, ◌<◌, ◌≤◌, nat_lt, ◌||◌, Bool, true, false, List, [], ◌∷◌, ◌++◌, length, drop, get_or, Result, Ok, Err, refl, ap, sym, append_assoc, arith}
-use Rattle.std.proofs.lemmas.List.{append-nil, drop_more}
+use Rattle.std.proofs.lemmas.List.{drop_more}
 use Rattle.ptpm_script.specs.declared.net_error.NetError.{NetError}
 use Rattle.std.proofs.lemmas.Bool.Decides.{nat_tests}
 use Rattle.ptpm_script.specs.NetworkFile.{FileValue}
@@ -10,10 +10,6 @@ use Rattle.ptpm_script.specs.NetworkText.{and_then, has_too_many, map_all}
 abbrev pub after : {A : Type 0} → List A → Result (List A) NetError → Result (List A) NetError
 after done (Ok more) = Ok (done ++ more)
 after done (Err e) = Err e
-
-pub after_nothing : {A : Type 0} (more : Result (List A) NetError) → more ≡ after [] more
-after_nothing (Ok more) = refl
-after_nothing (Err e) = refl
 
 after_one : {A : Type 0} (done : List A) (a : A) (more : Result (List A) NetError)
     → after done (and_then more (λ others. Ok (a ∷ others))) ≡ after (done ++ a ∷ []) more
@@ -31,10 +27,6 @@ pub made_none : {A B : Type 0} (make : A → Result B NetError) (done : List B) 
     → make x ≡ Err e
     → after done (map_all make (x ∷ xs)) ≡ Err e
 made_none make done xs x e h = rw h refl
-
-pub made_all : {A B : Type 0} (make : A → Result B NetError) (done : List B)
-    → after done (map_all make []) ≡ Ok done
-made_all make done = ap Ok (append-nil done)
 
 -- the same in a loop over a slice
 pub goes_on : {A B : Type 0} (make : A → Result B NetError) (done : List B) (xs : List A) (i : ℕ)
@@ -54,7 +46,7 @@ stops make done xs i x e below h = rw (drop_more xs i x below) (made_none make d
 
 -- ---- within the limits
 
-not_more : (most n : ℕ) → nat_lt most n ≡ false → n ≤ most
+pub not_more : (most n : ℕ) → nat_lt most n ≡ false → n ≤ most
 not_more most n h = grind (arith, nat_tests)
 
 or_first : (a b : Bool) → (a || b) ≡ false → a ≡ false

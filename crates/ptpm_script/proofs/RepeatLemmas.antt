@@ -21,10 +21,6 @@ pub or_skip : (a b : Bool) → a ≡ false → (a || b) ≡ b
 or_skip true b h = cc
 or_skip false b h = refl
 
-pub or_settles : (a b : Bool) → a ≡ true → (a || b) ≡ true
-or_settles true b h = refl
-or_settles false b h = cc
-
 -- the links after the first
 abbrev pub later : List (List EndEntry) → List (List EndEntry)
 later links = take (length links - 1) (drop 1 links)

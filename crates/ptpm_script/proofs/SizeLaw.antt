@@ -5,6 +5,7 @@ use Rattle.std.specs.Prelude.{slice_get, codes, unwrap_or, IsOk}
 use Rattle.std.specs.List.{list_all}
 use Rattle.std.specs.Result.{result_ok}
 use Rattle.std.proofs.lemmas.List.{length-map}
+use Rattle.std.proofs.lemmas.Option.{same_Some}
 use Rattle.std.proofs.lemmas.Bool.Decides.{nat_tests}
 use Rattle.hex.specs.Hex.{decode_pairs, decode_sized}
 use Rattle.hex.proofs.HexLemmas.{decode_pairs-ok, decode_sized-ok}
@@ -32,7 +33,7 @@ use Rattle.ptpm_script.specs.NetworkValue.{AreSized, ClockValue, NetworkValue, f
 use Rattle.ptpm_script.specs.Numbers.{at_most, decimal, decimal_up_to}
 use Rattle.ptpm_script.specs.Values.{clock_at, natural_at, port_at, text_at}
 use Rattle.ptpm_script.proofs.NetworkLemmas.{all_made, and_then_ok, given_ok}
-use Rattle.ptpm_script.proofs.NetworkLaw.{Placed, clock_made, clock_part, else_ok, else_some, entry_at, identity_part, is_placed, opt_inv, session_made, some_same, starts_well, then_ok}
+use Rattle.ptpm_script.proofs.NetworkLaw.{Placed, clock_made, clock_part, else_ok, else_some, entry_at, identity_part, is_placed, opt_inv, session_made, starts_well, then_ok}
 
 then_some : {A : Type 0} (b : Bool) (x y : A)
     → (if b then Some x else None) ≡ Some y
@@ -118,7 +119,7 @@ with_size : (ms : Members) (i : Option ClockIdentity) (d n : Option ℕ)
     → ((k : ClockIdentity) → i ≡ Some k → length k.0 ≡ 8)
     → IsStartSized c.start
 with_size ms (Some i) (Some d) (Some n) (Some ports) c h size =
-    let q = some_same _ _ h in
+    let q = same_Some _ _ h in
     subst (λ k. IsStartSized k.start) q (start_size i d ms (size i refl))
 with_size ms _ _ _ _ c h size = cc
 

@@ -1,5 +1,5 @@
 -- What a network file's document means (this project's profile). A file that has no meaning is refused.
-use Rattle.std.specs.Prelude.{ℕ, pos, ◌==◌, Bool, true, false, ◌&&◌, if◌then◌else◌, List, [], ◌∷◌, codes, bytes_eq, bit_and, bit_or, Option, Some, None, is_some, is_none, unwrap_or, option_map, option_and_then, negsuc}
+use Rattle.std.specs.Prelude.{ℕ, pos, ◌==◌, Bool, true, ◌&&◌, if◌then◌else◌, List, [], ◌∷◌, codes, bytes_eq, bit_and, bit_or, Option, Some, None, is_some, is_none, unwrap_or, option_map, option_and_then, negsuc}
 use Rattle.ptpm_codec.specs.declared.identity.ClockIdentity.{ClockIdentity}
 use Rattle.ptpm_codec.specs.declared.identity.PortIdentity.{PortIdentity}
 use Rattle.ptpm_data.specs.declared.rights.Rights.{Rights}
