@@ -12,7 +12,14 @@ use ptpm_script::{EventError, read_event, split_word};
 use std::alloc::{AllocError, Global};
 use std::fmt;
 
-const VERBS: [&str; 6] = ["begin", "send", "resume", "retune", "deliver", "stranger"];
+const VERBS: [Verb; 6] = [
+    Verb::Begin,
+    Verb::Send,
+    Verb::Resume,
+    Verb::Retune,
+    Verb::Deliver,
+    Verb::Stranger,
+];
 
 const ACTIONS: [&str; 3] = ["get", "set", "command"];
 
@@ -56,6 +63,33 @@ enum Verb {
     Stranger,
 }
 
+impl Verb {
+    /// How its line is written, itself first.
+    fn line(self) -> &'static str {
+        match self {
+            Verb::Begin => "begin SESSION ACTION ID PORT HEX",
+            Verb::Send => "send SESSION",
+            Verb::Resume => "resume SESSION ATTEMPTS",
+            Verb::Retune => "retune SESSION DOMAIN",
+            Verb::Deliver => "deliver FRAME",
+            Verb::Stranger => "stranger CLOCK PORT HEX",
+        }
+    }
+
+    fn name(self) -> &'static str {
+        first_word(self.line()).unwrap_or("")
+    }
+}
+
+/// The names of `VERBS`, in the same order.
+fn verb_names() -> [&'static str; 6] {
+    let mut names = [""; 6];
+    for place in 0..VERBS.len() {
+        names[place] = VERBS[place].name();
+    }
+    names
+}
+
 /// Why a line is no event; `None` where it is one.
 pub fn event_fault<'a>(alloc: Global, line: &'a str) -> Result<Option<EventFault<'a>>, OutOfMemory>
     ensures { IfOk result (λ fault. option_map (λ f. f.error) fault ≡ error_of (reading line.now)) }
@@ -89,15 +123,13 @@ fn fault_of<'a>(
 
 /// The verb of a line, if it is one.
 fn verb_in(line: &str) -> Option<Verb> {
-    match first_word(line)? {
-        "begin" => Some(Verb::Begin),
-        "send" => Some(Verb::Send),
-        "resume" => Some(Verb::Resume),
-        "retune" => Some(Verb::Retune),
-        "deliver" => Some(Verb::Deliver),
-        "stranger" => Some(Verb::Stranger),
-        _ => None,
+    let word = first_word(line)?;
+    for verb in &VERBS {
+        if verb.name() == word {
+            return Some(*verb);
+        }
     }
+    None
 }
 
 /// The word of a line at a place, from 0.
@@ -155,7 +187,7 @@ fn expected_of(
     let verb = verb_in(line);
     match error {
         EventError::UnknownWord => unknown_word(alloc, verb, word),
-        EventError::WordCount => Ok(Expected::Words(words_of(verb))),
+        EventError::WordCount => Ok(Expected::Words(verb.unwrap_or(Verb::Stranger).line())),
         EventError::BadNumber => Ok(number_of(verb)),
         EventError::BadId => Ok(Expected::Id(nearest_id(alloc, word)?)),
         _ => Ok(Expected::Octets),
@@ -165,7 +197,7 @@ fn expected_of(
 fn unknown_word(alloc: Global, verb: Option<Verb>, word: &str) -> Result<Expected, AllocError> {
     match verb {
         Some(Verb::Begin) => Ok(Expected::Action(nearest(alloc, word, &ACTIONS)?)),
-        _ => Ok(Expected::Verb(nearest(alloc, word, &VERBS)?)),
+        _ => Ok(Expected::Verb(nearest(alloc, word, &verb_names())?)),
     }
 }
 
@@ -197,18 +229,6 @@ fn name_of(id: u16) -> Option<&'static str> {
     }
 }
 
-/// How the line of a verb is written.
-fn words_of(verb: Option<Verb>) -> &'static str {
-    match verb {
-        Some(Verb::Begin) => "begin SESSION ACTION ID PORT HEX",
-        Some(Verb::Send) => "send SESSION",
-        Some(Verb::Resume) => "resume SESSION ATTEMPTS",
-        Some(Verb::Retune) => "retune SESSION DOMAIN",
-        Some(Verb::Deliver) => "deliver FRAME",
-        _ => "stranger CLOCK PORT HEX",
-    }
-}
-
 /// As `"300": a whole number from 0 to 255`.
 impl fmt::Display for EventFault<'_> {
     fn fmt<W: fmt::Write>(&self, f: &mut fmt::Formatter<W>) -> fmt::Result {
@@ -224,11 +244,11 @@ impl fmt::Display for Expected {
     fn fmt<W: fmt::Write>(&self, f: &mut fmt::Formatter<W>) -> fmt::Result {
         let near = match *self {
             Expected::Verb(near) => {
-                f.write_str("begin, send, resume, retune, deliver or stranger")?;
+                write_choice(f, &verb_names())?;
                 near
             }
             Expected::Action(near) => {
-                f.write_str("get, set or command")?;
+                write_choice(f, &ACTIONS)?;
                 near
             }
             Expected::Id(near) => {
@@ -247,4 +267,16 @@ impl fmt::Display for Expected {
             None => Ok(()),
         }
     }
+}
+
+/// Writes names as `get, set or command`.
+fn write_choice<W: fmt::Write>(f: &mut fmt::Formatter<W>, names: &[&str]) -> fmt::Result {
+    for index in 0..names.len() {
+        if index > 0 {
+            let is_last = index == names.len() - 1;
+            f.write_str(if is_last { " or " } else { ", " })?;
+        }
+        f.write_str(names[index])?;
+    }
+    Ok(())
 }

@@ -2,9 +2,8 @@
 
 use crate::place::Place;
 use crate::value_text::{Quoted, ValueText};
-use crate::values::entry;
 use ptpm_data::Member;
-use ptpm_script::{Kind, LEAST_ENDS, MOST_ENDS, NetError, TEXT_OCTETS};
+use ptpm_script::{Kind, LEAST_ENDS, MOST_ENDS, NetError, TEXT_OCTETS, value_at};
 use std::alloc::AllocError;
 use std::fmt;
 use toml::{Table, Value};
@@ -135,7 +134,7 @@ pub(crate) fn add_at_key<'a>(
     key: &'static str,
     wanted: Wanted<'a>,
 ) -> Result<(), AllocError> {
-    match entry(table, key) {
+    match value_at(table, key) {
         Some(value) => add_fault(faults, class, place, Found::Value(key, value), wanted),
         None => Ok(()),
     }

@@ -3,8 +3,8 @@
 use crate::fault::{Fault, Found, Need, Wanted, add_at_key, add_fault};
 use crate::heads::SessionHead;
 use crate::place::{Array, Place};
-use crate::values::{entry, is_name_of, items_at, table_of};
-use ptpm_script::{CLOCKS, LEAST_ENDS, LINKS, MANAGERS, MOST_ENDS, NetError, SESSIONS};
+use crate::values::{is_name_of, items_at, table_of};
+use ptpm_script::{CLOCKS, LEAST_ENDS, LINKS, MANAGERS, MOST_ENDS, NetError, SESSIONS, value_at};
 use std::alloc::AllocError;
 use toml::{Table, Value};
 
@@ -71,7 +71,7 @@ fn add_ends<'a>(
 
 /// How many ends a link has, where they are an array.
 fn count_of_ends(table: &Table) -> Option<usize> {
-    Some(entry(table, "ends")?.as_array()?.len())
+    Some(value_at(table, "ends")?.as_array()?.len())
 }
 
 /// Adds a fault for the first session of a target that has too many.

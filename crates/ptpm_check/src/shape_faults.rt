@@ -3,11 +3,11 @@
 use crate::fault::{Fault, Found, Need, Wanted, add_fault};
 use crate::key_faults::add_key_faults;
 use crate::place::{Array, Place};
-use crate::values::{entry, integer_at, items_at, name_in, table_of, text_of};
+use crate::values::{integer_at, items_at, name_in, table_of, text_of};
 use ptpm_data::Rights;
 use ptpm_script::{
     CLOCK_RULES, FILE_RULES, LINK_RULES, NetError, PORT_RULES, Rule, SESSION_RULES, end_spelling,
-    right_of,
+    right_of, value_at,
 };
 use std::alloc::{AllocError, Global};
 use toml::{Table, Value};
@@ -115,7 +115,7 @@ fn add_version<'a>(
     version: Option<i64>,
     session: &'a Table,
 ) -> Result<(), AllocError> {
-    match (version, entry(session, "rights")) {
+    match (version, value_at(session, "rights")) {
         (Some(2), None) => add_shape(faults, place, Found::Missing("rights"), Need::Rights),
         (Some(1), Some(rights)) => {
             let found = Found::Value("rights", rights);
@@ -134,7 +134,7 @@ fn add_rights<'a>(
     for index in 0..items.len() {
         let item = &items[index];
         let found = Found::Item("rights", index + 1, item);
-        match right(item) {
+        match right_of(item) {
             None => add_shape(faults, place, found, Need::Right)?,
             Some(right) if has_right(&items[..index], right) => {
                 add_shape(faults, place, found, Need::OtherRight)?;
@@ -145,14 +145,9 @@ fn add_rights<'a>(
     Ok(())
 }
 
-/// The right that an item is.
-fn right(item: &Value) -> Option<Rights> {
-    right_of(item)
-}
-
 fn has_right(items: &[Value], wanted: Rights) -> bool {
     for item in items {
-        if let Some(right) = right(item) {
+        if let Some(right) = right_of(item) {
             if right == wanted {
                 return true;
             }

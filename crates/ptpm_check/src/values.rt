@@ -2,7 +2,7 @@
 //! table keeps to its rules, is said where it is judged.
 
 use ptpm_codec::ClockIdentity;
-use ptpm_script::is_name;
+use ptpm_script::{is_name, value_at};
 use toml::{Table, Value};
 
 /// The table that a value is.
@@ -15,14 +15,9 @@ pub(crate) fn text_of(value: &Value) -> Option<&str> {
     value.as_str()
 }
 
-/// The value at a key.
-pub(crate) fn entry<'a>(table: &'a Table, key: &str) -> Option<&'a Value> {
-    table.get(key)
-}
-
 /// The items of the array at a key; none where there is no array.
 pub(crate) fn items_at<'a>(table: &'a Table, key: &str) -> &'a [Value] {
-    match entry(table, key) {
+    match value_at(table, key) {
         Some(Value::Array(items)) => items.as_slice(),
         _ => &[],
     }
@@ -30,7 +25,7 @@ pub(crate) fn items_at<'a>(table: &'a Table, key: &str) -> &'a [Value] {
 
 /// The text at a key; an empty one where there is none.
 pub(crate) fn text_at<'a>(table: &'a Table, key: &str) -> &'a str {
-    match entry(table, key) {
+    match value_at(table, key) {
         Some(value) => text_of(value).unwrap_or(""),
         None => "",
     }
@@ -59,7 +54,7 @@ pub(crate) fn whole_at(table: &Table, key: &str) -> Option<u16> {
 
 /// The integer at a key.
 pub(crate) fn integer_at(table: &Table, key: &str) -> Option<i64> {
-    entry(table, key)?.as_integer()
+    value_at(table, key)?.as_integer()
 }
 
 /// Whether a name is there, and is this one.
