@@ -1,5 +1,5 @@
 -- What an event did, or why it was refused, and where it led, as its line tells it.
-use Rattle.ptpm_world.proofs.Common.{ne_eqb, true≢false, ◌≡◌, ℕ, false, None, Some, Result, refl, sym, ap, ◌∙◌, OnErr, Option, network_event, Network, StepError, Took, World, IsStep, running, ◌==◌, after, answer, error_text, is_out_of_memory}
+use Rattle.ptpm_world.proofs.Common.{ne_eqb, true≢false, ◌≡◌, ℕ, false, Result, refl, sym, ap, ◌∙◌, OnErr, network_event, Network, StepError, Took, World, IsStep, running, ◌==◌, after, answer, error_text, is_out_of_memory}
 use Rattle.ptpm_network.specs.Events.{Event}
 use Rattle.ptpm_world.proofs.Ending.{stays_or_goes}
 use Rattle.std.specs.Int.{to_be_bytes, w16}
@@ -45,6 +45,3 @@ unnamed_text n unnamed =
     let f : (n == 0x0006) ≡ false = ne_eqb n 0x0006 (λ h. unnamed errors.NotSupported (sym h)) in
     let g : (n == 0xfffe) ≡ false = ne_eqb n 0xfffe (λ h. unnamed errors.GeneralError (sym h)) in
     rw (a, b, c, d, e, f, g) refl
-
-pub none_some : {X : Type 0} (x : X) → ◌≡◌ {A = Option X} None (Some x) → ⊥
-none_some x h = cc

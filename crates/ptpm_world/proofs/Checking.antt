@@ -1,5 +1,5 @@
 -- A script whose events do not happen: its first fault is the one that ends it where they do.
-use Rattle.ptpm_world.proofs.Common.{◌≡◌, ℕ, ◌+◌, List, [], ◌∷◌, false, None, Some, Ok, Err, Result, refl, sym, ap, ◌∙◌, IfSome, Option, option_map, option_or, Network, NetworkValue, RunningNetwork, network_of, described, result_err, BothKnown, HasNextFault, ReadsWhole, whole_lines, Names, names_of, Played, closing, event_of, in_network, is_skipped, line_fault, next_fault, played, played_by, read_as, reading, scripted_from, started, text_fault, unless_fault}
+use Rattle.ptpm_world.proofs.Common.{◌≡◌, ℕ, ◌+◌, List, [], ◌∷◌, false, None, Some, Ok, Err, Result, refl, sym, ap, ◌∙◌, IfSome, Option, option_map, option_or, Network, NetworkValue, RunningNetwork, network_of, described, result_err, BothKnown, whole_lines, Names, names_of, Played, closing, event_of, in_network, is_skipped, line_fault, played, played_by, read_as, reading, scripted_from, started, unless_fault}
 use Rattle.ptpm_check.specs.Faults.{error_of, refusal_of}
 use Rattle.ptpm_script.specs.declared.event.Event.{Event}
 use Rattle.ptpm_script.specs.declared.event.EventError.{EventError}
@@ -7,7 +7,7 @@ use Rattle.ptpm_script.specs.declared.net_error.NetError.{NetError}
 use Rattle.ptpm_world.specs.Check.{events_fault}
 use Rattle.ptpm_world.specs.declared.script_error.ScriptError.{ScriptError}
 use Rattle.ptpm_world.specs.declared.script_error.ScriptError.TheVariants.{BadLine, BadNetwork}
-use Rattle.ptpm_world.proofs.Playing.{NextIs, both-on, event-read, both-same, both-some, some-is}
+use Rattle.ptpm_world.proofs.Playing.{NextIs, both-on, event-read, both-some}
 use Rattle.ptpm_world.proofs.ScriptLemmas.{FileRead, file-network}
 
 -- ---- the first of two
@@ -15,10 +15,6 @@ use Rattle.ptpm_world.proofs.ScriptLemmas.{FileRead, file-network}
 or_assoc : {A : Type 0} (a b c : Option A) → option_or (option_or a b) c ≡ option_or a (option_or b c)
 or_assoc None b c = refl
 or_assoc (Some x) b c = refl
-
-pub or-none : {A : Type 0} (a : Option A) → option_or a None ≡ a
-or-none None = refl
-or-none (Some x) = refl
 
 -- ---- faults of lines as they are played
 
@@ -63,11 +59,6 @@ pub record ChecksOn (first found : Option ScriptError) (k n place : ℕ) (a b : 
   pub each : BothKnown a b (λ xs ys.
       option_or found (events_fault n place (whole_lines ys)) ≡ option_or first (events_fault k 1 (whole_lines xs)))
 
-pub checks-first : (first : Option ScriptError) (k : ℕ) (a : Option (List ℕ)) → ChecksOn first first k k 1 a a
-checks-first first k a = record {
-  each = both-same (λ xs ys. option_or first (events_fault k 1 (whole_lines ys)) ≡ option_or first (events_fault k 1 (whole_lines xs))) a (λ xs. refl);
-}
-
 -- the fault of the next line, if it has one, and of those behind it
 line_first : (n place : ℕ) (f : Option ScriptError) (line : List ℕ) (ys zs : List ℕ)
     → (octets : List ℕ) × ((whole_lines ys ≡ (line, octets) ∷ whole_lines zs) × (line_fault n (line, octets) ≡ f))
@@ -97,14 +88,6 @@ checks-more {first} {was} {found} {k} {n} {m} {place} {f} {line} {a} {b} {c} h i
         ∙ or_assoc was (option_or f bad) rest ∙ ap (option_or was) (or_assoc f bad rest)
         ∙ ap (option_or was) (sym (line_first n place f line ys zs at)) ∙ p
 
--- no line more, or none that may be read
-pub checks-end : {first was : Option ScriptError} (found : Option ScriptError) {k n place : ℕ} {a b : Option (List ℕ)}
-    → ChecksOn first was k n place a b
-    → IfSome b (λ ys. (place : ℕ) → found ≡ option_or was (events_fault n place (whole_lines ys)))
-    → IfSome a (λ xs. found ≡ option_or first (events_fault k 1 (whole_lines xs)))
-checks-end {first} {was} found {k} {n} {place} {a} {b} h end =
-    both-some a b (λ xs ys p is. is place ∙ p) h.each end
-
 -- ---- the next line
 
 bad_reading : (place : ℕ) (e : EventError) (r : Result Event EventError)
@@ -120,31 +103,6 @@ pub bad-event : (place : ℕ) (line : List ℕ) (e : EventError)
     → result_err (event_of place line) ≡ Some (BadLine place e)
 bad-event place line e take h =
     ap result_err (event-read place line (read_as place (reading line)) take refl) ∙ bad_reading place e (reading line) h
-
--- it is too long, or one too many
-size_first : (n place : ℕ) (ls : List (List ℕ × List ℕ)) (e : ScriptError)
-    → next_fault n ls ≡ Some e
-    → events_fault n place ls ≡ Some e
-size_first n place [] e h = absurd (none_some h)
-  where
-    none_some : ◌≡◌ {A = Option ScriptError} None (Some e) → ⊥
-    none_some h = cc
-size_first n place (line ∷ rest) e h =
-    ap (λ x. option_or (option_or x (text_fault n line.0)) (option_or (result_err (event_of place line.0)) (events_fault (n + 1) (place + 1) rest))) h
-
-pub ends-by-size : (was found : Option ScriptError) (n : ℕ) (b : Option (List ℕ)) (e : ScriptError)
-    → HasNextFault n b e
-    → found ≡ option_or was (Some e)
-    → IfSome b (λ ys. (place : ℕ) → found ≡ option_or was (events_fault n place (whole_lines ys)))
-ends-by-size was found n b e h is =
-    some-is b (λ ys fault place. is ∙ ap (option_or was) (sym (size_first n place (whole_lines ys) e fault))) h
-
-pub ends-by-none : (was : Option ScriptError) (n : ℕ) (b c : Option (List ℕ)) (line : List ℕ)
-    → ReadsWhole n b false line c
-    → IfSome b (λ ys. (place : ℕ) → was ≡ option_or was (events_fault n place (whole_lines ys)))
-ends-by-none was n None c line h = tt
-ends-by-none was n (Some ys) None line h = absurd h
-ends-by-none was n (Some ys) (Some zs) line h = λ place. sym (ap (λ ls. option_or was (events_fault n place ls)) h.1.0 ∙ or-none was)
 
 -- ---- the whole
 

@@ -1,5 +1,5 @@
 -- The first fault of a script, line by line.
-use Rattle.ptpm_world.proofs.Common.{◌≡◌, ℕ, ◌<◌, ◌≤◌, ◌++◌, List, [], ◌∷◌, length, length-append, Bool, true, false, None, Some, Ok, Err, refl, sym, ap, subst, ◌∙◌, append_assoc, append-nil, arith, IfErr, IfOk, IsErrAnd, OnOk, OnSome, Option, Result, nat_lt, option_map, zip, ◌==◌, onto_first, Consumes, IsAtEnd, lines_of_parts, strip_carriage_return, cond-false, cond-true, lt-ltb, whole_lines, HasNextFault, ReadsWhole, is_outside, next_fault, size_fault, text_fault}
+use Rattle.ptpm_world.proofs.Common.{◌≡◌, ℕ, ◌<◌, ◌≤◌, ◌++◌, List, [], ◌∷◌, length, length-append, Bool, true, false, None, Some, Ok, Err, refl, sym, ap, subst, ◌∙◌, append_assoc, append-nil, arith, IfErr, IfOk, IsErrAnd, OnSome, Option, Result, nat_lt, option_map, zip, ◌==◌, onto_first, Consumes, IsAtEnd, lines_of_parts, strip_carriage_return, cond-false, cond-true, lt-ltb, whole_lines, HasNextFault, ReadsWhole, is_outside, next_fault, size_fault, text_fault}
 use Rattle.std.specs.Str.{IsUtf8, is_utf8}
 use Rattle.std.proofs.lemmas.Bool.Decides.{nat_tests}
 use Rattle.std.proofs.lemmas.Str.{IsUtf8-from_is_utf8, is_utf8-from_IsUtf8}
@@ -26,10 +26,6 @@ pub on-ok : {A : Type 0} (r : Result A ScriptError) (P Q : A → Type 0)
     → IfOk r Q
 on-ok (Ok a) P Q h k = k a h
 on-ok (Err e) P Q h k = tt
-
-pub at-ok : {A : Type 0} (r : Result A ScriptError) (P : Type 0) → P → OnOk r P
-at-ok (Ok a) P h = h
-at-ok (Err e) P h = tt
 
 pub on-err : {A : Type 0} (r : Result A ScriptError) (P Q : ScriptError → Type 0)
     → IfErr r P
@@ -191,13 +187,6 @@ whole-none n None b line h e = tt
 whole-none n (Some xs) None line h e = absurd h
 whole-none n (Some xs) (Some ys) line h e =
     (ap (λ o. next_fault n (whole_lines o)) (h ∙ e), (ap whole_lines (h ∙ e), ap whole_lines e))
-
-pub fault-line : (n : ℕ) (a b : Option (List ℕ)) (first : ℕ) (e : ScriptError)
-    → Consumes a b (first ∷ [])
-    → HasNextFault n (option_map (λ octets. first ∷ octets) b) e → HasNextFault n a e
-fault-line n None b first e h k = tt
-fault-line n (Some xs) None first e h k = absurd h
-fault-line n (Some xs) (Some ys) first e h k = ap (λ o. next_fault n (whole_lines o)) h ∙ k
 
 pub fault-many : (n : ℕ) (a b : Option (List ℕ)) (first : ℕ)
     → Consumes a b (first ∷ [])

@@ -39,23 +39,11 @@ taken N w who is =
     ap (λ b. b || list_any (λ x. same_identity who x.identity) w.sessions.items) (any-clocks N w who is)
     ∙ ap (λ b. list_any (λ c. same_clock who.clock (N.clock c).identity) (range_with_len 0 N.clocks) || b) (any-sessions N w who is)
 
-none-forged : (N : Network) (d : List ℕ) (b : Bool)
-    → (if b then Some (source_port_identity d) else None) ≡ None
-    → (b && is_taken N (source_port_identity d)) ≡ false
-none-forged N d true e = absurd (cc)
-none-forged N d false e = refl
-
 some-forged : (N : Network) (d : List ℕ) (who : PortIdentity) (b : Bool)
     → (if b then Some (source_port_identity d) else None) ≡ Some who
     → (b && is_taken N (source_port_identity d)) ≡ is_taken N who
 some-forged N d who true e = let same : source_port_identity d ≡ who = cc in ap (is_taken N) same
 some-forged N d who false e = absurd (cc)
-
--- nothing stands where a source would
-pub forged-short : (N : Network) (d : List ℕ)
-    → (if nat_le 30 (length d) then Some (source_port_identity d) else None) ≡ None
-    → is_forged N d ≡ false
-forged-short N d e = none-forged N d (nat_le 30 (length d)) e
 
 pub forged-source : (N : Network) (d : List ℕ) (who : PortIdentity)
     → (if nat_le 30 (length d) then Some (source_port_identity d) else None) ≡ Some who

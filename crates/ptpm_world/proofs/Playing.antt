@@ -195,16 +195,6 @@ keeps-nil None b k = tt
 keeps-nil (Some x) None k = absurd k
 keeps-nil (Some x) (Some y) k = k ∙ sym (append-nil x)
 
--- what was written stays
-pub appends-keeps : (a b c : Option (List ℕ)) (one : List ℕ)
-    → Appends a b one
-    → Keeps b c
-    → Appends a c one
-appends-keeps None b c one w k = tt
-appends-keeps (Some x) None c one w k = absurd w
-appends-keeps (Some x) (Some y) None one w k = absurd k
-appends-keeps (Some x) (Some y) (Some z) one w k = k ∙ w
-
 -- a line more, of these events, for which this was written
 pub plays-more : {N : Network} {names : Names} {start now next : RunningNetwork}
     {first written more : Option (List ℕ)} {a b c : Option (List ℕ)} {k n m place : ℕ} {line : List ℕ}

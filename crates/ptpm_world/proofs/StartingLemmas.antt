@@ -1,5 +1,6 @@
 -- A world as it starts is one of its network, and stands where the machine starts.
 use Rattle.ptpm_world.proofs.Common.{suc, zero, arith, ◌≡◌, ◌≢◌, ℕ, ◌+◌, ◌<◌, ◌≤◌, ◌==◌, Bool, true, false, if◌then◌else◌, List, [], ◌∷◌, ◌++◌, Option, Some, None, Result, Ok, refl, ap, sym, ◌∙◌, subst, length, map, get_or, set, slice_get, slice_index_or, All, AllByRecursion, filter, length-map, length_push, length-filter, slice_get_read, PortIdentity, every_clock, same_clock, DataSetsValue, port_data_set, start_fault, start_of, unless, is_known, IsFresh, clock_with, has_twice, identities, StandsAt, initial_clock_state, Stands, RunningNetwork, initial_state, history, NetworkLink, AreDistinct, CanStart, ClockValue, IsAccepted, IsEndOf, IsLinkOf, NetworkValue, clock_value, first_sets, link_value, Frames, RunningClock, RunningSession, World, clock_at, configured, described, described_end, described_session, no_clock, session_at, with_rights, AreLinks, IsStoredFrame, IsThere, port_counts, frame_in, held_in, link_ends, Names, names_of, IsOf, agent_state, reports_of, session_of, state_of, table_entries, AreStartedClocks, AreStartedSessions, IsStartedClock, IsStartedSession}
+use Rattle.std.proofs.lemmas.Bool.{false_from_ne_true}
 use Rattle.ptpm_codec.specs.declared.identity.ClockIdentity.{ClockIdentity}
 use Rattle.ptpm_codec.proofs.IdentityLaws.{same_clock-true}
 use Rattle.ptpm_data.specs.declared.rights.Rights.{Rights}
@@ -122,10 +123,6 @@ all_places P Q weaker xs all = λ k d h. weaker _ (of_place P xs k d all h)
 
 -- ---- what a file says of a place
 
-not_true : (b : Bool) → (b ≡ true → ⊥) → b ≡ false
-not_true true h = absurd (h refl)
-not_true false h = refl
-
 pub clock_is : (clocks : List NetworkClock) (c : ℕ) (k : NetworkClock) → slice_get clocks c ≡ Some k
     → slice_index_or (map clock_value clocks) c no_clock ≡ clock_value k
 clock_is clocks c k e = at_place (map clock_value clocks) c (clock_value k) no_clock (get_map clock_value clocks c k e)
@@ -141,7 +138,7 @@ pub target_below : (clocks : List NetworkClock) (target : ℕ)
 target_below clocks target h = let same = length-map clocks clock_value in omega (arith, h, same)
 
 apart : (a b : ClockIdentity) → a ≢ b → same_clock a b ≡ false
-apart a b differ = not_true (same_clock a b) (λ same. differ (same_clock-true a b same))
+apart a b differ = false_from_ne_true (same_clock a b) (λ same. differ (same_clock-true a b same))
 
 pub starts_at : (n : NetworkValue)
     → IsAccepted n
@@ -187,7 +184,7 @@ tail_distinct s ss d i j x y p q e = let same = d (suc i) (suc j) x y p q e in o
 stands_once : (s : NetworkSession) (ss : List NetworkSession) (c : ℕ)
     → AreDistinct (λ t. t.identity) (s ∷ ss)
     → is_known s.identity (identities (configured ss c)) ≡ false
-stands_once s ss c d = not_true _ (λ k.
+stands_once s ss c d = false_from_ne_true _ (λ k.
     let place = known-place ss s.identity c k in
     let same = d zero (suc place.0) s _ refl (there ss place.0 no_session place.1) (sym place.2) in
     omega (arith, same))

@@ -124,19 +124,3 @@ origin_there counts sessions frames n h o all e same =
     (get_or_from_slice_get frames.stored.items (n - 1) found.0 found.0 found.1) at in
     own_origin sessions o
     (subst (IsOfOrigin sessions) (ap (λ (k : Held). k.origin) found.2 ∙ same) (seen_origin sessions found.0.origin stored.origin))
-
--- a request of a session that is there, where the frame belongs to it or to a reply to it
-abbrev pub IsRequest : ℕ → ℕ → ℕ → Type 0
-IsRequest sessions s k = (s < sessions) × (k ≤ count_limit)
-
-pub request_there : (sessions s k : ℕ) (o : Origin)
-    → o ≡ origins.Request s k
-    → IsOfSession sessions o
-    → IsRequest sessions s k
-request_there sessions s k o same is = subst (IsOfSession sessions) same is
-
-pub reply_there : (sessions s k : ℕ) (o : Origin)
-    → o ≡ origins.Reply s k
-    → IsOfSession sessions o
-    → IsRequest sessions s k
-reply_there sessions s k o same is = subst (IsOfSession sessions) same is

@@ -1,7 +1,8 @@
 use Rattle.ptpm_world.proofs.Common.{◌≡◌, ◌+◌, List, [], ◌∷◌, arith, refl, rules, true, false, None, Some, Ok, Err, ap, subst, sym, ◌∙◌, Appends, reading, left_in, names_in, placed, running, is_outside, is_skipped, after, event_line, behind, read_as}
 use Rattle.ptpm_world.specs.declared.whole_script.EventLine.{EventLine}
 use Rattle.ptpm_world.proofs.FaultLemmas.{outside}
-use Rattle.ptpm_world.proofs.Playing.{appends-keeps, at-event, at-line, at-size, event-read, event-skip, keeps-nil, next-is, none-is, others_played, play-guards, playing, plays-end, plays-err, plays-first, plays-more}
+use Rattle.ptpm_world.proofs.Playing.{at-event, at-line, at-size, event-read, event-skip, keeps-nil, next-is, none-is, others_played, play-guards, playing, plays-end, plays-err, plays-first, plays-more}
+use Rattle.ptpm_world.proofs.ScriptLemmas.{kept-appended}
 use Rattle.ptpm_world.proofs.script.play.Goals as goal
 
 pub loop-number-init : goal.loop-number-init
@@ -57,7 +58,7 @@ loop-number-preserved g c =
           plays-more added (event_line N called now n event) (Ok (Some event)) (h.plays N is) came
           (event-read n line (Ok (Some event)) take read) (λ others. ap (λ r. behind added (event_line N called now n event) (others r)) (sym went))
           (c.placed_event.ensures called, tt)
-          (appends-keeps written (g.W.Write.contents c.write_event.new.out) more (event_line N called now n event)
+          (kept-appended written (g.W.Write.contents c.write_event.new.out) more (event_line N called now n event)
           (subst (λ m. Appends written (g.W.Write.contents c.write_event.new.out) (event_line N m now n event)) h.names (c.in_ok-write_event.ensures.line N (h.network N is)))
           c.show_written-in-loop-number.ensures.kept)
           (ap (λ k. k + 1) counted);
