@@ -1,5 +1,6 @@
 -- The data sets of a clock, which its name finds.
-use Rattle.ptpm_world.proofs.Common.{◌≡◌, ℕ, zero, suc, Bool, true, false, List, [], ◌∷◌, Option, Some, None, refl, sym, ap, ◌∙◌, arith, ⊎_elim, find, map, option_map, bytes_eq, cases_Bool, cond-true, cond-false, same_Some, slice_get, slice_get-map, clock_value, network_value, NetworkValue, IsAccepted, ClockValue, names_in, running, sets_of, state_of}
+use Rattle.ptpm_world.proofs.Common.{◌≡◌, ℕ, zero, suc, true, false, List, [], ◌∷◌, Some, refl, sym, ap, ◌∙◌, arith, ⊎_elim, find, map, option_map, bytes_eq, cases_Bool, cond-true, cond-false, same_Some, slice_get, slice_get-map, clock_value, network_value, NetworkValue, IsAccepted, ClockValue, running, sets_of, state_of}
+use Rattle.std.proofs.lemmas.Option.{none-some}
 use Rattle.ptpm_script.proofs.NetworkFacts.{of_text-accepted}
 use Rattle.ptpm_script.specs.declared.network.Network.{Network}
 use Rattle.ptpm_script.specs.declared.network.NetworkClock.{NetworkClock}
@@ -13,15 +14,12 @@ use Rattle.ptpm_world.specs.declared.world.World.{World}
 abbrev pub IsAlone : List (List ℕ) → List ℕ → ℕ → Type 0
 IsAlone names name place = (i : ℕ) → slice_get names i ≡ Some name → i ≡ place
 
-none_some : {X : Type 0} (x : X) → ◌≡◌ {A = Option X} None (Some x) → ⊥
-none_some x e = cc
-
 -- so the first element that has it is the one there
 found-there : {X : Type 0} (name_of : X → List ℕ) (xs : List X) (name : List ℕ) (place : ℕ)
     → slice_get (map name_of xs) place ≡ Some name
     → IsAlone (map name_of xs) name place
     → find (λ x. bytes_eq (name_of x) name) xs ≡ slice_get xs place
-found-there name_of [] name place e alone = absurd (none_some name e)
+found-there name_of [] name place e alone = absurd (none-some name e)
 found-there name_of (x ∷ xs) name zero e alone =
     cond-true _ _ _ ((bytes_eq-Decides (name_of x) name).1 (same_Some (name_of x) name e))
 found-there name_of (x ∷ xs) name (suc place) e alone = ⊎_elim
@@ -35,7 +33,7 @@ found-there name_of (x ∷ xs) name (suc place) e alone = ⊎_elim
 made-of : {X : Type 0} (name_of : X → List ℕ) (xs : List X) (place : ℕ) (name : List ℕ)
     → slice_get (map name_of xs) place ≡ Some name
     → (x : X) × ((slice_get xs place ≡ Some x) × (name_of x ≡ name))
-made-of name_of [] place name e = absurd (none_some name e)
+made-of name_of [] place name e = absurd (none-some name e)
 made-of name_of (x ∷ xs) zero name e = (x, (refl, same_Some (name_of x) name e))
 made-of name_of (x ∷ xs) (suc place) name e = made-of name_of xs place name e
 

@@ -1,5 +1,6 @@
 -- Flags of the frames that arrows deliver.
 use Rattle.ptpm_world.proofs.Common.{◌≡◌, ◌≢◌, ℕ, ◌+◌, ◌-◌, ◌<◌, ◌==◌, zero, suc, Bool, true, false, ◌||◌, List, [], ◌∷◌, ◌++◌, refl, sym, ap, ◌∙◌, arith, ⊎_elim, cases_Bool, cond-true, cond-false, eq-eqb, eqb-true, eqb-false, get_or, length, map, ne_eqb, range_with_len, slice_set, take, take_more}
+use Rattle.std.proofs.lemmas.Bool.{or_right}
 use Rattle.std.specs.Prelude.{replicate}
 use Rattle.std.proofs.lemmas.List.Folds.{list_any-append}
 use Rattle.ptpm_draw.specs.Picture.{is_arrow_of, is_delivered, marked, marked_by}
@@ -10,10 +11,6 @@ use Rattle.ptpm_draw.specs.declared.picture.Way.TheVariants as ways
 or-false : (b : Bool) → (b || false) ≡ b
 or-false true = refl
 or-false false = refl
-
-or-true : (a b : Bool) → b ≡ true → (a || b) ≡ true
-or-true true b e = refl
-or-true false b e = e
 
 -- no row delivers anything
 pub none-delivered : (a n : ℕ) → replicate n false ≡ map (is_delivered []) (range_with_len a n)
@@ -39,7 +36,7 @@ flag-at : (g : ℕ → Bool) (f a d n : ℕ)
     → map (λ k. g k || (f == k)) (range_with_len a n) ≡ slice_set (map g (range_with_len a n)) d true
 flag-at g f a d zero e = refl
 flag-at g f a zero (suc n) e =
-    let here : (g a || (f == a)) ≡ true = or-true (g a) (f == a) (eq-eqb f a (omega (arith, e))) in
+    let here : (g a || (f == a)) ≡ true = or_right (g a) (f == a) (eq-eqb f a (omega (arith, e))) in
     let later : map (λ k. g k || (f == k)) (range_with_len (a + 1) n) ≡ map g (range_with_len (a + 1) n) =
     flag-before g f (a + 1) n (omega (arith, e)) in
     λ i. here i ∷ later i

@@ -1,5 +1,5 @@
 -- Places of names, and at whom events happen.
-use Rattle.ptpm_world.proofs.Common.{◌≡◌, ℕ, ◌+◌, ◌-◌, ◌<◌, ◌==◌, zero, suc, Bool, true, false, All, List, [], ◌∷◌, Option, Some, None, refl, sym, ap, ◌∙◌, subst, arith, ⊎_elim, bytes_eq, cases_Bool, cond, cond-true, cond-false, length, length-map, map, option_map, position, same_Some, slice_get, HasEnd, AtPort, AtSession, Held, frame_at, clock_value, ClockValue, described, described_end, frame_value, names_of, NetworkValue}
+use Rattle.ptpm_world.proofs.Common.{◌≡◌, ℕ, ◌+◌, ◌-◌, ◌<◌, ◌==◌, zero, suc, Bool, true, false, All, List, [], ◌∷◌, Option, Some, None, refl, sym, ap, ◌∙◌, subst, arith, bytes_eq, cond, length, length-map, map, option_map, position, slice_get, HasEnd, AtPort, AtSession, Held, frame_at, clock_value, ClockValue, described, described_end, frame_value, names_of, NetworkValue}
 use Rattle.std.specs.List.{position_from}
 use Rattle.std.proofs.lemmas.Iterator.Adapters.{position_from-zero}
 use Rattle.std.proofs.lemmas.List.Quantifiers.{position-Some}
@@ -10,7 +10,6 @@ use Rattle.ptpm_world.specs.declared.frames.Frame.{Frame}
 use Rattle.ptpm_script.specs.declared.event.Event.{Event}
 use Rattle.ptpm_script.specs.declared.event.Event.TheVariants as events
 use Rattle.ptpm_draw.specs.Party.{IsThere, clock_named, party_at, party_of, session_named}
-use Rattle.ptpm_draw.specs.declared.party.Party.{Party}
 use Rattle.ptpm_draw.specs.declared.party.Party.TheVariants as parties
 
 -- ---- names

@@ -1,5 +1,5 @@
 -- A picture as far as it is drawn.
-use Rattle.ptpm_world.proofs.Common.{◌≡◌, ℕ, ◌+◌, ◌++◌, ◌<◌, ◌≤◌, zero, suc, List, [], ◌∷◌, Option, Some, None, refl, sym, ap, ◌∙◌, arith, add-one, append_assoc, append-nil, cond-false, drop, get_or, length, map, ne_eqb, option_map, slice_get, ◌-◌, Held, frame_at, Network, RunningNetwork, Names, placed, after, answer, described, IsOf, names_in, names_of, NetworkValue, running, PortIdentity, Stands, initial_state}
+use Rattle.ptpm_world.proofs.Common.{◌≡◌, ℕ, ◌+◌, ◌++◌, ◌<◌, ◌≤◌, zero, suc, List, [], ◌∷◌, Option, refl, sym, ap, ◌∙◌, arith, add-one, append_assoc, append-nil, cond-false, drop, get_or, length, map, ne_eqb, option_map, slice_get, Held, frame_at, Network, RunningNetwork, Names, placed, after, answer, described, IsOf, names_in, names_of, NetworkValue, running, PortIdentity, Stands, initial_state}
 use Rattle.std.specs.Prelude.{option_to_list}
 use Rattle.std.proofs.lemmas.List.{drop_all, drop_more}
 use Rattle.ptpm_data.specs.Members.{DataSetsValue}
