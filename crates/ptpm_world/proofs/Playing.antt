@@ -190,10 +190,26 @@ plays-first N names start first k a = record {
       (λ xs. record { events = []; text = []; comes = refl; range = tt; is = Appends-nil first });
 }
 
-pub keeps-nil : (a b : Option (List ℕ)) → Keeps a b → Appends a b []
-keeps-nil None b k = tt
-keeps-nil (Some x) None k = absurd k
-keeps-nil (Some x) (Some y) k = k ∙ sym (append-nil x)
+-- what was written stays
+pub kept-appended : (a b c : Option (List ℕ)) (bs : List ℕ)
+    → Appends a b bs
+    → Keeps b c
+    → Appends a c bs
+kept-appended None b c bs p k = tt
+kept-appended (Some x) None c bs p k = absurd p
+kept-appended (Some x) (Some y) None bs p k = absurd k
+kept-appended (Some x) (Some y) (Some z) bs p k = k ∙ p
+
+pub plays-kept : {N : Network} {names : Names} {start now : RunningNetwork}
+    {first written : Option (List ℕ)} (more : Option (List ℕ)) {a b : Option (List ℕ)} {k n place : ℕ}
+    → PlaysOn N names start now first written k n place a b
+    → Keeps written more
+    → PlaysOn N names start now first more k n place a b
+plays-kept {first = first} {written = written} more {a} {b} h kept = record {
+  each = both-is a b
+      (λ xs ys p. record { events = p.events; text = p.text; comes = p.comes; range = p.range; is = kept-appended first written more p.text p.is kept })
+      h.each;
+}
 
 -- a line more, of these events, for which this was written
 pub plays-more : {N : Network} {names : Names} {start now next : RunningNetwork}

@@ -6,7 +6,7 @@ use Rattle.ptpm_world.specs.declared.script_error.ScriptError.{ScriptError}
 use Rattle.ptpm_world.specs.declared.script_error.ScriptError.TheVariants as faults
 use Rattle.ptpm_world.specs.MachineTrace.{IsMachineTrace, ShowsNetwork}
 use Rattle.ptpm_world.proofs.FaultLemmas.{outside}
-use Rattle.ptpm_world.proofs.Playing.{AreInRange, FileEnds, NextIs, NoneIs, both-is, both-on, both-some, err-is, left-some, some-is}
+use Rattle.ptpm_world.proofs.Playing.{AreInRange, FileEnds, NextIs, NoneIs, both-is, both-on, both-some, err-is, kept-appended, left-some, some-is}
 use Rattle.ptpm_world.proofs.Telling.{machine-trace}
 
 -- ---- the network file
@@ -135,15 +135,6 @@ file-bad a b n k kept e h bad =
     left-some a b (λ xs ys is. is.0 ∙ bad (whole_lines ys)) (file-network a b n k kept (network_of kept) h refl)
 
 -- ---- the whole
-
-pub kept-appended : (a b c : Option (List ℕ)) (bs : List ℕ)
-    → Appends a b bs
-    → Keeps b c
-    → Appends a c bs
-kept-appended None b c bs p k = tt
-kept-appended (Some x) None c bs p k = absurd p
-kept-appended (Some x) (Some y) None bs p k = absurd k
-kept-appended (Some x) (Some y) (Some z) bs p k = k ∙ p
 
 none_some : (xs : List ℕ) → ◌≡◌ {A = Option (List ℕ)} None (Some xs) → ⊥
 none_some xs h = cc

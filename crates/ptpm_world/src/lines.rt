@@ -1,7 +1,7 @@
 //! The lines of standard input.
 
-ghost use Rattle.std.specs.Prelude.{[], ◌≡◌, ◌<◌, ◌≤◌, ◌+◌, ◌++◌, ◌∷◌, IfErr, IfOk, IfSome, IfNone, None, OnOk, OnSome, Ok, Some, false, length, option_map, true};
-ghost use Rattle.std.specs.Io.KnownBytes.{Consumes, IsAtEnd};
+ghost use Rattle.std.specs.Prelude.{[], ◌≡◌, ◌<◌, ◌≤◌, ◌+◌, ◌++◌, ◌∷◌, IfErr, IfOk, IfSome, IfNone, IsSome, None, OnOk, OnSome, Ok, Some, false, length, option_map, true};
+ghost use Rattle.std.specs.Io.KnownBytes.{Consumes, IsAtEnd, Keeps};
 ghost use Rattle.std.specs.Io.Buffered.{reader_buffer};
 ghost use Rattle.std.specs.Str.Lines.{strip_carriage_return};
 ghost use Rattle.memchr.specs.Find.{IsFirstByte, is_byte};
@@ -11,7 +11,7 @@ use crate::script_error::ScriptError;
 use memchr::memchr;
 use ptpm_codec::OutOfMemory;
 use std::alloc::Global;
-use std::io::{BufRead, BufReader, Read};
+use std::io::{BufRead, BufReader, Read, Write};
 
 /// A script has at most so many lines (this project's profile).
 const LINES: u32 = 2_000_000;
@@ -66,34 +66,53 @@ impl<R: Read + Drop> Lines<R> {
             is_outside e ≡ false
             → HasNextFault (self.old.count + 1) (left_in R.remaining self.old) e) }
     {
-        self.line.clear();
         match self.line_at_hand() {
-            Some(size) if self.count < LINES => {
-                self.take_line(size)?;
-                Ok(true)
-            }
-            _ => self.read_by_octets(),
+            Some(size) => self.take_line(size),
+            None => self.read_by_octets(),
         }
     }
 
-    /// How many octets stand before the next line feed, where it is at hand and the line not too long.
+    /// The same; what was written is flushed before, where that line may have to be waited for.
+    pub(crate) fn read_shown<W: Write>(&mut self, out: &mut W) -> Result<bool, ScriptError>
+        ensures count { result ≡ Ok true → self.new.count ≡ self.old.count + 1 }
+        ensures whole { IfOk result
+            (λ more.
+            ReadsWhole (self.old.count + 1) (left_in R.remaining self.old) more
+            self.new.line.items (left_in R.remaining self.new)) }
+        ensures fault { IfErr result
+            (λ e.
+            is_outside e ≡ false
+            → HasNextFault (self.old.count + 1) (left_in R.remaining self.old) e) }
+        ensures kept { Keeps (W.contents out.old) (W.contents out.new) }
+    {
+        match self.line_at_hand() {
+            Some(size) => self.take_line(size),
+            None => {
+                out.flush()?;
+                self.read_by_octets()
+            }
+        }
+    }
+
+    /// How many octets stand before the next line feed, where it is at hand and the line may be read.
     fn line_at_hand(&self) -> Option<usize>
         ensures feed { IfSome result
             (λ size. IsFirstByte (is_byte 10) (reader_buffer self.now.reader) (Some size)) }
         ensures short { IfSome result (λ size. size ≤ 4096) }
+        ensures few { IsSome result → self.now.count < 2000000 }
     {
         match memchr(b'\n', self.reader.buffer()) {
-            Some(size) if size <= LINE_OCTETS => Some(size),
+            Some(size) if size <= LINE_OCTETS && self.count < LINES => Some(size),
             _ => None,
         }
     }
 
     /// Takes the next line, which is at hand, with so many octets before its line feed.
-    fn take_line(&mut self, size: usize) -> Result<(), ScriptError>
+    fn take_line(&mut self, size: usize) -> Result<bool, ScriptError>
         requires feed { IsFirstByte (is_byte 10) (reader_buffer self.old.reader) (Some size) }
         requires short { size ≤ 4096 }
-        requires empty { length self.old.line.items ≡ 0 }
         requires few { self.old.count < 2000000 }
+        ensures more { IfOk result (λ more. more ≡ true) }
         ensures count { OnOk result (self.new.count ≡ self.old.count + 1) }
         ensures whole { OnOk result
             (ReadsWhole (self.old.count + 1) (left_in R.remaining self.old) true
@@ -101,18 +120,18 @@ impl<R: Read + Drop> Lines<R> {
         ensures fault { IfErr result (λ e. is_outside e ≡ true) }
     {
         let ahead = self.reader.buffer();
+        self.line.clear();
         if self.line.extend_from_slice(&ahead[..size]).is_err() {
             return Err(ScriptError::OutOfMemory);
         }
         self.reader.consume(size + 1);
         self.drop_return();
         self.count += 1;
-        Ok(())
+        Ok(true)
     }
 
-    /// The same octet by octet, however much is at hand.
+    /// What `read` does, octet by octet, however much is at hand.
     fn read_by_octets(&mut self) -> Result<bool, ScriptError>
-        requires { length self.old.line.items ≡ 0 }
         ensures count { result ≡ Ok true → self.new.count ≡ self.old.count + 1 }
         ensures same { result ≡ Ok false → self.new.count ≡ self.old.count }
         ensures whole { IfOk result
@@ -124,6 +143,7 @@ impl<R: Read + Drop> Lines<R> {
             is_outside e ≡ false
             → HasNextFault (self.old.count + 1) (left_in R.remaining self.old) e) }
     {
+        self.line.clear();
         match self.read_octet()? {
             None => Ok(false),
             Some(first) => {
@@ -208,12 +228,6 @@ impl<R: Read + Drop> Lines<R> {
         ensures { result ≡ self.now.count }
     {
         self.count
-    }
-
-    /// Whether the next line, its end too, is at hand, or so many octets that it is too long: reading it waits for nothing.
-    pub(crate) fn has_next(&self) -> bool {
-        let ahead = self.reader.buffer();
-        ahead.len() > LINE_OCTETS || memchr(b'\n', ahead).is_some()
     }
 
     /// The line that was read last, without its end.

@@ -1,14 +1,12 @@
 //! A script: a network file, a line `%%`, and events, one a line.
 
 ghost use Rattle.std.specs.Prelude.{◌≡◌, ◌==◌, ◌+◌, ◌++◌, ◌<◌, ◌≤◌, ℕ, Err, IfErr, IfOk, IfSome, List, None, Ok, OnOk, Option, Some, false, find, length, not, string_bytes, true};
-ghost use Rattle.std.specs.Io.KnownBytes.{Keeps};
 ghost use Rattle.std.specs.Option.{option_copied};
 ghost use Rattle.ptpm_network.specs.Network as machine;
 ghost use Rattle.ptpm_script.specs.EventLine.{reading};
 ghost use Rattle.ptpm_script.specs.NetworkText.{network_of};
 ghost use Rattle.ptpm_script.specs.NetworkView.{network_value};
 ghost use Rattle.ptpm_script.specs.Words.{space};
-ghost use Rattle.ptpm_world.specs.declared.script_error.ScriptError.TheVariants as faults;
 ghost use Rattle.ptpm_world.specs.Lines.{BothKnown, left_in, whole_lines};
 ghost use Rattle.ptpm_world.specs.MachineTrace.{ShowsNetwork};
 ghost use Rattle.ptpm_world.specs.Placed.{names_in};
@@ -180,12 +178,10 @@ fn play<R: Read + Drop, W: Write>(
     ensures names { OnOk result (names_in world.new ≡ names_in world.old) }
 {
     let mut number = 0;
-    while script.read()? {
+    while script.read_shown(out)? {
         number += 1;
         let line = script.text()?;
-        let is_awaited = !script.has_next();
         if is_skipped(line) {
-            show_written(is_awaited, out)?;
             continue;
         }
         let event = event_of(alloc, number, line)?;
@@ -193,18 +189,6 @@ fn play<R: Read + Drop, W: Write>(
         placed_event(&event);
         write_event(world, number, &event, out)?;
         drop(event);
-        show_written(is_awaited, out)?;
-    }
-    Ok(())
-}
-
-/// Flushes what was written, where the next line is awaited.
-fn show_written<W: Write>(is_awaited: bool, out: &mut W) -> Result<(), ScriptError>
-    ensures kept { Keeps (W.contents out.old) (W.contents out.new) }
-    ensures fault { IfErr result (λ e. e ≡ faults.WriteFault) }
-{
-    if is_awaited {
-        out.flush()?;
     }
     Ok(())
 }

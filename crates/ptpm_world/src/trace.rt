@@ -68,9 +68,10 @@ fn write_line<W: Write>(
     answer: Answer,
     made: MadeFrames,
     out: &mut W,
-) -> io::Result<()>
-    ensures { OnOk result (Appends (W.contents out.old) (W.contents out.new)
+) -> Result<(), ScriptError>
+    ensures line { OnOk result (Appends (W.contents out.old) (W.contents out.new)
         (event_text number (verb_of event.now) answer.took answer.is_late made.before made.after)) }
+    ensures fault { IfErr result (λ e. e ≡ faults.WriteFault) }
 {
     let line = EventText {
         number,
@@ -78,10 +79,12 @@ fn write_line<W: Write>(
         answer,
         made,
     };
-    write_shown(&line, out)
+    write_shown(&line, out)?;
+    Ok(())
 }
 
 /// What a value displays: in one piece where it is short, since each piece costs a writer as much again.
+#[inline(always)]
 fn write_shown<W: Write, D: fmt::Display>(value: &D, out: &mut W) -> io::Result<()>
     ensures { OnOk result (IfSome (D.output value.now)
         (Appends (W.contents out.old) (W.contents out.new))) }
@@ -126,7 +129,8 @@ impl fmt::Display for EventText<'_> {
     }
 }
 
-/// A number in decimal.
+/// A number in decimal. It is inlined, so that where the text goes is known to whoever puts its pieces together.
+#[inline(always)]
 fn show_number<W: fmt::Write>(number: u64, f: &mut fmt::Formatter<W>) -> fmt::Result
     ensures { WritesOnOk W.write_str_gives f.old result (decimal number) f.new }
 {

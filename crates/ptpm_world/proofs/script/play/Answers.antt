@@ -1,8 +1,7 @@
-use Rattle.ptpm_world.proofs.Common.{◌≡◌, ◌+◌, List, [], ◌∷◌, arith, refl, rules, true, false, None, Some, Ok, Err, ap, subst, sym, ◌∙◌, Appends, reading, left_in, names_in, placed, running, is_outside, is_skipped, after, event_line, behind, read_as}
+use Rattle.ptpm_world.proofs.Common.{◌≡◌, ◌+◌, List, [], ◌∷◌, arith, refl, rules, true, false, None, Some, Ok, Err, ap, subst, sym, ◌∙◌, Appends, Appends-nil, reading, left_in, names_in, placed, running, is_outside, is_skipped, after, event_line, behind, read_as}
 use Rattle.ptpm_world.specs.declared.whole_script.EventLine.{EventLine}
 use Rattle.ptpm_world.proofs.FaultLemmas.{outside}
-use Rattle.ptpm_world.proofs.Playing.{at-event, at-line, at-size, event-read, event-skip, keeps-nil, next-is, none-is, others_played, play-guards, playing, plays-end, plays-err, plays-first, plays-more}
-use Rattle.ptpm_world.proofs.ScriptLemmas.{kept-appended}
+use Rattle.ptpm_world.proofs.Playing.{at-event, at-line, at-size, event-read, event-skip, next-is, none-is, others_played, play-guards, playing, plays-end, plays-err, plays-first, plays-kept, plays-more}
 use Rattle.ptpm_world.proofs.script.play.Goals as goal
 
 pub loop-number-init : goal.loop-number-init
@@ -17,37 +16,38 @@ loop-number-init g c =
 pub loop-number-preserved-then-is_skipped : goal.loop-number-preserved-then-is_skipped
 loop-number-preserved-then-is_skipped g c =
     let R = g.R.Read.remaining in
-    let line = c.read.new.self.line.items in
+    let line = c.read_shown.new.self.line.items in
     let h = c.loop-number.invariant in
-    let counted = c.in_ok-read.ensures.count (ap Ok c.if-branch.true) in
+    let shown = g.W.Write.contents c.read_shown.new.out in
+    let counted = c.in_ok-read_shown.ensures.count (ap Ok c.if-branch.true) in
     let skip : is_skipped line ≡ true = ap is_skipped (sym c.in_ok-line.ensures.text) ∙ sym c.is_skipped.ensures ∙ c.if-is_skipped.true in
-    let came = next-is (c.loop-number.script.count + 1) c.read.new.self.count None (left_in R c.loop-number.script) (left_in R c.read.new.self) _ line
-    c.if-branch.true c.in_ok-read.ensures.whole counted c.in_ok-line.ensures.none in
+    let came = next-is (c.loop-number.script.count + 1) c.read_shown.new.self.count None (left_in R c.loop-number.script) (left_in R c.read_shown.new.self) _ line
+    c.if-branch.true c.in_ok-read_shown.ensures.whole counted c.in_ok-line.ensures.none in
     record {
       few = omega (arith, h.few, counted);
       names = h.names;
       network = h.network;
-      plays = λ N is. plays-more [] [] (Ok None) (h.plays N is) came (event-skip (c.loop-number.number + 1) line skip) (λ others. refl) tt
-          (keeps-nil _ _ c.show_written.ensures.kept) (ap (λ k. k + 1) counted);
+      plays = λ N is. plays-more [] [] (Ok None) (plays-kept shown (h.plays N is) c.read_shown.ensures.kept) came
+          (event-skip (c.loop-number.number + 1) line skip) (λ others. refl) tt (Appends-nil shown) (ap (λ k. k + 1) counted);
     }
 
 pub loop-number-preserved : goal.loop-number-preserved
 loop-number-preserved g c =
     let R = g.R.Read.remaining in
-    let line = c.read.new.self.line.items in
+    let line = c.read_shown.new.self.line.items in
     let n = c.loop-number.number + 1 in
     let h = c.loop-number.invariant in
     let called = names_in c.args.world.now in
     let now = running c.loop-number.world in
     let event = c.in_ok-event.event in
     let added : List EventLine = record { number = n; event = event } ∷ [] in
-    let written = g.W.Write.contents c.loop-number.out in
-    let more = g.W.Write.contents c.show_written-in-loop-number.new.out in
-    let counted = c.in_ok-read.ensures.count (ap Ok c.if-branch.true) in
+    let shown = g.W.Write.contents c.read_shown.new.out in
+    let more = g.W.Write.contents c.write_event.new.out in
+    let counted = c.in_ok-read_shown.ensures.count (ap Ok c.if-branch.true) in
     let take : is_skipped line ≡ false = ap is_skipped (sym c.in_ok-line.ensures.text) ∙ sym c.is_skipped.ensures ∙ c.if-is_skipped.false in
     let read = sym (ap (λ l. read_as n (reading l)) c.in_ok-line.ensures.text) ∙ c.in_ok-event.ensures.event in
-    let came = next-is (c.loop-number.script.count + 1) c.read.new.self.count None (left_in R c.loop-number.script) (left_in R c.read.new.self) _ line
-    c.if-branch.true c.in_ok-read.ensures.whole counted c.in_ok-line.ensures.none in
+    let came = next-is (c.loop-number.script.count + 1) c.read_shown.new.self.count None (left_in R c.loop-number.script) (left_in R c.read_shown.new.self) _ line
+    c.if-branch.true c.in_ok-read_shown.ensures.whole counted c.in_ok-line.ensures.none in
     record {
       few = omega (arith, h.few, counted);
       names = c.in_ok-write_event.ensures.names ∙ h.names;
@@ -55,30 +55,29 @@ loop-number-preserved g c =
       plays = λ N is.
           let went : running c.write_event.new.world ≡ after N now (placed called event) =
           subst (λ m. running c.write_event.new.world ≡ after N now (placed m event)) h.names (c.in_ok-write_event.ensures.after N (h.network N is)) in
-          plays-more added (event_line N called now n event) (Ok (Some event)) (h.plays N is) came
+          plays-more added (event_line N called now n event) (Ok (Some event)) (plays-kept shown (h.plays N is) c.read_shown.ensures.kept) came
           (event-read n line (Ok (Some event)) take read) (λ others. ap (λ r. behind added (event_line N called now n event) (others r)) (sym went))
           (c.placed_event.ensures called, tt)
-          (kept-appended written (g.W.Write.contents c.write_event.new.out) more (event_line N called now n event)
-          (subst (λ m. Appends written (g.W.Write.contents c.write_event.new.out) (event_line N m now n event)) h.names (c.in_ok-write_event.ensures.line N (h.network N is)))
-          c.show_written-in-loop-number.ensures.kept)
+          (subst (λ m. Appends shown more (event_line N m now n event)) h.names (c.in_ok-write_event.ensures.line N (h.network N is)))
           (ap (λ k. k + 1) counted);
     }
 
 pub returns-clause-played : goal.returns-clause-played
 returns-clause-played g c = λ N is.
     let R = g.R.Read.remaining in
-    plays-end (c.loop-number.invariant.plays N is)
-    (none-is (c.loop-number.script.count + 1) (left_in R c.loop-number.script) (left_in R c.read.new.self) _ c.read.new.self.line.items c.if-branch.false c.in_ok-read.ensures.whole)
+    plays-end (plays-kept (g.W.Write.contents c.read_shown.new.out) (c.loop-number.invariant.plays N is) c.read_shown.ensures.kept)
+    (none-is (c.loop-number.script.count + 1) (left_in R c.loop-number.script) (left_in R c.read_shown.new.self) _ c.read_shown.new.self.line.items c.if-branch.false c.in_ok-read_shown.ensures.whole)
 
 -- an error before the next line is written
-pub returns-in_err-read-clause-played : goal.returns-in_err-read-clause-played
-returns-in_err-read-clause-played g c = λ N is.
+pub returns-in_err-read_shown-clause-played : goal.returns-in_err-read_shown-clause-played
+returns-in_err-read_shown-clause-played g c = λ N is.
     let called = names_in c.args.world.now in
     let now = running c.loop-number.world in
     let p = c.loop-number.number + 1 in
-    plays-err c.from_residual.result c.in_err-read.field-0.0 _ (g.W.Write.contents c.loop-number.out) c.from_residual.ensures.1 (c.loop-number.invariant.plays N is) (λ other. refl)
+    let shown = g.W.Write.contents c.read_shown.new.out in
+    plays-err c.from_residual.result c.in_err-read_shown.field-0.0 _ shown c.from_residual.ensures.1 (plays-kept shown (c.loop-number.invariant.plays N is) c.read_shown.ensures.kept) (λ other. refl)
     (λ inside. at-size (playing N called now p) (others_played N called now p) (c.loop-number.script.count + 1) (left_in g.R.Read.remaining c.loop-number.script)
-    c.in_err-read.field-0.0 (play-guards N called now p) (c.in_err-read.ensures.fault inside))
+    c.in_err-read_shown.field-0.0 (play-guards N called now p) (c.in_err-read_shown.ensures.fault inside))
 
 pub returns-in_err-line-clause-played : goal.returns-in_err-line-clause-played
 returns-in_err-line-clause-played g c = λ N is.
@@ -88,12 +87,13 @@ returns-in_err-line-clause-played g c = λ N is.
     let n = c.loop-number.script.count + 1 in
     let p = c.loop-number.number + 1 in
     let e = c.in_err-line.field-0.0 in
-    let line = c.read.new.self.line.items in
+    let line = c.read_shown.new.self.line.items in
     let had = left_in R c.loop-number.script in
-    let has = left_in R c.read.new.self in
-    let came = next-is n c.read.new.self.count (Some e) had has _ line c.if-branch.true c.in_ok-read.ensures.whole
-    (c.in_ok-read.ensures.count (ap Ok c.if-branch.true)) c.in_err-line.ensures.fault in
-    plays-err c.from_residual-in_err-line.result c.in_err-line.field-0.0 _ (g.W.Write.contents c.loop-number.out) c.from_residual-in_err-line.ensures.1 (c.loop-number.invariant.plays N is) (λ other. refl)
+    let has = left_in R c.read_shown.new.self in
+    let shown = g.W.Write.contents c.read_shown.new.out in
+    let came = next-is n c.read_shown.new.self.count (Some e) had has _ line c.if-branch.true c.in_ok-read_shown.ensures.whole
+    (c.in_ok-read_shown.ensures.count (ap Ok c.if-branch.true)) c.in_err-line.ensures.fault in
+    plays-err c.from_residual-in_err-line.result e _ shown c.from_residual-in_err-line.ensures.1 (plays-kept shown (c.loop-number.invariant.plays N is) c.read_shown.ensures.kept) (λ other. refl)
     (λ inside. at-line (playing N called now p) (others_played N called now p) n line had has e (play-guards N called now p) came)
 
 pub returns-in_err-event-clause-played : goal.returns-in_err-event-clause-played
@@ -102,24 +102,17 @@ returns-in_err-event-clause-played g c = λ N is.
     let n = c.loop-number.script.count + 1 in
     let p = c.loop-number.number + 1 in
     let e = c.in_err-event.field-0.0 in
-    let line = c.read.new.self.line.items in
+    let line = c.read_shown.new.self.line.items in
+    let shown = g.W.Write.contents c.read_shown.new.out in
     let take : is_skipped line ≡ false = ap is_skipped (sym c.in_ok-line.ensures.text) ∙ sym c.is_skipped.ensures ∙ c.if-is_skipped.false in
-    let came = next-is n c.read.new.self.count None (left_in R c.loop-number.script) (left_in R c.read.new.self) _ line c.if-branch.true c.in_ok-read.ensures.whole
-    (c.in_ok-read.ensures.count (ap Ok c.if-branch.true)) c.in_ok-line.ensures.none in
-    plays-err c.from_residual-in_err-event.result c.in_err-event.field-0.0 _ (g.W.Write.contents c.loop-number.out) c.from_residual-in_err-event.ensures.1 (c.loop-number.invariant.plays N is) (λ other. refl)
+    let came = next-is n c.read_shown.new.self.count None (left_in R c.loop-number.script) (left_in R c.read_shown.new.self) _ line c.if-branch.true c.in_ok-read_shown.ensures.whole
+    (c.in_ok-read_shown.ensures.count (ap Ok c.if-branch.true)) c.in_ok-line.ensures.none in
+    plays-err c.from_residual-in_err-event.result e _ shown c.from_residual-in_err-event.ensures.1 (plays-kept shown (c.loop-number.invariant.plays N is) c.read_shown.ensures.kept) (λ other. refl)
     (λ inside. at-event N (names_in c.args.world.now) (running c.loop-number.world) p e came (event-read p line (Err e) take (ap (λ l. read_as p (reading l)) (sym c.in_ok-line.ensures.text) ∙ c.in_err-event.ensures.fault inside)))
 
 pub returns-in_err-write_event-clause-played : goal.returns-in_err-write_event-clause-played
 returns-in_err-write_event-clause-played g c = λ N is.
-    plays-err c.from_residual-in_err-write_event.result c.in_err-write_event.field-0.0 _ (g.W.Write.contents c.write_event.new.out) c.from_residual-in_err-write_event.ensures.1 (c.loop-number.invariant.plays N is) c.in_err-write_event.ensures.kept
+    let shown = g.W.Write.contents c.read_shown.new.out in
+    plays-err c.from_residual-in_err-write_event.result c.in_err-write_event.field-0.0 _ (g.W.Write.contents c.write_event.new.out) c.from_residual-in_err-write_event.ensures.1
+    (plays-kept shown (c.loop-number.invariant.plays N is) c.read_shown.ensures.kept) c.in_err-write_event.ensures.kept
     (λ inside. outside c.in_err-write_event.field-0.0 c.in_err-write_event.ensures.fault inside)
-
-pub returns-in_err-show_written-clause-played : goal.returns-in_err-show_written-clause-played
-returns-in_err-show_written-clause-played g c = λ N is.
-    plays-err c.from_residual-in_err-show_written.result c.in_err-show_written.field-0.0 _ (g.W.Write.contents c.show_written.new.out) c.from_residual-in_err-show_written.ensures.1 (c.loop-number.invariant.plays N is) (λ other. absurd (other c.in_err-show_written.ensures.fault))
-    (λ inside. outside c.in_err-show_written.field-0.0 (ap is_outside c.in_err-show_written.ensures.fault) inside)
-
-pub returns-in_err-show_written-2-clause-played : goal.returns-in_err-show_written-2-clause-played
-returns-in_err-show_written-2-clause-played g c = λ N is.
-    plays-err c.from_residual-in_err-show_written-2.result c.in_err-show_written-2.field-0.0 _ (g.W.Write.contents c.show_written-in-loop-number.new.out) c.from_residual-in_err-show_written-2.ensures.1 (c.loop-number.invariant.plays N is) (λ other. absurd (other c.in_err-show_written-2.ensures.fault))
-    (λ inside. outside c.in_err-show_written-2.field-0.0 (ap is_outside c.in_err-show_written-2.ensures.fault) inside)

@@ -14,7 +14,7 @@ returns-clause-line g c = λ N is.
     let same : event_text c.args.number (verb_of c.args.event.now) c.step-took.result c.is_late_delivery-is_late.result c.frames-before.result c.frames-after.result
     ≡ event_line N (names_in c.args.world.now) r c.args.number c.args.event.now =
     λ i. event_text c.args.number (verb_of c.args.event.now) (both.0 i) (c.is_late_delivery-is_late.ensures.late i) (c.frames-before.ensures.count i) (made i) in
-    subst (Appends (g.W.Write.contents c.args.out.now) (g.W.Write.contents c.write_line.new.out)) same c.in_ok-write_line.ensures
+    subst (Appends (g.W.Write.contents c.args.out.now) (g.W.Write.contents c.write_line.new.out)) same c.in_ok-write_line.ensures.line
 
 pub returns-clause-after : goal.returns-clause-after
 returns-clause-after g c = λ N is.
@@ -23,12 +23,13 @@ returns-clause-after g c = λ N is.
     (sym c.is_out_of_memory.ensures ∙ c.if-is_out_of_memory.false) (s.step N is) s.unchanged).1
 
 pub returns-in_err-write_line-clause-fault : goal.returns-in_err-write_line-clause-fault
-returns-in_err-write_line-clause-fault g c = err-on c.from_residual.result faults.WriteFault (λ e. is_outside e ≡ true) c.from_residual.ensures.1 refl
+returns-in_err-write_line-clause-fault g c =
+    err-on c.from_residual.result c.in_err-write_line.field-0.0 (λ e. is_outside e ≡ true) c.from_residual.ensures.1 (ap is_outside c.in_err-write_line.ensures.fault)
 
 pub returns-in_err-write_line-clause-kept : goal.returns-in_err-write_line-clause-kept
 returns-in_err-write_line-clause-kept g c =
-    err-on c.from_residual.result faults.WriteFault (λ e. e ≢ faults.WriteFault → g.W.Write.contents c.write_line.new.out ≡ g.W.Write.contents c.args.out.now)
-    c.from_residual.ensures.1 (λ other. absurd (other refl))
+    err-on c.from_residual.result c.in_err-write_line.field-0.0 (λ e. e ≢ faults.WriteFault → g.W.Write.contents c.write_line.new.out ≡ g.W.Write.contents c.args.out.now)
+    c.from_residual.ensures.1 (λ other. absurd (other c.in_err-write_line.ensures.fault))
 
 pub returns-then-is_out_of_memory-clause-kept : goal.returns-then-is_out_of_memory-clause-kept
 returns-then-is_out_of_memory-clause-kept g c = λ other. refl
