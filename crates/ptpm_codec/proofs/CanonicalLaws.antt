@@ -10,7 +10,7 @@ use Rattle.ptpm_codec.specs.declared.message.Body.{Body}
 use Rattle.ptpm_codec.specs.declared.message.Body.TheVariants as bodies
 use Rattle.ptpm_codec.specs.Layout as layout
 use Rattle.ptpm_codec.specs.Layout.{number_at, port_identity_at, message_octets}
-use Rattle.ptpm_codec.specs.Message.{action_code, action_of, IsValid, IsValidBody, Fits, BodyFits}
+use Rattle.ptpm_codec.specs.Message.{action_code, action_of, IsValid, IsValidBody, Fits, BodyFits, PortIdentityFits}
 use Rattle.ptpm_codec.specs.Spelling.{Spells, SpellsBody, SpellsText}
 use Rattle.ptpm_codec.specs.PtpText.{ptp_text_octets}
 use Rattle.ptpm_codec.specs.Canonical.{canonical, header_octets, port_identity_octets, tlv_octets, text_octets}
@@ -43,16 +43,25 @@ with_clocks v source target = record v {
 }
 
 -- a claim on messages of eight octets in each clock identity is shown with these octets named
+pub by_identities : (P : Message → Type 0) (v : Message) → PortIdentityFits v.source
+    → PortIdentityFits v.target
+    → ((a b c d e f g h a' b' c' d' e' f' g' h' : ℕ)
+    → P
+    (with_clocks v (a ∷ b ∷ c ∷ d ∷ e ∷ f ∷ g ∷ h ∷ [])
+    (a' ∷ b' ∷ c' ∷ d' ∷ e' ∷ f' ∷ g' ∷ h' ∷ [])))
+    → P v
+by_identities P v source target each =
+    by_eight (λ s. P (with_clocks v s v.target.clock.0))
+    (λ a b c d e f g h. by_eight (λ t. P (with_clocks v (a ∷ b ∷ c ∷ d ∷ e ∷ f ∷ g ∷ h ∷ []) t)) (each a b c d e f g h) v.target.clock.0 target.clock)
+    v.source.clock.0 source.clock
+
 pub by_clocks : (P : Message → Type 0) (v : Message) → Fits v
     → ((a b c d e f g h a' b' c' d' e' f' g' h' : ℕ)
     → P
     (with_clocks v (a ∷ b ∷ c ∷ d ∷ e ∷ f ∷ g ∷ h ∷ [])
     (a' ∷ b' ∷ c' ∷ d' ∷ e' ∷ f' ∷ g' ∷ h' ∷ [])))
     → P v
-by_clocks P v fits each =
-    by_eight (λ s. P (with_clocks v s v.target.clock.0))
-    (λ a b c d e f g h. by_eight (λ t. P (with_clocks v (a ∷ b ∷ c ∷ d ∷ e ∷ f ∷ g ∷ h ∷ []) t)) (each a b c d e f g h) v.target.clock.0 fits.target.clock)
-    v.source.clock.0 fits.source.clock
+by_clocks P v fits each = by_identities P v fits.source fits.target each
 
 -- ---- the header
 

@@ -1,35 +1,25 @@
 -- The messages of one reply are their envelope with what differs written over.
-use Rattle.std.proofs.Common.{◌≡◌, ℕ, ◌+◌, ◌*◌, ◌%◌, ◌/◌, List, [], ◌∷◌, ◌++◌, length, take, refl, arith}
+use Rattle.std.proofs.Common.{◌≡◌, ℕ, ◌+◌, List, [], ◌++◌, length, take, refl, arith}
 use Rattle.std.specs.Prelude.{replicate}
 use Rattle.byteorder.specs.Endian.{big_bytes}
 use Rattle.ptpm_codec.specs.declared.message.Action.{Action}
 use Rattle.ptpm_codec.specs.declared.message.Body.TheVariants as bodies
 use Rattle.ptpm_codec.specs.declared.message.Message.{Message}
-use Rattle.ptpm_codec.specs.Message.{Fits, action_code}
-use Rattle.ptpm_codec.specs.Canonical.{canonical, error_status_octets, management_octets, port_identity_octets, text_octets, tlv_octets}
+use Rattle.ptpm_codec.specs.Message.{Fits}
+use Rattle.ptpm_codec.specs.Canonical.{canonical, error_status_octets, header_octets, management_octets, port_identity_octets, text_octets, tlv_octets}
 use Rattle.ptpm_codec.specs.Envelope.{envelope_of, sent_with, written}
 use Rattle.ptpm_codec.proofs.CanonicalLaws.{by_clocks}
 
--- the fields of a message without dataField, each written at its place over zeros
-abbrev pub by_place : Message → Action → ℕ → List ℕ
-by_place v action id =
-    written 52 (big_bytes 2 id) (written 48 (0 ∷ 1 ∷ 0 ∷ 2 ∷ []) (written 44 (v.starting_hops ∷ v.hops ∷ action_code action ∷ 0 ∷ [])
-    (written 42 (big_bytes 2 v.target.port) (written 34 v.target.clock.0 (written 32 (0x04 ∷ 0x7f ∷ [])
-    (written 30 (big_bytes 2 v.number) (written 28 (big_bytes 2 v.source.port) (written 20 v.source.clock.0
-    (written 4 (v.domain ∷ v.sdo % 256 ∷ []) (written 0 ((v.sdo / 256 * 16 + 0xd) ∷ 0x12 ∷ 0 ∷ 54 ∷ []) (replicate 54 0)))))))))))
-
-pub envelope_written : (v : Message) (action : Action) (id : ℕ) → Fits v → by_place v action id ≡ envelope_of v action id
-unfolding port_identity_octets tlv_octets
-envelope_written v action id fits =
-    by_clocks (λ w. by_place w action id ≡ envelope_of w action id) v fits
-    (λ a1 b1 c1 d1 e1 f1 g1 h1 a2 b2 c2 d2 e2 f2 g2 h2. refl)
+-- a header and the head of a TLV without dataField
+pub envelope_in_two : (v : Message) (action : Action) (id : ℕ)
+    → header_octets (record v { body = bodies.Answer action id [] }) 54 ++ (big_bytes 2 0x0001 ++ big_bytes 2 2 ++ big_bytes 2 id)
+    ≡ envelope_of v action id
+unfolding tlv_octets
+envelope_in_two v action id = refl
 
 -- an answer's size, port and lengthField written over the envelope
 abbrev pub answered_by : ℕ → ℕ → ℕ → List ℕ → List ℕ
 answered_by size port field m = written 50 (big_bytes 2 field) (written 28 (big_bytes 2 port) (written 2 (big_bytes 2 size) m))
-
-pub written_both : (place : ℕ) (a b m n : List ℕ) → a ≡ b → m ≡ n → written place a m ≡ written place b n
-written_both place a b m n same old = λ i. written place (same i) (old i)
 
 answer_by : (v : Message) (action : Action) (id port size field : ℕ) (octets : List ℕ) → Fits v
     → size ≡ 48 + length (management_octets id octets)
@@ -58,6 +48,8 @@ fault_written v action answered id error port fits =
     ≡ canonical (sent_with w port (bodies.Fault action error id []))) v fits
     (λ a1 b1 c1 d1 e1 f1 g1 h1 a2 b2 c2 d2 e2 f2 g2 h2. refl)
 
-pub no_text : text_octets [] ≡ []
+-- the head of an error status without text is all of it
+pub error_head : (error id : ℕ)
+    → big_bytes 2 0x0002 ++ big_bytes 2 8 ++ big_bytes 2 error ++ big_bytes 2 id ++ replicate 4 0 ≡ error_status_octets error id []
 unfolding text_octets
-no_text = refl
+error_head error id = refl

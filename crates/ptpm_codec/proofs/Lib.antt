@@ -6,7 +6,8 @@ pub mod ReadingLaws
 pub mod ViewLaws
 pub mod CanonicalLaws
 pub mod RewritingLaws
-pub mod PiecewiseLaws
+pub mod BufferLaws
+pub mod HeaderLaws
 pub mod EnvelopeLaws
 pub mod IdentityLaws
 pub mod MessageLaws

@@ -140,38 +140,6 @@ fn copy_array<const N: usize>(place: &mut [u8], message: &[u8])
     *place = *octets;
 }
 
-/// Leaves copies of these octets in the buffer, one behind the other, and nothing else. Where it had as many octets, all are
-/// written over.
-#[inline(always)]
-pub(crate) fn overwrite_by_two<const N: usize>(
-    buffer: &mut ArrayVec<u8, N>,
-    front: &[u8],
-    back: &[u8],
-)
-    requires { length front.now + length back.now ≤ N }
-    ensures { buffer.new.items ≡ front.now ++ back.now }
-{
-    if buffer.len() == front.len() + back.len() {
-        let (first, second) = buffer.as_mut_slice().split_at_mut(front.len());
-        first.copy_from_slice(front);
-        if !back.is_empty() {
-            second.copy_from_slice(back);
-        }
-    } else {
-        resize_over_by_two(buffer, front, back);
-    }
-}
-
-/// The same where the size changes.
-#[inline(never)]
-fn resize_over_by_two<const N: usize>(buffer: &mut ArrayVec<u8, N>, front: &[u8], back: &[u8])
-    requires { length front.now + length back.now ≤ N }
-    ensures { buffer.new.items ≡ front.now ++ back.now }
-{
-    overwrite(buffer, front);
-    put(buffer, back);
-}
-
 /// Leaves so many octets in the buffer, whatever they are. Where it had as many, none is written.
 #[inline(always)]
 pub(crate) fn fit(buffer: &mut Buffer, size: usize)

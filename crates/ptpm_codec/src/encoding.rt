@@ -1,28 +1,33 @@
-//! Messages to octets: the canonical spelling, piece by piece.
+//! Messages to octets: the canonical spelling, written right where it stays.
 
-ghost use Rattle.std.specs.Prelude.{◌≡◌, ◌+◌, ◌*◌, ◌/◌, ◌%◌, ◌^◌, ◌<◌, ◌≤◌, ◌++◌, List, [], length, replicate, ◌∷◌, ℕ};
-ghost use Rattle.arrayvec.specs.ArrayVec.{array_vec_len};
+ghost use Rattle.std.specs.Prelude.{◌≡◌, ◌+◌, ◌^◌, ◌<◌, ◌≤◌, ◌++◌, List, [], length, replicate, ◌∷◌, ℕ};
 ghost use Rattle.byteorder.specs.Endian.{big_bytes};
-ghost use Rattle.ptpm_codec.specs.Canonical.{canonical, error_status_octets, management_octets, port_identity_octets, text_octets, tlv_octets};
+ghost use Rattle.ptpm_codec.specs.Canonical.{canonical, error_status_octets, header_octets, management_octets, text_octets, tlv_octets};
 ghost use Rattle.ptpm_codec.specs.Draft.{body_of};
 ghost use Rattle.ptpm_codec.specs.Layout.{message_octets};
-ghost use Rattle.ptpm_codec.specs.Message.{BodyFits, Fits, IsValid, IsValidBody, PortIdentityFits, action_code, action_of};
+ghost use Rattle.ptpm_codec.specs.Message.{BodyFits, Fits, IsValid, IsValidBody, PortIdentityFits};
 ghost use Rattle.ptpm_codec.specs.Spelling.{Spells};
 
-use crate::buffers::{overwrite_by_two, put, put_u16};
+use crate::buffers::fit;
 use crate::draft::{Draft, DraftBody};
-use crate::identity::PortIdentity;
+use crate::places::{write_at, write_identity, write_u16};
 use crate::ptp_text::{ptp_text_size, put_ptp_text};
 use arrayvec::ArrayVec;
 
 /// How many octets a message has at most (this project's profile).
 pub const MESSAGE_OCTETS: usize = 1472;
 
+/// How many octets stand before the TLV.
+pub(crate) const HEADER_OCTETS: usize = 48;
+
+/// How many octets of a MANAGEMENT TLV stand before the dataField.
+const TLV_HEAD_OCTETS: usize = 6;
+
+/// How many octets of an error status stand before displayData.
+const ERROR_HEAD_OCTETS: usize = 12;
+
 /// Room for one message.
 pub type Buffer = ArrayVec<u8, MESSAGE_OCTETS>;
-
-/// Room for what stands before the dataField or the displayData: it is put together here, and appended in one piece.
-type Head = ArrayVec<u8, 60>;
 
 /// Leaves the canonical spelling of a valid draft in the buffer, and nothing else: 54 to 1,472 octets. Free octets are sent
 /// as this project's profile has them: minorVersionPTP 1, controlField 0x04, logMessageInterval 0x7F, all others 0; an empty text has no
@@ -34,134 +39,141 @@ pub fn encode(draft: &Draft<'_>, buffer: &mut Buffer)
         → Spells draft.now (message_octets (buffer.new.items ++ rest)) }
     ensures fits { Fits draft.now }
 {
-    let mut head = Head::new();
-    put_front(&mut head, draft, 48 + tlv_size(&draft.body) as u16);
-    put_middle(&mut head, draft);
-    leave_tlv(buffer, &mut head, &draft.body);
+    fit(buffer, HEADER_OCTETS + tlv_size(&draft.body));
+    encode_in(draft, buffer.as_mut_slice());
 }
 
-/// Octets 0 to 29: up to the source.
+/// Writes the same over a place of its size.
 #[inline(always)]
-fn put_front(head: &mut Head, draft: &Draft<'_>, size: u16)
+fn encode_in(draft: &Draft<'_>, place: &mut [u8])
+    requires valid { IsValid draft.now }
+    requires size { length place.old ≡ 48 + length (tlv_octets draft.now.body) }
+    requires small { length place.old ≤ MESSAGE_OCTETS }
+    ensures octets { place.new ≡ canonical draft.now }
+    ensures spells { (rest : List ℕ) → Spells draft.now (message_octets (place.new ++ rest)) }
+    ensures fits { Fits draft.now }
+{
+    let size = place.len() as u16;
+    let (header, tlv) = place.split_at_mut(HEADER_OCTETS);
+    write_header(header, draft, size);
+    write_tlv(tlv, &draft.body);
+}
+
+/// Writes octets 0 to 47 of a draft's message, which is to have this size.
+#[inline(always)]
+pub(crate) fn write_header(header: &mut [u8], draft: &Draft<'_>, size: u16)
+    requires length { length header.old ≡ 48 }
     requires sdo { draft.now.sdo < 4096 }
-    requires room { array_vec_len head.old + 30 ≤ 60 }
-    ensures items { head.new.items
-        ≡ head.old.items
-        ++ ((draft.now.sdo / 256 * 16 + 0xd) ∷ 0x12 ∷ [] ++ big_bytes 2 size
-        ++ draft.now.domain ∷ (draft.now.sdo % 256) ∷ [] ++ replicate 14 0
-        ++ port_identity_octets draft.now.source) }
-    ensures len { array_vec_len head.new ≡ array_vec_len head.old + 30 }
-    ensures fits { PortIdentityFits draft.now.source }
-{
-    put(head, &[(draft.sdo / 256) as u8 * 16 + 0xd, 0x12]);
-    put_u16(head, size);
-    put(head, &[draft.domain, (draft.sdo % 256) as u8]);
-    put(head, &[0; 14]);
-    put_identity(head, &draft.source);
-}
-
-/// Octets 30 to 47: from sequenceId to before the TLV.
-#[inline(always)]
-fn put_middle(head: &mut Head, draft: &Draft<'_>)
-    requires { array_vec_len head.old + 18 ≤ 60 }
-    ensures items { head.new.items
-        ≡ head.old.items
-        ++ (big_bytes 2 draft.now.number ++ 0x04 ∷ 0x7f ∷ []
-        ++ port_identity_octets draft.now.target
-        ++ draft.now.starting_hops ∷ draft.now.hops ∷ action_code (action_of draft.now.body)
-        ∷ 0 ∷ []) }
-    ensures len { array_vec_len head.new ≡ array_vec_len head.old + 18 }
+    ensures octets { header.new ≡ header_octets draft.now size }
+    ensures source { PortIdentityFits draft.now.source }
     ensures number { draft.now.number < 2 ^ 16 }
-    ensures fits { PortIdentityFits draft.now.target }
+    ensures target { PortIdentityFits draft.now.target }
 {
-    put_u16(head, draft.number);
-    put(head, &[0x04, 0x7f]);
-    put_identity(head, &draft.target);
+    header.copy_from_slice(&[0; HEADER_OCTETS]);
+    write_at(header, 0, &[(draft.sdo / 256) as u8 * 16 + 0xd, 0x12]);
+    write_u16(header, 2, size);
+    write_at(header, 4, &[draft.domain, (draft.sdo % 256) as u8]);
+    write_identity(header, 20, &draft.source);
+    write_u16(header, 30, draft.number);
+    write_at(header, 32, &[0x04, 0x7f]);
+    write_identity(header, 34, &draft.target);
     let action = draft.body.action().code();
-    put(head, &[draft.starting_hops, draft.hops, action, 0]);
+    write_at(header, 44, &[draft.starting_hops, draft.hops, action, 0]);
 }
 
-#[tactic(auto, unfolding(crate::specs::Canonical::port_identity_octets))]
-fn put_identity<const N: usize>(buffer: &mut ArrayVec<u8, N>, identity: &PortIdentity)
-    requires { array_vec_len buffer.old + 10 ≤ N }
-    ensures items { buffer.new.items ≡ buffer.old.items ++ port_identity_octets identity.now }
-    ensures len { array_vec_len buffer.new ≡ array_vec_len buffer.old + 10 }
-    ensures fits { PortIdentityFits identity.now }
-{
-    put(buffer, &identity.clock.0);
-    put_u16(buffer, identity.port);
-}
-
-/// Leaves the head, which holds the 48 octets before the TLV, and the TLV, and nothing else. What the head held is lost.
+/// Writes the TLV of a body over as many octets as it takes.
 #[inline(always)]
 #[tactic(auto, unfolding(crate::specs::Canonical::tlv_octets))]
-fn leave_tlv(buffer: &mut Buffer, head: &mut Head, body: &DraftBody<'_>)
+fn write_tlv(tlv: &mut [u8], body: &DraftBody<'_>)
     requires valid { IsValidBody (body_of body.now) }
-    requires header { array_vec_len head.old ≡ 48 }
-    requires room { 48 + length (tlv_octets (body_of body.now)) ≤ MESSAGE_OCTETS }
-    ensures items { buffer.new.items ≡ head.old.items ++ tlv_octets (body_of body.now) }
+    requires length { length tlv.old ≡ length (tlv_octets (body_of body.now)) }
+    ensures octets { tlv.new ≡ tlv_octets (body_of body.now) }
     ensures fits { BodyFits (body_of body.now) }
 {
     match body {
         DraftBody::Request { id, octets, .. } | DraftBody::Answer { id, octets, .. } => {
-            put_management_head(head, *id, octets.len() as u16);
-            overwrite_by_two(buffer, head.as_slice(), octets);
+            write_management(tlv, *id, octets);
         }
         DraftBody::Fault {
             error,
             id,
             text,
             ..
-        } => {
-            buffer.clear();
-            put_error_status(buffer, head, *error, *id, text);
-        }
+        } => write_error_status(tlv, *error, *id, text),
     }
 }
 
-/// Octets 48 to 53: a MANAGEMENT TLV up to its dataField, of this size.
+/// Writes a MANAGEMENT TLV.
 #[inline(always)]
-fn put_management_head(head: &mut Head, id: u16, size: u16)
-    requires small { size ≤ 1418 }
-    requires header { array_vec_len head.old ≡ 48 }
-    ensures items { head.new.items
-        ≡ head.old.items ++ big_bytes 2 0x0001 ++ big_bytes 2 (2 + size) ++ big_bytes 2 id }
-    ensures len { array_vec_len head.new ≡ 54 }
+fn write_management(tlv: &mut [u8], id: u16, octets: &[u8])
+    requires small { length octets.now ≤ 1418 }
+    requires length { length tlv.old ≡ 6 + length octets.now }
+    ensures octets { tlv.new ≡ management_octets id octets.now }
     ensures id { id < 2 ^ 16 }
 {
-    put_u16(head, 0x0001);
-    put_u16(head, 2 + size);
-    put_u16(head, id);
+    let (head, data_field) = tlv.split_at_mut(TLV_HEAD_OCTETS);
+    write_management_head(head, id, octets.len() as u16);
+    if !octets.is_empty() {
+        data_field.copy_from_slice(octets);
+    }
 }
 
-/// Appends the head, which holds the 48 octets before the TLV, and a MANAGEMENT_ERROR_STATUS TLV behind it. The head is left with
-/// the octets up to displayData.
-fn put_error_status(buffer: &mut Buffer, head: &mut Head, error: u16, id: u16, text: &[u8])
-    requires small { length text.now ≤ 255 }
-    requires header { array_vec_len head.old ≡ 48 }
-    requires room { array_vec_len buffer.old + 60 + length (text_octets text.now) ≤ MESSAGE_OCTETS }
-    ensures items { buffer.new.items
-        ≡ buffer.old.items ++ (head.old.items ++ error_status_octets error id text.now) }
+/// Writes a MANAGEMENT TLV up to its dataField, of this size.
+#[inline(always)]
+pub(crate) fn write_management_head(head: &mut [u8], id: u16, size: u16)
+    requires small { size ≤ 1418 }
+    requires length { length head.old ≡ 6 }
+    ensures octets { head.new ≡ big_bytes 2 0x0001 ++ big_bytes 2 (2 + size) ++ big_bytes 2 id }
+    ensures id { id < 2 ^ 16 }
 {
-    put_u16(head, 0x0002);
-    put_u16(head, 8 + text_size(text) as u16);
-    put_u16(head, error);
-    put_u16(head, id);
-    put(head, &[0; 4]);
-    put(buffer, head.as_slice());
-    put_text(buffer, text);
+    head.copy_from_slice(&[0, 1, 0, 0, 0, 0]);
+    write_u16(head, 2, 2 + size);
+    write_u16(head, 4, id);
 }
 
-#[tactic(auto, unfolding(crate::specs::Canonical::text_octets))]
-fn put_text(buffer: &mut Buffer, text: &[u8])
+/// Writes a MANAGEMENT_ERROR_STATUS TLV. It is never inlined: most messages have none.
+#[inline(never)]
+fn write_error_status(tlv: &mut [u8], error: u16, id: u16, text: &[u8])
     requires small { length text.now ≤ 255 }
-    requires room { array_vec_len buffer.old + length (text_octets text.now) ≤ MESSAGE_OCTETS }
-    ensures items { buffer.new.items ≡ buffer.old.items ++ text_octets text.now }
+    requires length { length tlv.old ≡ 12 + length (text_octets text.now) }
+    ensures octets { tlv.new ≡ error_status_octets error id text.now }
+    ensures error { error < 2 ^ 16 }
+    ensures id { id < 2 ^ 16 }
+{
+    let (head, display_data) = tlv.split_at_mut(ERROR_HEAD_OCTETS);
+    write_error_head(head, error, id, text_size(text) as u16);
+    write_text(display_data, text);
+}
+
+/// Writes an error status up to displayData, of this size.
+pub(crate) fn write_error_head(head: &mut [u8], error: u16, id: u16, size: u16)
+    requires small { size ≤ 256 }
+    requires length { length head.old ≡ 12 }
+    ensures octets { head.new
+        ≡ big_bytes 2 0x0002 ++ big_bytes 2 (8 + size) ++ big_bytes 2 error ++ big_bytes 2 id
+        ++ replicate 4 0 }
+    ensures error { error < 2 ^ 16 }
+    ensures id { id < 2 ^ 16 }
+{
+    head.copy_from_slice(&[0, 2, 0, 0, 0, 0, 0, 0, 0, 0, 0, 0]);
+    write_u16(head, 2, 8 + size);
+    write_u16(head, 4, error);
+    write_u16(head, 6, id);
+}
+
+/// Writes displayData over as many octets as it takes: none for an empty text.
+#[tactic(auto, using(crate::proofs::PtpTextLaws::ptp_text_size), unfolding(crate::specs::Canonical::text_octets))]
+fn write_text(display_data: &mut [u8], text: &[u8])
+    requires small { length text.now ≤ 255 }
+    requires length { length display_data.old ≡ length (text_octets text.now) }
+    ensures { display_data.new ≡ text_octets text.now }
 {
     if text.is_empty() {
         return;
     }
-    put_ptp_text(buffer, text);
+    let mut octets = ArrayVec::<u8, 256>::new();
+    put_ptp_text(&mut octets, text);
+    display_data.copy_from_slice(octets.as_slice());
 }
 
 /// How many octets the TLV takes.

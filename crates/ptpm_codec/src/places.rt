@@ -1,7 +1,10 @@
-//! Numbers and identities at their places in a message.
+//! Numbers and identities at their places in a message, read and written.
 
-ghost use Rattle.std.specs.Prelude.{◌≡◌, ◌+◌, ◌≤◌, if◌then◌else◌, length, nat_le, None, Some};
+ghost use Rattle.std.specs.Prelude.{◌≡◌, ◌+◌, ◌<◌, ◌≤◌, ◌^◌, if◌then◌else◌, length, nat_le, None, Some};
+ghost use Rattle.byteorder.specs.Endian.{big_bytes};
+ghost use Rattle.ptpm_codec.specs.Envelope.{written};
 ghost use Rattle.ptpm_codec.specs.Layout.{number_at, port_identity_at, source_port_identity};
+ghost use Rattle.ptpm_codec.specs.Message.{PortIdentityFits};
 
 use crate::identity::{ClockIdentity, PortIdentity};
 use byteorder::{BigEndian, ByteOrder};
@@ -39,4 +42,35 @@ pub fn source_port_identity(octets: &[u8]) -> Option<PortIdentity>
         return None;
     }
     Some(identity_at(octets, 20))
+}
+
+/// Writes an identity over the ten octets from a place on.
+#[inline(always)]
+pub(crate) fn write_identity(message: &mut [u8], place: usize, identity: &PortIdentity)
+    requires { place + 10 ≤ length message.old }
+    ensures octets { message.new ≡ written (place + 8) (big_bytes 2 identity.now.port)
+        (written place identity.now.clock.0 message.old) }
+    ensures fits { PortIdentityFits identity.now }
+{
+    write_at(message, place, &identity.clock.0);
+    write_u16(message, place + 8, identity.port);
+}
+
+/// Writes a number over the two octets from a place on.
+#[inline(always)]
+pub(crate) fn write_u16(message: &mut [u8], place: usize, number: u16)
+    requires { place + 2 ≤ length message.old }
+    ensures octets { message.new ≡ written place (big_bytes 2 number) message.old }
+    ensures fits { number < 2 ^ 16 }
+{
+    write_at(message, place, &number.to_be_bytes());
+}
+
+/// Writes octets over those from a place on.
+#[inline(always)]
+pub(crate) fn write_at(message: &mut [u8], place: usize, octets: &[u8])
+    requires { place + length octets.now ≤ length message.old }
+    ensures { message.new ≡ written place octets.now message.old }
+{
+    message[place..place + octets.len()].copy_from_slice(octets);
 }
