@@ -1,6 +1,6 @@
 //! Messages to octets: the canonical spelling, written right where it stays.
 
-ghost use Rattle.std.specs.Prelude.{◌≡◌, ◌+◌, ◌^◌, ◌<◌, ◌≤◌, ◌++◌, List, [], length, replicate, ◌∷◌, ℕ};
+ghost use Rattle.std.specs.Prelude.{◌≡◌, ◌+◌, ◌^◌, ◌<◌, ◌≤◌, ◌++◌, List, length, replicate, ℕ};
 ghost use Rattle.byteorder.specs.Endian.{big_bytes};
 ghost use Rattle.ptpm_codec.specs.Canonical.{canonical, error_status_octets, header_octets, management_octets, text_octets, tlv_octets};
 ghost use Rattle.ptpm_codec.specs.Draft.{body_of};

@@ -11,7 +11,7 @@ returns-clause-whole g c =
     let shown = reader_buffer c.args.self.now.reader in
     let size = c.args.size in
     let ok : is_ok c.extend_from_slice.result ≡ true = search rules in
-    let line : c.extend_from_slice.new.self.items ≡ take size shown = 
+    let line : c.extend_from_slice.new.self.items ≡ take size shown =
     (rw ok at c.extend_from_slice.ensures.items) ∙ ap (λ l. l ++ take size c.buffer-ahead.result.now) c.clear.ensures.items ∙ ap (take size) c.buffer-ahead.ensures in
     let few : c.args.self.now.count + 1 ≤ 2000000 = omega (arith, c.requires.few) in
     let whole = whole-at-hand (c.args.self.now.count + 1) before (reader_remaining R c.consume.new.self) shown size c.drop_return.new.self.line.items
