@@ -55,21 +55,21 @@ fn encode_in(draft: &Draft<'_>, place: &mut [u8])
 {
     let size = place.len() as u16;
     let (header, tlv) = place.split_at_mut(HEADER_OCTETS);
+    header.copy_from_slice(&[0; HEADER_OCTETS]);
     write_header(header, draft, size);
     write_tlv(tlv, &draft.body);
 }
 
-/// Writes octets 0 to 47 of a draft's message, which is to have this size.
+/// Writes octets 0 to 47 of a draft's message, which is to have this size, over as many that are 0.
 #[inline(always)]
 pub(crate) fn write_header(header: &mut [u8], draft: &Draft<'_>, size: u16)
-    requires length { length header.old ≡ 48 }
+    requires blank { header.old ≡ replicate 48 0 }
     requires sdo { draft.now.sdo < 4096 }
     ensures octets { header.new ≡ header_octets draft.now size }
     ensures source { PortIdentityFits draft.now.source }
     ensures number { draft.now.number < 2 ^ 16 }
     ensures target { PortIdentityFits draft.now.target }
 {
-    header.copy_from_slice(&[0; HEADER_OCTETS]);
     write_at(header, 0, &[(draft.sdo / 256) as u8 * 16 + 0xd, 0x12]);
     write_u16(header, 2, size);
     write_at(header, 4, &[draft.domain, (draft.sdo % 256) as u8]);

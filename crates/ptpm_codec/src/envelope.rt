@@ -1,6 +1,6 @@
 //! The messages of one reply, of which each has a port and an answer of its own.
 
-ghost use Rattle.std.specs.Prelude.{◌≡◌, ◌≤◌, ◌+◌, [], ℕ, length};
+ghost use Rattle.std.specs.Prelude.{◌≡◌, ◌≤◌, ◌+◌, [], ℕ, length, replicate};
 ghost use Rattle.ptpm_codec.specs.declared.message.Action.{Action};
 ghost use Rattle.ptpm_codec.specs.declared.message.Body.TheVariants as bodies;
 ghost use Rattle.ptpm_codec.specs.declared.message.Message.{Message};
@@ -40,15 +40,18 @@ impl Model for Envelope {
 impl Envelope {
     /// An envelope without address, to be addressed where it stays: one that is returned with its octets would be moved.
     #[inline(always)]
-    pub fn blank() -> Envelope {
+    pub fn blank() -> Envelope
+        ensures { result ≡ replicate 54 0 }
+    {
         Envelope {
             head: [0; HEAD_OCTETS],
         }
     }
 
-    /// Makes of it that of the messages like this draft, which is an answer of this id without octets.
+    /// Makes of a blank envelope that of the messages like this draft, which is an answer of this id without octets.
     #[inline(always)]
     pub fn address(&mut self, draft: &Draft<'_>, id: u16)
+        requires blank { self.old ≡ replicate 54 0 }
         requires valid { IsValid draft.now }
         requires empty { draft.now.body ≡ bodies.Answer (action_of draft.now.body) id [] }
         ensures octets { self.new ≡ canonical draft.now }

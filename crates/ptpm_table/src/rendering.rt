@@ -133,7 +133,7 @@ pub struct Sender<'a, O: Outgoing> {
 }
 
 impl<'a, O: Outgoing> Sender<'a, O> {
-    ghost use Rattle.std.specs.Prelude.{◌≡◌, false};
+    ghost use Rattle.std.specs.Prelude.{◌≡◌, false, replicate};
     ghost use Rattle.ptpm_codec.specs.Envelope.{envelope_of};
     ghost use Rattle.ptpm_codec.specs.Message.{Fits, reply_action};
     ghost use Rattle.ptpm_table.specs.Sending.{empty_reply};
@@ -144,6 +144,7 @@ impl<'a, O: Outgoing> Sender<'a, O> {
         ensures same_reference { result.out.ghost_name ≡ out.entry.ghost_name }
         ensures held { result.out.now ≡ out.old }
         ensures of_port { result.of_port ≡ false }
+        ensures blank { result.envelope ≡ replicate 54 0 }
     {
         Sender {
             envelope: Envelope::blank(),
@@ -164,6 +165,7 @@ impl<'a, O: Outgoing> Sender<'a, O> {
         request: &Request<'_>,
         ingress: u16,
     )
+        requires blank { self.old.envelope ≡ replicate 54 0 }
         ensures place { self.new.out ≡ self.old.out }
         ensures ingress { self.new.ingress ≡ ingress }
         ensures id { self.new.id ≡ request.now.id }

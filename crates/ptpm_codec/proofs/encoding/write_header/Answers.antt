@@ -16,7 +16,7 @@ pub returns-clause-octets : goal.returns-clause-octets
 returns-clause-octets c =
     let d = c.draft.inside in
     let action = c.code-action.ensures ∙ ap action_code c.action.ensures in
-    let e0 = c.write_at.ensures ∙ ap (written 0 ((d.sdo / 256 * 16 + 0xd) ∷ 0x12 ∷ [])) c.copy_from_slice.ensures.after in
+    let e0 = c.write_at.ensures ∙ ap (written 0 ((d.sdo / 256 * 16 + 0xd) ∷ 0x12 ∷ [])) c.requires.blank in
     let e1 = c.write_u16.ensures.octets ∙ ap (written 2 (big_bytes 2 c.args.size)) e0 in
     let e2 = c.write_at-2.ensures ∙ ap (written 4 (d.domain ∷ d.sdo % 256 ∷ [])) e1 in
     let e3 = c.write_identity.ensures.octets ∙ ap (λ m. written 28 (big_bytes 2 d.source.port) (written 20 d.source.clock.0 m)) e2 in
