@@ -1,5 +1,5 @@
 -- The slots of a table: the entry of a manager is that of its slot, and stays its own when another slot is written.
-use Rattle.std.proofs.Common.{suc, zero, arith, ◌≡◌, ℕ, ◌+◌, ◌<◌, ◌≤◌, Bool, true, false, cond, refl, sym, ◌∙◌, ap, subst, ⊎_elim, ◌||◌, List, [], ◌∷◌, ◌++◌, length, take, get_or, set, Option, Some, None, All, Bor}
+use Rattle.std.proofs.Common.{suc, zero, arith, ◌≡◌, ℕ, ◌+◌, ◌<◌, Bool, true, false, cond, refl, sym, ◌∙◌, ap, subst, ⊎_elim, ◌||◌, List, [], ◌∷◌, ◌++◌, length, take, get_or, set, Option, Some, None, All, Bor}
 use Rattle.std.proofs.lemmas.Bool.{cases_Bool, or_parts, or_left, cond-true, cond-false, false≢true, ltb-false}
 use Rattle.std.specs.List.{position_or_len}
 use Rattle.std.specs.Map.{lookup}

@@ -1,19 +1,11 @@
-use Rattle.std.proofs.Common.{◌≡◌, ◌∙◌, ◌++◌, ◌≤◌, ℕ, List, All, ap, arith, length, subst, sym, take, take_all}
-use Rattle.std.proofs.lemmas.List.{append-nil, drop_all}
+use Rattle.std.proofs.Common.{◌≡◌, ◌∙◌, List, All, ap, arith, length, subst, sym}
 use Rattle.std.specs.FinMap.{from_entries, insert}
-use Rattle.std.specs.List.{refill}
+use Rattle.ptpm_codec.proofs.BufferLaws.{refilled}
 use Rattle.arrayvec.specs.ArrayVec.{array_vec_len}
 use Rattle.ptpm_codec.specs.Identity.{identity_cmp}
 use Rattle.ptpm_table.specs.Slots.{clocks, used}
 use Rattle.ptpm_table.specs.declared.slot.Slot.{Slot}
 use Rattle.ptpm_table.proofs.slot_table.SlotTableSureTable.keep_sent.Goals as goal
-
--- as many elements written over are all that there is
-refilled : (n : ℕ) (xs ws : List Slot) → length ws ≡ n → length xs ≤ n → refill n xs ws ≡ ws
-refilled n xs ws same few =
-    ap (λ (ys : List Slot). take n (ws ++ ys)) (drop_all (length ws) xs (omega (arith, same, few)))
-    ∙ ap (take n) (append-nil ws)
-    ∙ take_all n ws (omega (arith, same))
 
 pub returns-clause-kept : goal.returns-clause-kept
 returns-clause-kept g c = λ r s.
