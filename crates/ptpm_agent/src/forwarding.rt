@@ -46,7 +46,8 @@ fn is_forwarded(me: &ClockIdentity, sets: &DataSets, ingress: u16, message: &Vie
         && sets.may_forward(ingress)
 }
 
-/// Sends a copy at each egress port.
+/// Sends a copy at each egress port. It is never inlined, so that its loop keeps what it reads in registers.
+#[inline(never)]
 fn send_on<O: Outgoing>(sets: &DataSets, ingress: u16, datagram: &[u8], out: &mut O)
     requires empty { O.sent out.old ≡ [] }
     requires port { HasPort ingress sets.now }

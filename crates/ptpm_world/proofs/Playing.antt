@@ -190,6 +190,11 @@ plays-first N names start first k a = record {
       (λ xs. record { events = []; text = []; comes = refl; range = tt; is = Appends-nil first });
 }
 
+pub keeps-nil : (a b : Option (List ℕ)) → Keeps a b → Appends a b []
+keeps-nil None b k = tt
+keeps-nil (Some x) None k = absurd k
+keeps-nil (Some x) (Some y) k = k ∙ sym (append-nil x)
+
 -- what was written stays
 pub kept-appended : (a b c : Option (List ℕ)) (bs : List ℕ)
     → Appends a b bs
