@@ -1,7 +1,6 @@
 -- At-most-once execution: what a turn does with a copy of a request is what the history says.
 use Rattle.std.proofs.Common.{arith, ◌≡◌, ℕ, ◌<◌, ◌≤◌, ◌==◌, List, [], ◌∷◌, Option, Some, None, Ok, Bool, true, false, length, refl, sym, ◌∙◌, ap, subst, ⊎_elim}
 use Rattle.std.proofs.lemmas.Bool.{cases_Bool, cases_eq, cases_order, and_from, and_left, and_right, or_left, or_right, or_from, eq-eqb, ne_eqb, lt-ltb, le-ltb, cond-true, cond-false, true≢false, false≢true}
-use Rattle.std.proofs.lemmas.Bool.Decides.{nat_tests}
 use Rattle.std.proofs.lemmas.Option.{none-some, cond_some}
 use Rattle.std.specs.FinMap.{get, get-empty}
 use Rattle.ptpm_codec.specs.declared.identity.PortIdentity.{PortIdentity}
@@ -16,6 +15,7 @@ use Rattle.ptpm_table.specs.declared.serial.Serial.TheVariants.{Same, Newer, Old
 use Rattle.ptpm_table.specs.Entries.{Entry}
 use Rattle.ptpm_table.specs.Numbering.{look_at, look_by, same_request}
 use Rattle.ptpm_table.specs.Serial.{order_of, serial_of}
+use Rattle.ptpm_table.proofs.SerialLaws.{order_of-same, order_of-newer, order_of-older}
 use Rattle.ptpm_agent.specs.declared.verdict.Verdict.{Verdict}
 use Rattle.ptpm_agent.specs.declared.verdict.Verdict.TheVariants as verdicts
 use Rattle.ptpm_agent.specs.Addressing.{heard_of, request_of}
@@ -132,15 +132,6 @@ due_reply-kept first c h k e j same latest =
     cond-false _ _ _ j ∙ (cond-true _ _ _ (eq-eqb _ _ same) ∙ ap (kept_for k) kept)
 
 -- ---- the number of a copy
-
-order_of-same : (g k : ℕ) → g ≡ k → order_of g k ≡ Same
-order_of-same g k e = cond-true _ _ _ (eq-eqb g k e)
-
-order_of-newer : (g k : ℕ) → g < k → order_of g k ≡ Newer
-order_of-newer g k l = grind (arith, nat_tests)
-
-order_of-older : (g k : ℕ) → k < g → order_of g k ≡ Older
-order_of-older g k l = grind (arith, nat_tests)
 
 -- it tells the order of the indexes
 serial_of-copy : (first : PortIdentity → ℕ) (h : History) (k : RequestCopy) (e : Entry)

@@ -14,7 +14,8 @@ use Rattle.ptpm_agent.specs.Once.{Accepted, Delivery, History, RequestCopy, acce
 use Rattle.ptpm_codec.specs.SequenceNumber.{number_of}
 use Rattle.ptpm_agent.specs.Window.{IsNumbered}
 use Rattle.ptpm_agent.specs.Laws.{IsKept, IsLatest, StandsAt}
-use Rattle.ptpm_table.proofs.Identities.{identities_total, same_identity-true, same_identity-refl, tied_identities}
+use Rattle.ptpm_codec.proofs.IdentityLaws.{same_identity-true}
+use Rattle.ptpm_table.proofs.Identities.{identities_total, same_identity-refl, tied_identities}
 
 -- ---- entries
 

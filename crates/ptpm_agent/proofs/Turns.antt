@@ -25,7 +25,7 @@ use Rattle.ptpm_agent.specs.Addressing.{heard_of, is_addressed, is_for_this_cloc
 use Rattle.ptpm_agent.specs.Turn.{Clock, State, carried_out, is_accepted_repeat, is_in_domain, is_repeat, judged, kept_reply_of, look, new_reply, next_by, reply_by, reply_messages, turn, turn_by, verdict_at, verdict_of}
 use Rattle.ptpm_agent.specs.Once.{is_copy}
 use Rattle.ptpm_agent.specs.Laws.{AreOfManagers}
-use Rattle.ptpm_table.proofs.Identities.{same_identity-true}
+use Rattle.ptpm_codec.proofs.IdentityLaws.{same_identity-true}
 use Rattle.ptpm_agent.proofs.Entries.{get-insert_other}
 
 -- ---- the message of a datagram

@@ -2,11 +2,13 @@
 use Rattle.std.proofs.Common.{◌≡◌, ℕ, ◌==◌, ◌<◌, true, List, length, get_or, refl, sym, ◌∙◌, ap}
 use Rattle.std.specs.Int.{from_be_bytes, to_be_bytes, w64}
 use Rattle.std.specs.Str.{bytes_eq}
+use Rattle.std.proofs.lemmas.Bool.{and_parts, eqb-true}
 use Rattle.std.proofs.lemmas.Bool.Decides.{Decides-eqb, same_from_decides}
 use Rattle.std.proofs.lemmas.Nat.{be_bytes_8}
 use Rattle.std.proofs.lemmas.Slice.Eq.{bytes_eq-Decides}
 use Rattle.ptpm_codec.specs.declared.identity.ClockIdentity.{ClockIdentity}
-use Rattle.ptpm_codec.specs.Identity.{same_clock}
+use Rattle.ptpm_codec.specs.declared.identity.PortIdentity.{PortIdentity}
+use Rattle.ptpm_codec.specs.Identity.{same_clock, same_identity}
 
 pub octets_by_number : (a b : List ℕ) (m n : ℕ)
     → length a ≡ 8
@@ -27,3 +29,10 @@ same_clock-true a b h = let octets = (bytes_eq-Decides a.0 b.0).0 h in (λ i. re
 
 pub same_clock-refl : (a : ClockIdentity) → same_clock a a ≡ true
 same_clock-refl a = (bytes_eq-Decides a.0 a.0).1 refl
+
+pub same_identity-true : (a b : PortIdentity) → same_identity a b ≡ true → a ≡ b
+same_identity-true a b h =
+    let parts = and_parts (same_clock a.clock b.clock) _ h in
+    let clock : a.clock ≡ b.clock = same_clock-true a.clock b.clock parts.0 in
+    let port : a.port ≡ b.port = eqb-true a.port b.port parts.1 in
+    λ i. record { clock = clock i; port = port i }

@@ -1,5 +1,5 @@
 -- The data sets of a start are of the clock that the settings name, and its managers are few and each another.
-use Rattle.std.proofs.Common.{arith, ◌≡◌, ◌≤◌, nat_lt, false, List, Option, None, Some, Result, Ok, ap, length, subst}
+use Rattle.std.proofs.Common.{arith, ◌≡◌, ◌≤◌, nat_lt, false, List, None, Ok, sym, ap, length, subst}
 use Rattle.std.proofs.lemmas.Bool.Decides.{nat_tests}
 use Rattle.std.proofs.lemmas.List.{length-map}
 use Rattle.ptpm_codec.specs.declared.identity.PortIdentity.{PortIdentity}
@@ -7,19 +7,15 @@ use Rattle.ptpm_data.specs.declared.rights.Rights.{Rights}
 use Rattle.ptpm_data.specs.declared.start.ClockStart.{ClockStart}
 use Rattle.ptpm_data.specs.declared.start.PortStart.{PortStart}
 use Rattle.ptpm_data.specs.Members.{DataSetsValue}
-use Rattle.ptpm_data.specs.Start.{start_fault, start_of, started, unless}
-use Rattle.ptpm_data.proofs.StartLemmas.{passes}
+use Rattle.ptpm_data.specs.Start.{start_fault, start_of, started}
+use Rattle.ptpm_data.proofs.StartLemmas.{passes, unless_ok}
 use Rattle.ptpm_table.specs.Managers.{has_twice, identities, table_refusal}
-
-unless_ok : {A E : Type 0} (fault : Option E) (a b : A) → ◌≡◌ {A = Result A E} (Ok b) (unless fault a) → b ≡ a
-unless_ok None a b h = cc
-unless_ok (Some e) a b h = absurd (cc)
 
 started_by : (c : ClockStart) (ports : List PortStart) (sets : DataSetsValue)
     → Ok sets ≡ start_of c ports
     → sets ≡ started c ports
 unfolding start_of
-started_by c ports sets h = unless_ok (start_fault c ports) (started c ports) sets h
+started_by c ports sets h = (unless_ok (start_fault c ports) (started c ports) sets (sym h)).1
 
 pub identity_of_start : (c : ClockStart) (ports : List PortStart) (sets : DataSetsValue)
     → Ok sets ≡ start_of c ports

@@ -3,13 +3,13 @@ use Rattle.std.proofs.Common.{◌≡◌, ℕ, ◌<◌, ◌≤◌, Bool, true, fa
 use Rattle.std.specs.List.{list_any}
 use Rattle.std.specs.Map.{lookup}
 use Rattle.std.proofs.Math.Logic.{⊎_elim}
-use Rattle.std.proofs.lemmas.Bool.{and_parts, cases_Bool, cond-true, cond-false, cases_lt, eqb-true, lt-ltb, le-ltb}
+use Rattle.std.proofs.lemmas.Bool.{cases_Bool, cond-true, cond-false, cases_lt, lt-ltb, le-ltb}
 use Rattle.std.proofs.lemmas.List.{append-nil, length-append, length-take-le, take_all, take-append-le}
 use Rattle.std.proofs.lemmas.List.Elements.{filter-append, filter_map-append}
 use Rattle.std.proofs.lemmas.Map.Views.{any-filter_same}
-use Rattle.std.proofs.lemmas.Slice.Eq.{bytes_eq-Decides}
 use Rattle.ptpm_codec.specs.declared.identity.PortIdentity.{PortIdentity}
-use Rattle.ptpm_codec.specs.Identity.{same_clock, same_identity}
+use Rattle.ptpm_codec.specs.Identity.{same_identity}
+use Rattle.ptpm_codec.proofs.IdentityLaws.{same_identity-true}
 use Rattle.ptpm_manager.specs.declared.enquiry.Enquiry.{Enquiry}
 use Rattle.ptpm_manager.specs.declared.receiving.Reason.{Reason}
 use Rattle.ptpm_manager.specs.Answers.{Answer, answer_of_heard, firsts, first_of_each_source, has_answered, heard, kept_by}
@@ -21,14 +21,6 @@ is_some-lookup test [] = refl
 is_some-lookup test (e ∷ es) =
     elim (test e.0) as (λ b. is_some (cond b (Some e.1) (lookup test es)) ≡ (b || list_any (λ x. test x.0) es))
     [ true ↦ refl | false ↦ is_some-lookup test es ]
-
--- identities that pass the test are one
-pub same_identity-true : (a b : PortIdentity) → same_identity a b ≡ true → a ≡ b
-same_identity-true a b h =
-    let parts = and_parts (same_clock a.clock b.clock) _ h in
-    let octets : a.clock.0 ≡ b.clock.0 = (bytes_eq-Decides a.clock.0 b.clock.0).0 parts.0 in
-    let port : a.port ≡ b.port = eqb-true a.port b.port parts.1 in
-    λ j. record { clock = record { 0 = octets j }; port = port j }
 
 -- of two sources that differ, the first's answers leave those of the second
 has_answered-further : (x a : Answer) (kept : List Answer) → same_identity a.0 x.0 ≡ false

@@ -54,7 +54,8 @@ pub use Rattle.ptpm_table.specs.Numbering.{look_at, look_by, same_request}
 pub use Rattle.ptpm_table.specs.Rendering.{answer_body, hops_passed, reply_message}
 unfoldable pub use Rattle.ptpm_table.specs.Rendering.{rendered}
 pub use Rattle.ptpm_table.specs.Serial.{InWindow, serial_of}
-pub use Rattle.ptpm_table.proofs.Identities.{same_identity-refl, same_identity-true}
+pub use Rattle.ptpm_codec.proofs.IdentityLaws.{same_identity-true}
+pub use Rattle.ptpm_table.proofs.Identities.{same_identity-refl}
 pub use Rattle.ptpm_agent.specs.declared.verdict.Verdict.{Verdict}
 pub use Rattle.ptpm_agent.specs.Addressing.{heard_of, is_addressed, is_for_this_clock, is_numbered, is_own, is_request, names_port, request_of}
 pub use Rattle.ptpm_agent.specs.Forwarding.{egress_ports, forwarded_by, is_forwarded, with_less_hop}

@@ -1,5 +1,5 @@
 -- What a session has and what its target keeps of it, where its own messages came in time.
-use Rattle.ptpm_network.proofs.Common.{by_test, Bool, inl, inr, true≢false, ◌||◌, ◌⊎◌, arith, ◌≡◌, ℕ, ◌+◌, ◌-◌, ◌<◌, ◌≤◌, ◌==◌, List, [], ◌∷◌, length, Option, Some, None, true, false, refl, sym, ◌∙◌, ap, subst, ⊎_elim, and_from, cond-true, cond-false, eq-eqb, ne_eqb, lt-ltb, le-ltb, or_left, or_right, or_from, same_Some, slice_get, PortIdentity, Message, same_identity, message_of, reading-message_of, RequestValue, Entry, look_at, look_by, same_request, serial_of, InWindow, reply_messages, Accepted, greatest, kept_reply, heard_of, request_of, Clock, State, Turned, turn, turn-message, judged, look, is_repeat, verdict_at, Verdict, reply_by, same_identity-refl, number_of, Answers, HasOneAnswer, IsInStep, SessionState}
+use Rattle.ptpm_network.proofs.Common.{by_test, Bool, inl, inr, true≢false, ◌||◌, ◌⊎◌, arith, ◌≡◌, ℕ, ◌+◌, ◌-◌, ◌<◌, ◌≤◌, ◌==◌, List, [], ◌∷◌, length, Option, Some, None, true, false, refl, sym, ◌∙◌, ap, subst, ⊎_elim, and_from, cond-true, eq-eqb, or_left, or_right, or_from, same_Some, slice_get, PortIdentity, Message, same_identity, message_of, reading-message_of, RequestValue, Entry, look_at, look_by, same_request, serial_of, InWindow, reply_messages, Accepted, greatest, kept_reply, heard_of, request_of, Clock, State, Turned, turn, turn-message, judged, look, is_repeat, verdict_at, Verdict, reply_by, same_identity-refl, number_of, Answers, HasOneAnswer, IsInStep, SessionState}
 use Rattle.std.specs.FinMap.{get}
 use Rattle.std.proofs.lemmas.Bool.{cases_order}
 use Rattle.std.proofs.Math.Nat.{ne_of_gt, ne_of_lt}
@@ -8,6 +8,7 @@ use Rattle.ptpm_table.specs.declared.serial.Serial.TheVariants.{Newer, Older, Sa
 use Rattle.ptpm_table.specs.declared.reply_table.Look.{Look}
 use Rattle.ptpm_table.specs.declared.reply_table.Look.TheVariants as looks
 use Rattle.ptpm_table.specs.Serial.{order_of}
+use Rattle.ptpm_table.proofs.SerialLaws.{order_of-same, order_of-newer, order_of-older}
 use Rattle.ptpm_agent.specs.CarriedOut.{carried_by, carried_in, carried_of}
 use Rattle.ptpm_agent.specs.declared.verdict.Verdict.TheVariants as verdicts
 use Rattle.ptpm_agent.specs.Turn.{kept_reply_of, new_reply, next_by}
@@ -31,15 +32,6 @@ IsLastOf m first accepted None = greatest m accepted ≡ 0
 IsLastOf m first accepted (Some e) = IsLast m first accepted e
 
 -- ---- what the entry tells of a number
-
-order_of-same : (g k : ℕ) → k ≡ g → order_of g k ≡ Same
-order_of-same g k e = cond-true _ _ _ (eq-eqb g k (sym e))
-
-order_of-newer : (g k : ℕ) → g < k → order_of g k ≡ Newer
-order_of-newer g k l = cond-false _ _ _ (ne_eqb g k (λ (h : g ≡ k). omega arith)) ∙ cond-true _ _ _ (lt-ltb _ _ l)
-
-order_of-older : (g k : ℕ) → k < g → order_of g k ≡ Older
-order_of-older g k l = cond-false _ _ _ (ne_eqb g k (λ (h : g ≡ k). omega arith)) ∙ cond-false _ _ _ (le-ltb g k (omega arith))
 
 -- it is of this request
 abbrev asks_same : Option Entry → RequestValue → Bool
@@ -217,7 +209,7 @@ module _ (first p : ℕ) (c : Clock) (s : State) (port : ℕ) (octets : List ℕ
       let request : e.request ≡ request_of v =
       sym (ap (λ (x : Accepted). x.request) entry) ∙ same_Some was.entry.request (request_of v) (sym was.begun_as ∙ o.begun_as) in
       let repeat : look_at (get s.entries m) v.number (request_of v) ≡ looks.Repeat =
-      looked Same (order_of-same (greatest m accepted) k same)
+      looked Same (order_of-same (greatest m accepted) k (sym same))
       ∙ ap (λ (x : Option Entry). look_by Same (asks_same x (request_of v))) is
       ∙ ap (λ b. look_by Same b) (ap (λ (q : RequestValue). same_request q (request_of v)) request ∙ same_request-refl (request_of v)) in
       judged-copy (λ w. Does c s port octets v w → Turns) c s v looks.Repeat o.parts repeat

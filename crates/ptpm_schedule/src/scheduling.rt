@@ -8,13 +8,10 @@ ghost use Rattle.ptpm_schedule.specs.Scheduled.{IsScheduled};
 use crate::chances::Chances;
 use crate::left_out::LeftOut;
 use crate::traffic::Traffic;
-use ptpm_world::{Event, EventError, EventLine, ScriptError, World, read_script};
+use ptpm_world::{DIVIDER, Event, EventError, EventLine, ScriptError, World, read_script};
 use std::alloc::Global;
 use std::io;
 use std::io::{Read, Write};
-
-/// Stands between the network file and the events.
-const DIVIDER: &str = "%%";
 
 /// Reads a script whose events are those of sessions: `begin`, `resume` and `retune`. Writes a whole script with the same network.
 /// In it each request is sent and its messages are delivered, in an order that is drawn, some never and some twice, and it is sent

@@ -15,13 +15,10 @@ use crate::chances::{Chances, Draws};
 use crate::event_text::EventText;
 use ptpm_codec::OutOfMemory;
 use ptpm_script::{Name, NetworkSession};
-use ptpm_world::{End, Event, Network, ScriptError, StepError, Took, World};
+use ptpm_world::{End, Event, Network, SCRIPT_LINES, ScriptError, StepError, Took, World};
 use std::alloc::Global;
 use std::io;
 use std::io::Write;
-
-/// A script has at most so many lines (this project's profile).
-const LINES: u64 = 2_000_000;
 
 /// What became of an event.
 #[derive(Clone, Copy)]
@@ -229,7 +226,7 @@ impl<'a> Traffic<'a> {
         ensures { OnOk result
             (Goes world.old world.new (W.contents out.old) (W.contents out.new)) }
     {
-        if self.lines >= LINES {
+        if self.lines >= SCRIPT_LINES as u64 {
             return Err(ScriptError::TooManyLines);
         }
         let sent = world.frames();

@@ -2,7 +2,6 @@
 use Rattle.std.proofs.Common.{◌≡◌, ℕ, true, sym, ◌∙◌, ap, List, ◌&&◌}
 use Rattle.std.proofs.lemmas.Map.Lookups.{CmpEqualImpliesEq, exact_bytes, exact_pairs, exact_unsigned}
 use Rattle.std.proofs.lemmas.Map.Text.{is_eq-slice_cmp}
-use Rattle.std.proofs.lemmas.Map.Views.{tells_apart}
 use Rattle.std.proofs.lemmas.Cmp.{eq_by_cmp_equiv, nat_cmp_total, nat_list_cmp_total, on_total, then_total}
 use Rattle.std.specs.Cmp.{IsTotalOrder, tied_then, unsigned_tied}
 use Rattle.std.specs.Cmp.Lexicographic.{slice_cmp}
@@ -25,9 +24,6 @@ pub tied_identities : (a b : PortIdentity) → eq_by_cmp identity_cmp a b ≡ sa
 tied_identities a b =
     sym (tied_then (slice_cmp nat_cmp a.clock.0 b.clock.0) (nat_cmp a.port b.port))
     ∙ (λ i. is_eq-slice_cmp a.clock.0 b.clock.0 i && unsigned_tied a.port b.port i)
-
-pub same_identity-true : (a b : PortIdentity) → same_identity a b ≡ true → a ≡ b
-same_identity-true a b h = tells_apart exact_identities a b (tied_identities a b ∙ h)
 
 pub same_identity-refl : (a : PortIdentity) → same_identity a a ≡ true
 same_identity-refl a = sym (tied_identities a a) ∙ (eq_by_cmp_equiv identities_total).refl a

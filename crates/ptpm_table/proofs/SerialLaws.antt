@@ -2,6 +2,7 @@
 use Rattle.std.proofs.Common.{arith, ◌≡◌, ℕ, ◌%◌, ◌+◌, ◌-◌, ◌<◌, ◌≤◌, ⊎_elim}
 use Rattle.std.proofs.lemmas.Bool.{cases_lt}
 use Rattle.std.proofs.lemmas.Bool.Decides.{nat_tests}
+use Rattle.ptpm_table.specs.declared.serial.Serial.TheVariants.{Same, Newer, Older}
 use Rattle.ptpm_table.specs.Serial.{serial_of, order_of, class_of, ahead, InWindow}
 
 ahead_of_later : (i j : ℕ) → i ≤ j → j ≤ i + 32767 → ahead (i % 65536) (j % 65536) ≡ j - i
@@ -31,3 +32,14 @@ serial_in_window i j w =
     (λ earlier. class_of_earlier i j _ earlier w.not_far_behind (ahead_of_earlier i j earlier w.not_far_behind))
     (λ later. class_of_later i j _ later w.not_far_ahead (ahead_of_later i j later w.not_far_ahead))
     (cases_lt j i)
+
+-- ---- the order of two indexes
+
+pub order_of-same : (g k : ℕ) → g ≡ k → order_of g k ≡ Same
+order_of-same g k e = grind (arith, nat_tests)
+
+pub order_of-newer : (g k : ℕ) → g < k → order_of g k ≡ Newer
+order_of-newer g k l = grind (arith, nat_tests)
+
+pub order_of-older : (g k : ℕ) → k < g → order_of g k ≡ Older
+order_of-older g k l = grind (arith, nat_tests)

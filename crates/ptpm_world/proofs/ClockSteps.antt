@@ -6,6 +6,7 @@ use Rattle.ptpm_agent.specs.declared.verdict.Verdict.{Verdict}
 use Rattle.ptpm_agent.specs.Turn.{Clock}
 use Rattle.ptpm_network.specs.Network.{End}
 use Rattle.ptpm_network.proofs.Posting.{held-turn_frames}
+use Rattle.ptpm_agent.proofs.Lists.{state_after}
 use Rattle.ptpm_agent.proofs.TurnKeeps.{turn-ports}
 use Rattle.ptpm_world.specs.declared.took.StepError.TheVariants as errors
 use Rattle.ptpm_world.specs.declared.took.Took.TheVariants.{AtClock}
@@ -15,11 +16,6 @@ use Rattle.ptpm_world.proofs.Ending.{step_fine, step_refused}
 use Rattle.ptpm_world.proofs.Refusing.{delivered, full, roomy, skips, stops}
 
 -- ---- a turn
-
-state_after : (t : Turned) (verdict : Verdict) (out : List (ℕ × List ℕ)) (next : State)
-    → IsTurned t verdict out next
-    → next ≡ t.next
-state_after t verdict out next is = λ i. record { sets = is.sets_are i; entries = is.entries_are i }
 
 module _ (N : Network) (old new : World) (c port : ℕ) (x y : RunningClock) (f : Frame) (verdict : Verdict) (out : List (ℕ × List ℕ)) (is : IsOf N old) (change : ClockChange old new c x y) (turned : IsTurned (turn (agent_clock x.agent) (agent_state x.agent) port f.octets) verdict out (agent_state y.agent)) where
   -- the turn of the agent at a place is that of the network's clock

@@ -2,7 +2,8 @@
 use Rattle.ptpm_world.proofs.Common.{suc, zero, arith, ◌≡◌, ◌≢◌, ℕ, ◌<◌, ◌≤◌, ◌==◌, Bool, true, false, ◌&&◌, ◌||◌, List, [], ◌∷◌, Some, refl, sym, ◌∙◌, subst, length, map, if◌then◌else◌, ⊎_elim, and_parts, eqb-true, eq-eqb, or_cases, or_left, or_right, length-map, slice_get_within, slice_get, slice_index_or, AllByRecursion, filter, PortIdentity, same_identity, port_data_set, is_known, identities, HasEnd, IsClock, IsSession, clock_at, configured, described, described_end, no_clock, session_at, with_rights, AreSized, CanStart, IsAccepted, IsEndOf, IsLinkOf, NetworkValue, first_sets}
 use Rattle.ptpm_codec.specs.Message.{PortIdentityFits}
 use Rattle.ptpm_data.specs.RequestLaws.{IsSized}
-use Rattle.ptpm_table.proofs.Identities.{same_identity-true, same_identity-refl}
+use Rattle.ptpm_codec.proofs.IdentityLaws.{same_identity-true}
+use Rattle.ptpm_table.proofs.Identities.{same_identity-refl}
 use Rattle.ptpm_network.specs.Network as machine
 use Rattle.ptpm_network.specs.Network.{IsLink}
 use Rattle.ptpm_network.proofs.Lists.{all_get, all_made}

@@ -18,9 +18,10 @@ mod world;
 
 pub use check::{Findings, check_script};
 pub use frames::Frame;
+pub use lines::SCRIPT_LINES;
 pub use network_laws::{described_network, described_networks, every_world, placed_event};
 pub use ptpm_script::{End, Event, EventError, Name, NetError, Network, read_event};
-pub use script::{one_trace, run_script};
+pub use script::{DIVIDER, one_trace, run_script};
 pub use script_error::ScriptError;
 pub use took::{StepError, Took};
 pub use whole_script::{EventLine, Script, read_script};

@@ -14,7 +14,7 @@ use std::alloc::Global;
 use std::io::{BufRead, BufReader, Read, Write};
 
 /// A script has at most so many lines (this project's profile).
-const LINES: u32 = 2_000_000;
+pub const SCRIPT_LINES: u32 = 2_000_000;
 
 /// A line has at most so many octets before its line feed (this project's profile).
 const LINE_OCTETS: usize = 4_096;
@@ -102,7 +102,7 @@ impl<R: Read + Drop> Lines<R> {
         ensures few { IsSome result → self.now.count < 2000000 }
     {
         match memchr(b'\n', self.reader.buffer()) {
-            Some(size) if size <= LINE_OCTETS && self.count < LINES => Some(size),
+            Some(size) if size <= LINE_OCTETS && self.count < SCRIPT_LINES => Some(size),
             _ => None,
         }
     }
@@ -147,7 +147,7 @@ impl<R: Read + Drop> Lines<R> {
         match self.read_octet()? {
             None => Ok(false),
             Some(first) => {
-                if self.count == LINES {
+                if self.count == SCRIPT_LINES {
                     return Err(ScriptError::TooManyLines);
                 }
                 self.count += 1;

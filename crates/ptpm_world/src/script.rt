@@ -26,8 +26,8 @@ use ptpm_script::{Event, EventError, NetError, Network, TEXT_OCTETS, read_event}
 use std::alloc::Global;
 use std::io::{Read, Write};
 
-/// Stands between the network file and the events.
-const DIVIDER: &str = "%%";
+/// The line of a script that stands between the network file and the events.
+pub const DIVIDER: &str = "%%";
 
 /// The lines of a script print one text at most.
 pub fn one_trace()

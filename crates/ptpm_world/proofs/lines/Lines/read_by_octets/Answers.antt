@@ -21,11 +21,11 @@ returns-in_ok-read_rest-in-Some-clause-whole g c =
     (subst (λ k. ReadsWhole k (option_map (λ octets. c.in-Some.first ∷ octets) after) true c.read_rest.new.self.line.items (left_in R c.read_rest.new.self))
     (ap (λ k. k + 1) c.in_ok-read_octet.ensures.count) c.in_ok-read_rest-in-Some.ensures.whole)
 
-pub returns-then-self-eq-LINES-clause-fault : goal.returns-then-self-eq-LINES-clause-fault
-returns-then-self-eq-LINES-clause-fault g c = λ inside.
+pub returns-then-self-eq-SCRIPT_LINES-clause-fault : goal.returns-then-self-eq-SCRIPT_LINES-clause-fault
+returns-then-self-eq-SCRIPT_LINES-clause-fault g c = λ inside.
     let R = g.R.Read.remaining in
     let before = left_in R c.args.self.now in
     let after = left_in R c.read_octet.new.self in
     let one = subst (λ o. Consumes before after (given o)) c.in-Some.is c.in_ok-read_octet.ensures.octet in
-    let many : 2000000 < c.args.self.now.count + 1 = omega (arith, c.if-self-eq-LINES.true, c.in_ok-read_octet.ensures.count) in
+    let many : 2000000 < c.args.self.now.count + 1 = omega (arith, c.if-self-eq-SCRIPT_LINES.true, c.in_ok-read_octet.ensures.count) in
     fault-many (c.args.self.now.count + 1) before after c.in-Some.first one many
