@@ -1,6 +1,7 @@
 -- A header is the canonical one where each field is written at its place.
-use Rattle.std.proofs.Common.{◌≡◌, ℕ, ◌+◌, ◌*◌, ◌%◌, ◌/◌, List, [], ◌∷◌, refl}
+use Rattle.std.proofs.Common.{arith, ◌≡◌, ℕ, ◌+◌, ◌*◌, ◌%◌, ◌/◌, List, [], ◌∷◌, ◌++◌, ap, drop, length, refl}
 use Rattle.std.specs.Prelude.{replicate}
+use Rattle.std.proofs.lemmas.List.{drop_all, length-drop}
 use Rattle.byteorder.specs.Endian.{big_bytes}
 use Rattle.ptpm_codec.specs.declared.message.Message.{Message}
 use Rattle.ptpm_codec.specs.Message.{PortIdentityFits, action_code, action_of}
@@ -23,3 +24,13 @@ unfolding port_identity_octets
 header_written v size source target =
     by_identities (λ w. by_place w size ≡ header_octets w size) v source target
     (λ a1 b1 c1 d1 e1 f1 g1 h1 a2 b2 c2 d2 e2 f2 g2 h2. refl)
+
+-- three numbers, one after the other over six octets
+pub numbers_written : (a b c : ℕ) (old : List ℕ) → length old ≡ 6
+    → written 4 (big_bytes 2 c) (written 2 (big_bytes 2 b) (written 0 (big_bytes 2 a) old))
+    ≡ big_bytes 2 a ++ big_bytes 2 b ++ big_bytes 2 c
+numbers_written a b c old size =
+    let two : length (drop 2 old) ≡ 4 = rw (length-drop 2 old, size) refl in
+    let four : length (drop 2 (drop 2 old)) ≡ 2 = rw (length-drop 2 (drop 2 old), two) refl in
+    let none : drop 2 (drop 2 (drop 2 old)) ≡ [] = drop_all 2 (drop 2 (drop 2 old)) (omega (arith, four)) in
+    ap (λ left. big_bytes 2 a ++ big_bytes 2 b ++ big_bytes 2 c ++ left) none

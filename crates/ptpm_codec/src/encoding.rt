@@ -75,7 +75,7 @@ pub(crate) fn write_header(header: &mut [u8], draft: &Draft<'_>, size: u16)
     write_at(header, 4, &[draft.domain, (draft.sdo % 256) as u8]);
     write_identity(header, 20, &draft.source);
     write_u16(header, 30, draft.number);
-    write_at(header, 32, &[0x04, 0x7f]);
+    write_u16(header, 32, 0x047f);
     write_identity(header, 34, &draft.target);
     let action = draft.body.action().code();
     write_at(header, 44, &[draft.starting_hops, draft.hops, action, 0]);
@@ -126,7 +126,7 @@ pub(crate) fn write_management_head(head: &mut [u8], id: u16, size: u16)
     ensures octets { head.new ≡ big_bytes 2 0x0001 ++ big_bytes 2 (2 + size) ++ big_bytes 2 id }
     ensures id { id < 2 ^ 16 }
 {
-    head.copy_from_slice(&[0, 1, 0, 0, 0, 0]);
+    write_u16(head, 0, 0x0001);
     write_u16(head, 2, 2 + size);
     write_u16(head, 4, id);
 }

@@ -21,8 +21,8 @@ returns-clause-octets c =
     let e2 = c.write_at-2.ensures ∙ ap (written 4 (d.domain ∷ d.sdo % 256 ∷ [])) e1 in
     let e3 = c.write_identity.ensures.octets ∙ ap (λ m. written 28 (big_bytes 2 d.source.port) (written 20 d.source.clock.0 m)) e2 in
     let e4 = c.write_u16-2.ensures.octets ∙ ap (written 30 (big_bytes 2 d.number)) e3 in
-    let e5 = c.write_at-3.ensures ∙ ap (written 32 (0x04 ∷ 0x7f ∷ [])) e4 in
+    let e5 = c.write_u16-3.ensures.octets ∙ ap (written 32 (big_bytes 2 0x047f)) e4 in
     let e6 = c.write_identity-2.ensures.octets ∙ ap (λ m. written 42 (big_bytes 2 d.target.port) (written 34 d.target.clock.0 m)) e5 in
-    c.write_at-4.ensures ∙ (λ i. written 44 (d.starting_hops ∷ d.hops ∷ action i ∷ 0 ∷ []) (e6 i))
+    c.write_at-3.ensures ∙ (λ i. written 44 (d.starting_hops ∷ d.hops ∷ action i ∷ 0 ∷ []) (e6 i))
     ∙ ap (λ (m : Message). by_place m c.args.size) c.draft.view_is
     ∙ header_written c.args.draft.now c.args.size (returns-clause-source c) (returns-clause-target c)
