@@ -310,7 +310,7 @@ impl<T: ReplyTable + Drop> Agent<T> {
     }
 }
 
-const _: () = prove!(size_of::<Agent<SlotTable<1>>>() == 2_584);
+const _: () = prove!(size_of::<Agent<SlotTable<1>>>() == 2_592);
 
 impl<const SLOTS: usize> Agent<SlotTable<SLOTS>> {
     /// A clock that has heard nothing yet and has no managers. It is never inlined: whoever keeps it has it made where it is

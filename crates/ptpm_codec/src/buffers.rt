@@ -4,7 +4,7 @@ ghost use Rattle.std.specs.Prelude.{◌≡◌, ◌≤◌, ◌+◌, ◌++◌, len
 ghost use Rattle.arrayvec.specs.ArrayVec.{array_vec_len};
 ghost use Rattle.byteorder.specs.Endian.{big_bytes};
 
-use crate::encoding::{Buffer, MESSAGE_OCTETS};
+use crate::encoding::MESSAGE_OCTETS;
 use arrayvec::ArrayVec;
 use byteorder::{BigEndian, ByteOrder};
 
@@ -142,8 +142,9 @@ fn copy_array<const N: usize>(place: &mut [u8], message: &[u8])
 
 /// Leaves so many octets in the buffer, whatever they are. Where it had as many, none is written.
 #[inline(always)]
-pub(crate) fn fit(buffer: &mut Buffer, size: usize)
-    requires { size ≤ MESSAGE_OCTETS }
+pub(crate) fn fit<const N: usize>(buffer: &mut ArrayVec<u8, N>, size: usize)
+    requires room { size ≤ N }
+    requires small { size ≤ MESSAGE_OCTETS }
     ensures { array_vec_len buffer.new ≡ size }
 {
     if buffer.len() != size {
@@ -153,8 +154,9 @@ pub(crate) fn fit(buffer: &mut Buffer, size: usize)
 
 /// The same where the size changes.
 #[inline(never)]
-fn resize(buffer: &mut Buffer, size: usize)
-    requires { size ≤ MESSAGE_OCTETS }
+fn resize<const N: usize>(buffer: &mut ArrayVec<u8, N>, size: usize)
+    requires room { size ≤ N }
+    requires small { size ≤ MESSAGE_OCTETS }
     ensures { array_vec_len buffer.new ≡ size }
 {
     buffer.truncate(size);

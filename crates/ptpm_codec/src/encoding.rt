@@ -11,7 +11,7 @@ ghost use Rattle.ptpm_codec.specs.Spelling.{Spells};
 use crate::buffers::fit;
 use crate::draft::{Draft, DraftBody};
 use crate::places::{write_at, write_identity, write_u16};
-use crate::ptp_text::{ptp_text_size, put_ptp_text};
+use crate::ptp_text::{ptp_text_size, write_ptp_text};
 use arrayvec::ArrayVec;
 
 /// How many octets a message has at most (this project's profile).
@@ -168,12 +168,9 @@ fn write_text(display_data: &mut [u8], text: &[u8])
     requires length { length display_data.old ≡ length (text_octets text.now) }
     ensures { display_data.new ≡ text_octets text.now }
 {
-    if text.is_empty() {
-        return;
+    if !text.is_empty() {
+        write_ptp_text(display_data, text);
     }
-    let mut octets = ArrayVec::<u8, 256>::new();
-    put_ptp_text(&mut octets, text);
-    display_data.copy_from_slice(octets.as_slice());
 }
 
 /// How many octets the TLV takes.

@@ -28,7 +28,7 @@ pub use identity::{ClockIdentity, PortIdentity};
 pub use message::{Action, Body, Message};
 pub use octets::Octets;
 pub use places::source_port_identity;
-pub use ptp_text::{is_ptp_text, put_ptp_text, text_of_ptp_text};
+pub use ptp_text::{is_ptp_text, overwrite_ptp_text, text_of_ptp_text};
 pub use tlv::TlvKind;
 pub use viewing::View;
 

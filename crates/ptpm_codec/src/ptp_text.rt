@@ -1,25 +1,34 @@
 //! A PTPText (5.3.9): a length octet, the text, and a pad octet where these are odd in number.
 
-ghost use Rattle.std.specs.Prelude.{◌≡◌, ◌≤◌, ◌+◌, ◌++◌, length, true};
-ghost use Rattle.arrayvec.specs.ArrayVec.{array_vec_len};
+ghost use Rattle.std.specs.Prelude.{◌≡◌, ◌≤◌, length, true};
 ghost use Rattle.ptpm_codec.specs.PtpText.{is_ptp_text, ptp_text, ptp_text_octets};
 
-use crate::buffers::put;
+use crate::buffers::fit;
 use arrayvec::ArrayVec;
 
-/// Appends a text of at most 255 octets as a PTPText, to a buffer that has room for it: one octet more than the text, rounded
-/// up to an even number. The octets of the text are not judged. Takes no memory.
-#[tactic(auto, unfolding(crate::specs::PtpText::ptp_text_octets))]
-pub fn put_ptp_text<const N: usize>(buffer: &mut ArrayVec<u8, N>, text: &[u8])
+/// Leaves a text of at most 255 octets as a PTPText in a buffer that has room for it, and nothing else: one octet more than the
+/// text, rounded up to an even number. The octets of the text are not judged. Takes no memory.
+pub fn overwrite_ptp_text<const N: usize>(buffer: &mut ArrayVec<u8, N>, text: &[u8])
     requires small { length text.now ≤ 255 }
-    requires room { array_vec_len buffer.old + length (ptp_text_octets text.now) ≤ N }
-    ensures items { buffer.new.items ≡ buffer.old.items ++ ptp_text_octets text.now }
+    requires room { length (ptp_text_octets text.now) ≤ N }
+    ensures { buffer.new.items ≡ ptp_text_octets text.now }
 {
-    put(buffer, &[text.len() as u8]);
-    put(buffer, text);
-    if text.len() % 2 == 0 {
-        put(buffer, &[0]);
-    }
+    fit(buffer, ptp_text_size(text));
+    write_ptp_text(buffer.as_mut_slice(), text);
+}
+
+/// Writes a text as a PTPText over a place of its size.
+#[tactic(auto, unfolding(crate::specs::PtpText::ptp_text_octets))]
+pub(crate) fn write_ptp_text(place: &mut [u8], text: &[u8])
+    requires small { length text.now ≤ 255 }
+    requires size { length place.old ≡ length (ptp_text_octets text.now) }
+    ensures { place.new ≡ ptp_text_octets text.now }
+{
+    let (length, rest) = place.split_at_mut(1);
+    let (octets, pad) = rest.split_at_mut(text.len());
+    length.copy_from_slice(&[text.len() as u8]);
+    octets.copy_from_slice(text);
+    pad.fill(0);
 }
 
 /// How many octets a text takes as a PTPText.

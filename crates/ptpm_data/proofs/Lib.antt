@@ -1,3 +1,4 @@
+pub mod DescriptionLaws
 pub mod NamedPorts
 pub mod Carrying
 pub mod Answering

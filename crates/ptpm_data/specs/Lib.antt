@@ -5,6 +5,7 @@ pub mod Request
 pub mod Reply
 pub mod AnswerLaws
 pub mod MemberNames
+pub mod Description
 pub mod Members
 pub mod DataField
 pub mod SetField

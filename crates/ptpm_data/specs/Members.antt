@@ -22,7 +22,7 @@ pub record DataSetsValue : Type 0 where
 abbrev pub data_sets_value : Inside → DataSetsValue
 data_sets_value d = record {
   default = d.default;
-  description = d.description.items;
+  description = d.description;
   current = d.current;
   parent = d.parent;
   time = d.time;

@@ -258,7 +258,7 @@ impl DataSets {
         let digits = [
             differ(&before.default.identity, &self.default.identity),
             differ(&before.default.domain, &self.default.domain),
-            texts_differ(before.description.as_slice(), self.description.as_slice()),
+            texts_differ(before.description.text(), self.description.text()),
             differ(&before.default.two_step, &self.default.two_step),
             differ(&own.priority1, &self.default.precedence.priority1),
             differ(&own.class, &self.default.precedence.class),

@@ -14,7 +14,7 @@ use crate::refusals::refusal;
 use crate::request::Request;
 use crate::rights::Rights;
 use crate::set_field::{first_i8, first_i16};
-use ptpm_codec::{Action, ErrorId, PortIdentity, overwrite, text_of_ptp_text};
+use ptpm_codec::{Action, ErrorId, PortIdentity, text_of_ptp_text};
 
 impl DataSets {
     ghost use Rattle.ptpm_data.specs.ManagementId.{row_value, set_of};
@@ -113,7 +113,7 @@ impl DataSets {
         requires { is_description text.now ≡ true }
         ensures { self.new ≡ record self.old { description = text.now } }
     {
-        overwrite(&mut self.description, text);
+        self.description.set(text);
     }
 
     /// In a clock that is its own grandmaster the grandmaster's member changes with its own (9.3.5, table 30).

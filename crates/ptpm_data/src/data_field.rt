@@ -15,7 +15,7 @@ use crate::management_id::{Layout, Scope, by_id};
 use crate::reply::Value;
 use arrayvec::ArrayVec;
 use byteorder::{BigEndian, ByteOrder};
-use ptpm_codec::{ClockIdentity, put, put_ptp_text, put_u16};
+use ptpm_codec::{ClockIdentity, put, put_u16};
 
 impl DataSets {
     /// Leaves in the buffer what a GET of this id is answered, and nothing else. Takes no memory.
@@ -37,7 +37,7 @@ impl DataSets {
     }
 
     /// Appends the dataField of an id of the clock.
-    #[tactic(auto, using(ptpm_codec::proofs::PtpTextLaws::ptp_text_size), unfolding(crate::specs::DataField::clock_field_of))]
+    #[tactic(auto, unfolding(crate::specs::DataField::clock_field_of))]
     pub(crate) fn put_clock_field(&self, layout: Layout, buffer: &mut Value)
         requires { buffer.old.items ≡ [] }
         ensures { buffer.new.items ≡ clock_field_of layout self.now }
@@ -46,7 +46,7 @@ impl DataSets {
             return put_octet(buffer, octet);
         }
         match layout {
-            Layout::UserDescription => put_ptp_text(buffer, self.description.as_slice()),
+            Layout::UserDescription => put(buffer, self.description.octets()),
             Layout::DefaultDataSet => put_default_data_set(
                 buffer,
                 &self.default,

@@ -1,7 +1,8 @@
 //! The data sets of a boundary clock (clause 8).
 
-ghost use Rattle.std.specs.Prelude.{◌≡◌, ◌≤◌, length};
+ghost use Rattle.std.specs.Prelude.{◌≡◌};
 
+use crate::description::Description;
 use crate::port_state::{DelayMechanism, PortState};
 use arrayvec::ArrayVec;
 use ptpm_codec::{ClockIdentity, PortIdentity};
@@ -112,8 +113,8 @@ impl Default for PortDataSet {
 #[derive(Debug, Drop)]
 pub struct DataSets {
     pub(crate) default: DefaultDataSet,
-    /// userDescription, of at most 128 octets of UTF-8.
-    pub(crate) description: ArrayVec<u8, 128>,
+    /// userDescription, of UTF-8.
+    pub(crate) description: Description,
     pub(crate) current: CurrentDataSet,
     pub(crate) parent: ParentDataSet,
     pub(crate) time: TimePropertiesDataSet,
@@ -130,16 +131,6 @@ impl Model for DataSets {
     ghost invariant = { IsConsistentInside };
 }
 
-/// A userDescription of these octets.
-pub(crate) fn description_of(text: &[u8]) -> ArrayVec<u8, 128>
-    requires { length text.now ≤ 128 }
-    ensures { result.items ≡ text.now }
-{
-    let mut description = ArrayVec::new();
-    let _ = description.try_extend_from_slice(text);
-    description
-}
-
 impl DataSets {
     ghost use Rattle.std.specs.Prelude.{◌≡◌, ◌≤◌, ◌↔◌, IsTrue, length};
     ghost use Rattle.ptpm_data.specs.Members.{HasPort, has_port, may_forward};
@@ -152,7 +143,7 @@ impl DataSets {
         let _ = ports.try_extend_from_slice(self.ports.as_slice());
         DataSets {
             default: self.default,
-            description: description_of(self.description.as_slice()),
+            description: Description::of(self.description.text()),
             current: self.current,
             parent: self.parent,
             time: self.time,

@@ -9,6 +9,7 @@ mod changes;
 mod data_field;
 mod data_sets;
 mod deciding;
+mod description;
 mod laws;
 mod management_id;
 mod members;

@@ -111,15 +111,21 @@ impl DataSets {
 
     /// Puts the dataField of an id of the clock. It is never inlined: the room of a dataField is in its frame.
     #[inline(never)]
+    #[tactic(auto, unfolding(crate::specs::DataField::clock_field_of))]
     fn put_larger_value<A: Answers>(&self, layout: Layout, answers: &mut A)
         requires { A.count answers.old < A.most }
         ensures { A.taken answers.old
             (record { port = None; outcome = Value (clock_field_of layout self.now) } ∷ [])
             answers.new }
     {
-        let mut value = Value::new();
-        self.put_clock_field(layout, &mut value);
-        answers.take_value(None, value.as_slice());
+        match layout {
+            Layout::UserDescription => answers.take_value(None, self.description.octets()),
+            _ => {
+                let mut value = Value::new();
+                self.put_clock_field(layout, &mut value);
+                answers.take_value(None, value.as_slice());
+            }
+        }
     }
 
     /// Puts the dataField of an id of a port.

@@ -5,8 +5,9 @@ ghost use Rattle.ptpm_data.specs.Start.{port_data_set, ports_fault, count_fault,
 
 use crate::data_sets::{
     ClockPrecedence, CurrentDataSet, DataSets, DefaultDataSet, ParentDataSet, PortDataSet,
-    TimePropertiesDataSet, description_of,
+    TimePropertiesDataSet,
 };
+use crate::description::Description;
 use crate::management_id::{Layout, set_of};
 use crate::members::Member;
 use crate::port_state::{DelayMechanism, PortState};
@@ -349,7 +350,7 @@ impl DataSets {
         judge_grandmaster(&default, &parent)?;
         Ok(DataSets {
             default,
-            description: description_of(clock.user_description.as_slice()),
+            description: Description::of(clock.user_description.as_slice()),
             current: clock.current_data_set(),
             parent,
             time: clock.time_data_set(),

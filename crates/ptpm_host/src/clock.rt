@@ -32,7 +32,7 @@ pub struct HostedClock {
     agent: Agent<BoundTable>,
 }
 
-const _: () = prove!(size_of::<HostedClock>() == 34_624);
+const _: () = prove!(size_of::<HostedClock>() == 34_632);
 
 /// What became of a datagram.
 #[derive(Clone, Copy, Debug)]

@@ -6,7 +6,7 @@ use Rattle.ptpm_data.proofs.data_sets.DataSets.clock_changed_since.Goals as goal
 
 pub returns : goal.returns
 returns c = at_values clock_changed _ _ _ _ _ c.before-2.view_is c.self.view_is (ap (λ n. let m : ClockMembers = record { 0 = n } in m) (c.number_of.ensures.exact ∙ ap number_of
-    (digit c.differ.ensures (digit (naturals _ _ _ c.differ-2.ensures) (digit (texts _ _ _ _ _ c.as_slice.ensures.value c.as_slice-2.ensures.value c.texts_differ.ensures) (digit (flags _ _ _ c.differ-3.ensures)
+    (digit c.differ.ensures (digit (naturals _ _ _ c.differ-2.ensures) (digit (texts _ _ _ _ _ c.text.ensures.value c.text-2.ensures.value c.texts_differ.ensures) (digit (flags _ _ _ c.differ-3.ensures)
     (digit (naturals _ _ _ c.differ-4.ensures) (digit (naturals _ _ _ c.differ-5.ensures)
     (digit (naturals _ _ _ c.differ-6.ensures) (digit (naturals _ _ _ c.differ-7.ensures)
     (digit (naturals _ _ _ c.differ-8.ensures) (digit (naturals _ _ _ c.differ-9.ensures)

@@ -8,8 +8,8 @@ pub port_data_sets-requires : goal.port_data_sets-requires
 port_data_sets-requires c =
     (count_sound _ (unless_ok _ _ _ (sym c.count_ports.ensures ∙ c.in_ok-count_ports.was)).0).1
 
-pub description_of-requires : goal.description_of-requires
-description_of-requires c =
+pub of-requires : goal.of-requires
+of-requires c =
     let text = description_sound _ (unless_ok _ _ _ (sym c.judge.ensures ∙ c.in_ok-judge.was)).0 in
     rw c.as_slice.ensures.value (description_small _ text)
 
@@ -22,6 +22,6 @@ invariant_of-result c =
     record {
       some_port = rw made count.0;
       at_most_eight = rw made count.1;
-      description = ap is_description (c.description_of.ensures ∙ c.as_slice.ensures.value) ∙ text;
+      description = ap is_description (c.of.ensures ∙ c.as_slice.ensures.value) ∙ text;
       grandmaster = grandmaster;
     }
