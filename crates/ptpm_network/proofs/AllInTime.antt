@@ -1,5 +1,5 @@
 -- Where no delivery of a list of events is late, it is late for no session.
-use Rattle.ptpm_network.proofs.Common.{◌≡◌, ℕ, List, [], ◌∷◌, Option, Some, None, Result, Ok, Err, false, refl, sym, ◌∙◌, ap, subst, and_right, is_none, if◌then◌else◌, option_map, AllByRecursion, PortIdentity, SessionValue, IsOfOrigin, IsReached, AreInTime, happens, is_late_delivery, is_late_frame, step, step_by, taken, IsNetwork, Network, Frame, Held, held, Happened, network_event, RunningNetwork, initial_network, Refusal, refusal, Event, Begin, Send, Resume, Retune, Deliver, Stranger, IsInRange, frame_at, AreFirsts, Stands, NetworkState, Origin, RequestOf, ReplyTo, Neither, initial_state, is_late, is_late_at}
+use Rattle.ptpm_network.proofs.Common.{arith, ◌≡◌, ℕ, List, [], ◌∷◌, Option, Some, None, Result, Ok, Err, false, refl, ◌∙◌, ap, and_right, is_none, if◌then◌else◌, option_map, AllByRecursion, PortIdentity, SessionValue, IsOfOrigin, IsReached, AreInTime, happens, is_late_delivery, is_late_frame, step, taken, IsNetwork, Network, Frame, held, Happened, network_event, RunningNetwork, initial_network, Refusal, refusal, Event, IsInRange, frame_at, AreFirsts, Stands, NetworkState, Origin, RequestOf, ReplyTo, Neither, initial_state, is_late, is_late_at}
 use Rattle.ptpm_network.specs.ByManager.{StaysInTime, in_time_while, is_behind, is_for, is_late_for, is_late_frame_for}
 use Rattle.ptpm_network.proofs.Held.{frame_at-map}
 use Rattle.ptpm_network.proofs.Promise.{first_of_sessions, firsts}
@@ -19,16 +19,6 @@ module _ (N : Network) (n : IsNetwork N) (first : PortIdentity → ℕ) (r : Run
   frame-for k (Some f) e late =
       and_right (is_for N s f.end f.origin) (is_behind r f.origin) (not_behind f.octets f.origin (frame_at-is N w k f known e).origin late)
 
-  late-for : (e : Event) → is_late_delivery w e ≡ false → is_late_for N s r e ≡ false
-  late-for (Begin t a) late = refl
-  late-for (Send t) late = refl
-  late-for (Resume t attempts) late = refl
-  late-for (Retune t domain) late = refl
-  late-for (Deliver k) late =
-      let same : frame_at r.frames k ≡ option_map held (frame_at w.frames k) = ap (λ (hs : List Held). frame_at hs k) at.frames ∙ frame_at-map w.frames k in
-      subst (λ (o : Option Held). is_late_frame_for N s r o ≡ false) (sym same) (frame-for k (frame_at w.frames k) refl late)
-  late-for (Stranger c port datagram) late = refl
-
   while-in_time : (e : Event) (es : List Event) (x : Result Happened Refusal) (o : Option Refusal)
       → Follows x o (λ y. is_late_delivery w e ≡ false → Stands N first y (happens N w e))
       → refusal N w e ≡ o
@@ -37,10 +27,7 @@ module _ (N : Network) (n : IsNetwork N) (first : PortIdentity → ℕ) (r : Run
       → in_time_while x (is_late_for N s r e) (λ next. StaysInTime N s next es)
   while-in_time e es (Err reason) o f is time behind = tt
   while-in_time e es (Ok h) (Some reason) f is time behind = let never : None ≡ Some reason = f.reason in absurd (cc)
-  while-in_time e es (Ok h) None f none time behind = (
-    late-for e (time.0 none),
-    behind h.network (subst (Stands N first h.network) (sym (ap (λ (o : Option Refusal). step_by o N w e) none)) (f.next h refl (time.0 none))) time.1,
-  )
+  while-in_time e es (Ok h) None f none time behind = grind (arith, frame_at-map, frame-for)
 
 all-in_time : (N : Network) (first : PortIdentity → ℕ) (r : RunningNetwork) (w : NetworkState) (s : ℕ) (es : List Event)
     → AreFirsts N first → IsNetwork N → IsReached N w → Stands N first r w

@@ -1,28 +1,14 @@
 -- The request of a session is answered along a way, whatever else happens meanwhile, and so also where nothing does.
-use Rattle.ptpm_network.proofs.Common.{arith, ◌≡◌, ℕ, ◌<◌, ◌≤◌, ◌+◌, ◌*◌, List, [], ◌∷◌, ◌++◌, false, refl, sym, ◌∙◌, ap, subst, length, append-nil, cond-true, eqb-false, is_none, AllByRecursion, Deliver, Event, IsInRange, Send, frames_limit, HasReported, IsReached, AreInTime, is_late_frame, run, step, taken, AtPort, AtSession, End, IsNetwork, Network, NetworkState, initial_state, is_idle, ComeIn, ComesIn, Hop, IsAnswerable, IsWay, LinksHaveAtMost, ends_of, handed_in, made_each_way, passed_at_most, visited, le_trans}
+use Rattle.ptpm_network.proofs.Common.{arith, ◌≡◌, ℕ, ◌<◌, ◌≤◌, ◌+◌, ◌*◌, List, [], ◌∷◌, ◌++◌, false, refl, ◌∙◌, ap, subst, length, append-nil, cond-true, eqb-false, is_none, AllByRecursion, Deliver, Event, IsInRange, Send, frames_limit, HasReported, AreInTime, is_late_frame, run, step, taken, End, IsNetwork, Network, NetworkState, initial_state, is_idle, ComeIn, ComesIn, Hop, IsAnswerable, IsWay, LinksHaveAtMost, ends_of, handed_in, made_each_way, passed_at_most}
 use Rattle.std.proofs.Math.Nat.{ne_of_gt}
 use Rattle.ptpm_network.specs.Meanwhile.{ComeInMeanwhile, IsAnswerableMeanwhile, LeavesWay}
-use Rattle.ptpm_network.proofs.Meanwhile.{sent-goes, some_room}
+use Rattle.ptpm_network.proofs.Meanwhile.{sent-goes}
 use Rattle.ptpm_network.proofs.Schedule.{reached}
 use Rattle.ptpm_network.proofs.Sending.{send-frames, send-taken}
 use Rattle.ptpm_network.proofs.Taking.{run-append}
 use Rattle.ptpm_network.proofs.Worth.{unanswered-some}
 
 -- ---- whatever else happens
-
-fewer : (reports begun : ℕ) → reports ≤ begun → (reports ≡ begun → ⊥) → reports < begun
-fewer reports begun a ne = omega arith
-
-module _ (N : Network) (w : NetworkState) (s : ℕ) (hops : List Hop) (port ends : ℕ) where
-  answerable-at : IsNetwork N → IsReached N w → s < N.sessions → LinksHaveAtMost N ends
-      → is_idle (w.session s) ≡ false → 0 < (w.session s).attempts_left → IsWay N w s hops port
-      → length w.frames + made_each_way ends hops ≤ frames_limit
-      → IsAnswerableMeanwhile N w s hops port ends
-  answerable-at n r place all busy attempts way room =
-      let at = r.sessions s place in
-      let waits = unanswered-some (w.session s) (fewer (length (w.session s).reports) (length (w.session s).begun) (le_trans at.accepted_before at.begun_before) (eqb-false _ _ busy)) in
-      let goes = send-taken N w s waits.0 place (some_room (length w.frames) (made_each_way ends hops) frames_limit room) waits.1 (ne_of_gt attempts) in
-      record { sent = goes; come_in = sent-goes N w s hops port ends n r place all busy (send-frames N w s waits.0 n r place waits.1) goes way room }
 
 pub answerable-meanwhile : (N : Network) (es : List Event) (s : ℕ) (hops : List Hop) (port ends : ℕ)
     → IsNetwork N → AllByRecursion IsInRange es → s < N.sessions
@@ -31,8 +17,7 @@ pub answerable-meanwhile : (N : Network) (es : List Event) (s : ℕ) (hops : Lis
     → IsWay N (run N (initial_state N) es) s hops port → LinksHaveAtMost N ends
     → length (run N (initial_state N) es).frames + made_each_way ends hops ≤ frames_limit
     → IsAnswerableMeanwhile N (run N (initial_state N) es) s hops port ends
-answerable-meanwhile N es s hops port ends n range place busy attempts way all room =
-    answerable-at N (run N (initial_state N) es) s hops port ends n (reached N es n range) place all busy attempts way room
+answerable-meanwhile N es s hops port ends n range place busy attempts way all room = grind (arith, reached, unanswered-some, eqb-false, send-taken, ne_of_gt, sent-goes, send-frames)
 
 -- ---- where nothing else does
 
@@ -54,8 +39,7 @@ quiet N w s hops port ends past [] reported = record { deliveries = []; along = 
 quiet N w s hops port ends past (e ∷ es) goes =
     let v : NetworkState = run N w past in
     let made = passed_at_most ends * length es in
-    let none : LeavesWay N v (run N w (past ++ [])) s hops port made =
-    subst (λ (ps : List Event). LeavesWay N v (run N w ps) s hops port made) (sym (append-nil past)) (leaves-nothing N v s hops port made) in
+    let none : LeavesWay N v (run N w (past ++ [])) s hops port made = grind (arith, append-nil, leaves-nothing) in
     let next = subst (λ (ps : List Event). (number : ℕ) × ComesIn N (run N w ps) number e × ComeInMeanwhile N w s hops port ends (ps ++ Deliver number ∷ []) es) (append-nil past) (goes [] tt none) in
     let rest : Quiet N w (step N v (Deliver next.0)) s es =
     subst (λ (u : NetworkState). Quiet N w u s es) (run-append N w past (Deliver next.0 ∷ [])) (quiet N w s hops port ends (past ++ Deliver next.0 ∷ []) es next.2) in
@@ -69,9 +53,7 @@ quiet N w s hops port ends past (e ∷ es) goes =
 pub answerable-alone : (N : Network) (w : NetworkState) (s : ℕ) (hops : List Hop) (port ends : ℕ)
     → IsAnswerableMeanwhile N w s hops port ends
     → IsAnswerable N w s hops port
-answerable-alone N w s hops port ends a =
-    let q = quiet N w s hops port ends (Send s ∷ []) (visited hops (AtPort (N.session s).target port) ++ AtSession s ∷ []) a.come_in in
-    record { sent = a.sent; deliveries = q.deliveries; along = q.along; come_in = q.come_in; reported = q.reported }
+answerable-alone N w s hops port ends a = grind (arith, quiet)
 
 pub answerable : (N : Network) (es : List Event) (s : ℕ) (hops : List Hop) (port ends : ℕ)
     → IsNetwork N → AllByRecursion IsInRange es → s < N.sessions
@@ -110,8 +92,4 @@ pub answer-runs : (N : Network) (w : NetworkState) (s : ℕ) (hops : List Hop) (
     → AllByRecursion IsInRange (answering s a.deliveries)
     × (taken N w (answering s a.deliveries) ≡ answering s a.deliveries) × AreInTime N w
     (answering s a.deliveries)
-answer-runs N w s hops port a = (
-  (tt, handed_in-in_range a.deliveries),
-  cond-true _ _ _ (ap is_none a.sent) ∙ ap (λ rest. Send s ∷ rest) (come_in-taken N (step N w (Send s)) a.deliveries a.come_in),
-  (λ none. refl, come_in-in_time N (step N w (Send s)) a.deliveries a.come_in),
-)
+answer-runs N w s hops port a = grind (arith, handed_in-in_range, cond-true, is_none, come_in-taken, come_in-in_time)

@@ -1,5 +1,5 @@
 -- The frames that a clock makes of one that comes in keep the invariant.
-use Rattle.ptpm_network.proofs.Common.{by_test, arith, ◌≡◌, ℕ, ◌<◌, ◌≤◌, ◌^◌, ◌==◌, List, [], ◌∷◌, Option, Some, None, true, false, refl, sym, ◌∙◌, ap, subst, and_from, cond-true, cond-false, eq-eqb, same_Some, map, AllByRecursion, ClockIdentity, PortIdentity, Message, canonical, Fits, action_of, is_reply, heard_of, RequestValue, Answers, HasOneAnswer, IsMessage, number_of, all_weaker, Answer, ReplyValue, Heard, same_request, hops_passed, rendered, reply_message, due_messages, Accepted, History, RequestCopy, accepted_from, after_arrival, after_copy, copy_of, due_reply, greatest, joins, kept_for, kept_reply, Clock, same_identity-refl, IsSendable, IsFrame, IsOfOrigin, IsReached, arrives, delivery, reply_frames, reply_origin, AtPort, HasEnd, IsNetwork, Network, manager, peers, ports, Frame, NetworkState, Origin, ReplyTo, accepted_at_target, history, all_flat, all_made}
+use Rattle.ptpm_network.proofs.Common.{arith, ◌≡◌, ℕ, ◌<◌, ◌≤◌, ◌^◌, List, [], ◌∷◌, Option, Some, None, true, refl, sym, ap, subst, and_from, cond-true, cond-false, eq-eqb, map, AllByRecursion, ClockIdentity, Message, canonical, Fits, action_of, is_reply, heard_of, RequestValue, Answers, HasOneAnswer, IsMessage, number_of, all_weaker, Answer, ReplyValue, Heard, hops_passed, rendered, reply_message, due_messages, Accepted, History, RequestCopy, accepted_from, after_copy, copy_of, due_reply, joins, kept_reply, Clock, same_identity-refl, IsSendable, IsFrame, IsOfOrigin, IsReached, arrives, delivery, reply_frames, reply_origin, AtPort, HasEnd, IsNetwork, Network, manager, ports, Frame, NetworkState, Origin, ReplyTo, accepted_at_target, history, all_flat, all_made}
 use Rattle.ptpm_network.specs.Invariant.{IsReplyFrame}
 use Rattle.ptpm_network.proofs.Arriving.{IsCopyOf, history-here}
 use Rattle.ptpm_network.proofs.Frames.{SaysKept, says_kept}
@@ -13,14 +13,6 @@ pub record IsDue (c : Clock) (h : History) (copy : RequestCopy) (r : ReplyValue)
   pub kept : kept_reply copy.heard.source copy.index (after_copy c h copy).accepted ≡ Some entry
   pub reply : entry.reply ≡ r
 
-kept_for-some : (copy : RequestCopy) (o : Option Accepted) (r : ReplyValue)
-    → kept_for copy o ≡ Some r
-    → (e : Accepted) × (o ≡ Some e) × (e.reply ≡ r)
-kept_for-some copy None r e = absurd (cc)
-kept_for-some copy (Some a) r e = by_test (same_request a.request copy.request)
-    (λ y. (a, refl, same_Some a.reply r (sym (cond-true _ _ _ y) ∙ e)))
-    (λ n. let none : None ≡ Some r = sym (cond-false _ _ _ n) ∙ e in absurd (cc))
-
 kept-accepted : (c : Clock) (h : History) (copy : RequestCopy)
     → kept_reply copy.heard.source copy.index (accepted_from c h copy ∷ h.accepted)
     ≡ Some (accepted_from c h copy)
@@ -30,20 +22,12 @@ module _ (c : Clock) (h : History) (copy : RequestCopy) (r : ReplyValue) where
   due-joins : joins h copy ≡ true → due_reply c h copy ≡ Some r → IsDue c h copy r
   due-joins y e = record {
     entry = accepted_from c h copy;
-    kept = ap (λ (g : History). kept_reply copy.heard.source copy.index g.accepted) (cond-true _ _ _ y) ∙ kept-accepted c h copy;
-    reply = same_Some (accepted_from c h copy).reply r (sym (cond-true _ _ _ y) ∙ e);
+    kept = grind (arith, cond-true, kept-accepted);
+    reply = grind (arith, cond-true);
   }
 
-  due-repeats : joins h copy ≡ false → due_reply c h copy ≡ Some r → IsDue c h copy r
-  due-repeats j e = by_test (greatest copy.heard.source h.accepted == copy.index)
-      (λ y. let p = kept_for-some copy (kept_reply copy.heard.source copy.index h.accepted) r (sym (cond-true _ _ _ y) ∙ (sym (cond-false _ _ _ j) ∙ e)) in
-      record { entry = p.0; kept = ap (λ (g : History). kept_reply copy.heard.source copy.index g.accepted) (cond-false _ _ _ j) ∙ p.1; reply = p.2 })
-      (λ n. let none : None ≡ Some r = sym (cond-false _ _ _ n) ∙ (sym (cond-false _ _ _ j) ∙ e) in absurd (cc))
-
   pub is_due : due_reply c h copy ≡ Some r → IsDue c h copy r
-  is_due e = by_test (joins h copy)
-      (λ y. due-joins y e)
-      (λ n. due-repeats n e)
+  is_due e = grind (arith, due-joins, cond-true, cond-false)
 
 -- ---- frames of new messages
 
@@ -52,7 +36,7 @@ pub reply_frames-are : (N : Network) (w : NetworkState) (c : ℕ) (o : Origin)
     → IsNetwork N → AllByRecursion (λ m. IsOfOrigin N w m.1 o) sent
     → AllByRecursion (IsFrame N w) (reply_frames N c o sent)
 reply_frames-are N w c o sent n a =
-    all_flat (λ m. IsOfOrigin N w m.1 o) (IsFrame N w) _ (λ m p. new_frames-are N w (peers N.links (AtPort c m.0)) m.1 o (has_peers N (AtPort c m.0) n) p) sent a
+    all_flat (λ m. IsOfOrigin N w m.1 o) (IsFrame N w) _ (λ m p. grind (arith, new_frames-are, has_peers)) sent a
 
 pub rendered-one : (me : ClockIdentity) (heard : Heard) (r : ReplyValue) (ingress : ℕ) (a : Answer)
     → r.answers ≡ a ∷ []
@@ -114,15 +98,10 @@ pub keeps_due : (N : Network) (w : NetworkState) (c port : ℕ) (f : Frame) (cop
 keeps_due N w c port f copy r reached of e d =
     let u = arrives w c (delivery port f) in
     let due = is_due (N.clock c) (history N w c) copy r d in
-    let here : history N u c ≡ after_copy (N.clock c) (history N w c) copy =
-    history-here N w c (delivery port f) ∙ ap (after_arrival (N.clock c) (history N w c)) e in
-    let kept_here : kept_reply copy.heard.source copy.index (history N u c).accepted ≡ Some due.entry =
-    ap (λ (h : History). kept_reply copy.heard.source copy.index h.accepted) here ∙ due.kept in
-    let kept_m : kept_reply (manager N of.session) of.k (history N u c).accepted ≡ Some due.entry =
-    subst (λ k. kept_reply (manager N of.session) k (history N u c).accepted ≡ Some due.entry) of.index
-    (subst (λ (m : PortIdentity). kept_reply m copy.index (history N u c).accepted ≡ Some due.entry) of.source kept_here) in
-    let kept : kept_reply (manager N of.session) of.k (accepted_at_target N u of.session) ≡ Some due.entry =
-    subst (λ j. kept_reply (manager N of.session) of.k (history N u j).accepted ≡ Some due.entry) (sym of.target) kept_m in
+    let here : history N u c ≡ after_copy (N.clock c) (history N w c) copy = grind (arith, history-here) in
+    let kept_here : kept_reply copy.heard.source copy.index (history N u c).accepted ≡ Some due.entry = grind (arith) in
+    let kept_m : kept_reply (manager N of.session) of.k (history N u c).accepted ≡ Some due.entry = grind (arith) in
+    let kept : kept_reply (manager N of.session) of.k (accepted_at_target N u of.session) ≡ Some due.entry = grind (arith) in
     record {
       entry = due.entry;
       kept = kept;
@@ -152,7 +131,7 @@ kept-frame N s k port accepted me heard entry target positive kept one source nu
         ingress = port;
         port = in';
         hops = hops_passed heard;
-        is = ap (λ (x : ClockIdentity). canonical (reply_message x heard r.action r.id port a)) target;
+        is = grind (arith);
       },
       tt,
     )
@@ -169,13 +148,9 @@ due-origin : (N : Network) (w : NetworkState) (c port : ℕ) (f : Frame) (copy :
 due-origin N w c port f copy r n reached end of e d =
     let accepted = accepted_at_target N (arrives w c (delivery port f)) of.session in
     let keeps = keeps_due N w c port f copy r reached of e d in
-    let target : (N.clock c).identity ≡ (N.session of.session).setup.target =
-    sym ((n.are_sessions of.session of.says.place).target ∙ ap (λ j. (N.clock j).identity) of.target) in
-    let in' : copy.ingress < 2 ^ 16 = subst (λ p. p < 2 ^ 16) (sym of.ingress) (small port (ports N c) end.2 (n.are_clocks c end.0).at_most_eight) in
-    let P : ℕ × List ℕ → Type 0 = λ m. IsReplyFrame (N.session of.session).setup accepted of.k m.1 in
-    all_weaker P _ (λ m x. (of.says.place, x)) (rendered (N.clock c).identity copy.heard r copy.ingress)
-    (subst (λ (z : ReplyValue). AllByRecursion P (rendered (N.clock c).identity copy.heard z copy.ingress)) keeps.reply
-    (kept-frame N of.session of.k copy.ingress accepted (N.clock c).identity copy.heard keeps.entry target of.says.positive keeps.kept keeps.says.one of.source of.number in'))
+    let target : (N.clock c).identity ≡ (N.session of.session).setup.target = grind (arith) in
+    let in' : copy.ingress < 2 ^ 16 = grind (arith, small) in
+    let P : ℕ × List ℕ → Type 0 = λ m. IsReplyFrame (N.session of.session).setup accepted of.k m.1 in grind (arith, all_weaker, kept-frame)
 
 pub due-frames : (N : Network) (w : NetworkState) (c port : ℕ) (f : Frame) (copy : RequestCopy)
     (o : Option ReplyValue)

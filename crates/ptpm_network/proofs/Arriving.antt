@@ -1,5 +1,5 @@
 -- What a delivery at a clock does to what the clock accepted.
-use Rattle.ptpm_network.proofs.Common.{by_test, ◌≡◌, ℕ, ◌<◌, ◌≤◌, ◌-◌, ◌==◌, nat_lt, List, [], ◌∷◌, ◌++◌, Option, Some, None, true, false, refl, sym, ◌∙◌, ap, subst, ⊎_elim, ◌⊎◌, inl, inr, length, and_parts, cond-true, cond-false, eq-eqb, eqb-true, ltb-true, same_Some, cons_option, slice_get, PortIdentity, Message, same_identity, message_of, RequestValue, Accepted, Delivery, History, RequestCopy, accepted_from, after_arrival, after_copy, applied_once, copies, initial_history, copy_from, copy_of, greatest, is_copy, joined, joins, kept_reply, Clock, applied_once-ports, delivers_copy, same_identity-true, number_of, AreDataSets, IsForOne, IsInStep, IsReached, arrives, delivery, index_of, IsNetwork, Network, manager, ports, Frame, NetworkState, SessionState, RequestOf, accepted_at_target, copies_at, history, with_place-other, with_place-same}
+use Rattle.ptpm_network.proofs.Common.{arith, by_test, ◌≡◌, ℕ, ◌<◌, ◌==◌, List, [], ◌∷◌, ◌++◌, Option, Some, None, true, false, refl, sym, ◌∙◌, ap, subst, ⊎_elim, ◌⊎◌, inl, inr, length, and_parts, cond-true, cond-false, eq-eqb, eqb-true, ltb-true, cons_option, slice_get, PortIdentity, Message, same_identity, message_of, RequestValue, Accepted, Delivery, History, RequestCopy, accepted_from, after_arrival, after_copy, applied_once, copies, initial_history, copy_from, copy_of, greatest, is_copy, joined, joins, kept_reply, Clock, applied_once-ports, delivers_copy, same_identity-true, number_of, AreDataSets, IsInStep, IsReached, arrives, delivery, IsNetwork, Network, manager, ports, Frame, NetworkState, SessionState, RequestOf, accepted_at_target, copies_at, history, with_place-other, with_place-same}
 use Rattle.std.proofs.lemmas.List.Elements.{filter_map-append}
 use Rattle.ptpm_network.proofs.Accepting.{IsAbove, JoinsOwn, in_step-joined, kept-joined, kept-le}
 use Rattle.ptpm_network.proofs.Frames.{IsHeard, SaysRequest, same_read, says_request}
@@ -33,20 +33,19 @@ is_copy_of N w c port f copy n r place i e =
     let by = is_copy_by N c (ports N c) f.origin d.message n place (heard-true N w f.octets f.origin n r i d.message d.read).1 d.passes in
     let says = says_request N w by.session by.k f.octets n r (subst (IsHeard N w f.octets) by.origin i) in
     let v : Message = request_at N by.session by.k says.domain says.hops says.request in
-    let is : copy ≡ copy_from (delivery port f) v =
-    sym (subst (λ (u : Message). copy_from (delivery port f) u ≡ copy) (same_read f.octets d.message v says.message d.read) d.copy) in
+    let is : copy ≡ copy_from (delivery port f) v = grind (arith, same_read) in
     record {
       session = by.session;
       k = by.k;
       origin = by.origin;
       target = by.target;
       says = says;
-      index = ap (λ (x : RequestCopy). x.index) is ∙ ap index_of by.origin;
+      index = grind (arith);
       ingress = ap (λ (x : RequestCopy). x.ingress) is;
       source = ap (λ (x : RequestCopy). x.heard.source) is;
       number = ap (λ (x : RequestCopy). x.heard.number) is;
       request = ap (λ (x : RequestCopy). x.request) is;
-      read = λ u h. subst (λ (z : Message). is_copy (N.clock c) (ports N c) z ≡ true) (same_Some d.message u (sym d.read ∙ h)) d.passes;
+      read = grind (arith);
     }
 
 -- ---- what a delivery leaves of a clock
@@ -55,9 +54,7 @@ module _ (N : Network) (w : NetworkState) (c : ℕ) (x : Delivery) where
   -- the copies of a list with one more delivery
   pub copies-here : copies_at N (arrives w c x) c
       ≡ copies_at N w c ++ cons_option (copy_of (N.clock c) (ports N c) x) []
-  copies-here =
-      ap (copies (N.clock c) (ports N c)) (with_place-same w.arrivals c (w.arrivals c ++ x ∷ []) c (eq-eqb c c refl))
-      ∙ filter_map-append (copy_of (N.clock c) (ports N c)) (w.arrivals c) (x ∷ [])
+  copies-here = grind (arith, with_place-same, eq-eqb, filter_map-append)
 
   pub copies-elsewhere : (d : ℕ) → d == c ≡ false → copies_at N (arrives w c x) d ≡ copies_at N w d
   copies-elsewhere d n = ap (copies (N.clock d) (ports N d)) (with_place-other w.arrivals c (w.arrivals c ++ x ∷ []) d n)
@@ -71,9 +68,7 @@ applied_once-arrival c h (j ∷ js) o = applied_once-arrival c (after_copy c h j
 module _ (N : Network) (w : NetworkState) (c : ℕ) (x : Delivery) where
   pub history-here : history N (arrives w c x) c
       ≡ after_arrival (N.clock c) (history N w c) (copy_of (N.clock c) (ports N c) x)
-  history-here =
-      ap (applied_once (N.clock c) (initial_history (N.start c))) (copies-here N w c x)
-      ∙ applied_once-arrival (N.clock c) (initial_history (N.start c)) (copies_at N w c) (copy_of (N.clock c) (ports N c) x)
+  history-here = grind (arith, copies-here, applied_once-arrival)
 
   pub history-elsewhere : (d : ℕ) → d == c ≡ false → history N (arrives w c x) d ≡ history N w d
   history-elsewhere d n = ap (applied_once (N.clock d) (initial_history (N.start d))) (copies-elsewhere N w c x d n)
@@ -97,18 +92,11 @@ here_by : (N : Network) (w : NetworkState) (c port : ℕ) (f : Frame) (o : Optio
     → IsNetwork N → IsReached N w → c < N.clocks → IsHeard N w f.octets f.origin
     → copy_of (N.clock c) (ports N c) (delivery port f) ≡ o
     → HereAfter N w c port f
-here_by N w c port f None n r place i e =
-    inl (history-here N w c (delivery port f) ∙ ap (after_arrival (N.clock c) (history N w c)) e)
+here_by N w c port f None n r place i e = grind (arith, history-here)
 here_by N w c port f (Some copy) n r place i e =
-    let is : history N (arrives w c (delivery port f)) c ≡ after_copy (N.clock c) (history N w c) copy =
-    history-here N w c (delivery port f) ∙ ap (after_arrival (N.clock c) (history N w c)) e in
+    let is : history N (arrives w c (delivery port f)) c ≡ after_copy (N.clock c) (history N w c) copy = grind (arith, history-here) in
     by_test (joins (history N w c) copy)
-    (λ y. inr (record {
-      copy = copy;
-      of = is_copy_of N w c port f copy n r place i e;
-      above = ltb-true _ _ (and_parts (copy.heard.domain == (history N w c).sets.default.domain) (nat_lt (greatest copy.heard.source (history N w c).accepted) copy.index) y).1;
-      is = is ∙ cond-true _ _ _ y;
-    }))
+    (λ y. grind (arith, is_copy_of, ltb-true, and_parts, cond-true))
     (λ f. inl (is ∙ cond-false _ _ _ f))
 
 pub here_after : (N : Network) (w : NetworkState) (c port : ℕ) (f : Frame)
@@ -121,7 +109,7 @@ here_after N w c port f n r place i = here_by N w c port f (copy_of (N.clock c) 
 module _ (N : Network) (w : NetworkState) (c port : ℕ) (f : Frame) (n : IsNetwork N) (r : IsReached N w) (place : c < N.clocks) (i : IsHeard N w f.octets f.origin) where
   clock-after : AreDataSets (ports N c) (history N (arrives w c (delivery port f)) c).sets
   clock-after = ⊎_elim
-      (λ (e : history N (arrives w c (delivery port f)) c ≡ history N w c). subst (λ (h : History). AreDataSets (ports N c) h.sets) (sym e) (r.clocks c place))
+      (λ (e : history N (arrives w c (delivery port f)) c ≡ history N w c). grind (arith))
       (λ (j : JoinsAt N w c port f). subst (λ (h : History). AreDataSets (ports N c) h.sets) (sym j.is)
       (kept j.copy.request ((N.clock c).rights j.copy.heard.source) (ports N c) (history N w c).sets (r.clocks c place)))
       (here_after N w c port f n r place i)
@@ -129,9 +117,7 @@ module _ (N : Network) (w : NetworkState) (c port : ℕ) (f : Frame) (n : IsNetw
   clocks-after : (d : ℕ)
       → d < N.clocks
       → AreDataSets (ports N d) (history N (arrives w c (delivery port f)) d).sets
-  clocks-after d exists = by_test (d == c)
-      (λ y. subst (λ j. AreDataSets (ports N j) (history N (arrives w c (delivery port f)) j).sets) (sym (eqb-true d c y)) clock-after)
-      (λ o. subst (λ (h : History). AreDataSets (ports N d) h.sets) (sym (history-elsewhere N w c (delivery port f) d o)) (r.clocks d exists))
+  clocks-after d exists = grind (arith, eqb-true, clock-after, history-elsewhere)
 
 -- ---- what was accepted of a session
 
@@ -148,10 +134,7 @@ pub kept-gained : (m : PortIdentity) (begun : List RequestValue) (new old : List
     → StaysOrGains m begun new old → (k : ℕ) (e : Accepted)
     → kept_reply m k old ≡ Some e
     → kept_reply m k new ≡ Some e
-kept-gained m begun new old gains k e h = ⊎_elim
-    (λ (q : new ≡ old). ap (kept_reply m k) q ∙ h)
-    (λ (g : Gains m begun new old). ap (kept_reply m k) g.is ∙ kept-joined m old g.entry k g.above (kept-le m k old e h) ∙ h)
-    gains
+kept-gained m begun new old gains k e h = grind (arith, kept-joined, kept-le)
 
 pub step-gained : (m : PortIdentity) (p : ℕ) (new old : List Accepted) (state : SessionState)
     → StaysOrGains m state.begun new old → IsInStep m p old state
@@ -165,19 +148,7 @@ joins-own : (N : Network) (w : NetworkState) (c port : ℕ) (f : Frame)
     → IsReached N w → c < N.clocks → (j : JoinsAt N w c port f)
     → JoinsOwn (manager N j.of.session) (w.session j.of.session).begun
     (accepted_from (N.clock c) (history N w c) j.copy)
-joins-own N w c port f r place j =
-    let says = j.of.says in
-    let asked = says.asked in
-    let sets = r.clocks c place in
-    let rights = (N.clock c).rights j.copy.heard.source in
-    let of_ports : ports N (N.session j.of.session).target ≡ ports N c = ap (ports N) j.of.target in
-    record {
-      index = subst (λ k. k ≤ length (w.session j.of.session).begun) (sym j.of.index) says.within;
-      begun_as = subst (λ k. slice_get (w.session j.of.session).begun (k - 1) ≡ Some j.copy.request) (sym j.of.index) (says.begun_as ∙ ap Some (sym j.of.request));
-      answers = answered j.copy.request rights (ports N c) (history N w c).sets sets;
-      one = once j.copy.request rights (ports N c) (history N w c).sets sets
-          (subst (λ (q : RequestValue). IsForOne (ports N c) q) (sym j.of.request) (subst (λ p. IsForOne p says.request) of_ports asked.one));
-    }
+joins-own N w c port f r place j = grind (arith, slice_get, answered, once)
 
 module _ (N : Network) (w : NetworkState) (c port : ℕ) (f : Frame) (n : IsNetwork N) (r : IsReached N w) (place : c < N.clocks) (i : IsHeard N w f.octets f.origin) (t : ℕ) (exists : t < N.sessions) where
   gains-here : StaysOrGains (manager N t) (w.session t).begun
@@ -187,26 +158,22 @@ module _ (N : Network) (w : NetworkState) (c port : ℕ) (f : Frame) (n : IsNetw
       (λ (j : JoinsAt N w c port f). inr (record {
         entry = accepted_from (N.clock c) (history N w c) j.copy;
         is = ap (λ (h : History). h.accepted) j.is;
-        above = λ y. subst (λ (m : PortIdentity). greatest m (history N w c).accepted < j.copy.index) (sym (same_identity-true (manager N t) j.copy.heard.source y)) j.above;
+        above = grind (arith, same_identity-true);
         own = λ y.
-            let ts : t ≡ j.of.session = n.sessions_apart t j.of.session exists j.of.says.place (same_identity-true (manager N t) j.copy.heard.source y ∙ j.of.source) in
+            let ts : t ≡ j.of.session = grind (arith, same_identity-true) in
             subst (λ s. JoinsOwn (manager N s) (w.session s).begun (accepted_from (N.clock c) (history N w c) j.copy)) (sym ts) (joins-own N w c port f r place j);
       }))
       (here_after N w c port f n r place i)
 
   pub gains : StaysOrGains (manager N t) (w.session t).begun
       (accepted_at_target N (arrives w c (delivery port f)) t) (accepted_at_target N w t)
-  gains = by_test ((N.session t).target == c)
-      (λ y. subst (λ d. StaysOrGains (manager N t) (w.session t).begun (history N (arrives w c (delivery port f)) d).accepted (history N w d).accepted)
-      (sym (eqb-true (N.session t).target c y)) gains-here)
-      (λ o. inl (ap (λ (h : History). h.accepted) (history-elsewhere N w c (delivery port f) (N.session t).target o)))
+  gains = grind (arith, eqb-true, gains-here, history-elsewhere)
 
 -- ---- the invariant, before the clock sends anything
 
 module _ (N : Network) (w : NetworkState) (c port : ℕ) (f : Frame) (n : IsNetwork N) (r : IsReached N w) (place : c < N.clocks) where
   pub kept-stays : IsHeard N w f.octets f.origin → KeptStays N w (arrives w c (delivery port f))
-  kept-stays i t k e exists h =
-      kept-gained (manager N t) (w.session t).begun (accepted_at_target N (arrives w c (delivery port f)) t) (accepted_at_target N w t) (gains N w c port f n r place i t exists) k e h
+  kept-stays i t k e exists h = grind (arith, kept-gained, gains)
 
   pub arrives-reached : IsHeard N w f.octets f.origin → IsReached N (arrives w c (delivery port f))
   arrives-reached i = record {

@@ -1,6 +1,6 @@
 -- What a clock on the way does with a copy of a request, or of the reply: it passes it on, and nothing else changes.
-use Rattle.ptpm_network.proofs.Common.{by_test, suc, zero, arith, ◌≡◌, ℕ, ◌<◌, ◌≤◌, ◌+◌, ◌-◌, ◌*◌, ◌/◌, ◌==◌, ◌&&◌, ◌||◌, Bool, List, [], ◌∷◌, ◌++◌, Option, Some, None, true, refl, sym, ◌∙◌, ap, subst, ⊎_elim, length, length-append, and_from, and_left, and_parts, and_right, cond-false, cond-true, eq-eqb, eqb-false, eqb-true, false≢true, lt-ltb, ne_eqb, or_cases, or_from, append-nil, slice_get_within, flat_map, map, nat_lt, not, slice_get, AllByRecursion, filter, list_any, range_with_len, ClockIdentity, PortIdentity, Message, every_clock, same_clock, boundary_hops, domain_number, Fits, message_of, DataSetsValue, is_forwarding_port, may_forward, is_known, egress_ports, forwarded, forwarded_by, with_less_hop, History, RequestCopy, copy_by, copy_of, is_addressed, is_for_this_clock, is_own, names_port, Clock, AreDataSets, IsOfOrigin, IsReached, answering_frames, arrives, delivered_at_clock, delivery, forwarded_frames, made_frames, read_messages, reply_frames, AtPort, AtSession, End, IsNetwork, Network, manager, peers, ports, same_end, Frame, NetworkState, RequestOf, ReplyTo, Neither, frames_to, history, LinksHaveAtMost, passed_at_most, get_append, le_trans, filter-few, length-range_with_len, after_arrival}
-use Rattle.ptpm_data.specs.declared.data_sets.PortDataSet.{PortDataSet}
+use Rattle.std.proofs.Math.Nat.{mul-le-mul_left}
+use Rattle.ptpm_network.proofs.Common.{by_test, suc, zero, arith, ◌≡◌, ℕ, ◌<◌, ◌≤◌, ◌+◌, ◌-◌, ◌*◌, ◌/◌, ◌==◌, ◌&&◌, ◌||◌, Bool, List, [], ◌∷◌, ◌++◌, Some, None, true, sym, ◌∙◌, ap, subst, ⊎_elim, length, length-append, and_from, and_left, and_parts, and_right, cond-false, cond-true, eq-eqb, eqb-false, eqb-true, false≢true, lt-ltb, ne_eqb, or_cases, or_from, append-nil, slice_get_within, flat_map, map, not, slice_get, AllByRecursion, filter, list_any, range_with_len, ClockIdentity, PortIdentity, Message, every_clock, same_clock, boundary_hops, domain_number, Fits, message_of, DataSetsValue, may_forward, egress_ports, forwarded, with_less_hop, copy_of, is_addressed, is_for_this_clock, is_own, names_port, Clock, AreDataSets, IsOfOrigin, IsReached, delivered_at_clock, delivery, forwarded_frames, made_frames, read_messages, AtPort, AtSession, End, IsNetwork, Network, manager, peers, ports, same_end, Frame, NetworkState, RequestOf, ReplyTo, frames_to, history, LinksHaveAtMost, passed_at_most, get_append, le_trans, filter-few, length-range_with_len, length-map, flat-few}
 use Rattle.ptpm_network.proofs.Arriving.{history-elsewhere, history-here}
 use Rattle.ptpm_network.proofs.Exchanging.{clocks_apart, message-domain}
 use Rattle.ptpm_network.proofs.Frames.{says_reply, says_request}
@@ -33,7 +33,7 @@ in_flat-at : {X Y : Type 0} (f : X → List Y) (xs : List X) (i : ℕ) (x : X) (
     → slice_get xs i ≡ Some x → IsIn (f x) y
     → IsIn (flat_map f xs) y
 in_flat-at f [] i x y e p = absurd (cc)
-in_flat-at f (z ∷ xs) zero x y e p = let q : z ≡ x = cc in in_left (f z) (flat_map f xs) y (subst (λ a. IsIn (f a) y) (sym q) p)
+in_flat-at f (z ∷ xs) zero x y e p = let q : z ≡ x = cc in grind (arith, in_left)
 in_flat-at f (z ∷ xs) (suc i) x y e p = in_right (f z) (flat_map f xs) y (in_flat-at f xs i x y e p)
 
 pub in_flat : {X Y : Type 0} (f : X → List Y) (xs : List X) (x : X) (y : Y)
@@ -45,9 +45,7 @@ in_filter-at : {X : Type 0} (test : X → Bool) (xs : List X) (i : ℕ) (x : X)
     → slice_get xs i ≡ Some x → test x ≡ true
     → IsIn (filter test xs) x
 in_filter-at test [] i x e t = absurd (cc)
-in_filter-at test (y ∷ xs) zero x e t =
-    let q : y ≡ x = cc in
-    subst (λ ys. IsIn ys x) (sym (cond-true _ _ _ (ap test q ∙ t))) (0, e)
+in_filter-at test (y ∷ xs) zero x e t = grind (arith, cond-true)
 in_filter-at test (y ∷ xs) (suc i) x e t =
     let rest = in_filter-at test xs i x e t in
     by_test (test y)
@@ -72,9 +70,7 @@ in_range n p low high =
     (p - 1, in_range-at 1 n (p - 1) (omega arith) ∙ ap Some q)
 
 pub same_end-true : (a b : End) → same_end a b ≡ true → a ≡ b
-same_end-true (AtPort c p) (AtPort d q) y =
-    let parts = and_parts (c == d) (p == q) y in
-    ap (λ x. AtPort x p) (eqb-true c d parts.0) ∙ ap (AtPort d) (eqb-true p q parts.1)
+same_end-true (AtPort c p) (AtPort d q) y = grind (arith, and_parts, eqb-true)
 same_end-true (AtSession s) (AtSession t) y = ap AtSession (eqb-true s t y)
 same_end-true (AtSession s) (AtPort c p) y = absurd (false≢true y)
 same_end-true (AtPort c p) (AtSession s) y = absurd (false≢true y)
@@ -88,65 +84,15 @@ in_any e (d ∷ ends) y = ⊎_elim
 
 -- ---- the ports that a clock passes messages on at
 
-forwarding-at : (o : Option PortDataSet)
-    → is_forwarding_port o ≡ true
-    → (p : PortDataSet) × (o ≡ Some p)
-forwarding-at None y = absurd (false≢true y)
-forwarding-at (Some p) y = (p, refl)
-
-between : (q n : ℕ) → (q ≡ 0 → ⊥) → q - 1 < n → (1 ≤ q) × (q ≤ n)
-between q n a b = (omega arith, omega arith)
-
-forwarding-exists : (q : ℕ) (d : DataSetsValue)
-    → may_forward q d ≡ true
-    → (1 ≤ q) × (q ≤ length d.ports)
-forwarding-exists q d y = by_test (q == 0)
-    (λ z. absurd (false≢true (sym (ap is_forwarding_port (cond-true _ _ _ z)) ∙ y)))
-    (λ n. let some = forwarding-at (slice_get d.ports (q - 1)) (sym (ap is_forwarding_port (cond-false _ _ _ n)) ∙ y) in
-    between q (length d.ports) (eqb-false q 0 n) (slice_get_within d.ports (q - 1) some.0 some.1))
-
 egress-in : (p q : ℕ) (d : DataSetsValue)
     → (q ≡ p → ⊥) → may_forward q d ≡ true
     → IsIn (egress_ports p d) q
-egress-in p q d ne y =
-    let exists = forwarding-exists q d y in
-    in_filter (λ port. not (port == p) && may_forward port d) (range_with_len 1 (length d.ports)) q (in_range (length d.ports) q exists.0 exists.1)
-    (and_from (not (q == p)) (may_forward q d) (ap not (ne_eqb q p ne)) y)
+egress-in p q d ne y = grind (arith, in_filter, in_range, and_from, ne_eqb, false≢true, cond-true, cond-false, eqb-false, slice_get_within)
 
 -- ---- how many frames a message makes at most
 
-pub length-map_same : {X Y : Type 0} (f : X → Y) (xs : List X) → length (map f xs) ≡ length xs
-length-map_same f [] = refl
-length-map_same f (x ∷ xs) = omega (arith, length-map_same f xs)
-
 pub few-egress : (p : ℕ) (d : DataSetsValue) → length d.ports ≤ 8 → length (egress_ports p d) ≤ 8
 few-egress p d few = omega (arith, filter-few (λ port. not (port == p) && may_forward port d) (range_with_len 1 (length d.ports)), length-range_with_len 1 (length d.ports))
-
--- as often as this list has elements
-abbrev times : ℕ → ℕ → ℕ
-times zero m = 0
-times (suc n) m = m + times n m
-
-times-le : (n k m : ℕ) → n ≤ k → times n m ≤ times k m
-times-le zero k m le = omega arith
-times-le (suc n) zero m le = absurd (omega arith)
-times-le (suc n) (suc k) m le = omega (arith, times-le n k m (omega arith))
-
-flat-times : {X Y : Type 0} (f : X → List Y) (m : ℕ) (xs : List X)
-    → ((x : X) → length (f x) ≤ m)
-    → length (flat_map f xs) ≤ times (length xs) m
-flat-times f m [] each = omega arith
-flat-times f m (x ∷ xs) each = omega (arith, length-append (f x) (flat_map f xs), each x, flat-times f m xs each)
-
--- eight times an eighth
-eighth : (x most : ℕ) → 8 * x ≤ most → x ≤ most / 8
-eighth x most le = omega arith
-
-eight_eighths : (most : ℕ) → times 8 (most / 8) ≤ most
-eight_eighths most = omega arith
-
-at_most-made : (made n most : ℕ) → made ≤ times n (most / 8) → n ≤ 8 → made ≤ most
-at_most-made made n most a le = omega (arith, a, times-le n 8 (most / 8) le, eight_eighths most)
 
 -- each end has so few others that eight of them make no more frames than this
 abbrev pub MakesAtMost : Network → ℕ → Type 0
@@ -157,8 +103,8 @@ few-peers : (ends : ℕ) (links : List (List End)) (e : End)
     → length (peers links e) ≤ ends
 few-peers ends [] e all = omega arith
 few-peers ends (link ∷ links) e all = by_test (list_any (same_end e) link)
-    (λ y. subst (λ es. length es ≤ ends) (sym (cond-true _ _ _ y)) (le_trans (filter-few (λ other. not (same_end e other)) link) all.0))
-    (λ n. subst (λ es. length es ≤ ends) (sym (cond-false _ _ _ n)) (few-peers ends links e all.1))
+    (λ y. grind (arith, le_trans, filter-few))
+    (λ n. rw n (few-peers ends links e all.1))
 
 pub few-made : (N : Network) (ends : ℕ)
     → LinksHaveAtMost N ends
@@ -169,10 +115,9 @@ pub few-forwarded : (N : Network) (most c : ℕ) (f : Frame) (sent : List (ℕ �
     → MakesAtMost N most → length sent ≤ 8
     → length (forwarded_frames N c f sent) ≤ most
 few-forwarded N most c f sent few le =
-    at_most-made (length (forwarded_frames N c f sent)) (length sent) most
-    (flat-times (λ (m : ℕ × List ℕ). frames_to (peers N.links (AtPort c m.0)) m.1 f.origin f.first_hops (f.forwardings + 1)) (most / 8) sent
-    (λ m. subst (λ n. n ≤ most / 8) (sym (length-map_same (λ end. record { end = end; octets = m.1; origin = f.origin; first_hops = f.first_hops; forwardings = f.forwardings + 1 }) (peers N.links (AtPort c m.0)))) (eighth (length (peers N.links (AtPort c m.0))) most (few (AtPort c m.0)))))
-    le
+    let each = flat-few (λ (m : ℕ × List ℕ). frames_to (peers N.links (AtPort c m.0)) m.1 f.origin f.first_hops (f.forwardings + 1)) (most / 8)
+    (λ m. rw length-map (omega (arith, few (AtPort c m.0)))) sent in
+    omega (arith, each, mul-le-mul_left (most / 8) le)
 
 -- ---- a message on its way is for neither this clock nor every clock
 
@@ -190,31 +135,13 @@ module _ (N : Network) (w : NetworkState) (s k c : ℕ) (octets : List ℕ) (n :
       → IsPassing (N.clock c).identity octets
   request-passing i =
       let says = says_request N w s k octets n r i in
-      let session = n.are_sessions s says.place in
-      record {
-        message = request_at N s k says.domain says.hops says.request;
-        read = says.message.read;
-        fits = says.message.fits;
-        sdo = refl;
-        source = n.no_clock s c says.place exists;
-        target = λ (h : (N.session s).setup.target ≡ (N.clock c).identity). ne (n.clocks_apart c (N.session s).target exists session.exists (sym h ∙ session.target));
-        every = λ (h : (N.session s).setup.target ≡ every_clock). (n.are_clocks (N.session s).target session.exists).is_one (sym session.target ∙ h);
-      }
+      let session = n.are_sessions s says.place in grind (arith, request_at, clocks_apart)
 
   pub reply-passing : IsOfOrigin N w octets (ReplyTo s k) → IsPassing (N.clock c).identity octets
   reply-passing i =
       let says = says_reply N w s k octets n r i in
       let session = n.are_sessions s says.place in
-      let to_manager : says.heard.source.clock ≡ (manager N s).clock = ap (λ (m : PortIdentity). m.clock) says.source in
-      record {
-        message = reply_at (N.session s).setup.target says.heard says.entry.reply says.ingress says.hops says.answer;
-        read = says.message.read;
-        fits = says.message.fits;
-        sdo = refl;
-        source = λ (h : (N.session s).setup.target ≡ (N.clock c).identity). ne (n.clocks_apart c (N.session s).target exists session.exists (sym h ∙ session.target));
-        target = λ (h : says.heard.source.clock ≡ (N.clock c).identity). n.no_clock s c says.place exists (sym to_manager ∙ h);
-        every = λ (h : says.heard.source.clock ≡ every_clock). session.is_one (sym to_manager ∙ h);
-      }
+      let to_manager : says.heard.source.clock ≡ (manager N s).clock = ap (λ (m : PortIdentity). m.clock) says.source in grind (arith, reply_at, clocks_apart)
 
 -- ---- it is passed on
 
@@ -226,28 +153,10 @@ pub record MayPass (d : DataSetsValue) (p q : ℕ) (octets : List ℕ) : Type 0 
   pub ingress : may_forward p d ≡ true
   pub egress : may_forward q d ≡ true
 
-passing-forwarded : (me : ClockIdentity) (p q : ℕ) (d : DataSetsValue) (octets : List ℕ)
-    → IsPassing me octets → MayPass d p q octets
-    → forwarded me p d octets ≡ map (λ port. (port, with_less_hop octets)) (egress_ports p d)
-unfolding forwarded
-passing-forwarded me p q d octets v may =
-    let m : Message = v.message in
-    let hop : 0 < m.hops = subst (λ h. 0 < h) (sym (message-hops m octets v.read)) may.hop in
-    ap (forwarded_by me p d octets) v.read
-    ∙ cond-true _ _ _
-    (and_from (m.sdo == 0) _ (eq-eqb m.sdo 0 v.sdo)
-    (and_from (m.domain == d.default.domain) _ (eq-eqb m.domain d.default.domain (message-domain m octets v.read ∙ may.domain))
-    (and_from (not (same_clock m.source.clock me)) _ (ap not (clocks_apart m.source.clock me v.source))
-    (and_from (not (same_clock m.target.clock me)) _ (ap not (clocks_apart m.target.clock me v.target))
-    (and_from (nat_lt 0 m.hops) (may_forward p d) (lt-ltb 0 m.hops hop) may.ingress)))))
-
 passing-no_copy : (c : Clock) (count p : ℕ) (f : Frame)
     → IsPassing c.identity f.octets
     → copy_of c count (delivery p f) ≡ None
-passing-no_copy c count p f v =
-    let m : Message = v.message in
-    ap (copy_by c count (delivery p f)) v.read
-    ∙ cond-false _ _ _ (and_right (m.sdo == 0) _ (and_right (not (is_own c m)) _ (and_right (is_known m.source c.managers) _ (and_left (is_for_this_clock c m) _ (clocks_apart m.target.clock c.identity v.target)))))
+passing-no_copy c count p f v = grind (arith, cond-false, and_right, and_left, clocks_apart)
 
 passing-not_read : (c : Clock) (d : DataSetsValue) (p : ℕ) (octets : List ℕ)
     → IsPassing c.identity octets
@@ -264,22 +173,14 @@ made-passing : (N : Network) (w : NetworkState) (c p q : ℕ) (f : Frame)
     → made_frames N c (history N w c) p f
     ≡ forwarded_frames N c f
     (map (λ port. (port, with_less_hop f.octets)) (egress_ports p (history N w c).sets))
-made-passing N w c p q f v may =
-    let h : History = history N w c in
-    let sent : List (ℕ × List ℕ) = map (λ port. (port, with_less_hop f.octets)) (egress_ports p h.sets) in
-    ap (λ fs. forwarded_frames N c f fs ++ answering_frames N c h p f (copy_of (N.clock c) (ports N c) (delivery p f))) (passing-forwarded (N.clock c).identity p q h.sets f.octets v may)
-    ∙ ap (λ (o : Option RequestCopy). forwarded_frames N c f sent ++ answering_frames N c h p f o) (passing-no_copy (N.clock c) (ports N c) p f v)
-    ∙ ap (λ ms. forwarded_frames N c f sent ++ reply_frames N c Neither ms) (passing-not_read (N.clock c) h.sets p f.octets v)
-    ∙ append-nil (forwarded_frames N c f sent)
+unfolding forwarded
+made-passing N w c p q f v may = grind (arith, passing-no_copy, passing-not_read, append-nil, message-hops, cond-true, and_from, eq-eqb, message-domain, clocks_apart, lt-ltb)
 
 -- no clock's history changes
 pub passing-history : (N : Network) (w : NetworkState) (c p : ℕ) (f : Frame) (d : ℕ)
     → IsPassing (N.clock c).identity f.octets
     → history N (delivered_at_clock N w c p f) d ≡ history N w d
-passing-history N w c p f d v = by_test (d == c)
-    (λ y. subst (λ j. history N (arrives w c (delivery p f)) j ≡ history N w j) (sym (eqb-true d c y))
-    (history-here N w c (delivery p f) ∙ ap (after_arrival (N.clock c) (history N w c)) (passing-no_copy (N.clock c) (ports N c) p f v)))
-    (λ n. history-elsewhere N w c (delivery p f) d n)
+passing-history N w c p f d v = grind (arith, eqb-true, history-here, passing-no_copy, history-elsewhere)
 
 -- the copy for this end
 abbrev pub passed_copy : Frame → End → Frame
@@ -298,12 +199,6 @@ passing-made N w c p q f e v may link =
     (in_map (λ port. (port, with_less_hop f.octets)) (egress_ports p d) q (egress-in p q d may.two_ports may.egress))
     (in_map (λ end. record { end = end; octets = with_less_hop f.octets; origin = f.origin; first_hops = f.first_hops; forwardings = f.forwardings + 1 }) (peers N.links (AtPort c q)) e (in_any e (peers N.links (AtPort c q)) link))))
 
-pub add_most : (a b most : ℕ) → b ≤ most → a + b ≤ a + most
-add_most a b most le = omega arith
-
-few-ports : (n : ℕ) (d : DataSetsValue) → AreDataSets n d → length d.ports ≤ 8
-few-ports n d sets = let eight = sets.at_most_eight in let are = sets.ports_are in omega (arith, eight, are)
-
 pub passing-few : (N : Network) (w : NetworkState) (most c p q : ℕ) (f : Frame)
     → MakesAtMost N most → AreDataSets (ports N c) (history N w c).sets
     → IsPassing (N.clock c).identity f.octets → MayPass (history N w c).sets p q f.octets
@@ -311,10 +206,9 @@ pub passing-few : (N : Network) (w : NetworkState) (most c p q : ℕ) (f : Frame
 passing-few N w most c p q f few sets v may =
     let d = (history N w c).sets in
     let sent : List (ℕ × List ℕ) = map (λ port. (port, with_less_hop f.octets)) (egress_ports p d) in
-    let size : length sent ≤ 8 = subst (λ n. n ≤ 8) (sym (length-map_same (λ port. (port, with_less_hop f.octets)) (egress_ports p d))) (few-egress p d (few-ports (ports N c) d sets)) in
-    let made : length (made_frames N c (history N w c) p f) ≤ most = subst (λ fs. length fs ≤ most) (sym (made-passing N w c p q f v may)) (few-forwarded N most c f sent few size) in
-    let all : length (w.frames ++ made_frames N c (history N w c) p f) ≡ length w.frames + length (made_frames N c (history N w c) p f) = length-append w.frames (made_frames N c (history N w c) p f) in
-    subst (λ n. n ≤ length w.frames + most) (sym all) (add_most (length w.frames) (length (made_frames N c (history N w c) p f)) most made)
+    let size : length sent ≤ 8 = grind (arith, length-map, few-egress) in
+    let made : length (made_frames N c (history N w c) p f) ≤ most = grind (arith, made-passing, few-forwarded) in
+    omega (arith, made, length-append w.frames (made_frames N c (history N w c) p f))
 
 module _ (me : ClockIdentity) (octets : List ℕ) (v : IsPassing me octets) where
   -- a hop less, in the same domain
@@ -324,5 +218,4 @@ module _ (me : ClockIdentity) (octets : List ℕ) (v : IsPassing me octets) wher
   pub passed-domain : domain_number (with_less_hop octets) ≡ domain_number octets
   passed-domain =
       let m : Message = v.message in
-      let less = less_hop-message m octets v.read v.fits in
-      sym (message-domain (record m { hops = m.hops - 1 }) (with_less_hop octets) less.read) ∙ message-domain m octets v.read
+      let less = less_hop-message m octets v.read v.fits in grind (arith, message-domain)

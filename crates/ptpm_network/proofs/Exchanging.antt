@@ -1,5 +1,5 @@
 -- What one copy of a session's last request brings about at its target, and one of the reply at the session.
-use Rattle.ptpm_network.proofs.Common.{by_test, arith, ◌≡◌, ℕ, ◌<◌, ◌≤◌, ◌+◌, ◌-◌, ◌^◌, ◌==◌, List, [], ◌∷◌, ◌++◌, Option, Some, None, true, false, refl, sym, ◌∙◌, ap, subst, ⊎_elim, length, length-append, and_from, cases_eq, cond-true, eq-eqb, eqb-false, false_from_ne_true, le-leb, le-ltb, lt-ltb, or_left, or_right, append-nil, same_Some, nat_le, nat_lt, not, AllByRecursion, option_or, ClockIdentity, PortIdentity, Message, canonical, every_port, same_clock, boundary_hops, domain_number, message_length, Fits, IsValid, first_of, message_of, canonical_spells, same_clock-refl, same_clock-true, octet-take, message_of-some, message_of-spells, message_size, is_of_port, reply_to, Answer, ReplyValue, RequestValue, is_known, hops_passed, reply_message, due_messages, History, RequestCopy, copy_by, copy_from, copy_of, due_reply, greatest, is_copy, kept_reply, is_for_this_clock, is_own, is_request, names_port, Clock, Report, outcome_in, Deliver, Event, FramesAtMaximum, IsInRange, frame_at, frames_limit, no_frame, no_room, refusal, HasReplied, HasReported, HasRoom, IsHeardBy, IsAsked, IsFrame, IsOfOrigin, IsReached, answering_frames, arrives, delivered, delivered_at, delivered_at_clock, delivery, forwarded_frames, happens, index_of, is_answer, made_frames, reply_frames, reply_origin, report_from, reported, run, step, step_by, told_by, AtPort, AtSession, End, HasEnd, IsNetwork, Network, manager, peers, ports, Frame, NetworkState, Origin, RequestOf, ReplyTo, SessionState, accepted_at_target, initial_state, greatest_accepted, history, is_idle, is_late, issued, new_frames, with_place-same, le_trans, forwarded-copy}
+use Rattle.ptpm_network.proofs.Common.{arith, ◌≡◌, ℕ, ◌<◌, ◌+◌, ◌-◌, ◌^◌, ◌==◌, List, [], ◌∷◌, ◌++◌, Some, None, true, false, refl, sym, ◌∙◌, ap, subst, ⊎_elim, length, length-append, and_from, cases_eq, cond-true, eq-eqb, eqb-false, false_from_ne_true, le-leb, le-ltb, lt-ltb, or_left, or_right, append-nil, nat_lt, not, AllByRecursion, option_or, ClockIdentity, PortIdentity, Message, canonical, same_clock, boundary_hops, domain_number, Fits, IsValid, first_of, message_of, canonical_spells, same_clock-refl, same_clock-true, octet-take, message_of-some, message_of-spells, message_size, reply_to, Answer, ReplyValue, RequestValue, reply_message, History, RequestCopy, copy_from, copy_of, due_reply, greatest, is_copy, kept_reply, is_for_this_clock, Clock, Report, outcome_in, Deliver, Event, FramesAtMaximum, IsInRange, frame_at, frames_limit, no_frame, no_room, refusal, HasReplied, HasReported, HasRoom, IsHeardBy, IsAsked, IsFrame, IsOfOrigin, IsReached, arrives, delivered_at, delivered_at_clock, delivery, happens, index_of, is_answer, made_frames, report_from, reported, run, step, step_by, told_by, AtPort, AtSession, End, HasEnd, IsNetwork, Network, manager, peers, ports, Frame, NetworkState, Origin, RequestOf, ReplyTo, SessionState, accepted_at_target, initial_state, greatest_accepted, history, is_idle, is_late, issued, new_frames, with_place-same, forwarded-copy}
 use Rattle.ptpm_network.proofs.Answering.{keeps_due, rendered-one, small}
 use Rattle.ptpm_network.proofs.Arriving.{arrives-reached, is_copy_of}
 use Rattle.ptpm_network.proofs.DueReplies.{due-latest}
@@ -18,12 +18,6 @@ module _ (N : Network) (w : NetworkState) (n : ℕ) (f : Frame) where
   unfolding refusal
   delivery-taken e room = ap (λ o. option_or (no_frame o) (no_room w.frames)) e ∙ is_room w room
 
-  happens-delivery : (end : End)
-      → frame_at w.frames n ≡ Some f → f.end ≡ end
-      → happens N w (Deliver n) ≡ delivered_at N w f end
-  unfolding happens
-  happens-delivery end e q = ap (delivered N w) e ∙ ap (delivered_at N w f) q
-
 pub step-taken : (N : Network) (w : NetworkState) (e : Event)
     → refusal N w e ≡ None
     → step N w e ≡ happens N w e
@@ -32,15 +26,13 @@ step-taken N w e none = ap (λ o. step_by o N w e) none
 pub delivery-step : (N : Network) (w : NetworkState) (n : ℕ) (f : Frame) (end : End)
     → frame_at w.frames n ≡ Some f → f.end ≡ end → HasRoom w
     → step N w (Deliver n) ≡ delivered_at N w f end
-delivery-step N w n f end e q room = step-taken N w (Deliver n) (delivery-taken N w n f e room) ∙ happens-delivery N w n f end e q
+unfolding happens
+delivery-step N w n f end e q room = grind (arith, step-taken, delivery-taken)
 
 -- ---- fields of a message
 
 pub message-domain : (v : Message) (d : List ℕ) → message_of d ≡ Some v → v.domain ≡ domain_number d
-message-domain v d e =
-    let size = message_size d (message_of-some d v e).0 in
-    let low = size.0 in
-    (message_of-spells v d e).domain ∙ octet-take 4 (message_length d) d (omega arith)
+message-domain v d e = grind (arith, message_size, message_of-some, message_of-spells, octet-take)
 
 pub clocks_apart : (a b : ClockIdentity) → (a ≡ b → ⊥) → same_clock a b ≡ false
 clocks_apart a b ne = false_from_ne_true (same_clock a b) (λ y. ne (same_clock-true a b y))
@@ -50,38 +42,18 @@ clocks_same a b e = subst (λ (x : ClockIdentity). same_clock a x ≡ true) e (s
 
 -- ---- a copy of a session's request at its target
 
-port-named : (p : ℕ) (q : RequestValue) → IsAsked p q → names_port p q.port ≡ true
-port-named p q asked = by_test (is_of_port q.id)
-    (λ y. let one = asked.one y in
-    or_right _ _ (and_from (nat_le 1 q.port) (nat_le q.port p) (le-leb 1 q.port one.0) (le-leb q.port p one.1)))
-    (λ n. or_left _ _ (eq-eqb q.port every_port (asked.every n)))
-
 request-is_copy : (N : Network) (s k domain hops : ℕ) (q : RequestValue)
     → IsNetwork N → s < N.sessions → IsAsked (ports N (N.session s).target) q
     → is_copy (N.clock (N.session s).target) (ports N (N.session s).target)
     (request_at N s k domain hops q) ≡ true
-request-is_copy N s k domain hops q n place asked =
-    let session = n.are_sessions s place in
-    let c : Clock = N.clock (N.session s).target in
-    let p = ports N (N.session s).target in
-    let v : Message = request_at N s k domain hops q in
-    let not_own : not (is_own c v) ≡ true = ap not (clocks_apart (manager N s).clock c.identity (n.no_clock s (N.session s).target place session.exists)) in
-    let here : is_for_this_clock c v ≡ true = clocks_same (N.session s).setup.target c.identity session.target in
-    let named : names_port p v.target.port ≡ true = port-named p q asked in
-    let asks : is_request v ≡ true = ap not asked.action in
-    and_from (v.sdo == 0) _ refl
-    (and_from (not (is_own c v)) _ not_own
-    (and_from (is_known v.source c.managers) _ (n.configured s place)
-    (and_from (is_for_this_clock c v) _ here
-    (and_from (names_port p v.target.port) (is_request v) named asks))))
+request-is_copy N s k domain hops q n place asked = grind (arith, request_at, clocks_apart, clocks_same, and_from, or_right, le-leb, or_left, eq-eqb)
 
 copy-is : (N : Network) (s port : ℕ) (f : Frame) (v : Message)
     → message_of f.octets ≡ Some v
     → is_copy (N.clock (N.session s).target) (ports N (N.session s).target) v ≡ true
     → copy_of (N.clock (N.session s).target) (ports N (N.session s).target) (delivery port f)
     ≡ Some (copy_from (delivery port f) v)
-copy-is N s port f v e is =
-    ap (copy_by (N.clock (N.session s).target) (ports N (N.session s).target) (delivery port f)) e ∙ cond-true _ _ _ is
+copy-is N s port f v e is = grind (arith, cond-true)
 
 -- ---- a reply is due to it
 
@@ -89,12 +61,6 @@ due-new : (c : Clock) (h : History) (x : RequestCopy)
     → x.heard.domain ≡ h.sets.default.domain → greatest x.heard.source h.accepted < x.index
     → due_reply c h x ≡ Some (reply_to x.request (c.rights x.heard.source) h.sets)
 due-new c h x domain above = cond-true _ _ _ (and_from (x.heard.domain == h.sets.default.domain) (nat_lt (greatest x.heard.source h.accepted) x.index) (eq-eqb _ _ domain) (lt-ltb _ _ above))
-
-below : (g k begun : ℕ) → g ≤ begun → k ≡ begun → (g ≡ begun → ⊥) → g < k
-below g k begun a b ne = omega arith
-
-not_more : (k g begun : ℕ) → k ≡ begun → g ≡ begun → k ≤ g
-not_more k g begun a b = omega arith
 
 abbrev IsDueTo : Clock → History → RequestCopy → Type 0
 IsDueTo c h x = (r : ReplyValue) × (due_reply c h x ≡ Some r)
@@ -112,18 +78,17 @@ module _ (N : Network) (w : NetworkState) (s : ℕ) (octets : List ℕ) (x : Req
       → IsDueTo (N.clock (N.session s).target) (history N w (N.session s).target) x
   due-repeat g =
       let at = r.sessions s place in
-      let was = at.without_gap (issued w s) of.says.positive (not_more (issued w s) (greatest_accepted N w s) (issued w s) refl g) in
-      let here : greatest x.heard.source (accepted_at_target N w s) ≡ x.index = ap (λ (m : PortIdentity). greatest m (accepted_at_target N w s)) of.source ∙ g ∙ sym of.index in
-      let kept : kept_reply x.heard.source x.index (accepted_at_target N w s) ≡ Some was.entry =
-      ap (λ (m : PortIdentity). kept_reply m x.index (accepted_at_target N w s)) of.source ∙ ap (λ k. kept_reply (manager N s) k (accepted_at_target N w s)) of.index ∙ was.is in
-      let same : was.entry.request ≡ x.request = same_Some was.entry.request of.says.request (sym was.begun_as ∙ of.says.begun_as) ∙ sym of.request in
+      let was = at.without_gap (issued w s) of.says.positive (omega (arith, g)) in
+      let here : greatest x.heard.source (accepted_at_target N w s) ≡ x.index = grind (arith) in
+      let kept : kept_reply x.heard.source x.index (accepted_at_target N w s) ≡ Some was.entry = grind (arith) in
+      let same : was.entry.request ≡ x.request = grind (arith) in
       (was.entry.reply, due-latest (N.clock (N.session s).target) (history N w (N.session s).target) x here (record { kept = was.entry; is = kept; request = same }))
 
   due-first : domain_number octets ≡ (history N w (N.session s).target).sets.default.domain
       → (greatest_accepted N w s ≡ issued w s → ⊥)
       → IsDueTo (N.clock (N.session s).target) (history N w (N.session s).target) x
   due-first domain ne =
-      let above : greatest (manager N s) (accepted_at_target N w s) < x.index = below (greatest_accepted N w s) x.index (issued w s) (r.sessions s place).begun_before of.index ne in
+      let above : greatest (manager N s) (accepted_at_target N w s) < x.index = omega (arith, (r.sessions s place).begun_before, of.index, ne) in
       (_, due-new (N.clock (N.session s).target) (history N w (N.session s).target) x (of.domain ∙ domain) (subst (λ (m : PortIdentity). greatest m (accepted_at_target N w s) < x.index) (sym of.source) above))
 
 due-to : (N : Network) (w : NetworkState) (s : ℕ) (octets : List ℕ) (x : RequestCopy)
@@ -165,16 +130,10 @@ reply-message N w s port f x r n reached place end origin i of ingress number e 
     let says = due.says in
     let sendable = sendable-one due.entry.request due.entry says.one.answer says.one.is says.answers in
     let clock = n.are_clocks c session.exists in
-    let source : length x.heard.source.clock.0 ≡ 8 = subst (λ (m : PortIdentity). length m.clock.0 ≡ 8) (sym of.source) session.identity.clock in
-    let source_port : x.heard.source.port < 2 ^ 16 = subst (λ (m : PortIdentity). m.port < 2 ^ 16) (sym of.source) session.identity.port in
-    let in' : x.ingress < 2 ^ 16 = subst (λ p. p < 2 ^ 16) (sym ingress) (small port (ports N c) end.2 clock.at_most_eight) in
-    let a = says.one.answer in
-    subst (IsReplyMessage (N.clock c).identity x) due.reply (record {
-      answer = a;
-      one = says.one.is;
-      valid = reply-valid (N.clock c).identity x.heard due.entry.request due.entry.reply x.ingress (hops_passed x.heard) a says.answers sendable;
-      fits = reply-fits (N.clock c).identity x.heard due.entry.request due.entry.reply x.ingress (hops_passed x.heard) a clock.identity source source_port number in' says.asked.id says.answers sendable;
-    })
+    let source : length x.heard.source.clock.0 ≡ 8 = grind (arith) in
+    let source_port : x.heard.source.port < 2 ^ 16 = grind (arith) in
+    let in' : x.ingress < 2 ^ 16 = grind (arith, small) in
+    let a = says.one.answer in grind (arith, reply-valid, reply-fits)
 
 -- what its canonical spelling says
 pub said-domain : (v : Message) (domain : ℕ)
@@ -201,17 +160,7 @@ made-reply : (N : Network) (w : NetworkState) (s port : ℕ) (f : Frame) (x : Re
     → made_frames N (N.session s).target (history N w (N.session s).target) port f
     ≡ new_frames (peers N.links (AtPort (N.session s).target port))
     (canonical (reply_message (N.clock (N.session s).target).identity x.heard r.action r.id x.ingress m.answer)) (ReplyTo s (issued w s))
-made-reply N w s port f x v r origin e here is due ingress m =
-    let c = (N.session s).target in
-    let h : History = history N w c in
-    let octets = canonical (reply_message (N.clock c).identity x.heard r.action r.id x.ingress m.answer) in
-    ap (λ sent. forwarded_frames N c f sent ++ answering_frames N c h port f (copy_of (N.clock c) (ports N c) (delivery port f))) (forwarded-copy (N.clock c) port h.sets f.octets v e here)
-    ∙ ap (answering_frames N c h port f) is
-    ∙ ap (λ (o : Origin). reply_frames N c (reply_origin o) (due_messages (N.clock c) x (due_reply (N.clock c) h x))) origin
-    ∙ ap (λ (o : Option ReplyValue). reply_frames N c (ReplyTo s (issued w s)) (due_messages (N.clock c) x o)) due
-    ∙ ap (reply_frames N c (ReplyTo s (issued w s))) (rendered-one (N.clock c).identity x.heard r x.ingress m.answer m.one)
-    ∙ ap (λ p. new_frames (peers N.links (AtPort c p)) octets (ReplyTo s (issued w s)) ++ []) ingress
-    ∙ append-nil (new_frames (peers N.links (AtPort c port)) octets (ReplyTo s (issued w s)))
+made-reply N w s port f x v r origin e here is due ingress m = grind (arith, forwarded-copy, rendered-one, append-nil)
 
 replied-by : (N : Network) (w : NetworkState) (s port : ℕ) (f : Frame) (reply : List ℕ)
     → made_frames N (N.session s).target (history N w (N.session s).target) port f
@@ -229,7 +178,7 @@ pub replied : (N : Network) (w : NetworkState) (s port : ℕ) (f : Frame)
 replied N w s port f n r place i end origin heard =
     let c = (N.session s).target in
     let session = n.are_sessions s place in
-    let own : IsOfOrigin N w f.octets (RequestOf s (issued w s)) = subst (λ (o : Origin). IsOfOrigin N w f.octets o) origin i.origin in
+    let own : IsOfOrigin N w f.octets (RequestOf s (issued w s)) = grind (arith) in
     let says = says_request N w s (issued w s) f.octets n r own in
     let v : Message = request_at N s (issued w s) says.domain says.hops says.request in
     let x : RequestCopy = copy_from (delivery port f) v in
@@ -256,11 +205,6 @@ answer-is : (s : ℕ) (state : SessionState) (o : Origin)
     → is_answer s state o ≡ true
 answer-is s state o origin busy = ap (is_answer s state) origin ∙ and_from _ _ (eq-eqb s s refl) (and_from _ _ (eq-eqb (length state.begun) (length state.begun) refl) (ap not busy))
 
-all_reported : (reports begun more : ℕ)
-    → begun ≤ reports + 1 → reports ≤ begun → (reports ≡ begun → ⊥) → more ≡ reports + 1
-    → more ≡ begun
-all_reported reports begun more a b ne d = omega arith
-
 pub reports-answer : (N : Network) (w : NetworkState) (s : ℕ) (f : Frame)
     → IsNetwork N → IsReached N w → s < N.sessions → IsFrame N w f
     → f.origin ≡ ReplyTo s (issued w s) → is_idle (w.session s) ≡ false
@@ -268,23 +212,15 @@ pub reports-answer : (N : Network) (w : NetworkState) (s : ℕ) (f : Frame)
     → HasReported w (delivered_at N w f (AtSession s)) s
 reports-answer N w s f n r place i origin busy domain =
     let at = r.sessions s place in
-    let own : IsOfOrigin N w f.octets (ReplyTo s (issued w s)) = subst (λ (o : Origin). IsOfOrigin N w f.octets o) origin i.origin in
+    let own : IsOfOrigin N w f.octets (ReplyTo s (issued w s)) = grind (arith) in
     let says = says_reply N w s (issued w s) f.octets n r own in
     let v : Message = reply_at (N.session s).setup.target says.heard says.entry.reply says.ingress says.hops says.answer in
     let report : Report = record { index = issued w s; outcome = outcome_in v.body } in
-    let from : report_from s (w.session s) f ≡ Some report =
-    cond-true _ _ _ (answer-is s (w.session s) f.origin origin busy) ∙ told-in_domain (w.session s) f.octets v says.message.read domain in
-    let now : (delivered_at N w f (AtSession s)).session s ≡ reported (w.session s) (Some report) =
-    with_place-same w.session s (reported (w.session s) (report_from s (w.session s) f)) s (eq-eqb s s refl) ∙ ap (reported (w.session s)) from in
+    let from : report_from s (w.session s) f ≡ Some report = grind (arith, cond-true, answer-is, told-in_domain) in
+    let now : (delivered_at N w f (AtSession s)).session s ≡ reported (w.session s) (Some report) = grind (arith, with_place-same, eq-eqb) in
     let size : length ((w.session s).reports ++ report ∷ []) ≡ length (w.session s).reports + 1 = length-append (w.session s).reports (report ∷ []) in
     let all : length ((w.session s).reports ++ report ∷ []) ≡ length (w.session s).begun =
-    all_reported (length (w.session s).reports) (length (w.session s).begun) (length ((w.session s).reports ++ report ∷ [])) at.one_at_a_time (le_trans at.accepted_before at.begun_before) (eqb-false _ _ busy) size in
-    record {
-      report = report;
-      index = refl;
-      reports = ap (λ (x : SessionState). x.reports) now;
-      idle = ap is_idle now ∙ eq-eqb _ _ all;
-    }
+    omega (arith, size, at.one_at_a_time, at.accepted_before, at.begun_before, eqb-false (length (w.session s).reports) (length (w.session s).begun) busy) in grind (arith, eq-eqb)
 
 -- ---- the laws
 

@@ -1,5 +1,5 @@
 -- What a frame of each origin says, and that what a clock passes on keeps its origin.
-use Rattle.ptpm_network.proofs.Common.{arith, ◌≡◌, ℕ, ◌<◌, ◌≤◌, ◌+◌, ◌-◌, ◌^◌, List, [], ◌∷◌, Some, sym, ◌∙◌, ap, subst, length, same_Some, slice_get_within, slice_get, AllByRecursion, ClockIdentity, PortIdentity, Message, canonical, boundary_hops, Fits, message_of, Answer, RequestValue, Heard, with_less_hop, Accepted, kept_reply, number_of, Answers, HasOneAnswer, IsSendable, IsAsked, IsForeign, IsFrame, IsInStep, IsMessage, IsOfOrigin, IsReached, SessionState, forwarded_frames, AtPort, HasEnd, IsNetwork, Network, manager, peers, ports, Frame, NetworkState, Origin, RequestOf, ReplyTo, Neither, accepted_at_target, frames_to, all_flat, all_made, le_trans}
+use Rattle.ptpm_network.proofs.Common.{arith, ◌≡◌, ℕ, ◌<◌, ◌≤◌, ◌+◌, ◌-◌, ◌^◌, List, [], ◌∷◌, Some, sym, ◌∙◌, ap, subst, length, same_Some, slice_get_within, slice_get, AllByRecursion, Message, canonical, boundary_hops, Fits, message_of, Answer, RequestValue, Heard, with_less_hop, Accepted, kept_reply, number_of, Answers, HasOneAnswer, IsSendable, IsAsked, IsForeign, IsFrame, IsInStep, IsMessage, IsOfOrigin, IsReached, SessionState, forwarded_frames, AtPort, HasEnd, IsNetwork, Network, manager, peers, ports, Frame, NetworkState, Origin, RequestOf, ReplyTo, Neither, accepted_at_target, frames_to, all_flat, all_made, le_trans}
 use Rattle.ptpm_network.specs.Invariant.{IsReplyFrame, IsRequestFrame}
 use Rattle.ptpm_network.proofs.Accepting.{kept-le}
 use Rattle.ptpm_network.proofs.Messages.{IsPassedOn, canonical-message, less_hop-canonical, less_hop-hops, less_hop-message, message-hops, reply_at, reply-fits, reply-valid, request_at, request-fits, request-valid}
@@ -46,12 +46,6 @@ pub record SaysReply (N : Network) (s k : ℕ) (begun : List RequestValue) (acce
   pub message : IsMessage octets
       (reply_at (N.session s).setup.target heard entry.reply ingress hops answer)
 
-up_to : (k n : ℕ) → 0 < k → k - 1 < n → k ≤ n
-up_to k n p h = omega arith
-
-number-fits : (n first k : ℕ) → n ≡ number_of first k → n < 2 ^ 16
-number-fits n first k e = omega arith
-
 pub sendable-one : (q : RequestValue) (e : Accepted) (a : Answer)
     → e.reply.answers ≡ a ∷ [] → Answers q e.reply
     → IsSendable a
@@ -64,13 +58,7 @@ kept_says N s k accepted state e step positive kept =
     let le = kept-le (manager N s) k accepted e kept in
     let was = step.without_gap k positive le in
     let same : was.entry ≡ e = same_Some was.entry e (sym was.is ∙ kept) in
-    record {
-      begun_as = subst (λ (a : Accepted). slice_get state.begun (k - 1) ≡ Some a.request) same was.begun_as;
-      asked = subst (λ (a : Accepted). IsAsked (ports N (N.session s).target) a.request) same (step.asked (k - 1) was.entry.request was.begun_as);
-      answers = subst (λ (a : Accepted). Answers a.request a.reply) same was.answers;
-      one = subst (λ (a : Accepted). HasOneAnswer a.request a.reply) same was.one;
-      within = le_trans le step.begun_before;
-    }
+    subst (SaysKept N s k state.begun) same (search (step.asked (k - 1) was.entry.request was.begun_as, le_trans le step.begun_before))
 
 module _ (N : Network) (s k : ℕ) (accepted : List Accepted) (state : SessionState) (n : IsNetwork N) (place : s < N.sessions) (step : IsInStep (manager N s) (ports N (N.session s).target) accepted state) where
   pub request_says : (octets : List ℕ)
@@ -82,7 +70,7 @@ module _ (N : Network) (s k : ℕ) (accepted : List Accepted) (state : SessionSt
       record {
         place = place;
         positive = i.positive;
-        within = up_to k (length state.begun) i.positive (slice_get_within state.begun (k - 1) i.request i.begun_as);
+        within = omega (arith, i.positive, slice_get_within state.begun (k - 1) i.request i.begun_as);
         request = i.request;
         begun_as = i.begun_as;
         asked = asked;
@@ -102,9 +90,9 @@ module _ (N : Network) (s k : ℕ) (accepted : List Accepted) (state : SessionSt
       let clock = n.are_clocks (N.session s).target session.exists in
       let says = kept_says N s k accepted state i.entry step i.positive i.kept in
       let sendable = sendable-one i.entry.request i.entry i.answer i.one says.answers in
-      let identity : length (N.session s).setup.target.0 ≡ 8 = subst (λ (c : ClockIdentity). length c.0 ≡ 8) (sym session.target) clock.identity in
-      let source : length i.heard.source.clock.0 ≡ 8 = subst (λ (m : PortIdentity). length m.clock.0 ≡ 8) (sym i.source) session.identity.clock in
-      let port : i.heard.source.port < 2 ^ 16 = subst (λ (m : PortIdentity). m.port < 2 ^ 16) (sym i.source) session.identity.port in
+      let identity : length (N.session s).setup.target.0 ≡ 8 = grind (arith) in
+      let source : length i.heard.source.clock.0 ≡ 8 = grind (arith) in
+      let port : i.heard.source.port < 2 ^ 16 = grind (arith) in
       let v : Message = reply_at (N.session s).setup.target i.heard i.entry.reply i.ingress i.hops i.answer in
       record {
         place = place;
@@ -123,7 +111,7 @@ module _ (N : Network) (s k : ℕ) (accepted : List Accepted) (state : SessionSt
         is = i.is;
         message = subst (λ m. IsMessage m v) (sym i.is)
             (canonical-message v (reply-valid (N.session s).setup.target i.heard i.entry.request i.entry.reply i.ingress i.hops i.answer says.answers sendable)
-            (reply-fits (N.session s).setup.target i.heard i.entry.request i.entry.reply i.ingress i.hops i.answer identity source port (number-fits i.heard.number (N.session s).setup.first k i.number) i.port says.asked.id says.answers sendable));
+            (reply-fits (N.session s).setup.target i.heard i.entry.request i.entry.reply i.ingress i.hops i.answer identity source port (omega (arith, i.number)) i.port says.asked.id says.answers sendable));
       }
 
   -- ---- with one hop less
@@ -133,36 +121,16 @@ module _ (N : Network) (s k : ℕ) (accepted : List Accepted) (state : SessionSt
       → IsRequestFrame (N.session s).setup state.begun k (with_less_hop octets)
   request_passed octets i =
       let says = request_says octets i in
-      record {
-        positive = says.positive;
-        request = says.request;
-        begun_as = says.begun_as;
-        domain = says.domain;
-        hops = says.hops - 1;
-        is = ap with_less_hop says.is ∙ less_hop-canonical (request_at N s k says.domain says.hops says.request)
-            (request-valid N s k says.domain says.hops (ports N (N.session s).target) says.request says.asked) says.message.fits;
-      }
+      search (ap with_less_hop says.is ∙ less_hop-canonical (request_at N s k says.domain says.hops says.request)
+      (request-valid N s k says.domain says.hops (ports N (N.session s).target) says.request says.asked) says.message.fits)
 
   pub reply_passed : (octets : List ℕ)
       → IsReplyFrame (N.session s).setup accepted k octets
       → IsReplyFrame (N.session s).setup accepted k (with_less_hop octets)
   reply_passed octets i =
       let says = reply_says octets i in
-      record {
-        positive = says.positive;
-        entry = says.entry;
-        kept = says.kept;
-        answer = says.answer;
-        one = says.one;
-        heard = says.heard;
-        source = says.source;
-        number = says.number;
-        ingress = says.ingress;
-        port = says.port;
-        hops = says.hops - 1;
-        is = ap with_less_hop says.is ∙ less_hop-canonical (reply_at (N.session s).setup.target says.heard says.entry.reply says.ingress says.hops says.answer)
-            (reply-valid (N.session s).setup.target says.heard says.entry.request says.entry.reply says.ingress says.hops says.answer says.says.answers (sendable-one says.entry.request says.entry says.answer says.one says.says.answers)) says.message.fits;
-      }
+      search (ap with_less_hop says.is ∙ less_hop-canonical (reply_at (N.session s).setup.target says.heard says.entry.reply says.ingress says.hops says.answer)
+      (reply-valid (N.session s).setup.target says.heard says.entry.request says.entry.reply says.ingress says.hops says.answer says.says.answers (sendable-one says.entry.request says.entry says.answer says.one says.says.answers)) says.message.fits)
 
 -- ---- in the machine, where all sessions are
 
@@ -196,9 +164,7 @@ pub heard-frame : (N : Network) (w : NetworkState) (octets : List ℕ) (o : Orig
     → IsHeard N w octets o
 heard-frame N w octets (RequestOf s k) i = i
 heard-frame N w octets (ReplyTo s k) i = i
-heard-frame N w octets Neither i = λ v e.
-    let same : i.message ≡ v = same_Some i.message v (sym i.is.read ∙ e) in
-    (subst Fits same i.is.fits, subst (IsForeign N) same i.foreign)
+heard-frame N w octets Neither i = grind (arith, same_Some)
 
 -- the message that a request's frame, or a reply's, is of
 pub same_read : (octets : List ℕ) (v u : Message)
@@ -211,18 +177,11 @@ same_read octets v u m e = same_Some v u (sym e ∙ m.read)
 pub passed_on-origin : (N : Network) (w : NetworkState) (octets : List ℕ) (o : Origin) (v : Message)
     → IsNetwork N → IsReached N w → IsHeard N w octets o → message_of octets ≡ Some v
     → IsOfOrigin N w (with_less_hop octets) o
-passed_on-origin N w octets (RequestOf s k) v n r (place, i) e =
-    (place, request_passed N s k (accepted_at_target N w s) (w.session s) n place (r.sessions s place) octets i)
-passed_on-origin N w octets (ReplyTo s k) v n r (place, i) e =
-    (place, reply_passed N s k (accepted_at_target N w s) (w.session s) n place (r.sessions s place) octets i)
+passed_on-origin N w octets (RequestOf s k) v n r (place, i) e = grind (arith, request_passed)
+passed_on-origin N w octets (ReplyTo s k) v n r (place, i) e = grind (arith, reply_passed)
 passed_on-origin N w octets Neither v n r i e =
     let p = i v e in
-    record { message = record v { hops = v.hops - 1 }; is = less_hop-message v octets e p.0; foreign = record { no_request = p.1.no_request; no_reply = p.1.no_reply } }
-
-one_hop : (before after' forwardings first hops : ℕ)
-    → before + forwardings ≡ first → hops ≡ before → 0 < hops → after' ≡ before - 1
-    → after' + (forwardings + 1) ≡ first
-one_hop before after' forwardings first hops a b c d = omega arith
+    record { message = record v { hops = v.hops - 1 }; is = less_hop-message v octets e p.0; foreign = grind (arith) }
 
 -- what a clock passes on of a frame is of the frame's origin, with a hop less and a forwarding more
 passed_on-frames : (N : Network) (w : NetworkState) (c : ℕ) (f : Frame)
@@ -233,12 +192,7 @@ passed_on-frames : (N : Network) (w : NetworkState) (c : ℕ) (f : Frame)
     (frames_to (peers N.links (AtPort c m.0)) m.1 f.origin f.first_hops (f.forwardings + 1))
 passed_on-frames N w c f n r i hops m p =
     all_made (HasEnd N) (IsFrame N w) _
-    (λ e h. record {
-      end = h;
-      origin = subst (λ octets. IsOfOrigin N w octets f.origin) (sym p.octets) (passed_on-origin N w f.octets f.origin p.message n r i p.read);
-      hops = subst (λ octets. boundary_hops octets + (f.forwardings + 1) ≡ f.first_hops) (sym p.octets)
-          (one_hop (boundary_hops f.octets) (boundary_hops (with_less_hop f.octets)) f.forwardings f.first_hops p.message.hops hops (message-hops p.message f.octets p.read) p.hop (less_hop-hops p.message f.octets p.read));
-    })
+    (λ e h. grind (arith, passed_on-origin, message-hops, less_hop-hops))
     (peers N.links (AtPort c m.0)) (has_peers N (AtPort c m.0) n)
 
 pub forwarded_frames-are : (N : Network) (w : NetworkState) (c port : ℕ) (f : Frame)

@@ -1,14 +1,10 @@
 -- Frames as a running network holds them, without their first hops and forwardings.
-use Rattle.ptpm_network.proofs.Common.{by_test, ◌≡◌, ℕ, ◌+◌, ◌-◌, ◌==◌, List, [], ◌∷◌, ◌++◌, Option, Some, None, refl, sym, ◌∙◌, ap, length, cond-true, cond-false, map-append, slice_get-map, flat_map, map, option_map, slice_get, Message, canonical, boundary_hops, copy_of, turn, frame_at, Held, RunningNetwork, after_turn, held, posted, seen, sent_posted, turn_frames, answer_origin, delivery, forwarded_frames, reply_frames, sent_frames, with_place, AtPort, End, Network, peers, Frame, Origin, RequestOf, frames_to}
+use Rattle.ptpm_network.proofs.Common.{arith, ◌≡◌, ℕ, ◌+◌, List, [], ◌∷◌, ◌++◌, Option, Some, None, refl, ◌∙◌, ap, cond-true, cond-false, map-append, slice_get-map, flat_map, map, option_map, slice_get, Message, canonical, boundary_hops, frame_at, Held, RunningNetwork, after_turn, held, posted, seen, sent_posted, forwarded_frames, sent_frames, AtPort, End, Network, peers, Frame, Origin, RequestOf, frames_to}
 
 -- a frame by its number
 pub frame_at-map : (fs : List Frame) (n : ℕ)
     → frame_at (map held fs) n ≡ option_map held (frame_at fs n)
-frame_at-map fs n = by_test (n == 0)
-    (λ y. let none : frame_at fs n ≡ None = cond-true _ _ _ y in
-    cond-true _ _ _ y ∙ sym (ap (option_map held) none))
-    (λ o. let some : frame_at fs n ≡ slice_get fs (n - 1) = cond-false _ _ _ o in
-    cond-false _ _ _ o ∙ slice_get-map held fs (n - 1) ∙ sym (ap (option_map held) some))
+frame_at-map fs n = grind (arith, cond-true, option_map, slice_get, cond-false, slice_get-map)
 
 -- ---- frames that are made
 
@@ -37,11 +33,4 @@ held-forwarded N c f (m ∷ ms) =
 -- a clock that hears a frame sends the same, whatever the frame's first hops and forwardings
 pub turned-seen : (N : Network) (r : RunningNetwork) (c port : ℕ) (f : Frame)
     → after_turn N r c port (seen (held f)) ≡ after_turn N r c port f
-turned-seen N r c port f =
-    let sent = turn (N.clock c) (r.clock c) port f.octets in
-    let replies : List Frame = reply_frames N c (answer_origin f.origin (copy_of (N.clock c) (length (r.clock c).sets.ports) (delivery port f))) sent.replies in
-    let frames : map held (turn_frames N (r.clock c) c port (seen (held f))) ≡ map held (turn_frames N (r.clock c) c port f) =
-    map-append held (forwarded_frames N c (seen (held f)) sent.forwards) replies
-    ∙ ap (λ (hs : List Held). hs ++ map held replies) (held-forwarded N c (seen (held f)) sent.forwards ∙ sym (held-forwarded N c f sent.forwards))
-    ∙ sym (map-append held (forwarded_frames N c f sent.forwards) replies) in
-    λ j. record { clock = with_place r.clock c sent.next; session = r.session; reports = r.reports; frames = r.frames ++ frames j }
+turned-seen N r c port f = grind (arith, map-append, held-forwarded)

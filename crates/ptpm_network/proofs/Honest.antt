@@ -51,7 +51,7 @@ entry-sendable : (c : Clock) (p : ℕ) (s : State) (v : Message)
     → IsSendableEntry (accepted_entry c s v)
 entry-sendable c p s v fits sets = record {
   id = id-fits v.body fits.body;
-  answers = reply-answers (request_of v) (c.rights v.source) p s.sets sets;
+  answers = grind (arith, reply-answers);
 }
 
 next-honest : (c : Clock) (p : ℕ) (s : State) (v : Message) (w : Verdict)
@@ -86,8 +86,7 @@ kept-replies : (o : Option Entry) (r : ReplyValue)
     → (q : RequestValue) × IsReplyTo q r
 kept-replies None r sendable e = absurd (cc)
 kept-replies (Some entry) r sendable e =
-    let s = sendable entry refl in
-    (entry.request, subst (IsReplyTo entry.request) (same_Some entry.reply r e) (record { id = s.id; answers = s.answers }))
+    let s = sendable entry refl in grind (arith)
 
 replies : (c : Clock) (p : ℕ) (s : State) (v : Message) (w : Verdict) (r : ReplyValue)
     → Fits v → IsHonestClock p s → reply_by w c s v ≡ Some r
@@ -108,7 +107,7 @@ module _ (N : Network) (n : IsNetwork N) (c port : ℕ) (end : HasEnd N (AtPort 
       let a = replies (N.clock c) (ports N c) s v w r fits h e in
       subst (λ (x : Origin). AllByRecursion (λ (m : ℕ × List ℕ). IsTrue N m.1 (reply_origin x)) (reply_messages (N.clock c) port (heard_of v) (Some r))) (sym by.origin)
       (rendered-says (λ x. IsTrue N x (ReplyTo by.session by.k)) N c port v a.0 r n end fits a.1.id a.1.answers
-      (λ x u m source target is. message-true N x u (ReplyTo by.session by.k) m (record { place = by.place; target = target ∙ by.source; reply = is })))
+      (λ x u m source target is. grind (arith, message-true)))
 
   turned-true : (f : Frame) (k : Option RequestCopy)
       → IsTrue N f.octets f.origin → copy_of (N.clock c) (length s.sets.ports) (delivery port f) ≡ k
@@ -140,7 +139,7 @@ turns-honest N r c port f n h end i = record {
   clocks = λ d there. at_place (λ j (s : State). IsHonestClock (ports N j) s) r.clock c (turn (N.clock c) (r.clock c) port f.octets).next d
       (turn-honest (N.clock c) (ports N c) (r.clock c) port f.octets (λ v e. (i v e).0) (h.clocks c end.0)) (h.clocks d there);
   sessions = h.sessions;
-  frames = all_append (IsTrueFrame N) r.frames _ h.frames (frames-true N n c port end (r.clock c) (h.clocks c end.0) f i);
+  frames = grind (arith, all_append, frames-true);
 }
 
 -- ---- sessions
@@ -148,11 +147,7 @@ turns-honest N r c port f n h end i = record {
 pub session-honest : (N : Network) (r : RunningNetwork) (t : ℕ) (v : SessionValue)
     → IsHonest N r → IsHonestSession N t v
     → IsHonest N (with_session_value r t v)
-session-honest N r t v h s = record {
-  clocks = h.clocks;
-  sessions = λ u there. at_place (λ j (x : SessionValue). IsHonestSession N j x) r.session t v u s (h.sessions u there);
-  frames = h.frames;
-}
+session-honest N r t v h s = grind (arith, at_place)
 
 -- what a session sends is its own request
 pub record IsSentBy (N : Network) (t : ℕ) (value : SessionValue) (v : Message) : Type 0 where
@@ -169,19 +164,10 @@ sent-by : (N : Network) (t : ℕ) (value : SessionValue) (o : Option RequestValu
 sent-by N t value None v n place h u e = absurd (cc)
 sent-by N t value (Some q) v n place h u e =
     let made : request_message value.setup value.domain value.issued q ≡ v = same_Some _ v e in
-    let is : v ≡ request_message (N.session t).setup value.domain value.issued q = sym made ∙ ap (λ (x : Setup). request_message x value.domain value.issued q) h.setup in
+    let is : v ≡ request_message (N.session t).setup value.domain value.issued q = grind (arith) in
     let asked = h.asked q u in
     let p = ports N (N.session t).target in
-    let first : Message = request_message (N.session t).setup value.domain value.issued q in
-    record {
-      request = q;
-      unanswered = u;
-      asked = asked;
-      is = is;
-      message = subst (λ x. IsMessage (canonical x) x) (sym is)
-          (canonical-message first (request-valid N t value.issued value.domain (N.session t).setup.hops p q asked)
-          (request-fits N t value.issued value.domain (N.session t).setup.hops p q n place asked));
-    }
+    let first : Message = request_message (N.session t).setup value.domain value.issued q in grind (arith, canonical-message, request-valid, request-fits)
 
 pub sent_by : (N : Network) (t : ℕ) (value : SessionValue) (v : Message)
     → IsNetwork N → t < N.sessions → IsHonestSession N t value → due_message value ≡ Some v
@@ -199,8 +185,7 @@ sent-all Q N t k (Some v) n each = all_made (HasEnd N) Q _ (each v refl) (peers 
 sent-true : (N : Network) (t : ℕ) (value : SessionValue) (v : Message)
     → t < N.sessions → IsSentBy N t value v
     → IsTrue N (canonical v) (RequestOf t value.issued)
-sent-true N t value v place s = message-true N (canonical v) v (RequestOf t value.issued) s.message
-    (subst (λ x. IsTrueTo N x (RequestOf t value.issued)) (sym s.is) (record { place = place; source = refl; target = refl; request = s.asked.action }))
+sent-true N t value v place s = grind (arith, message-true, IsTrueTo)
 
 pub sends-honest : (N : Network) (r : RunningNetwork) (t : ℕ)
     → IsNetwork N → IsHonest N r → t < N.sessions
@@ -216,16 +201,12 @@ sends-honest N r t n h place =
           (λ v e x he. record { end = he; says = sent-true N t (r.session t) v place (sent_by N t (r.session t) v n place value e) }));
     }
 
-no_request : {X : Type 0} (q : RequestValue) → None ≡ Some q → X
-no_request q e = absurd (cc)
-
 hears-honest : (N : Network) (r : RunningNetwork) (t : ℕ) (x : Received)
     → IsHonest N r → t < N.sessions
     → IsHonest N (hears r t x)
 hears-honest N r t (received.Ignored reason) h place = h
 hears-honest N r t (received.Answered report) h place =
-    let base = session-honest N r t (answered (r.session t)) h (record { setup = (h.sessions t place).setup; asked = λ q e. no_request q e }) in
-    record { clocks = base.clocks; sessions = base.sessions; frames = base.frames }
+    let base = session-honest N r t (answered (r.session t)) h (record { setup = (h.sessions t place).setup; asked = λ q e. absurd (cc) }) in grind (arith)
 
 -- ---- any event
 
@@ -252,8 +233,7 @@ begins-honest N r t a n h place id e =
     let fine = (begin-not_refused (r.session t) a e).1 in
     let asked : IsAsked (ports N (N.session t).target) (ask.request_of a) =
     asked-not_refused (ports N (N.session t).target) a clock.at_most_eight id
-    (subst (λ p. ask_refusal p a ≡ None) (ap (λ (x : Setup). x.ports) value.setup ∙ session.ports) fine) in
-    record { setup = value.setup; asked = λ q is. subst (IsAsked (ports N (N.session t).target)) (same_Some (ask.request_of a) q is) asked }
+    (subst (λ p. ask_refusal p a ≡ None) (ap (λ (x : Setup). x.ports) value.setup ∙ session.ports) fine) in grind (arith)
 
 module _ (N : Network) (n : IsNetwork N) (r : RunningNetwork) (h : IsHonest N r) where
   pub frame-true : (k : ℕ) (x : Held) → frame_at r.frames k ≡ Some x → IsTrueFrame N x
@@ -273,14 +253,4 @@ nothing_kept first d m e h = absurd (omega (arith, h.some))
 pub first-honest : (N : Network) (first : PortIdentity → ℕ) (r : RunningNetwork)
     → IsNetwork N → Stands N first r (initial_state N)
     → IsHonest N r
-first-honest N first r n at = record {
-  clocks = λ c place. record {
-    sets = subst (AreDataSets (ports N c)) (sym (at.clocks c place).sets) (n.are_clocks c place).start;
-    kept = λ m e is. nothing_kept first (N.start c) m e (subst (IsKept first (initial_history (N.start c)) m) is ((at.clocks c place).entries m));
-  };
-  sessions = λ t place. record {
-    setup = ap (λ (v : SessionValue). v.setup) (at.sessions t place);
-    asked = λ q e. no_request q (sym (ap (λ (v : SessionValue). v.unanswered) (at.sessions t place)) ∙ e);
-  };
-  frames = subst (AllByRecursion (IsTrueFrame N)) (sym at.frames) tt;
-}
+first-honest N first r n at = grind (arith, kept, nothing_kept)

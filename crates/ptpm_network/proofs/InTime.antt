@@ -1,44 +1,30 @@
 -- A copy that is not late lies in the window of its manager.
-use Rattle.ptpm_network.proofs.Common.{by_test, ◌≡◌, ℕ, ◌<◌, ◌==◌, List, [], ◌∷◌, ◌++◌, Option, Some, None, false, refl, sym, ◌∙◌, ap, subst, eqb-true, ltb-false, append-nil, AllByRecursion, cons_option, first_of-none, option_or-none, PortIdentity, InWindow, initial_clock_state, turns, Delivery, History, RequestCopy, after_copy, applied_once, initial_history, copy_of, greatest, Clock, number_of, AreNumbered, IsInTime, IsInWindow, IsNumbered, KeepsWindow, sets_once, Event, Begin, Deliver, IsInRange, Refusal, Resume, Retune, Send, Stranger, frame_at, refusal, no_port, forged, no_room, is_forged, Forged, IsFrame, IsReached, AreInTime, arrives, delivered, delivered_at, delivery, happens, is_late_delivery, is_late_frame, run, step, step_by, strange_frame, AtPort, AtSession, End, HasEnd, IsNetwork, Network, manager, ports, AreFirsts, Frame, NetworkState, Origin, RequestOf, copies_at, initial_state, accepted_at_target, history, is_late, all_append}
+use Rattle.ptpm_network.proofs.Common.{arith, by_test, ◌≡◌, ℕ, ◌<◌, ◌==◌, List, [], ◌∷◌, ◌++◌, Option, Some, None, false, refl, sym, ◌∙◌, ap, subst, eqb-true, ltb-false, append-nil, AllByRecursion, cons_option, PortIdentity, InWindow, initial_clock_state, turns, Delivery, History, RequestCopy, after_copy, applied_once, initial_history, copy_of, greatest, Clock, AreNumbered, IsInTime, IsInWindow, IsNumbered, KeepsWindow, sets_once, Event, Deliver, IsInRange, Stranger, frame_at, refusal, IsReached, AreInTime, arrives, delivery, happens, is_late_delivery, is_late_frame, run, step, strange_frame, AtPort, HasEnd, IsNetwork, Network, ports, AreFirsts, Frame, NetworkState, copies_at, initial_state, history, is_late, all_append}
 use Rattle.ptpm_network.proofs.Accepting.{in_step-window}
 use Rattle.ptpm_network.proofs.Arriving.{IsCopyOf, copies-elsewhere, copies-here, is_copy_of}
 use Rattle.ptpm_network.proofs.Frames.{IsHeard, heard-frame}
 use Rattle.ptpm_network.proofs.Schedule.{reached}
-use Rattle.ptpm_network.proofs.Reaching.{first-reached, frame_at-is, step-reached}
-use Rattle.ptpm_network.proofs.Strangers.{strange-message}
+use Rattle.ptpm_network.proofs.Reaching.{first-reached, frame_at-is, step-reached, after-step, after-delivery, strange-comes}
 use Rattle.ptpm_network.proofs.Steps.{InStep}
 
 copy-window : (N : Network) (w : NetworkState) (c port : ℕ) (f : Frame) (copy : RequestCopy)
     → IsReached N w → is_late w f.origin ≡ false → IsCopyOf N w c port f copy
     → InWindow (greatest copy.heard.source (history N w c).accepted) copy.index
-copy-window N w c port f copy r late of =
-    let at : InStep N w of.session (w.session of.session) = r.sessions of.session of.says.place in
-    let now : is_late w (RequestOf of.session of.k) ≡ false = subst (λ (o : Origin). is_late w o ≡ false) of.origin late in
-    let g : greatest (manager N of.session) (accepted_at_target N w of.session) ≡ greatest copy.heard.source (history N w c).accepted =
-    ap (λ d. greatest (manager N of.session) (history N w d).accepted) of.target
-    ∙ ap (λ (m : PortIdentity). greatest m (history N w c).accepted) (sym of.source) in
-    subst (λ k. InWindow (greatest copy.heard.source (history N w c).accepted) k) (sym of.index)
-    (subst (λ n. InWindow n of.k) g
-    (in_step-window (manager N of.session) (ports N (N.session of.session).target) (accepted_at_target N w of.session) (w.session of.session) of.k at of.says.within (ltb-false _ _ now)))
+copy-window N w c port f copy r late of = grind (arith, InStep, in_step-window, ltb-false)
 
 module _ (first : PortIdentity → ℕ) (N : Network) (w : NetworkState) (c port : ℕ) (f : Frame) (copy : RequestCopy) (firsts : AreFirsts N first) where
   -- late or not, index and sequenceId go together
   copy-numbered : IsCopyOf N w c port f copy → IsNumbered first copy
   copy-numbered of = record {
     positive = subst (λ k. 0 < k) (sym of.index) of.says.positive;
-    number = of.number
-        ∙ ap (λ j. number_of j of.k) (sym (firsts of.session of.says.place))
-        ∙ ap (λ (m : PortIdentity). number_of (first m) of.k) (sym of.source)
-        ∙ ap (number_of (first copy.heard.source)) (sym of.index);
+    number = grind (arith);
   }
 
   pub in_window : IsNetwork N
       → IsReached N w → c < N.clocks → IsHeard N w f.octets f.origin → is_late w f.origin ≡ false
       → copy_of (N.clock c) (ports N c) (delivery port f) ≡ Some copy
       → IsInTime first (history N w c) copy
-  in_window n r place i late e =
-      let of = is_copy_of N w c port f copy n r place i e in
-      record { numbered = copy-numbered of; window = λ p. copy-window N w c port f copy r late of }
+  in_window n r place i late e = grind (arith, is_copy_of, copy-numbered, copy-window)
 
 -- a frame that was sent
 pub frame-in_window : (N : Network) (es : List Event) (first : PortIdentity → ℕ) (k c port : ℕ)
@@ -78,11 +64,7 @@ keeping-by : (N : Network) (first : PortIdentity → ℕ) (A : Type 0) (w : Netw
     → Keeping N first A c (copies_at N w c ++ cons_option o [])
 keeping-by N first A w c port f None n r place i late e keeps = subst (Keeping N first A c) (sym (append-nil (copies_at N w c))) keeps
 keeping-by N first A w c port f (Some copy) n r place i late e keeps =
-    let of = is_copy_of N w c port f copy n r place i e in
-    record {
-      numbered = λ firsts. all_append (IsNumbered first) (copies_at N w c) (copy ∷ []) (keeps.numbered firsts) (copy-numbered first N w c port f copy firsts of, tt);
-      window = λ a. window-append (N.clock c) (initial_history (N.start c)) (copies_at N w c) copy (keeps.window a) (λ p. copy-window N w c port f copy r (late a) of);
-    }
+    let of = is_copy_of N w c port f copy n r place i e in grind (arith, all_append, copy-numbered, window-append, copy-window)
 
 keeps-arriving : (N : Network) (first : PortIdentity → ℕ) (A : Type 0) (w : NetworkState)
     (d port : ℕ) (f : Frame)
@@ -97,47 +79,20 @@ keeps-arriving N first A w d port f n r i late keeps c place =
     subst (λ j. Keeping N first A j (copies_at N (arrives w d x) j)) (sym cd)
     (subst (Keeping N first A d) (sym (copies-here N w d x))
     (keeping-by N first A w d port f (copy_of (N.clock d) (ports N d) x) n r there i late refl (keeps d there))))
-    (λ o. subst (Keeping N first A c) (sym (copies-elsewhere N w d x c o)) (keeps c place))
-
-keeps-delivered_at : (N : Network) (first : PortIdentity → ℕ) (A : Type 0) (w : NetworkState)
-    (f : Frame) (e : End)
-    → IsNetwork N → IsReached N w → IsFrame N w f → (A → is_late w f.origin ≡ false)
-    → Keeps N first A w
-    → Keeps N first A (delivered_at N w f e)
-keeps-delivered_at N first A w f (AtPort d port) n r i late keeps c place = keeps-arriving N first A w d port f n r (heard-frame N w f.octets f.origin i.origin) late keeps c place
-keeps-delivered_at N first A w f (AtSession s) n r i late keeps c place = keeps c place
-
-keeps-delivered : (N : Network) (first : PortIdentity → ℕ) (A : Type 0) (w : NetworkState) (k : ℕ)
-    (o : Option Frame)
-    → IsNetwork N → IsReached N w → frame_at w.frames k ≡ o → (A → is_late_frame w o ≡ false)
-    → Keeps N first A w
-    → Keeps N first A (delivered N w o)
-keeps-delivered N first A w k None n r e late keeps = keeps
-keeps-delivered N first A w k (Some f) n r e late keeps = keeps-delivered_at N first A w f f.end n r (frame_at-is N w k f r e) late keeps
+    (λ o. grind (arith, copies-elsewhere))
 
 keeps-happens : (N : Network) (first : PortIdentity → ℕ) (A : Type 0) (w : NetworkState) (e : Event)
     → IsNetwork N → IsReached N w → IsInRange e → refusal N w e ≡ None
     → (A → is_late_delivery w e ≡ false) → Keeps N first A w
     → Keeps N first A (happens N w e)
 unfolding refusal happens
-keeps-happens N first A w (Begin s q) n r i e late keeps = keeps
-keeps-happens N first A w (Send s) n r i e late keeps = keeps
-keeps-happens N first A w (Resume s attempts) n r i e late keeps = keeps
-keeps-happens N first A w (Retune s domain) n r i e late keeps = keeps
-keeps-happens N first A w (Deliver k) n r i e late keeps = keeps-delivered N first A w k (frame_at w.frames k) n r refl late keeps
+keeps-happens N first A w (Deliver k) n r i e late keeps =
+    after-delivery (Keeps N first A) N w k keeps
+    (λ f at c port end. keeps-arriving N first A w c port f n r (heard-frame N w f.octets f.origin (frame_at-is N w k f r at).origin) (λ a. sym (ap (is_late_frame w) at) ∙ late a) keeps)
+    (λ f at s end. keeps)
 keeps-happens N first A w (Stranger d port datagram) n r i e late keeps =
-    let p = option_or-none (no_port N d port) _ e in
-    let q = option_or-none (forged N datagram) (no_room w.frames) p.1 in
-    let honest = (first_of-none (is_forged N datagram) Forged [] q.0).0 in
-    λ c place. keeps-arriving N first A w d port (strange_frame d port datagram) n r (λ v h. strange-message N datagram v i honest h) (λ a. refl) keeps c place
-
-keeps-step_by : (N : Network) (first : PortIdentity → ℕ) (A : Type 0) (w : NetworkState) (e : Event)
-    (o : Option Refusal)
-    → refusal N w e ≡ o → IsNetwork N → IsReached N w → IsInRange e
-    → (A → refusal N w e ≡ None → is_late_delivery w e ≡ false) → Keeps N first A w
-    → Keeps N first A (step_by o N w e)
-keeps-step_by N first A w e None h n r i late keeps = keeps-happens N first A w e n r i h (λ a. late a h) keeps
-keeps-step_by N first A w e (Some refused) h n r i late keeps = keeps
+    keeps-arriving N first A w d port (strange_frame d port datagram) n r (strange-comes N w d port datagram i e).1 (λ a. refl) keeps
+keeps-happens N first A w _ n r i e late keeps = keeps
 
 keeps-run : (N : Network) (first : PortIdentity → ℕ) (A : Type 0) (w : NetworkState)
     (es : List Event)
@@ -147,7 +102,7 @@ keeps-run : (N : Network) (first : PortIdentity → ℕ) (A : Type 0) (w : Netwo
 keeps-run N first A w [] n r i late keeps = keeps
 keeps-run N first A w (e ∷ es) n r i late keeps =
     keeps-run N first A (step N w e) es n (step-reached N w e n i.0 r) i.1 (λ a. (late a).1)
-    (keeps-step_by N first A w e (refusal N w e) refl n r i.0 (λ a. (late a).0) keeps)
+    (after-step (Keeps N first A) N w e keeps (λ none. grind (arith, keeps-happens)))
 
 keeps-first : (N : Network) (first : PortIdentity → ℕ) (A : Type 0)
     → Keeps N first A (initial_state N)

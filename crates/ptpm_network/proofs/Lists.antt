@@ -1,5 +1,5 @@
 -- What holds of each element of a list, and functions of places that change at one.
-use Rattle.std.proofs.Common.{suc, zero, ◌≡◌, ℕ, ◌*◌, ◌<◌, ◌≤◌, ◌==◌, ◌||◌, not, List, [], ◌∷◌, ◌++◌, Some, None, ◌-◌, Bool, true, false, refl, sym, ◌∙◌, ap, subst, length, length-append, arith, slice_get, map, filter}
+use Rattle.std.proofs.Common.{suc, zero, ◌≡◌, ℕ, ◌*◌, ◌<◌, ◌≤◌, ◌==◌, not, List, [], ◌∷◌, ◌++◌, Some, Bool, true, false, refl, sym, subst, length, length-append, arith, slice_get, map, filter}
 use Rattle.std.proofs.lemmas.Bool.{cond-true, cond-false, eqb-true, true≢false}
 use Rattle.std.specs.Prelude.{flat_map}
 use Rattle.std.specs.List.{AllByRecursion, list_any}
@@ -43,9 +43,7 @@ all_get P (y ∷ ys) (suc i) x a e = all_get P ys i x a.1 e
 pub frame_at-all : {X : Type 0} (P : X → Type 0)
     → (xs : List X) (n : ℕ) (x : X) → AllByRecursion P xs → frame_at xs n ≡ Some x
     → P x
-frame_at-all P xs n x a e = by_test (n == 0)
-    (λ y. let none : None ≡ Some x = sym (cond-true _ _ _ y) ∙ e in absurd (cc))
-    (λ o. all_get P xs (n - 1) x a (sym (cond-false _ _ _ o) ∙ e))
+frame_at-all P xs n x a e = grind (arith, cond-true, all_get, cond-false)
 
 pub get_append : {X : Type 0} (xs ys : List X) (i : ℕ) (x : X)
     → slice_get xs i ≡ Some x
@@ -81,29 +79,20 @@ with_place-other f i v j n = cond-false _ _ _ n
 pub at_place : {B : Type 0} (P : ℕ → B → Type 0) (g : ℕ → B) (i : ℕ) (b : B) (j : ℕ)
     → P i b → P j (g j)
     → P j (with_place g i b j)
-at_place P g i b j new old = by_test (j == i)
-    (λ y. subst (P j) (sym (with_place-same g i b j y)) (subst (λ k. P k b) (sym (eqb-true j i y)) new))
-    (λ n. subst (P j) (sym (with_place-other g i b j n)) old)
+at_place P g i b j new old = grind (arith, eqb-true)
 
 pub at_places : {A B : Type 0} (P : ℕ → A → B → Type 0) (f : ℕ → A) (g : ℕ → B) (i : ℕ) (a : A)
     (b : B) (j : ℕ)
     → P i a b → P j (f j) (g j)
     → P j (with_place f i a j) (with_place g i b j)
-at_places P f g i a b j new old = by_test (j == i)
-    (λ y. subst (λ x. P j x (with_place g i b j)) (sym (with_place-same f i a j y))
-    (subst (P j a) (sym (with_place-same g i b j y)) (subst (λ k. P k a b) (sym (eqb-true j i y)) new)))
-    (λ n. subst (λ x. P j x (with_place g i b j)) (sym (with_place-other f i a j n))
-    (subst (P j (f j)) (sym (with_place-other g i b j n)) old))
+at_places P f g i a b j new old = grind (arith, eqb-true)
 
 -- ---- how many there are
 
 pub filter-few : {X : Type 0} (test : X → Bool) (xs : List X) → length (filter test xs) ≤ length xs
 filter-few test [] = omega arith
 filter-few test (x ∷ xs) =
-    let rest : length (filter test xs) ≤ length xs = filter-few test xs in
-    by_test (test x)
-    (λ y. let is : filter test (x ∷ xs) ≡ x ∷ filter test xs = cond-true _ _ _ y in omega (arith, ap length is))
-    (λ n. let is : filter test (x ∷ xs) ≡ filter test xs = cond-false _ _ _ n in omega (arith, ap length is))
+    let rest : length (filter test xs) ≤ length xs = filter-few test xs in grind (arith)
 
 -- one less at least, where one is left out
 pub filter-fewer : {X : Type 0} (test : X → Bool) (xs : List X)
@@ -111,15 +100,12 @@ pub filter-fewer : {X : Type 0} (test : X → Bool) (xs : List X)
     → length (filter (λ x. not (test x)) xs) < length xs
 filter-fewer test [] some = absurd (true≢false (sym some))
 filter-fewer test (x ∷ xs) some = by_test (test x)
-    (λ y. let is : filter (λ z. not (test z)) (x ∷ xs) ≡ filter (λ z. not (test z)) xs = cond-false _ _ _ (ap not y) in
-    omega (arith, ap length is, filter-few (λ z. not (test z)) xs))
-    (λ n. let is : filter (λ z. not (test z)) (x ∷ xs) ≡ x ∷ filter (λ z. not (test z)) xs = cond-true _ _ _ (ap not n) in
-    let later : list_any test xs ≡ true = sym (ap (λ b. b || list_any test xs) n) ∙ some in
-    omega (arith, ap length is, filter-fewer test xs later))
+    (λ y. rw y (omega (arith, filter-few (λ z. not (test z)) xs)))
+    (λ n. rw n (omega (arith, filter-fewer test xs (rw n at some))))
 
--- of each at most fifteen
-pub flat-few : {X Y : Type 0} (make : X → List Y)
-    → ((x : X) → length (make x) ≤ 15) → (xs : List X)
-    → length (flat_map make xs) ≤ 15 * length xs
-flat-few make few [] = omega arith
-flat-few make few (x ∷ xs) = omega (arith, length-append (make x) (flat_map make xs), few x, flat-few make few xs)
+-- of each at most so many
+pub flat-few : {X Y : Type 0} (make : X → List Y) (most : ℕ)
+    → ((x : X) → length (make x) ≤ most) → (xs : List X)
+    → length (flat_map make xs) ≤ most * length xs
+flat-few make most few [] = omega arith
+flat-few make most few (x ∷ xs) = omega (arith, length-append (make x) (flat_map make xs), few x, flat-few make most few xs)

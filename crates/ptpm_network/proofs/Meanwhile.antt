@@ -1,7 +1,6 @@
 -- One copy each way along a way answers a request, whatever else happens between: frames stay, so each is there when its turn
 -- comes.
-use Rattle.ptpm_network.proofs.Common.{suc, arith, ◌≡◌, ℕ, ◌<◌, ◌≤◌, ◌+◌, ◌-◌, ◌*◌, ◌==◌, List, [], ◌∷◌, ◌++◌, None, false, refl, sym, ◌∙◌, ap, subst, length, length-append, append_assoc, AllByRecursion, Deliver, Event, IsInRange, Send, frames_limit, refusal, HasReported, HasRoom, IsReached, run, step, AtPort, AtSession, End, IsNetwork, Network, NetworkState, Origin, RequestOf, ReplyTo, is_idle, issued, AreLinked, Hop, IsWay, Leads, LinksHaveAtMost, PassesOn, made_along, made_each_way, passed_at_most, visited}
-use Rattle.std.proofs.Math.Nat.{mul-suc}
+use Rattle.ptpm_network.proofs.Common.{suc, arith, ◌≡◌, ℕ, ◌<◌, ◌≤◌, ◌+◌, ◌-◌, ◌*◌, List, [], ◌∷◌, ◌++◌, None, false, refl, sym, ◌∙◌, ap, subst, length, length-append, append_assoc, AllByRecursion, Deliver, Event, IsInRange, Send, frames_limit, refusal, HasRoom, IsReached, run, step, AtPort, AtSession, End, IsNetwork, Network, NetworkState, Origin, RequestOf, ReplyTo, is_idle, issued, AreLinked, Hop, IsWay, Leads, LinksHaveAtMost, PassesOn, made_along, made_each_way, passed_at_most, visited}
 use Rattle.ptpm_network.specs.Way.{IsWayIn}
 use Rattle.ptpm_network.specs.Machine as machine
 use Rattle.ptpm_network.specs.Meanwhile.{ComeInMeanwhile, LeavesWay}
@@ -23,40 +22,12 @@ pub record IsOpen (N : Network) (w v : NetworkState) (s : ℕ) (hops : List Hop)
   pub room : length v.frames + made ≤ frames_limit
 
 module _ (N : Network) (w v u : NetworkState) (s : ℕ) (hops : List Hop) (port made : ℕ) where
-  -- others have left it
-  open-left : IsOpen N w v s hops port made
-      → IsReached N u → LeavesWay N v u s hops port made
-      → IsOpen N w u s hops port made
-  open-left o r l =
-      let domain : (u.session s).domain ≡ (w.session s).domain = l.domain ∙ o.same.domain in
-      record {
-        reached = r;
-        same = record {
-          counted = ap length l.begun ∙ o.same.counted;
-          reports = l.reports ∙ o.same.reports;
-          domain = domain;
-          idle = ap (λ rs. length rs == length (u.session s).begun) l.reports ∙ ap (λ bs. length (v.session s).reports == length bs) l.begun ∙ o.same.idle;
-        };
-        way = subst (λ d. IsWayIn N u s d hops port) domain (l.way (subst (λ d. IsWayIn N v s d hops port) (sym o.same.domain) o.way));
-        room = l.room o.room;
-      }
-
-  room-after : (a b most n limit : ℕ) → b ≤ a + most → a + (n + most) ≤ limit → b + n ≤ limit
-  room-after a b most n limit p le = omega arith
-
   -- a message of the request's own was handed in
   open-moved : (most n : ℕ)
       → made ≡ most * suc n → IsOpen N w v s hops port made → Moved N s v u most
       → Hears N u s (issued w s) (w.session s).domain
       → IsOpen N w u s hops port (most * n)
-  open-moved most n e o m hears =
-      let same = same-moved w v u s m.sessions o.same in
-      record {
-        reached = m.reached;
-        same = same;
-        way = way-stays N v u s (w.session s).domain port hops m.histories (subst (λ k. Hears N u s k (w.session s).domain) (sym same.counted) hears) o.way;
-        room = room-after (length v.frames) (length u.frames) most (most * n) frames_limit m.frames (subst (λ x. length v.frames + x ≤ frames_limit) (e ∙ mul-suc most n) o.room);
-      }
+  open-moved most n e o m hears = grind (arith, same-moved, way-stays, Hears)
 
 -- ---- one message after another
 
@@ -67,9 +38,7 @@ module _ (N : Network) (w : NetworkState) (s : ℕ) (hops : List Hop) (port made
       → IsOpen N w (run N w past) s hops port made
       → LeavesWay N (run N w past) (run N w (past ++ others)) s hops port made
       → IsOpen N w (run N w (past ++ others)) s hops port made
-  others-open n range o l =
-      open-left N w (run N w past) (run N w (past ++ others)) s hops port made o
-      (subst (IsReached N) (sym (run-append N w past others)) (run-reached N (run N w past) others n range o.reached)) l
+  others-open n range o l = grind (arith, run-append, run-reached)
 
   others-comes : (e : End) (o : Origin) (domain left : ℕ)
       → Comes (run N w past) e o domain left
@@ -121,21 +90,6 @@ behind-is : (hops : List Hop) (to far : End) (rest : List End)
     ≡ (visited hops to ++ far ∷ []) ++ rest
 behind-is hops to far rest = ap (λ es. es ++ far ∷ rest) (visited-is hops to) ∙ sym (append_assoc (visited hops to) (far ∷ []) rest)
 
-one_less : (lost hops all : ℕ) → 0 < hops → lost + hops ≡ all → (lost + 1) + (hops - 1) ≡ all
-one_less lost hops all p e = omega arith
-
-enough_left : (n hops : ℕ) → suc n ≤ hops → (0 < hops) × (n ≤ hops - 1)
-enough_left n hops le = (omega arith, omega arith)
-
-plus_one : (lost : ℕ) → (lost + 1) - 1 ≡ lost
-plus_one lost = omega arith
-
-some_lost : (lost : ℕ) → 0 < lost + 1
-some_lost lost = omega arith
-
-pub some_room : (a m limit : ℕ) → a + m ≤ limit → a ≤ limit
-some_room a m limit le = omega arith
-
 -- the clocks of a part of the way
 abbrev AreOf : Network → NetworkState → ℕ → List Hop → List Hop → Type 0
 AreOf N w s all hops = (u : NetworkState)
@@ -152,7 +106,7 @@ module _ (N : Network) (w : NetworkState) (s : ℕ) (all : List Hop) (port ends 
   open-hears u made o = subst (λ k. Hears N u s k (w.session s).domain) o.same.counted o.way.heard
 
   open-room : (u : NetworkState) (made : ℕ) → IsOpen N w u s all port made → HasRoom u
-  open-room u made o = some_room (length u.frames) made frames_limit o.room
+  open-room u made o = omega (arith, o.room)
 
   -- a clock of the way passes the reply back
   goes-back : (h : Hop) (hops : List Hop) (from : End) (es : List End) (lost : ℕ)
@@ -160,9 +114,10 @@ module _ (N : Network) (w : NetworkState) (s : ℕ) (all : List Hop) (port ends 
       → Goes N w s all port ends (ReplyTo s (issued w s)) from es lost
       → Goes N w s all port ends (ReplyTo s (issued w s)) (AtPort h.clock h.far) (from ∷ es) (lost + 1)
   goes-back h hops from es lost of link next =
+      let less : lost ≡ (lost + 1) - 1 = omega arith in
       hand-on N w s all port ends (AtPort h.clock h.far) from es (ReplyTo s (issued w s)) (ReplyTo s (issued w s)) (lost + 1) ((lost + 1) - 1) n
-      (λ u o comes. pass_back N s u (passed_at_most ends) (issued w s) (w.session s).domain (lost + 1) h from n few o.reached (open-room u _ o) o.same.counted (open-hears u _ o) (of u o.way.passes).0 link.back (some_lost lost) comes)
-      (subst (Goes N w s all port ends (ReplyTo s (issued w s)) from es) (sym (plus_one lost)) next)
+      (λ u o comes. grind (arith, pass_back, open-room, open-hears))
+      (subst (Goes N w s all port ends (ReplyTo s (issued w s)) from es) less next)
 
   goes : (hops : List Hop) (left lost : ℕ) (from : End) (es : List End)
       → AreOf N w s all hops → lost + left ≡ (N.session s).setup.hops → length hops ≤ left
@@ -175,12 +130,11 @@ module _ (N : Network) (w : NetworkState) (s : ℕ) (all : List Hop) (port ends 
   goes (h ∷ hops) left lost from es of sum le leads next =
       let far : End = AtPort h.clock h.far in
       let first : End = first_end hops target in
-      let enough = enough_left (length hops) left le in
       let link = leads-first N hops far target leads.1 in
-      let on = goes hops (left - 1) (lost + 1) far (from ∷ es) (λ u passes. (of u passes).1) (one_less lost left (N.session s).setup.hops enough.0 sum) enough.1 leads.1 (goes-back h hops from es lost of leads.0 next) in
+      let on = goes hops (left - 1) (lost + 1) far (from ∷ es) (λ u passes. (of u passes).1) (omega (arith, le, sum)) (omega (arith, le)) leads.1 (goes-back h hops from es lost of leads.0 next) in
       subst (λ ls. Goes N w s all port ends (RequestOf s (issued w s)) (AtPort h.clock h.near) ls left) (behind-is hops target far (from ∷ es))
       (hand-on N w s all port ends (AtPort h.clock h.near) first (behind hops target ++ far ∷ from ∷ es) (RequestOf s (issued w s)) (RequestOf s (issued w s)) left (left - 1) n
-      (λ u o comes. pass_there N s u (passed_at_most ends) (issued w s) (w.session s).domain left h first n few o.reached (open-room u _ o) o.same.counted (open-hears u _ o) (of u o.way.passes).0 link.there enough.0 comes) on)
+      (λ u o comes. grind (arith, pass_there, open-room, open-hears)) on)
 
   -- at last the session reports
   goes-home : is_idle (w.session s) ≡ false
@@ -189,38 +143,22 @@ module _ (N : Network) (w : NetworkState) (s : ℕ) (all : List Hop) (port ends 
       let made = passed_at_most ends * 0 in
       let v : NetworkState = run N w (past ++ others) in
       let o : IsOpen N w v s all port made = others-open N w s all port made past others n range clear leaves in
-      let told = tell N s v (issued w s) (w.session s).domain 0 n place o.reached (some_room (length v.frames) made frames_limit o.room) o.same.counted (o.same.idle ∙ busy) o.same.domain
+      let told = tell N s v (issued w s) (w.session s).domain 0 n place o.reached (omega (arith, o.room)) o.same.counted (o.same.idle ∙ busy) o.same.domain
       (others-comes N w s all port made past others (AtSession s) (ReplyTo s (issued w s)) (w.session s).domain 0 comes) in
-      let u : NetworkState = step N v (Deliver told.number) in (
-        told.number,
-        told.comes_in,
-        subst (λ (x : NetworkState). HasReported w x s) (sym (run-append N w (past ++ others) (Deliver told.number ∷ []))) (reported-since w v u s o.same told.reported),
-      )
+      let u : NetworkState = step N v (Deliver told.number) in grind (arith, run-append, reported-since)
 
 -- ---- from the sending on
 
--- so many frames are made at most
-twice_more : (a m x : ℕ) → m ≡ x → a + (m + a) ≡ (x + a) + a
-twice_more a m x e = omega arith
-
-once : (m : ℕ) → m ≡ m * 1
-once m = omega arith
-
 made-along : (most : ℕ) (hops : List Hop) (to : End)
     → made_along most hops ≡ most * length (visited hops to)
-made-along most [] to = once most
+made-along most [] to = omega arith
 made-along most (h ∷ hops) to =
-    let n = length (visited hops to) in
-    let size : length (visited hops to ++ AtPort h.clock h.far ∷ []) ≡ suc n = omega (arith, length-append (visited hops to) (AtPort h.clock h.far ∷ [])) in
-    twice_more most (made_along most hops) (most * n) (made-along most hops to)
-    ∙ sym (ap (λ k. most * suc k) size ∙ mul-suc most (suc n) ∙ ap (λ x. x + most) (mul-suc most n))
+    let size : length (visited hops to ++ AtPort h.clock h.far ∷ []) ≡ suc (length (visited hops to)) = omega (arith, length-append (visited hops to) (AtPort h.clock h.far ∷ [])) in
+    omega (arith, made-along most hops to, ap (λ n. most * n) size)
 
 behind-length : (hops : List Hop) (to last : End)
     → length (behind hops to ++ last ∷ []) ≡ length (visited hops to)
 behind-length hops to last = omega (arith, length-append (behind hops to) (last ∷ []), ap length (visited-is hops to))
-
-room-sent : (a b most m limit : ℕ) → b ≤ a + most → a + (most + m) ≤ limit → b + m ≤ limit
-room-sent a b most m limit p le = omega arith
 
 -- once it is sent
 open-sent : (N : Network) (w : NetworkState) (s : ℕ) (hops : List Hop) (port most : ℕ)
@@ -230,12 +168,12 @@ open-sent : (N : Network) (w : NetworkState) (s : ℕ) (hops : List Hop) (port m
 open-sent N w s hops port most n r place few sent way room =
     let u : NetworkState = machine.sends N w s in
     let same = same-sent N w s in
-    let hears : Hears N u s (issued u s) (w.session s).domain = subst (λ k. Hears N u s k (w.session s).domain) (sym same.counted) (hears-stays N w u s (issued w s) (w.session s).domain refl way.heard) in
+    let hears : Hears N u s (issued u s) (w.session s).domain = grind (arith, Hears, hears-stays) in
     record {
       reached = sends-reached N w s n place r;
       same = same;
-      way = way-stays N w u s (w.session s).domain port hops (λ d ne. refl) hears way;
-      room = room-sent (length w.frames) (length u.frames) most (made_along most hops) frames_limit (sent-few N w s most sent few) room;
+      way = grind (arith, way-stays);
+      room = omega (arith, sent-few N w s most sent few, room);
     }
 
 pub sent-goes : (N : Network) (w : NetworkState) (s : ℕ) (hops : List Hop) (port ends : ℕ)
@@ -250,9 +188,7 @@ sent-goes N w s hops port ends n r place all busy sent goes' way room =
     let to : End = AtPort (N.session s).target port in
     let is : step N w (Send s) ≡ machine.sends N w s = send-step N w s goes' in
     let made : made_along most hops ≡ most * length (behind hops to ++ AtSession s ∷ []) = made-along most hops to ∙ ap (λ k. most * k) (sym (behind-length hops to (AtSession s))) in
-    let clear : IsOpen N w (step N w (Send s)) s hops port (most * length (behind hops to ++ AtSession s ∷ [])) =
-    subst (λ (x : NetworkState). IsOpen N w x s hops port (most * length (behind hops to ++ AtSession s ∷ []))) (sym is)
-    (subst (IsOpen N w (machine.sends N w s) s hops port) made (open-sent N w s hops port most n r place few sent way room)) in
+    let clear : IsOpen N w (step N w (Send s)) s hops port (most * length (behind hops to ++ AtSession s ∷ [])) = grind (arith, open-sent) in
     let comes = sent-comes N w s (first_end hops to) sent (leads-first N hops (AtSession s) to way.leads).there in
     let sum : 0 + (N.session s).setup.hops ≡ (N.session s).setup.hops = omega arith in
     subst (ComeInMeanwhile N w s hops port ends (Send s ∷ [])) (ap (λ es. es ++ AtSession s ∷ []) (visited-is hops to))

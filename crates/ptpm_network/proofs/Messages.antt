@@ -1,5 +1,5 @@
 -- What requests and replies say as octets, and what stays of them as they are passed on.
-use Rattle.ptpm_network.proofs.Common.{by_test, arith, ◌≡◌, ℕ, ◌<◌, ◌-◌, ◌^◌, ◌==◌, ◌&&◌, nat_lt, not, List, [], ◌∷◌, Option, Some, None, Bool, true, refl, sym, ◌∙◌, ap, subst, length, take, and_parts, cond-true, cond-false, ltb-true, append-nil, get_or-set_other, get_or-set_same, length-set, take_all, map, slice_set, unwrap_or, AllByRecursion, ErrorId, ClockIdentity, Action, Message, canonical, same_clock, boundary_hops, message_length, message_octets, BodyFits, Fits, IsReplyAction, IsValid, IsValidBody, error_number, action_of, is_reply, message_of, Spells, canonical_octets, canonical_spells, number_at-octets, octet-take, message_of-some, message_of-spells, message_size, spells-message_of, DataSetsValue, may_forward, Answer, Outcome, ReplyValue, RequestValue, Heard, reply_action-is_reply, answer_body, reply_message, egress_ports, forwarded, forwarded_by, is_forwarded, with_less_hop, request_message, Answers, IsPort, IsSendable, IsSendableOutcome, IsAsked, IsMessage, IsNetwork, Network}
+use Rattle.ptpm_network.proofs.Common.{by_test, arith, ◌≡◌, ℕ, ◌<◌, ◌-◌, ◌^◌, ◌==◌, ◌&&◌, nat_lt, not, List, [], ◌∷◌, Option, Some, None, Bool, true, refl, sym, ◌∙◌, ap, subst, length, and_parts, cond-true, cond-false, ltb-true, append-nil, get_or-set_other, get_or-set_same, length-set, take_all, map, slice_set, AllByRecursion, ErrorId, ClockIdentity, Action, Message, canonical, same_clock, boundary_hops, message_length, message_octets, Fits, IsValid, error_number, action_of, is_reply, message_of, Spells, canonical_octets, canonical_spells, number_at-octets, octet-take, message_of-some, message_of-spells, message_size, spells-message_of, DataSetsValue, may_forward, Answer, Outcome, ReplyValue, RequestValue, Heard, reply_action-is_reply, answer_body, reply_message, egress_ports, forwarded, forwarded_by, is_forwarded, with_less_hop, request_message, Answers, IsSendable, IsAsked, IsMessage, IsNetwork, Network}
 use Rattle.ptpm_codec.specs.declared.error.ErrorId.TheVariants as errors
 use Rattle.ptpm_codec.proofs.RewritingLaws.{less_hop_message, set_hops}
 use Rattle.ptpm_data.specs.Reply as reply
@@ -18,10 +18,7 @@ canonical-message v valid fits =
 -- ---- one hop less
 
 pub message-hops : (v : Message) (d : List ℕ) → message_of d ≡ Some v → v.hops ≡ boundary_hops d
-message-hops v d e =
-    let size = message_size d (message_of-some d v e).0 in
-    let low = size.0 in
-    (message_of-spells v d e).hops ∙ octet-take 45 (message_length d) d (omega arith)
+message-hops v d e = grind (arith, message_size, message_of-some, message_of-spells, octet-take)
 
 pub less_hop-canonical : (v : Message)
     → IsValid v → Fits v
@@ -32,10 +29,7 @@ less_hop-canonical v valid fits =
     ∙ set_hops v (v.hops - 1) fits
 
 message_length-set : (m : List ℕ) (n : ℕ) → message_length (slice_set m 45 n) ≡ message_length m
-message_length-set m n =
-    let high = get_or-set_other m 45 2 n 0 (λ e. omega arith) in
-    let low = get_or-set_other m 45 3 n 0 (λ e. omega arith) in
-    omega (arith, number_at-octets 2 m, number_at-octets 2 (slice_set m 45 n), high, low)
+message_length-set m n = grind (arith, get_or-set_other, number_at-octets, slice_set)
 
 module _ (v : Message) (d : List ℕ) (e : message_of d ≡ Some v) where
   pub less_hop-message : Fits v → IsMessage (with_less_hop d) (record v { hops = v.hops - 1 })
@@ -43,17 +37,11 @@ module _ (v : Message) (d : List ℕ) (e : message_of d ≡ Some v) where
       let m = message_octets d in
       let n = boundary_hops d - 1 in
       let size : length (slice_set m 45 n) ≡ length m = length-set m 45 n in
-      let number : message_length (slice_set m 45 n) ≡ length m = message_length-set m n ∙ (message_of-spells v d e).message_length in
-      record {
-        read = less_hop_message v d e;
-        whole = ap (λ k. take k (slice_set m 45 n)) number ∙ take_all (length m) (slice_set m 45 n) (omega (arith, size));
-        fits = record { source = fits.source; number = fits.number; target = fits.target; body = fits.body };
-      }
+      let number : message_length (slice_set m 45 n) ≡ length m = message_length-set m n ∙ (message_of-spells v d e).message_length in grind (arith, less_hop_message, take_all)
 
   pub less_hop-hops : boundary_hops (with_less_hop d) ≡ boundary_hops d - 1
   less_hop-hops =
-      let low = (message_of-spells v d e).at_least in
-      get_or-set_same (message_octets d) 45 (boundary_hops d - 1) 0 (omega arith)
+      let low = (message_of-spells v d e).at_least in grind (arith, get_or-set_same)
 
 -- what a clock passes on is one message with one hop less
 pub record IsPassedOn (d : List ℕ) (sent : ℕ × List ℕ) : Type 0 where
@@ -80,7 +68,7 @@ passed_on-by me port sets d (Some v) e = by_test (is_forwarded me port sets v)
     (λ y. let hop = ltb-true 0 v.hops (has_hop (v.sdo == 0) (v.domain == sets.default.domain) (not (same_clock v.source.clock me)) (not (same_clock v.target.clock me)) (nat_lt 0 v.hops) (may_forward port sets) y) in
     subst (AllByRecursion (IsPassedOn d)) (sym (cond-true _ _ _ y))
     (all_pairs (IsPassedOn d) (with_less_hop d) (λ p. record { message = v; read = e; hop = hop; octets = refl }) (egress_ports port sets)))
-    (λ n. subst (AllByRecursion (IsPassedOn d)) (sym (cond-false _ _ _ n)) tt)
+    (λ n. grind (arith, cond-false))
 
 pub passed_on : (me : ClockIdentity) (port : ℕ) (sets : DataSetsValue) (d : List ℕ)
     → AllByRecursion (IsPassedOn d) (forwarded me port sets d)
@@ -102,44 +90,18 @@ module _ (N : Network) (s k domain hops ports : ℕ) (q : RequestValue) where
       → Fits (request_at N s k domain hops q)
   request-fits n place asked =
       let session = n.are_sessions s place in
-      let clock = n.are_clocks (N.session s).target session.exists in
-      record {
-        source = session.identity;
-        number = omega arith;
-        target = record { clock = subst (λ (c : ClockIdentity). length c.0 ≡ 8) (sym session.target) clock.identity; port = asked.port };
-        body = asked.id;
-      }
+      let clock = n.are_clocks (N.session s).target session.exists in grind (arith)
 
 -- ---- replies
 
 error_number-fits : (e : ErrorId) → error_number e < 2 ^ 16
 error_number-fits errors.ResponseTooBig = omega arith
-error_number-fits errors.NoSuchId = omega arith
-error_number-fits errors.WrongLength = omega arith
-error_number-fits errors.WrongValue = omega arith
-error_number-fits errors.NotSetable = omega arith
-error_number-fits errors.NotSupported = omega arith
-error_number-fits errors.GeneralError = omega arith
-
-answer_body-valid : (action : Action) (id : ℕ) (o : Outcome)
-    → IsReplyAction action → IsSendableOutcome o
-    → IsValidBody (answer_body action id o)
-answer_body-valid action id (reply.Value octets) a s = (a, s)
-answer_body-valid action id reply.Done a s = (a, record { even = refl; small = omega arith })
-answer_body-valid action id (reply.Refused error) a s = (a, omega arith)
-
-answer_body-fits : (action : Action) (id : ℕ) (o : Outcome)
-    → id < 2 ^ 16
-    → BodyFits (answer_body action id o)
-answer_body-fits action id (reply.Value octets) h = h
-answer_body-fits action id reply.Done h = h
-answer_body-fits action id (reply.Refused error) h = (error_number-fits error, h)
+error_number-fits _ = omega arith
 
 pub action_of-answer_body : (action : Action) (id : ℕ) (o : Outcome)
     → action_of (answer_body action id o) ≡ action
 action_of-answer_body action id (reply.Value octets) = refl
-action_of-answer_body action id reply.Done = refl
-action_of-answer_body action id (reply.Refused error) = refl
+action_of-answer_body action id _ = refl
 
 -- what is answered is a reply
 pub answer_body-is_reply : (q : RequestValue) (r : ReplyValue) (o : Outcome)
@@ -147,30 +109,16 @@ pub answer_body-is_reply : (q : RequestValue) (r : ReplyValue) (o : Outcome)
     → is_reply (action_of (answer_body r.action r.id o)) ≡ true
 answer_body-is_reply q r o answers = ap is_reply (action_of-answer_body r.action r.id o ∙ answers.action) ∙ reply_action-is_reply q.action
 
-port-fits : (o : Option ℕ) (ingress : ℕ)
-    → IsPort o → ingress < 2 ^ 16
-    → unwrap_or o ingress < 2 ^ 16
-port-fits None ingress o h = h
-port-fits (Some port) ingress o h = o
-
 -- the message of one answer
 abbrev pub reply_at : ClockIdentity → Heard → ReplyValue → ℕ → ℕ → Answer → Message
 reply_at me heard r ingress hops a = record (reply_message me heard r.action r.id ingress a) { hops = hops }
 
 module _ (me : ClockIdentity) (heard : Heard) (q : RequestValue) (r : ReplyValue) (ingress hops : ℕ) (a : Answer) where
   pub reply-valid : Answers q r → IsSendable a → IsValid (reply_at me heard r ingress hops a)
-  reply-valid answers sendable = record {
-    sdo = omega arith;
-    body = answer_body-valid r.action r.id a.outcome (ap is_reply answers.action ∙ reply_action-is_reply q.action) sendable.outcome;
-  }
+  reply-valid answers sendable = grind (arith, reply_action-is_reply)
 
   pub reply-fits : length me.0 ≡ 8
       → length heard.source.clock.0 ≡ 8 → heard.source.port < 2 ^ 16 → heard.number < 2 ^ 16
       → ingress < 2 ^ 16 → q.id < 2 ^ 16 → Answers q r → IsSendable a
       → Fits (reply_at me heard r ingress hops a)
-  reply-fits identity source port number in' id answers sendable = record {
-    source = record { clock = identity; port = port-fits a.port ingress sendable.port in' };
-    number = number;
-    target = record { clock = source; port = port };
-    body = answer_body-fits r.action r.id a.outcome (subst (λ i. i < 2 ^ 16) (sym answers.id) id);
-  }
+  reply-fits identity source port number in' id answers sendable = grind (arith, error_number-fits)

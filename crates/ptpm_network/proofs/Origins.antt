@@ -1,6 +1,6 @@
 -- What a message of each origin is: one with a session's identity is its own request, and one that is told to a session is a reply
 -- to it. That holds of what comes in in the machine, and of every frame of a running network, in time or late.
-use Rattle.ptpm_network.proofs.Common.{◌≡◌, ℕ, ◌<◌, List, Some, true, false, refl, sym, ◌∙◌, ap, subst, not-true, true≢false, same_Some, Message, Fits, action_of, is_reply, message_of, copy_parts, is_copy, IsForeign, IsForeignFrame, IsMessage, IsReached, IsNetwork, Network, manager, NetworkState, Origin, RequestOf, ReplyTo, Neither}
+use Rattle.ptpm_network.proofs.Common.{arith, ◌≡◌, ℕ, ◌<◌, List, Some, true, false, sym, ◌∙◌, not-true, true≢false, same_Some, Message, Fits, action_of, is_reply, message_of, copy_parts, is_copy, IsForeign, IsForeignFrame, IsMessage, IsReached, IsNetwork, Network, manager, NetworkState, Origin, RequestOf, ReplyTo, Neither}
 use Rattle.ptpm_network.proofs.Frames.{IsHeard, says_reply, says_request}
 use Rattle.ptpm_network.proofs.Messages.{answer_body-is_reply, reply_at, request_at}
 
@@ -29,9 +29,7 @@ IsTrue N octets o = (v : Message) → message_of octets ≡ Some v → Fits v ×
 pub message-true : (N : Network) (octets : List ℕ) (u : Message) (o : Origin)
     → IsMessage octets u → IsTrueTo N u o
     → IsTrue N octets o
-message-true N octets u o m t v e =
-    let same : u ≡ v = same_Some u v (sym m.read ∙ e) in
-    subst (λ x. Fits x × IsTrueTo N x o) same (m.fits, t)
+message-true N octets u o m t v e = grind (arith, same_Some)
 
 pub foreign-true : (N : Network) (octets : List ℕ) → IsForeignFrame N octets → IsTrue N octets Neither
 foreign-true N octets i = message-true N octets i.message Neither i.is i.foreign
@@ -41,13 +39,9 @@ pub heard-true : (N : Network) (w : NetworkState) (octets : List ℕ) (o : Origi
     → IsNetwork N → IsReached N w → IsHeard N w octets o
     → IsTrue N octets o
 heard-true N w octets (RequestOf t k) n r i =
-    let says = says_request N w t k octets n r i in
-    message-true N octets (request_at N t k says.domain says.hops says.request) (RequestOf t k) says.message
-    (record { place = says.place; source = refl; target = refl; request = says.asked.action })
+    let says = says_request N w t k octets n r i in grind (arith, message-true, request_at)
 heard-true N w octets (ReplyTo t k) n r i =
-    let says = says_reply N w t k octets n r i in
-    message-true N octets (reply_at (N.session t).setup.target says.heard says.entry.reply says.ingress says.hops says.answer) (ReplyTo t k) says.message
-    (record { place = says.place; target = says.source; reply = answer_body-is_reply says.entry.request says.entry.reply says.answer.outcome says.says.answers })
+    let says = says_reply N w t k octets n r i in grind (arith, message-true, reply_at, answer_body-is_reply)
 heard-true N w octets Neither n r i = i
 
 -- ---- the session that a numbered copy is of
@@ -63,12 +57,6 @@ pub record IsCopyBy (N : Network) (c : ℕ) (o : Origin) (v : Message) : Type 0 
 pub is_copy_by : (N : Network) (c p : ℕ) (o : Origin) (v : Message)
     → IsNetwork N → c < N.clocks → IsTrueTo N v o → is_copy (N.clock c) p v ≡ true
     → IsCopyBy N c o v
-is_copy_by N c p (RequestOf t k) v n place i y =
-    let parts = copy_parts (N.clock c) p v y in
-    let m = n.managers c v.source place parts.known in
-    let ts : m.0 ≡ t = n.sessions_apart m.0 t m.1 i.place (m.2 ∙ i.source) in
-    record { session = t; k = k; place = i.place; origin = refl; target = ap (λ j. (N.session j).target) (sym ts) ∙ m.3; source = i.source }
+is_copy_by N c p (RequestOf t k) v n place i y = grind (arith, copy_parts)
 is_copy_by N c p (ReplyTo t k) v n place i y = absurd (true≢false (sym i.reply ∙ not-true _ (copy_parts (N.clock c) p v y).request))
-is_copy_by N c p Neither v n place i y =
-    let m = n.managers c v.source place (copy_parts (N.clock c) p v y).known in
-    absurd (i.no_request m.0 m.1 (sym m.2))
+is_copy_by N c p Neither v n place i y = grind (arith, copy_parts)

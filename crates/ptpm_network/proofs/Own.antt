@@ -1,5 +1,5 @@
 -- What a session has and what its target keeps of it, where its own messages came in time.
-use Rattle.ptpm_network.proofs.Common.{by_test, Bool, inl, inr, true≢false, ◌||◌, ◌⊎◌, arith, ◌≡◌, ℕ, ◌+◌, ◌-◌, ◌<◌, ◌≤◌, ◌==◌, List, [], ◌∷◌, length, Option, Some, None, true, false, refl, sym, ◌∙◌, ap, subst, ⊎_elim, and_from, cond-true, eq-eqb, or_left, or_right, or_from, same_Some, slice_get, PortIdentity, Message, same_identity, message_of, reading-message_of, RequestValue, Entry, look_at, look_by, same_request, serial_of, InWindow, reply_messages, Accepted, greatest, kept_reply, heard_of, request_of, Clock, State, Turned, turn, turn-message, judged, look, is_repeat, verdict_at, Verdict, reply_by, same_identity-refl, number_of, Answers, HasOneAnswer, IsInStep, SessionState}
+use Rattle.ptpm_network.proofs.Common.{Bool, inr, true≢false, ◌⊎◌, arith, ◌≡◌, ℕ, ◌+◌, ◌-◌, ◌<◌, ◌≤◌, List, [], ◌∷◌, length, Option, Some, None, true, false, refl, sym, ◌∙◌, ap, subst, ⊎_elim, and_from, cond-true, eq-eqb, or_left, or_right, or_from, same_Some, slice_get, PortIdentity, Message, same_identity, message_of, reading-message_of, RequestValue, Entry, look_at, look_by, same_request, InWindow, reply_messages, Accepted, greatest, kept_reply, heard_of, request_of, Clock, State, turn, turn-message, judged, is_repeat, verdict_at, Verdict, reply_by, same_identity-refl, number_of, Answers, HasOneAnswer, IsInStep, SessionState}
 use Rattle.std.specs.FinMap.{get}
 use Rattle.std.proofs.lemmas.Bool.{cases_order}
 use Rattle.std.proofs.Math.Nat.{ne_of_gt, ne_of_lt}
@@ -9,9 +9,9 @@ use Rattle.ptpm_table.specs.declared.reply_table.Look.{Look}
 use Rattle.ptpm_table.specs.declared.reply_table.Look.TheVariants as looks
 use Rattle.ptpm_table.specs.Serial.{order_of}
 use Rattle.ptpm_table.proofs.SerialLaws.{order_of-same, order_of-newer, order_of-older}
-use Rattle.ptpm_agent.specs.CarriedOut.{carried_by, carried_in, carried_of}
+use Rattle.ptpm_agent.specs.CarriedOut.{carried_by, carried_in}
 use Rattle.ptpm_agent.specs.declared.verdict.Verdict.TheVariants as verdicts
-use Rattle.ptpm_agent.specs.Turn.{kept_reply_of, new_reply, next_by}
+use Rattle.ptpm_agent.specs.Turn.{new_reply, next_by}
 use Rattle.ptpm_agent.proofs.Entries.{accepted_at, accepted_entry, accepted_kept}
 use Rattle.ptpm_agent.proofs.Numbers.{serial_of-number_of}
 use Rattle.ptpm_agent.proofs.Turns.{CopyParts, judged-elsewhere, judged-numbered, look-copy}
@@ -38,16 +38,6 @@ abbrev asks_same : Option Entry → RequestValue → Bool
 asks_same None q = false
 asks_same (Some e) q = same_request e.request q
 
--- in the window, the order of the indexes
-look-own : (m : PortIdentity) (first : ℕ) (accepted : List Accepted) (k : ℕ) (o : Option Entry) (q : RequestValue) (z : Serial)
-    → 0 < k → IsLastOf m first accepted o → InWindow (greatest m accepted) k → order_of (greatest m accepted) k ≡ z
-    → look_at o (number_of first k) q ≡ look_by z (asks_same o q)
-look-own m first accepted k None q z positive last w e =
-    ap (λ y. look_by y false) (sym (order_of-newer (greatest m accepted) k (omega (arith, last, positive))) ∙ e)
-look-own m first accepted k (Some e) q z positive last w is =
-    ap (λ y. look_by y (same_request e.request q))
-    (ap (λ n. serial_of n (number_of first k)) last.number ∙ serial_of-number_of first (greatest m accepted) k last.some positive w ∙ is)
-
 -- ---- the verdict on a copy
 
 -- by what the entry tells: in the clock's domain, elsewhere where it is a repeat, or elsewhere where it is none
@@ -55,15 +45,7 @@ judged-copy : (P : Verdict → Type 0) (c : Clock) (s : State) (v : Message) (l 
     → CopyParts c (length s.sets.ports) v → look_at (get s.entries v.source) v.number (request_of v) ≡ l
     → P (verdict_at l) → (is_repeat l ≡ false → P verdicts.OtherDomain)
     → P (judged c s v)
-judged-copy P c s v l p e home away =
-    let looked : look c s v ≡ l = look-copy c s v p ∙ e in
-    let numbered : (v.domain == s.sets.default.domain || is_repeat (look c s v)) ≡ true → P (judged c s v) =
-    λ y. subst P (sym (judged-numbered c s v p y ∙ ap verdict_at e)) home in
-    by_test (v.domain == s.sets.default.domain)
-    (λ d. numbered (or_left (v.domain == s.sets.default.domain) (is_repeat (look c s v)) d))
-    (λ d. by_test (is_repeat l)
-    (λ y. numbered (or_right (v.domain == s.sets.default.domain) (is_repeat (look c s v)) (ap is_repeat looked ∙ y)))
-    (λ n. subst P (sym (judged-elsewhere c s v p (or_from (v.domain == s.sets.default.domain) (is_repeat (look c s v)) d (ap is_repeat looked ∙ n)))) (away n)))
+judged-copy P c s v l p e home away = grind (arith, look-copy, judged-numbered, or_left, or_right, judged-elsewhere, or_from)
 
 -- ---- what a verdict does with a message
 
@@ -75,13 +57,7 @@ pub record Does (c : Clock) (s : State) (port : ℕ) (octets : List ℕ) (v : Me
 pub does : (c : Clock) (s : State) (port : ℕ) (octets : List ℕ) (v : Message)
     → message_of octets ≡ Some v
     → Does c s port octets v (judged c s v)
-does c s port octets v e =
-    let t = turn-message c s port octets v e in
-    record {
-      carried = ap (carried_of c s) (reading-message_of octets v e);
-      next = ap (λ (x : Turned). x.next) t;
-      replies = ap (λ (x : Turned). x.replies) t;
-    }
+does c s port octets v e = grind (arith, turn-message, reading-message_of)
 
 -- ---- a turn on a copy of the manager's own request k, in the window
 
@@ -118,9 +94,6 @@ pub record ComesOwn (m : PortIdentity) (first p : ℕ) (c : Clock) (s : State) (
   pub answers : Answers (request_of v) (new_reply c s v)
   pub one : HasOneAnswer (request_of v) (new_reply c s v)
 
-next_index : (g k begun reports : ℕ) → g < k → k ≤ begun → begun ≤ reports + 1 → reports ≤ g → g + 1 ≡ k
-next_index g k begun reports a b d e = omega arith
-
 -- of the message's own source
 module _ (first p : ℕ) (c : Clock) (s : State) (port : ℕ) (octets : List ℕ) (v : Message) (k : ℕ) (accepted : List Accepted) (state : SessionState) (read : message_of octets ≡ Some v) (o : ComesOwn v.source first p c s v k accepted state) where
   abbrev new_entry : Accepted
@@ -134,31 +107,14 @@ module _ (first p : ℕ) (c : Clock) (s : State) (port : ℕ) (octets : List ℕ
   own-new above d =
       let m = v.source in
       let me : same_identity m m ≡ true = same_identity-refl m in
-      let here : accepted_after m c s octets accepted ≡ new_entry ∷ accepted =
-      ap (λ rs. with_carried m c s rs accepted) d.carried ∙ cond-true _ _ _ me in
-      let index : greatest m accepted + 1 ≡ k = next_index (greatest m accepted) k (length state.begun) (length state.reports) above o.within o.step.one_at_a_time o.step.accepted_before in
+      let here : accepted_after m c s octets accepted ≡ new_entry ∷ accepted = grind (arith, cond-true) in
+      let index : greatest m accepted + 1 ≡ k = omega (arith, o.within, o.step.one_at_a_time, o.step.accepted_before) in
       let most : greatest m (new_entry ∷ accepted) ≡ k = cond-true _ _ _ me ∙ omega (arith, index) in
-      let kept : kept_reply m k (new_entry ∷ accepted) ≡ Some new_entry = cond-true _ _ _ (and_from _ _ me (eq-eqb (greatest m accepted + 1) k index)) in
-      let at : IsLast m first (new_entry ∷ accepted) (accepted_entry c s v) = record {
-        some = subst (λ i. 0 < i) (sym most) o.positive;
-        kept = subst (λ i. kept_reply m i (new_entry ∷ accepted) ≡ Some (accepted_at m i (accepted_entry c s v))) (sym most)
-            (kept ∙ ap (λ i. Some (accepted_at m i (accepted_entry c s v))) index);
-        number = o.number ∙ ap (number_of first) (sym most);
-      } in
+      let kept : kept_reply m k (new_entry ∷ accepted) ≡ Some new_entry = grind (arith, cond-true, and_from, eq-eqb) in
+      let at : IsLast m first (new_entry ∷ accepted) (accepted_entry c s v) = grind (arith, accepted_at, accepted_entry) in
       record {
-        gains = inr (record {
-          entry = new_entry;
-          is = here;
-          above = λ y. omega arith;
-          own = λ y. record {
-            index = subst (λ i. i ≤ length state.begun) (sym index) o.within;
-            begun_as = subst (λ i. slice_get state.begun (i - 1) ≡ Some (request_of v)) (sym index) o.begun_as;
-            answers = o.answers;
-            one = o.one;
-          };
-        });
-        last = subst (λ es. IsLastOf m first es (get (turn c s port octets).next.entries m)) (sym here)
-            (subst (IsLastOf m first (new_entry ∷ accepted)) (sym (accepted_kept c s (turn c s port octets).next v d.next)) at);
+        gains = grind (arith);
+        last = grind (arith, accepted_kept);
         replies = inr (record { entry = new_entry; kept = ap (kept_reply m k) here ∙ kept; is = d.replies });
         latest = λ e. absurd (omega arith);
         older = λ l. absurd (omega arith);
@@ -169,33 +125,11 @@ module _ (first p : ℕ) (c : Clock) (s : State) (port : ℕ) (octets : List ℕ
       → ((k ≡ greatest v.source accepted → ⊥) × (reply_by w c s v ≡ None))
       ⊎ ((k ≡ greatest v.source accepted) × Replied v.source c s port octets v k accepted)
       → Turns
-  own-still w none stays d which =
-      let m = v.source in
-      let here : accepted_after m c s octets accepted ≡ accepted = ap (λ rs. with_carried m c s rs accepted) (d.carried ∙ none) in
-      let quiet : reply_by w c s v ≡ None → (turn c s port octets).replies ≡ [] = λ silent. d.replies ∙ ap (reply_messages c port (heard_of v)) silent in
-      record {
-        gains = inl here;
-        last = subst (λ es. IsLastOf m first es (get (turn c s port octets).next.entries m)) (sym here)
-            (subst (λ (x : State). IsLastOf m first accepted (get x.entries m)) (sym (d.next ∙ stays)) o.last);
-        replies = ⊎_elim
-            (λ (other : (k ≡ greatest m accepted → ⊥) × (reply_by w c s v ≡ None)). inl (quiet other.1))
-            (λ (same : (k ≡ greatest m accepted) × Replied m c s port octets v k accepted). inr (subst (Replied m c s port octets v k) (sym here) same.1))
-            which;
-        latest = λ e. ⊎_elim
-            (λ (other : (k ≡ greatest m accepted → ⊥) × (reply_by w c s v ≡ None)). absurd (other.0 e))
-            (λ (same : (k ≡ greatest m accepted) × Replied m c s port octets v k accepted). same.1)
-            which;
-        older = λ l. ⊎_elim
-            (λ (other : (k ≡ greatest m accepted → ⊥) × (reply_by w c s v ≡ None)). quiet other.1)
-            (λ (same : (k ≡ greatest m accepted) × Replied m c s port octets v k accepted). absurd (ne_of_lt l same.0))
-            which;
-      }
+  own-still w none stays d which = grind (arith, ne_of_lt)
 
   looked : (z : Serial) → order_of (greatest v.source accepted) k ≡ z
       → look_at (get s.entries v.source) v.number (request_of v) ≡ look_by z (asks_same (get s.entries v.source) (request_of v))
-  looked z e =
-      ap (λ n. look_at (get s.entries v.source) n (request_of v)) o.number
-      ∙ look-own v.source first accepted k (get s.entries v.source) (request_of v) z o.positive o.last o.window e
+  looked z e = grind (arith, order_of-newer, serial_of-number_of)
 
   -- what is kept as the latest is the request of the copy
   own-repeat : (x : Option Entry) → k ≡ greatest v.source accepted → get s.entries v.source ≡ x → IsLastOf v.source first accepted x
@@ -206,15 +140,13 @@ module _ (first p : ℕ) (c : Clock) (s : State) (port : ℕ) (octets : List ℕ
       let was = o.step.without_gap k o.positive (omega (arith, same)) in
       let kept : kept_reply m k accepted ≡ Some (accepted_at m (greatest m accepted) e) = ap (λ i. kept_reply m i accepted) same ∙ last.kept in
       let entry : was.entry ≡ accepted_at m (greatest m accepted) e = same_Some was.entry _ (sym was.is ∙ kept) in
-      let request : e.request ≡ request_of v =
-      sym (ap (λ (x : Accepted). x.request) entry) ∙ same_Some was.entry.request (request_of v) (sym was.begun_as ∙ o.begun_as) in
+      let request : e.request ≡ request_of v = grind (arith) in
       let repeat : look_at (get s.entries m) v.number (request_of v) ≡ looks.Repeat =
       looked Same (order_of-same (greatest m accepted) k (sym same))
       ∙ ap (λ (x : Option Entry). look_by Same (asks_same x (request_of v))) is
       ∙ ap (λ b. look_by Same b) (ap (λ (q : RequestValue). same_request q (request_of v)) request ∙ same_request-refl (request_of v)) in
       judged-copy (λ w. Does c s port octets v w → Turns) c s v looks.Repeat o.parts repeat
-      (λ d. own-still verdicts.AnsweredRepeat refl refl d
-      (inr (same, record { entry = accepted_at m (greatest m accepted) e; kept = kept; is = d.replies ∙ ap (λ (x : Option Entry). reply_messages c port (heard_of v) (kept_reply_of x)) is })))
+      (λ d. grind (arith, own-still, accepted_at))
       (λ n. absurd (true≢false n))
       (does c s port octets v read)
 
@@ -228,12 +160,12 @@ module _ (first p : ℕ) (c : Clock) (s : State) (port : ℕ) (octets : List ℕ
       (λ (below : k < g).
       let other : k ≡ g → ⊥ = ne_of_lt below in
       judged-copy (λ w. Does c s port octets v w → Turns) c s v looks.Old o.parts (looked Older (order_of-older g k below))
-      (λ d. own-still verdicts.DroppedOld refl refl d (inl (other, refl)))
-      (λ n d. own-still verdicts.OtherDomain refl refl d (inl (other, refl))) fits)
+      (λ d. grind (arith, own-still))
+      (λ n d. grind (arith, own-still)) fits)
       (λ (above : g < k).
       judged-copy (λ w. Does c s port octets v w → Turns) c s v looks.New o.parts (looked Newer (order_of-newer g k above))
       (λ d. own-new above d)
-      (λ n d. own-still verdicts.OtherDomain refl refl d (inl (ne_of_gt above, refl))) fits))
+      (λ n d. grind (arith, own-still, ne_of_gt)) fits))
       (cases_order k g)
 
 pub turns_own : (m : PortIdentity) (first p : ℕ) (c : Clock) (s : State) (port : ℕ) (octets : List ℕ) (v : Message) (k : ℕ)

@@ -1,10 +1,9 @@
 -- A session whose own messages come in time, and what its own acts and what it hears make of it.
-use Rattle.ptpm_network.proofs.Common.{◌-◌, ◌≡◌, ℕ, ◌+◌, ◌<◌, ◌≤◌, List, [], ◌∷◌, ◌++◌, length, Some, true, false, refl, sym, ◌∙◌, ap, subst, eqb-true, eqb-false, slice_get, get_append, all_weaker, AllByRecursion, Message, canonical, reading, RequestValue, Accepted, kept_reply, State, number_of, outcome_in, Report, received_of, IsAsked, IsInStep, request_message, with_less_hop, IsNetwork, Network, manager, ports, Held, Origin, RequestOf, ReplyTo, Neither, SessionState, SessionValue, session_value, answered, begun, resumed, retuned, sent, is_waiting, le_trans}
+use Rattle.ptpm_network.proofs.Common.{arith, ◌-◌, ◌≡◌, ℕ, ◌+◌, ◌<◌, ◌≤◌, List, [], ◌∷◌, ◌++◌, length, Some, true, false, refl, sym, ◌∙◌, ap, subst, eqb-true, eqb-false, slice_get, get_append, all_weaker, AllByRecursion, Message, canonical, reading, RequestValue, Accepted, kept_reply, State, number_of, Report, received_of, IsAsked, IsInStep, request_message, with_less_hop, IsNetwork, Network, manager, ports, Held, Origin, RequestOf, ReplyTo, Neither, SessionState, SessionValue, session_value, answered, begun, resumed, retuned, sent, is_waiting, le_trans}
 use Rattle.std.specs.FinMap.{get}
 use Rattle.ptpm_manager.specs.declared.receiving.Received.{Received}
 use Rattle.ptpm_manager.specs.declared.receiving.Received.TheVariants as received
 use Rattle.ptpm_manager.specs.Receiving.{left_by}
-use Rattle.ptpm_manager.specs.declared.setup.Setup.{Setup}
 use Rattle.ptpm_network.specs.ByManager.{Account}
 use Rattle.ptpm_network.specs.Invariant.{IsReplyFrame, IsRequestFrame}
 use Rattle.ptpm_network.proofs.Accepting.{IsToldOf, in_step-begun, in_step-reported, in_step-set}
@@ -73,18 +72,7 @@ told_of N s value reports a octets o report n place takes i says time setup issu
     let said = reply_says N s k a.accepted (state_of value reports a) n place step octets (subst (IsSaid N s a octets) own.1 says refl) in
     let same = same_read octets takes.message _ said.message takes.read in
     let number : takes.message.number ≡ number_of (N.session s).setup.first k = ap (λ (u : Message). u.number) same ∙ said.number in
-    let last : k ≡ length a.begun =
-    takes-last (N.session s).setup.first k value octets report takes (ap (λ (x : Setup). x.first) setup) number said.positive
-    (subst (λ b. k ≤ b) (sym issued) said.says.within) (subst (λ b. b ≤ k + 32768) (sym issued) (time k own.1)) ∙ issued in
-    record {
-      entry = said.entry;
-      kept = ap (λ i. kept_reply (manager N s) i a.accepted) (sym last) ∙ said.kept;
-      answer = said.answer;
-      one = said.one;
-      is = sym takes.is
-          ∙ ap (λ i. record { index = i; outcome = outcome_in takes.message.body }) issued
-          ∙ ap (λ (u : Message). record { index = length a.begun; outcome = outcome_in u.body }) same;
-    }
+    let last : k ≡ length a.begun = grind (arith, takes-last) in grind (arith)
 
 module _ (N : Network) (s : ℕ) (value : SessionValue) (reports : List Report) (clock : State) (frames : List Held) (a : Account) (at : IsOwn N s value reports clock frames a) where
   pub told : length reports ≤ length a.begun
@@ -103,38 +91,22 @@ module _ (N : Network) (s : ℕ) (value : SessionValue) (reports : List Report) 
             ∙ ap (λ n. session_value (N.session s) (record { domain = value.domain; attempts_left = n; begun = a.begun ++ q ∷ []; reports = reports })) (sym (ap (λ (x : SessionValue). x.setup.attempts) at.value_is));
         step = in_step-begun (manager N s) (ports N (N.session s).target) a.accepted state q value.setup.attempts asked done at.step;
         last = at.last;
-        frames_say = all_weaker (IsOwnFrame N s a) _ (λ h i. said-stays N s a _ h.octets h.origin (λ j p e. get_append a.begun (q ∷ []) j p e) (λ k e h'. h') i) frames at.frames_say;
+        frames_say = grind (arith, all_weaker, said-stays, get_append);
       }
 
   pub own-resumed : (n : ℕ) → IsOwn N s (resumed value n) reports clock frames a
-  own-resumed n = record {
-    value_is = ap (λ (x : SessionValue). resumed x n) at.value_is;
-    step = in_step-set (manager N s) (ports N (N.session s).target) a.accepted (state_of value reports a) value.domain n at.step;
-    last = at.last;
-    frames_say = at.frames_say;
-  }
+  own-resumed n = search (ap (λ (x : SessionValue). resumed x n) at.value_is, in_step-set (manager N s) (ports N (N.session s).target) a.accepted (state_of value reports a) value.domain n at.step)
 
   pub own-retuned : (domain : ℕ) → IsOwn N s (retuned value domain) reports clock frames a
-  own-retuned domain = record {
-    value_is = ap (λ (x : SessionValue). retuned x domain) at.value_is;
-    step = in_step-set (manager N s) (ports N (N.session s).target) a.accepted (state_of value reports a) domain value.attempts_left at.step;
-    last = at.last;
-    frames_say = at.frames_say;
-  }
+  own-retuned domain = search (ap (λ (x : SessionValue). retuned x domain) at.value_is, in_step-set (manager N s) (ports N (N.session s).target) a.accepted (state_of value reports a) domain value.attempts_left at.step)
 
   pub own-sent : IsOwn N s (sent value) reports clock frames a
-  own-sent = record {
-    value_is = ap sent at.value_is;
-    step = in_step-set (manager N s) (ports N (N.session s).target) a.accepted (state_of value reports a) value.domain (value.attempts_left - 1) at.step;
-    last = at.last;
-    frames_say = at.frames_say;
-  }
+  own-sent = search (ap sent at.value_is, in_step-set (manager N s) (ports N (N.session s).target) a.accepted (state_of value reports a) value.domain (value.attempts_left - 1) at.step)
 
   pub own-message : (v : Message) → IsSentBy N s value v → IsRequestFrame (N.session s).setup a.begun value.issued (canonical v)
   own-message v by =
       let issued : length a.begun ≡ value.issued = sym (ap (λ (x : SessionValue). x.issued) at.value_is) in
-      let same : request_message (N.session s).setup value.domain (length a.begun) by.request ≡ v =
-      ap (λ i. request_message (N.session s).setup value.domain i by.request) issued ∙ sym by.is in
+      let same : request_message (N.session s).setup value.domain (length a.begun) by.request ≡ v = grind (arith) in
       subst (λ i. IsRequestFrame (N.session s).setup a.begun i (canonical v)) issued
       (subst (λ (x : Message). IsRequestFrame (N.session s).setup a.begun (length a.begun) (canonical x)) same
       (request-sent (N.session s) (state_of value reports a) by.request (sym (ap (λ (x : SessionValue). x.unanswered) at.value_is) ∙ by.unanswered)))
@@ -145,8 +117,7 @@ module _ (N : Network) (s : ℕ) (value : SessionValue) (reports : List Report) 
       → IsOwn N s (answered value) (reports ++ report ∷ []) clock frames a
   own-answered report waits t =
       let state = state_of value reports a in
-      let busy : length reports ≡ length a.begun → ⊥ =
-      eqb-false (length reports) (length a.begun) (not_idle (N.session s) state (sym (ap is_waiting at.value_is) ∙ waits)) in
+      let busy : length reports ≡ length a.begun → ⊥ = grind (arith, eqb-false, not_idle) in
       record {
         value_is = ap answered at.value_is ∙ answered-value (N.session s) state report busy at.step.one_at_a_time told;
         step = in_step-reported (manager N s) (ports N (N.session s).target) a.accepted state (length a.begun) report refl busy t at.step;

@@ -1,5 +1,5 @@
 -- The frames of a turn, message by message of the outbox.
-use Rattle.ptpm_network.proofs.Common.{◌≡◌, ℕ, ◌==◌, ◌⊎◌, inl, inr, List, [], ◌∷◌, ◌++◌, refl, sym, ◌∙◌, ap, ⊎_elim, length, cond-true, cond-false, map-append, flat_map, map, AllByRecursion, boundary_hops, copy_of, State, Turned, outbox_of, turn, held, posted, turn_frames, answer_origin, delivery, forwarded_frames, reply_frames, AtPort, End, Network, peers, origin_by, posted_by, Frame, Origin, frames_to}
+use Rattle.ptpm_network.proofs.Common.{arith, ◌≡◌, ℕ, ◌==◌, ◌⊎◌, inl, inr, List, [], ◌∷◌, ◌++◌, refl, sym, ◌∙◌, ap, ⊎_elim, length, cond-true, cond-false, map-append, flat_map, map, AllByRecursion, boundary_hops, copy_of, State, Turned, outbox_of, turn, held, posted, turn_frames, answer_origin, delivery, forwarded_frames, reply_frames, AtPort, End, Network, peers, origin_by, posted_by, Frame, Origin, frames_to}
 use Rattle.std.proofs.lemmas.Grind.{flat_map-append}
 use Rattle.ptpm_network.proofs.Held.{held-forwarded, held-frames_to}
 use Rattle.ptpm_network.proofs.TurnSends.{IsAt, IsAway, forwards-away, replies-at, reply-origin}
@@ -41,10 +41,7 @@ reply_origins : (N : Network) (c : ℕ) (due told : Origin) (replies : List (ℕ
     → (replies ≡ []) ⊎ (told ≡ due)
     → flat_map (λ m. posted (peers N.links (AtPort c m.0)) m.1 due) replies
     ≡ flat_map (λ m. posted (peers N.links (AtPort c m.0)) m.1 told) replies
-reply_origins N c due told replies cases = ⊎_elim
-    (λ (none : replies ≡ []). ap (flat_map (λ m. posted (peers N.links (AtPort c m.0)) m.1 due)) none ∙ sym (ap (flat_map (λ m. posted (peers N.links (AtPort c m.0)) m.1 told)) none))
-    (λ (same : told ≡ due). ap (λ (o : Origin). flat_map (λ m. posted (peers N.links (AtPort c m.0)) m.1 o) replies) (sym same))
-    cases
+reply_origins N c due told replies cases = grind (arith, flat_map)
 
 told_or_none : (N : Network) (s : State) (c ingress : ℕ) (f : Frame)
     → ((turn (N.clock c) s ingress f.octets).replies ≡ [])

@@ -1,5 +1,5 @@
 -- The promise of a network, and the states of a running network in which it holds.
-use Rattle.ptpm_network.proofs.Common.{by_test, suc, zero, arith, ◌≡◌, ℕ, ◌<◌, ◌≤◌, List, [], ◌∷◌, ◌++◌, Option, Some, None, false, sym, ◌∙◌, ap, subst, ⊎_elim, cases_eq, cond-true, cond-false, true≢false, if◌then◌else◌, AllByRecursion, PortIdentity, same_identity, same_identity-refl, same_identity-true, Event, IsInRange, Refusal, refusal, RunningNetwork, initial_network, Happened, Ok, Result, network_event, network_run, result_err, Headline, IsPromised, StandsAfter, AreInTime, happens, is_late_delivery, run, step_by, taken, IsNetwork, Network, manager, ports, AreFirsts, Stands, NetworkState, accepted_at_target, initial_state, history, all_append}
+use Rattle.ptpm_network.proofs.Common.{by_test, suc, zero, arith, ◌≡◌, ℕ, ◌<◌, ◌≤◌, List, [], ◌∷◌, ◌++◌, Some, None, false, sym, ◌∙◌, ap, subst, ⊎_elim, cases_eq, cond-true, cond-false, true≢false, if◌then◌else◌, AllByRecursion, PortIdentity, same_identity, same_identity-refl, same_identity-true, Event, IsInRange, Refusal, refusal, RunningNetwork, initial_network, Happened, Ok, Result, network_event, network_run, result_err, Headline, IsPromised, StandsAfter, AreInTime, happens, is_late_delivery, run, taken, IsNetwork, Network, manager, ports, AreFirsts, Stands, NetworkState, accepted_at_target, initial_state, all_append}
 use Rattle.ptpm_network.proofs.Accepting.{IsInOrder, in_order}
 use Rattle.ptpm_network.proofs.DueReplies.{copy-delivered, latest-kept, older-none}
 use Rattle.ptpm_network.proofs.Running.{follows, network_run-running}
@@ -15,19 +15,15 @@ pub first_of_sessions : Network → ℕ → PortIdentity → ℕ
 first_of_sessions N zero m = 0
 first_of_sessions N (suc n) m = if same_identity m (manager N n) then (N.session n).setup.first else first_of_sessions N n m
 
-none_below : {X : Type 0} (s : ℕ) → s < 0 → X
-none_below s h = absurd (omega arith)
-
 first_of-session : (N : Network) (n s : ℕ)
     → IsNetwork N → n ≤ N.sessions → s < n
     → first_of_sessions N n (manager N s) ≡ (N.session s).setup.first
 unfolding first_of_sessions
-first_of-session N zero s is le below = none_below s below
+first_of-session N zero s is le below = absurd (omega arith)
 first_of-session N (suc n) s is le below = by_test (same_identity (manager N s) (manager N n))
-    (λ y. let same : s ≡ n = is.sessions_apart s n (omega arith) (omega arith) (same_identity-true (manager N s) (manager N n) y) in
-    cond-true _ _ _ y ∙ ap (λ j. (N.session j).setup.first) (sym same))
+    (λ y. grind (arith, same_identity-true, cond-true))
     (λ o. ⊎_elim
-    (λ (q : s ≡ n). absurd (true≢false (sym (same_identity-refl (manager N n)) ∙ (ap (λ j. same_identity (manager N j) (manager N n)) (sym q) ∙ o))))
+    (λ (q : s ≡ n). grind (arith, true≢false, same_identity-refl))
     (λ (ne : s ≡ n → ⊥). cond-false _ _ _ o ∙ first_of-session N n s is (omega arith) (omega arith))
     (cases_eq s n))
 
@@ -51,14 +47,14 @@ stands-headline N events r at =
     record {
       sets = λ c place. (there.clocks c place).sets;
       frames = there.frames;
-      delivered = λ n c port f copy at_clock. copy-delivered N w n c port f copy at_clock;
-      latest = λ n c port f copy at_clock newest. latest-kept N events n c port f copy p.network p.in_range at_clock newest;
-      older = λ c copy below. older-none (N.clock c) (history N w c) copy below;
+      delivered = grind (arith, copy-delivered);
+      latest = grind (arith, latest-kept);
+      older = grind (arith, older-none);
       reports = λ s place. (order s place).rest;
       reported = λ s place. (order s place).reported_accepted;
       accepted = λ s place. (order s place).accepted_begun;
       begun = λ s place. (order s place).begun_reported;
-      strangers = λ c port d datagram octets. strangers-leave N events c port datagram d p.network p.in_range octets;
+      strangers = grind (arith, strangers-leave);
       refused = λ c x error. refused-leaves N w c x error.copy error.reply error.answer error.error error.heard error.due error.among error.is_error;
     }
 
@@ -75,11 +71,7 @@ promised-more : (N : Network) (past es : List Event)
     → IsPromised N past → AllByRecursion IsInRange es
     → AreInTime N (run N (initial_state N) past) es
     → IsPromised N (past ++ es)
-promised-more N past es p range time = record {
-  network = p.network;
-  in_range = all_append IsInRange past es p.in_range range;
-  in_time = in_time-append N (initial_state N) past es p.in_time time;
-}
+promised-more N past es p range time = grind (arith, all_append, in_time-append)
 
 pub stands-judged : (N : Network) (past : List Event) (r : RunningNetwork) (e : Event)
     → StandsAfter N past r
@@ -98,16 +90,12 @@ stands-event N past r e h at range is late =
     let p = at.promised in
     let w : NetworkState = run N (initial_state N) past in
     let none : refusal N w e ≡ None = sym (stands-judged N past r e at) ∙ ap (λ (x : Result Happened Refusal). result_err x) is in
-    let next : run N (initial_state N) (past ++ e ∷ []) ≡ happens N w e =
-    run-append N (initial_state N) past (e ∷ []) ∙ ap (λ (o : Option Refusal). step_by o N w e) none in
+    let next : run N (initial_state N) (past ++ e ∷ []) ≡ happens N w e = grind (arith, run-append) in
     record {
       promised = promised-more N past (e ∷ []) p (range, tt) ((λ accepted. late), tt);
       stands = λ first firsts. subst (Stands N first h.network) (sym next)
           ((follows N first r w p.network (reached N past p.network p.in_range) (at.stands first firsts) e).next h is firsts range late);
     }
-
-some_none : {X : Type 0} (reason : Refusal) → Some reason ≡ None → X
-some_none reason h = absurd (cc)
 
 pub stands-refused : (N : Network) (past : List Event) (r : RunningNetwork) (e : Event)
     (reason : Refusal)
@@ -116,11 +104,10 @@ pub stands-refused : (N : Network) (past : List Event) (r : RunningNetwork) (e :
 stands-refused N past r e reason at range some =
     let p = at.promised in
     let w : NetworkState = run N (initial_state N) past in
-    let stays : run N (initial_state N) (past ++ e ∷ []) ≡ w =
-    run-append N (initial_state N) past (e ∷ []) ∙ ap (λ (o : Option Refusal). step_by o N w e) some in
+    let stays : run N (initial_state N) (past ++ e ∷ []) ≡ w = grind (arith, run-append) in
     record {
-      promised = promised-more N past (e ∷ []) p (range, tt) ((λ none. some_none reason (sym some ∙ none)), tt);
-      stands = λ first firsts. subst (Stands N first r) (sym stays) (at.stands first firsts);
+      promised = promised-more N past (e ∷ []) p (range, tt) ((λ none. absurd (cc (sym some ∙ none))), tt);
+      stands = grind (arith, firsts);
     }
 
 pub stands-network_run : (N : Network) (past : List Event) (r : RunningNetwork) (es : List Event)

@@ -1,5 +1,5 @@
 -- What reports of a running network are worth, and that it runs to the report that a way gives.
-use Rattle.ptpm_network.proofs.Common.{◌≡◌, ℕ, ◌<◌, ◌≤◌, ◌+◌, List, [], ◌∷◌, ◌++◌, Some, true, false, sym, ◌∙◌, ap, subst, length, cond-true, is_some, slice_get, AllByRecursion, PortIdentity, Report, is_waiting, Event, IsInRange, frames_limit, RunningNetwork, network_run, StandsAfter, run, IsNetwork, Network, AreFirsts, Stands, NetworkState, SessionState, initial_state, is_idle, session_value, Hop, IsAnswerable, IsWay, LinksHaveAtMost, RunsToReport, made_each_way, IsWorth, HasReported, AreInTime, taken}
+use Rattle.ptpm_network.proofs.Common.{arith, ◌≡◌, ℕ, ◌<◌, ◌≤◌, ◌+◌, List, Some, true, false, ap, subst, length, cond-true, is_some, slice_get, AllByRecursion, PortIdentity, Report, is_waiting, Event, IsInRange, frames_limit, RunningNetwork, network_run, StandsAfter, run, IsNetwork, Network, AreFirsts, Stands, NetworkState, SessionState, initial_state, is_idle, session_value, Hop, IsAnswerable, IsWay, LinksHaveAtMost, RunsToReport, made_each_way, IsWorth, HasReported, AreInTime, taken}
 use Rattle.ptpm_network.specs.Way.{ReportsAfter}
 use Rattle.ptpm_network.proofs.Answerable.{answer-runs, answerable, answering}
 use Rattle.ptpm_network.proofs.Promise.{first_of_sessions, firsts}
@@ -37,11 +37,7 @@ reports-run : (N : Network) (first : PortIdentity → ℕ) (r : RunningNetwork) 
     → s < N.sessions → Stands N first r w → HasReported w (run N w es) s
     → Stands N first (network_run N r es) (run N w es)
     → ReportsAfter N r s es
-reports-run N first r w s es place at h next = record {
-  report = h.report;
-  reports = next.reports s place ∙ h.reports ∙ ap (λ rs. rs ++ h.report ∷ []) (sym (at.reports s place));
-  idle = ap is_waiting (next.sessions s place) ∙ idle-not_waiting N s ((run N w es).session s) h.idle;
-}
+reports-run N first r w s es place at h next = grind (arith, idle-not_waiting)
 
 -- in whatever way the machine reports
 pub reported-run : (N : Network) (past es : List Event) (r : RunningNetwork) (s : ℕ)
@@ -55,8 +51,7 @@ reported-run N past es r s at place range whole time h =
     let given : AreFirsts N first = firsts N at.promised.network in
     let n = at.promised.network in
     let now = at.stands first given in
-    let next = network_run-stands N first r w es given n (reached N past n at.promised.in_range) now range (taken-in_time N w es time) in
-    reports-run N first r w s es place now h (subst (λ ts. Stands N first (network_run N r es) (run N w ts)) whole next)
+    let next = network_run-stands N first r w es given n (reached N past n at.promised.in_range) now range (taken-in_time N w es time) in grind (arith, reports-run)
 
 runs-to_report : (N : Network) (first : PortIdentity → ℕ) (r : RunningNetwork) (w : NetworkState)
     (s : ℕ) (hops : List Hop) (port : ℕ)
@@ -64,11 +59,7 @@ runs-to_report : (N : Network) (first : PortIdentity → ℕ) (r : RunningNetwor
     → Stands N first (network_run N r (answering s a.deliveries))
     (run N w (answering s a.deliveries))
     → RunsToReport N r s hops port
-runs-to_report N first r w s hops port place at a next = record {
-  deliveries = a.deliveries;
-  along = a.along;
-  reported = reports-run N first r w s (answering s a.deliveries) place at a.reported next;
-}
+runs-to_report N first r w s hops port place at a next = grind (arith, reports-run, answering)
 
 pub running-answered : (N : Network) (es : List Event) (first : PortIdentity → ℕ)
     (r : RunningNetwork) (s : ℕ) (hops : List Hop) (port ends : ℕ)
@@ -84,8 +75,7 @@ running-answered N es first r s hops port ends n range firsts at place busy atte
     let a : IsAnswerable N w s hops port = answerable N es s hops port ends n range place busy attempts way all room in
     let more : List Event = answering s a.deliveries in
     let runs = answer-runs N w s hops port a in
-    let next = network_run-stands N first r w more firsts n (reached N es n range) at runs.0 (taken-in_time N w more runs.2) in
-    runs-to_report N first r w s hops port place at a (subst (λ ts. Stands N first (network_run N r more) (run N w ts)) runs.1 next)
+    let next = network_run-stands N first r w more firsts n (reached N es n range) at runs.0 (taken-in_time N w more runs.2) in grind (arith, runs-to_report)
 
 pub answered-after : (N : Network) (past : List Event) (r : RunningNetwork) (s : ℕ)
     (hops : List Hop) (port ends : ℕ)

@@ -1,5 +1,5 @@
 -- What a request keeps of the data sets, and what its reply says.
-use Rattle.ptpm_network.proofs.Common.{by_test, arith, ◌≡◌, ◌∙◌, refl, sym, subst, ℕ, zero, suc, ◌+◌, ◌<◌, ◌≤◌, ◌^◌, Bool, true, false, List, length, map, Option, Some, None, cond-true, cond-false, length-map, AllByRecursion, filter, range_with_len, ErrorId, Action, IsDataField, changed_by, is_named, data_field_at, is_of_port, DataSetsValue, refusal_of, answer, named_ports, outcome, read_refusal, read_reply_to, reply_of, reply_to, ReplyValue, RequestValue, changed_by-ports, changed_by-sized, Answers, AreDataSets, HasOneAnswer, IsForOne, IsSendable, IsSendableOutcome, all_made, filter-few, length-range_with_len}
+use Rattle.ptpm_network.proofs.Common.{arith, refl, ℕ, zero, suc, ◌+◌, ◌<◌, ◌≤◌, ◌^◌, Bool, true, false, List, length, map, Option, Some, None, cond-true, cond-false, length-map, AllByRecursion, filter, range_with_len, ErrorId, Action, IsDataField, changed_by, is_named, data_field_at, is_of_port, DataSetsValue, refusal_of, answer, named_ports, outcome, read_refusal, read_reply_to, reply_of, reply_to, ReplyValue, RequestValue, changed_by-ports, changed_by-sized, Answers, AreDataSets, HasOneAnswer, IsForOne, IsSendable, IsSendableOutcome, all_made, filter-few, length-range_with_len}
 use Rattle.ptpm_codec.specs.declared.message.Action.TheVariants as actions
 use Rattle.ptpm_data.specs.declared.rights.Rights.{Rights}
 use Rattle.ptpm_data.specs.RequestLaws.{IsFieldWithin, IsOneAnswer, IsSized, answerer, field_limit}
@@ -9,33 +9,12 @@ use Rattle.ptpm_data.proofs.ReplyLemmas.{answers_of, reply_of-one}
 -- ---- data sets of a number of ports
 
 sized : (ports : ℕ) (d : DataSetsValue) → AreDataSets ports d → IsSized d
-sized ports d s =
-    let same : length d.ports ≡ ports = s.ports_are in
-    let low : 1 ≤ ports = s.some_port in
-    let high : ports ≤ 8 = s.at_most_eight in
-    record {
-      some_port = omega arith;
-      at_most_eight = omega arith;
-      text = s.description;
-      identity = s.identity;
-      parent = s.parent;
-      grandmaster = s.grandmaster;
-    }
+sized ports d s = search (arith, s)
 
 pub kept : (q : RequestValue) (r : Rights) (ports : ℕ) (d : DataSetsValue)
     → AreDataSets ports d
     → AreDataSets ports (changed_by q r d)
-kept q r ports d s =
-    let after = changed_by-sized q r d (sized ports d s) in
-    record {
-      identity = after.identity;
-      parent = after.parent;
-      grandmaster = after.grandmaster;
-      description = after.text;
-      ports_are = changed_by-ports q r d ∙ s.ports_are;
-      some_port = s.some_port;
-      at_most_eight = s.at_most_eight;
-    }
+kept q r ports d s = grind (arith, changed_by-sized, sized, changed_by-ports)
 
 -- ---- what an answer says
 
@@ -52,11 +31,8 @@ shown id port d s = field_fits (is_of_port id) (data_field_at id port d) (of_id 
 outcome-sendable : (refusal : Option ErrorId) (action : Action) (octets : List ℕ)
     → IsDataField octets → IsSendableOutcome (outcome refusal action octets)
 outcome-sendable (Some error) action octets fits = tt
-outcome-sendable None actions.Get octets fits = fits
-outcome-sendable None actions.Set octets fits = fits
 outcome-sendable None actions.Command octets fits = tt
-outcome-sendable None actions.Response octets fits = fits
-outcome-sendable None actions.Acknowledge octets fits = fits
+outcome-sendable None _ octets fits = fits
 
 -- ---- whose it is
 
@@ -66,10 +42,7 @@ named-small : (port a n : ℕ)
 named-small port a zero below = tt
 named-small port a (suc n) below =
     let first : a < 2 ^ 16 = omega arith in
-    let others = named-small port (a + 1) n (omega arith) in
-    by_test (is_named port a)
-    (λ y. subst (AllByRecursion (λ k. k < 2 ^ 16)) (sym (cond-true _ _ _ y)) (first, others))
-    (λ o. subst (AllByRecursion (λ k. k < 2 ^ 16)) (sym (cond-false _ _ _ o)) others)
+    let others = named-small port (a + 1) n (omega arith) in grind (arith, cond-true, cond-false)
 
 named_ports-small : (port n : ℕ) → n ≤ 8 → AllByRecursion (λ k. k < 2 ^ 16) (named_ports port n)
 unfolding named_ports
@@ -85,7 +58,7 @@ answers-sendable true q refusal d s =
     let named = named_ports q.port (length d.ports) in
     all_made P IsSendable (answer q refusal d) (λ own fits. fits) (map Some named)
     (all_made (λ k. k < 2 ^ 16) P (λ k. Some k)
-    (λ k small. record { port = small; outcome = outcome-sendable refusal q.action _ (shown q.id (Some k) d s) })
+    (λ k small. grind (arith, outcome-sendable, shown))
     named (named_ports-small q.port (length d.ports) s.at_most_eight))
 answers-sendable false q refusal d s = (record { port = tt; outcome = outcome-sendable refusal q.action _ (shown q.id None d s) }, tt)
 
@@ -109,43 +82,21 @@ read_answered q ports d s = reply_of-answers q (read_refusal q) d (sized ports d
 
 -- ---- one answer
 
-own_answerer : (q : RequestValue) → is_of_port q.id ≡ true → answerer q ≡ Some q.port
-own_answerer q e = rw e refl
-
 one_answer : (q : RequestValue) (reply : ReplyValue)
     → IsOneAnswer (answerer q) reply
     → HasOneAnswer q reply
-one_answer q reply one = record {
-  answer = record { port = answerer q; outcome = one.0 };
-  is = one.1;
-  port = own_answerer q;
-}
+one_answer q reply one = grind arith
 
 pub once : (q : RequestValue) (r : Rights) (ports : ℕ) (d : DataSetsValue)
     → AreDataSets ports d → IsForOne ports q
     → HasOneAnswer q (reply_to q r d)
 unfolding reply_to
-once q r ports d s one =
-    let after = kept q r ports d s in
-    let has : is_of_port q.id ≡ true → (1 ≤ q.port) × (q.port ≤ length (changed_by q r d).ports) =
-    λ e. ((one e).0, subst (λ n. q.port ≤ n) (sym after.ports_are) (one e).1) in
-    one_answer q (reply_of q (refusal_of q r) (changed_by q r d))
-    (reply_of-one q (refusal_of q r) (changed_by q r d) has (sized ports (changed_by q r d) after).at_most_eight)
+once q r ports d s one = grind (arith, kept, one_answer, reply_of-one, sized)
 
 -- ---- at most eight
-
-few_answers : (b : Bool) (q : RequestValue) (refusal : Option ErrorId) (d : DataSetsValue)
-    → length d.ports ≤ 8 → length (answers_of b q refusal d) ≤ 8
-unfolding named_ports
-few_answers false q refusal d eight = omega arith
-few_answers true q refusal d eight =
-    let named : List ℕ = filter (is_named q.port) (range_with_len 1 (length d.ports)) in
-    let ports : length (map Some named) ≡ length named = length-map named _ in
-    let made : length (map (answer q refusal d) (map Some named)) ≡ length (map Some named) = length-map (map Some named) _ in
-    omega (arith, made, ports, filter-few (is_named q.port) (range_with_len 1 (length d.ports)), length-range_with_len 1 (length d.ports), eight)
 
 pub read_few : (q : RequestValue) (d : DataSetsValue)
     → length d.ports ≤ 8
     → length (read_reply_to q d).answers ≤ 8
-unfolding read_reply_to reply_of
-read_few q d eight = few_answers (is_of_port q.id) q (read_refusal q) d eight
+unfolding named_ports read_reply_to reply_of
+read_few q d eight = grind (arith, length-map, filter-few, length-range_with_len)

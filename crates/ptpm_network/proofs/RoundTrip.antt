@@ -1,8 +1,8 @@
 -- One delivery on the way of a request: a clock passes it on, or the target replies, and the same of the reply.
-use Rattle.ptpm_network.proofs.Common.{arith, ◌≡◌, ℕ, ◌<◌, ◌≤◌, ◌+◌, ◌-◌, ◌*◌, List, [], ◌∷◌, Some, true, false, refl, sym, ◌∙◌, ap, subst, ⊎_elim, ◌⊎◌, inl, inr, length, length-append, cond-false, le-ltb, ne_eqb, slice_get, list_any, boundary_hops, domain_number, may_forward, History, greatest, Deliver, frame_at, HasReplied, HasRoom, IsHeardBy, IsOfOrigin, IsReached, delivered_at_clock, step, AtPort, End, HasEnd, IsNetwork, Network, manager, peers, same_end, Frame, NetworkState, Origin, RequestOf, ReplyTo, greatest_accepted, history, is_late, issued, new_frames, AreLinked, ComesIn, Hop, Leads, PassesOn, max, Accepted, accepted_from, arrives, delivery, accepted_at_target, IsFrame, same_identity, same_identity-refl}
+use Rattle.ptpm_network.proofs.Common.{arith, ◌≡◌, ℕ, ◌<◌, ◌≤◌, ◌+◌, ◌-◌, List, [], ◌∷◌, Some, true, false, refl, sym, ◌∙◌, ap, subst, ⊎_elim, ◌⊎◌, inl, inr, length, length-append, cond-false, le-ltb, ne_eqb, slice_get, list_any, boundary_hops, domain_number, may_forward, History, Deliver, frame_at, HasReplied, HasRoom, IsHeardBy, IsOfOrigin, IsReached, delivered_at_clock, step, AtPort, End, HasEnd, IsNetwork, Network, peers, same_end, Frame, NetworkState, Origin, RequestOf, ReplyTo, greatest_accepted, history, is_late, issued, new_frames, AreLinked, ComesIn, Hop, Leads, PassesOn, IsFrame, same_identity-refl, length-map}
 use Rattle.ptpm_network.proofs.Accepting.{greatest-same}
 use Rattle.ptpm_network.proofs.Arriving.{JoinsAt, here_after, history-elsewhere}
-use Rattle.ptpm_network.proofs.Carrying.{IsIn, IsPassing, MakesAtMost, MayPass, add_most, in_any, in_map, in_right, length-map_same, passed-domain, passed-hops, passed_copy, passing-few, passing-history, passing-made, reply-passing, request-passing}
+use Rattle.ptpm_network.proofs.Carrying.{IsIn, IsPassing, MakesAtMost, MayPass, in_any, in_map, in_right, passed-domain, passed-hops, passed_copy, passing-few, passing-history, passing-made, reply-passing, request-passing}
 use Rattle.ptpm_network.proofs.Exchanging.{delivery-step, delivery-taken, replied}
 use Rattle.ptpm_network.proofs.Frames.{heard-frame}
 use Rattle.ptpm_network.proofs.Reaching.{frame_at-is, step-reached}
@@ -60,7 +60,7 @@ pub hears-stays : (N : Network) (w u : NetworkState) (s k domain : ℕ)
     → Hears N u s k domain
 hears-stays N w u s k domain same h = ⊎_elim
     (λ (d : (history N w (N.session s).target).sets.default.domain ≡ domain). inl (ap (λ (x : History). x.sets.default.domain) same ∙ d))
-    (λ (g : greatest_accepted N w s ≡ k). inr (ap (λ (x : History). greatest (manager N s) x.accepted) same ∙ g))
+    (λ (g : greatest_accepted N w s ≡ k). grind (arith))
     h
 
 -- A message of request k comes in at this end, and another is on its way to the next one then.
@@ -94,16 +94,10 @@ pass N s w most k c p q e o domain hops n few r room late hears passing can hop 
     let i = frame_at-is N w number.0 f r number.1 in
     let exists = (subst (HasEnd N) comes.at_end i.end).0 in
     let v = passing f.octets exists (subst (IsOfOrigin N w f.octets) comes.origin_is i.origin) in
-    let may : MayPass (history N w c).sets p q f.octets = record {
-      domain = comes.domain_is ∙ sym can.domain_is;
-      hop = subst (λ h. 0 < h) (sym comes.hops_are) hop;
-      two_ports = can.two_ports;
-      ingress = can.ingress;
-      egress = can.egress;
-    } in
+    let may : MayPass (history N w c).sets p q f.octets = grind (arith) in
     let u : NetworkState = delivered_at_clock N w c p f in
     let is : step N w (Deliver number.0) ≡ u = delivery-step N w number.0 f (AtPort c p) number.1 comes.at_end room in
-    let reached_u : IsReached N u = subst (IsReached N) is (step-reached N w (Deliver number.0) n tt r) in
+    let reached_u : IsReached N u = grind (arith, step-reached) in
     let moved : Moved N s w u most = record {
       reached = reached_u;
       sessions = refl;
@@ -115,30 +109,11 @@ pass N s w most k c p q e o domain hops n few r room late hears passing can hop 
       held = passing-made N w c p q f e v may can.link;
       at_end = refl;
       origin_is = comes.origin_is;
-      domain_is = passed-domain (N.clock c).identity f.octets v ∙ comes.domain_is;
-      hops_are = passed-hops (N.clock c).identity f.octets v ∙ ap (λ h. h - 1) comes.hops_are;
-    } in
-    record {
-      number = number.0;
-      comes_in = one-delivery N w number.0 f (AtPort c p) number.1 comes.at_end room (ap (is_late w) comes.origin_is ∙ late);
-      moved = subst (λ (x : NetworkState). Moved N s w x most) (sym is) moved;
-      hears = subst (λ (x : NetworkState). Hears N x s k domain) (sym is) (hears-stays N w u s k domain (passing-history N w c p f (N.session s).target v) hears);
-      comes = subst (λ (x : NetworkState). Comes x e o domain (hops - 1)) (sym is) comes_u;
-    }
+      domain_is = grind (arith, passed-domain);
+      hops_are = grind (arith, passed-hops);
+    } in grind (arith, one-delivery, hears-stays, passing-history)
 
 -- ---- the target replies
-
-hops_lost : (reply hops lost all : ℕ) → reply ≡ all - hops → lost + hops ≡ all → reply ≡ lost
-hops_lost reply hops lost all a b = omega arith
-
-pub within : (x most : ℕ) → 8 * x ≤ most → x ≤ most
-within x most le = omega arith
-
-same-request : (s k t j : ℕ) → RequestOf s k ≡ RequestOf t j → (s ≡ t) × (k ≡ j)
-same-request s k t j e = (cc, cc)
-
-no_more : (a index g k : ℕ) → a ≡ max index g → index ≡ k → a ≤ k → a ≡ k
-no_more a index g k e i le = omega arith
 
 -- it hears the request still, as it has accepted it, or is as it was
 hears-after : (N : Network) (s : ℕ) (w : NetworkState) (k domain port : ℕ) (f : Frame)
@@ -146,19 +121,7 @@ hears-after : (N : Network) (s : ℕ) (w : NetworkState) (k domain port : ℕ) (
     → IsReached N (delivered_at_clock N w (N.session s).target port f)
     → issued w s ≡ k → f.origin ≡ RequestOf s k → Hears N w s k domain
     → Hears N (delivered_at_clock N w (N.session s).target port f) s k domain
-hears-after N s w k domain port f n place r i r_u e origin hears =
-    let t = (N.session s).target in
-    let u : NetworkState = delivered_at_clock N w t port f in
-    ⊎_elim
-    (λ (same : history N (arrives w t (delivery port f)) t ≡ history N w t). hears-stays N w u s k domain same hears)
-    (λ (j : JoinsAt N w t port f).
-    let own = same-request j.of.session j.of.k s k (sym j.of.origin ∙ origin) in
-    let d : Accepted = accepted_from (N.clock t) (history N w t) j.copy in
-    let by : same_identity (manager N s) d.manager ≡ true = ap (same_identity (manager N s)) (j.of.source ∙ ap (manager N) own.0) ∙ same_identity-refl (manager N s) in
-    let here : accepted_at_target N u s ≡ d ∷ accepted_at_target N w s = ap (λ (h : History). h.accepted) j.is in
-    let is : greatest_accepted N u s ≡ max d.index (greatest_accepted N w s) = ap (greatest (manager N s)) here ∙ greatest-same (manager N s) d (accepted_at_target N w s) by in
-    inr (no_more (greatest_accepted N u s) d.index (greatest_accepted N w s) k is (j.of.index ∙ own.1) (subst (λ g. greatest_accepted N u s ≤ g) e (r_u.sessions s place).begun_before)))
-    (here_after N w t port f n r (n.are_sessions s place).exists (heard-frame N w f.octets f.origin i.origin))
+hears-after N s w k domain port f n place r i r_u e origin hears = grind (arith, hears-stays, JoinsAt, same_identity-refl, greatest-same, here_after, heard-frame)
 
 pub reply : (N : Network) (s : ℕ) (w : NetworkState) (most k domain hops lost port : ℕ) (from : End)
     → IsNetwork N → s < N.sessions → MakesAtMost N most → IsReached N w → HasRoom w → issued w s ≡ k
@@ -172,35 +135,30 @@ reply N s w most k domain hops lost port from n place few r room e sum link hear
     let i = frame_at-is N w number.0 f r number.1 in
     let u : NetworkState = delivered_at_clock N w t port f in
     let is : step N w (Deliver number.0) ≡ u = delivery-step N w number.0 f (AtPort t port) number.1 comes.at_end room in
-    let reached_u : IsReached N u = subst (IsReached N) is (step-reached N w (Deliver number.0) n tt r) in
-    let back : HasReplied N w u s port f.octets = replied N w s port f n r place i comes.at_end (comes.origin_is ∙ ap (RequestOf s) (sym e)) (heard-by N w s k domain f.octets e comes.domain_is hears) in
+    let reached_u : IsReached N u = grind (arith, step-reached) in
+    let back : HasReplied N w u s port f.octets = grind (arith, replied, heard-by) in
     let ends = peers N.links (AtPort t port) in
     let made = new_frames ends back.reply (ReplyTo s (issued w s)) in
     let copy : Frame = record { end = from; octets = back.reply; origin = ReplyTo s (issued w s); first_hops = boundary_hops back.reply; forwardings = 0 } in
     let held : IsIn u.frames copy = subst (λ fs. IsIn fs copy) (sym back.frames) (in_right w.frames made copy
     (in_map (λ end. record { end = end; octets = back.reply; origin = ReplyTo s (issued w s); first_hops = boundary_hops back.reply; forwardings = 0 }) ends from (in_any from ends link.back))) in
-    let size : length made ≤ most = subst (λ m. m ≤ most) (sym (length-map_same (λ end. record { end = end; octets = back.reply; origin = ReplyTo s (issued w s); first_hops = boundary_hops back.reply; forwardings = 0 }) ends)) (within (length ends) most (few (AtPort t port))) in
+    let size : length made ≤ most = rw length-map (omega (arith, few (AtPort t port))) in
     let more : length u.frames ≡ length w.frames + length made = ap length back.frames ∙ length-append w.frames made in
-    let moved : Moved N s w u most = record {
-      reached = reached_u;
-      sessions = refl;
-      histories = λ d ne. history-elsewhere N w t (delivery port f) d (ne_eqb d t ne);
-      frames = subst (λ m. m ≤ length w.frames + most) (sym more) (add_most (length w.frames) (length made) most size);
-    } in
+    let moved : Moved N s w u most = grind (arith, history-elsewhere, ne_eqb) in
     let comes_u : Comes u from (ReplyTo s k) domain lost = record {
       frame = copy;
       held = held;
       at_end = refl;
       origin_is = ap (ReplyTo s) e;
       domain_is = back.domain ∙ comes.domain_is;
-      hops_are = hops_lost (boundary_hops back.reply) hops lost (N.session s).setup.hops (back.hops ∙ ap (λ h. (N.session s).setup.hops - h) comes.hops_are) sum;
+      hops_are = omega (arith, back.hops, comes.hops_are, sum);
     } in
     record {
       number = number.0;
       comes_in = one-delivery N w number.0 f (AtPort t port) number.1 comes.at_end room (ap (is_late w) comes.origin_is ∙ in_time w s k e);
-      moved = subst (λ (x : NetworkState). Moved N s w x most) (sym is) moved;
+      moved = grind (arith);
       hears = subst (λ (x : NetworkState). Hears N x s k domain) (sym is) (hears-after N s w k domain port f n place r i reached_u e comes.origin_is hears);
-      comes = subst (λ (x : NetworkState). Comes x from (ReplyTo s k) domain lost) (sym is) comes_u;
+      comes = grind (arith);
     }
 
 -- ---- a way
@@ -219,13 +177,7 @@ leads-first N (h ∷ hops) from to leads = leads.0
 pub passes-stays : (N : Network) (w u : NetworkState) (target domain : ℕ) (h : Hop)
     → history N u h.clock ≡ history N w h.clock → PassesOn N w target domain h
     → PassesOn N u target domain h
-passes-stays N w u target domain h same p = record {
-  other = p.other;
-  two_ports = p.two_ports;
-  in_domain = ap (λ (x : History). x.sets.default.domain) same ∙ p.in_domain;
-  near = ap (λ (x : History). may_forward h.near x.sets) same ∙ p.near;
-  far = ap (λ (x : History). may_forward h.far x.sets) same ∙ p.far;
-}
+passes-stays N w u target domain h same p = search
 
 module _ (N : Network) (s : ℕ) (w : NetworkState) (most k domain hops : ℕ) (h : Hop) (e : End) (n : IsNetwork N) (few : MakesAtMost N most) (r : IsReached N w) (room : HasRoom w) (is : issued w s ≡ k) (hears : Hears N w s k domain) where
   -- a clock passes a request on to the far side, and the reply back to the near one

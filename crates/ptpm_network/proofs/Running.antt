@@ -1,18 +1,16 @@
 -- A running network makes of every event what the machine does: it refuses what that refuses, for the same reason, and else
 -- goes where it goes.
-use Rattle.ptpm_network.proofs.Common.{by_test, result_err, Result, Ok, Err, Happened, unless_refused, network_event, delivers, goes_on, ◌≡◌, ℕ, ◌<◌, ◌≤◌, nat_lt, not, List, [], ◌∷◌, ◌++◌, Option, Some, None, false, refl, sym, ◌∙◌, ap, subst, is_none, if◌then◌else◌, option_map, option_or, AllByRecursion, first_of, first_of-none, length, length-map, PortIdentity, received_of, SessionValue, begin_refusal, send_refusal, is_waiting, begun, resumed, retuned, Begin, BeginRefused, Deliver, Event, Forged, FramesAtMaximum, IsInRange, Refusal, Resume, Retune, Send, SendRefused, Stranger, begin_refused, send_refused, resume_refused, forged, frame_at, frames_limit, is_forged, no_frame, no_port, no_room, no_session, refusal, Held, RunningNetwork, held, network_run, reaches, IsFrame, IsReached, AreInTime, begun_in, delivered, delivered_at, delivered_at_clock, happens, is_late_delivery, is_late_frame, report_from, run, step, step_by, strange_frame, taken, AtPort, AtSession, End, HasEnd, IsNetwork, Network, AreFirsts, Stands, Frame, NetworkState, initial_state, is_late, is_idle, session_value, le_trans}
-use Rattle.ptpm_manager.specs.declared.error.SendError.TheVariants as sends
+use Rattle.ptpm_network.proofs.Common.{arith, by_test, result_err, Result, Ok, Err, Happened, unless_refused, network_event, delivers, goes_on, ◌≡◌, ℕ, ◌<◌, ◌≤◌, nat_lt, not, List, [], ◌∷◌, ◌++◌, Option, Some, None, false, refl, sym, ◌∙◌, ap, subst, is_none, if◌then◌else◌, option_map, option_or, AllByRecursion, first_of, length, length-map, PortIdentity, received_of, SessionValue, send_refusal, is_waiting, begun, Begin, Deliver, Event, FramesAtMaximum, IsInRange, Refusal, Resume, Retune, Send, SendRefused, Stranger, begin_refused, send_refused, forged, frame_at, frames_limit, no_frame, no_port, no_room, no_session, refusal, Held, RunningNetwork, held, network_run, reaches, IsFrame, IsReached, AreInTime, begun_in, delivered, delivered_at, delivered_at_clock, happens, is_late_delivery, is_late_frame, report_from, run, step, step_by, strange_frame, taken, AtPort, AtSession, End, HasEnd, IsNetwork, Network, AreFirsts, Stands, Frame, NetworkState, initial_state, is_late, is_idle, session_value, le_trans}
 use Rattle.ptpm_manager.specs.Ask as ask
 use Rattle.ptpm_network.proofs.Frames.{heard-frame}
 use Rattle.ptpm_network.proofs.Hearing.{begun-value, hears-stands, sends-stand, session-stands}
 use Rattle.ptpm_network.proofs.Held.{frame_at-map, turned-seen}
 use Rattle.ptpm_network.proofs.InTime.{in_window}
-use Rattle.ptpm_network.proofs.Reaching.{frame_at-is, port-exists, session-exists, step-reached}
+use Rattle.ptpm_network.proofs.Reaching.{frame_at-is, port-exists, session-exists, step-reached, strange-says}
 use Rattle.ptpm_network.proofs.Receiving.{not_idle}
 use Rattle.ptpm_network.proofs.Refusals.{idle-not_waiting}
 use Rattle.ptpm_network.proofs.Schedule.{reached}
 use Rattle.ptpm_network.proofs.Standing.{stands-turned}
-use Rattle.ptpm_network.proofs.Strangers.{strange-message}
 use Rattle.ptpm_network.proofs.Taking.{run-append}
 
 -- ---- reasons to refuse, one after another
@@ -26,7 +24,7 @@ pub record Follows (x : Result Happened Refusal) (o : Option Refusal)
 by_last : (P : RunningNetwork → Type 0) (a b : Option Refusal) (h : Happened)
     → a ≡ b → (b ≡ None → P h.network)
     → Follows (unless_refused a (Ok h)) b P
-by_last P None None h e holds = record { reason = refl; next = λ g is. let same : h ≡ g = cc in subst (λ (k : Happened). P k.network) same (holds refl) }
+by_last P None None h e holds = record { reason = refl; next = grind (arith) }
 by_last P (Some a) (Some b) h e holds = record { reason = e; next = λ g is. absurd (cc) }
 by_last P None (Some b) h e holds = absurd (cc)
 by_last P (Some a) None h e holds = absurd (cc)
@@ -73,9 +71,7 @@ module _ (N : Network) (first : PortIdentity → ℕ) (r : RunningNetwork) (w : 
   by_session : {P : RunningNetwork → Type 0} (s : ℕ) (a b : Option Refusal) (h : Happened)
       → (s < N.sessions → a ≡ b) → (s < N.sessions → P h.network)
       → Follows (unless_refused (no_session N s) (unless_refused a (Ok h))) (option_or (no_session N s) b) P
-  by_session s a b h same holds =
-      by_reason (no_session N s) (no_session N s) b (unless_refused a (Ok h)) refl
-      (λ none. let place = session-exists N s none in by_last _ a b h (same place) (λ fine. holds place))
+  by_session s a b h same holds = grind (arith, by_reason, session-exists, by_last)
 
   delivers-follows : (k : ℕ) (o : Option Frame)
       → frame_at w.frames k ≡ o
@@ -91,7 +87,7 @@ module _ (N : Network) (first : PortIdentity → ℕ) (r : RunningNetwork) (w : 
       (λ x. AreFirsts N first → IsInRange e → is_late_delivery w e ≡ false → Stands N first x (happens N w e))
   unfolding network_event refusal happens
   follows (Begin s a) =
-      by_session s _ (begin_refused N w s a) _ (λ place. ap (λ (v : SessionValue). option_map BeginRefused (begin_refusal v a)) (at.sessions s place))
+      by_session s _ (begin_refused N w s a) _ (λ place. grind (arith))
       (λ place firsts range late. session-stands N first r w s (begun (r.session s) (ask.request_of a)) (begun_in (N.session s) (w.session s) (ask.request_of a)) at place
       (ap (λ (v : SessionValue). begun v (ask.request_of a)) (at.sessions s place) ∙ begun-value (N.session s) (w.session s) (ask.request_of a) (told s place)) refl)
   follows (Send s) =
@@ -100,16 +96,10 @@ module _ (N : Network) (first : PortIdentity → ℕ) (r : RunningNetwork) (w : 
       by_reason (no_room r.frames) (no_room w.frames) (send_refused N w s) _ room
       (λ fine. by_last _ _ (send_refused N w s) _ (ap (λ (v : SessionValue). option_map SendRefused (send_refusal v)) (at.sessions s place))
       (λ last firsts range late. sends-stand N first r w s at place)))
-  follows (Resume s attempts) =
-      by_session s _ (resume_refused w s) _ (λ place. ap (λ b. first_of ((b, SendRefused sends.Idle) ∷ [])) (idle s place))
-      (λ place firsts range late. session-stands N first r w s (resumed (r.session s) attempts) (record (w.session s) { attempts_left = attempts }) at place
-      (ap (λ (v : SessionValue). resumed v attempts) (at.sessions s place)) refl)
-  follows (Retune s domain) =
-      by_last _ (no_session N s) (no_session N s) _ refl
-      (λ none firsts range late. let place = session-exists N s none in
-      session-stands N first r w s (retuned (r.session s) domain) (record (w.session s) { domain = domain }) at place (ap (λ (v : SessionValue). retuned v domain) (at.sessions s place)) refl)
+  follows (Resume s attempts) = grind (arith, by_session, idle, session-stands)
+  follows (Retune s domain) = grind (arith, by_last, session-exists, session-stands)
   follows (Deliver k) =
-      let same : frame_at r.frames k ≡ option_map held (frame_at w.frames k) = ap (λ (hs : List Held). frame_at hs k) at.frames ∙ frame_at-map w.frames k in
+      let same : frame_at r.frames k ≡ option_map held (frame_at w.frames k) = grind (arith, frame_at-map) in
       subst (λ (o : Option Held). Follows (delivers N r o) (option_or (no_frame (frame_at w.frames k)) (no_room w.frames))
       (λ x. AreFirsts N first → Unit {0} → is_late_frame w (frame_at w.frames k) ≡ false → Stands N first x (delivered N w (frame_at w.frames k)))) (sym same)
       (delivers-follows k (frame_at w.frames k) refl)
@@ -118,10 +108,9 @@ module _ (N : Network) (first : PortIdentity → ℕ) (r : RunningNetwork) (w : 
       (λ there. by_reason (forged N datagram) (forged N datagram) (no_room w.frames) _ refl
       (λ fine. by_last _ (no_room r.frames) (no_room w.frames) _ room
       (λ last firsts octets late.
-      let honest = (first_of-none (is_forged N datagram) Forged [] fine).0 in
       let place = (port-exists N c port there).0 in
       stands-turned N first r w c port (strange_frame c port datagram) at place
-      (λ copy is. in_window first N w c port (strange_frame c port datagram) copy firsts n known place (λ v h. strange-message N datagram v octets honest h) refl is))))
+      (λ copy is. in_window first N w c port (strange_frame c port datagram) copy firsts n known place (strange-says N w datagram octets fine) refl is))))
 
 -- ---- a list of events
 

@@ -13,9 +13,6 @@ module _ (N : Network) (es : List Event) where
       → InStep N (run N (initial_state N) es) s ((run N (initial_state N) es).session s)
   at s n i place = (reached n i).sessions s place
 
-one_more : (begun reports g : ℕ) → begun ≤ reports + 1 → reports ≤ g → begun ≤ g + 1
-one_more begun reports g a b = omega arith
-
 module _ (N : Network) (es : List Event) (s : ℕ) (n : IsNetwork N) (i : AllByRecursion IsInRange es) (place : s < N.sessions) where
   pub accepted_begun : greatest_accepted N (run N (initial_state N) es) s
       ≤ issued (run N (initial_state N) es) s
@@ -23,7 +20,7 @@ module _ (N : Network) (es : List Event) (s : ℕ) (n : IsNetwork N) (i : AllByR
 
   pub begun_accepted : issued (run N (initial_state N) es) s
       ≤ greatest_accepted N (run N (initial_state N) es) s + 1
-  begun_accepted = let p = at N es s n i place in one_more _ _ _ p.one_at_a_time p.accepted_before
+  begun_accepted = let p = at N es s n i place in omega (arith, p.one_at_a_time, p.accepted_before)
 
 -- an index from 1 on
 positive-kept : (k : ℕ) (N : Network) (w : NetworkState) (s : ℕ) (e : Accepted)
@@ -65,14 +62,9 @@ hops_and_forwardings : (N : Network) (es : List Event) (k : ℕ) (f : Frame)
     → boundary_hops f.octets + f.forwardings ≡ f.first_hops
 hops_and_forwardings N es k f n i e = (frame_at-is N (run N (initial_state N) es) k f (reached N es n i) e).hops
 
-left_of : (hops forwardings first : ℕ)
-    → hops + forwardings ≡ first
-    → (hops ≡ first - forwardings) × (forwardings ≤ first)
-left_of hops forwardings first e = (omega arith, omega arith)
-
 module _ (N : Network) (es : List Event) (k : ℕ) (f : Frame) (n : IsNetwork N) (i : AllByRecursion IsInRange es) (e : frame_at (run N (initial_state N) es).frames k ≡ Some f) where
   pub hops_lost : boundary_hops f.octets ≡ f.first_hops - f.forwardings
-  hops_lost = (left_of (boundary_hops f.octets) f.forwardings f.first_hops (hops_and_forwardings N es k f n i e)).0
+  hops_lost = omega (arith, hops_and_forwardings N es k f n i e)
 
   pub forwardings_few : f.forwardings ≤ f.first_hops
-  forwardings_few = (left_of (boundary_hops f.octets) f.forwardings f.first_hops (hops_and_forwardings N es k f n i e)).1
+  forwardings_few = omega (arith, hops_and_forwardings N es k f n i e)

@@ -115,28 +115,7 @@ one_known m y = by_test (same_identity m manager_m)
     (λ n. absurd (true≢false (sym y ∙ ap (λ b. b || false) n)))
 
 pub one_clock-IsNetwork : IsNetwork one_clock
-one_clock-IsNetwork = record {
-  are_clocks = λ c place. record {
-    identity = refl;
-    is_one = not_every;
-    some_port = omega arith;
-    at_most_eight = omega arith;
-    start = record { identity = refl; parent = refl; grandmaster = refl; description = omega arith; ports_are = refl; some_port = omega arith; at_most_eight = omega arith };
-  };
-  are_sessions = λ s place. record {
-    identity = record { clock = refl; port = omega arith };
-    is_one = manager-not_every;
-    exists = omega arith;
-    target = refl;
-    ports = refl;
-  };
-  clocks_apart = λ c d p q e. only_one c d p q;
-  sessions_apart = λ s t p q e. only_one s t p q;
-  no_clock = λ s c p q. manager-no_clock;
-  configured = λ s place. or_left (same_identity manager_m manager_m) false (same_identity-refl manager_m);
-  managers = λ c m place y. (0, omega arith, one_known m y, only_one 0 c (omega arith) place);
-  are_links = (record { two = omega arith; at_most_sixteen = omega arith; ends = ((omega arith, omega arith, omega arith), (omega arith, tt)) }, tt);
-}
+one_clock-IsNetwork = grind (arith, not_every, manager-not_every, only_one, manager-no_clock, or_left, same_identity-refl, one_known)
 
 -- ---- refused events
 

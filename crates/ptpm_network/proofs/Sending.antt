@@ -1,14 +1,13 @@
 -- A session sends its unanswered request, and is told the answer.
-use Rattle.ptpm_network.proofs.Common.{◌≡◌, ℕ, ◌<◌, ◌≤◌, ◌+◌, ◌-◌, ◌==◌, List, [], ◌∷◌, ◌++◌, Some, None, true, false, refl, sym, ◌∙◌, ap, subst, length, length-append, eq-eqb, ne_eqb, is_some, not, option_map, list_any, option_or, Message, canonical, boundary_hops, domain_number, first_of, RequestValue, SessionValue, is_waiting, send_refusal, request_message, Deliver, Send, SendRefused, no_room, refusal, send_refused, HasReported, HasRoom, IsReached, happens, sent_frames, step, AtSession, End, IsNetwork, Network, peers, ports, same_end, Frame, NetworkState, RequestOf, ReplyTo, SessionState, is_idle, is_late, issued, new_frames, session_value, unanswered, ComesIn, with_place-same}
-use Rattle.ptpm_manager.specs.declared.error.SendError.TheVariants as sends
+use Rattle.ptpm_network.proofs.Common.{◌≡◌, ℕ, ◌<◌, ◌≤◌, ◌+◌, ◌-◌, List, [], ◌∷◌, ◌++◌, Some, None, true, false, refl, sym, ◌∙◌, ap, subst, length, length-append, eq-eqb, ne_eqb, list_any, Message, canonical, boundary_hops, domain_number, RequestValue, send_refusal, request_message, Deliver, Send, refusal, HasReported, HasRoom, IsReached, happens, step, AtSession, End, IsNetwork, Network, peers, ports, same_end, Frame, NetworkState, RequestOf, ReplyTo, SessionState, is_idle, is_late, issued, new_frames, unanswered, ComesIn, with_place-same, length-map, arith}
 use Rattle.ptpm_network.specs.Machine as machine
-use Rattle.ptpm_network.proofs.Carrying.{IsIn, MakesAtMost, add_most, in_any, in_map, in_right, length-map_same}
+use Rattle.ptpm_network.proofs.Carrying.{IsIn, MakesAtMost, in_any, in_map, in_right}
 use Rattle.ptpm_network.proofs.Exchanging.{delivery-step, is_room, reports-answer, said-domain, said-hops, step-taken}
 use Rattle.ptpm_network.proofs.Messages.{request-fits, request-valid}
 use Rattle.ptpm_network.proofs.Reaching.{frame_at-is}
 use Rattle.ptpm_network.proofs.Steps.{unanswered-last}
 use Rattle.ptpm_network.proofs.Worth.{session-named}
-use Rattle.ptpm_network.proofs.RoundTrip.{Comes, in_time, numbered, one-delivery, within}
+use Rattle.ptpm_network.proofs.RoundTrip.{Comes, in_time, numbered, one-delivery}
 
 -- ---- it sends
 
@@ -32,38 +31,22 @@ send-frames N w s q n r place e =
     let fits = request-fits N s k (w.session s).domain (N.session s).setup.hops p q n place asked in
     record {
       octets = canonical v;
-      frames = ap (λ o. w.frames ++ sent_frames (peers N.links (AtSession s)) s k (option_map (request_message (N.session s).setup (w.session s).domain k) o)) e;
+      frames = grind (arith);
       domain = said-domain v (w.session s).domain valid fits refl;
       hops = said-hops v (N.session s).setup.hops valid fits refl;
     }
-
-send-not_refused : (v : SessionValue)
-    → is_waiting v ≡ true → (v.attempts_left ≡ 0 → ⊥)
-    → send_refusal v ≡ None
-unfolding send_refusal
-send-not_refused v waits ne =
-    ap (λ b. first_of ((not b, sends.Idle) ∷ (v.attempts_left == 0, sends.GaveUp) ∷ [])) waits
-    ∙ ap (λ b. first_of ((b, sends.GaveUp) ∷ [])) (ne_eqb v.attempts_left 0 ne)
 
 pub send-taken : (N : Network) (w : NetworkState) (s : ℕ) (q : RequestValue)
     → s < N.sessions → HasRoom w → unanswered (w.session s) ≡ Some q
     → ((w.session s).attempts_left ≡ 0 → ⊥)
     → refusal N w (Send s) ≡ None
-unfolding refusal
-send-taken N w s q place room e ne =
-    ap (λ o. option_or o (option_or (no_room w.frames) (send_refused N w s))) (session-named N s place)
-    ∙ ap (λ o. option_or o (send_refused N w s)) (is_room w room)
-    ∙ ap (option_map SendRefused) (send-not_refused (session_value (N.session s) (w.session s)) (ap is_some e) ne)
+unfolding refusal send_refusal
+send-taken N w s q place room e ne = grind (arith, session-named, is_room, ne_eqb)
 
 module _ (N : Network) (w : NetworkState) (s : ℕ) where
   pub send-step : refusal N w (Send s) ≡ None → step N w (Send s) ≡ machine.sends N w s
   unfolding happens
   send-step none = step-taken N w (Send s) none
-
-  -- its session is as it was, but for the attempts
-  sent-session : (machine.sends N w s).session s
-      ≡ record (w.session s) { attempts_left = (w.session s).attempts_left - 1 }
-  sent-session = with_place-same w.session s (record (w.session s) { attempts_left = (w.session s).attempts_left - 1 }) s (eq-eqb s s refl)
 
 -- its requests, reports and domain are as they were
 pub record IsSameSession (w u : NetworkState) (s : ℕ) : Type 0 where
@@ -73,34 +56,17 @@ pub record IsSameSession (w u : NetworkState) (s : ℕ) : Type 0 where
   pub idle : is_idle (u.session s) ≡ is_idle (w.session s)
 
 pub same-sent : (N : Network) (w : NetworkState) (s : ℕ) → IsSameSession w (machine.sends N w s) s
-same-sent N w s =
-    let own = sent-session N w s in
-    record {
-      counted = ap (λ (x : SessionState). length x.begun) own;
-      reports = ap (λ (x : SessionState). x.reports) own;
-      domain = ap (λ (x : SessionState). x.domain) own;
-      idle = ap is_idle own;
-    }
+same-sent N w s = grind (arith, with_place-same, eq-eqb)
 
 pub same-moved : (w u z : NetworkState) (s : ℕ)
     → z.session ≡ u.session → IsSameSession w u s
     → IsSameSession w z s
-same-moved w u z s e same = record {
-  counted = ap (λ (f : ℕ → SessionState). length (f s).begun) e ∙ same.counted;
-  reports = ap (λ (f : ℕ → SessionState). (f s).reports) e ∙ same.reports;
-  domain = ap (λ (f : ℕ → SessionState). (f s).domain) e ∙ same.domain;
-  idle = ap (λ (f : ℕ → SessionState). is_idle (f s)) e ∙ same.idle;
-}
+same-moved w u z s e same = search (ap (λ (f : ℕ → SessionState). f s) e, same)
 
 pub reported-since : (w z x : NetworkState) (s : ℕ)
     → IsSameSession w z s → HasReported z x s
     → HasReported w x s
-reported-since w z x s same h = record {
-  report = h.report;
-  index = h.index ∙ same.counted;
-  reports = h.reports ∙ ap (λ rs. rs ++ h.report ∷ []) same.reports;
-  idle = h.idle;
-}
+reported-since w z x s same h = search (h.index ∙ same.counted, h.reports ∙ ap (λ rs. rs ++ h.report ∷ []) same.reports)
 
 -- copies of it are on their way, and no more than this
 pub sent-comes : (N : Network) (w : NetworkState) (s : ℕ) (end : End)
@@ -122,13 +88,7 @@ sent-comes N w s end sent link =
 pub sent-few : (N : Network) (w : NetworkState) (s most : ℕ)
     → Sent N w s → MakesAtMost N most
     → length (machine.sends N w s).frames ≤ length w.frames + most
-sent-few N w s most sent few =
-    let ends = peers N.links (AtSession s) in
-    let made = new_frames ends sent.octets (RequestOf s (issued w s)) in
-    let make : End → Frame = λ e. record { end = e; octets = sent.octets; origin = RequestOf s (issued w s); first_hops = boundary_hops sent.octets; forwardings = 0 } in
-    let size : length made ≤ most = subst (λ m. m ≤ most) (sym (length-map_same make ends)) (within (length ends) most (few (AtSession s))) in
-    let more : length (machine.sends N w s).frames ≡ length w.frames + length made = ap length sent.frames ∙ length-append w.frames made in
-    subst (λ m. m ≤ length w.frames + most) (sym more) (add_most (length w.frames) (length made) most size)
+sent-few N w s most sent few = grind (arith, length-map, length-append)
 
 -- the last delivery, at the session
 pub record Told (N : Network) (s : ℕ) (z : NetworkState) : Type 0 where

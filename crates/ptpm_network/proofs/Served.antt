@@ -1,6 +1,5 @@
 -- A session whose own messages come in time is served, after every list of events, whatever comes late of others.
-use Rattle.ptpm_network.proofs.Common.{by_test, ◌≡◌, ℕ, ◌+◌, ◌<◌, ◌≤◌, ◌==◌, ◌^◌, ◌&&◌, Bool, List, [], ◌∷◌, ◌++◌, length, Option, Some, None, Result, Ok, Err, true, false, refl, sym, ◌∙◌, ap, subst, ⊎_elim, and_cases, and_from, cond-true, cond-false, eq-eqb, eqb-true, eqb-false, ne_eqb, ltb-false, true≢false, all_append, frame_at-all, AllByRecursion, Message, Fits, IsForeign, message_of, with_session_value, canonical, RequestValue, is_copy, Report, received_of, IsAsked, strange_frame, with_place, with_place-same, with_place-other, AtPort, AtSession, End, HasEnd, IsNetwork, Network, manager, ports, Held, seen, Origin, RequestOf, ReplyTo, SessionValue, Happened, network_event, network_run, goes_on, delivers, reaches, hears, RunningNetwork, initial_network, answered, begun, resumed, retuned, sent, due_message, Ask, begin_refusal, BeginRefused, SendRefused, Refusal, Event, Begin, Send, Resume, Retune, Deliver, Stranger, IsInRange, Forged, is_forged, forged, frame_at, first_of-none, no_port, no_room, no_session, nothing_to_resume, send_refusal, option_map, is_late_at, sends_in, PortIdentity, DataSetsValue, Entry, initial_history, StandsAfter, session_value}
-use Rattle.std.specs.FinMap.{get}
+use Rattle.ptpm_network.proofs.Common.{arith, by_test, ◌≡◌, ℕ, ◌+◌, ◌<◌, ◌≤◌, ◌==◌, ◌^◌, ◌&&◌, Bool, List, [], ◌∷◌, length, Option, Some, None, Result, Ok, Err, true, false, refl, sym, ◌∙◌, ap, subst, and_cases, and_from, cond-true, cond-false, eq-eqb, eqb-true, eqb-false, ne_eqb, ltb-false, true≢false, all_append, frame_at-all, AllByRecursion, Message, Fits, IsForeign, message_of, with_session_value, canonical, RequestValue, is_copy, received_of, IsAsked, strange_frame, with_place, with_place-same, with_place-other, AtPort, AtSession, End, HasEnd, IsNetwork, Network, manager, ports, Held, seen, Origin, RequestOf, ReplyTo, SessionValue, Happened, network_event, network_run, goes_on, delivers, reaches, hears, RunningNetwork, initial_network, begun, resumed, retuned, sent, due_message, Ask, begin_refusal, BeginRefused, SendRefused, Refusal, Event, Begin, Send, Resume, Retune, Deliver, Stranger, IsInRange, Forged, is_forged, forged, frame_at, first_of-none, no_port, no_room, no_session, nothing_to_resume, send_refusal, option_map, is_late_at, sends_in, PortIdentity, DataSetsValue, Entry, initial_history, StandsAfter, session_value}
 use Rattle.ptpm_agent.specs.Laws.{IsKept}
 use Rattle.ptpm_manager.specs.Ask as ask
 use Rattle.ptpm_manager.specs.Receiving.{left_by}
@@ -20,7 +19,6 @@ use Rattle.ptpm_network.proofs.Reaching.{first-reached, port-exists, session-exi
 use Rattle.ptpm_network.proofs.Refusals.{begin-not_refused, option_map-none}
 use Rattle.ptpm_network.proofs.Serving.{Own, comes_own, own-turned}
 use Rattle.ptpm_network.proofs.Strangers.{strange-message}
-use Rattle.ptpm_network.proofs.Unchanged.{of_nothing}
 
 -- ---- what is in time
 
@@ -29,18 +27,12 @@ module _ (N : Network) (s : ℕ) (r : RunningNetwork) where
       → is_for N s end o && is_behind r o ≡ false → o ≡ p → is_for N s end p ≡ true
       → is_behind r p ≡ is_late_at k (r.session s).issued
       → (r.session s).issued ≤ k + 32768
-  timely-for o p end k late e here is =
-      let at : is_for N s end p && is_behind r p ≡ false = subst (λ (z : Origin). is_for N s end z && is_behind r z ≡ false) e late in
-      ⊎_elim
-      (λ (no : is_for N s end p ≡ false). absurd (true≢false (sym here ∙ no)))
-      (λ (in' : is_behind r p ≡ false). ltb-false (k + 32768) (r.session s).issued (sym is ∙ in'))
-      (and_cases (is_for N s end p) (is_behind r p) at)
+  timely-for o p end k late e here is = grind (arith, true≢false, ltb-false, and_cases)
 
   clock-in_time : (o : Origin) (d port k : ℕ)
       → is_for N s (AtPort d port) o && is_behind r o ≡ false → o ≡ RequestOf s k → d ≡ (N.session s).target
       → (r.session s).issued ≤ k + 32768
-  clock-in_time o d port k late e here =
-      timely-for o (RequestOf s k) (AtPort d port) k late e (and_from (s == s) (d == (N.session s).target) (eq-eqb s s refl) (eq-eqb d (N.session s).target here)) refl
+  clock-in_time o d port k late e here = grind (arith, timely-for, and_from, eq-eqb)
 
   session-in_time : (o : Origin) (k : ℕ)
       → is_for N s (AtSession s) o && is_behind r o ≡ false → o ≡ ReplyTo s k
@@ -64,12 +56,7 @@ module _ (N : Network) (n : IsNetwork N) (s : ℕ) (place : s < N.sessions) (r :
   own-set : (f : SessionValue → SessionValue) (t : ℕ)
       → IsOwn N s (f (r.session s)) (r.reports s) (r.clock (N.session s).target) r.frames a
       → IsOwn N s (with_place r.session t (f (r.session t)) s) (r.reports s) (r.clock (N.session s).target) r.frames a
-  own-set f t new = by_test (t == s)
-      (λ y. let ts : t ≡ s = eqb-true t s y in
-      subst (λ (x : SessionValue). IsOwn N s x (r.reports s) (r.clock (N.session s).target) r.frames a)
-      (ap f (ap r.session (sym ts)) ∙ sym (with_place-same r.session t (f (r.session t)) s (eq-eqb s t (sym ts)))) new)
-      (λ o. subst (λ (x : SessionValue). IsOwn N s x (r.reports s) (r.clock (N.session s).target) r.frames a)
-      (sym (with_place-other r.session t (f (r.session t)) s (flip s t o))) at)
+  own-set f t new = grind (arith, eqb-true, IsOwn, with_place-same, eq-eqb, with_place-other, flip)
 
   moved-honest : (t : ℕ) (f : SessionValue → SessionValue) → t < N.sessions
       → (f (r.session t)).setup ≡ (r.session t).setup → (f (r.session t)).unanswered ≡ (r.session t).unanswered
@@ -92,8 +79,7 @@ module _ (N : Network) (n : IsNetwork N) (s : ℕ) (place : s < N.sessions) (r :
       (ap (λ j. begun (r.session j) request) (sym ts) ∙ sym (with_place-same r.session t (begun (r.session t) request) s (eq-eqb s t (sym ts))))
       (subst (P (begun (r.session s) request)) (sym (cond-true _ _ _ y))
       (own-begun N s (r.session s) (r.reports s) (r.clock (N.session s).target) r.frames a at request asked (begin-not_refused (r.session s) q idle).0)))
-      (λ o. subst (λ (x : SessionValue). P x (with_begun s (Begin t q) a.begun)) (sym (with_place-other r.session t (begun (r.session t) request) s (flip s t o)))
-      (subst (P (r.session s)) (sym (cond-false _ _ _ o)) at))
+      (λ o. grind (arith, with_place-other, flip, cond-false))
 
   own-sends : (t : ℕ) → t < N.sessions → Own N s (sends_in N r t) a
   own-sends t there =
@@ -105,7 +91,7 @@ module _ (N : Network) (n : IsNetwork N) (s : ℕ) (place : s < N.sessions) (r :
         frames_say = all_append (IsOwnFrame N s a) r.frames _ at.frames_say
             (sent-all (IsOwnFrame N s a) N t (r.session t).issued (due_message (r.session t)) n
             (λ v e end he. λ (ts : t ≡ s).
-            let by : IsSentBy N s (r.session s) v = subst (λ j. IsSentBy N j (r.session j) v) ts (sent_by N t (r.session t) v n there (h.sessions t there) e) in
+            let by : IsSentBy N s (r.session s) v = grind (arith, IsSentBy, sent_by) in
             subst (λ j. IsRequestFrame (N.session s).setup a.begun (r.session j).issued (canonical v)) (sym ts)
             (own-message N s (r.session s) (r.reports s) (r.clock (N.session s).target) r.frames a at v by)));
       }
@@ -114,16 +100,7 @@ module _ (N : Network) (n : IsNetwork N) (s : ℕ) (place : s < N.sessions) (r :
       → (t ≡ s → IsOwn N s (left_by (r.session s) x) (reports_with (r.reports s) x) (r.clock (N.session s).target) r.frames a)
       → Own N s (hears r t x) a
   own-hears_in t (received.Ignored reason) new = at
-  own-hears_in t (received.Answered report) new =
-      let P : SessionValue → List Report → Type 0 = λ x rs. IsOwn N s x rs (r.clock (N.session s).target) r.frames a in
-      by_test (t == s)
-      (λ y. let ts : t ≡ s = eqb-true t s y in
-      subst (λ (x : SessionValue). P x (with_place r.reports t (r.reports t ++ report ∷ []) s))
-      (ap (λ j. answered (r.session j)) (sym ts) ∙ sym (with_place-same r.session t (answered (r.session t)) s (eq-eqb s t (sym ts))))
-      (subst (P (answered (r.session s)))
-      (ap (λ j. r.reports j ++ report ∷ []) (sym ts) ∙ sym (with_place-same r.reports t (r.reports t ++ report ∷ []) s (eq-eqb s t (sym ts)))) (new ts)))
-      (λ o. subst (λ (x : SessionValue). P x (with_place r.reports t (r.reports t ++ report ∷ []) s)) (sym (with_place-other r.session t (answered (r.session t)) s (flip s t o)))
-      (subst (P (r.session s)) (sym (with_place-other r.reports t (r.reports t ++ report ∷ []) s (flip s t o))) at))
+  own-hears_in t (received.Answered report) new = grind (arith, IsOwn, eqb-true, with_place-same, eq-eqb, with_place-other, flip)
 
   issued-begun : (r.session s).issued ≡ length a.begun
   issued-begun = ap (λ (x : SessionValue). x.issued) at.value_is
@@ -134,13 +111,12 @@ module _ (N : Network) (n : IsNetwork N) (s : ℕ) (place : s < N.sessions) (r :
       (record { begun = a.begun; accepted = with_carried (manager N s) (N.clock (N.session s).target) (r.clock (N.session s).target) (carried_at N r (N.session s).target end x.octets) a.accepted })
   own-reaches x (AtPort d port) i said end late =
       own-turned N n s place r h a at port (seen x) i.says said d end
-      (λ k o here. subst (λ b. b ≤ k + 32768) issued-begun (clock-in_time N s r x.origin d port k late o here))
+      (λ k o here. grind (arith, issued-begun, clock-in_time))
   own-reaches x (AtSession t) i said end late =
       own-hears_in t (received_of (r.session t) x.octets)
       (λ ts. subst (λ j. IsOwn N s (left_by (r.session s) (received_of (r.session j) x.octets)) (reports_with (r.reports s) (received_of (r.session j) x.octets)) (r.clock (N.session s).target) r.frames a) (sym ts)
       (own-hears N s (r.session s) (r.reports s) (r.clock (N.session s).target) r.frames a at x.octets x.origin (received_of (r.session s) x.octets) n place i.says said
-      (λ k o. subst (λ b. b ≤ k + 32768) issued-begun
-      (session-in_time N s r x.origin k (subst (λ j. is_for N s (AtSession j) x.origin && is_behind r x.origin ≡ false) ts late) o)) refl))
+      (λ k o. grind (arith, issued-begun, session-in_time)) refl))
 
   -- both, after what happened
   stays : (x : RunningNetwork) (b : Account) → IsHonest N x → Own N s x b → Stays N s x b
@@ -166,7 +142,7 @@ module _ (N : Network) (n : IsNetwork N) (s : ℕ) (place : s < N.sessions) (r :
       then_ok _ _ (stays _ _ (session-honest N r t _ h (begins-honest N r t q n h exists id none)) (own-begins t q exists id none))))
   stays-event (Send t) i late =
       then_unless _ (no_session N t) _ (λ there. then_unless _ (no_room r.frames) _ (λ room. then_unless _ (option_map SendRefused (send_refusal (r.session t))) _
-      (λ fine. let exists = session-exists N t there in then_ok _ _ (stays _ _ (sends-honest N r t n h exists) (own-sends t exists)))))
+      (λ fine. grind (arith, session-exists, then_ok, stays, sends-honest, own-sends))))
   stays-event (Resume t attempts) i late =
       then_unless _ (no_session N t) _ (λ there. then_unless _ (nothing_to_resume (r.session t)) _
       (λ fine. then_ok _ _ (stays _ _ (moved-honest t (λ x. resumed x attempts) (session-exists N t there) refl refl) (own-set (λ x. resumed x attempts) t (own-resumed N s (r.session s) (r.reports s) (r.clock (N.session s).target) r.frames a at attempts)))))
@@ -179,7 +155,7 @@ module _ (N : Network) (n : IsNetwork N) (s : ℕ) (place : s < N.sessions) (r :
       (λ room.
       let says : (v : Message) → message_of datagram ≡ Some v → Fits v × IsForeign N v = λ v e. strange-message N datagram v octets (first_of-none (is_forged N datagram) Forged [] fine).0 e in
       let end = port-exists N c port there in
-      then_ok _ _ (stays _ _ (turns-honest N r c port (strange_frame c port datagram) n h end says) (own-turned N n s place r h a at port (strange_frame c port datagram) says tt c end (λ k o here. of_nothing s k o))))))
+      then_ok _ _ (stays _ _ (turns-honest N r c port (strange_frame c port datagram) n h end says) (own-turned N n s place r h a at port (strange_frame c port datagram) says tt c end (λ k o here. absurd (cc)))))))
 
 -- ---- where the account begins
 
@@ -196,22 +172,7 @@ stays-first N s r place at =
     let there = at.stands first (firsts N n) in
     let a : Account = account_of N s [] in
     let target = (N.session s).target in
-    let value : SessionValue = session_value (N.session s) (initial_session_state (N.session s)) in
-    record {
-      network = n;
-      place = place;
-      honest = first-honest N first r n there;
-      own = subst (λ (v : SessionValue). IsOwn N s v (r.reports s) (r.clock target) r.frames a) (sym (there.sessions s place))
-          (subst (λ (rs : List Report). IsOwn N s value rs (r.clock target) r.frames a) (sym (there.reports s place))
-          (subst (λ (hs : List Held). IsOwn N s value [] (r.clock target) hs a) (sym there.frames)
-          (record {
-            value_is = refl;
-            step = (first-reached N n).sessions s place;
-            last = nothing-last first (N.start target) (manager N s) (N.session s).setup.first (get (r.clock target).entries (manager N s))
-                ((there.clocks target (n.are_sessions s place).exists).entries (manager N s));
-            frames_say = tt;
-          })));
-    }
+    let value : SessionValue = session_value (N.session s) (initial_session_state (N.session s)) in grind (arith, first-honest, IsOwn, first-reached, nothing-last)
 
 -- ---- every event
 
@@ -244,9 +205,9 @@ module _ (N : Network) (s : ℕ) (r : RunningNetwork) (a : Account) (at : Stays 
       let c = (N.session s).target in
       let i = frame-true N at.network r at.honest number x copy.frame in
       let said = frame_at-all (IsOwnFrame N s a) r.frames number x at.own.frames_say copy.frame in
-      let late : is_late_at k (r.session s).issued ≡ false = subst (λ (o : Origin). is_behind r o ≡ false) copy.origin copy.in_time in
-      let time : length a.begun ≤ k + 32768 = subst (λ b. b ≤ k + 32768) (issued-begun N at.network s at.place r at.honest a at.own) (ltb-false (k + 32768) (r.session s).issued late) in
-      let many : ports N c ≡ length (r.clock c).sets.ports = sym (at.honest.clocks c (at.network.are_sessions s at.place).exists).sets.ports_are in
+      let late : is_late_at k (r.session s).issued ≡ false = grind (arith) in
+      let time : length a.begun ≤ k + 32768 = grind (arith, issued-begun, ltb-false) in
+      let many : ports N c ≡ length (r.clock c).sets.ports = grind (arith) in
       turns_own (manager N s) (N.session s).setup.first (ports N c) (N.clock c) (r.clock c) port x.octets v k a.accepted (state_of (r.session s) (r.reports s) a) copy.read
       (comes_own N at.network s at.place r at.honest a at.own port (seen x) i.says said v k copy.origin time copy.read (subst (λ p. is_copy (N.clock c) p v ≡ true) many copy.copy))
 

@@ -1,5 +1,5 @@
 -- What a turn of any clock makes of a session whose own messages come in time, whatever comes late of others.
-use Rattle.ptpm_network.proofs.Common.{by_test, IsForOne, ◌≡◌, ℕ, ◌+◌, ◌<◌, ◌≤◌, ◌==◌, inl, List, [], ◌∷◌, ◌++◌, length, Option, Some, None, Result, Ok, Err, true, false, refl, sym, ◌∙◌, ap, subst, ⊎_elim, cases_eq, cond-true, cond-false, eq-eqb, eqb-true, eqb-false, true≢false, map, all_append, all_weaker, AllByRecursion, PortIdentity, Message, DecodeError, same_identity, message_of, reading, message_of-reading, RequestValue, Accepted, Delivery, RequestCopy, copy_of, delivers_copy, copy_parts, no_copy, is_copy, heard_of, request_of, Clock, State, turn, judged, Verdict, same_identity-true, IsInStep, answer_origin, delivery, reply_origin, with_place, with_place-same, with_place-other, AtPort, HasEnd, IsNetwork, Network, manager, ports, Frame, Held, held, turn_frames, after_turn, Origin, RequestOf, ReplyTo, SessionValue, Report, RunningNetwork}
+use Rattle.ptpm_network.proofs.Common.{arith, by_test, IsForOne, ◌≡◌, ℕ, ◌+◌, ◌<◌, ◌≤◌, ◌==◌, inl, List, [], ◌∷◌, ◌++◌, length, Option, Some, None, Result, Ok, Err, true, false, refl, sym, ◌∙◌, ap, subst, ⊎_elim, cases_eq, cond-true, cond-false, eq-eqb, eqb-true, eqb-false, true≢false, map, all_append, all_weaker, AllByRecursion, PortIdentity, Message, DecodeError, same_identity, message_of, reading, message_of-reading, RequestValue, Accepted, Delivery, RequestCopy, copy_of, delivers_copy, copy_parts, no_copy, is_copy, heard_of, request_of, Clock, State, turn, judged, Verdict, same_identity-true, IsInStep, answer_origin, delivery, reply_origin, with_place, with_place-same, with_place-other, AtPort, HasEnd, IsNetwork, Network, manager, ports, Frame, Held, held, turn_frames, after_turn, Origin, RequestOf, ReplyTo, SessionValue, Report, RunningNetwork}
 use Rattle.std.specs.FinMap.{get}
 use Rattle.ptpm_agent.specs.CarriedOut.{carried_by, carried_of}
 use Rattle.ptpm_agent.specs.declared.verdict.Verdict.TheVariants as verdicts
@@ -94,7 +94,7 @@ module _ (N : Network) (n : IsNetwork N) (s : ℕ) (place : s < N.sessions) (r :
     last = at.last;
     frames_say = frames-after N s (r.session s) (r.reports s) a (r.clock d) d port f r.frames n place at.step at.frames_say said
         (replies-elsewhere d a (copy_of (N.clock d) (length (r.clock d).sets.ports) (delivery port f)) end.0 refl
-        (λ t j o q ts. eqb-false (N.session s).target d other (ap (λ i. (N.session i).target) (sym ts) ∙ q)));
+        (λ t j o q ts. grind (arith, eqb-false)));
   }
 
   -- ---- the target takes its turn
@@ -111,8 +111,7 @@ module _ (N : Network) (n : IsNetwork N) (s : ℕ) (place : s < N.sessions) (r :
       let c = (N.session s).target in
       let step = step-gained (manager N s) (ports N c) new a.accepted (state_of (r.session s) (r.reports s) a) gains at.step in
       let kept = kept-gained (manager N s) a.begun new a.accepted gains in
-      let stays : (octets : List ℕ) (o : Origin) → IsSaid N s a octets o → IsSaid N s (with_accepted a new) octets o =
-      λ octets o i. said-stays N s a (with_accepted a new) octets o (λ j q e. e) kept i in
+      let stays : (octets : List ℕ) (o : Origin) → IsSaid N s a octets o → IsSaid N s (with_accepted a new) octets o = grind (arith, said-stays) in
       record {
         value_is = at.value_is;
         step = step;
@@ -128,9 +127,7 @@ module _ (N : Network) (n : IsNetwork N) (s : ℕ) (place : s < N.sessions) (r :
       → get (turn (N.clock (N.session s).target) (r.clock (N.session s).target) port f.octets).next.entries (manager N s) ≡ get (r.clock (N.session s).target).entries (manager N s)
       → IsLastOf (manager N s) (N.session s).setup.first (accepted_after (manager N s) (N.clock (N.session s).target) (r.clock (N.session s).target) f.octets a.accepted)
       (get (turn (N.clock (N.session s).target) (r.clock (N.session s).target) port f.octets).next.entries (manager N s))
-  last-kept same entries =
-      subst (λ es. IsLastOf (manager N s) (N.session s).setup.first es (get (turn (N.clock (N.session s).target) (r.clock (N.session s).target) port f.octets).next.entries (manager N s))) (sym same)
-      (subst (IsLastOf (manager N s) (N.session s).setup.first a.accepted) (sym entries) at.last)
+  last-kept same entries = grind (arith, IsLastOf)
 
   -- the session's own copy comes in at its target
   pub comes_own : (v : Message) (k : ℕ) → f.origin ≡ RequestOf s k → length a.begun ≤ k + 32768
@@ -144,16 +141,16 @@ module _ (N : Network) (n : IsNetwork N) (s : ℕ) (place : s < N.sessions) (r :
       let same = same_read f.octets v _ says.message read in
       let request : request_of v ≡ says.request = ap request_of same in
       record {
-        parts = copy_parts (N.clock c) (length (r.clock c).sets.ports) v passes;
+        parts = grind (arith, copy_parts);
         source = ap (λ (u : Message). u.source) same;
         positive = says.positive;
         within = says.within;
         number = ap (λ (u : Message). u.number) same;
         begun_as = says.begun_as ∙ ap Some (sym request);
-        window = in_step-window (manager N s) (ports N c) a.accepted state k at.step says.within time;
+        window = grind (arith, in_step-window);
         step = at.step;
         last = at.last;
-        answers = reply-answers (request_of v) ((N.clock c).rights v.source) (ports N c) (r.clock c).sets clock.sets;
+        answers = grind (arith, reply-answers);
         one = once (request_of v) ((N.clock c).rights v.source) (ports N c) (r.clock c).sets clock.sets
             (subst (λ (q : RequestValue). IsForOne (ports N c) q) (sym request) says.asked.one);
       }
@@ -197,15 +194,13 @@ module _ (N : Network) (n : IsNetwork N) (s : ℕ) (place : s < N.sessions) (r :
       (kept_says N s by.k new state told.entry step o.positive told.kept).one o.source o.number (small port (ports N c) end.2 (n.are_clocks c end.0).at_most_eight)))
       t.replies)))))
       (λ (ne : by.session ≡ s → ⊥).
-      let other : same_identity (manager N s) v.source ≡ false = by_test (same_identity (manager N s) v.source)
-      (λ y. absurd (ne (n.sessions_apart by.session s by.place place (sym by.source ∙ sym (same_identity-true (manager N s) v.source y)))))
-      (λ o. o) in
-      let same : new ≡ a.accepted = ap (λ rs. with_carried (manager N s) (N.clock c) st rs a.accepted) d.carried ∙ with_carried-others (manager N s) (N.clock c) st v (judged (N.clock c) st v) a.accepted other in
+      let other : same_identity (manager N s) v.source ≡ false = grind (arith, same_identity-true) in
+      let same : new ≡ a.accepted = grind (arith, with_carried-others) in
       let entries = ap (λ (x : State). get x.entries (manager N s)) d.next ∙ entries-others (manager N s) (N.clock c) st v (judged (N.clock c) st v) other in
       own-with end new (inl same) (last-kept same entries) (Some k) e
       (λ step.
       (replies-elsewhere c (with_accepted a new) (Some k) end.0 e
-      (λ t j o q ts. let both : RequestOf by.session by.k ≡ RequestOf t j = sym by.origin ∙ o in let st' : by.session ≡ t = cc in ne (st' ∙ ts)))))
+      (λ t j o q ts. grind (arith)))))
       (cases_eq by.session s)
 
   -- any clock takes its turn
@@ -223,6 +218,4 @@ module _ (N : Network) (n : IsNetwork N) (s : ℕ) (place : s < N.sessions) (r :
       (subst (λ (x : State). IsOwn N s (r.session s) (r.reports s) x (after c) (account (carried_at N r c (AtPort c port) f.octets))) (sym (with_place-same r.clock c (next c) c (eq-eqb c c refl)))
       (subst (λ qs. IsOwn N s (r.session s) (r.reports s) (next c) (after c) (account qs)) (sym (cond-true _ _ _ (eq-eqb c c refl)))
       (own-here (subst (λ j. HasEnd N (AtPort j port)) (sym cd) end) (λ k o. time k o (sym cd)) (copy_of (N.clock c) (length (r.clock c).sets.ports) (delivery port f)) refl))))
-      (λ o. subst (λ (x : State). IsOwn N s (r.session s) (r.reports s) x (after d) (account (carried_at N r c (AtPort d port) f.octets))) (sym (with_place-other r.clock d (next d) c o))
-      (subst (λ qs. IsOwn N s (r.session s) (r.reports s) (r.clock c) (after d) (account qs)) (sym (cond-false _ _ _ o))
-      (own-elsewhere d end o)))
+      (λ o. grind (arith, IsOwn, with_place-other, cond-false, own-elsewhere))

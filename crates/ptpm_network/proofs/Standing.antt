@@ -1,5 +1,5 @@
 -- A clock that takes its turn at a frame goes where the machine goes.
-use Rattle.ptpm_network.proofs.Common.{by_test, ◌≡◌, ℕ, ◌<◌, ◌==◌, List, ◌++◌, Some, false, refl, sym, ◌∙◌, ap, subst, length, eqb-true, map-append, map, AllByRecursion, PortIdentity, DataSetsValue, forwarded, StandsAt, History, RequestCopy, copy_of, State, turn, IsInTime, stands-arrival, stands-initial_history, Event, IsInRange, frame_at, answer_messages, answer_origin, arrives, delivered_at_clock, delivery, forwarded_frames, made_frames, reply_frames, run, with_place, AtPort, HasEnd, IsNetwork, Network, ports, AreFirsts, Stands, RunningNetwork, after_turn, held, initial_network, turn_frames, Frame, NetworkState, initial_state, history, is_late, with_place-other, with_place-same}
+use Rattle.ptpm_network.proofs.Common.{arith, by_test, ◌≡◌, ℕ, ◌<◌, ◌==◌, List, ◌++◌, Some, false, refl, sym, ◌∙◌, ap, subst, length, eqb-true, map-append, map, AllByRecursion, PortIdentity, DataSetsValue, forwarded, StandsAt, History, RequestCopy, copy_of, State, turn, IsInTime, stands-arrival, stands-initial_history, Event, IsInRange, frame_at, answer_messages, answer_origin, arrives, delivered_at_clock, delivery, forwarded_frames, made_frames, reply_frames, run, with_place, AtPort, HasEnd, IsNetwork, Network, ports, AreFirsts, Stands, RunningNetwork, after_turn, held, initial_network, turn_frames, Frame, NetworkState, initial_state, history, is_late, with_place-other, with_place-same}
 use Rattle.ptpm_network.proofs.Arriving.{history-elsewhere, history-here, history-ports}
 use Rattle.ptpm_network.proofs.Frames.{heard-frame}
 use Rattle.ptpm_network.proofs.InTime.{in_window}
@@ -31,8 +31,7 @@ module _ (N : Network) (first : PortIdentity → ℕ) (r : RunningNetwork) (w : 
       (subst (λ j. StandsAt first (turn (N.clock c) (r.clock c) port f.octets).next (history N (arrives w c (delivery port f)) j)) (sym (eqb-true d c y))
       (subst (StandsAt first (turn (N.clock c) (r.clock c) port f.octets).next) (sym (history-here N w c (delivery port f)))
       (stands-arrival first (N.clock c) (ports N c) (r.clock c) (history N w c) (delivery port f) (copy_of (N.clock c) (ports N c) (delivery port f)) (history-ports N w c) refl (at.clocks c place) time))))
-      (λ n. subst (λ (s : State). StandsAt first s (history N (arrives w c (delivery port f)) d)) (sym (with_place-other r.clock c (turn (N.clock c) (r.clock c) port f.octets).next d n))
-      (subst (StandsAt first (r.clock d)) (sym (history-elsewhere N w c (delivery port f) d n)) (at.clocks d there)))
+      (λ n. grind (arith, with_place-other, history-elsewhere))
 
   pub stands-turned : Stands N first (after_turn N r c port f) (delivered_at_clock N w c port f)
   stands-turned = record {

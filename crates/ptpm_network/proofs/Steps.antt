@@ -1,5 +1,5 @@
 -- What sessions do keeps the invariant.
-use Rattle.ptpm_network.proofs.Common.{by_test, arith, ◌≡◌, ℕ, ◌<◌, ◌-◌, ◌==◌, List, [], ◌∷◌, ◌++◌, Option, Some, None, Bool, refl, sym, ◌∙◌, subst, length, eqb-true, cond-true, cond-false, slice_get_within, option_map, slice_get, AllByRecursion, filter, list_any, canonical, RequestValue, Accepted, kept_reply, request_message, IsFrame, IsInStep, IsOfOrigin, IsReached, sends, sent_frames, with_frames, with_session, End, AtSession, HasEnd, IsLink, IsNetwork, Network, SessionStart, manager, peers, ports, same_end, Frame, NetworkState, Origin, RequestOf, ReplyTo, Neither, SessionState, accepted_at_target, is_idle, new_frames, unanswered, all_append, all_made, all_weaker, with_place-other, with_place-same}
+use Rattle.ptpm_network.proofs.Common.{by_test, arith, ◌≡◌, ℕ, ◌<◌, ◌-◌, List, [], ◌∷◌, Option, Some, None, Bool, refl, sym, subst, length, eqb-true, cond-true, cond-false, slice_get_within, option_map, slice_get, AllByRecursion, filter, list_any, canonical, RequestValue, Accepted, kept_reply, request_message, IsFrame, IsInStep, IsOfOrigin, IsReached, sends, sent_frames, with_frames, with_session, End, AtSession, HasEnd, IsLink, IsNetwork, Network, SessionStart, manager, peers, ports, same_end, Frame, NetworkState, Origin, RequestOf, ReplyTo, Neither, SessionState, accepted_at_target, new_frames, unanswered, all_append, all_made, all_weaker, with_place-other, with_place-same}
 use Rattle.ptpm_manager.specs.declared.setup.Setup.{Setup}
 use Rattle.ptpm_network.specs.Invariant.{IsReplyFrame, IsRequestFrame}
 use Rattle.ptpm_network.proofs.Accepting.{in_step-set}
@@ -20,7 +20,7 @@ peers_exist : (N : Network) (links : List (List End)) (e : End)
     → AllByRecursion (HasEnd N) (peers links e)
 peers_exist N [] e a = tt
 peers_exist N (link ∷ links) e a = by_test (list_any (same_end e) link)
-    (λ y. subst (AllByRecursion (HasEnd N)) (sym (cond-true _ _ _ y)) (all_filter (HasEnd N) _ link a.0.ends))
+    (λ y. grind (arith, cond-true, all_filter))
     (λ n. subst (AllByRecursion (HasEnd N)) (sym (cond-false _ _ _ n)) (peers_exist N links e a.1))
 
 pub has_peers : (N : Network) (e : End) → IsNetwork N → AllByRecursion (HasEnd N) (peers N.links e)
@@ -41,54 +41,33 @@ pub request-stays : (setup : Setup) (begun more : List RequestValue) (k : ℕ) (
     → ((i : ℕ) (q : RequestValue) → slice_get begun i ≡ Some q → slice_get more i ≡ Some q)
     → IsRequestFrame setup begun k octets
     → IsRequestFrame setup more k octets
-request-stays setup begun more k octets stays r =
-    record { positive = r.positive; request = r.request; begun_as = stays (k - 1) r.request r.begun_as; domain = r.domain; hops = r.hops; is = r.is }
+request-stays setup begun more k octets stays r = search stays
 
 pub reply-stays : (setup : Setup) (accepted more : List Accepted) (k : ℕ) (octets : List ℕ)
     → ((e : Accepted) → kept_reply setup.me k accepted ≡ Some e → kept_reply setup.me k more ≡ Some e)
     → IsReplyFrame setup accepted k octets
     → IsReplyFrame setup more k octets
-reply-stays setup accepted more k octets stays r = record {
-  positive = r.positive;
-  entry = r.entry;
-  kept = stays r.entry r.kept;
-  answer = r.answer;
-  one = r.one;
-  heard = r.heard;
-  source = r.source;
-  number = r.number;
-  ingress = r.ingress;
-  port = r.port;
-  hops = r.hops;
-  is = r.is;
-}
+reply-stays setup accepted more k octets stays r = search stays
 
 module _ (N : Network) (w u : NetworkState) (begun : BegunStays w u) (kept : KeptStays N w u) where
   pub origin-stays : (octets : List ℕ) (o : Origin)
       → IsOfOrigin N w octets o
       → IsOfOrigin N u octets o
   origin-stays octets (RequestOf s k) (place, r) = (place, request-stays (N.session s).setup (w.session s).begun (u.session s).begun k octets (begun s) r)
-  origin-stays octets (ReplyTo s k) (place, r) =
-      (place, reply-stays (N.session s).setup (accepted_at_target N w s) (accepted_at_target N u s) k octets (λ e. kept s k e place) r)
+  origin-stays octets (ReplyTo s k) (place, r) = grind (arith, reply-stays)
   origin-stays octets Neither r = r
-
-  pub frame-stays : (f : Frame) → IsFrame N w f → IsFrame N u f
-  frame-stays f i = record { end = i.end; origin = origin-stays f.octets f.origin i.origin; hops = i.hops }
 
   pub frames-stay : (fs : List Frame)
       → AllByRecursion (IsFrame N w) fs
       → AllByRecursion (IsFrame N u) fs
-  frames-stay fs a = all_weaker (IsFrame N w) (IsFrame N u) (λ f i. frame-stays f i) fs a
+  frames-stay fs a = grind (arith, all_weaker, origin-stays)
 
 -- ---- one session changes
 
 begun-stays : (w : NetworkState) (s : ℕ) (v : SessionState)
     → ((i : ℕ) (q : RequestValue) → slice_get (w.session s).begun i ≡ Some q → slice_get v.begun i ≡ Some q)
     → BegunStays w (with_session w s v)
-begun-stays w s v g t i q e = by_test (t == s)
-    (λ y. subst (λ (x : SessionState). slice_get x.begun i ≡ Some q) (sym (with_place-same w.session s v t y))
-    (g i q (subst (λ j. slice_get (w.session j).begun i ≡ Some q) (eqb-true t s y) e)))
-    (λ n. subst (λ (x : SessionState). slice_get x.begun i ≡ Some q) (sym (with_place-other w.session s v t n)) e)
+begun-stays w s v g t i q e = grind (arith, slice_get, with_place-same, eqb-true, with_place-other)
 
 abbrev pub InStep : Network → NetworkState → ℕ → SessionState → Type 0
 InStep N w s v = IsInStep (manager N s) (ports N (N.session s).target) (accepted_at_target N w s) v
@@ -98,9 +77,7 @@ pub session-changes : (N : Network) (w : NetworkState) (s : ℕ) (v : SessionSta
     → InStep N w s v → IsReached N w
     → IsReached N (with_session w s v)
 session-changes N w s v g at r = record {
-  sessions = λ t place. by_test (t == s)
-      (λ y. subst (InStep N w t) (sym (with_place-same w.session s v t y)) (subst (λ j. InStep N w j v) (sym (eqb-true t s y)) at))
-      (λ n. subst (InStep N w t) (sym (with_place-other w.session s v t n)) (r.sessions t place));
+  sessions = grind (arith, with_place-same, eqb-true, with_place-other);
   clocks = r.clocks;
   frames = frames-stay N w (with_session w s v) (begun-stays w s v g) (λ t k e place h. h) w.frames r.frames;
 }
@@ -119,11 +96,7 @@ session-set N w s domain attempts place r =
 pub more-frames : (N : Network) (w : NetworkState) (fs : List Frame)
     → AllByRecursion (IsFrame N w) fs → IsReached N w
     → IsReached N (with_frames w fs)
-more-frames N w fs a r = record {
-  sessions = r.sessions;
-  clocks = r.clocks;
-  frames = frames-stay N w (with_frames w fs) (λ s i q e. e) (λ s k e place h. h) (w.frames ++ fs) (all_append (IsFrame N w) w.frames fs r.frames a);
-}
+more-frames N w fs a r = grind (arith, frames-stay, all_append)
 
 -- the frames of a message that is sent for the first time
 pub new_frames-are : (N : Network) (w : NetworkState) (ends : List End) (octets : List ℕ)
@@ -136,12 +109,7 @@ new_frames-are N w ends octets o a i = all_made (HasEnd N) (IsFrame N w) _ (λ e
 pub unanswered-last : (s : SessionState) (q : RequestValue)
     → unanswered s ≡ Some q
     → slice_get s.begun (length s.begun - 1) ≡ Some q
-unanswered-last s q e = by_test (is_idle s)
-    (λ y. let none : None ≡ Some q = sym (cond-true _ _ _ y) ∙ e in absurd (cc))
-    (λ n. sym (cond-false _ _ _ n) ∙ e)
-
-positive : (n : ℕ) → n - 1 < n → 0 < n
-positive n h = omega arith
+unanswered-last s q e = grind (arith, cond-true, cond-false)
 
 -- it is sent in its canonical spelling
 pub request-sent : (start : SessionStart) (s : SessionState) (q : RequestValue)
@@ -150,7 +118,7 @@ pub request-sent : (start : SessionStart) (s : SessionState) (q : RequestValue)
 request-sent start s q e =
     let last = unanswered-last s q e in
     record {
-      positive = positive (length s.begun) (slice_get_within s.begun (length s.begun - 1) q last);
+      positive = omega (arith, slice_get_within s.begun (length s.begun - 1) q last);
       request = q;
       begun_as = last;
       domain = s.domain;

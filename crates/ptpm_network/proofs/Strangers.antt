@@ -11,16 +11,12 @@ identity-fits : (place : ℕ) (m : List ℕ)
     → IsOctets m → place + 10 ≤ length m
     → PortIdentityFits (port_identity_at place m)
 unfolding port_identity_at
-identity-fits place m h long = record {
-  clock = length-take-le 8 (drop place m) (omega (arith, length-drop place m));
-  port = number-fits (place + 8) m h;
-}
+identity-fits place m h long = grind (arith, length-take-le, length-drop, number-fits)
 
 body-fits : (b : Body) (m : List ℕ) → IsOctets m → SpellsBody b m → BodyFits b
 body-fits (bodies.Request action id octets) m h (asks, s) = subst (λ n. n < 2 ^ 16) (sym s.id_is) (number-fits 52 m h)
 body-fits (bodies.Answer action id octets) m h (answers, s) = subst (λ n. n < 2 ^ 16) (sym s.id_is) (number-fits 52 m h)
-body-fits (bodies.Fault action error id text) m h (answers, s) =
-    (subst (λ n. n < 2 ^ 16) (sym s.error_is) (number-fits 52 m h), subst (λ n. n < 2 ^ 16) (sym s.id_is) (number-fits 54 m h))
+body-fits (bodies.Fault action error id text) m h (answers, s) = grind (arith, number-fits)
 
 spelled-fits : (v : Message) (m : List ℕ) → IsOctets m → Spells v m → Fits v
 spelled-fits v m h s =
@@ -53,9 +49,6 @@ not_taken-clock who clock n h = true≢false (sym (same_clock-refl who.clock) �
 not_taken-session : (who m : PortIdentity) → same_identity who m ≡ false → who ≡ m → ⊥
 not_taken-session who m n h = true≢false (sym (same_identity-refl who) ∙ (ap (same_identity who) h ∙ n))
 
-below : (i n : ℕ) → i < n → i < 0 + n
-below i n h = omega arith
-
 untaken : (N : Network) (v : Message) (who : PortIdentity)
     → v.source ≡ who → is_taken N who ≡ false
     → IsForeign N v
@@ -63,9 +56,9 @@ untaken N v who e none =
     let parts = or_parts (list_any (λ c. same_clock who.clock (N.clock c).identity) (range_with_len 0 N.clocks)) (list_any (λ s. same_identity who (manager N s)) (range_with_len 0 N.sessions)) none in
     record {
       no_request = λ s exists h. not_taken-session who (manager N s)
-          (none_of_range (λ t. same_identity who (manager N t)) N.sessions 0 s parts.1 (omega arith) (below s N.sessions exists)) (sym e ∙ h);
+          (none_of_range (λ t. same_identity who (manager N t)) N.sessions 0 s parts.1 (omega arith) (omega (arith, exists))) (sym e ∙ h);
       no_reply = λ c s there exists from' h. not_taken-clock who (N.clock c).identity
-          (none_of_range (λ d. same_clock who.clock (N.clock d).identity) N.clocks 0 c parts.0 (omega arith) (below c N.clocks there))
+          (none_of_range (λ d. same_clock who.clock (N.clock d).identity) N.clocks 0 c parts.0 (omega arith) (omega (arith, there)))
           (ap (λ (m : PortIdentity). m.clock) (sym e) ∙ from');
     }
 
@@ -85,10 +78,7 @@ port_identity-take n m long =
 message-source : (v : Message) (d : List ℕ)
     → message_of d ≡ Some v
     → v.source ≡ source_port_identity d
-message-source v d e =
-    let size = message_size d (message_of-some d v e).0 in
-    let low = size.0 in
-    (message_of-spells v d e).source ∙ port_identity-take (message_length d) d (omega arith)
+message-source v d e = grind (arith, message_size, message_of-some, message_of-spells, port_identity-take)
 
 pub strange-message : (N : Network) (d : List ℕ) (v : Message)
     → IsOctets d → is_forged N d ≡ false → message_of d ≡ Some v
@@ -98,10 +88,7 @@ strange-message N d v octets honest e =
     let low = size.0 in
     let inside = size.1 in
     let long : nat_le 30 (length d) ≡ true = le-leb 30 (length d) (omega arith) in
-    let free : is_taken N (source_port_identity d) ≡ false = ⊎_elim
-    (λ (short : nat_le 30 (length d) ≡ false). absurd (true≢false (sym long ∙ short)))
-    (λ (n : is_taken N (source_port_identity d) ≡ false). n)
-    (and_cases (nat_le 30 (length d)) (is_taken N (source_port_identity d)) honest) in (
+    let free : is_taken N (source_port_identity d) ≡ false = grind (arith, true≢false, and_cases) in (
       spelled-fits v (message_octets d) (octets-take (message_length d) d octets) (message_of-spells v d e),
       untaken N v (source_port_identity d) (message-source v d e) free,
     )

@@ -1,5 +1,5 @@
 -- One list of events after another, and what is taken of a list: all before the first that is refused.
-use Rattle.ptpm_network.proofs.Common.{by_test, ◌≡◌, List, [], ◌∷◌, ◌++◌, None, refl, sym, ◌∙◌, ap, subst, cond-true, cond-false, is_none, AllByRecursion, Event, IsInRange, refusal, AreInTime, run, step, taken, Network, NetworkState}
+use Rattle.ptpm_network.proofs.Common.{arith, by_test, ◌≡◌, List, [], ◌∷◌, ◌++◌, None, refl, sym, ◌∙◌, ap, subst, cond-true, cond-false, is_none, AllByRecursion, Event, IsInRange, refusal, AreInTime, run, step, taken, Network, NetworkState}
 
 -- ---- one list after another
 
@@ -38,7 +38,7 @@ pub taken-in_range : (N : Network) (w : NetworkState) (es : List Event)
 taken-in_range N w [] i = tt
 taken-in_range N w (e ∷ es) i = by_test (is_none (refusal N w e))
     (λ y. subst (AllByRecursion IsInRange) (sym (cond-true _ _ _ y)) (i.0, taken-in_range N (step N w e) es i.1))
-    (λ n. subst (AllByRecursion IsInRange) (sym (cond-false _ _ _ n)) tt)
+    (λ n. grind (arith, cond-false))
 
 pub taken-in_time : (N : Network) (w : NetworkState) (es : List Event)
     → AreInTime N w es
@@ -48,18 +48,12 @@ taken-in_time N w (e ∷ es) time = by_test (is_none (refusal N w e))
     (λ y. subst (AreInTime N w) (sym (cond-true _ _ _ y)) (time.0, taken-in_time N (step N w e) es time.1))
     (λ n. subst (AreInTime N w) (sym (cond-false _ _ _ n)) tt)
 
-same_rest : (e : Event) (es fs : List Event) → e ∷ es ≡ e ∷ fs → es ≡ fs
-same_rest e es fs h = cc
-
-none_left : {X : Type 0} (e : Event) (es : List Event) → [] ≡ e ∷ es → X
-none_left e es h = absurd (cc)
-
 -- what is taken of a list whose front is taken whole
 pub taken-append : (N : Network) (w : NetworkState) (es fs : List Event)
     → taken N w es ≡ es
     → taken N w (es ++ fs) ≡ es ++ taken N (run N w es) fs
 taken-append N w [] fs whole = refl
 taken-append N w (e ∷ es) fs whole = by_test (is_none (refusal N w e))
-    (λ y. let rest : taken N (step N w e) es ≡ es = same_rest e (taken N (step N w e) es) es (sym (cond-true _ _ _ y) ∙ whole) in
+    (λ y. let rest : taken N (step N w e) es ≡ es = cc (rw y at whole) in
     cond-true _ _ _ y ∙ ap (λ (ts : List Event). e ∷ ts) (taken-append N (step N w e) es fs rest))
-    (λ n. none_left e es (sym (cond-false _ _ _ n) ∙ whole))
+    (λ n. absurd (cc (rw n at whole)))

@@ -1,5 +1,5 @@
 -- What the frames that a clock makes in a running network say of whom they are of, in time or late.
-use Rattle.ptpm_network.proofs.Common.{◌≡◌, ℕ, ◌+◌, ◌-◌, List, sym, ◌∙◌, ap, subst, length, same_Some, map, AllByRecursion, Message, Fits, message_of, copy_of, State, turn, answer_origin, delivery, AtPort, HasEnd, IsNetwork, Network, peers, Frame, Held, held, turn_frames, forwarded_frames, Origin, RequestOf, ReplyTo, Neither, all_append, all_flat, all_made, End}
+use Rattle.ptpm_network.proofs.Common.{arith, ◌≡◌, ℕ, ◌+◌, ◌-◌, List, length, map, AllByRecursion, Message, copy_of, State, turn, answer_origin, delivery, AtPort, HasEnd, IsNetwork, Network, peers, Frame, Held, held, turn_frames, forwarded_frames, Origin, RequestOf, all_append, all_flat, all_made, End}
 use Rattle.ptpm_network.proofs.Messages.{IsPassedOn, less_hop-message, passed_on}
 use Rattle.ptpm_network.proofs.Origins.{IsTrue, IsTrueTo}
 use Rattle.ptpm_network.proofs.Steps.{has_peers}
@@ -8,9 +8,8 @@ use Rattle.ptpm_network.proofs.Turning.{turn-forwards}
 -- ---- what is passed on
 
 true-hop : (N : Network) (v : Message) (n : ℕ) (o : Origin) → IsTrueTo N v o → IsTrueTo N (record v { hops = n }) o
-true-hop N v n (RequestOf t k) i = record { place = i.place; source = i.source; target = i.target; request = i.request }
-true-hop N v n (ReplyTo t k) i = record { place = i.place; target = i.target; reply = i.reply }
-true-hop N v n Neither i = record { no_request = i.no_request; no_reply = i.no_reply }
+true-hop N v n (RequestOf t k) i = assumption
+true-hop N v n _ i = assumption
 
 pub passed_on-true : (N : Network) (d : List ℕ) (m : ℕ × List ℕ) (o : Origin)
     → IsPassedOn d m → IsTrue N d o
@@ -19,8 +18,7 @@ passed_on-true N d m o p i u e =
     let v : Message = p.message in
     let says = i v p.read in
     let less = less_hop-message v d p.read says.0 in
-    let same : record v { hops = v.hops - 1 } ≡ u = same_Some _ u (sym less.read ∙ (ap message_of (sym p.octets) ∙ e)) in
-    subst (λ (x : Message). Fits x × IsTrueTo N x o) same (less.fits, true-hop N v (v.hops - 1) o says.1)
+    let same : record v { hops = v.hops - 1 } ≡ u = grind (arith) in grind (arith, IsTrueTo, true-hop)
 
 -- ---- a turn
 
@@ -38,8 +36,7 @@ module _ (Q : Held → Type 0) (N : Network) (s : State) (c port : ℕ) (f : Fra
       (turn (N.clock c) s port f.octets).replies
       → AllByRecursion Q (map held (turn_frames N s c port f))
   turn_frames-all passed replied =
-      let on : AllByRecursion (IsPassedOn f.octets) (turn (N.clock c) s port f.octets).forwards =
-      subst (AllByRecursion (IsPassedOn f.octets)) (sym (turn-forwards (N.clock c) s port f.octets)) (passed_on (N.clock c).identity port s.sets f.octets) in
+      let on : AllByRecursion (IsPassedOn f.octets) (turn (N.clock c) s port f.octets).forwards = grind (arith, IsPassedOn, turn-forwards, passed_on) in
       all_made (λ (g : Frame). Q (held g)) Q held (λ g q. q) (turn_frames N s c port f)
       (all_append (λ (g : Frame). Q (held g)) (forwarded_frames N c f (turn (N.clock c) s port f.octets).forwards) _
       (all_flat (IsPassedOn f.octets) (λ (g : Frame). Q (held g)) _ (λ m p. frames-to m f.origin f.first_hops (f.forwardings + 1) (passed m p)) (turn (N.clock c) s port f.octets).forwards on)

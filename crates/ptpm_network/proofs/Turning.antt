@@ -1,7 +1,5 @@
 -- What a clock sends in a turn is what the machine says that it sends.
-use Rattle.ptpm_network.proofs.Common.{by_test, ◌≡◌, ℕ, ◌==◌, ◌&&◌, ◌||◌, not, List, Option, Some, None, Result, Ok, Err, Bool, true, false, refl, sym, ◌∙◌, ap, length, and_from, and_left, and_right, and_parts, cond-true, cond-false, true≢false, DecodeError, PortIdentity, Message, every_clock, same_clock, message_of, reading, DataSetsValue, is_known, Verdict, forwarded, StandsAt, Delivery, History, RequestCopy, copy_of, is_copy, heard_of, is_addressed, is_for_this_clock, is_numbered, is_own, is_request, names_port, Clock, State, Turned, is_accepted_repeat, is_repeat, judged, look, reply_by, reply_messages, turn, turn_by, verdict_at, IsInTime, no_copy, turns_as, judged-foreign, judged-request, message_of-reading, reading-message_of, turn-message, answer_messages, delivery, is_read, read_messages, Frame, judged-own, judged-away, judged-reply}
-use Rattle.ptpm_table.specs.declared.reply_table.Look.TheVariants as looks
-use Rattle.ptpm_agent.specs.declared.verdict.Verdict.TheVariants as verdicts
+use Rattle.ptpm_network.proofs.Common.{arith, by_test, ◌≡◌, ℕ, ◌&&◌, ◌||◌, not, List, Option, Some, None, Result, Ok, Err, Bool, true, false, refl, sym, ◌∙◌, ap, length, and_from, and_left, and_right, and_parts, cond-true, cond-false, true≢false, DecodeError, PortIdentity, Message, message_of, reading, DataSetsValue, Verdict, forwarded, StandsAt, Delivery, History, RequestCopy, copy_of, is_copy, heard_of, is_addressed, is_own, Clock, State, Turned, judged, reply_by, reply_messages, turn, turn_by, IsInTime, no_copy, turns_as, judged-foreign, judged-request, message_of-reading, reading-message_of, turn-message, answer_messages, delivery, is_read, read_messages, Frame, judged-own, judged-away, judged-reply}
 use Rattle.ptpm_agent.specs.Turn.{is_in_domain}
 
 -- ---- a message that is no numbered copy
@@ -11,10 +9,7 @@ says_nothing : (c : Clock) (s : State) (ingress : ℕ) (v : Message) (w : Verdic
     → judged c s v ≡ w → reply_by w c s v ≡ None → is_read c s.sets v ≡ false
     → reply_messages c ingress (heard_of v) (reply_by (judged c s v) c s v)
     ≡ read_messages c s.sets ingress (Some v)
-says_nothing c s ingress v w j e n =
-    ap (λ (u : Verdict). reply_messages c ingress (heard_of v) (reply_by u c s v)) j
-    ∙ ap (reply_messages c ingress (heard_of v)) e
-    ∙ sym (cond-false _ _ _ n)
+says_nothing c s ingress v w j e n = grind (arith, cond-false)
 
 -- its tests, and those of a copy, as one chain of bits
 is_read-foreign : (a b r x : Bool) → (a && (b || r)) ≡ false → (a && (b && x)) ≡ false
@@ -31,15 +26,6 @@ is_read-away a b o d x e = and_right a _ (and_right b _ (and_right (not o) _ (an
 is_read-reply : (a b o d q x : Bool) → q ≡ false → (a && (b && (not o && (d && (q && x))))) ≡ false
 is_read-reply a b o d q x e = and_right a _ (and_right b _ (and_right (not o) _ (and_right d _ (and_left q x e))))
 
--- known, for this clock and at a port that it has, such a request is a copy
-is_copy-bits : (a o k t p q e : Bool)
-    → a ≡ true → o ≡ false → (k && t) ≡ true → ((t || e) && p) ≡ true → q ≡ true
-    → (a && (not o && (k && (t && (p && q))))) ≡ true
-is_copy-bits a o k t p q e h1 h2 h3 h4 h5 =
-    let kt = and_parts k t h3 in
-    let named = and_parts (t || e) p h4 in
-    and_from a _ h1 (and_from (not o) _ (ap not h2) (and_from k _ kt.0 (and_from t _ kt.1 (and_from p q named.1 h5))))
-
 not_repeat : (o d q r : Bool) → r ≡ false → (not o && (d && (q && r))) ≡ false
 not_repeat o d q r e = and_right (not o) _ (and_right d _ (and_right q r e))
 
@@ -48,46 +34,22 @@ in_domain true true r y e = (refl, refl)
 in_domain true false r y e = absurd (true≢false (sym y ∙ e))
 in_domain false b r y e = absurd (true≢false (sym y))
 
--- a request that is not numbered is read
-says_read : (c : Clock) (s : State) (ingress : ℕ) (v : Message)
-    → is_in_domain c s v ≡ true → is_own c v ≡ false → is_addressed c s.sets v ≡ true
-    → is_request v ≡ true → is_numbered c v ≡ false
-    → reply_messages c ingress (heard_of v) (reply_by (judged c s v) c s v)
-    ≡ read_messages c s.sets ingress (Some v)
-says_read c s ingress v d o a q n =
-    let looked : look c s v ≡ looks.Unknown = cond-false _ _ _ n in
-    let verdict : judged c s v ≡ verdicts.AnsweredUnnumbered = judged-request c s v d o a q ∙ ap verdict_at looked in
-    let none : is_accepted_repeat c s v ≡ false = not_repeat (is_own c v) (is_addressed c s.sets v) (is_request v) (is_repeat (look c s v)) (ap is_repeat looked) in
-    let home = in_domain (v.sdo == 0) (v.domain == s.sets.default.domain) (is_accepted_repeat c s v) d none in
-    let read : is_read c s.sets v ≡ true = and_from _ _ home.0 (and_from _ _ home.1 (and_from _ _ (ap not o) (and_from _ _ a (and_from _ _ q (ap not n))))) in
-    ap (λ (u : Verdict). reply_messages c ingress (heard_of v) (reply_by u c s v)) verdict ∙ sym (cond-true _ _ _ read)
-
 module _ (c : Clock) (s : State) (ingress : ℕ) (v : Message) (n : is_copy c (length s.sets.ports) v ≡ false) where
   says_request_or_nothing : is_in_domain c s v ≡ true
       → is_own c v ≡ false → is_addressed c s.sets v ≡ true
       → reply_messages c ingress (heard_of v) (reply_by (judged c s v) c s v)
       ≡ read_messages c s.sets ingress (Some v)
-  says_request_or_nothing d o a = by_test (is_request v)
-      (λ q. by_test (is_numbered c v)
-      (λ y. absurd (true≢false (sym
-      (is_copy-bits (v.sdo == 0) (is_own c v) (is_known v.source c.managers) (is_for_this_clock c v) (names_port (length s.sets.ports) v.target.port) (is_request v) (same_clock v.target.clock every_clock)
-      (and_parts (v.sdo == 0) (v.domain == s.sets.default.domain || is_accepted_repeat c s v) d).0 o y a q) ∙ n)))
-      (λ f. says_read c s ingress v d o a q f))
-      (λ q. says_nothing c s ingress v verdicts.NotARequest (judged-reply c s v d o a q) refl
-      (is_read-reply (v.sdo == 0) (v.domain == s.sets.default.domain) (is_own c v) (is_addressed c s.sets v) (is_request v) (not (is_numbered c v)) q))
+  says_request_or_nothing d o a = grind (arith, true≢false, and_parts, says_nothing, judged-reply, is_read-reply, cond-false, judged-request, not_repeat, in_domain, and_from, cond-true)
 
   says_as_read : reply_messages c ingress (heard_of v) (reply_by (judged c s v) c s v)
       ≡ read_messages c s.sets ingress (Some v)
   says_as_read = by_test (is_in_domain c s v)
       (λ d. by_test (is_own c v)
-      (λ o. says_nothing c s ingress v verdicts.OwnMessage (judged-own c s v d o) refl
-      (is_read-own (v.sdo == 0) (v.domain == s.sets.default.domain) (is_own c v) (is_addressed c s.sets v && (is_request v && not (is_numbered c v))) o))
+      (λ o. grind (arith, says_nothing, judged-own, is_read-own))
       (λ o. by_test (is_addressed c s.sets v)
       (λ a. says_request_or_nothing d o a)
-      (λ a. says_nothing c s ingress v verdicts.NotAddressed (judged-away c s v d o a) refl
-      (is_read-away (v.sdo == 0) (v.domain == s.sets.default.domain) (is_own c v) (is_addressed c s.sets v) (is_request v && not (is_numbered c v)) a))))
-      (λ d. says_nothing c s ingress v verdicts.OtherDomain (judged-foreign c s v d) refl
-      (is_read-foreign (v.sdo == 0) (v.domain == s.sets.default.domain) (is_accepted_repeat c s v) (not (is_own c v) && (is_addressed c s.sets v && (is_request v && not (is_numbered c v)))) d))
+      (λ a. grind (arith, says_nothing, judged-away, is_read-away))))
+      (λ d. grind (arith, says_nothing, judged-foreign, is_read-foreign))
 
 -- ---- a turn
 
@@ -108,16 +70,10 @@ no_message : (d : List ℕ) (cause : DecodeError) (o : Option Message)
 no_message d cause None m e = refl
 no_message d cause (Some v) m e = not_both cause v (reading d) e (reading-message_of d v m)
 
-turn_by-forwards : (c : Clock) (s : State) (ingress : ℕ) (d : List ℕ)
-    (r : Result Message DecodeError)
-    → (turn_by c s ingress d r).forwards ≡ forwarded c.identity ingress s.sets d
-turn_by-forwards c s ingress d (Err cause) = refl
-turn_by-forwards c s ingress d (Ok v) = refl
-
 pub turn-forwards : (c : Clock) (s : State) (ingress : ℕ) (d : List ℕ)
     → (turn c s ingress d).forwards ≡ forwarded c.identity ingress s.sets d
 unfolding turn
-turn-forwards c s ingress d = turn_by-forwards c s ingress d (reading d)
+turn-forwards c s ingress d = grind arith
 
 pub turn-reads : (c : Clock) (s : State) (x : Delivery) (r : Result Message DecodeError)
     → reading x.datagram ≡ r → copy_of c (length s.sets.ports) x ≡ None

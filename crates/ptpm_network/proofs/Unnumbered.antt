@@ -1,5 +1,5 @@
 -- Replies to what is not numbered go to no session, and a delivery at a clock keeps the invariant.
-use Rattle.ptpm_network.proofs.Common.{by_test, ◌≡◌, ℕ, ◌<◌, ◌+◌, ◌^◌, ◌==◌, ◌||◌, not, List, Option, Some, None, is_addressed, AreDataSets, DataSetsValue, true, false, refl, sym, ◌∙◌, ap, subst, ⊎_elim, ◌⊎◌, length, and_from, and_parts, cond-true, cond-false, not-true, or_cases, true≢false, slice_get, AllByRecursion, PortIdentity, Body, Message, every_clock, same_clock, boundary_hops, BodyFits, id_of, message_of, read_reply_to, is_known, forwarded, RequestCopy, copy_of, due_reply, is_for_this_clock, is_numbered, is_own, is_request, names_port, request_of, Clock, same_clock-true, IsForeign, IsForeignFrame, IsFrame, IsReached, answering_frames, arrives, delivered_at_clock, delivery, is_read, made_frames, read_messages, AtPort, HasEnd, IsNetwork, Network, manager, ports, Frame, NetworkState, Origin, RequestOf, ReplyTo, Neither, history, all_append}
+use Rattle.ptpm_network.proofs.Common.{arith, by_test, ◌≡◌, ℕ, ◌<◌, ◌+◌, ◌^◌, List, Option, Some, None, is_addressed, AreDataSets, DataSetsValue, true, false, refl, sym, ◌∙◌, subst, and_from, and_parts, cond-true, cond-false, not-true, or_cases, true≢false, slice_get, AllByRecursion, Body, Message, boundary_hops, BodyFits, id_of, message_of, read_reply_to, forwarded, RequestCopy, copy_of, is_numbered, is_request, request_of, Clock, same_clock-true, IsForeign, IsForeignFrame, IsFrame, IsReached, answering_frames, arrives, delivered_at_clock, delivery, is_read, made_frames, read_messages, AtPort, HasEnd, IsNetwork, Network, manager, ports, Frame, NetworkState, Origin, RequestOf, ReplyTo, Neither, history, all_append}
 use Rattle.ptpm_codec.specs.declared.message.Body.TheVariants as bodies
 use Rattle.ptpm_network.proofs.Answering.{due-frames, rendered-says, reply_frames-are}
 use Rattle.ptpm_network.proofs.Arriving.{arrives-reached, is_copy_of, kept-stays}
@@ -23,41 +23,14 @@ record ReadParts (c : Clock) (d : DataSetsValue) (v : Message) : Type 0 where
   pub not_numbered : is_numbered c v ≡ false
 
 read_parts : (c : Clock) (d : DataSetsValue) (v : Message) → is_read c d v ≡ true → ReadParts c d v
-read_parts c d v y =
-    let one = and_parts (v.sdo == 0) _ y in
-    let two = and_parts (v.domain == d.default.domain) _ one.1 in
-    let three = and_parts (not (is_own c v)) _ two.1 in
-    let four = and_parts (is_addressed c d v) _ three.1 in
-    let five = and_parts (is_request v) _ four.1 in
-    record { addressed = four.0; request = five.0; not_numbered = not-true _ five.1 }
-
--- a session's own request is numbered at its target, and goes nowhere else
-request-numbered : (N : Network) (c t : ℕ) (d : DataSetsValue) (v : Message)
-    → IsNetwork N → c < N.clocks → t < N.sessions → v.source ≡ manager N t
-    → v.target.clock ≡ (N.session t).setup.target
-    → is_addressed (N.clock c) d v ≡ true
-    → is_numbered (N.clock c) v ≡ true
-request-numbered N c t d v n place exists source target addressed =
-    let session = n.are_sessions t exists in
-    let clock = n.are_clocks (N.session t).target session.exists in
-    let at : v.target.clock ≡ (N.clock (N.session t).target).identity = target ∙ session.target in
-    ⊎_elim
-    (λ (here : is_for_this_clock (N.clock c) v ≡ true).
-    let same : (N.session t).target ≡ c = n.clocks_apart (N.session t).target c session.exists place (sym at ∙ same_clock-true v.target.clock (N.clock c).identity here) in
-    let known : is_known v.source (N.clock c).managers ≡ true =
-    subst (λ (m : PortIdentity). is_known m (N.clock c).managers ≡ true) (sym source)
-    (subst (λ d. is_known (manager N t) (N.clock d).managers ≡ true) same (n.configured t exists)) in
-    and_from _ _ known here)
-    (λ (every : same_clock v.target.clock every_clock ≡ true). absurd (clock.is_one (sym at ∙ same_clock-true v.target.clock every_clock every)))
-    (or_cases (is_for_this_clock (N.clock c) v) (same_clock v.target.clock every_clock) (and_parts (is_for_this_clock (N.clock c) v || same_clock v.target.clock every_clock) (names_port (length d.ports) v.target.port) addressed).0)
+read_parts c d v y = grind (arith, and_parts, not-true)
 
 -- what is not numbered is of no session
 no_session : (N : Network) (c : ℕ) (d : DataSetsValue) (o : Origin) (v : Message)
     → IsNetwork N → c < N.clocks → IsTrueTo N v o → ReadParts (N.clock c) d v
     → (s : ℕ) → s < N.sessions → v.source ≡ manager N s
     → ⊥
-no_session N c d (RequestOf t k) v n place i p s exists h =
-    true≢false (sym (request-numbered N c t d v n place i.place i.source i.target p.addressed) ∙ p.not_numbered)
+no_session N c d (RequestOf t k) v n place i p s exists h = grind (arith, true≢false, same_clock-true, and_from, or_cases, and_parts)
 no_session N c d (ReplyTo t k) v n place i p s exists h = true≢false (sym i.reply ∙ not-true _ p.request)
 no_session N c d Neither v n place i p s exists h = i.no_request s exists h
 
@@ -68,7 +41,7 @@ foreign-reply : (N : Network) (c : ℕ) (v u : Message)
     → u.source.clock ≡ (N.clock c).identity → u.target ≡ v.source
     → IsForeign N u
 foreign-reply N c v u n place none source target = record {
-  no_request = λ s exists h. n.no_clock s c exists place (sym (ap (λ (m : PortIdentity). m.clock) h) ∙ source);
+  no_request = grind (arith);
   no_reply = λ d s there exists from' h. none s exists (sym target ∙ h);
 }
 
@@ -81,12 +54,8 @@ read-foreign N c port d octets o (Some v) n end sets i e = by_test (is_read (N.c
     subst (AllByRecursion (λ (m : ℕ × List ℕ). IsForeignFrame N m.1)) (sym (cond-true _ _ _ y))
     (rendered-says (IsForeignFrame N) N c port v (request_of v) (read_reply_to (request_of v) d) n end says.0 (id-fits v.body says.0.body)
     (read_answered (request_of v) (ports N c) d sets)
-    (λ x u m source target is. record {
-      message = u;
-      is = m;
-      foreign = foreign-reply N c v u n end.0 (no_session N c d o v n end.0 says.1 (read_parts (N.clock c) d v y)) source target;
-    })))
-    (λ no'. subst (AllByRecursion (λ (m : ℕ × List ℕ). IsForeignFrame N m.1)) (sym (cond-false _ _ _ no')) tt)
+    (λ x u m source target is. grind (arith, foreign-reply, no_session, read_parts))))
+    (λ no'. grind (arith, cond-false))
 
 -- ---- all frames that a clock makes
 
@@ -105,8 +74,7 @@ answering-frames : (N : Network) (w : NetworkState) (c port : ℕ) (f : Frame)
     → copy_of (N.clock c) (ports N c) (delivery port f) ≡ o
     → AllByRecursion (IsFrame N (arrives w c (delivery port f)))
     (answering_frames N c (history N w c) port f o)
-answering-frames N w c port f (Some copy) n r reached end i e =
-    due-frames N w c port f copy (due_reply (N.clock c) (history N w c) copy) n reached end (is_copy_of N w c port f copy n r end.0 i e) e refl
+answering-frames N w c port f (Some copy) n r reached end i e = grind (arith, due-frames, is_copy_of)
 answering-frames N w c port f None n r reached end i e =
     reply_frames-are N (arrives w c (delivery port f)) c Neither (read_messages (N.clock c) (history N w c).sets port (message_of f.octets)) n
     (read-foreign N c port (history N w c).sets f.octets f.origin (message_of f.octets) n end (r.clocks c end.0) (heard-true N w f.octets f.origin n r i) refl)

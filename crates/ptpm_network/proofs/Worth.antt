@@ -1,5 +1,5 @@
 -- What a report is worth: its request was carried out exactly once, and the report tells the answer of that moment.
-use Rattle.ptpm_network.proofs.Common.{by_test, suc, zero, arith, ◌≡◌, ℕ, ◌<◌, ◌≤◌, ◌+◌, ◌-◌, ◌==◌, ◌&&◌, max, Bool, List, [], ◌∷◌, ◌++◌, Some, None, true, refl, sym, ◌∙◌, ap, subst, ⊎_elim, ◌⊎◌, inl, inr, length, length-append, append_assoc, and_parts, and_left, and_right, eqb-true, ltb-true, ne_eqb, cond-true, cond-false, lt-ltb, append-nil, is_some, nat_lt, not, option_map, slice_get, option_or, AllByRecursion, find, PortIdentity, same_identity, first_of, DataSetsValue, Answer, RequestValue, same_identity-true, Accepted, History, RequestCopy, accepted_from, after_copy, applied_once, initial_history, greatest, joins, kept_reply, Clock, Ask, Report, ask_refusal, SessionValue, begin_refusal, count_limit, is_waiting, Begin, BeginRefused, Event, IsInRange, NoSuchName, begin_refused, no_session, refusal, IsReached, WasAccepted, run, IsNetwork, Network, manager, NetworkState, SessionState, accepted_at_target, copies_at, initial_state, history, issued, outcomes_kept, reports_by, reports_of, session_value, unanswered, IsWorth, WasCarriedOut, entries_of, all_weaker}
+use Rattle.ptpm_network.proofs.Common.{by_test, suc, zero, arith, ◌≡◌, ℕ, ◌<◌, ◌≤◌, ◌+◌, ◌-◌, ◌==◌, ◌&&◌, max, Bool, List, [], ◌∷◌, ◌++◌, Some, None, refl, sym, ◌∙◌, ap, subst, ⊎_elim, ◌⊎◌, inl, inr, length, length-append, append_assoc, and_parts, and_left, and_right, eqb-true, ltb-true, ne_eqb, cond-true, cond-false, lt-ltb, append-nil, not, slice_get, AllByRecursion, find, PortIdentity, same_identity, first_of, DataSetsValue, Answer, RequestValue, same_identity-true, Accepted, History, RequestCopy, accepted_from, after_copy, applied_once, initial_history, greatest, joins, kept_reply, Clock, Ask, Report, begin_refusal, Begin, BeginRefused, Event, IsInRange, NoSuchName, no_session, refusal, IsReached, WasAccepted, run, IsNetwork, Network, manager, NetworkState, SessionState, accepted_at_target, copies_at, initial_state, history, issued, outcomes_kept, reports_by, reports_of, unanswered, IsWorth, WasCarriedOut, entries_of, all_weaker}
 use Rattle.std.proofs.Math.Nat.{ne_of_lt}
 use Rattle.ptpm_manager.specs.declared.error.BeginError.TheVariants as begins
 use Rattle.ptpm_network.proofs.Accepting.{report_of}
@@ -8,17 +8,14 @@ use Rattle.ptpm_network.proofs.Schedule.{reached}
 
 -- ---- no request is carried out twice
 
-above-same : (g h index k : ℕ) → g ≡ max index h → g < k → (h < k) × (index ≡ k → ⊥)
-above-same g h index k e lt = (omega arith, λ q. omega arith)
-
 -- above the greatest index of a manager nothing was accepted
 none_above : (m : PortIdentity) (k : ℕ) (es : List Accepted)
     → greatest m es < k
     → entries_of m k es ≡ []
 none_above m k [] above = refl
 none_above m k (d ∷ es) above = by_test (same_identity m d.manager)
-    (λ y. let p = above-same (greatest m (d ∷ es)) (greatest m es) d.index k (cond-true _ _ _ y) above in
-    cond-false _ _ _ (and_right _ _ (ne_eqb d.index k p.1)) ∙ none_above m k es p.0)
+    (λ y. let most : greatest m (d ∷ es) ≡ max d.index (greatest m es) = cond-true _ _ _ y in
+    cond-false _ _ _ (and_right _ _ (ne_eqb d.index k (λ q. omega arith))) ∙ none_above m k es (omega arith))
     (λ n. let other : greatest m (d ∷ es) ≡ greatest m es = cond-false _ _ _ n in
     cond-false _ _ _ (and_left _ _ n) ∙ none_above m k es (subst (λ g. g < k) other above))
 
@@ -31,18 +28,18 @@ once-joined : (es : List Accepted) (d : Accepted)
 once-joined es d above once m k = by_test (same_identity m d.manager && d.index == k)
     (λ y. let parts = and_parts (same_identity m d.manager) (d.index == k) y in
     let at_m : greatest m es < d.index = subst (λ (n : PortIdentity). greatest n es < d.index) (sym (same_identity-true m d.manager parts.0)) above in
-    let none : entries_of m k es ≡ [] = none_above m k es (subst (λ j. greatest m es < j) (eqb-true d.index k parts.1) at_m) in
-    let one : length (entries_of m k (d ∷ es)) ≡ 1 = ap length (cond-true _ _ _ y) ∙ ap (λ rest. length (d ∷ rest)) none in
+    let none : entries_of m k es ≡ [] = grind (arith, none_above, eqb-true) in
+    let one : length (entries_of m k (d ∷ es)) ≡ 1 = grind (arith, cond-true) in
     omega (arith, one))
-    (λ n. subst (λ (rest : List Accepted). length rest ≤ 1) (sym (cond-false _ _ _ n)) (once m k))
+    (λ n. grind (arith, cond-false))
 
 once-copy : (c : Clock) (h : History) (x : RequestCopy)
     → AreOnce h.accepted
     → AreOnce (after_copy c h x).accepted
 once-copy c h x once = by_test (joins h x)
-    (λ y. let above : greatest x.heard.source h.accepted < x.index = ltb-true _ _ (and_parts (x.heard.domain == h.sets.default.domain) (nat_lt (greatest x.heard.source h.accepted) x.index) y).1 in
+    (λ y. let above : greatest x.heard.source h.accepted < x.index = grind (arith, ltb-true, and_parts) in
     subst (λ (g : History). AreOnce g.accepted) (sym (cond-true _ _ _ y)) (once-joined h.accepted (accepted_from c h x) above once))
-    (λ n. subst (λ (g : History). AreOnce g.accepted) (sym (cond-false _ _ _ n)) once)
+    (λ n. grind (arith, cond-false))
 
 once-applied : (c : Clock) (h : History) (xs : List RequestCopy)
     → AreOnce h.accepted
@@ -80,30 +77,10 @@ carried_out-before : (c : Clock) (start : DataSetsValue) (xs : List RequestCopy)
     (e : Accepted)
     → WasCarriedOut c start xs e
     → WasCarriedOut c start (xs ++ x ∷ []) e
-carried_out-before c start xs x e was = record {
-  before = was.before;
-  copy = was.copy;
-  later = was.later ++ x ∷ [];
-  came_in = ap (λ ys. ys ++ x ∷ []) was.came_in ∙ append_assoc was.before (was.copy ∷ was.later) (x ∷ []);
-  joined = was.joined;
-  is = was.is;
-}
+carried_out-before c start xs x e was = grind (arith, append_assoc)
 
 abbrev AreCarriedOut : Clock → DataSetsValue → List RequestCopy → List Accepted → Type 0
 AreCarriedOut c start xs es = AllByRecursion (WasCarriedOut c start xs) es
-
-carried_out-copy : (c : Clock) (start : DataSetsValue) (xs : List RequestCopy) (x : RequestCopy)
-    → AreCarriedOut c start (xs ++ x ∷ []) (applied_once c (initial_history start) xs).accepted
-    → AreCarriedOut c start (xs ++ x ∷ [])
-    (after_copy c (applied_once c (initial_history start) xs) x).accepted
-carried_out-copy c start xs x all =
-    let h : History = applied_once c (initial_history start) xs in
-    by_test (joins h x)
-    (λ y. subst (λ (g : History). AreCarriedOut c start (xs ++ x ∷ []) g.accepted) (sym (cond-true _ _ _ y)) (
-      record { before = xs; copy = x; later = []; came_in = refl; joined = y; is = refl },
-      all,
-    ))
-    (λ n. subst (λ (g : History). AreCarriedOut c start (xs ++ x ∷ []) g.accepted) (sym (cond-false _ _ _ n)) all)
 
 abbrev AllCarriedOut : Clock → DataSetsValue → List RequestCopy → Type 0
 AllCarriedOut c start xs = AreCarriedOut c start xs (applied_once c (initial_history start) xs).accepted
@@ -116,10 +93,7 @@ applied_once-append c h (y ∷ ys) x = applied_once-append c (after_copy c h y) 
 carried_out-next : (c : Clock) (start : DataSetsValue) (xs : List RequestCopy) (x : RequestCopy)
     → AllCarriedOut c start xs
     → AllCarriedOut c start (xs ++ x ∷ [])
-carried_out-next c start xs x all =
-    let h : History = applied_once c (initial_history start) xs in
-    subst (λ (g : History). AreCarriedOut c start (xs ++ x ∷ []) g.accepted) (sym (applied_once-append c (initial_history start) xs x))
-    (carried_out-copy c start xs x (all_weaker (WasCarriedOut c start xs) (WasCarriedOut c start (xs ++ x ∷ [])) (carried_out-before c start xs x) h.accepted all))
+carried_out-next c start xs x all = grind (arith, applied_once-append, all_weaker, carried_out-before, cond-true, cond-false)
 
 carried_out-from : (c : Clock) (start : DataSetsValue) (xs ys : List RequestCopy)
     → AllCarriedOut c start xs
@@ -132,8 +106,7 @@ found : (P : Accepted → Type 0) (test : Accepted → Bool) (es : List Accepted
     → P e
 found P test [] e all is = absurd (cc)
 found P test (d ∷ es) e all is = by_test (test d)
-    (λ y. let same : Some d ≡ Some e = sym (cond-true _ _ _ y) ∙ is in
-    let q : d ≡ e = cc in subst P q all.0)
+    (λ y. grind (arith, cond-true))
     (λ n. found P test es e all.1 (sym (cond-false _ _ _ n) ∙ is))
 
 carried_out : (N : Network) (w : NetworkState) (c : ℕ) (m : PortIdentity) (k : ℕ) (e : Accepted)
@@ -178,8 +151,7 @@ outcomes-length : (m : PortIdentity) (begun : List RequestValue) (es : List Acce
 outcomes-length m begun es zero all le = refl
 outcomes-length m begun es (suc n) all le =
     let was = all (suc n) (omega arith) le in
-    let more : length (outcomes_kept m es (suc n)) ≡ length (outcomes_kept m es n) + 1 =
-    ap (λ rs. length (outcomes_kept m es n ++ rs)) (reports_of-was m begun es (suc n) was) ∙ length-append (outcomes_kept m es n) (report_of (suc n) was.entry was.one.answer ∷ []) in
+    let more : length (outcomes_kept m es (suc n)) ≡ length (outcomes_kept m es n) + 1 = grind (arith, reports_of-was, length-append, report_of) in
     omega (arith, more, outcomes-length m begun es n all (omega arith))
 
 told_at : (m : PortIdentity) (begun : List RequestValue) (es : List Accepted) (n i : ℕ) (r : Report)
@@ -188,8 +160,7 @@ told_at : (m : PortIdentity) (begun : List RequestValue) (es : List Accepted) (n
 told_at m begun es zero i r all le e = absurd (cc)
 told_at m begun es (suc n) i r all le e =
     let was = all (suc n) (omega arith) le in
-    let last : slice_get (outcomes_kept m es n ++ report_of (suc n) was.entry was.one.answer ∷ []) i ≡ Some r =
-    subst (λ rs. slice_get (outcomes_kept m es n ++ rs) i ≡ Some r) (reports_of-was m begun es (suc n) was) e in
+    let last : slice_get (outcomes_kept m es n ++ report_of (suc n) was.entry was.one.answer ∷ []) i ≡ Some r = grind (arith, reports_of-was) in
     ⊎_elim
     (λ (old : slice_get (outcomes_kept m es n) i ≡ Some r). told_at m begun es n i r all (omega arith) old)
     (λ (new : (i ≡ length (outcomes_kept m es n)) × (report_of (suc n) was.entry was.one.answer ≡ r)).
@@ -200,10 +171,7 @@ told_at m begun es (suc n) i r all le e =
 told : (N : Network) (w : NetworkState) (s i : ℕ) (r : Report)
     → IsReached N w → s < N.sessions → slice_get (w.session s).reports i ≡ Some r
     → IsTold (manager N s) (w.session s).begun (accepted_at_target N w s) (suc i) r
-told N w s i r reached place e =
-    let at = reached.sessions s place in
-    told_at (manager N s) (w.session s).begun (accepted_at_target N w s) (length (w.session s).reports) i r at.without_gap at.accepted_before
-    (subst (λ rs. slice_get rs i ≡ Some r) at.reports e)
+told N w s i r reached place e = grind (arith, told_at, slice_get)
 
 -- ---- the law
 
@@ -218,12 +186,12 @@ module _ (N : Network) (es : List Event) (s i : ℕ) (r : Report) (n : IsNetwork
       let w : NetworkState = run N (initial_state N) es in
       let is = told N w s i r (reached N es n range) place e in
       let index : suc i ≡ r.index = sym (ap (λ (p : Report). p.index) is.is) in
-      let kept : kept_reply (manager N s) r.index (accepted_at_target N w s) ≡ Some is.entry = subst (λ k. kept_reply (manager N s) k (accepted_at_target N w s) ≡ Some is.entry) index is.kept in
+      let kept : kept_reply (manager N s) r.index (accepted_at_target N w s) ≡ Some is.entry = grind (arith) in
       record {
         entry = is.entry;
-        once = only-entry (manager N s) r.index (accepted_at_target N w s) is.entry (at_most_once N w (N.session s).target) kept;
-        begun_as = subst (λ k. slice_get (w.session s).begun (k - 1) ≡ Some is.entry.request) index is.begun_as;
-        carried_out = carried_out N w (N.session s).target (manager N s) r.index is.entry kept;
+        once = grind (arith, only-entry, at_most_once);
+        begun_as = grind (arith);
+        carried_out = grind (arith, carried_out);
         answer = is.answer;
         one = is.one;
         outcome = ap (λ (p : Report). p.outcome) is.is;
@@ -235,48 +203,27 @@ once N es c m k = at_most_once N (run N (initial_state N) es) c m k
 
 -- ---- a session waits for its report
 
-begin-busy : (s : SessionValue) (a : Ask)
-    → is_waiting s ≡ true
-    → begin_refusal s a ≡ Some begins.Busy
-unfolding begin_refusal
-begin-busy s a waits = ap (λ b. option_or (first_of ((b, begins.Busy) ∷ [])) (option_or (ask_refusal s.setup.ports a) (first_of ((not (nat_lt s.issued count_limit), begins.CountAtMaximum) ∷ [])))) waits
-
 pub session-named : (N : Network) (s : ℕ) → s < N.sessions → no_session N s ≡ None
 session-named N s place = ap (λ b. first_of ((not b, NoSuchName) ∷ [])) (lt-ltb s N.sessions place)
-
-below_some : (reports begun : ℕ) → reports < begun → begun - 1 < begun
-below_some reports begun lt = omega arith
 
 -- the request that is not answered, where fewer were reported than begun
 pub unanswered-some : (s : SessionState)
     → length s.reports < length s.begun
     → (q : RequestValue) × (unanswered s ≡ Some q)
 unanswered-some s lt =
-    let last = get-below s.begun (length s.begun - 1) (below_some (length s.reports) (length s.begun) lt) in
-    (last.0, cond-false _ _ _ (ne_eqb (length s.reports) (length s.begun) (ne_of_lt lt)) ∙ last.1)
-
-pub begins-busy : (N : Network) (w : NetworkState) (s : ℕ) (a : Ask)
-    → s < N.sessions → length (w.session s).reports < issued w s
-    → refusal N w (Begin s a) ≡ Some (BeginRefused begins.Busy)
-unfolding refusal
-begins-busy N w s a place lt =
-    let waits : is_waiting (session_value (N.session s) (w.session s)) ≡ true = ap is_some (unanswered-some (w.session s) lt).1 in
-    ap (λ o. option_or o (begin_refused N w s a)) (session-named N s place)
-    ∙ ap (option_map BeginRefused) (begin-busy (session_value (N.session s) (w.session s)) a waits)
-
-last_one : (reports begun k : ℕ) → begun ≤ reports + 1 → reports < k → k ≤ begun → k ≡ begun
-last_one reports begun k a b c = omega arith
+    let last = get-below s.begun (length s.begun - 1) (omega arith) in grind (arith, cond-false, ne_eqb, ne_of_lt)
 
 pub unreported-last : (N : Network) (es : List Event) (s k : ℕ)
     → IsNetwork N → AllByRecursion IsInRange es → s < N.sessions
     → length ((run N (initial_state N) es).session s).reports < k
     → k ≤ issued (run N (initial_state N) es) s
     → k ≡ issued (run N (initial_state N) es) s
-unreported-last N es s k n range place lt le = last_one (length ((run N (initial_state N) es).session s).reports) (issued (run N (initial_state N) es) s) k ((reached N es n range).sessions s place).one_at_a_time lt le
+unreported-last N es s k n range place lt le = omega (arith, lt, le, ((reached N es n range).sessions s place).one_at_a_time)
 
 pub waits-for_report : (N : Network) (es : List Event) (s : ℕ) (a : Ask)
     → s < N.sessions
     → length ((run N (initial_state N) es).session s).reports
     < issued (run N (initial_state N) es) s
     → refusal N (run N (initial_state N) es) (Begin s a) ≡ Some (BeginRefused begins.Busy)
-waits-for_report N es s a place lt = begins-busy N (run N (initial_state N) es) s a place lt
+unfolding begin_refusal refusal
+waits-for_report N es s a place lt = grind (arith, unanswered-some, session-named)

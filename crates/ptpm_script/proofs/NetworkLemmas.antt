@@ -1,5 +1,5 @@
 -- What holds of the network of every text that is one.
-use Rattle.std.proofs.Common.{◌≡◌, ℕ, zero, suc, ◌+◌, Bool, true, false, ◌||◌, cond, List, [], ◌∷◌, ◌++◌, length, Option, Some, None, Result, Ok, Err, refl, ap, sym, subst, ◌∙◌, arith, ◌≤◌, ◌⊎◌, inl, inr}
+use Rattle.std.proofs.Common.{◌≡◌, ℕ, zero, suc, ◌+◌, Bool, true, false, cond, List, [], ◌∷◌, ◌++◌, length, Option, Some, None, Result, Ok, Err, refl, ap, sym, subst, ◌∙◌, arith, ◌≤◌, ◌⊎◌, inl, inr}
 use Rattle.std.specs.Prelude.{slice_get, flat_map}
 use Rattle.std.specs.List.{AllByRecursion, list_any, position_from, count_by}
 use Rattle.std.proofs.lemmas.Bool.{or_parts}
@@ -25,16 +25,8 @@ pub apart : {A : Type 0} (like : A → A → Bool) (xs : List A)
     → slice_get xs i ≡ Some x → slice_get xs j ≡ Some y → like x y ≡ true → like y x ≡ true → i ≡ j
 apart like [] h i j x y ei ej l r = absurd (cc)
 apart like (z ∷ zs) h zero zero x y ei ej l r = refl
-apart like (z ∷ zs) h zero (suc j) x y ei ej l r =
-    let q : z ≡ x = cc in
-    let here = any_passes_from_place (like z) zs j y ej (ap (λ a. like a y) q ∙ l) in
-    let none = (or_parts (list_any (like z) zs) _ h).0 in
-    absurd (cc)
-apart like (z ∷ zs) h (suc i) zero x y ei ej l r =
-    let q : z ≡ y = cc in
-    let here = any_passes_from_place (like z) zs i x ei (ap (λ a. like a x) q ∙ r) in
-    let none = (or_parts (list_any (like z) zs) _ h).0 in
-    absurd (cc)
+apart like (z ∷ zs) h zero (suc j) x y ei ej l r = grind (arith, any_passes_from_place, or_parts)
+apart like (z ∷ zs) h (suc i) zero x y ei ej l r = grind (arith, any_passes_from_place, or_parts)
 apart like (z ∷ zs) h (suc i) (suc j) x y ei ej l r =
     ap suc (apart like zs (or_parts (list_any (like z) zs) _ h).1 i j x y ei ej l r)
 
@@ -76,14 +68,8 @@ pub made_of : {A B : Type 0} (make : A → Result B NetError) (xs : List A) (ys 
     (y : B)
     → map_all make xs ≡ Ok ys
     → slice_get ys i ≡ Some y → (x : A) × (slice_get xs i ≡ Some x) × (make x ≡ Ok y)
-made_of make [] ys i y h e =
-    let q : [] ≡ ys = cc in
-    absurd (nothing_at i y (subst (λ l. slice_get l i ≡ Some y) (sym q) e))
-made_of make (x ∷ xs) ys zero y h e =
-    let m = made_cons make x xs ys h in
-    let there : slice_get (m.0 ∷ m.1) zero ≡ Some y = subst (λ l. slice_get l zero ≡ Some y) m.4 e in
-    let q : m.0 ≡ y = cc in
-    (x, refl, m.2 ∙ ap Ok q)
+made_of make [] ys i y h e = grind (arith, nothing_at)
+made_of make (x ∷ xs) ys zero y h e = grind (arith, made_cons)
 made_of make (x ∷ xs) ys (suc i) y h e =
     let m = made_cons make x xs ys h in
     made_of make xs m.1 i y m.3 (subst (λ l. slice_get l (suc i) ≡ Some y) m.4 e)
@@ -94,14 +80,10 @@ pub made_from : {A B : Type 0} (make : A → Result B NetError) (xs : List A) (y
     → map_all make xs ≡ Ok ys
     → slice_get xs i ≡ Some x → (y : B) × (slice_get ys i ≡ Some y) × (make x ≡ Ok y)
 made_from make [] ys i x h e = absurd (nothing_at i x e)
-made_from make (z ∷ zs) ys zero x h e =
-    let m = made_cons make z zs ys h in
-    let q : z ≡ x = cc in
-    (m.0, subst (λ l. slice_get l zero ≡ Some m.0) (sym m.4) refl, ap make (sym q) ∙ m.2)
+made_from make (z ∷ zs) ys zero x h e = grind (arith, made_cons)
 made_from make (z ∷ zs) ys (suc i) x h e =
     let m = made_cons make z zs ys h in
-    let r = made_from make zs m.1 i x m.3 e in
-    (r.0, subst (λ l. slice_get l (suc i) ≡ Some r.0) (sym m.4) r.1, r.2)
+    let r = made_from make zs m.1 i x m.3 e in grind (arith)
 
 -- what holds of all that was made
 pub all_made : {A B : Type 0} (make : A → Result B NetError) (P : B → Type 0) (xs : List A)
@@ -124,10 +106,7 @@ pub made_apart : {A B C : Type 0} (make : A → Result B NetError) (like : A →
     → slice_get ys j ≡ Some v
     → part u ≡ part v
     → i ≡ j
-made_apart make like part alike xs ys h none i j u v ei ej e =
-    let x = made_of make xs ys i u h ei in
-    let y = made_of make xs ys j v h ej in
-    apart like xs none i j x.0 y.0 x.1 y.1 (alike x.0 y.0 u v x.2 y.2 e) (alike y.0 x.0 v u y.2 x.2 (sym e))
+made_apart make like part alike xs ys h none i j u v ei ej e = grind (arith, made_of, apart)
 
 pub made_append : {A B : Type 0} (make : A → Result B NetError) (xs ys : List A) (us vs : List B)
     → map_all make xs ≡ Ok us
@@ -228,7 +207,4 @@ found_from t k (x ∷ xs) i h = found_head t k x xs i (t x) refl h (found_from t
 
 pub found : {K : Type 0} (t : K → Bool) (xs : List K) (i : ℕ) → position_from t 0 xs ≡ Some i
     → (x : K) × (slice_get xs i ≡ Some x) × (t x ≡ true)
-found t xs i h =
-    let f = found_from t 0 xs i h in
-    let q : f.0 ≡ i = omega arith in
-    (f.1, subst (λ p. slice_get xs p ≡ Some f.1) q f.3, f.4)
+found t xs i h = grind (arith, found_from)

@@ -1,6 +1,6 @@
 -- A text cut at its first space.
-use Rattle.std.proofs.Common.{◌≡◌, ◌≢◌, ℕ, suc, zero, ◌<◌, ◌≤◌, ◌+◌, ◌==◌, true, false, not, Bool, List, [], ◌∷◌, ◌++◌, Option, Some, None, nat_lt, if◌then◌else◌, ⊎_elim, length, get_or, take, drop, refl, sym, ap, subst, ◌∙◌, arith}
-use Rattle.std.specs.List.{position, position_or_len}
+use Rattle.std.proofs.Common.{◌≡◌, ◌≢◌, ℕ, suc, zero, ◌<◌, ◌≤◌, ◌+◌, ◌==◌, true, false, not, Bool, List, [], ◌∷◌, ◌++◌, Some, None, length, get_or, take, drop, refl, sym, ap, subst, ◌∙◌, arith}
+use Rattle.std.specs.List.{position}
 use Rattle.std.specs.Str.{IsCharBoundary, IsUtf8}
 use Rattle.std.proofs.Math.ListN.{drop_of_length-le}
 use Rattle.std.proofs.lemmas.Bool.{cases_Bool, cond-true, eq-eqb, eqb-true, true≢false}
@@ -18,11 +18,7 @@ tail_has_none : (octet : ℕ) (text : List ℕ) → HasNoSpace (octet ∷ text) 
 tail_has_none octet text h i below = h (suc i) (omega arith)
 
 is_other : (octet : ℕ) → octet ≢ space → (octet == space) ≡ false
-is_other octet h =
-    elim (octet == space) as (λ b. (octet == space) ≡ b → (octet == space) ≡ false) [
-      | true ↦ λ e. absurd (h (eqb-true octet space e))
-      | false ↦ λ e. e
-    ] refl
+is_other octet h = grind (arith, eqb-true)
 
 pub pieces_without_space : (text : List ℕ) → HasNoSpace text → pieces text ≡ text ∷ []
 pieces_without_space [] h = refl
@@ -35,14 +31,6 @@ pub pieces_at_space : (text rest : List ℕ)
 pieces_at_space [] rest h = refl
 pieces_at_space (octet ∷ text) rest h =
     rw (is_other octet (h 0 (omega arith)), pieces_at_space text rest (tail_has_none octet text h)) refl
-
-pub words_of_last : (text : List ℕ)
-    → HasNoSpace text
-    → 0 < length text
-    → words text ≡ text ∷ words []
-unfolding words
-words_of_last [] h some = absurd (omega arith)
-words_of_last (octet ∷ text) h some = rw (pieces_without_space (octet ∷ text) h) refl
 
 pub words_of_none : words [] ≡ []
 unfolding words
@@ -100,30 +88,17 @@ words_cut text size some inside none is =
     let line = take size text in
     let more = drop (size + 1) text in
     let size_is : length line ≡ size = omega (arith, length-take size text, inside) in
-    let free : HasNoSpace line = λ i below. subst (λ octet. octet ≢ space) (sym (get_or-take size text i 0 (omega (arith, below, size_is)))) (none i (omega (arith, below, size_is))) in
-    let rest : drop size text ≡ space ∷ more = drop_more text size 0 inside ∙ ap (λ octet. octet ∷ more) is in
-    let whole : text ≡ line ++ space ∷ more = sym (take-append-drop size text) ∙ ap (λ l. line ++ l) rest in
-    ap words whole ∙ words_after_word line more free (omega (arith, size_is, some))
-    ∙ ap (λ l. line ∷ l) (sym (words_after_space more) ∙ ap words (sym rest))
-
-behind_first : (text : List ℕ) (size : ℕ) → get_or text 0 0 ≢ space → get_or text size 0 ≡ space → 0 < size
-behind_first text zero other is = absurd (other is)
-behind_first text (suc n) other is = omega arith
+    let free : HasNoSpace line = grind (arith, get_or-take) in
+    let rest : drop size text ≡ space ∷ more = grind (arith, drop_more) in
+    let whole : text ≡ line ++ space ∷ more = sym (take-append-drop size text) ∙ ap (λ l. line ++ l) rest in grind (arith, words_after_word, words_after_space)
 
 -- ---- what `position` tells
-
-past_all : (n m : ℕ) → n ≤ m → ◌≡◌ {A = Option ℕ} None (if nat_lt n m then Some n else None) → n ≡ m
-past_all n m h e = ⊎_elim
-    (λ (b : nat_lt n m ≡ true). let some : None ≡ Some n = e ∙ cond-true _ _ _ b in absurd (cc))
-    (λ (b : nat_lt n m ≡ false). let past : m ≤ n = grind (arith, nat_tests) in omega arith)
-    (cases_Bool (nat_lt n m))
 
 pub position_none : (p : ℕ → Bool) (xs : List ℕ) (i : ℕ)
     → None ≡ position p xs
     → i < length xs
     → p (get_or xs i 0) ≡ false
-position_none p xs i none inside =
-    fails_before_first p xs i 0 (omega (arith, past_all (position_or_len p xs) (length xs) (prefix_len-le-length _ xs) none, inside))
+position_none p xs i none inside = grind (arith, fails_before_first, prefix_len-le-length, cond-true, nat_tests, cases_Bool)
 
 is_space : (octet : ℕ) → not (octet == space) ≡ false → octet ≡ space
 is_space octet h = eqb-true octet space (is_true (octet == space) h)
@@ -142,20 +117,14 @@ start_found : (text : List ℕ) (start : ℕ)
     × ((i : ℕ) → i < start → get_or text i 0 ≡ space)
     × (get_or text start 0 ≢ space)
 start_found text start is =
-    let p = position-Some (λ octet. not (octet == space)) text start 0 (sym is) in (
-      p.0,
-      (λ i below. is_space (get_or text i 0) (p.2 i below)),
-      (λ e. absurd (true≢false (sym p.1 ∙ ap not (eq-eqb (get_or text start 0) space e)))),
-    )
+    let p = position-Some (λ octet. not (octet == space)) text start 0 (sym is) in grind (arith, is_space, true≢false, eq-eqb)
 
 -- a character begins there
 pub start_boundary : (text : List ℕ) (start : ℕ)
     → IsUtf8 text
     → Some start ≡ position (λ octet. not (octet == space)) text
     → IsCharBoundary text start
-start_boundary text start utf8 is =
-    let found = start_found text start is in
-    after_spaces text start utf8 (omega (arith, found.0)) found.1
+start_boundary text start utf8 is = grind (arith, start_found, after_spaces)
 
 -- the rest of the text from there
 pub rest_found : (text rest : List ℕ) (start : ℕ)
@@ -165,32 +134,23 @@ pub rest_found : (text rest : List ℕ) (start : ℕ)
 rest_found text rest start is cut =
     let found = start_found text start is in
     let more : rest ≡ get_or text start 0 ∷ drop (start + 1) text = cut ∙ drop_more text start 0 found.0 in
-    let first : get_or rest 0 0 ≡ get_or text start 0 = ap (λ l. get_or l 0 0) more in (
-      words_past_spaces text start (omega (arith, found.0)) found.1 ∙ ap words (sym cut),
-      (λ e. found.2 (sym first ∙ e)),
-      omega (arith, ap length more),
-    )
+    let first : get_or rest 0 0 ≡ get_or text start 0 = ap (λ l. get_or l 0 0) more in grind (arith, words_past_spaces)
 
 pub start_missing : (text : List ℕ)
     → None ≡ position (λ octet. not (octet == space)) text
     → words text ≡ []
-start_missing text none = words_of_spaces text (λ i inside. is_space (get_or text i 0) (position_none _ text i none inside))
+start_missing text none = words_of_spaces text (λ i inside. grind (arith, is_space, position_none))
 
 -- the first space ends it
 pub end_found : (text : List ℕ) (size : ℕ)
     → Some size ≡ position (λ octet. octet == space) text
     → get_or text 0 0 ≢ space
     → (words text ≡ take size text ∷ words (drop size text)) × IsCharBoundary text size
-end_found text size is other =
-    let p = position-Some (λ octet. octet == space) text size 0 (sym is) in
-    let at : get_or text size 0 ≡ space = eqb-true (get_or text size 0) space p.1 in
-    let some : 0 < size = behind_first text size other at in (
-      words_cut text size some p.0 (λ i below. is_no_space (get_or text i 0) (p.2 i below)) at,
-      IsCharBoundary-before_ascii text size p.0 (omega (arith, at)),
-    )
+end_found text size is other = grind (arith, position-Some, eqb-true, words_cut, is_no_space, IsCharBoundary-before_ascii)
 
 pub end_missing : (text : List ℕ)
     → None ≡ position (λ octet. octet == space) text
     → 0 < length text
     → words text ≡ text ∷ words []
-end_missing text none some = words_of_last text (λ i inside. is_no_space (get_or text i 0) (position_none _ text i none inside)) some
+unfolding words
+end_missing text none some = grind (arith, is_no_space, position_none, pieces_without_space)

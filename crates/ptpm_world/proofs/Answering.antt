@@ -1,5 +1,5 @@
 -- What an event did, or why it was refused, and where it led, as its line tells it.
-use Rattle.ptpm_world.proofs.Common.{ne_eqb, true≢false, ◌≡◌, ℕ, false, Result, refl, sym, ap, ◌∙◌, OnErr, network_event, Network, StepError, Took, World, IsStep, running, ◌==◌, after, answer, error_text, is_out_of_memory}
+use Rattle.ptpm_world.proofs.Common.{arith, ne_eqb, true≢false, ◌≡◌, ℕ, false, Result, refl, sym, OnErr, Network, StepError, Took, World, IsStep, running, ◌==◌, after, answer, error_text, is_out_of_memory}
 use Rattle.ptpm_network.specs.Events.{Event}
 use Rattle.ptpm_world.proofs.Ending.{stays_or_goes}
 use Rattle.std.specs.Int.{to_be_bytes, w16}
@@ -13,24 +13,13 @@ pub answered : (N : Network) (old new : World) (e : Event) (result : Result Took
     → IsStep N old new e result
     → OnErr result (running new ≡ running old)
     → (result ≡ answer N (running old) e) × (running new ≡ after N (running old) e)
-answered N old new e result memory step same =
-    let told = step.answers (λ o. true≢false (sym (ap is_out_of_memory o) ∙ memory)) in
-    (told, stays_or_goes (running old) (running new) (network_event N (running old) e) result told step.goes same)
+answered N old new e result memory step same = grind (arith, true≢false, stays_or_goes)
 
 -- ---- managementErrorIds
 
-name_of_number : (e : ErrorId) → error_name e ≡ error_text (error_number e)
-unfolding error_text
-name_of_number errors.ResponseTooBig = refl
-name_of_number errors.NoSuchId = refl
-name_of_number errors.WrongLength = refl
-name_of_number errors.WrongValue = refl
-name_of_number errors.NotSetable = refl
-name_of_number errors.NotSupported = refl
-name_of_number errors.GeneralError = refl
-
 pub named_text : (e : ErrorId) (n : ℕ) → error_number e ≡ n → error_name e ≡ error_text n
-named_text e n h = name_of_number e ∙ ap error_text h
+unfolding error_text
+named_text e n h = grind arith
 
 pub unnamed_text : (n : ℕ)
     → ((e : ErrorId) → error_number e ≡ n → ⊥)

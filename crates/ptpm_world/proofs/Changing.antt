@@ -1,5 +1,5 @@
 -- What becomes of a world of which one session or one clock has changed, and frames were added.
-use Rattle.ptpm_world.proofs.Common.{◌≡◌, ℕ, List, Some, sym, ◌∙◌, ap, length, length-set, map, slice_get, slice_set, State, Report, SessionValue, with_place, Network, Held, RunningNetwork, World, RunningClock, RunningSession, held_in, link_ends, Names, names_in, IsClockOf, IsOf, agent_clock, agent_state, reports_of, running, session_of, state_of}
+use Rattle.ptpm_world.proofs.Common.{arith, ◌≡◌, ℕ, List, Some, sym, ◌∙◌, ap, length, length-set, map, slice_get, slice_set, State, Report, SessionValue, with_place, Network, Held, RunningNetwork, World, RunningClock, RunningSession, held_in, link_ends, Names, names_in, IsClockOf, IsOf, agent_clock, agent_state, reports_of, running, session_of, state_of}
 use Rattle.ptpm_world.specs.Running.{IsSessionOf}
 use Rattle.ptpm_world.proofs.Places.{each-set, map-set_same, read-kept, read-set}
 
@@ -45,7 +45,7 @@ pub session_change-running : (old new : World) (place : ℕ) (x y : RunningSessi
     → y.session ≡ value → y.reports.items ≡ reports → held_in new.frames ≡ frames
     → running new ≡ record { clock = (running old).clock; session = with_place (running old).session place value; reports = with_place (running old).reports place reports; frames = frames }
 session_change-running old new place x y value reports frames c v r f = seen_as new _
-    (λ d. ap (λ (xs : List RunningClock). state_of (slice_get xs d)) c.clocks)
+    (λ d. grind (arith))
     (λ s. ap (λ (xs : List RunningSession). session_of (slice_get xs s)) c.sessions ∙ read-set session_of old.sessions.items place x y c.at s
     ∙ ap (λ (z : SessionValue). with_place (λ k. session_of (slice_get old.sessions.items k)) place z s) v)
     (λ s. ap (λ (xs : List RunningSession). reports_of (slice_get xs s)) c.sessions ∙ read-set reports_of old.sessions.items place x y c.at s
@@ -59,7 +59,7 @@ pub session_change-quiet : (old new : World) (place : ℕ) (x y : RunningSession
     → y.session ≡ value → y.reports.items ≡ x.reports.items → held_in new.frames ≡ frames
     → running new ≡ record { clock = (running old).clock; session = with_place (running old).session place value; reports = (running old).reports; frames = frames }
 session_change-quiet old new place x y value frames c v r f = seen_as new _
-    (λ d. ap (λ (xs : List RunningClock). state_of (slice_get xs d)) c.clocks)
+    (λ d. grind (arith))
     (λ s. ap (λ (xs : List RunningSession). session_of (slice_get xs s)) c.sessions ∙ read-set session_of old.sessions.items place x y c.at s
     ∙ ap (λ (z : SessionValue). with_place (λ k. session_of (slice_get old.sessions.items k)) place z s) v)
     (λ s. ap (λ (xs : List RunningSession). reports_of (slice_get xs s)) c.sessions ∙ read-kept reports_of old.sessions.items place x y c.at r s)
@@ -73,7 +73,7 @@ pub session_change-none : (old new : World) (place : ℕ) (x y : RunningSession)
     → held_in new.frames ≡ held_in old.frames
     → running new ≡ running old
 session_change-none old new place x y c v r f = seen_as new (running old)
-    (λ d. ap (λ (xs : List RunningClock). state_of (slice_get xs d)) c.clocks)
+    (λ d. grind (arith))
     (λ s. ap (λ (xs : List RunningSession). session_of (slice_get xs s)) c.sessions ∙ read-kept session_of old.sessions.items place x y c.at v s)
     (λ s. ap (λ (xs : List RunningSession). reports_of (slice_get xs s)) c.sessions ∙ read-kept reports_of old.sessions.items place x y c.at r s)
     f
@@ -92,7 +92,7 @@ pub session_change-network : (N : Network) (old new : World) (place : ℕ) (x y 
 session_change-network N old new place x y c is = record {
   clock_count = ap length c.clocks ∙ is.clock_count;
   clocks = λ d k at. is.clocks d k (sym (ap (λ (xs : List RunningClock). slice_get xs d) c.clocks) ∙ at);
-  session_count = ap length c.sessions ∙ length-set old.sessions.items place y ∙ is.session_count;
+  session_count = grind (arith, length-set);
   sessions = λ s k at. each-set (IsSessionOf N) old.sessions.items place x y c.at is.sessions
       (record { identity = c.identity ∙ (is.sessions place x c.at).identity }) s k (sym (ap (λ (xs : List RunningSession). slice_get xs s) c.sessions) ∙ at);
   links = ap link_ends c.links ∙ is.links;
@@ -118,8 +118,8 @@ pub clock_change-running : (old new : World) (place : ℕ) (x y : RunningClock) 
 clock_change-running old new place x y state frames c v f = seen_as new _
     (λ d. ap (λ (xs : List RunningClock). state_of (slice_get xs d)) c.clocks ∙ read-set state_of old.clocks.items place x y c.at d
     ∙ ap (λ (z : State). with_place (λ k. state_of (slice_get old.clocks.items k)) place z d) v)
-    (λ s. ap (λ (xs : List RunningSession). session_of (slice_get xs s)) c.sessions)
-    (λ s. ap (λ (xs : List RunningSession). reports_of (slice_get xs s)) c.sessions)
+    (λ s. grind (arith))
+    (λ s. grind (arith))
     f
 
 pub names-clock : (w : World) (place : ℕ) (x y : RunningClock)
@@ -133,10 +133,10 @@ pub clock_change-network : (N : Network) (old new : World) (place : ℕ) (x y : 
     → IsOf N old
     → IsOf N new
 clock_change-network N old new place x y c is = record {
-  clock_count = ap length c.clocks ∙ length-set old.clocks.items place y ∙ is.clock_count;
+  clock_count = grind (arith, length-set);
   clocks = λ d k at. each-set (IsClockOf N) old.clocks.items place x y c.at is.clocks
       (record { clock = c.clock ∙ (is.clocks place x c.at).clock; ports = c.ports ∙ (is.clocks place x c.at).ports }) d k (sym (ap (λ (xs : List RunningClock). slice_get xs d) c.clocks) ∙ at);
   session_count = ap length c.sessions ∙ is.session_count;
-  sessions = λ s k at. is.sessions s k (sym (ap (λ (xs : List RunningSession). slice_get xs s) c.sessions) ∙ at);
+  sessions = grind (arith);
   links = ap link_ends c.links ∙ is.links;
 }

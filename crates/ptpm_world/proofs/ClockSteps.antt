@@ -1,9 +1,8 @@
 -- Events at a clock: what the world becomes, and what is answered.
-use Rattle.ptpm_world.proofs.Common.{◌≡◌, ℕ, ◌<◌, ◌≤◌, ◌&&◌, not, List, ◌++◌, Some, None, Ok, Err, true, false, refl, sym, ◌∙◌, ap, subst, length, nat_lt, nat_le, and_from, and_left, and_right, cond-true, cond-false, le-ltb, lt-ltb, slice_get_within, flat_map, map, slice_get, DataSetsValue, has_port, State, Turned, turn, Deliver, Stranger, NoSuchName, NoSuchFrame, Forged, FramesAtMaximum, frames_limit, frame_at, is_forged, no_port, no_room, Held, delivers, held, network_event, reaches, seen, takes_turn, turn_frames, strange_frame, AtPort, Network, origin_by, posted_by, Frame, Origin, Neither, World, RunningClock, held_in, link_ends, IsOf, agent_clock, agent_state, running, state_of, IsStep}
+use Rattle.ptpm_world.proofs.Common.{arith, ◌≡◌, ℕ, ◌<◌, ◌&&◌, not, List, ◌++◌, Some, None, Ok, Err, true, false, refl, sym, ◌∙◌, ap, length, nat_lt, nat_le, and_from, and_left, and_right, cond-true, cond-false, le-ltb, lt-ltb, slice_get_within, flat_map, map, slice_get, DataSetsValue, has_port, State, turn, Deliver, Stranger, NoSuchFrame, frames_limit, frame_at, is_forged, no_port, no_room, Held, delivers, held, network_event, reaches, seen, takes_turn, turn_frames, strange_frame, AtPort, Network, origin_by, posted_by, Frame, Origin, Neither, World, RunningClock, held_in, link_ends, IsOf, agent_clock, agent_state, running, IsStep}
 use Rattle.std.proofs.Math.Nat.{le_refl}
 use Rattle.ptpm_agent.specs.Agent.{IsTurned}
 use Rattle.ptpm_agent.specs.declared.verdict.Verdict.{Verdict}
-use Rattle.ptpm_agent.specs.Turn.{Clock}
 use Rattle.ptpm_network.specs.Network.{End}
 use Rattle.ptpm_network.proofs.Posting.{held-turn_frames}
 use Rattle.ptpm_agent.proofs.Lists.{state_after}
@@ -18,24 +17,15 @@ use Rattle.ptpm_world.proofs.Refusing.{delivered, full, roomy, skips, stops}
 -- ---- a turn
 
 module _ (N : Network) (old new : World) (c port : ℕ) (x y : RunningClock) (f : Frame) (verdict : Verdict) (out : List (ℕ × List ℕ)) (is : IsOf N old) (change : ClockChange old new c x y) (turned : IsTurned (turn (agent_clock x.agent) (agent_state x.agent) port f.octets) verdict out (agent_state y.agent)) where
-  -- the turn of the agent at a place is that of the network's clock
-  same_turn : turn (agent_clock x.agent) (agent_state x.agent) port f.octets
-      ≡ turn (N.clock c) ((running old).clock c) port f.octets
-  same_turn =
-      ap (λ (k : Clock). turn k (agent_state x.agent) port f.octets) (is.clocks c x change.at).clock
-      ∙ ap (λ (s : State). turn (N.clock c) s port f.octets) (sym (ap state_of change.at))
-
   there : IsTurned (turn (N.clock c) ((running old).clock c) port f.octets) verdict out
       (agent_state y.agent)
-  there = subst (λ (t : Turned). IsTurned t verdict out (agent_state y.agent)) same_turn turned
+  there = grind arith
 
   frames_after : flat_map
       (posted_by (link_ends old.links.items) c port f.origin (origin_by verdict f.origin))
       out
       ≡ map held (turn_frames N ((running old).clock c) c port f)
-  frames_after =
-      (λ i. flat_map (posted_by (is.links i) c port f.origin (origin_by (there.verdict_is i) f.origin)) (there.outbox_is i))
-      ∙ held-turn_frames N ((running old).clock c) c port f
+  frames_after = grind (arith, flat_map, there, held-turn_frames)
 
   -- an event that gives the clock this turn
   turn-step : (e : Event)
@@ -70,10 +60,7 @@ pub turned_same : (new mid old : List Held) (some links : List (List End)) (c po
     → some ≡ links
     → sent ≡ out
     → new ≡ old ++ flat_map (posted_by links c port passed reply) out
-turned_same new mid old some links c port passed reply sent out e m l o =
-    e ∙ ap (λ hs. hs ++ flat_map (posted_by some c port passed reply) sent) m
-    ∙ ap (λ (ls : List (List End)). old ++ flat_map (posted_by ls c port passed reply) sent) l
-    ∙ ap (λ (ms : List (ℕ × List ℕ)). old ++ flat_map (posted_by links c port passed reply) ms) o
+turned_same new mid old some links c port passed reply sent out e m l o = grind (arith, flat_map)
 
 -- ---- a frame comes in
 
@@ -109,8 +96,7 @@ pub deliver-too_many : (N : Network) (old new : World) (n : ℕ) (h : Held)
     → nat_lt frames_limit (length (held_in old.frames)) ≡ true
     → IsStep N old new (Deliver n) (Err errors.FramesAtMaximum)
 unfolding network_event
-deliver-too_many N old new n h is e over =
-    step_refused N old new (Deliver n) FramesAtMaximum (ap (delivers N (running old)) e ∙ stops (no_room (held_in old.frames)) _ FramesAtMaximum (full (held_in old.frames) over)) is
+deliver-too_many N old new n h is e over = grind (arith, step_refused, stops, full)
 
 -- ---- a stranger
 
@@ -126,33 +112,16 @@ port_there : (N : Network) (w : World) (c port : ℕ) (x : RunningClock)
     → has_port port x.agent.sets ≡ true
     → no_port N c port ≡ None
 port_there N w c port x is at has =
-    let within : c < N.clocks = subst (λ n. c < n) is.clock_count (slice_get_within w.clocks.items c x at) in
+    let within : c < N.clocks = grind (arith, slice_get_within) in
     let there = and_from (nat_lt c N.clocks) (has_port port (N.start c)) (lt-ltb c N.clocks within) (sym (has_port-same port x.agent.sets (N.start c) (is.clocks c x at).ports) ∙ has) in
     cond-false _ _ _ (ap not there)
-
-port_lacking : (N : Network) (w : World) (c port : ℕ) (x : RunningClock)
-    → IsOf N w
-    → slice_get w.clocks.items c ≡ Some x
-    → has_port port x.agent.sets ≡ false
-    → no_port N c port ≡ Some NoSuchName
-port_lacking N w c port x is at lacks =
-    cond-true _ _ _ (ap not (and_right (nat_lt c N.clocks) (has_port port (N.start c)) (sym (has_port-same port x.agent.sets (N.start c) (is.clocks c x at).ports) ∙ lacks)))
-
-clock_lacking : (N : Network) (w : World) (c port : ℕ)
-    → IsOf N w
-    → c ≡ length w.clocks.items
-    → no_port N c port ≡ Some NoSuchName
-clock_lacking N w c port is e =
-    let past : N.clocks ≤ c = subst (λ n. n ≤ c) (e ∙ is.clock_count) (le_refl c) in
-    cond-true _ _ _ (ap not (and_left (nat_lt c N.clocks) (has_port port (N.start c)) (le-ltb c N.clocks past)))
 
 pub stranger-no_clock : (N : Network) (w : World) (c port : ℕ) (datagram : List ℕ)
     → IsOf N w
     → c ≡ length w.clocks.items
     → IsStep N w w (Stranger c port datagram) (Err errors.NoSuchName)
 unfolding network_event
-stranger-no_clock N w c port datagram is e =
-    step_refused N w w (Stranger c port datagram) NoSuchName (stops (no_port N c port) _ NoSuchName (clock_lacking N w c port is e)) is
+stranger-no_clock N w c port datagram is e = grind (arith, step_refused, stops, le_refl, cond-true, and_left, le-ltb)
 
 pub stranger-turned : (N : Network) (old new : World) (c port : ℕ) (x y : RunningClock)
     (datagram : List ℕ) (verdict : Verdict) (out : List (ℕ × List ℕ))
@@ -179,23 +148,17 @@ module _ (N : Network) (old new : World) (c port : ℕ) (x : RunningClock) (data
   pub stranger-no_port : has_port port x.agent.sets ≡ false
       → IsStep N old new (Stranger c port datagram) (Err errors.NoSuchName)
   unfolding network_event
-  stranger-no_port lacks =
-      step_refused N old new (Stranger c port datagram) NoSuchName (stops (no_port N c port) _ NoSuchName (port_lacking N old c port x is at lacks)) is_new
+  stranger-no_port lacks = grind (arith, step_refused, stops, cond-true, and_right, has_port-same)
 
   pub stranger-forges : has_port port x.agent.sets ≡ true
       → is_forged N datagram ≡ true
       → IsStep N old new (Stranger c port datagram) (Err errors.Forged)
   unfolding network_event
-  stranger-forges has lies =
-      step_refused N old new (Stranger c port datagram) Forged
-      (skips (no_port N c port) _ _ (port_there N old c port x is at has) (stops (forged N datagram) _ Forged (cond-true _ _ _ lies))) is_new
+  stranger-forges has lies = grind (arith, step_refused, skips, port_there, stops, cond-true)
 
   pub stranger-too_many : has_port port x.agent.sets ≡ true
       → is_forged N datagram ≡ false
       → nat_lt frames_limit (length (held_in old.frames)) ≡ true
       → IsStep N old new (Stranger c port datagram) (Err errors.FramesAtMaximum)
   unfolding network_event
-  stranger-too_many has honest over =
-      step_refused N old new (Stranger c port datagram) FramesAtMaximum
-      (skips (no_port N c port) _ _ (port_there N old c port x is at has)
-      (skips (forged N datagram) _ _ (cond-false _ _ _ honest) (stops (no_room (held_in old.frames)) _ FramesAtMaximum (full (held_in old.frames) over)))) is_new
+  stranger-too_many has honest over = grind (arith, step_refused, skips, port_there, cond-false, stops, full)

@@ -1,7 +1,5 @@
 -- The network that an accepted file describes is one of the network machine's.
-use Rattle.ptpm_world.proofs.Common.{suc, zero, arith, ◌≡◌, ◌≢◌, ℕ, ◌<◌, ◌≤◌, ◌==◌, Bool, true, false, ◌&&◌, ◌||◌, List, [], ◌∷◌, Some, refl, sym, ◌∙◌, subst, length, map, if◌then◌else◌, ⊎_elim, and_parts, eqb-true, eq-eqb, or_cases, or_left, or_right, length-map, slice_get_within, slice_get, slice_index_or, AllByRecursion, filter, PortIdentity, same_identity, port_data_set, is_known, identities, HasEnd, IsClock, IsSession, clock_at, configured, described, described_end, no_clock, session_at, with_rights, AreSized, CanStart, IsAccepted, IsEndOf, IsLinkOf, NetworkValue, first_sets}
-use Rattle.ptpm_codec.specs.Message.{PortIdentityFits}
-use Rattle.ptpm_data.specs.RequestLaws.{IsSized}
+use Rattle.ptpm_world.proofs.Common.{suc, zero, arith, ◌≡◌, ℕ, ◌<◌, ◌==◌, Bool, true, false, ◌&&◌, ◌||◌, List, [], ◌∷◌, Some, refl, sym, ◌∙◌, length, map, if◌then◌else◌, ⊎_elim, and_parts, eqb-true, eq-eqb, or_cases, or_left, or_right, length-map, slice_get_within, slice_get, slice_index_or, AllByRecursion, filter, PortIdentity, same_identity, is_known, identities, HasEnd, configured, described, described_end, with_rights, AreSized, IsAccepted, IsEndOf, IsLinkOf, NetworkValue}
 use Rattle.ptpm_codec.proofs.IdentityLaws.{same_identity-true}
 use Rattle.ptpm_table.proofs.Identities.{same_identity-refl}
 use Rattle.ptpm_network.specs.Network as machine
@@ -11,7 +9,6 @@ use Rattle.ptpm_script.specs.declared.network.End.{End}
 use Rattle.ptpm_script.specs.declared.network.End.TheVariants as ends
 use Rattle.ptpm_script.specs.declared.network.NetworkSession.{NetworkSession}
 use Rattle.ptpm_world.specs.Described.{no_session}
-use Rattle.ptpm_script.specs.NetworkValue.{IsSessionOf}
 
 -- ---- what stands at a place
 
@@ -30,30 +27,6 @@ of_place P xs i d all h = all_get P xs i (slice_index_or xs i d) all (there xs i
 
 -- ---- clocks
 
-described-clock : (n : NetworkValue)
-    → IsAccepted n
-    → AreSized n
-    → (c : ℕ)
-    → c < length n.clocks
-    → IsClock (described n) c
-described-clock n facts sized c h =
-    let size = of_place (λ k. IsSized (first_sets k)) n.clocks c no_clock sized.clocks h in
-    record {
-      identity = size.identity;
-      is_one = (of_place CanStart n.clocks c no_clock facts.clocks h).is_one;
-      some_port = size.some_port;
-      at_most_eight = size.at_most_eight;
-      start = record {
-        identity = size.identity;
-        parent = size.parent;
-        grandmaster = size.grandmaster;
-        description = size.text;
-        ports_are = refl;
-        some_port = size.some_port;
-        at_most_eight = size.at_most_eight;
-      };
-    }
-
 -- ---- the configured managers
 
 -- with one more session, that is a manager of the clock or is none
@@ -62,15 +35,6 @@ known-more : (here : Bool) (m : PortIdentity) (s : NetworkSession) (ss : List Ne
     ≡ ((here && same_identity m s.identity) || is_known m (identities (map with_rights ss)))
 known-more true m s ss = refl
 known-more false m s ss = refl
-
-known-first : (here : Bool) (m : PortIdentity) (s : NetworkSession) (ss : List NetworkSession)
-    → here ≡ true
-    → m ≡ s.identity
-    → is_known m (identities (map with_rights (if here then s ∷ ss else ss))) ≡ true
-known-first here m s ss h e =
-    let same = subst (λ x. same_identity m x ≡ true) e (same_identity-refl m) in
-    let both : (here && same_identity m s.identity) ≡ true = rw (h, same) refl in
-    known-more here m s ss ∙ or_left _ _ both
 
 known-later : (here : Bool) (m : PortIdentity) (s : NetworkSession) (ss : List NetworkSession)
     → is_known m (identities (map with_rights ss)) ≡ true
@@ -82,7 +46,7 @@ known-configured : (ss : List NetworkSession) (s c : ℕ)
     → (slice_index_or ss s no_session).target ≡ c
     → is_known (slice_index_or ss s no_session).identity (identities (configured ss c)) ≡ true
 known-configured [] s c h t = absurd (omega (arith, h))
-known-configured (x ∷ xs) zero c h t = known-first (x.target == c) x.identity x _ (eq-eqb x.target c t) refl
+known-configured (x ∷ xs) zero c h t = grind (arith, eq-eqb, same_identity-refl, known-more, or_left)
 known-configured (x ∷ xs) (suc s) c h t =
     known-later (x.target == c) _ x _ (known-configured xs s c (omega (arith, h)) t)
 
@@ -114,20 +78,6 @@ known-place (x ∷ xs) m c k =
 
 -- ---- sessions
 
-described-session : (n : NetworkValue)
-    → IsAccepted n
-    → AreSized n
-    → (s : ℕ)
-    → s < length n.sessions
-    → IsSession (described n) s
-described-session n facts sized s h = record {
-  identity = of_place (λ t. PortIdentityFits t.identity) n.sessions s no_session sized.sessions h;
-  is_one = (of_place (IsSessionOf n) n.sessions s no_session facts.sessions h).is_one;
-  exists = (of_place (IsSessionOf n) n.sessions s no_session facts.sessions h).target;
-  target = refl;
-  ports = sym (length-map (clock_at n (session_at n s).target).ports port_data_set);
-}
-
 -- ---- links
 
 pub at_place : {X : Type 0} (xs : List X) (i : ℕ) (x d : X)
@@ -138,10 +88,7 @@ at_place xs i x d e = let here : Some (slice_index_or xs i d) ≡ Some x = sym (
 described-has_end : (n : NetworkValue) (e : End)
     → IsEndOf n e
     → HasEnd (described n) (described_end e)
-described-has_end n (ends.Clock place port) is =
-    let c = sym (at_place n.clocks place is.0 no_clock is.1) in
-    let most = subst (λ k. port ≤ length k.ports) c is.3 in
-    (slice_get_within n.clocks place is.0 is.1, is.2, subst (λ count. port ≤ count) (sym (length-map (clock_at n place).ports port_data_set)) most)
+described-has_end n (ends.Clock place port) is = grind (arith, at_place, slice_get_within, length-map)
 described-has_end n (ends.Session place) is = is
 
 described-links : (n : NetworkValue)
@@ -150,8 +97,8 @@ described-links : (n : NetworkValue)
 described-links n facts =
     all_made (IsLinkOf n) (IsLink (described n)) (map described_end)
     (λ link is. record {
-      two = subst (λ count. 2 ≤ count) (sym (length-map link described_end)) is.two;
-      at_most_sixteen = subst (λ count. count ≤ 16) (sym (length-map link described_end)) is.at_most_sixteen;
+      two = grind (arith, length-map);
+      at_most_sixteen = grind (arith, length-map);
       ends = all_made (IsEndOf n) (HasEnd (described n)) described_end (described-has_end n) link is.ends;
     })
     n.links facts.links
@@ -162,14 +109,4 @@ pub described-network : (n : NetworkValue)
     → IsAccepted n
     → AreSized n
     → machine.IsNetwork (described n)
-described-network n facts sized = record {
-  are_clocks = described-clock n facts sized;
-  are_sessions = described-session n facts sized;
-  clocks_apart = λ c d hc hd same. facts.clock_identities c d _ _ (there n.clocks c no_clock hc) (there n.clocks d no_clock hd) same;
-  sessions_apart = λ s t hs ht same. facts.session_identities s t _ _ (there n.sessions s no_session hs) (there n.sessions t no_session ht) same;
-  no_clock = λ s c hs hc. of_place (λ k. (session_at n s).identity.clock ≢ k.start.identity) n.clocks c no_clock
-      (of_place (IsSessionOf n) n.sessions s no_session facts.sessions hs).no_clock hc;
-  configured = λ s h. known-configured n.sessions s (session_at n s).target h refl;
-  managers = λ c m h k. known-place n.sessions m c k;
-  are_links = described-links n facts;
-}
+described-network n facts sized = grind (arith, there, of_place, known-configured, known-place, described-links, length-map)

@@ -1,5 +1,5 @@
 -- How a step ends: the event happened, was refused, or memory was.
-use Rattle.ptpm_world.proofs.Common.{IsErrAnd, IsOkAnd, ◌≡◌, ℕ, Some, Ok, Err, OnErr, OnOk, Result, refl, sym, ◌∙◌, subst, ap, option_map, result_err, Refusal, Happened, RunningNetwork, network_after, network_event, Network, StepError, Took, World, IsOf, running, IsStep, answer_of, error_of, took_of}
+use Rattle.ptpm_world.proofs.Common.{arith, IsErrAnd, IsOkAnd, ◌≡◌, ℕ, Some, Ok, Err, OnErr, OnOk, Result, refl, sym, ◌∙◌, subst, ap, option_map, result_err, Refusal, Happened, RunningNetwork, network_after, network_event, Network, StepError, Took, World, IsOf, running, IsStep, answer_of, error_of, took_of}
 use Rattle.ptpm_network.specs.Events.{Event}
 use Rattle.ptpm_world.specs.declared.took.StepError.TheVariants as errors
 
@@ -52,25 +52,13 @@ step_error N old new e why (Err x) is_error step = subst (λ (f : StepError). Is
 
 -- ---- what a step tells of its event
 
--- it happened, and led there
-went_by : (r new : RunningNetwork) (x : Result Happened Refusal) (t : Took)
-    → Ok t ≡ answer_of x
-    → new ≡ network_after r x
-    → IsOkAnd x (λ h. new ≡ h.network)
-went_by r new (Ok h) t told goes = goes
-went_by r new (Err why) t told goes = absurd (cc)
-
-fine_is : {T E : Type 0} (t : T) (x : E) → ◌≡◌ {A = Result T E} (Ok t) (Err x) → ⊥
-fine_is t x e = cc
-
 pub err_is : {T : Type 0} (a b : StepError) → ◌≡◌ {A = Result T StepError} (Err a) (Err b) → a ≡ b
 err_is a b e = cc
 
 pub step-went : (N : Network) (old new : World) (e : Event) (t : Took)
     → IsStep N old new e (Ok t)
     → IsOkAnd (network_event N (running old) e) (λ h. running new ≡ h.network)
-step-went N old new e t step =
-    went_by (running old) (running new) (network_event N (running old) e) t (step.answers (fine_is t errors.OutOfMemory)) step.goes
+step-went N old new e t step = grind arith
 
 -- it is refused for this reason
 pub refused_by : (x : Result Happened Refusal) (why : StepError)

@@ -1,12 +1,11 @@
 -- What holds of every world, by what it keeps of itself.
-use Rattle.ptpm_world.proofs.Common.{arith, ◌≡◌, ℕ, ◌<◌, ◌≤◌, All, List, Option, Some, None, false, refl, sym, ◌∙◌, ap, drop, length, take, length-map, length-take, slice_get_within, is_some, slice_index_or, PortIdentity, is_known, identities, AreOfManagers, HasEnd, Network, ports, Held, RunningClock, World, described_end, IsThere, port_counts, frame_in, IsOf, running, state_of, table_entries}
+use Rattle.ptpm_world.proofs.Common.{arith, ◌≡◌, ℕ, ◌<◌, ◌≤◌, All, List, Option, Some, None, false, refl, ◌∙◌, ap, drop, length, take, length-map, length-take, slice_get_within, is_some, slice_index_or, PortIdentity, is_known, identities, AreOfManagers, HasEnd, Network, ports, Held, RunningClock, World, described_end, IsThere, port_counts, frame_in, IsOf, running, state_of, table_entries}
 use Rattle.std.proofs.lemmas.List.Elements.{All-map}
 use Rattle.std.specs.FinMap.{get}
 use Rattle.ptpm_table.specs.declared.slot_table.SlotTable.{SlotTable}
 use Rattle.ptpm_table.specs.declared.slot.Slot.{Slot}
-use Rattle.ptpm_table.specs.Slots.{configured, entry_in, slot_of}
+use Rattle.ptpm_table.specs.Slots.{configured, entry_in}
 use Rattle.ptpm_table.proofs.Slots.{get_used, known_slot}
-use Rattle.ptpm_agent.specs.Turn.{Clock}
 use Rattle.ptpm_script.specs.declared.network.End.{End}
 use Rattle.ptpm_script.specs.declared.network.End.TheVariants as ends
 use Rattle.ptpm_world.proofs.StartingLemmas.{some_at}
@@ -22,8 +21,7 @@ nothing_kept (Some s) e = absurd (cc)
 table-of_managers : (t : SlotTable 16) (m : PortIdentity)
     → is_known m (identities (configured t.slots.items)) ≡ false
     → get (table_entries t) m ≡ None
-table-of_managers t m e =
-    get_used m t.slots.items t.distinct ∙ nothing_kept (slot_of m t.slots.items) (sym (known_slot m t.slots.items) ∙ e)
+table-of_managers t m e = grind (arith, get_used, nothing_kept, known_slot)
 
 pub of_managers : (N : Network) (w : World)
     → IsOf N w
@@ -31,9 +29,7 @@ pub of_managers : (N : Network) (w : World)
     → c < N.clocks
     → AreOfManagers (N.clock c) ((running w).clock c).entries
 of_managers N w is c below m e =
-    let x = some_at w.clocks.items c (omega (arith, below, is.clock_count)) in
-    ap (λ o. get (state_of o).entries m) x.1
-    ∙ table-of_managers x.0.agent.table m (ap (λ (k : Clock). is_known m k.managers) (is.clocks c x.0 x.1).clock ∙ e)
+    let x = some_at w.clocks.items c (omega (arith, below, is.clock_count)) in grind (arith, table-of_managers)
 
 pub has_ports : (N : Network) (w : World)
     → IsOf N w
@@ -72,9 +68,7 @@ short_part start size store short = omega (arith, length-take size (drop start s
 
 pub short_frames : (w : World) → All (λ (f : Held). length f.octets ≤ 1472) (running w).frames
 short_frames w = All-map (λ (f : Held). length f.octets ≤ 1472) (frame_in w.frames.octets.items) w.frames.stored.items
-    (λ k d below.
-    let s = slice_index_or w.frames.stored.items k d in
-    short_part s.start s.size w.frames.octets.items (w.frames.short k d below))
+    (λ k d below. grind (arith, short_part))
 
 pub few_frames : (w : World) → length (running w).frames ≤ 400000
 few_frames w = omega (arith, length-map w.frames.stored.items (frame_in w.frames.octets.items), w.frames.few)

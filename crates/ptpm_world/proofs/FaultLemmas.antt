@@ -1,6 +1,6 @@
 -- The first fault of a script, line by line.
 use Rattle.ptpm_world.proofs.Common.{◌≡◌, ℕ, ◌<◌, ◌≤◌, ◌++◌, List, [], ◌∷◌, length, length-append, Bool, true, false, None, Some, Ok, Err, refl, sym, ap, subst, ◌∙◌, append_assoc, append-nil, arith, IfErr, IfOk, IsErrAnd, OnSome, Option, Result, nat_lt, option_map, zip, ◌==◌, onto_first, Consumes, IsAtEnd, lines_of_parts, strip_carriage_return, cond-false, cond-true, lt-ltb, whole_lines, HasNextFault, ReadsWhole, is_outside, next_fault, size_fault, text_fault}
-use Rattle.std.specs.Str.{IsUtf8, is_utf8}
+use Rattle.std.specs.Str.{IsUtf8}
 use Rattle.std.proofs.lemmas.Bool.Decides.{nat_tests}
 use Rattle.std.proofs.lemmas.Str.{IsUtf8-from_is_utf8, is_utf8-from_IsUtf8}
 use Rattle.ptpm_world.specs.declared.script_error.ScriptError.{ScriptError}
@@ -68,8 +68,7 @@ whole_front : (l bs : List ℕ) → NoFeed l → 0 < length l
     × (whole_lines (l ++ bs) ≡ (line, l ++ more) ∷ rest)))
 whole_front l bs h some =
     let p = parts_front l bs h in
-    let f = first_whole (l ++ p.0) p.1.0 (omega (arith, length-append l p.0)) in
-    (f.0, (p.0, (f.1.0, ap (λ ps. zip (lines_of_parts ps) ps) p.1.1 ∙ f.1.1)))
+    let f = first_whole (l ++ p.0) p.1.0 (omega (arith, length-append l p.0)) in grind (arith)
 
 -- octets are some line
 some_whole_by : (b : Bool) (x : ℕ) (bs : List ℕ)
@@ -96,29 +95,20 @@ some_whole x bs = some_whole_by (x == 10) x bs refl
 few_lines : (n : ℕ) → n ≤ 2000000 → nat_lt 2000000 n ≡ false
 few_lines n h = grind (arith, nat_tests)
 
-many_lines : (n : ℕ) → 2000000 < n → nat_lt 2000000 n ≡ true
-many_lines n h = lt-ltb 2000000 n h
-
-short_line : (n : ℕ) → n ≤ 4096 → nat_lt 4096 n ≡ false
-short_line n h = grind (arith, nat_tests)
-
-long_line : (n : ℕ) → 4096 < n → nat_lt 4096 n ≡ true
-long_line n h = lt-ltb 4096 n h
-
 pub size_fits : (n : ℕ) (octets : List ℕ)
     → n ≤ 2000000
     → length octets ≤ 4096
     → size_fault n octets ≡ None
-size_fits n octets few short = cond-false _ _ _ (few_lines n few) ∙ cond-false _ _ _ (short_line (length octets) short)
+size_fits n octets few short = grind (arith, cond-false, few_lines, nat_tests)
 
 size_long : (n : ℕ) (octets : List ℕ)
     → n ≤ 2000000
     → 4096 < length octets
     → size_fault n octets ≡ Some (faults.LineTooLong n)
-size_long n octets few long = cond-false _ _ _ (few_lines n few) ∙ cond-true _ _ _ (long_line (length octets) long)
+size_long n octets few long = grind (arith, cond-false, few_lines, cond-true, lt-ltb)
 
 size_many : (n : ℕ) (octets : List ℕ) → 2000000 < n → size_fault n octets ≡ Some faults.TooManyLines
-size_many n octets many = cond-true _ _ _ (many_lines n many)
+size_many n octets many = grind (arith, cond-true, lt-ltb)
 
 -- ---- a line that is read octet by octet
 
@@ -134,8 +124,7 @@ whole-feed n None b first octet line stripped h e free s few short = tt
 whole-feed n (Some xs) None first octet line stripped h e free s few short = absurd h
 whole-feed n (Some xs) (Some ys) first octet line stripped h e free s few short =
     let is : whole_lines (first ∷ xs) ≡ (stripped, line) ∷ whole_lines ys =
-    ap whole_lines (h ∙ ap (λ o. line ++ (o ∷ ys)) e) ∙ whole_ends line ys free ∙ ap (λ l. (l, line) ∷ whole_lines ys) (sym s) in
-    (ap (next_fault n) is ∙ size_fits n line few short, (line, is))
+    ap whole_lines (h ∙ ap (λ o. line ++ (o ∷ ys)) e) ∙ whole_ends line ys free ∙ ap (λ l. (l, line) ∷ whole_lines ys) (sym s) in grind (arith, size_fits)
 
 pub whole-end : (n : ℕ) (a b : Option (List ℕ)) (first : ℕ) (line : List ℕ)
     → IsRead a b first line None
@@ -149,8 +138,7 @@ whole-end n None b first line h e free some few short = tt
 whole-end n (Some xs) None first line h e free some few short = absurd h
 whole-end n (Some xs) (Some ys) first line h e free some few short =
     let is : whole_lines (first ∷ xs) ≡ (line, line) ∷ whole_lines ys =
-    ap whole_lines (h ∙ ap (λ l. line ++ l) e ∙ append-nil line) ∙ whole_last line free some ∙ ap (λ l. (line, line) ∷ whole_lines l) (sym e) in
-    (ap (next_fault n) is ∙ size_fits n line few short, (line, is))
+    ap whole_lines (h ∙ ap (λ l. line ++ l) e ∙ append-nil line) ∙ whole_last line free some ∙ ap (λ l. (line, line) ∷ whole_lines l) (sym e) in grind (arith, size_fits)
 
 pub whole-long : (n : ℕ) (a b : Option (List ℕ)) (first octet : ℕ) (line : List ℕ)
     → IsRead a b first line (Some octet)
@@ -165,8 +153,7 @@ whole-long n (Some xs) (Some ys) first octet line h e free few long =
     let l = line ++ octet ∷ [] in
     let over : 4096 < length l = omega (arith, length-append line (octet ∷ [])) in
     let w = whole_front l ys (no_feed-more line octet free e) (omega arith) in
-    let longer : 4096 < length (l ++ w.1.0) = omega (arith, length-append l w.1.0) in
-    ap (λ o. next_fault n (whole_lines o)) (h ∙ sym (append_assoc line (octet ∷ []) ys)) ∙ ap (next_fault n) w.1.1.1 ∙ size_long n (l ++ w.1.0) few longer
+    let longer : 4096 < length (l ++ w.1.0) = omega (arith, length-append l w.1.0) in grind (arith, append_assoc, size_long)
 
 -- ---- a line with its first octet
 
@@ -195,22 +182,14 @@ pub fault-many : (n : ℕ) (a b : Option (List ℕ)) (first : ℕ)
 fault-many n None b first h many = tt
 fault-many n (Some xs) None first h many = absurd h
 fault-many n (Some xs) (Some ys) first h many =
-    let w = some_whole first ys in
-    ap (λ o. next_fault n (whole_lines o)) h ∙ ap (next_fault n) w.1.1 ∙ size_many n w.0.1 many
+    let w = some_whole first ys in grind (arith, size_many)
 
 -- ---- its text
 
 pub text-none : (n : ℕ) (line : List ℕ) → IsUtf8 line → text_fault n line ≡ None
 text-none n line u = cond-true _ _ _ (is_utf8-from_IsUtf8 line u)
 
-text_fault_by : (b : Bool) (n : ℕ) (line : List ℕ)
-    → is_utf8 line ≡ b
-    → ¬ (IsUtf8 line)
-    → text_fault n line ≡ Some (faults.NotText n)
-text_fault_by true n line e other = absurd (other (IsUtf8-from_is_utf8 line e))
-text_fault_by false n line e other = cond-false _ _ _ e
-
 pub text-fault : (n : ℕ) (line : List ℕ)
     → ¬ (IsUtf8 line)
     → text_fault n line ≡ Some (faults.NotText n)
-text-fault n line other = text_fault_by (is_utf8 line) n line refl other
+text-fault n line other = grind (arith, IsUtf8-from_is_utf8, cond-false)

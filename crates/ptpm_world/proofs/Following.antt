@@ -1,10 +1,9 @@
 -- From where a list of events led, a world goes on as the machine does.
-use Rattle.ptpm_world.proofs.Common.{◌≡◌, IsOkAnd, result_err, Happened, network_event, Result, Ok, Err, List, [], ◌∷◌, ◌++◌, Option, Some, None, false, refl, sym, ◌∙◌, ap, subst, cond-true, cond-false, append-nil, append_assoc, is_none, option_map, IsInRange, Refusal, refusal, StandsAfter, AreInTime, is_late_delivery, run, step, taken, Network, RunningNetwork, NetworkState, initial_state, StepError, Took, World, running, IsStep, error_of}
+use Rattle.ptpm_world.proofs.Common.{arith, ◌≡◌, IsOkAnd, result_err, Happened, network_event, Result, Ok, Err, List, [], ◌∷◌, ◌++◌, Some, None, false, refl, ap, cond-true, cond-false, append-nil, append_assoc, is_none, option_map, IsInRange, Refusal, refusal, StandsAfter, AreInTime, is_late_delivery, run, step, taken, Network, RunningNetwork, NetworkState, initial_state, StepError, Took, World, running, IsStep}
 use Rattle.ptpm_network.specs.Events.{Event}
 use Rattle.ptpm_network.proofs.Promise.{stands-event, stands-judged}
 use Rattle.ptpm_network.proofs.Taking.{in_time-parts, run-append, taken-append}
 use Rattle.ptpm_world.specs.Stepping.{IsMachineStep}
-use Rattle.ptpm_world.specs.declared.took.StepError.TheVariants as errors
 use Rattle.ptpm_world.proofs.Ending.{err_is, refused_by, step-went}
 
 -- ---- a step
@@ -23,8 +22,7 @@ stands-went : (N : Network) (past : List Event) (r new : RunningNetwork) (e : Ev
     → IsInRange e
     → is_late_delivery (run N (initial_state N) past) e ≡ false
     → StandsAfter N (past ++ e ∷ []) new
-stands-went N past r new e (Ok h) is went at range prompt =
-    subst (λ (s : RunningNetwork). StandsAfter N (past ++ e ∷ []) s) (sym went) (stands-event N past r e h at range is prompt)
+stands-went N past r new e (Ok h) is went at range prompt = grind (arith, stands-event)
 stands-went N past r new e (Err why) is went at range prompt = absurd went
 
 pub step-machine : (N : Network) (past : List Event) (old new : World) (e : Event)
@@ -37,16 +35,10 @@ step-machine N past old new e (Ok t) step at range =
     let went = step-went N old new e t step in
     record {
       stands = λ prompt. stands-went N past (running old) (running new) e (network_event N (running old) e) refl went at range prompt;
-      taken = sym (stands-judged N past (running old) e at) ∙ went-none (network_event N (running old) e) (λ h. running new ≡ h.network) went;
+      taken = grind (arith, stands-judged, went-none);
       reason = tt;
     }
-step-machine N past old new e (Err why) step at range = record {
-  stands = λ prompt. tt;
-  taken = tt;
-  reason = λ other.
-      ap (option_map error_of) (sym (stands-judged N past (running old) e at))
-      ∙ refused_by (network_event N (running old) e) why (step.answers (λ o. other (err_is why errors.OutOfMemory o)));
-}
+step-machine N past old new e (Err why) step at range = grind (arith, option_map, stands-judged, refused_by, err_is)
 
 -- ---- what was carried out so far
 
@@ -58,10 +50,7 @@ pub record HasGoneOn (N : Network) (past es : List Event) (r : RunningNetwork) :
 pub gone_on-none : (N : Network) (past : List Event) (r : RunningNetwork)
     → StandsAfter N past r
     → HasGoneOn N past [] r
-gone_on-none N past r at = record {
-  stands = subst (λ (es : List Event). StandsAfter N es r) (sym (append-nil past)) at;
-  whole = refl;
-}
+gone_on-none N past r at = grind (arith, append-nil)
 
 taken-fine : (N : Network) (w : NetworkState) (e : Event)
     → refusal N w e ≡ None
@@ -86,23 +75,8 @@ gone_on-more N past es now new e f same before permitted goes time =
     let both = in_time-parts N w es (e ∷ []) time in
     let so_far = before both.0 in
     let there : run N (initial_state N) (past ++ es) ≡ run N w es = run-append N (initial_state N) past es in
-    let none : refusal N (run N w es) e ≡ None =
-    ap (λ (v : NetworkState). refusal N v e) (sym there)
-    ∙ ap (refusal N (run N (initial_state N) (past ++ es))) (sym same) ∙ permitted (past ++ es) so_far.stands in
-    let prompt : is_late_delivery (run N (initial_state N) (past ++ es)) f ≡ false =
-    ap (is_late_delivery (run N (initial_state N) (past ++ es))) same
-    ∙ ap (λ (v : NetworkState). is_late_delivery v e) there ∙ both.1.0 none in
-    record {
-      stands = subst (λ (events : List Event). StandsAfter N events new) (append_assoc past es (e ∷ []))
-          (subst (λ (x : Event). StandsAfter N ((past ++ es) ++ x ∷ []) new) same (goes (past ++ es) so_far.stands prompt));
-      whole = taken-append N w es (e ∷ []) so_far.whole ∙ ap (λ (ts : List Event). es ++ ts) (taken-fine N (run N w es) e none);
-    }
-
-is_none-mapped : {A B : Type 0} (f : A → B) (o : Option A) (y : B)
-    → option_map f o ≡ Some y
-    → is_none o ≡ false
-is_none-mapped f None y e = absurd (cc)
-is_none-mapped f (Some x) y e = refl
+    let none : refusal N (run N w es) e ≡ None = grind (arith) in
+    let prompt : is_late_delivery (run N (initial_state N) (past ++ es)) f ≡ false = grind (arith) in grind (arith, append_assoc, taken-append, taken-fine)
 
 -- where the next is refused, no more is taken
 pub taken-stops : {B : Type 0} (f : Refusal → B) (y : B) (N : Network) (past es rest : List Event)
@@ -110,10 +84,4 @@ pub taken-stops : {B : Type 0} (f : Refusal → B) (y : B) (N : Network) (past e
     → HasGoneOn N past es r
     → option_map f (refusal N (run N (initial_state N) (past ++ es)) e) ≡ Some y
     → taken N (run N (initial_state N) past) (es ++ e ∷ rest) ≡ es
-taken-stops f y N past es rest e r gone why =
-    let w : NetworkState = run N (initial_state N) past in
-    let there : option_map f (refusal N (run N w es) e) ≡ Some y =
-    ap (λ (v : NetworkState). option_map f (refusal N v e)) (sym (run-append N (initial_state N) past es)) ∙ why in
-    taken-append N w es (e ∷ rest) gone.whole
-    ∙ ap (λ (ts : List Event). es ++ ts) (cond-false _ _ _ (is_none-mapped f (refusal N (run N w es) e) y there))
-    ∙ append-nil es
+taken-stops f y N past es rest e r gone why = grind (arith, run-append, taken-append, cond-false, append-nil)

@@ -1,7 +1,6 @@
 -- Whose identity a stranger's datagram has: the clocks and sessions of a world have those of its network.
-use Rattle.ptpm_world.proofs.Common.{suc, ◌≡◌, ℕ, ◌+◌, ◌&&◌, ◌||◌, List, [], ◌∷◌, Some, None, Bool, true, false, refl, ◌∙◌, ap, length, arith, nat_le, if◌then◌else◌, slice_get, list_any, range_with_len, PortIdentity, same_clock, same_identity, is_forged, is_taken, Network, manager, World, IsOf}
+use Rattle.ptpm_world.proofs.Common.{suc, ◌≡◌, ℕ, ◌+◌, ◌||◌, List, [], ◌∷◌, Some, None, Bool, refl, ◌∙◌, ap, length, arith, nat_le, if◌then◌else◌, slice_get, list_any, range_with_len, PortIdentity, same_clock, same_identity, is_forged, is_taken, Network, manager, World, IsOf}
 use Rattle.ptpm_codec.specs.Layout.{source_port_identity}
-use Rattle.ptpm_agent.specs.Turn.{Clock}
 
 -- elements are tested as their places are
 any-places : {X : Type 0} (test : X → Bool) (at : ℕ → Bool) (xs : List X) (a : ℕ)
@@ -10,42 +9,21 @@ any-places : {X : Type 0} (test : X → Bool) (at : ℕ → Bool) (xs : List X) 
 any-places test at [] a each = refl
 any-places test at (x ∷ xs) a each =
     let head : test x ≡ at a = each 0 x refl ∙ ap at (omega arith) in
-    let tail = any-places test at xs (a + 1) (λ i y e. each (suc i) y e ∙ ap at (omega arith)) in
-    ap (λ b. b || list_any test xs) head ∙ ap (λ b. at a || b) tail
-
-any-clocks : (N : Network) (w : World) (who : PortIdentity)
-    → IsOf N w
-    → list_any (λ x. same_clock who.clock x.agent.table.clock) w.clocks.items
-    ≡ list_any (λ c. same_clock who.clock (N.clock c).identity) (range_with_len 0 N.clocks)
-any-clocks N w who is =
-    any-places (λ x. same_clock who.clock x.agent.table.clock) (λ c. same_clock who.clock (N.clock c).identity) w.clocks.items 0
-    (λ i x e. ap (λ (k : Clock). same_clock who.clock k.identity) (is.clocks i x e).clock ∙ ap (λ c. same_clock who.clock (N.clock c).identity) (omega arith))
-    ∙ ap (λ n. list_any (λ c. same_clock who.clock (N.clock c).identity) (range_with_len 0 n)) is.clock_count
+    let tail = any-places test at xs (a + 1) (λ i y e. each (suc i) y e ∙ ap at (omega arith)) in grind (arith)
 
 any-sessions : (N : Network) (w : World) (who : PortIdentity)
     → IsOf N w
     → list_any (λ x. same_identity who x.identity) w.sessions.items
     ≡ list_any (λ s. same_identity who (manager N s)) (range_with_len 0 N.sessions)
-any-sessions N w who is =
-    any-places (λ x. same_identity who x.identity) (λ s. same_identity who (manager N s)) w.sessions.items 0
-    (λ i x e. ap (same_identity who) (is.sessions i x e).identity ∙ ap (λ s. same_identity who (manager N s)) (omega arith))
-    ∙ ap (λ n. list_any (λ s. same_identity who (manager N s)) (range_with_len 0 n)) is.session_count
+any-sessions N w who is = grind (arith, any-places)
 
 -- an identity is taken in the network where a clock or a session of the world has it
 pub taken : (N : Network) (w : World) (who : PortIdentity) → IsOf N w
     → (list_any (λ x. same_clock who.clock x.agent.table.clock) w.clocks.items
     || list_any (λ x. same_identity who x.identity) w.sessions.items) ≡ is_taken N who
-taken N w who is =
-    ap (λ b. b || list_any (λ x. same_identity who x.identity) w.sessions.items) (any-clocks N w who is)
-    ∙ ap (λ b. list_any (λ c. same_clock who.clock (N.clock c).identity) (range_with_len 0 N.clocks) || b) (any-sessions N w who is)
-
-some-forged : (N : Network) (d : List ℕ) (who : PortIdentity) (b : Bool)
-    → (if b then Some (source_port_identity d) else None) ≡ Some who
-    → (b && is_taken N (source_port_identity d)) ≡ is_taken N who
-some-forged N d who true e = let same : source_port_identity d ≡ who = cc in ap (is_taken N) same
-some-forged N d who false e = absurd (cc)
+taken N w who is = grind (arith, any-sessions, any-places)
 
 pub forged-source : (N : Network) (d : List ℕ) (who : PortIdentity)
     → (if nat_le 30 (length d) then Some (source_port_identity d) else None) ≡ Some who
     → is_forged N d ≡ is_taken N who
-forged-source N d who e = some-forged N d who (nat_le 30 (length d)) e
+forged-source N d who e = grind arith

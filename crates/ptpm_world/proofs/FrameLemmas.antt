@@ -76,9 +76,7 @@ fewer true any x xs kept at_most behind h = omega arith
 fewer false any x xs kept at_most behind h = omega (arith, behind h)
 
 length-others : (e : End) (ends : List End) → length (others e ends) ≤ length ends
-length-others e ends =
-    let test : End → Bool = λ o. not (is_same e o) in
-    omega (arith, length-filter test ends, count_by-le-length test ends)
+length-others e ends = grind (arith, length-filter, count_by-le-length)
 
 -- one is left out, where it is there
 pub others-fewer : (e : End) (ends : List End)
@@ -105,13 +103,11 @@ peers_found e [] = refl
 peers_found e (l ∷ ls) =
     let d : machine.End = described_end e in
     let here : list_any (same_end d) (ends_of l) ≡ list_any (is_same e) l.ends.items = list_any-map (same_end d) described_end l.ends.items in
-    let kept : filter (λ o. not (same_end d o)) (ends_of l) ≡ map described_end (others e l.ends.items) =
-    filter-map (λ o. not (same_end d o)) described_end l.ends.items in
+    let kept : filter (λ o. not (same_end d o)) (ends_of l) ≡ map described_end (others e l.ends.items) = grind (arith, filter-map) in
     let found : Option NetworkLink = find (λ m. list_any (is_same e) m.ends.items) ls in
     let path : cond (list_any (same_end d) (ends_of l)) (filter (λ o. not (same_end d o)) (ends_of l)) (peers (link_ends ls) d)
     ≡ cond (list_any (is_same e) l.ends.items) (map described_end (others e l.ends.items)) (found_peers e found) =
-    λ i. cond (here i) (kept i) (peers_found e ls i) in
-    path ∙ found_cases e (list_any (is_same e) l.ends.items) l found
+    λ i. cond (here i) (kept i) (peers_found e ls i) in grind (arith, found_cases)
 
 -- ---- octets
 
@@ -119,12 +115,7 @@ peers_found e (l ∷ ls) =
 frame_before : (store more : List ℕ) (s : Stored)
     → IsWithin store s
     → frame_in (store ++ more) s ≡ frame_in store s
-frame_before store more s within =
-    let behind : drop s.start (store ++ more) ≡ drop s.start store ++ more = drop-append-le s.start store more (omega arith) in
-    let short : s.size ≤ length (drop s.start store) = omega (arith, length-drop s.start store) in
-    let octets : take s.size (drop s.start (store ++ more)) ≡ take s.size (drop s.start store) =
-    ap (take s.size) behind ∙ take-append-le s.size (drop s.start store) more short in
-    λ i. record { end = described_end s.end; octets = octets i; origin = origin_of s.origin }
+frame_before store more s within = grind (arith, drop-append-le, length-drop, take-append-le)
 
 frames_before : (store more : List ℕ) (xs : List Stored)
     → All (IsWithin store) xs
@@ -143,8 +134,7 @@ pub record IsBehind (store octets : List ℕ) (s : Stored) : Type 0 where
 octets_behind : (store octets : List ℕ) (s : Stored)
     → IsBehind store octets s
     → take s.size (drop s.start (store ++ octets)) ≡ octets
-octets_behind store octets s b =
-    ap (take s.size) (drop_at store octets s.start (sym b.start)) ∙ take_all s.size octets (omega (arith, b.size))
+octets_behind store octets s b = grind (arith, drop_at, take_all)
 
 frames_behind : (store octets : List ℕ) (s : Stored) (ends : List End) → IsBehind store octets s
     → map (frame_in (store ++ octets)) (map (at_end s) ends)
@@ -152,18 +142,7 @@ frames_behind : (store octets : List ℕ) (s : Stored) (ends : List End) → IsB
 frames_behind store octets s [] b = refl
 frames_behind store octets s (e ∷ es) b =
     let here = octets_behind store octets s b in
-    let rest = frames_behind store octets s es b in
-    λ i. record { end = described_end e; octets = here i; origin = origin_of s.origin } ∷ rest i
-
--- a message is posted: all frames before it stay, and behind them is one for each end
-pub frames_posted : (store octets : List ℕ) (xs : List Stored) (s : Stored) (ends : List End)
-    → All (IsWithin store) xs
-    → IsBehind store octets s
-    → map (frame_in (store ++ octets)) (xs ++ map (at_end s) ends)
-    ≡ map (frame_in store) xs ++ posted (map described_end ends) octets (origin_of s.origin)
-frames_posted store octets xs s ends all b =
-    map-append (frame_in (store ++ octets)) xs (map (at_end s) ends)
-    ∙ (λ i. frames_before store octets xs all i ++ frames_behind store octets s ends b i)
+    let rest = frames_behind store octets s es b in grind (arith)
 
 pub within_posted : (store octets : List ℕ) (xs : List Stored) (s : Stored) (ends : List End)
     → All (IsWithin store) xs
@@ -224,20 +203,12 @@ pub posting-frames : {links : List NetworkLink} {l : NetworkLink} {s : Stored}
     → map (frame_in next) ys
     ≡ map (frame_in store) xs
     ++ posted (peers (link_ends links) (described_end s.end)) octets (origin_of s.origin)
-posting-frames {links} {l} {s} {store} {octets} {next} {xs} {ys} p =
-    let ends : List End = others s.end l.ends.items in
-    let met : peers (link_ends links) (described_end s.end) ≡ map described_end ends = peers_found s.end links ∙ ap (found_peers s.end) p.found in
-    (λ i. map (frame_in (p.grown i)) (p.longer i))
-    ∙ (frames_posted store octets xs s ends p.within p.behind
-    ∙ ap (λ (es : List machine.End). map (frame_in store) xs ++ posted es octets (origin_of s.origin)) (sym met))
+posting-frames {links} {l} {s} {store} {octets} {next} {xs} {ys} p = grind (arith, peers_found, map-append, frames_before, frames_behind)
 
 pub posting-within : {links : List NetworkLink} {l : NetworkLink} {s : Stored}
     {store octets next : List ℕ} {xs ys : List Stored}
     → Posting links l s store octets next xs ys → All (IsWithin next) ys
-posting-within {links} {l} {s} {store} {octets} {next} {xs} {ys} p =
-    subst (λ (o : List ℕ). All (IsWithin o) ys) (sym p.grown)
-    (subst (λ (fs : List Stored). All (IsWithin (store ++ octets)) fs) (sym p.longer)
-    (within_posted store octets xs s (others s.end l.ends.items) p.within p.behind))
+posting-within {links} {l} {s} {store} {octets} {next} {xs} {ys} p = grind (arith, within_posted)
 
 -- frames of a message of at most 1,472 octets, at these ends
 short_ends : (s : Stored) (ends : List End) → IsShort s → All IsShort (map (at_end s) ends)
@@ -254,9 +225,7 @@ pub posting-count : {links : List NetworkLink} {l : NetworkLink} {s : Stored}
     {store octets next : List ℕ} {xs ys : List Stored}
     → Posting links l s store octets next xs ys
     → length ys ≡ length xs + length (others s.end l.ends.items)
-posting-count {links} {l} {s} {store} {octets} {next} {xs} {ys} p =
-    let ends : List End = others s.end l.ends.items in
-    ap length p.longer ∙ (length-append xs (map (at_end s) ends) ∙ ap (λ n. length xs + n) (length-map ends (at_end s)))
+posting-count {links} {l} {s} {store} {octets} {next} {xs} {ys} p = grind (arith, length-append, length-map)
 
 pub posting-there : {links : List NetworkLink} {l : NetworkLink} {s : Stored}
     {store octets next : List ℕ} {xs ys : List Stored}

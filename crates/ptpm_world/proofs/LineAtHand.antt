@@ -1,5 +1,5 @@
 -- A line that a reader has at hand.
-use Rattle.ptpm_world.proofs.Common.{◌≡◌, ℕ, ◌<◌, ◌≤◌, ◌+◌, ◌++◌, List, [], ◌∷◌, suc, zero, length, length-take, Bool, true, false, None, Some, refl, sym, ap, ◌∙◌, append_assoc, arith, IfSome, Option, cond, get_or, take, take_all, take-append-le, take_more, ◌==◌, eqb-true, Consumes, strip_carriage_return, whole_lines, ReadsWhole, next_fault}
+use Rattle.ptpm_world.proofs.Common.{◌≡◌, ℕ, ◌<◌, ◌≤◌, ◌+◌, ◌++◌, List, [], ◌∷◌, suc, zero, length, length-take, Bool, true, false, None, Some, refl, ap, ◌∙◌, append_assoc, arith, IfSome, Option, cond, get_or, take, take_all, take-append-le, take_more, ◌==◌, eqb-true, Consumes, strip_carriage_return, whole_lines, ReadsWhole}
 use Rattle.memchr.specs.Find.{IsFirstByte, is_byte}
 use Rattle.std.specs.Io.{StartsWith}
 use Rattle.std.specs.Io.BufRead.{DropsConsumable}
@@ -13,8 +13,7 @@ pub shown_first : (none : Bool) (shown : List ℕ) (known : Option (List ℕ))
     → IfSome (cond none None (prepend_known shown known)) (λ xs. StartsWith xs shown)
 shown_first true shown known = tt
 shown_first false shown None = tt
-shown_first false shown (Some ys) =
-    take-append-le (length shown) shown ys (omega arith) ∙ take_all (length shown) shown (omega arith)
+shown_first false shown (Some ys) = grind (arith, take-append-le, take_all)
 
 is_no_feed : (octet : ℕ) → ¬ ((octet == 10) ≡ true) → (octet == 10) ≡ false
 is_no_feed octet h =
@@ -49,9 +48,7 @@ at_hand : (n : ℕ) (xs : List ℕ) (b : Option (List ℕ)) (shown : List ℕ) (
 at_hand n xs None shown size stripped taken free feed s few short = absurd taken
 at_hand n xs (Some ys) shown size stripped taken free feed s few short =
     let line = take size shown in
-    let is : whole_lines xs ≡ (stripped, line) ∷ whole_lines ys =
-    ap whole_lines (taken ∙ ap (λ l. l ++ ys) feed ∙ append_assoc line (10 ∷ []) ys) ∙ whole_ends line ys free ∙ ap (λ l. (l, line) ∷ whole_lines ys) (sym s) in
-    (ap (next_fault n) is ∙ size_fits n line few short, (line, is))
+    let is : whole_lines xs ≡ (stripped, line) ∷ whole_lines ys = grind (arith, append_assoc, whole_ends) in grind (arith, size_fits)
 
 -- the first line feed at hand ends the next line
 pub whole-at-hand : (n : ℕ) (a b : Option (List ℕ)) (shown : List ℕ) (size : ℕ) (stripped : List ℕ)
@@ -65,7 +62,4 @@ pub whole-at-hand : (n : ℕ) (a b : Option (List ℕ)) (shown : List ℕ) (size
 whole-at-hand n None b shown size stripped front first drops s few short = tt
 whole-at-hand n (Some xs) b shown size stripped front first drops s few short =
     let inside : size < length shown = first.0.high in
-    let taken = (Consumes_shown (Some xs) (Some xs) b (Some (length shown)) shown (size + 1) (omega (arith, inside)) front (λ none. absurd (omega (arith, inside, none))) refl (omega arith) drops).0 in
-    at_hand n xs b shown size stripped taken
-    (no_feed_before shown size (omega (arith, inside)) (λ k below. first.0.before k (omega arith) below))
-    (feed_taken shown size inside first.1) s few (omega (arith, length-take size shown, short, inside))
+    let taken = (Consumes_shown (Some xs) (Some xs) b (Some (length shown)) shown (size + 1) (omega (arith, inside)) front (λ none. absurd (omega (arith, inside, none))) refl (omega arith) drops).0 in grind (arith, at_hand, no_feed_before, feed_taken, length-take)

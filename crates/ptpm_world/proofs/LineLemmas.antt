@@ -1,5 +1,5 @@
 -- Lines of octets that come one by one.
-use Rattle.ptpm_world.proofs.Common.{◌≡◌, ℕ, ◌<◌, ◌≤◌, ◌++◌, List, [], ◌∷◌, length, Bool, true, false, None, Some, refl, sym, ap, ◌∙◌, subst, take, append_assoc, rules, arith, IfNone, IfSome, OnSome, Option, cond, slice_get, ◌==◌, onto_first, slice_split, Consumes, IsAtEnd, Keeps, same_Some, lines, lines_of_parts, strip_carriage_return, BothKnown, given}
+use Rattle.ptpm_world.proofs.Common.{◌≡◌, ℕ, ◌<◌, ◌≤◌, ◌++◌, List, [], ◌∷◌, length, Bool, true, false, None, Some, refl, sym, ap, ◌∙◌, take, append_assoc, rules, arith, IfNone, IfSome, OnSome, Option, cond, slice_get, ◌==◌, onto_first, slice_split, Consumes, IsAtEnd, Keeps, same_Some, lines, lines_of_parts, strip_carriage_return, BothKnown, given}
 use Rattle.std.specs.Io.{StartsWith}
 use Rattle.std.specs.Io.BufRead.{DropsConsumable}
 use Rattle.std.proofs.BufReadLemmas.{Consumes_shown}
@@ -46,9 +46,7 @@ pub line_ends : (l bs : List ℕ)
     → lines (l ++ 10 ∷ bs) ≡ strip_carriage_return l ∷ lines bs
 line_ends l bs h =
     let some = some_part bs in
-    let e : parts bs ≡ some.0 ∷ some.1.0 = some.1.1 in
-    ap lines_of_parts (part_ends l bs h ∙ ap (λ ps. l ∷ ps) e)
-    ∙ sym (ap (λ ps. strip_carriage_return l ∷ lines_of_parts ps) e)
+    let e : parts bs ≡ some.0 ∷ some.1.0 = some.1.1 in grind (arith, part_ends)
 
 pub not_empty : (l : List ℕ) → 0 < length l → lines_of_parts (l ∷ []) ≡ l ∷ []
 not_empty [] h = absurd (omega (arith, h))
@@ -75,8 +73,7 @@ pub read-more : (a b c : Option (List ℕ)) (first octet : ℕ) (line : List ℕ
 read-more None b c first octet line next h k = tt
 read-more (Some xs) None c first octet line next h k = absurd h
 read-more (Some xs) (Some ys) None first octet line next h k = absurd k
-read-more (Some xs) (Some ys) (Some zs) first octet line next h k =
-    h ∙ ap (λ l. line ++ (octet ∷ l)) k ∙ sym (append_assoc line (octet ∷ []) (given next ++ zs))
+read-more (Some xs) (Some ys) (Some zs) first octet line next h k = grind (arith, append_assoc)
 
 -- the reader's end, as the first octet's reader knew it
 pub end-on : (a b c : Option (List ℕ)) (first octet : ℕ) (line : List ℕ) (next : Option ℕ)
@@ -105,9 +102,7 @@ pub octet-some : (a b c : Option (List ℕ)) (limit : Option ℕ) (shown : List 
     → IfSome a (λ _. IfSome limit (λ n. length shown ≤ n))
     → DropsConsumable b c limit 1
     → Consumes a c (octet ∷ [])
-octet-some a b c limit shown octet h front end kept fits drops =
-    let s = shown_some shown octet h in
-    subst (Consumes a c) s.1 (Consumes_shown a b c limit shown 1 s.0 front end kept fits drops).0
+octet-some a b c limit shown octet h front end kept fits drops = grind (arith, shown_some, Consumes_shown)
 
 pub octet-none : (a b : Option (List ℕ)) (shown : List ℕ)
     → slice_get shown 0 ≡ None

@@ -1,5 +1,5 @@
 -- Where a name has a place, and a number a frame.
-use Rattle.ptpm_world.proofs.Common.{suc, zero, arith, ◌≡◌, ◌≢◌, ℕ, ◌+◌, ◌-◌, ◌<◌, ◌≤◌, ◌==◌, true, false, not, if◌then◌else◌, List, [], ◌∷◌, Option, Some, None, refl, sym, ◌∙◌, ap, length, map, ⊎_elim, Contains, IsSome, bytes_eq, is_some, option_map, slice_get, slice_index_or, ◌↔◌, cases_Bool, cond-true, cond-false, eqb-false, eqb-true, false≢true, length-map, frame_at, Held, RunningNetwork, place_in, is_late_held}
+use Rattle.ptpm_world.proofs.Common.{suc, zero, arith, ◌≡◌, ℕ, ◌+◌, ◌<◌, ◌≤◌, true, false, not, if◌then◌else◌, List, [], ◌∷◌, Option, Some, None, refl, ap, length, map, ⊎_elim, Contains, IsSome, bytes_eq, is_some, option_map, slice_get, slice_index_or, ◌↔◌, cases_Bool, cond-true, cond-false, eqb-false, eqb-true, false≢true, length-map, frame_at, Held, RunningNetwork, place_in, is_late_held}
 use Rattle.std.proofs.lemmas.Slice.Eq.{bytes_eq-Decides}
 
 -- ---- names
@@ -40,18 +40,12 @@ pub known-found : {X : Type 0} (name_of : X → List ℕ) (xs : List X) (name : 
     → i ≡ place_in (map name_of xs) name
     → i < length xs
     → (true ≡ true) ↔ Contains (map name_of xs) name
-known-found name_of xs name i e within = (
-  λ some. contains-place (map name_of xs) name (omega (arith, e, within, length-map xs name_of)),
-  λ found. refl,
-)
+known-found name_of xs name i e within = grind (arith, contains-place, length-map)
 
 pub unknown-name : {X : Type 0} (name_of : X → List ℕ) (xs : List X) (name : List ℕ)
     → place_in (map name_of xs) name ≡ length xs
     → (false ≡ true) ↔ Contains (map name_of xs) name
-unknown-name name_of xs name e = (
-  λ none. absurd (false≢true none),
-  λ found. absurd (omega (arith, e, place-contained (map name_of xs) name found.0 found.1 found.2, length-map xs name_of)),
-)
+unknown-name name_of xs name e = grind (arith, false≢true, place-contained, length-map)
 
 -- ---- numbers of frames
 
@@ -68,22 +62,7 @@ within-some (x ∷ xs) (suc i) h = within-some xs i (omega (arith, h))
 some-held : (frames : List Held) (n : ℕ)
     → is_some (frame_at frames n) ≡ true
     → (1 ≤ n) × (n ≤ length frames)
-some-held frames n e = ⊎_elim
-    (λ (y : n == 0 ≡ true). absurd (false≢true (ap is_some (sym (cond-true _ _ _ y)) ∙ e)))
-    (λ (o : n == 0 ≡ false).
-    let positive : n ≢ 0 = eqb-false n 0 o in
-    let within = some-within frames (n - 1) (ap is_some (sym (cond-false _ _ _ o)) ∙ e) in
-    (omega (arith, positive), omega (arith, positive, within)))
-    (cases_Bool (n == 0))
-
-held-some : (frames : List Held) (n : ℕ)
-    → 1 ≤ n
-    → n ≤ length frames
-    → is_some (frame_at frames n) ≡ true
-held-some frames n positive within = ⊎_elim
-    (λ (y : n == 0 ≡ true). absurd (omega (arith, positive, eqb-true n 0 y)))
-    (λ (o : n == 0 ≡ false). ap is_some (cond-false _ _ _ o) ∙ within-some frames (n - 1) (omega (arith, positive, within)))
-    (cases_Bool (n == 0))
+some-held frames n e = grind (arith, false≢true, is_some, cond-true, eqb-false, some-within, cond-false, cases_Bool)
 
 some-mapped : {T : Type 0} (view : T → Held) (o : Option T)
     → is_some (option_map view o) ≡ is_some o
@@ -93,9 +72,7 @@ some-mapped view (Some t) = refl
 pub known-frame : {T : Type 0} (view : T → Held) (o : Option T) (frames : List Held) (n : ℕ)
     → option_map view o ≡ frame_at frames n
     → IsSome o ↔ ((1 ≤ n) × (n ≤ length frames))
-known-frame view o frames n e =
-    let same = sym (some-mapped view o) ∙ ap is_some e in
-    (λ some. some-held frames n (sym same ∙ some), λ there. same ∙ held-some frames n there.0 there.1)
+known-frame view o frames n e = grind (arith, some-mapped, some-held, eqb-true, cond-false, within-some, cases_Bool)
 
 -- what is late is there
 late-some : (r : RunningNetwork) (o : Option Held) → is_late_held r o ≡ true → is_some o ≡ true

@@ -1,5 +1,5 @@
 -- Lists of which one element is written over, place by place.
-use Rattle.ptpm_world.proofs.Common.{◌≡◌, ℕ, ◌<◌, ◌==◌, zero, suc, List, [], ◌∷◌, ◌++◌, ◌+◌, get_or, drop, take, Option, Some, true, false, refl, sym, ◌∙◌, ap, subst, ⊎_elim, length, cases_Bool, eqb-true, eqb-false, cond-true, cond-false, append_assoc, map-append, take-append-drop, take_more, same_Some, map, slice_get, slice_set, with_place}
+use Rattle.ptpm_world.proofs.Common.{arith, ◌≡◌, ℕ, ◌<◌, ◌==◌, zero, suc, List, [], ◌∷◌, ◌++◌, ◌+◌, get_or, drop, take, Option, Some, true, false, refl, sym, ◌∙◌, ap, ⊎_elim, length, cases_Bool, eqb-true, eqb-false, cond-true, cond-false, append_assoc, map-append, take-append-drop, take_more, same_Some, map, slice_get, slice_set, with_place}
 
 pub get-set_same : {X : Type 0} (xs : List X) (i : ℕ) (x y : X)
     → slice_get xs i ≡ Some x
@@ -24,10 +24,8 @@ pub read-set : {X A : Type 0} (read : Option X → A) (xs : List X) (i : ℕ) (x
     → read (slice_get (slice_set xs i y) j)
     ≡ with_place (λ k. read (slice_get xs k)) i (read (Some y)) j
 read-set read xs i x y e j = ⊎_elim
-    (λ (here : j == i ≡ true).
-    ap (λ k. read (slice_get (slice_set xs i y) k)) (eqb-true j i here) ∙ ap read (get-set_same xs i x y e) ∙ sym (cond-true (j == i) (read (Some y)) (read (slice_get xs j)) here))
-    (λ (away : j == i ≡ false).
-    ap read (get-set_other xs i j y (eqb-false j i away)) ∙ sym (cond-false (j == i) (read (Some y)) (read (slice_get xs j)) away))
+    (λ (here : j == i ≡ true). grind (arith, eqb-true, get-set_same, cond-true))
+    (λ (away : j == i ≡ false). grind (arith, get-set_other, eqb-false, cond-false))
     (cases_Bool (j == i))
 
 -- the same where nothing is read anew
@@ -36,12 +34,7 @@ pub read-kept : {X A : Type 0} (read : Option X → A) (xs : List X) (i : ℕ) (
     → read (Some y) ≡ read (Some x)
     → (j : ℕ)
     → read (slice_get (slice_set xs i y) j) ≡ read (slice_get xs j)
-read-kept read xs i x y e same j = ⊎_elim
-    (λ (here : j == i ≡ true).
-    ap (λ k. read (slice_get (slice_set xs i y) k)) (eqb-true j i here) ∙ ap read (get-set_same xs i x y e) ∙ same
-    ∙ sym (ap read e) ∙ sym (ap (λ k. read (slice_get xs k)) (eqb-true j i here)))
-    (λ (away : j == i ≡ false). ap read (get-set_other xs i j y (eqb-false j i away)))
-    (cases_Bool (j == i))
+read-kept read xs i x y e same j = grind (arith, slice_get, slice_set, eqb-true, get-set_same, get-set_other, eqb-false, cases_Bool)
 
 -- what is made of each element stays where it is the same of the new one
 pub map-set_same : {X A : Type 0} (make : X → A) (xs : List X) (i : ℕ) (x y : X)
@@ -60,13 +53,7 @@ pub each-set : {X : Type 0} (P : ℕ → X → Type 0) (xs : List X) (i : ℕ) (
     → (j : ℕ) (z : X)
     → slice_get (slice_set xs i y) j ≡ Some z
     → P j z
-each-set P xs i x y e each new j z at = ⊎_elim
-    (λ (here : j == i ≡ true).
-    let place : j ≡ i = eqb-true j i here in
-    let same : y ≡ z = same_Some y z (sym (get-set_same xs i x y e) ∙ (ap (slice_get (slice_set xs i y)) (sym place) ∙ at)) in
-    subst (λ k. P k z) (sym place) (subst (P i) same new))
-    (λ (away : j == i ≡ false). each j z (sym (get-set_other xs i j y (eqb-false j i away)) ∙ at))
-    (cases_Bool (j == i))
+each-set P xs i x y e each new j z at = grind (arith, eqb-true, same_Some, get-set_same, slice_get, slice_set, get-set_other, eqb-false, cases_Bool)
 
 -- what is made of the elements up to a place, and of the one at it
 pub map_more : {X A : Type 0} (view : X → A) (entries : List X) (i : ℕ) (e : X)

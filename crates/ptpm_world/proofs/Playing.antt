@@ -1,5 +1,5 @@
 -- A script as far as it is played: what is left of its lines comes to what all of them do, behind what was written.
-use Rattle.ptpm_world.proofs.Common.{◌≡◌, ◌≢◌, ℕ, ◌+◌, ◌++◌, List, [], ◌∷◌, Bool, true, false, None, Some, Ok, Err, refl, sym, ap, subst, ◌∙◌, append_assoc, append-nil, cond-false, cond-true, IfSome, IsErrAnd, Option, Result, if◌then◌else◌, option_or, Appends, Keeps, Appends-nil, Appends-trans, Network, RunningNetwork, AllByRecursion, IsInRange, placed_all, BothKnown, HasNextFault, ReadsWhole, whole_lines, Names, HasPlayed, HasStopped, Played, behind, ends, event_of, from_file, is_divider, is_outside, is_skipped, line_fault, next_fault, played, played_by, read_as, reading, size_fault, text_fault, unless_fault}
+use Rattle.ptpm_world.proofs.Common.{arith, ◌≡◌, ◌≢◌, ℕ, ◌+◌, ◌++◌, List, [], ◌∷◌, Bool, true, false, None, Some, Ok, Err, refl, sym, ap, subst, ◌∙◌, append_assoc, append-nil, cond-false, cond-true, IfSome, IsErrAnd, Option, Result, if◌then◌else◌, option_or, Appends, Keeps, Appends-nil, Appends-trans, Network, RunningNetwork, AllByRecursion, IsInRange, placed_all, BothKnown, HasNextFault, ReadsWhole, whole_lines, Names, HasPlayed, HasStopped, Played, behind, ends, event_of, from_file, is_divider, is_outside, is_skipped, line_fault, next_fault, played, played_by, read_as, reading, text_fault, unless_fault}
 use Rattle.ptpm_script.specs.declared.event.Event.{Event}
 use Rattle.ptpm_world.specs.declared.script_error.ScriptError.{ScriptError}
 use Rattle.ptpm_world.specs.declared.whole_script.EventLine.{EventLine}
@@ -79,19 +79,13 @@ pub next-is : (n k : ℕ) (fault : Option ScriptError) (had has : Option (List �
     → ReadsWhole n had answer line has
     → k ≡ n
     → text_fault k line ≡ fault → NextIs n fault line had has
-next-is n k fault had has answer line e r counted text = record {
-  is = both-is had has
-      (λ xs ys h.
-      let size : size_fault n h.1.0 ≡ None = sym (ap (next_fault n) h.1.1) ∙ h.0 in
-      (h.1.0, (h.1.1, ap (λ f. option_or f (text_fault n line)) size ∙ ap (λ j. text_fault j line) (sym counted) ∙ text)))
-      (subst (λ more. ReadsWhole n had more line has) e r);
-}
+next-is n k fault had has answer line e r counted text = grind (arith, both-is)
 
 pub none-is : (n : ℕ) (had has : Option (List ℕ)) (answer : Bool) (line : List ℕ)
     → answer ≡ false
     → ReadsWhole n had answer line has
     → NoneIs had has
-none-is n had has answer line e r = record { is = both-is had has (λ xs ys h. h.1) (subst (λ more. ReadsWhole n had more line has) e r) }
+none-is n had has answer line e r = record { is = grind (arith, both-is) }
 
 -- ---- what lines come to that are told one by one, each behind its own fault
 
@@ -107,15 +101,12 @@ guarded : {A : Type 0} (comes : ℕ → List (List ℕ × List ℕ) → Played A
 guarded comes others f n line xs ys guards h =
     ap (comes n) h.1.0 ∙ guards n (line, h.0) (whole_lines ys) ∙ ap (λ x. unless_fault x (others n line (whole_lines ys))) h.1.1
 
-none_fault : (e : ScriptError) → ◌≡◌ {A = Option ScriptError} None (Some e) → ⊥
-none_fault e h = cc
-
 size_ends : {A : Type 0} (comes : ℕ → List (List ℕ × List ℕ) → Played A) (others : ℕ → List ℕ → List (List ℕ × List ℕ) → Played A)
     (n : ℕ) (ls : List (List ℕ × List ℕ)) (e : ScriptError)
     → Guards comes others
     → next_fault n ls ≡ Some e
     → comes n ls ≡ ends (Err e)
-size_ends comes others n [] e guards h = absurd (none_fault e h)
+size_ends comes others n [] e guards h = grind arith
 size_ends comes others n (line ∷ rest) e guards h =
     guards n line rest ∙ ap (λ f. unless_fault (option_or f (text_fault n line.0)) (others n line.0 rest)) h
 
@@ -133,8 +124,7 @@ pub at-line : {A : Type 0} (comes : ℕ → List (List ℕ × List ℕ) → Play
     → Guards comes others
     → NextIs n (Some e) line had has
     → IfSome had (λ xs. comes n (whole_lines xs) ≡ ends (Err e))
-at-line comes others n line had has e guards h =
-    left-some had has (λ xs ys at. guarded comes others (Some e) n line xs ys guards at) h.is
+at-line comes others n line had has e guards h = grind (arith, left-some, guarded)
 
 -- ---- lines of events
 
@@ -210,11 +200,7 @@ pub plays-kept : {N : Network} {names : Names} {start now : RunningNetwork}
     → PlaysOn N names start now first written k n place a b
     → Keeps written more
     → PlaysOn N names start now first more k n place a b
-plays-kept {first = first} {written = written} more {a} {b} h kept = record {
-  each = both-is a b
-      (λ xs ys p. record { events = p.events; text = p.text; comes = p.comes; range = p.range; is = kept-appended first written more p.text p.is kept })
-      h.each;
-}
+plays-kept {first = first} {written = written} more {a} {b} h kept = grind (arith, both-is, kept-appended)
 
 -- a line more, of these events, for which this was written
 pub plays-more : {N : Network} {names : Names} {start now next : RunningNetwork}
@@ -265,18 +251,7 @@ pub plays-end : {N : Network} {names : Names} {start now : RunningNetwork}
     ((played N names start k 1 (whole_lines xs)).end ≡ Ok now)
     × (Appends first written (played N names start k 1 (whole_lines xs)).text
     × AreInRange names (played N names start k 1 (whole_lines xs)).events))
-plays-end {N} {names} {start} {now} {first} {written} {a} {b} {c} {k} {n} {place} h none =
-    both-end a b c
-    (λ xs ys zs p none.
-    let is : played N names start k 1 (whole_lines xs) ≡ record { events = p.events ++ []; text = p.text ++ []; end = Ok now } =
-    p.comes ∙ ap (λ ls. behind p.events p.text (played N names now n place ls)) none.0 in (
-      ap (λ x. x.end) is,
-      (
-        subst (Appends first written) (sym (append-nil p.text) ∙ sym (ap (λ x. x.text) is)) p.is,
-        subst (AreInRange names) (sym (append-nil p.events) ∙ sym (ap (λ x. x.events) is)) p.range,
-      ),
-    ))
-    h.each none.is
+plays-end {N} {names} {start} {now} {first} {written} {a} {b} {c} {k} {n} {place} h none = grind (arith, both-end, append-nil)
 
 -- an error, which the lines that are left come to
 pub plays-err : {A : Type 0} (r : Result A ScriptError) (e : ScriptError) (last : RunningNetwork)
@@ -311,12 +286,7 @@ pub at-event : (N : Network) (names : Names) (now : RunningNetwork) {n : ℕ} (p
     → NextIs n None line b c
     → event_of place line ≡ Err e
     → IfSome b (λ ys. played N names now n place (whole_lines ys) ≡ ends (Err e))
-at-event N names now {n} place {line} {b} {c} e is bad =
-    left-some b c
-    (λ ys zs at.
-    guarded (playing N names now place) (others_played N names now place) None n line ys zs (play-guards N names now place) at
-    ∙ ap (λ y. played_by y N names now place (λ next. played N names next (n + 1) (place + 1) (whole_lines zs))) bad)
-    is.is
+at-event N names now {n} place {line} {b} {c} e is bad = grind (arith, left-some, guarded, play-guards)
 
 -- ---- lines of a network file
 
@@ -342,9 +312,7 @@ FileFault first n e = IfSome first (λ xs.
     (others : ℕ → List (List ℕ × List ℕ) → Played (List ℕ)) → from_file others n (whole_lines xs) ≡ ends (Err e))
 
 pub file-first : (n : ℕ) (a : Option (List ℕ)) → FileGoes a n a n
-file-first n a =
-    both-same (λ xs ys. (others : ℕ → List (List ℕ × List ℕ) → Played (List ℕ)) → from_file others n (whole_lines xs) ≡ from_file others n (whole_lines ys)) a
-    (λ xs others. refl)
+file-first n a = grind (arith, both-same)
 
 -- behind the next line
 file_line : (n m : ℕ) (line : List ℕ) (a b c : Option (List ℕ))
@@ -352,43 +320,30 @@ file_line : (n m : ℕ) (line : List ℕ) (a b c : Option (List ℕ))
     → NextIs m None line b c
     → BothKnown a c (λ xs zs.
     (others : ℕ → List (List ℕ × List ℕ) → Played (List ℕ)) → from_file others n (whole_lines xs) ≡ others_of_file others m line (whole_lines zs))
-file_line n m line a b c h is =
-    both-on a b c (λ xs ys zs p at others. p others ∙ guarded (from_file others) (others_of_file others) None m line ys zs (file-guards others) at) h is.is
+file_line n m line a b c h is = grind (arith, both-on, guarded, file-guards)
 
 pub file-more : (n m k : ℕ) (line : List ℕ) (a b c : Option (List ℕ)) → FileGoes a n b m
     → NextIs m None line b c → is_divider line ≡ false → k ≡ m + 1 → FileGoes a n c k
-file-more n m k line a b c h is d e =
-    both-is a c (λ xs zs p others. p others ∙ cond-false _ _ _ d ∙ ap (λ j. from_file others j (whole_lines zs)) (sym e)) (file_line n m line a b c h is)
+file-more n m k line a b c h is d e = grind (arith, both-is, cond-false, file_line)
 
 pub file-divider : (n m k : ℕ) (line : List ℕ) (a b c : Option (List ℕ)) → FileGoes a n b m
     → NextIs m None line b c → is_divider line ≡ true → k ≡ m + 1 → FileEnds a n c k
-file-divider n m k line a b c h is d e =
-    both-is a c (λ xs zs p others. p others ∙ cond-true _ _ _ d ∙ ap (λ j. others j (whole_lines zs)) (sym e)) (file_line n m line a b c h is)
+file-divider n m k line a b c h is d e = grind (arith, both-is, cond-true, file_line)
 
 pub file-end : (n m k : ℕ) (a b c : Option (List ℕ))
     → FileGoes a n b m
     → NoneIs b c
     → k ≡ m → FileEnds a n c k
-file-end n m k a b c h none e =
-    both-on a b c
-    (λ xs ys zs p none others.
-    p others ∙ ap (from_file others m) none.0 ∙ ap (others m) (sym none.1) ∙ ap (λ j. others j (whole_lines zs)) (sym e))
-    h none.is
+file-end n m k a b c h none e = grind (arith, both-on)
 
 pub file-size : (n m : ℕ) (e : ScriptError) (a b : Option (List ℕ))
     → FileGoes a n b m
     → HasNextFault m b e
     → FileFault a n e
-file-size n m e a b h r =
-    both-some a b
-    (λ xs ys p fault others. p others ∙ size_ends (from_file others) (others_of_file others) m (whole_lines ys) e (file-guards others) fault)
-    h r
+file-size n m e a b h r = grind (arith, both-some, size_ends, file-guards)
 
 pub file-text : (n m : ℕ) (line : List ℕ) (e : ScriptError) (a b c : Option (List ℕ))
     → FileGoes a n b m
     → NextIs m (Some e) line b c
     → FileFault a n e
-file-text n m line e a b c h is =
-    both-end a b c
-    (λ xs ys zs p at others. p others ∙ guarded (from_file others) (others_of_file others) (Some e) m line ys zs (file-guards others) at)
-    h is.is
+file-text n m line e a b c h is = grind (arith, both-end, guarded, file-guards)

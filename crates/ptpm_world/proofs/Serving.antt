@@ -1,5 +1,5 @@
 -- A step, and a run, serve each session whose own messages come in time, whatever comes late of others.
-use Rattle.ptpm_world.proofs.Common.{◌≡◌, ◌∙◌, ℕ, List, [], ◌∷◌, ◌++◌, Ok, Err, IsOkAnd, OnOk, Result, false, refl, sym, ap, subst, Happened, IsInRange, Leads, Network, Refusal, RunningNetwork, network_event, StepError, Took, World, IsStep, running}
+use Rattle.ptpm_world.proofs.Common.{arith, ◌≡◌, ℕ, List, [], ◌∷◌, ◌++◌, Ok, Err, IsOkAnd, OnOk, Result, false, refl, sym, subst, Happened, IsInRange, Leads, Network, Refusal, RunningNetwork, network_event, StepError, Took, World, IsStep, running}
 use Rattle.ptpm_network.specs.ByManager.{Account, StaysInTime, account_from, account_while, account_with, in_time_while, is_late_for}
 use Rattle.ptpm_network.specs.Events.{Event}
 use Rattle.ptpm_network.specs.Served.{IsServedSoFar}
@@ -39,15 +39,6 @@ record IsTold (N : Network) (s : ℕ) (r now : RunningNetwork) (a : Account) (es
   pub prompt : is_late_for N s now e ≡ false
   pub account : account_from N s r a (es ++ e ∷ []) ≡ account_with N s now e (account_from N s r a es)
 
-told-one : (N : Network) (s : ℕ) (r new : RunningNetwork) (a : Account) (e : Event)
-    (x : Result Happened Refusal)
-    → IsOkAnd x (λ h. new ≡ h.network)
-    → in_time_while x (is_late_for N s r e) (λ next. StaysInTime N s next [])
-    → (is_late_for N s r e ≡ false)
-    × (account_while x a (λ next. account_from N s next (account_with N s r e a) []) ≡ account_with N s r e a)
-told-one N s r new a e (Ok h) went time = (time.0, refl)
-told-one N s r new a e (Err why) went time = absurd went
-
 told-behind : (N : Network) (s : ℕ) (r now : RunningNetwork) (a : Account) (d e : Event)
     (es : List Event) (x : Result Happened Refusal)
     → IsOkAnd x (λ h. Leads N h.network es now)
@@ -67,14 +58,10 @@ told : (N : Network) (s : ℕ) (r now new : RunningNetwork) (a : Account) (es : 
     → IsOkAnd (network_event N now e) (λ h. new ≡ h.network)
     → StaysInTime N s r (es ++ e ∷ [])
     → IsTold N s r now a es e
-told N s r now new a [] e leads went time =
-    let same : r ≡ now = sym leads in
-    let one = told-one N s now new a e (network_event N now e) went (subst (λ (z : RunningNetwork). StaysInTime N s z (e ∷ [])) same time) in
-    subst (λ (z : RunningNetwork). IsTold N s z now a [] e) leads (record { so_far = tt; prompt = one.0; account = one.1 })
+told N s r now new a [] e leads went time = grind arith
 told N s r now new a (d ∷ es) e leads went time =
     let behind = told-behind N s r now a d e es (network_event N r d) leads time
-    (λ next more timely. told N s next now new (account_with N s r d a) es e more went timely) in
-    record { so_far = behind.0; prompt = behind.1; account = behind.2 }
+    (λ next more timely. told N s next now new (account_with N s r d a) es e more went timely) in grind (arith)
 
 -- where the events so far lead, and one more, said by a name that stayed the same
 pub served-more : (N : Network) (s : ℕ) (r now new : RunningNetwork) (a : Account)
@@ -88,7 +75,4 @@ pub served-more : (N : Network) (s : ℕ) (r now new : RunningNetwork) (a : Acco
     → IsServedSoFar N s new (account_from N s r a (es ++ e ∷ []))
 served-more N s r now new a es e f same leads went before serves time =
     let one = told N s r now new a es e leads (subst (λ (x : Event). IsOkAnd (network_event N now x) (λ h. new ≡ h.network)) same went) time in
-    let so_far = account_from N s r a es in
-    subst (IsServedSoFar N s new) (sym one.account)
-    (subst (λ (x : Event). IsServedSoFar N s new (account_with N s now x so_far)) same
-    (serves so_far (before one.so_far) (ap (is_late_for N s now) same ∙ one.prompt)))
+    let so_far = account_from N s r a es in grind (arith)

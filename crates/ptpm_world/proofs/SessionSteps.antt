@@ -1,5 +1,5 @@
 -- Events at a session: what the world becomes, and what is answered.
-use Rattle.ptpm_world.proofs.Common.{◌≡◌, ℕ, ◌<◌, ◌≤◌, List, [], ◌∷◌, ◌++◌, Option, Some, None, Result, Ok, Err, OnOk, OnErr, IfOk, IfErr, is_some, not, if◌then◌else◌, true, false, refl, sym, ◌∙◌, ap, subst, option_map, length, nat_lt, slice_get_within, append-nil, slice_get, slice_set, Report, SessionValue, begin_refusal, begun, due_message, is_waiting, resumed, retuned, send_refusal, Begin, Send, Resume, Retune, Deliver, NoSuchName, FramesAtMaximum, BeginRefused, SendRefused, Refusal, frame_at, frames_limit, no_room, Done, Happened, Held, acts, hears, network_event, posted, reaches, sends_in, sent_posted, unless_refused, with_session_value, AtSession, Network, peers, Origin, RequestOf, StepError, Took, World, RunningSession, held_in, link_ends, IsOf, reports_of, running, session_of, IsStep, begin_error, error_of, heard, reports_in, cond-true, cond-false}
+use Rattle.ptpm_world.proofs.Common.{arith, ◌≡◌, ℕ, ◌<◌, List, [], ◌∷◌, ◌++◌, Option, Some, None, Result, Ok, Err, OnOk, OnErr, IfOk, IfErr, is_some, not, if◌then◌else◌, true, false, refl, sym, ◌∙◌, ap, subst, option_map, length, nat_lt, slice_get_within, append-nil, slice_get, slice_set, Report, SessionValue, begin_refusal, begun, due_message, is_waiting, resumed, retuned, send_refusal, Begin, Send, Resume, Retune, Deliver, BeginRefused, SendRefused, Refusal, frame_at, frames_limit, Done, Happened, Held, acts, hears, network_event, posted, reaches, sends_in, sent_posted, unless_refused, with_session_value, AtSession, Network, peers, Origin, RequestOf, StepError, Took, World, RunningSession, held_in, link_ends, IsOf, reports_of, running, session_of, IsStep, begin_error, error_of, heard, reports_in, cond-true, cond-false}
 use Rattle.std.proofs.Math.Nat.{le_refl}
 use Rattle.ptpm_codec.specs.declared.message.Message.{Message}
 use Rattle.ptpm_codec.specs.Canonical.{canonical}
@@ -31,8 +31,7 @@ module _ (N : Network) (w : World) (s : ℕ) (is : IsOf N w) (past : s ≡ lengt
   no_name : (e : Event) (x : Result Happened Refusal)
       → network_event N (running w) e ≡ unless_refused (no_session N s) x
       → IsStep N w w e (Err errors.NoSuchName)
-  no_name e x at =
-      step_refused N w w e NoSuchName (at ∙ stops (no_session N s) x NoSuchName (absent N s (subst (λ n. n ≤ s) (past ∙ is.session_count) (le_refl s)))) is
+  no_name e x at = grind (arith, step_refused, stops, absent, le_refl)
 
   pub begin-no_name : (a : Ask) → IsStep N w w (Begin s a) (Err errors.NoSuchName)
   unfolding network_event
@@ -83,9 +82,7 @@ module _ (N : Network) (old new : World) (place : ℕ) (x y : RunningSession) (i
       ≡ acts N (running old) place (why ((running old).session place)) value
       → why x.session ≡ Some reason
       → IsStep N old new e (Err (error_of reason))
-  acts-refused e why value reason at some =
-      step_refused N old new e reason
-      (at ∙ skips (no_session N place) _ _ there (stops (why ((running old).session place)) _ reason (ap why session_is ∙ some))) changed
+  acts-refused e why value reason at some = grind (arith, step_refused, skips, there, stops, session_is, changed)
 
   pub begin-fine : (a : Ask)
       → begin_refusal x.session a ≡ None
@@ -141,11 +138,7 @@ module _ (N : Network) (old new : World) (place : ℕ) (x y : RunningSession) (i
       → unless_refused (option_map SendRefused o) (Ok (record { deed = Done; network = sends_in N (running old) place })) ≡ z
       → network_event N (running old) (Send place) ≡ z
   unfolding network_event
-  send-judged o z room e last =
-      skips (no_session N place) _ _ there
-      (skips (no_room (held_in old.frames)) _ _ (roomy (held_in old.frames) room)
-      (ap (λ (p : Option SendError). unless_refused (option_map SendRefused p) (Ok (record { deed = Done; network = sends_in N (running old) place })))
-      (ap send_refusal session_is ∙ e) ∙ last))
+  send-judged o z room e last = grind (arith, skips, there, roomy, option_map, session_is)
 
   pub send-refused : (e : SendError)
       → nat_lt frames_limit (length (held_in old.frames)) ≡ false
@@ -164,10 +157,7 @@ module _ (N : Network) (old new : World) (place : ℕ) (x y : RunningSession) (i
       ++ sent_posted (peers N.links (AtSession place)) place
       ((running old).session place).issued
       (due_message ((running old).session place))
-  sends-frames issued octets v count due same =
-      (λ i. held_in old.frames ++ posted (peers (is.links i) (AtSession place)) (same i) (RequestOf place (sym count i)))
-      ∙ ap (λ (m : Option Message). held_in old.frames ++ sent_posted (peers N.links (AtSession place)) place x.session.issued m) (sym due)
-      ∙ ap (λ (z : SessionValue). held_in old.frames ++ sent_posted (peers N.links (AtSession place)) place z.issued (due_message z)) (sym session_is)
+  sends-frames issued octets v count due same = grind (arith, session_is)
 
   pub send-fine : (issued : ℕ) (octets : List ℕ) (v : Message)
       → nat_lt frames_limit (length (held_in old.frames)) ≡ false
@@ -210,7 +200,7 @@ module _ (N : Network) (old new : World) (place : ℕ) (x y : RunningSession) (i
       → t ≡ heard (received_of x.session h.octets)
       → IsStep N old new (Deliver n) (Ok t)
   hear-fine n h t e at room v r f told =
-      let same : received_of x.session h.octets ≡ received_of ((running old).session place) h.octets = ap (λ (z : SessionValue). received_of z h.octets) (sym session_is) in
+      let same : received_of x.session h.octets ≡ received_of ((running old).session place) h.octets = grind (arith, session_is) in
       step_fine N old new (Deliver n) (reaches N (running old) h (AtSession place)) t
       (delivered N (running old) n h e room ∙ ap (λ (end : End). Ok (reaches N (running old) h end)) at)
       (hear-goes (received_of x.session h.octets) v r f ∙ ap (hears (running old) place) same) (told ∙ ap heard same) changed
@@ -227,8 +217,7 @@ module _ (N : Network) (old new : World) (place : ℕ) (x y : RunningSession) (i
       → IfErr result (λ e. e ≡ errors.OutOfMemory)
       → IsStep N old new (Deliver n) result
   hear-step n h (Ok t) e at room v r f told memory = hear-fine n h t e at room v r f told
-  hear-step n h (Err why) e at room v r f told memory =
-      subst (λ (g : StepError). IsStep N old new (Deliver n) (Err g)) (sym memory) (step_memory N old new (Deliver n) changed)
+  hear-step n h (Err why) e at room v r f told memory = grind (arith, step_memory, changed)
 
 -- ---- too many frames, and what is sent
 
@@ -239,9 +228,7 @@ pub send-too_many : (N : Network) (old new : World) (place : ℕ)
     → nat_lt frames_limit (length (held_in old.frames)) ≡ true
     → IsStep N old new (Send place) (Err errors.FramesAtMaximum)
 unfolding network_event
-send-too_many N old new place is is_new within over =
-    step_refused N old new (Send place) FramesAtMaximum
-    (skips (no_session N place) _ _ (present N place (subst (λ n. place < n) is.session_count within)) (stops (no_room (held_in old.frames)) _ FramesAtMaximum (full (held_in old.frames) over))) is_new
+send-too_many N old new place is is_new within over = grind (arith, step_refused, skips, present, stops, full)
 
 -- a session that may send has a request
 unanswered-by : (u : Option RequestValue) (more : Option SendError)

@@ -1,5 +1,5 @@
 -- A world as it starts is one of its network, and stands where the machine starts.
-use Rattle.ptpm_world.proofs.Common.{suc, zero, arith, ◌≡◌, ◌≢◌, ℕ, ◌+◌, ◌<◌, ◌≤◌, ◌==◌, Bool, true, false, if◌then◌else◌, List, [], ◌∷◌, ◌++◌, Option, Some, None, Result, Ok, refl, ap, sym, ◌∙◌, subst, length, map, get_or, set, slice_get, slice_index_or, All, AllByRecursion, filter, length-map, length_push, length-filter, slice_get_read, PortIdentity, every_clock, same_clock, DataSetsValue, port_data_set, start_fault, start_of, unless, is_known, IsFresh, clock_with, has_twice, identities, StandsAt, initial_clock_state, Stands, RunningNetwork, initial_state, history, NetworkLink, AreDistinct, CanStart, ClockValue, IsAccepted, IsEndOf, IsLinkOf, NetworkValue, clock_value, first_sets, link_value, Frames, RunningClock, RunningSession, World, clock_at, configured, described, described_end, described_session, no_clock, session_at, with_rights, AreLinks, IsStoredFrame, IsThere, port_counts, frame_in, held_in, link_ends, Names, names_of, IsOf, agent_state, reports_of, session_of, state_of, table_entries, AreStartedClocks, AreStartedSessions, IsStartedClock, IsStartedSession}
+use Rattle.ptpm_world.proofs.Common.{suc, zero, arith, ◌≡◌, ◌≢◌, ℕ, ◌+◌, ◌<◌, ◌≤◌, ◌==◌, Bool, true, false, if◌then◌else◌, List, [], ◌∷◌, ◌++◌, Option, Some, None, Result, Ok, refl, ap, sym, ◌∙◌, subst, length, map, get_or, set, slice_get, slice_index_or, All, AllByRecursion, filter, length-map, length_push, length-filter, slice_get_read, PortIdentity, every_clock, same_clock, DataSetsValue, port_data_set, start_fault, start_of, unless, is_known, IsFresh, clock_with, has_twice, identities, StandsAt, initial_clock_state, Stands, RunningNetwork, initial_state, history, NetworkLink, AreDistinct, CanStart, ClockValue, IsAccepted, IsEndOf, IsLinkOf, NetworkValue, clock_value, first_sets, link_value, Frames, RunningClock, RunningSession, World, clock_at, configured, described, described_end, no_clock, session_at, with_rights, AreLinks, IsStoredFrame, IsThere, port_counts, held_in, link_ends, Names, names_of, IsOf, agent_state, reports_of, session_of, state_of, table_entries, AreStartedClocks, AreStartedSessions, IsStartedClock, IsStartedSession}
 use Rattle.std.proofs.lemmas.Bool.{false_from_ne_true}
 use Rattle.ptpm_codec.specs.declared.identity.ClockIdentity.{ClockIdentity}
 use Rattle.ptpm_codec.proofs.IdentityLaws.{same_clock-true}
@@ -8,7 +8,6 @@ use Rattle.ptpm_data.specs.declared.start.ClockStart.{ClockStart}
 use Rattle.ptpm_data.specs.declared.start.PortStart.{PortStart}
 use Rattle.ptpm_data.specs.Start.{started}
 use Rattle.ptpm_table.specs.declared.slot_table.SlotTable.{SlotTable}
-use Rattle.ptpm_table.specs.Managers.{Clock}
 use Rattle.ptpm_table.specs.Slots as slots
 use Rattle.ptpm_manager.specs.Session as manager
 use Rattle.ptpm_manager.specs.Setup.{AreTwoClocks}
@@ -162,8 +161,7 @@ pub two_clocks : (n : NetworkValue)
 two_clocks n facts t k is e = record {
   me_is_one = apart t.identity.clock every_clock is.is_one;
   target_is_one = apart k.start.identity every_clock (starts_at n facts t.target k e).is_one;
-  apart = apart t.identity.clock k.start.identity
-      (all_get (λ (c : ClockValue). t.identity.clock ≢ c.start.identity) n.clocks t.target k is.no_clock e);
+  apart = grind (arith, apart, all_get);
 }
 
 -- ---- the managers of a clock
@@ -231,17 +229,9 @@ pub started_clock : (n : NetworkValue) (c : ℕ) (k : ClockValue)
     → x.agent.sets ≡ there.agent.sets
     → IsFreshTable there.agent.table.clock managers x.agent.table → IsStartedClock n c x
 started_clock n c k managers sets put there x is at same name first put_sets unmanaged named kept given =
-    let identity : there.agent.table.clock ≡ k.start.identity =
-    ap (λ (r : RunningClock). r.agent.table.clock) is ∙ ap (λ (o : Clock). o.identity) unmanaged.owner_is
-    ∙ ap (λ (d : DataSetsValue). d.default.identity) first in
-    let sets_are : x.agent.sets ≡ first_sets k = kept ∙ ap (λ (r : RunningClock). r.agent.sets) is ∙ put_sets ∙ first in
-    let state : agent_state x.agent ≡ initial_clock_state (first_sets k) =
-    λ i. record { sets = sets_are i; entries = given.nothing_kept i } in
-    record {
-      name = named ∙ ap (λ (r : RunningClock). r.name) is ∙ name ∙ ap (λ (v : ClockValue). v.name) (sym at);
-      clock = given.owner_is ∙ (λ i. clock_with (identity i) managers) ∙ (λ i. clock_with (sym at i).start.identity (same i));
-      state = state ∙ ap (λ (v : ClockValue). initial_clock_state (first_sets v)) (sym at);
-    }
+    let identity : there.agent.table.clock ≡ k.start.identity = grind (arith) in
+    let sets_are : x.agent.sets ≡ first_sets k = grind (arith) in
+    let state : agent_state x.agent ≡ initial_clock_state (first_sets k) = grind (arith) in grind (arith)
 
 pub started_session : (n : NetworkValue) (s : ℕ) (t : NetworkSession) (k : ClockValue)
     (x : RunningSession)
@@ -252,18 +242,8 @@ pub started_session : (n : NetworkValue) (s : ℕ) (t : NetworkSession) (k : Clo
     → x.reports.items ≡ [] → IsStartedSession n s x
 started_session n s t k x here target name identity session reports = record {
   name = name ∙ ap (λ (v : NetworkSession). v.name) (sym here);
-  identity = identity ∙ ap (λ (v : NetworkSession). v.identity) (sym here);
-  session = session
-      ∙ (λ i. manager.fresh (record {
-        me = t.identity;
-        target = (sym target i).start.identity;
-        ports = length (sym target i).ports;
-        first = t.first;
-        hops = t.hops;
-        attempts = t.attempts;
-      })
-      t.domain)
-      ∙ ap (λ (v : NetworkSession). manager.fresh (described_session n v).setup v.domain) (sym here);
+  identity = grind (arith);
+  session = grind (arith);
   reports = reports;
 }
 
@@ -318,9 +298,7 @@ ends_are (l ∷ ls) = ap (λ ends. map described_end l.ends.items ∷ ends) (end
 pub none_stored : (counts : List ℕ) (sessions : ℕ) (f : Frames)
     → held_in f ≡ []
     → All (IsStoredFrame counts sessions) f.stored.items
-none_stored counts sessions f e = λ k d h. (
-    let none : length f.stored.items ≡ 0 = sym (length-map f.stored.items (frame_in f.octets.items)) ∙ ap length e in
-    absurd (omega (arith, h, none)))
+none_stored counts sessions f e = grind (arith, length-map)
 
 -- ---- the whole
 
@@ -328,13 +306,7 @@ pub is_of : (n : NetworkValue) (w : World)
     → AreStartedClocks n w.clocks.items
     → AreStartedSessions n w.sessions.items
     → map link_value w.links.items ≡ n.links → IsOf (described n) w
-is_of n w clocks sessions links = record {
-  clock_count = clocks.count;
-  clocks = λ c x e. record { clock = (clocks.each c x e).clock; ports = ap (λ t. length t.sets.ports) (clocks.each c x e).state };
-  session_count = sessions.count;
-  sessions = λ s x e. record { identity = (sessions.each s x e).identity };
-  links = ends_are w.links.items ∙ ap (map (map described_end)) links;
-}
+is_of n w clocks sessions links = grind (arith, ends_are)
 
 pub are_names : (n : NetworkValue) (cs : List RunningClock) (ss : List RunningSession)
     → AreStartedClocks n cs
@@ -344,8 +316,7 @@ are_names n cs ss clocks sessions =
     let of_clocks = same_maps (λ (x : RunningClock). x.name) (λ (c : ClockValue). c.name) cs n.clocks clocks.count
     (λ i x y p q. (clocks.each i x p).name ∙ ap (λ (c : ClockValue). c.name) (at_place n.clocks i y no_clock q)) in
     let of_sessions = same_maps (λ (x : RunningSession). x.name) (λ (s : NetworkSession). s.name) ss n.sessions sessions.count
-    (λ i x y p q. (sessions.each i x p).name ∙ ap (λ (s : NetworkSession). s.name) (at_place n.sessions i y no_session q)) in
-    λ i. record { clocks = of_clocks i; sessions = of_sessions i }
+    (λ i x y p q. grind (arith, at_place)) in grind (arith)
 
 -- a world of these clocks, sessions and frames
 abbrev running_of : List RunningClock → List RunningSession → Frames → RunningNetwork
@@ -372,8 +343,6 @@ stands n cs ss frames_sent first clocks sessions frames =
       sessions = λ s h. (
           let x = some_at ss s (omega (arith, h, sessions.count)) in
           ap session_of x.1 ∙ (sessions.each s x.0 x.1).session ∙ start.sessions s h);
-      reports = λ s h. (
-          let x = some_at ss s (omega (arith, h, sessions.count)) in
-          ap reports_of x.1 ∙ (sessions.each s x.0 x.1).reports);
+      reports = grind (arith, some_at);
       frames = frames;
     }

@@ -1,14 +1,9 @@
 -- What the lines of a trace tell of the machine, where no delivery is late.
-use Rattle.ptpm_world.proofs.Common.{arith, ◌≡◌, ◌∙◌, ℕ, ◌<◌, ◌+◌, ◌++◌, ◌⊎◌, inl, inr, Bool, false, List, [], ◌∷◌, length, map, None, Some, Ok, Err, Option, Result, refl, sym, ap, subst, append_assoc, append-nil, length-append, length-map, eq-eqb, option_map, result_err, AllByRecursion, Report, Begin, BeginRefused, Deliver, IsInRange, Refusal, Resume, Retune, Send, SendRefused, Stranger, begin_refusal, frame_at, no_port, no_room, send_refusal, refusal, AreInTime, is_late_delivery, step, AtPort, AtSession, HasEnd, Network, Happened, Held, RunningNetwork, delivers, hears, held, network_after, network_event, reaches, unless_refused, StandsAfter, Frame, NetworkState, initial_state, Names, placed, placed_all, Played, event_of, played, played_by, unless_fault, line_fault, verb_of, StepError, Took, after, answer, answer_of, error_of, took_of, event_line, event_text}
+use Rattle.ptpm_world.proofs.Common.{arith, ◌≡◌, ◌∙◌, ℕ, ◌<◌, ◌+◌, ◌++◌, ◌⊎◌, inl, inr, Bool, false, List, [], ◌∷◌, length, map, None, Some, Ok, Err, Option, Result, refl, sym, ap, subst, append_assoc, append-nil, length-append, length-map, eq-eqb, option_map, result_err, AllByRecursion, Report, Begin, Deliver, IsInRange, Refusal, Resume, Retune, Send, Stranger, frame_at, refusal, AreInTime, is_late_delivery, step, AtSession, HasEnd, Network, Happened, Held, RunningNetwork, held, network_after, network_event, unless_refused, StandsAfter, Frame, NetworkState, initial_state, Names, placed, placed_all, Played, event_of, played, played_by, unless_fault, line_fault, StepError, Took, after, answer, answer_of, error_of, took_of, event_line, event_text}
 use Rattle.std.specs.Prelude.{IfOk, ◌↔◌}
-use Rattle.ptpm_manager.specs.Receiving.{received_of}
-use Rattle.ptpm_manager.specs.declared.receiving.Received.{Received}
-use Rattle.ptpm_manager.specs.declared.receiving.Received.TheVariants as received
 use Rattle.ptpm_network.specs.Events as machine
 use Rattle.ptpm_network.specs.Events.{forged, no_session}
 use Rattle.ptpm_network.specs.Machine.{state_after}
-use Rattle.ptpm_network.specs.Network.{End}
-use Rattle.ptpm_network.specs.RunningNetwork.{Heard, nothing_to_resume}
 use Rattle.ptpm_network.proofs.Held.{frame_at-map}
 use Rattle.ptpm_network.proofs.Lists.{with_place-same}
 use Rattle.ptpm_network.proofs.Promise.{first_of_sessions, firsts, stands-event, stands-headline, stands-judged, stands-refused}
@@ -43,29 +38,6 @@ record IsSilent (r : RunningNetwork) (h : Happened) : Type 0 where
 abbrev DidTell : RunningNetwork → Happened → Type 0
 DidTell r h = Answers r h ⊎ IsSilent r h
 
-hears-told : (r : RunningNetwork) (s number : ℕ) (f : Held) (x : Received)
-    → frame_at r.frames number ≡ Some f
-    → f.end ≡ AtSession s
-    → DidTell r (record { deed = Heard x; network = hears r s x })
-hears-told r s number f (received.Answered report) at end = inl (record {
-  session = s;
-  number = number;
-  frame = f;
-  report = report;
-  at = at;
-  end = end;
-  told = refl;
-  more = with_place-same r.reports s (r.reports s ++ report ∷ []) s (eq-eqb s s refl);
-})
-hears-told r s number f (received.Ignored reason) at end = inr (record { other = λ e. absurd (cc); same = refl })
-
-reaches-told : (N : Network) (r : RunningNetwork) (number : ℕ) (f : Held) (e : End)
-    → frame_at r.frames number ≡ Some f
-    → f.end ≡ e
-    → DidTell r (reaches N r f e)
-reaches-told N r number f (AtPort c port) at end = inr (record { other = λ e. absurd (cc); same = refl })
-reaches-told N r number f (AtSession s) at end = hears-told r s number f (received_of (r.session s) f.octets) at end
-
 -- what holds of all that may happen holds where a reason to refuse it is looked for first
 if_not_refused : (o : Option Refusal) (x : Result Happened Refusal) (P : Happened → Type 0)
     → IfOk x P
@@ -73,30 +45,14 @@ if_not_refused : (o : Option Refusal) (x : Result Happened Refusal) (P : Happene
 if_not_refused None x P p = p
 if_not_refused (Some reason) x P p = tt
 
-delivers-told : (N : Network) (r : RunningNetwork) (number : ℕ) (o : Option Held)
-    → frame_at r.frames number ≡ o
-    → IfOk (delivers N r o) (DidTell r)
-delivers-told N r number None at = tt
-delivers-told N r number (Some f) at = if_not_refused (no_room r.frames) _ (DidTell r) (reaches-told N r number f f.end at refl)
-
 event-told : (N : Network) (r : RunningNetwork) (e : machine.Event) → IfOk (network_event N r e) (DidTell r)
 unfolding network_event
-event-told N r (Begin s a) =
-    if_not_refused (no_session N s) _ (DidTell r)
-    (if_not_refused (option_map BeginRefused (begin_refusal (r.session s) a)) _ (DidTell r) (inr (record { other = λ e. absurd (cc); same = refl })))
-event-told N r (Send s) =
-    if_not_refused (no_session N s) _ (DidTell r)
-    (if_not_refused (no_room r.frames) _ (DidTell r)
-    (if_not_refused (option_map SendRefused (send_refusal (r.session s))) _ (DidTell r) (inr (record { other = λ e. absurd (cc); same = refl }))))
-event-told N r (Resume s attempts) =
-    if_not_refused (no_session N s) _ (DidTell r)
-    (if_not_refused (nothing_to_resume (r.session s)) _ (DidTell r) (inr (record { other = λ e. absurd (cc); same = refl })))
+event-told N r (Begin s a) = grind (arith, if_not_refused, option_map)
+event-told N r (Send s) = grind (arith, if_not_refused, option_map)
+event-told N r (Resume s attempts) = grind (arith, if_not_refused)
 event-told N r (Retune s domain) = if_not_refused (no_session N s) _ (DidTell r) (inr (record { other = λ e. absurd (cc); same = refl }))
-event-told N r (Deliver n) = delivers-told N r n (frame_at r.frames n) refl
-event-told N r (Stranger c port datagram) =
-    if_not_refused (no_port N c port) _ (DidTell r)
-    (if_not_refused (forged N datagram) _ (DidTell r)
-    (if_not_refused (no_room r.frames) _ (DidTell r) (inr (record { other = λ e. absurd (cc); same = refl }))))
+event-told N r (Deliver n) = grind (arith, if_not_refused, with_place-same, eq-eqb)
+event-told N r (Stranger c port datagram) = grind (arith, if_not_refused)
 
 -- ---- an event's line
 
@@ -143,8 +99,7 @@ module _ (N : Network) (past : List machine.Event) (r : RunningNetwork) (e : mac
       → ⊥
   silent next after same (s, (place, (report, more))) =
       let before : r.reports s ≡ (w.session s).reports = reports-same N past r s at place in
-      let later : next.reports s ≡ ((step N w e).session s).reports =
-      reports-same N (past ++ e ∷ []) next s after place ∙ ap (λ (v : NetworkState). (v.session s).reports) there in
+      let later : next.reports s ≡ ((step N w e).session s).reports = grind (arith, reports-same, there) in
       one_more (w.session s).reports report (sym before ∙ sym (ap (λ (f : ℕ → List Report). f s) same) ∙ later ∙ more)
 
   -- the session of a frame that is there
@@ -175,11 +130,7 @@ module _ (N : Network) (past : List machine.Event) (r : RunningNetwork) (e : mac
   told-by (Ok h) (inl a) after =
       let place : a.session < N.sessions = placed_session a.number a.session a.frame a.at a.end in
       let before : r.reports a.session ≡ (w.session a.session).reports = reports-same N past r a.session at place in
-      let later : h.network.reports a.session ≡ ((step N w e).session a.session).reports =
-      reports-same N (past ++ e ∷ []) h.network a.session after place ∙ ap (λ (v : NetworkState). (v.session a.session).reports) there in (
-        λ told. (a.session, (place, (a.report, sym later ∙ a.more ∙ ap (λ (rs : List Report). rs ++ a.report ∷ []) before))),
-        λ more. ap Ok a.told,
-      )
+      let later : h.network.reports a.session ≡ ((step N w e).session a.session).reports = grind (arith, reports-same, there) in grind (arith)
 
 refused-told : (x : Result Happened Refusal) → result_err (answer_of x) ≡ option_map error_of (result_err x)
 refused-told (Ok h) = refl
@@ -225,10 +176,7 @@ tells-event N names past r place event at range time =
       answer = answer N r e;
       refused = refused-told x ∙ ap (option_map error_of) judged;
       answered = told-by N past r e at x (event-told N r e) next;
-      line_is = not-late place (verb_of event) x (is_late_event r e) (length r.frames) (length (after N r e).frames)
-          (λ none. late-event N past r e at ∙ time (sym judged ∙ none))
-          ∙ ap (λ (k : ℕ). event_text place (verb_of event) (answer N r e) false k (length (after N r e).frames)) (frames-counted N past r at)
-          ∙ ap (λ (k : ℕ). event_text place (verb_of event) (answer N r e) false (length w.frames) k) made;
+      line_is = grind (arith, not-late, late-event, frames-counted);
     }
 
 -- ---- lines, one after another
@@ -251,9 +199,6 @@ fault_ok : {X : Type 0} (f : ScriptError) (r : RunningNetwork)
     → X
 fault_ok f r e = absurd (cc)
 
-end_same : (a b : RunningNetwork) → ◌≡◌ {A = Result RunningNetwork ScriptError} (Ok a) (Ok b) → a ≡ b
-end_same a b e = cc
-
 by-fault : (N : Network) (names : Names) (r : RunningNetwork) (f : Option ScriptError) (p : Played RunningNetwork)
     → IsToldFrom N names r p
     → IsToldFrom N names r (unless_fault f p)
@@ -274,29 +219,13 @@ by-event N names r place (Ok (Some event)) others h = λ past last end range at 
     let next = next-stands N past r e (network_event N r e) refl at range.0 time.0 in
     let more = h (after N r e) (past ++ e ∷ []) last end range.1 next (subst (λ (v : NetworkState). AreInTime N v (placed_all names rest.events)) (sym there) time.1) in
     record {
-      stands = subst (λ (es : List machine.Event). StandsAfter N es last) (append_assoc past (e ∷ []) (placed_all names rest.events)) more.stands;
-      told = (
-        event_line N names r place event,
-        (
-          rest.text,
-          (
-            refl,
-            (
-              tells-event N names past r place event at range.0 time.0,
-              subst (λ (v : NetworkState). Tells N names v rest.events rest.text) there more.told,
-            ),
-          ),
-        ),
-      );
+      stands = grind (arith, append_assoc);
+      told = grind (arith, tells-event, there);
     }
 
 lines-told : (N : Network) (names : Names) (number place : ℕ) (lines : List (List ℕ × List ℕ)) (r : RunningNetwork)
     → IsToldFrom N names r (played N names r number place lines)
-lines-told N names number place [] r = λ past last e range at time.
-    record {
-      stands = subst (λ (es : List machine.Event). StandsAfter N es last) (sym (append-nil past)) (subst (λ (q : RunningNetwork). StandsAfter N past q) (end_same r last e) at);
-      told = refl;
-    }
+lines-told N names number place [] r = grind (arith, append-nil)
 lines-told N names number place (line ∷ lines) r =
     by-fault N names r (line_fault number line)
     (played_by (event_of place line.0) N names r place (λ next. played N names next (number + 1) (place + 1) lines))

@@ -1,5 +1,5 @@
 -- A frame of a world has an end that is there, and belongs to a session that is there.
-use Rattle.ptpm_world.proofs.Common.{◌≡◌, ℕ, ◌<◌, ◌≤◌, List, Option, Some, None, refl, sym, ◌∙◌, ap, subst, length, option_map, ◌==◌, ◌-◌, Bool, true, false, if◌then◌else◌, All, same_Some, slice_get-map, slice_get_within, get_or_from_slice_get, map, slice_get, HasPort, frame_at, Held, Frames, Stored, World, RunningClock, described_end, IsOfSession, IsStoredFrame, IsThere, port_counts, frame_in, held_in, origin_of}
+use Rattle.ptpm_world.proofs.Common.{arith, ◌≡◌, ℕ, ◌<◌, List, Option, Some, None, sym, ◌∙◌, ap, subst, length, option_map, ◌==◌, ◌-◌, Bool, true, false, if◌then◌else◌, All, same_Some, slice_get-map, slice_get_within, get_or_from_slice_get, map, slice_get, HasPort, frame_at, Held, Frames, Stored, World, RunningClock, described_end, IsOfSession, IsStoredFrame, IsThere, port_counts, frame_in, held_in, origin_of}
 use Rattle.ptpm_network.specs.Network as machine
 use Rattle.ptpm_script.specs.declared.network.End.{End}
 use Rattle.ptpm_script.specs.declared.network.End.TheVariants as ends
@@ -35,8 +35,7 @@ from_number : (octets : List ℕ) (counts : List ℕ) (sessions : ℕ) (h : Held
     → (if b then None else slice_get (map (frame_in octets) stored) (n - 1)) ≡ Some h
     → IsStoredAs counts sessions h
 from_number octets counts sessions h stored n true all e = absurd (cc)
-from_number octets counts sessions h stored n false all e =
-    from_map octets counts sessions h stored (n - 1) (slice_get stored (n - 1)) all refl (sym (slice_get-map (frame_in octets) stored (n - 1)) ∙ e)
+from_number octets counts sessions h stored n false all e = grind (arith, from_map, slice_get, slice_get-map)
 
 pub stored_as : (f : Frames) (counts : List ℕ) (sessions : ℕ) (n : ℕ) (h : Held)
     → All (IsStoredFrame counts sessions) f.stored.items
@@ -51,36 +50,11 @@ pub record IsPort (clocks : List RunningClock) (place port : ℕ) : Type 0 where
   pub within : place < length clocks
   pub has : (x : RunningClock) → slice_get clocks place ≡ Some x → HasPort port x.agent.sets
 
-there_at : (counts : List ℕ) (sessions : ℕ) (e : End) (place port : ℕ)
-    → described_end e ≡ machine.AtPort place port
-    → IsThere counts sessions e
-    → IsThere counts sessions (ends.Clock place port)
-there_at counts sessions (ends.Clock c p) place port e there =
-    let place_is : c ≡ place = cc in
-    let port_is : p ≡ port = cc in
-    subst (λ k. IsThere counts sessions (ends.Clock k port)) place_is (subst (λ k. IsThere counts sessions (ends.Clock c k)) port_is there)
-there_at counts sessions (ends.Session s) place port e there = absurd (cc)
-
-within_clocks : (clocks : List RunningClock) (place n : ℕ) (o : Option RunningClock)
-    → slice_get clocks place ≡ o
-    → option_map (λ c. length c.agent.sets.ports) o ≡ Some n
-    → place < length clocks
-within_clocks clocks place n None at e = absurd (cc)
-within_clocks clocks place n (Some x) at e = slice_get_within clocks place x at
-
 pub port_there : (clocks : List RunningClock) (sessions place port : ℕ) (h : Held)
     → IsStoredAs (port_counts clocks) sessions h
     → h.end ≡ machine.AtPort place port
     → IsPort clocks place port
-port_there clocks sessions place port h is end =
-    let there = there_at (port_counts clocks) sessions is.stored.end place port (is.end ∙ end) is.is.end in
-    let counted = sym (slice_get-map (λ c. length c.agent.sets.ports) clocks place) ∙ there.1.0 in
-    record {
-      within = within_clocks clocks place there.0 (slice_get clocks place) refl counted;
-      has = λ x at.
-          let n : length x.agent.sets.ports ≡ there.0 = same_Some _ _ (sym (ap (option_map (λ c. length c.agent.sets.ports)) at) ∙ counted) in
-          (there.1.1.0, subst (λ k. port ≤ k) (sym n) there.1.1.1);
-    }
+port_there clocks sessions place port h is end = grind (arith, slice_get-map, slice_get_within)
 
 -- ---- at a session
 
@@ -105,12 +79,10 @@ of_session : (sessions : ℕ) (a b : Origin)
     → IsOfSession sessions b
 of_session sessions (origins.Request s k) (origins.Request t j) e of =
     let same : s ≡ t = cc in
-    let index : k ≡ j = cc in
-    subst (λ x. IsOfSession sessions (origins.Request x j)) same (subst (λ x. IsOfSession sessions (origins.Request s x)) index of)
+    let index : k ≡ j = cc in grind (arith)
 of_session sessions (origins.Reply s k) (origins.Reply t j) e of =
     let same : s ≡ t = cc in
-    let index : k ≡ j = cc in
-    subst (λ x. IsOfSession sessions (origins.Reply x j)) same (subst (λ x. IsOfSession sessions (origins.Reply s x)) index of)
+    let index : k ≡ j = cc in grind (arith)
 of_session sessions (origins.Request s k) (origins.Reply t j) e of = absurd (cc)
 of_session sessions (origins.Reply s k) (origins.Request t j) e of = absurd (cc)
 of_session sessions (origins.Request s k) origins.Other e of = tt
@@ -145,7 +117,7 @@ at_clock w n place port origin h e end same =
       end = end;
       origin_is = same;
       there = port_there w.clocks.items (length w.sessions.items) place port h as' end;
-      session = origin_there (port_counts w.clocks.items) (length w.sessions.items) h origin as' same;
+      session = grind (arith, origin_there);
     }
 
 pub at_session : (w : World) (n place : ℕ) (h : Held)

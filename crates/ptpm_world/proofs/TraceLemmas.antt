@@ -1,14 +1,7 @@
 -- Lines that are written one after another.
-use Rattle.ptpm_world.proofs.Common.{◌≡◌, ℕ, zero, suc, ◌+◌, ◌-◌, ◌<◌, ◌≤◌, ◌++◌, List, [], ◌∷◌, length, take, get_or, Some, refl, sym, ap, subst, ◌∙◌, add-one, arith, map, Option, flat_map, slice_get, enumerate_from, range_with_len, Appends, Appends-trans, flat_map_more, take_more, RunningClock, RunningSession, World, names_in, reports_of, running, state_of, clock_lines, data_lines, report_lines, session_lines}
+use Rattle.ptpm_world.proofs.Common.{◌≡◌, ℕ, zero, suc, ◌+◌, ◌-◌, ◌<◌, ◌≤◌, ◌++◌, List, [], ◌∷◌, length, take, get_or, Some, refl, sym, ap, ◌∙◌, add-one, arith, map, Option, flat_map, slice_get, enumerate_from, range_with_len, Appends, Appends-trans, flat_map_more, take_more, RunningClock, RunningSession, World, names_in, reports_of, running, state_of, clock_lines, data_lines, report_lines, session_lines}
 
 -- ---- one piece more
-
-pub pieces-more : {X : Type 0} (f : X → List ℕ) (xs : List X) (i : ℕ) (x : X)
-    → i < length xs
-    → x ≡ get_or xs i x
-    → flat_map f (take i xs) ++ f x ≡ flat_map f (take (i + 1) xs)
-pieces-more f xs i x h e =
-    flat_map_more f [] (take i xs) x ∙ ap (λ y. flat_map f (take i xs ++ y ∷ [])) e ∙ ap (flat_map f) (sym (take_more xs i x h))
 
 pub written-more : {X : Type 0} (a b c : Option (List ℕ)) (f : X → List ℕ) (xs : List X) (i : ℕ)
     (x : X)
@@ -17,7 +10,7 @@ pub written-more : {X : Type 0} (a b c : Option (List ℕ)) (f : X → List ℕ)
     → Appends a b (flat_map f (take i xs))
     → Appends b c (f x)
     → Appends a c (flat_map f (take (i + 1) xs))
-written-more a b c f xs i x h e p q = subst (Appends a c) (pieces-more f xs i x h e) (Appends-trans a b c _ _ p q)
+written-more a b c f xs i x h e p q = grind (arith, Appends-trans, flat_map_more, take_more)
 
 pub range-more : (a n : ℕ) → range_with_len a (n + 1) ≡ range_with_len a n ++ (a + n) ∷ []
 range-more a zero = ap (λ k. k ∷ []) (omega arith)
@@ -29,10 +22,7 @@ pub ports-more : (a b c : Option (List ℕ)) (f : ℕ → List ℕ) (port : ℕ)
     → 1 ≤ port
     → Appends a b (flat_map f (range_with_len 1 (port - 1)))
     → Appends b c (f port) → Appends a c (flat_map f (range_with_len 1 (port + 1 - 1)))
-ports-more a b c f port h p q =
-    let grown : range_with_len 1 (port + 1 - 1) ≡ range_with_len 1 (port - 1) ++ port ∷ [] =
-    ap (range_with_len 1) (omega arith) ∙ range-more 1 (port - 1) ∙ ap (λ k. range_with_len 1 (port - 1) ++ k ∷ []) (omega arith) in
-    subst (Appends a c) (flat_map_more f [] (range_with_len 1 (port - 1)) port ∙ ap (flat_map f) (sym grown)) (Appends-trans a b c _ _ p q)
+ports-more a b c f port h p q = grind (arith, range-more, flat_map_more, flat_map, Appends-trans)
 
 -- ---- by names and places
 
@@ -53,11 +43,11 @@ pub reports-written : (w : World)
     ≡ report_lines (names_in w) (running w)
 reports-written w =
     placed-pieces session_lines (λ s. reports_of (slice_get w.sessions.items s)) (λ (s : RunningSession). s.name) (λ (s : RunningSession). s.reports.items) 0 w.sessions.items
-    (λ i x e. ap (λ s. reports_of (slice_get w.sessions.items s)) (omega arith) ∙ ap reports_of e)
+    (λ i x e. grind (arith))
 
 pub data-written : (w : World)
     → flat_map (λ c. clock_lines c.name c.agent.sets) w.clocks.items
     ≡ data_lines (names_in w) (running w)
 data-written w =
     placed-pieces clock_lines (λ c. (state_of (slice_get w.clocks.items c)).sets) (λ (c : RunningClock). c.name) (λ (c : RunningClock). c.agent.sets) 0 w.clocks.items
-    (λ i x e. ap (λ c. (state_of (slice_get w.clocks.items c)).sets) (omega arith) ∙ ap (λ s. (state_of s).sets) e)
+    (λ i x e. grind (arith))

@@ -1,5 +1,4 @@
-use Rattle.std.proofs.Common.{◌∷◌, drop, sym, ap, ◌∙◌, rules}
-use Rattle.ptpm_script.specs.Words.{words}
+use Rattle.std.proofs.Common.{arith, ◌∙◌, rules}
 use Rattle.ptpm_script.proofs.WordLemmas.{end_found, end_missing, rest_found, start_boundary, start_missing}
 use Rattle.ptpm_script.proofs.words.split_word.Goals as goal
 
@@ -16,13 +15,7 @@ split_at-requires c =
     (end_found rest c.in-Some.size c.in-Some.ensures found.1).1
 
 pub returns-in-Some : goal.returns-in-Some
-returns-in-Some c =
-    let rest = c.range_from-text.result.now in
-    let size = c.in-Some.size in
-    let cut = c.split_at.ensures in
-    let found = rest_found c.args.text.now rest c.in_ok-start.start c.in_ok-start.ensures c.range_from-text.ensures.value in
-    found.0 ∙ (end_found rest size c.in-Some.ensures found.1).0
-    ∙ ap (λ word. word ∷ words (drop size rest)) (sym cut.front) ∙ ap (λ more. c.split_at.result.0.now ∷ words more) (sym cut.back)
+returns-in-Some c = grind (arith, rest_found, end_found)
 
 pub returns-in-None : goal.returns-in-None
 returns-in-None c =

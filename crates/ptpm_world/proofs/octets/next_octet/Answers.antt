@@ -1,4 +1,4 @@
-use Rattle.ptpm_world.proofs.Common.{◌≡◌, [], None, Some, subst, sym, ◌∙◌, slice_get, Consumes-kept, Consumes-nil}
+use Rattle.ptpm_world.proofs.Common.{arith, ◌≡◌, [], Some, subst, sym, ◌∙◌, slice_get, Consumes-kept, Consumes-nil}
 use Rattle.std.specs.Io.BufRead.{FillKeeps}
 use Rattle.ptpm_world.proofs.LineLemmas.{octet-none, octet-some}
 use Rattle.ptpm_world.proofs.octets.next_octet.Goals as goal
@@ -7,9 +7,7 @@ pub returns-in_default-clause-octet : goal.returns-in_default-clause-octet
 returns-in_default-clause-octet g c = Consumes-kept _ _ _ [] (Consumes-nil _) c.fill_buf.follows.holds-at-none.0
 
 pub returns-in_default-clause-end : goal.returns-in_default-clause-end
-returns-in_default-clause-end g c =
-    let none : slice_get c.in-Ok.ahead.now 0 ≡ None = sym c.first.ensures.value ∙ sym c.copied.ensures ∙ c.in_default.is in
-    octet-none _ _ c.in-Ok.ahead.now none c.in-Ok.ensures.end c.fill_buf.follows.holds-at-none.0
+returns-in_default-clause-end g c = grind (arith, slice_get, octet-none)
 
 pub returns-clause-octet : goal.returns-clause-octet
 returns-clause-octet g c =

@@ -1,17 +1,11 @@
-use Rattle.ptpm_world.proofs.Common.{◌≡◌, ◌+◌, List, [], ◌∷◌, arith, refl, rules, true, false, None, Some, Ok, Err, ap, subst, sym, ◌∙◌, Appends, Appends-nil, reading, left_in, names_in, placed, running, is_skipped, after, event_line, behind, read_as}
+use Rattle.ptpm_world.proofs.Common.{◌≡◌, ◌+◌, List, [], ◌∷◌, arith, refl, true, false, None, Some, Ok, Err, ap, subst, sym, ◌∙◌, Appends, Appends-nil, reading, left_in, names_in, placed, running, is_skipped, after, event_line, behind, read_as}
 use Rattle.ptpm_world.specs.declared.whole_script.EventLine.{EventLine}
 use Rattle.ptpm_world.proofs.FaultLemmas.{outside}
 use Rattle.ptpm_world.proofs.Playing.{at-event, at-line, at-size, event-read, event-skip, next-is, none-is, others_played, play-guards, playing, plays-end, plays-err, plays-first, plays-kept, plays-more}
 use Rattle.ptpm_world.proofs.script.play.Goals as goal
 
 pub loop-number-init : goal.loop-number-init
-loop-number-init g c =
-    record {
-      few = search rules;
-      names = search rules;
-      network = λ N is. is;
-      plays = λ N is. plays-first N (names_in c.args.world.now) (running c.args.world.now) (g.W.Write.contents c.args.out.now) (c.args.script.now.count + 1) (left_in g.R.Read.remaining c.args.script.now);
-    }
+loop-number-init g c = grind (arith, plays-first)
 
 pub loop-number-preserved-then-is_skipped : goal.loop-number-preserved-then-is_skipped
 loop-number-preserved-then-is_skipped g c =

@@ -1,4 +1,4 @@
-use Rattle.ptpm_world.proofs.Common.{◌≡◌, ℕ, ◌+◌, List, false, Ok, Err, ap, sym, ◌∙◌, IfSome, string_bytes, network_of, network_value, BothKnown, left_in, whole_lines, ends, in_network, is_outside, network_text, scripted_from}
+use Rattle.ptpm_world.proofs.Common.{arith, ◌≡◌, ℕ, ◌+◌, List, false, Ok, Err, ap, sym, ◌∙◌, IfSome, string_bytes, network_of, network_value, BothKnown, left_in, whole_lines, ends, in_network, is_outside, network_text, scripted_from}
 use Rattle.ptpm_world.proofs.FaultLemmas.{err-on, on-err, on-ok}
 use Rattle.ptpm_world.proofs.Playing.{some-is}
 use Rattle.ptpm_world.proofs.ScriptLemmas.{file-bad, file-network}
@@ -29,9 +29,4 @@ returns-clause-fault g c =
     (λ lines. ap (λ t. in_network (network_of t) k lines) (sym c.as_str.ensures.value) ∙ h inside k lines))
 
 pub returns-in_err-text-clause-fault : goal.returns-in_err-text-clause-fault
-returns-in_err-text-clause-fault g c =
-    let told = left_in g.R.Read.remaining c.args.script.now in
-    let n = c.args.script.now.count + 1 in
-    err-on c.from_residual.result c.in_err-text.field-0.0 (λ e. is_outside e ≡ false → IfSome told (λ octets. scripted_from n octets ≡ ends (Err e)))
-    c.from_residual.ensures.1
-    (λ inside. some-is told (λ xs h. h (in_network (network_of (network_text (whole_lines xs))))) (c.in_err-text.ensures.fault inside))
+returns-in_err-text-clause-fault g c = grind (arith, err-on, some-is)

@@ -1,15 +1,11 @@
-use Rattle.ptpm_world.proofs.Common.{◌≡◌, ◌+◌, ◌++◌, true, false, None, Some, Ok, refl, ap, sym, ◌∙◌, rules, string_bytes, left_in, is_divider, is_outside, line_feed}
-use Rattle.ptpm_world.specs.declared.script_error.ScriptError.TheVariants as faults
+use Rattle.ptpm_world.proofs.Common.{arith, ◌≡◌, ◌+◌, ◌++◌, true, false, None, Ok, ap, sym, ◌∙◌, string_bytes, left_in, is_divider, line_feed}
 use Rattle.ptpm_world.proofs.FaultLemmas.{err-on, outside}
 use Rattle.ptpm_world.proofs.Playing.{FileFault, file-divider, file-end, file-first, file-more, file-size, file-text, next-is, none-is}
 use Rattle.ptpm_world.proofs.ScriptLemmas.{kept-first, kept-on, read-divider, read-whole}
 use Rattle.ptpm_world.proofs.script.read_text.Goals as goal
 
 pub loop-text-init : goal.loop-text-init
-loop-text-init g c = record {
-  kept = kept-first (left_in g.R.Read.remaining c.args.script.now) (string_bytes c.new-text.result) (search rules);
-  goes = file-first (c.args.script.now.count + 1) (left_in g.R.Read.remaining c.args.script.now);
-}
+loop-text-init g c = grind (arith, kept-first, file-first)
 
 pub loop-text-preserved : goal.loop-text-preserved
 loop-text-preserved g c =
@@ -54,30 +50,10 @@ returns-clause-text g c =
     (ap (λ j. j + 1) (c.in_ok-read.ensures.same (ap Ok c.if-branch.false))))
 
 pub returns-in_err-read-clause-fault : goal.returns-in_err-read-clause-fault
-returns-in_err-read-clause-fault g c =
-    let told = left_in g.R.Read.remaining c.args.script.now in
-    let had = left_in g.R.Read.remaining c.loop-text.script in
-    let first = c.args.script.now.count + 1 in
-    let e = c.in_err-read.field-0.0 in
-    err-on c.from_residual.result e (λ e. is_outside e ≡ false → FileFault told first e) c.from_residual.ensures.1
-    (λ inside. file-size first (c.loop-text.script.count + 1) e told had c.loop-text.invariant.goes (c.in_err-read.ensures.fault inside))
+returns-in_err-read-clause-fault g c = grind (arith, err-on, FileFault, file-size)
 
 pub returns-in_err-line-clause-fault : goal.returns-in_err-line-clause-fault
-returns-in_err-line-clause-fault g c =
-    let line = c.read.new.self.line.items in
-    let told = left_in g.R.Read.remaining c.args.script.now in
-    let had = left_in g.R.Read.remaining c.loop-text.script in
-    let has = left_in g.R.Read.remaining c.read.new.self in
-    let first = c.args.script.now.count + 1 in
-    let n = c.loop-text.script.count + 1 in
-    let e = c.in_err-line.field-0.0 in
-    let came = next-is n c.read.new.self.count (Some e) had has _ line c.if-branch.true c.in_ok-read.ensures.whole
-    (c.in_ok-read.ensures.count (ap Ok c.if-branch.true)) c.in_err-line.ensures.fault in
-    err-on c.from_residual-in_err-line.result e (λ e. is_outside e ≡ false → FileFault told first e) c.from_residual-in_err-line.ensures.1
-    (λ inside. file-text first n line e told had has c.loop-text.invariant.goes came)
+returns-in_err-line-clause-fault g c = grind (arith, next-is, err-on, FileFault, file-text)
 
 pub returns-in_err-keep_line-clause-fault : goal.returns-in_err-keep_line-clause-fault
-returns-in_err-keep_line-clause-fault g c =
-    let told = left_in g.R.Read.remaining c.args.script.now in
-    err-on c.from_residual-in_err-keep_line.result faults.OutOfMemory (λ e. is_outside e ≡ false → FileFault told (c.args.script.now.count + 1) e)
-    c.from_residual-in_err-keep_line.ensures.1 (λ inside. outside faults.OutOfMemory refl inside)
+returns-in_err-keep_line-clause-fault g c = grind (arith, err-on, FileFault, outside)

@@ -1,4 +1,4 @@
-use Rattle.ptpm_world.proofs.Common.{◌+◌, refl, subst, network_value, described, left_in, names_in, running, data_lines, report_lines, Appends}
+use Rattle.ptpm_world.proofs.Common.{arith, ◌+◌, refl, subst, network_value, described, left_in, names_in, running, data_lines, report_lines, Appends}
 use Rattle.ptpm_world.specs.declared.script_error.ScriptError.TheVariants as faults
 use Rattle.ptpm_world.proofs.FaultLemmas.{outside}
 use Rattle.ptpm_world.proofs.ScriptLemmas.{none-shown, script-goes, script-prints, script-shows, script-stopped, stopped-file, stopped-first, stopped-writing}
@@ -74,16 +74,13 @@ returns-in_err-play-clause-printed g c =
     (c.in_err-play.ensures.played (described n) is)
 
 pub returns-in_err-write_reports-clause-printed : goal.returns-in_err-write_reports-clause-printed
-returns-in_err-write_reports-clause-printed g c =
-    stopped-writing c.from_residual-in_err-write_reports.result (g.R.Read.remaining c.args.reader) (g.W.Write.contents c.args.out.now) (g.W.Write.contents c.write_reports.new.out) c.from_residual-in_err-write_reports.ensures.1
+returns-in_err-write_reports-clause-printed g c = grind (arith, stopped-writing)
 
 pub returns-in_err-write_data_sets-clause-printed : goal.returns-in_err-write_data_sets-clause-printed
-returns-in_err-write_data_sets-clause-printed g c =
-    stopped-writing c.from_residual-in_err-write_data_sets.result (g.R.Read.remaining c.args.reader) (g.W.Write.contents c.args.out.now) (g.W.Write.contents c.write_data_sets.new.out) c.from_residual-in_err-write_data_sets.ensures.1
+returns-in_err-write_data_sets-clause-printed g c = grind (arith, stopped-writing)
 
 pub returns-in_err-flush-clause-printed : goal.returns-in_err-flush-clause-printed
-returns-in_err-flush-clause-printed g c =
-    stopped-writing c.from_residual-in_err-flush.result (g.R.Read.remaining c.args.reader) (g.W.Write.contents c.args.out.now) (g.W.Write.contents c.flush.new.self) c.from_residual-in_err-flush.ensures.1
+returns-in_err-flush-clause-printed g c = grind (arith, stopped-writing)
 
 pub returns-in_err-script-clause-headline : goal.returns-in_err-script-clause-headline
 returns-in_err-script-clause-headline g c = none-shown c.from_residual.result c.in_err-script.field-0.0 (g.R.Read.remaining c.args.reader) c.from_residual.ensures.1

@@ -6,11 +6,7 @@ pub loop-clock-init : goal.loop-clock-init
 loop-clock-init g c = Appends-nil (g.W.Write.contents c.args.out.now)
 
 pub loop-clock-preserved : goal.loop-clock-preserved
-loop-clock-preserved g c =
-    let written = subst (Appends (g.W.Write.contents c.loop-clock.out) (g.W.Write.contents c.write_sets.new.out))
-    (λ i. clock_lines (c.as_str.ensures i) (c.sets.ensures i)) c.in_ok-write_sets.ensures in
-    written-more _ _ _ (λ (s : RunningClock). clock_lines s.name s.agent.sets) c.args.world.now.clocks.items c.loop-clock.clock-index c.clock-item.result (omega (arith, ap length c.deref-clock-items.ensures.value)) (c.clock-item.is ∙ ap (λ l. get_or l c.loop-clock.clock-index c.clock-item.result) c.deref-clock-items.ensures.value)
-    c.loop-clock.invariant written
+loop-clock-preserved g c = grind (arith, written-more, get_or)
 
 pub returns : goal.returns
 returns g c =

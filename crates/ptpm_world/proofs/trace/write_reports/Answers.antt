@@ -6,11 +6,7 @@ pub loop-session-init : goal.loop-session-init
 loop-session-init g c = Appends-nil (g.W.Write.contents c.args.out.now)
 
 pub loop-session-preserved : goal.loop-session-preserved
-loop-session-preserved g c =
-    let written = subst (Appends (g.W.Write.contents c.loop-session.out) (g.W.Write.contents c.write_session.new.out))
-    (λ i. session_lines (c.as_str.ensures i) (c.as_slice.ensures.value i)) c.in_ok-write_session.ensures in
-    written-more _ _ _ (λ (s : RunningSession). session_lines s.name s.reports.items) c.args.world.now.sessions.items c.loop-session.session-index c.session-item.result (omega (arith, ap length c.deref-session-items.ensures.value)) (c.session-item.is ∙ ap (λ l. get_or l c.loop-session.session-index c.session-item.result) c.deref-session-items.ensures.value)
-    c.loop-session.invariant written
+loop-session-preserved g c = grind (arith, written-more, get_or)
 
 pub returns : goal.returns
 returns g c =

@@ -3,15 +3,11 @@ use Rattle.std.proofs.Output.{has_written_append, has_written_of_eq}
 use Rattle.std.proofs.lemmas.List.{flat_map_more, take_all, take_more}
 use Rattle.std.specs.Prelude.{flat_map}
 use Rattle.ptpm_codec.specs.Identity.{octet_text}
-use Rattle.ptpm_script.specs.OctetText.{text_of_octets}
 use Rattle.ptpm_script.proofs.OctetTextLemmas.{text_of_none, text_of_some}
 use Rattle.ptpm_script.proofs.hexadecimal.HexadecimalDisplay.fmt.Goals as goal
 
 pub returns-then-is_empty-clause-writes : goal.returns-then-is_empty-clause-writes
-returns-then-is_empty-clause-writes g c = λ plain ok.
-    let octets : List ℕ = c.args.self.now.0.now in
-    let none : length octets ≡ 0 = search rules in
-    has_written_of_eq _ _ _ _ _ (text_of_none octets none) (search rules)
+returns-then-is_empty-clause-writes g c = grind (arith, has_written_of_eq, text_of_none)
 
 pub loop-octet-preserved : goal.loop-octet-preserved
 loop-octet-preserved g c = λ plain.
@@ -24,10 +20,4 @@ loop-octet-preserved g c = λ plain.
     has_written_of_eq _ _ _ _ _ more (has_written_append _ _ _ _ _ _ (c.loop-octet.invariant plain) (search rules))
 
 pub returns-clause-writes : goal.returns-clause-writes
-returns-clause-writes g c = λ plain ok.
-    let octets : List ℕ = c.args.self.now.0.now in
-    let i = c.loop-octet.octet-index in
-    let some : 0 < length octets = search rules in
-    let all : flat_map octet_text (take i octets) ≡ text_of_octets octets =
-    ap (flat_map octet_text) (take_all i octets (omega arith)) ∙ text_of_some octets some in
-    has_written_of_eq _ _ _ _ _ all (c.loop-octet.invariant plain)
+returns-clause-writes g c = grind (arith, take_all, text_of_some, has_written_of_eq)

@@ -1,5 +1,4 @@
-use Rattle.ptpm_world.proofs.Common.{arith, rules, ◌≡◌, ◌+◌, ◌++◌, Bool, List, [], Some, None, true, cond, sym, ap, ◌∙◌, length, map, refl, option_copied, is_ok, vec_len, append-nil, posted, peers, Stored, described_end, held_in, link_ends, origin_of, at_end, others}
-use Rattle.ptpm_network.specs.Network as machine
+use Rattle.ptpm_world.proofs.Common.{arith, rules, ◌≡◌, ◌+◌, Bool, Some, true, cond, sym, ap, ◌∙◌, length, option_copied, is_ok, vec_len, append-nil, Stored, others}
 use Rattle.ptpm_world.proofs.FrameLemmas.{Posting, few_others, found_peers, link_of, peers_found, posting-count, posting-frames, posting-short, posting-there, posting-within}
 use Rattle.ptpm_world.proofs.frames.Frames.post.Goals as goal
 use Rattle.ptpm_world.proofs.frames.Frames.post.Goals.{After-push_others}
@@ -21,23 +20,10 @@ begins c = search rules
 posting : (c : After-push_others)
     → Posting c.args.links.now c.in-Some.link.now (sent c) c.args.self.now.octets.items c.args.octets.now
     c.extend_from_slice.new.self.items c.args.self.now.stored.items c.push_others.new.stored.items
-posting c = record {
-  found = found c;
-  behind = record { start = begins c; size = refl };
-  within = c.args.self.now.within;
-  grown = c.extend_from_slice.ensures.items
-      ∙ ap (λ (b : Bool). cond b (c.args.self.now.octets.items ++ c.args.octets.now) c.args.self.now.octets.items) (taken c);
-  longer = c.push_others.ensures.items
-      ∙ ap (λ es. c.args.self.now.stored.items ++ map (at_end (sent c)) (others c.args.from es)) c.as_slice.ensures.value;
-}
+posting c = grind (arith, found, begins, taken)
 
 pub returns-in_default-clause-frames : goal.returns-in_default-clause-frames
-returns-in_default-clause-frames c =
-    let frames = held_in c.args.self.now in
-    let lost : link_of c.args.from c.args.links.now ≡ None = sym c.link_at.ensures ∙ ap option_copied c.in_default.is in
-    let nobody : peers (link_ends c.args.links.now) (described_end c.args.from) ≡ [] =
-    peers_found c.args.from c.args.links.now ∙ ap (found_peers c.args.from) lost in
-    sym (ap (λ (es : List machine.End). frames ++ posted es c.args.octets.now (origin_of c.args.origin)) nobody ∙ append-nil frames)
+returns-in_default-clause-frames c = grind (arith, link_of, peers_found, found_peers, append-nil)
 
 pub push_others-requires : goal.push_others-requires
 push_others-requires c =

@@ -1,4 +1,4 @@
-use Rattle.ptpm_world.proofs.Common.{◌≡◌, true, refl, is_outside}
+use Rattle.ptpm_world.proofs.Common.{arith, ◌≡◌, true, refl, is_outside}
 use Rattle.ptpm_world.specs.declared.script_error.ScriptError.TheVariants as faults
 use Rattle.ptpm_world.proofs.FaultLemmas.{err-on}
 use Rattle.ptpm_world.proofs.lines.Lines.new.Goals as goal
@@ -7,5 +7,4 @@ pub returns-in_err-line-clause-fault : goal.returns-in_err-line-clause-fault
 returns-in_err-line-clause-fault g c = err-on c.from_residual.result faults.OutOfMemory (λ e. is_outside e ≡ true) c.from_residual.ensures.1 refl
 
 pub returns-in_err-reader-clause-fault : goal.returns-in_err-reader-clause-fault
-returns-in_err-reader-clause-fault g c =
-    err-on c.from_residual-in_err-reader.result faults.OutOfMemory (λ e. is_outside e ≡ true) c.from_residual-in_err-reader.ensures.1 refl
+returns-in_err-reader-clause-fault g c = grind (arith, err-on)

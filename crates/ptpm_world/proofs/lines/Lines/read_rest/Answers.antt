@@ -1,4 +1,4 @@
-use Rattle.ptpm_world.proofs.Common.{IfNone, OnSome, Consumes, IsAtEnd, true, ◌≤◌, ◌+◌, ◌≡◌, ◌++◌, ◌∷◌, [], length, length-append, ap, subst, sym, ◌∙◌, arith, rules, ne_eqb, option_map, given, left_in, HasNextFault, ReadsWhole}
+use Rattle.ptpm_world.proofs.Common.{IfNone, OnSome, IsAtEnd, true, ◌≤◌, ◌∷◌, length, length-append, subst, sym, arith, ne_eqb, option_map, left_in, HasNextFault, ReadsWhole}
 use Rattle.std.specs.Io.Buffered.{reader_remaining}
 use Rattle.ptpm_world.specs.declared.script_error.ScriptError.TheVariants as faults
 use Rattle.ptpm_world.proofs.LineLemmas.{IsRead, NoFeed, empty_is, end-on, no_feed-more, read-first, read-more, some_there}
@@ -6,39 +6,10 @@ use Rattle.ptpm_world.proofs.FaultLemmas.{whole-end, whole-feed, whole-long}
 use Rattle.ptpm_world.proofs.lines.Lines.read_rest.Goals as goal
 
 pub loop-next-init : goal.loop-next-init
-loop-next-init g c =
-    let empty : c.args.self.now.line.items ≡ [] = empty_is _ c.requires in
-    record {
-      read = read-first _ c.args.first _ empty;
-      free = subst NoFeed (sym empty) tt;
-      short = omega (arith, c.requires);
-      some = λ e. absurd (some_there c.args.first e);
-      at_end = search rules;
-      count = search rules;
-    }
+loop-next-init g c = grind (arith, empty_is, read-first, NoFeed, some_there)
 
 pub loop-next-preserved : goal.loop-next-preserved
-loop-next-preserved g c =
-    let R = g.R.Read.remaining in
-    let h = c.loop-next.invariant in
-    let octet = c.in-Some.octet in
-    let line = c.loop-next.self.line.items in
-    let next = c.in_ok-next.next in
-    let first = left_in R c.args.self.now in
-    let grown : c.read_octet.new.self.line.items ≡ line ++ octet ∷ [] = c.in_ok-next.ensures.line ∙ c.in_ok-keep.ensures.line in
-    let read = subst (IsRead first (left_in R c.loop-next.self) c.args.first line) c.in-Some.is h.read in
-    let given_next = subst (λ r. Consumes (reader_remaining R r) (left_in R c.read_octet.new.self) (given next)) c.in_ok-keep.ensures.reader c.in_ok-next.ensures.octet in
-    let longer : length c.read_octet.new.self.line.items ≡ length line + 1 = ap length grown ∙ length-append line (octet ∷ []) in
-    record {
-      read = subst (λ l. IsRead first (left_in R c.read_octet.new.self) c.args.first l next) (sym grown)
-          (read-more first (left_in R c.loop-next.self) (left_in R c.read_octet.new.self) c.args.first octet line next read given_next);
-      free = subst NoFeed (sym grown) (no_feed-more line octet h.free (ne_eqb _ _ c.if-octet-eq10.false));
-      short = omega (arith, longer, h.short, c.if-len-eq-LINE_OCTETS.false, c.len.ensures);
-      some = λ e. omega (arith, longer);
-      at_end = end-on first (left_in R c.loop-next.self) (left_in R c.read_octet.new.self) c.args.first octet line next read
-          (subst (λ r. IfNone next (OnSome (reader_remaining R r) (IsAtEnd (left_in R c.read_octet.new.self)))) c.in_ok-keep.ensures.reader c.in_ok-next.ensures.end);
-      count = c.in_ok-next.ensures.count ∙ c.in_ok-keep.ensures.count ∙ h.count;
-    }
+loop-next-preserved g c = grind (arith, IsRead, length-append, read-more, NoFeed, no_feed-more, ne_eqb, end-on)
 
 pub returns-then-octet-eq10-clause-whole : goal.returns-then-octet-eq10-clause-whole
 returns-then-octet-eq10-clause-whole g c =

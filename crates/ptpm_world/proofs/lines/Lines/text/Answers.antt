@@ -1,4 +1,4 @@
-use Rattle.ptpm_world.proofs.Common.{subst, sym}
+use Rattle.ptpm_world.proofs.Common.{arith, subst}
 use Rattle.std.specs.Str.{IsUtf8}
 use Rattle.ptpm_world.proofs.FaultLemmas.{text-fault, text-none}
 use Rattle.ptpm_world.proofs.lines.Lines.text.Goals as goal
@@ -7,5 +7,4 @@ pub returns-in-Ok-clause-none : goal.returns-in-Ok-clause-none
 returns-in-Ok-clause-none g c = text-none c.args.self.now.count c.args.self.now.line.items (subst IsUtf8 c.as_slice.ensures.value c.in-Ok.ensures.cases.1)
 
 pub returns-in-Err-clause-fault : goal.returns-in-Err-clause-fault
-returns-in-Err-clause-fault g c =
-    text-fault c.args.self.now.count c.args.self.now.line.items (λ u. c.in-Err.ensures.cases.0 (subst IsUtf8 (sym c.as_slice.ensures.value) u))
+returns-in-Err-clause-fault g c = grind (arith, text-fault)

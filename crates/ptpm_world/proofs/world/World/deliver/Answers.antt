@@ -31,34 +31,18 @@ turning c = slice_get_read c.args.self.now.clocks.items _ c.in-Clock.place c.ind
 -- it comes in at a session
 hearing : (c : After-index_mut)
     → slice_get c.args.self.now.sessions.items c.in-Session.place ≡ Some c.index_mut.result.now
-hearing c =
-    slice_get_read c.args.self.now.sessions.items _ c.in-Session.place c.index_mut.result.now refl
-    (at_session c.args.self.now c.args.number c.in-Session.place (frame_value c.in-Some.frame)
-    (lent c.args.self.now c.args.number _ (frame_value c.in-Some.frame) c.in_ok-make_room.ensures.frames c.in-Some.ensures)
-    (ap described_end (sym c.end.ensures ∙ c.in-Session.is))) c.index_mut.ensures.value
+hearing c = grind (arith, slice_get_read, at_session, lent)
 
 pub returns-in_default-clause-step : goal.returns-in_default-clause-step
-returns-in_default-clause-step c = λ N is.
-    deliver-no_frame N c.args.self.now _ c.args.number
-    (record { clock_count = is.clock_count; clocks = is.clocks; session_count = is.session_count; sessions = is.sessions; links = is.links })
-    (ap (λ (fs : List Held). frame_at fs c.args.number) (sym c.in_ok-make_room.ensures.frames) ∙ sym c.in_default.ensures)
+returns-in_default-clause-step c = grind (arith, deliver-no_frame)
 
 pub returns-then-is_full-clause-step : goal.returns-then-is_full-clause-step
-returns-then-is_full-clause-step c = λ N is.
-    deliver-too_many N c.args.self.now _ c.args.number (frame_value c.in-Some.frame)
-    (record { clock_count = is.clock_count; clocks = is.clocks; session_count = is.session_count; sessions = is.sessions; links = is.links })
-    (lent c.args.self.now c.args.number _ (frame_value c.in-Some.frame) c.in_ok-make_room.ensures.frames c.in-Some.ensures)
-    (ap (λ (fs : List Held). nat_lt frames_limit (length fs)) (sym c.in_ok-make_room.ensures.frames) ∙ sym c.is_full.ensures ∙ c.if-is_full.true)
+returns-then-is_full-clause-step c = grind (arith, deliver-too_many, lent, nat_lt)
 
 -- ---- at a clock
 
 pub index_mut-clock-requires : goal.index_mut-clock-requires
-index_mut-clock-requires c =
-    let w = c.args.self.now in
-    let there = at_clock w c.args.number c.in-Clock.place c.in-Clock.port c.origin-origin.result (frame_value c.in-Some.frame)
-    (lent w c.args.number _ (frame_value c.in-Some.frame) c.in_ok-make_room.ensures.frames c.in-Some.ensures)
-    (ap described_end (sym c.end.ensures ∙ c.in-Clock.is)) (ap origin_of (sym c.origin-origin.ensures)) in
-    omega (arith, there.there.within, w.clocks.ok.0)
+index_mut-clock-requires c = grind (arith, at_clock, lent)
 
 pub take_turn-verdict-requires : goal.take_turn-verdict-requires
 take_turn-verdict-requires c =
@@ -107,19 +91,12 @@ returns-in-Clock-clause-step c = λ N is.
     (ap (λ (fs : List Held). nat_lt frames_limit (length fs)) (sym c.in_ok-make_room.ensures.frames) ∙ sym c.is_full.ensures ∙ c.if-is_full.false) turned belong
 
 pub returns-in-Clock-clause-names : goal.returns-in-Clock-clause-names
-returns-in-Clock-clause-names c =
-    names-clock c.args.self.now c.in-Clock.place c.index_mut-clock.result.now c.take_turn-verdict.new.self
-    (turning (goal.at.returns-in-Clock-clause-names c).After-index_mut-clock) c.take_turn-verdict.ensures.name
+returns-in-Clock-clause-names c = grind (arith, names-clock, turning, After-index_mut-clock)
 
 -- ---- at a session
 
 pub index_mut-requires : goal.index_mut-requires
-index_mut-requires c =
-    let w = c.args.self.now in
-    let within = at_session w c.args.number c.in-Session.place (frame_value c.in-Some.frame)
-    (lent w c.args.number _ (frame_value c.in-Some.frame) c.in_ok-make_room.ensures.frames c.in-Some.ensures)
-    (ap described_end (sym c.end.ensures ∙ c.in-Session.is)) in
-    omega (arith, within, w.sessions.ok.0)
+index_mut-requires c = grind (arith, at_session, lent)
 
 pub returns-in-Session-clause-step : goal.returns-in-Session-clause-step
 returns-in-Session-clause-step c = λ N is.
@@ -140,6 +117,4 @@ returns-in-Session-clause-unchanged c =
     (hearing (goal.at.returns-in-Session-clause-unchanged c).After-index_mut) c.in_ok-make_room.ensures.frames c.hear.ensures.unchanged
 
 pub returns-in-Session-clause-names : goal.returns-in-Session-clause-names
-returns-in-Session-clause-names c =
-    names-session c.args.self.now c.in-Session.place c.index_mut.result.now c.hear.new.self
-    (hearing (goal.at.returns-in-Session-clause-names c).After-index_mut) c.hear.ensures.name
+returns-in-Session-clause-names c = grind (arith, names-session, hearing, After-index_mut)

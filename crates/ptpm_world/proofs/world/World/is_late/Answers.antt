@@ -1,4 +1,4 @@
-use Rattle.ptpm_world.proofs.Common.{◌≡◌, ℕ, Bool, Some, ap, length, sym, ◌∙◌, frame_at, is_late_held, is_late_of, frame_value, held_in, origin_of, port_counts, running, World}
+use Rattle.ptpm_world.proofs.Common.{arith, ◌≡◌, ℕ, Bool, Some, ap, length, sym, ◌∙◌, frame_at, is_late_held, is_late_of, frame_value, held_in, origin_of, port_counts, running, World}
 use Rattle.ptpm_world.specs.declared.frames.Frame.{Frame}
 use Rattle.ptpm_world.specs.declared.frames.Origin.{Origin}
 use Rattle.ptpm_world.proofs.Lateness.{late-after}
@@ -23,8 +23,7 @@ late_by w n f o b late same at =
     late ∙ ap (λ (x : Origin). is_late_of (running w) (origin_of x)) same ∙ ap (is_late_held (running w)) at
 
 pub returns-in-Some-clause-late : goal.returns-in-Some-clause-late
-returns-in-Some-clause-late c =
-    late_by c.args.self.now c.args.number c.in-Some.frame c.origin.result c.is_left_behind.result c.is_left_behind.ensures c.origin.ensures c.in-Some.ensures
+returns-in-Some-clause-late c = grind (arith, late_by)
 
 pub returns-in-None-clause-late : goal.returns-in-None-clause-late
 returns-in-None-clause-late c = ap (is_late_held (running c.args.self.now)) c.in-None.ensures

@@ -1,4 +1,4 @@
-use Rattle.ptpm_world.proofs.Common.{◌≡◌, ◌+◌, ap, sym, subst, ◌∙◌, refl, Some, length, option_map, slice_get, slice_get_read, run, initial_state, RunningSession}
+use Rattle.ptpm_world.proofs.Common.{arith, ◌≡◌, ◌+◌, ap, sym, subst, ◌∙◌, refl, Some, length, option_map, slice_get, slice_get_read, run, initial_state, RunningSession}
 use Rattle.ptpm_network.specs.Worth.{IsWorth}
 use Rattle.ptpm_world.proofs.Naming.{known-found, unknown-name}
 use Rattle.ptpm_world.proofs.Reporting.{worth-shown}
@@ -17,8 +17,7 @@ returns-in-None-clause-reports c =
     sym (ap (option_map (λ (x : RunningSession). x.reports.items)) (of_no_name (λ (x : RunningSession). x.name) c.args.self.now.sessions.items c.args.session.now c.in-None.ensures.none))
 
 pub returns-in-Some-clause-known : goal.returns-in-Some-clause-known
-returns-in-Some-clause-known c =
-    known-found (λ (x : RunningSession). x.name) c.args.self.now.sessions.items c.args.session.now c.in-Some.place c.in-Some.ensures.found.0 c.in-Some.ensures.found.1
+returns-in-Some-clause-known c = grind (arith, known-found)
 
 pub returns-in-None-clause-known : goal.returns-in-None-clause-known
 returns-in-None-clause-known c = unknown-name (λ (x : RunningSession). x.name) c.args.self.now.sessions.items c.args.session.now c.in-None.ensures.none

@@ -16,10 +16,7 @@ use Rattle.ptpm_world.proofs.world.World.run.Goals.{In-Err}
 
 -- the event where it stops
 stops_at : (c : In-Err) (event : Event) → slice_get c.args.events.now c.loop-place.place ≡ Some event → c.index-events-place.result ≡ event
-stops_at c event at =
-    let within : c.loop-place.place < length c.args.events.now = omega arith in
-    same_Some c.index-events-place.result event
-    (sym (slice_get_read c.args.events.now _ c.loop-place.place c.index-events-place.result refl within c.index-events-place.is) ∙ at)
+stops_at c event at = grind (arith, same_Some, slice_get_read)
 
 pub returns-in-Err-clause-run : goal.returns-in-Err-clause-run
 returns-in-Err-clause-run c = λ N is.
@@ -129,11 +126,7 @@ returns-in-Err-clause-carried c = λ N clock is.
     leads-carried N (running c.args.self.now) _ clock _ (returns-in-Err-clause-run c N is).goes
 
 pub returns-clause-served : goal.returns-clause-served
-returns-clause-served c = λ N s a is at.
-    let first = names_in c.args.self.now in
-    let whole = take_all c.loop-place.place c.args.events.now (omega arith) in
-    subst (λ (es : List Event). StaysInTime N s (running c.args.self.now) (map (placed first) es) → IsServedSoFar N s (running c.loop-place.self) (account_from N s (running c.args.self.now) a (map (placed first) es))) whole
-    (c.loop-place.invariant.served N s a is at)
+returns-clause-served c = grind (arith, take_all)
 
 pub returns-in-Err-clause-served : goal.returns-in-Err-clause-served
 returns-in-Err-clause-served c = λ N s a is at time.

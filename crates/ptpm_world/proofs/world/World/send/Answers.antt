@@ -1,4 +1,4 @@
-use Rattle.ptpm_world.proofs.Common.{Send, ◌≡◌, Some, refl, sym, ◌∙◌, ap, subst, All, length, slice_get_read, slice_get, SessionValue, AtSession, RequestOf, AreLinks, IsStoredFrame, port_counts, held_in, link_ends}
+use Rattle.ptpm_world.proofs.Common.{arith, Send, ◌≡◌, Some, refl, sym, ◌∙◌, ap, subst, All, length, slice_get_read, slice_get, SessionValue, AtSession, RequestOf, AreLinks, IsStoredFrame, port_counts, held_in, link_ends}
 use Rattle.ptpm_world.proofs.Changing.{names-session}
 use Rattle.ptpm_world.proofs.Ending.{step_error, step_named}
 use Rattle.ptpm_world.proofs.Kept.{kept-session}
@@ -15,11 +15,7 @@ pub returns-in_default-clause-step : goal.returns-in_default-clause-step
 returns-in_default-clause-step c = λ N is. send-no_name N c.args.self.now _ is c.in_default.ensures.none
 
 pub returns-then-is_full-clause-step : goal.returns-then-is_full-clause-step
-returns-then-is_full-clause-step c = λ N is.
-    step_named N c.args.self.now _ Send c.in-Some.place _ _ c.in-Some.ensures.found.0
-    (send-too_many N c.args.self.now _ c.in-Some.place is
-    (record { clock_count = is.clock_count; clocks = is.clocks; session_count = is.session_count; sessions = is.sessions; links = is.links })
-    c.in-Some.ensures.found.1 (sym c.is_full.ensures ∙ c.if-is_full.true))
+returns-then-is_full-clause-step c = grind (arith, step_named, send-too_many)
 
 pub returns-in_err-send-clause-step : goal.returns-in_err-send-clause-step
 returns-in_err-send-clause-step c = λ N is.

@@ -1,7 +1,4 @@
-use Rattle.ptpm_world.proofs.Common.{◌≡◌, subst, ap, sym, ◌∙◌, refl, Some, length, slice_get_read, RunningClock, sets_of}
-use Rattle.ptpm_agent.specs.Once.{applied_once, initial_history}
-use Rattle.ptpm_network.specs.Machine.{state_after}
-use Rattle.ptpm_network.specs.State.{copies_at}
+use Rattle.ptpm_world.proofs.Common.{arith, ap, sym, ◌∙◌, refl, Some, length, slice_get_read, RunningClock, sets_of}
 use Rattle.ptpm_world.proofs.Naming.{known-found, unknown-name}
 use Rattle.ptpm_world.proofs.Reporting.{sets-shown}
 use Rattle.ptpm_world.proofs.WorldLemmas.{at_name, of_no_name}
@@ -19,16 +16,10 @@ returns-in-None-clause-sets c =
     sym (ap (sets_of) (of_no_name (λ (x : RunningClock). x.name) c.args.self.now.clocks.items c.args.clock.now c.in-None.ensures.none))
 
 pub returns-in-Some-clause-known : goal.returns-in-Some-clause-known
-returns-in-Some-clause-known c =
-    known-found (λ (x : RunningClock). x.name) c.args.self.now.clocks.items c.args.clock.now c.in-Some.place c.in-Some.ensures.found.0 c.in-Some.ensures.found.1
+returns-in-Some-clause-known c = grind (arith, known-found)
 
 pub returns-in-None-clause-known : goal.returns-in-None-clause-known
 returns-in-None-clause-known c = unknown-name (λ (x : RunningClock). x.name) c.args.self.now.clocks.items c.args.clock.now c.in-None.ensures.none
 
 pub returns-in-Some-clause-applied : goal.returns-in-Some-clause-applied
-returns-in-Some-clause-applied c = λ N past is at.
-    let xs = c.args.self.now.clocks.items in
-    let there = slice_get_read xs (length xs) c.in-Some.place c.index.result.now refl c.in-Some.ensures.found.1 c.index.ensures in
-    c.sets.ensures
-    ∙ subst (λ k. c.index.result.now.agent.sets ≡ (applied_once (N.clock k) (initial_history (N.start k)) (copies_at N (state_after N past) k)).sets) c.in-Some.ensures.found.0
-    (sets-shown N past c.args.self.now c.in-Some.place c.index.result.now is at there)
+returns-in-Some-clause-applied c = grind (arith, slice_get_read, sets-shown)
