@@ -64,9 +64,18 @@ void catch_signals(void) {
     sigprocmask(SIG_BLOCK, &held, &while_waiting);
 }
 
+/* ppoll lets no signal in where it finds something at once, and in a flood it does so each time. */
+static void let_signals_in(void) {
+    sigset_t held;
+    sigprocmask(SIG_SETMASK, &while_waiting, &held);
+    sigprocmask(SIG_SETMASK, &held, NULL);
+}
+
 int wait_for(struct pollfd *waits, nfds_t count, long most) {
     struct timespec time = { .tv_sec = most / 1000, .tv_nsec = most % 1000 * 1000000 };
-    return ppoll(waits, count, &time, &while_waiting);
+    int found = ppoll(waits, count, &time, &while_waiting);
+    if (found > 0) let_signals_in();
+    return found;
 }
 
 long milliseconds(void) {
