@@ -55,6 +55,7 @@ void catch_signals(void) {
     static const int numbers[] = { SIGHUP, SIGINT, SIGTERM };
     struct sigaction on_end = { .sa_handler = stop }, before;
     sigset_t held;
+    signal(SIGPIPE, SIG_IGN);
     sigemptyset(&held);
     for (size_t i = 0; i < sizeof numbers / sizeof *numbers; i++) {
         if (sigaction(numbers[i], NULL, &before) == 0 && before.sa_handler == SIG_IGN) continue;

@@ -27,7 +27,7 @@ size_t read_octets(const char **text, uint8_t *octets, size_t most);
 extern volatile sig_atomic_t stopped;
 
 /* From now on these signals set `stopped`, and come in while `wait_for` waits and not elsewhere. One that was ignored when
-   the program began stays so. */
+   the program began stays so. Where nobody reads what the program prints, a write fails, and no SIGPIPE ends it. */
 void catch_signals(void);
 
 /* poll, for so many milliseconds at most, and until a signal comes in. */
