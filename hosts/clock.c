@@ -166,6 +166,16 @@ static void observe_all(void) {
 
 static void ask(int number) { (void)number; is_asked = 1; }
 
+/* SIGUSR1 asks for the counts; it too comes in while `wait_for` waits and not elsewhere. */
+static void catch_asking(void) {
+    struct sigaction on_ask = { .sa_handler = ask };
+    sigset_t held;
+    sigemptyset(&held);
+    sigaddset(&held, SIGUSR1);
+    sigaction(SIGUSR1, &on_ask, NULL);
+    sigprocmask(SIG_BLOCK, &held, NULL);
+}
+
 static void tell(void) {
     for (int i = 0; i < ANSWERS; i++) {
         if (answers[i] > 0) printf("answer %d: %lu\n", i, answers[i]);
@@ -261,10 +271,9 @@ static void read_words(struct words *words, int argc, char **argv) {
 
 int main(int argc, char **argv) {
     static struct words words;
-    struct sigaction on_ask = { .sa_handler = ask };
     read_words(&words, argc, argv);
     catch_signals();
-    sigaction(SIGUSR1, &on_ask, NULL);
+    catch_asking();
     for (int i = optind + 1; i < argc; i++) port_sockets[port_count++] = open_udp(argv[i], is_six);
     if (words.path != NULL) unix_socket = open_unix(words.path);
     if (source_path != NULL) source = open_source(source_path);
