@@ -271,6 +271,7 @@ static void read_words(struct words *words, int argc, char **argv) {
 
 int main(int argc, char **argv) {
     static struct words words;
+    setvbuf(stdout, NULL, _IOLBF, BUFSIZ);      /* so that a line of -v is read when it is printed */
     read_words(&words, argc, argv);
     catch_signals();
     catch_asking();
