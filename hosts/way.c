@@ -32,12 +32,15 @@ static int read_address(const char *text) {
     return is_six;
 }
 
+/* Interfaces with one MAC have the same address of IPv6 for their links: then the scope tells which one it is. */
 static int is_same(const struct sockaddr *one, const struct sockaddr_storage *other) {
     if (one == NULL || one->sa_family != other->ss_family) return 0;
     if (one->sa_family == AF_INET) {
         return memcmp(&((const struct sockaddr_in *)one)->sin_addr, &((const struct sockaddr_in *)other)->sin_addr, 4) == 0;
     }
-    return memcmp(&((const struct sockaddr_in6 *)one)->sin6_addr, &((const struct sockaddr_in6 *)other)->sin6_addr, 16) == 0;
+    const struct sockaddr_in6 *six = (const struct sockaddr_in6 *)one, *own = (const struct sockaddr_in6 *)other;
+    return memcmp(&six->sin6_addr, &own->sin6_addr, 16) == 0
+           && (own->sin6_scope_id == 0 || six->sin6_scope_id == own->sin6_scope_id);
 }
 
 /* The interface over which this host sends to the clock's address. */
