@@ -59,6 +59,7 @@ static const char *interface_to(const char *address) {
         if (is_same(one->ifa_addr, &own)) snprintf(interface, sizeof interface, "%s", one->ifa_name);
     }
     freeifaddrs(all);
+    interface[strcspn(interface, ":")] = '\0';      /* behind which an address of IPv4 may have a label */
     if (*interface == '\0') refuse("nothing was sent: no interface leads to %s", address);
     return interface;
 }
