@@ -1,5 +1,6 @@
 #define _GNU_SOURCE
 #include "number_file.h"
+#include "asking.h"
 #include "common.h"
 #include <errno.h>
 #include <fcntl.h>
@@ -35,6 +36,11 @@ static void open_folder(const char *path) {
     if (folder < 0) refuse(path, strerror(errno));
 }
 
+_Noreturn static void end_by_signal(void) {
+    fputs("ptpm-manage: ended by a signal: nothing was sent\n", stderr);
+    exit(BY_SIGNAL + stopped);
+}
+
 /* The lock goes when the program ends. */
 static void take_turn(const char *path) {
     char lock_name[NAME];
@@ -44,7 +50,8 @@ static void take_turn(const char *path) {
     if (at < 0) refuse(path, strerror(errno));
     for (long end = milliseconds() + TURN; fcntl(at, F_SETLK, &whole);) {
         if (errno != EAGAIN && errno != EACCES) refuse(path, strerror(errno));
-        if (stopped || milliseconds() >= end) refuse(path, "another run holds it; nothing was sent");
+        if (stopped) end_by_signal();
+        if (milliseconds() >= end) refuse(path, "another run holds it; nothing was sent");
         wait_for(NULL, 0, TRY_AGAIN);
     }
 }
