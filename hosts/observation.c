@@ -141,13 +141,14 @@ static int take_member(struct observation *observation, char **words, size_t cou
 static int take_line(struct observation *observation, char *line) {
     char *words[MOST_WORDS], *place = NULL;
     size_t count = 0;
+    if (line[strspn(line, " \t\r")] == '#') return 1;
     for (const char *at = line; *at != '\0'; at++) {
         if ((*at < ' ' || *at > '~') && *at != '\t' && *at != '\r') return wrong("it has an octet that is no ASCII text");
     }
     for (char *word = strtok_r(line, " \t\r", &place); word != NULL; word = strtok_r(NULL, " \t\r", &place)) {
         if (count < MOST_WORDS) words[count++] = word;
     }
-    if (count == 0 || words[0][0] == '#') return 1;
+    if (count == 0) return 1;
     return strcmp(words[0], "port") == 0 ? take_port(observation, words, count) : take_member(observation, words, count);
 }
 
