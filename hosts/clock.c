@@ -160,7 +160,7 @@ static void observe(char *text) {
 }
 
 static void observe_all(void) {
-    read_source();
+    source = read_source();
     for (char *text; next_text(&text);) observe(text);
 }
 
@@ -204,8 +204,12 @@ static void run(long end) {
         }
         for (nfds_t i = 0; found > 0 && i < count; i++) {
             if (waits[i].revents == 0) continue;
-            if (waits[i].fd == source) observe_all();
-            else come_in(waits[i].fd, i < port_count ? (uint16_t)(i + 1) : 1);
+            if (waits[i].fd == source) {
+                observe_all();
+                waits[i].fd = source;
+            } else {
+                come_in(waits[i].fd, i < port_count ? (uint16_t)(i + 1) : 1);
+            }
         }
     }
 }

@@ -78,23 +78,33 @@ static void read_file(void) {
     if (file >= 0) close(file);
 }
 
+/* Where another thing, or nothing, stands at the path by now, there is nothing to poll any more. */
+static void open_again(void) {
+    struct stat found;
+    int again = open(path, O_RDONLY | O_NONBLOCK | O_CLOEXEC);
+    int is_there = again >= 0 && fstat(again, &found) == 0 && S_ISFIFO(found.st_mode);
+    if (!is_there) complain("the pipe is gone, and nothing more is observed");
+    if (!is_there && again >= 0) close(again);
+    close(at);
+    at = is_there ? again : -1;
+}
+
 /* The pipe is opened anew for the next program that writes to it, and is never without a reader. */
 static void read_pipe(void) {
     ssize_t count = read(at, held + size, MOST_TEXT - size);
     if (count > 0) size += (size_t)count;
     if (count != 0) return;
     is_ended = 1;
-    int again = open(path, O_RDONLY | O_NONBLOCK | O_CLOEXEC);
-    if (again < 0 || dup3(again, at, O_CLOEXEC) < 0) give_up(path);
-    close(again);
+    open_again();
 }
 
-void read_source(void) {
+int read_source(void) {
     if (is_pipe) read_pipe();
     else if (has_changed()) read_file();
     for (size_t k = 0; k < size; k++) {
         if (held[k] == '\0') held[k] = 1;       /* which is no text either */
     }
+    return at;
 }
 
 /* How much of what is held is the next text: up to an empty line, of a pipe, or to the end. */

@@ -5,8 +5,9 @@
 /* Opens it, and answers what is to be polled. Ends the program with status 2 where there is no such file. */
 int open_source(const char *path);
 
-/* Reads what has come in by now, without waiting. */
-void read_source(void);
+/* Reads what has come in by now, without waiting, and answers what is to be polled from now on: -1 where a pipe was removed, and
+   the last program that wrote to it has closed it. */
+int read_source(void);
 
 /* Whether that leaves a text to take, which is then at *text, with a zero behind it, until the next call: of a file all that it
    holds, at first and whenever a program that wrote to it has closed it, or another file has come into its place; of a pipe
