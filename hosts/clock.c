@@ -258,6 +258,15 @@ static void take_option(struct words *words, int option) {
     }
 }
 
+/* Two ports at one interface would pass on to its link what comes from there. */
+static void refuse_twice(char *const *interfaces, int count) {
+    for (int i = 1; i < count; i++) {
+        for (int k = 0; k < i; k++) {
+            if (strcmp(interfaces[i], interfaces[k]) == 0) refuse("%s: the interface is named twice", interfaces[i]);
+        }
+    }
+}
+
 static void read_words(struct words *words, int argc, char **argv) {
     static const struct option options[] = {
         { "help", no_argument, NULL, 'h' }, { "version", no_argument, NULL, VERSION }, { NULL, 0, NULL, 0 },
@@ -271,6 +280,7 @@ static void read_words(struct words *words, int argc, char **argv) {
     }
     if (argc - optind > PORTS + 1) refuse("it takes eight interfaces at most");
     if (argc - optind == 1 && words->path == NULL) refuse("an interface is missing, or a Unix socket: -u PATH");
+    refuse_twice(argv + optind + 1, argc - optind - 1);
 }
 
 int main(int argc, char **argv) {
