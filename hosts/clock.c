@@ -12,6 +12,7 @@
 #include "ptpm.h"
 #include "source.h"
 #include <getopt.h>
+#include <net/if.h>
 #include <stdarg.h>
 #include <stdio.h>
 #include <stdlib.h>
@@ -29,6 +30,8 @@ static struct ptpm_sent sent[PTPM_MOST_SENT];
 static unsigned long answers[ANSWERS], dropped, observed, not_observed;
 static volatile sig_atomic_t is_asked;
 static int port_sockets[PORTS], unix_socket = -1, source = -1, is_six, is_passed_on, is_told;
+static unsigned port_indexes[PORTS];            /* the kernel's numbers of the interfaces */
+static char **interfaces;
 static const char *source_path;
 static size_t port_count;
 
@@ -186,6 +189,26 @@ static void tell(void) {
     fflush(stdout);
 }
 
+static void open_port(size_t place) {
+    port_indexes[place] = if_nametoindex(interfaces[place]);
+    port_sockets[place] = open_udp(interfaces[place], is_six);
+}
+
+/* A socket stays with an interface that was removed; so where another one has its name by now, that is opened. Once a second. */
+static void open_anew(struct pollfd *waits) {
+    static long next;
+    if (milliseconds() < next) return;
+    next = milliseconds() + SECOND;
+    for (size_t i = 0; i < port_count; i++) {
+        unsigned index = if_nametoindex(interfaces[i]);
+        if (index == 0 || index == port_indexes[i]) continue;
+        fprintf(stderr, "ptpm-clock: %s: the interface was made anew\n", interfaces[i]);
+        close(port_sockets[i]);
+        open_port(i);
+        waits[i].fd = port_sockets[i];
+    }
+}
+
 /* Until a signal comes in, or that time, where it is not 0. */
 static void run(long end) {
     struct pollfd waits[PORTS + 2];
@@ -197,7 +220,7 @@ static void run(long end) {
     while (!stopped) {
         long left = end == 0 ? SECOND : end - milliseconds();
         if (left <= 0) break;
-        int found = wait_for(waits, count, left);
+        int found = wait_for(waits, count, left < SECOND ? left : SECOND);
         if (is_asked) {
             is_asked = 0;
             tell();
@@ -211,6 +234,7 @@ static void run(long end) {
                 come_in(waits[i].fd, i < port_count ? (uint16_t)(i + 1) : 1);
             }
         }
+        open_anew(waits);
     }
 }
 
@@ -259,10 +283,10 @@ static void take_option(struct words *words, int option) {
 }
 
 /* Two ports at one interface would pass on to its link what comes from there. */
-static void refuse_twice(char *const *interfaces, int count) {
+static void refuse_twice(char *const *given, int count) {
     for (int i = 1; i < count; i++) {
         for (int k = 0; k < i; k++) {
-            if (strcmp(interfaces[i], interfaces[k]) == 0) refuse("%s: the interface is named twice", interfaces[i]);
+            if (strcmp(given[i], given[k]) == 0) refuse("%s: the interface is named twice", given[i]);
         }
     }
 }
@@ -289,7 +313,8 @@ int main(int argc, char **argv) {
     read_words(&words, argc, argv);
     catch_signals();
     catch_asking();
-    for (int i = optind + 1; i < argc; i++) port_sockets[port_count++] = open_udp(argv[i], is_six);
+    interfaces = argv + optind + 1;
+    for (int i = optind + 1; i < argc; i++) open_port(port_count++);
     if (words.path != NULL) unix_socket = open_unix(words.path);
     if (source_path != NULL) source = open_source(source_path);
     start(&words.settings, words.managers, words.manager_count);
