@@ -115,13 +115,11 @@ static int carry_out(const struct task *task) {
 
 int ask_clock(const struct task *task) {
     int status = ANSWERED;
-    struct ptpm_session_settings settings = task->settings;
-    if (task->numbers != NULL) settings.first = open_number(task->numbers);
-    uint32_t answer = ptpm_session_start(&session, &settings);
+    uint32_t answer = ptpm_session_start(&session, &task->settings);
     for (long i = 0; i < task->times && answer == PTPM_STARTED && (status == ANSWERED || status == REFUSED); i++) {
         answer = ptpm_session_begin(&session, task->action, task->id, task->port, task->octets, task->size);
         if (answer != PTPM_BEGUN) break;
-        if (task->numbers != NULL) keep_number((uint16_t)(settings.first + ptpm_session_issued(&session)));
+        if (task->numbers != NULL) keep_number((uint16_t)(task->settings.first + ptpm_session_issued(&session)));
         status = carry_out(task);
     }
     if (task->times > 1) printf("requests %lu, datagrams %ld\n", (unsigned long)ptpm_session_issued(&session), all_sent);
@@ -165,12 +163,12 @@ static int end_of_survey(const struct task *task, long sent, long lost) {
 
 int ask_every_clock(const struct task *task) {
     struct ptpm_survey_settings settings = {
-        .port = task->settings.port, .id = task->id, .domain = task->settings.domain, .hops = task->settings.hops,
+        .port = task->settings.port, .number = task->settings.first, .id = task->id, .domain = task->settings.domain,
+        .hops = task->settings.hops,
     };
     size_t size;
     long sent = 0, lost = 0;
     memcpy(settings.clock, task->settings.clock, sizeof settings.clock);
-    if (task->numbers != NULL) settings.number = open_number(task->numbers);
     uint32_t answer = ptpm_survey_start(&survey, &settings);
     if (answer == PTPM_STARTED) answer = ptpm_survey_send(&survey, message, sizeof message, &size);
     if (answer != PTPM_SENT) return not_asked(answer);

@@ -4,6 +4,7 @@
 #include "asking.h"
 #include "common.h"
 #include "notices.h"
+#include "number_file.h"
 #include "way.h"
 #include <errno.h>
 #include <stdio.h>
@@ -18,6 +19,8 @@ int main(int argc, char **argv) {
     setvbuf(stderr, NULL, _IOLBF, BUFSIZ);      /* so that lines of several runs stay whole */
     read_task(&task, argc, argv);
     catch_signals();
+    /* Its turn comes before its socket: an answer to this host alone comes in at the latest socket there, which has to be heard. */
+    if (task.numbers != NULL) task.settings.first = open_number(task.numbers);
     open_way(&task);
     int status = task.is_survey ? ask_every_clock(&task) : ask_clock(&task);
     if (fflush(stdout) == 0 && !ferror(stdout)) return status;

@@ -12,7 +12,7 @@ struct task {
     uint16_t port;                              /* the clock's, of an id of a port; 0 where none is named */
     size_t size;
     uint8_t octets[PTPM_MOST_OCTETS];           /* the dataField */
-    struct ptpm_session_settings settings;      /* but for the number of the first request */
+    struct ptpm_session_settings settings;      /* the number of the first request is 0 before the file of numbers is read */
     int has_manager;                            /* whether settings name the manager */
     const char *interface, *address, *path;     /* the way: an interface, an address or both, or a Unix socket */
     int is_six;                                 /* IPv6 */
