@@ -11,6 +11,7 @@
 #include "observation.h"
 #include "ptpm.h"
 #include "source.h"
+#include <errno.h>
 #include <getopt.h>
 #include <net/if.h>
 #include <stdarg.h>
@@ -190,21 +191,36 @@ static void tell(void) {
 }
 
 static void open_port(size_t place) {
+    const char *what;
     port_indexes[place] = if_nametoindex(interfaces[place]);
-    port_sockets[place] = open_udp(interfaces[place], is_six);
+    port_sockets[place] = open_udp(interfaces[place], is_six, &what);
+    if (port_sockets[place] < 0) give_up(what);
 }
 
-/* A socket stays with an interface that was removed; so where another one has its name by now, that is opened. Once a second. */
+/* Another interface has the name by now. Where it can't be opened, that is said once and tried again. */
+static void open_other(size_t place, unsigned index) {
+    static unsigned told[PORTS];
+    const char *what;
+    int at = open_udp(interfaces[place], is_six, &what);
+    if (at >= 0) {
+        fprintf(stderr, "ptpm-clock: %s: the interface was made anew\n", interfaces[place]);
+        close(port_sockets[place]);
+        port_sockets[place] = at;
+        port_indexes[place] = index;
+    } else if (told[place] != index) {
+        fprintf(stderr, "ptpm-clock: %s: the interface was made anew: %s: %s\n", interfaces[place], what, strerror(errno));
+        told[place] = index;
+    }
+}
+
+/* A socket stays with an interface that was removed, so once a second it is seen which interface has the name. */
 static void open_anew(struct pollfd *waits) {
     static long next;
     if (milliseconds() < next) return;
     next = milliseconds() + SECOND;
     for (size_t i = 0; i < port_count; i++) {
         unsigned index = if_nametoindex(interfaces[i]);
-        if (index == 0 || index == port_indexes[i]) continue;
-        fprintf(stderr, "ptpm-clock: %s: the interface was made anew\n", interfaces[i]);
-        close(port_sockets[i]);
-        open_port(i);
+        if (index != 0 && index != port_indexes[i]) open_other(i, index);
         waits[i].fd = port_sockets[i];
     }
 }

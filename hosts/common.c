@@ -101,43 +101,53 @@ socklen_t group(struct sockaddr_storage *to, int is_six) {
     return sizeof *four;
 }
 
-static void set(int at, int level, int option, const void *value, size_t size, const char *what) {
-    if (setsockopt(at, level, option, value, (socklen_t)size)) give_up(what);
+static int is_set(int at, int level, int option, const void *value, size_t size, const char **what, const char *name) {
+    *what = name;
+    return setsockopt(at, level, option, value, (socklen_t)size) == 0;
 }
 
-static void join_four(int at, const struct sockaddr_in *address, unsigned interface) {
+static int joins_four(int at, const struct sockaddr_in *address, unsigned interface, const char **what) {
     int none = 0;
     struct sockaddr_in any = { .sin_family = AF_INET, .sin_port = htons(GENERAL) };
     struct ip_mreqn join = { .imr_multiaddr = address->sin_addr, .imr_ifindex = (int)interface };
-    if (bind(at, (struct sockaddr *)&any, sizeof any)) give_up("UDP port 320");
-    set(at, IPPROTO_IP, IP_ADD_MEMBERSHIP, &join, sizeof join, "IP_ADD_MEMBERSHIP");
-    set(at, IPPROTO_IP, IP_MULTICAST_IF, &join, sizeof join, "IP_MULTICAST_IF");
-    set(at, IPPROTO_IP, IP_MULTICAST_LOOP, &none, sizeof none, "IP_MULTICAST_LOOP");
+    *what = "UDP port 320";
+    return bind(at, (struct sockaddr *)&any, sizeof any) == 0
+           && is_set(at, IPPROTO_IP, IP_ADD_MEMBERSHIP, &join, sizeof join, what, "IP_ADD_MEMBERSHIP")
+           && is_set(at, IPPROTO_IP, IP_MULTICAST_IF, &join, sizeof join, what, "IP_MULTICAST_IF")
+           && is_set(at, IPPROTO_IP, IP_MULTICAST_LOOP, &none, sizeof none, what, "IP_MULTICAST_LOOP");
 }
 
-static void join_six(int at, const struct sockaddr_in6 *address, unsigned interface) {
+static int joins_six(int at, const struct sockaddr_in6 *address, unsigned interface, const char **what) {
     int one = 1, none = 0;
     struct sockaddr_in6 any = { .sin6_family = AF_INET6, .sin6_port = htons(GENERAL) };
     struct ipv6_mreq join = { .ipv6mr_multiaddr = address->sin6_addr, .ipv6mr_interface = interface };
-    set(at, IPPROTO_IPV6, IPV6_V6ONLY, &one, sizeof one, "IPV6_V6ONLY");
-    if (bind(at, (struct sockaddr *)&any, sizeof any)) give_up("UDP port 320");
-    set(at, IPPROTO_IPV6, IPV6_ADD_MEMBERSHIP, &join, sizeof join, "IPV6_ADD_MEMBERSHIP");
-    set(at, IPPROTO_IPV6, IPV6_MULTICAST_IF, &interface, sizeof interface, "IPV6_MULTICAST_IF");
-    set(at, IPPROTO_IPV6, IPV6_MULTICAST_LOOP, &none, sizeof none, "IPV6_MULTICAST_LOOP");
+    if (!is_set(at, IPPROTO_IPV6, IPV6_V6ONLY, &one, sizeof one, what, "IPV6_V6ONLY")) return 0;
+    *what = "UDP port 320";
+    return bind(at, (struct sockaddr *)&any, sizeof any) == 0
+           && is_set(at, IPPROTO_IPV6, IPV6_ADD_MEMBERSHIP, &join, sizeof join, what, "IPV6_ADD_MEMBERSHIP")
+           && is_set(at, IPPROTO_IPV6, IPV6_MULTICAST_IF, &interface, sizeof interface, what, "IPV6_MULTICAST_IF")
+           && is_set(at, IPPROTO_IPV6, IPV6_MULTICAST_LOOP, &none, sizeof none, what, "IPV6_MULTICAST_LOOP");
 }
 
-int open_udp(const char *interface, int is_six) {
+static int joins(int at, const char *interface, int is_six, const char **what) {
+    int one = 1;
     unsigned index = if_nametoindex(interface);
-    if (index == 0) give_up(interface);
-    int at = socket(is_six ? AF_INET6 : AF_INET, SOCK_DGRAM | SOCK_CLOEXEC, 0), one = 1;
     struct sockaddr_storage to;
-    if (at < 0) give_up(interface);
-    set(at, SOL_SOCKET, SO_REUSEADDR, &one, sizeof one, "SO_REUSEADDR");
-    set(at, SOL_SOCKET, SO_BINDTODEVICE, interface, strlen(interface) + 1, "SO_BINDTODEVICE");
     group(&to, is_six);
-    if (is_six) join_six(at, (struct sockaddr_in6 *)&to, index);
-    else join_four(at, (struct sockaddr_in *)&to, index);
-    return at;
+    return index != 0 && is_set(at, SOL_SOCKET, SO_REUSEADDR, &one, sizeof one, what, "SO_REUSEADDR")
+           && is_set(at, SOL_SOCKET, SO_BINDTODEVICE, interface, strlen(interface) + 1, what, "SO_BINDTODEVICE")
+           && (is_six ? joins_six(at, (struct sockaddr_in6 *)&to, index, what)
+                      : joins_four(at, (struct sockaddr_in *)&to, index, what));
+}
+
+int open_udp(const char *interface, int is_six, const char **what) {
+    *what = interface;
+    int at = socket(is_six ? AF_INET6 : AF_INET, SOCK_DGRAM | SOCK_CLOEXEC, 0);
+    if (at < 0 || joins(at, interface, is_six, what)) return at;
+    int failure = errno;
+    close(at);
+    errno = failure;
+    return -1;
 }
 
 /* Whether a socket stands at the path, and no program listens at it. */

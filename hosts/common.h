@@ -37,8 +37,8 @@ int wait_for(struct pollfd *waits, nfds_t count, long milliseconds);
 long milliseconds(void);
 
 /* A socket at UDP port 320 of an interface, and in the group of PTP there (IEEE 1588-2019, annexes C and D); it hears nothing
-   of what this host sends. */
-int open_udp(const char *interface, int is_six);
+   of what this host sends. -1 where it can't be made: errno says why, and *what at which step. */
+int open_udp(const char *interface, int is_six, const char **what);
 
 /* The address of that group, and its size. */
 socklen_t group(struct sockaddr_storage *to, int is_six);

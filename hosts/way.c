@@ -83,7 +83,9 @@ static void meet_udp(struct task *task) {
     const char *interface = task->interface != NULL ? task->interface : interface_to(task->address);
     if (if_nametoindex(interface) == 0) refuse("nothing was sent: %s: %s", interface, strerror(errno));
     name = task->address != NULL ? task->address : interface;
-    at = open_udp(interface, is_six);
+    const char *what;
+    at = open_udp(interface, is_six, &what);
+    if (at < 0) give_up(what);
     if (task->address == NULL) clock_size = group(&clock_address, is_six);
     if (!task->has_manager) identity_of(interface, task->settings.clock);
     if (!task->has_manager && is_no_managers(task)) task->settings.port = (uint16_t)(getpid() % 65533 + 2);
