@@ -52,7 +52,7 @@ static const char help[] =
     "  -m MANAGER      IDENTITY/PORT of a manager with every right, sixteen at most\n"
     "  -d DOMAIN       domainNumber, 0 where it is not given\n"
     "  -o FILE         what the clock observes, as a servo would: a file, which is read at the start and whenever it is\n"
-    "                  written, or a pipe, with lines as: offset_from_master 1250, or: port 1 state 9\n"
+    "                  written, or a pipe, with lines as: offset_from_master 98304, or: port 1 state 9\n"
     "  -n SECONDS      it ends by itself then\n"
     "  -v              a line for each datagram, and one for what it changed\n"
     "  --help          this text\n"
@@ -109,6 +109,9 @@ static int send_out(const struct ptpm_sent *message, const struct peer *peer, ui
     return taken > 0;
 }
 
+/* A clock that is heard at its Unix socket alone has a port too. */
+static size_t clock_ports(void) { return port_count > 0 ? port_count : 1; }
+
 /* Members by their names, which the answers have that refuse their values, behind BAD_. */
 static void tell_changed(const char *where, uint32_t first, uint32_t members) {
     printf("%s", where);
@@ -134,7 +137,7 @@ static void come_in(int at, uint16_t port) {
     if (!is_told) return;
     printf("port %u, %zd octets: %u, %zu of %zu sent\n", port, size, answer, out, count);
     if (changed.clock != 0) tell_changed("changed:", PTPM_BAD_IDENTITY, changed.clock);
-    for (size_t i = 0; i < port_count; i++) {
+    for (size_t i = 0; i < clock_ports(); i++) {
         char where[32];
         snprintf(where, sizeof where, "changed at port %zu:", i + 1);
         if (changed.ports[i] != 0) tell_changed(where, PTPM_BAD_STATE, changed.ports[i]);
@@ -256,7 +259,7 @@ static void run(long end) {
 
 static void start(const struct ptpm_clock_settings *settings, const struct ptpm_manager_settings *managers, size_t manager_count) {
     struct ptpm_port_settings ports[PORTS];
-    size_t count = port_count > 0 ? port_count : 1;
+    size_t count = clock_ports();
     for (size_t i = 0; i < count; i++) ptpm_port_defaults(&ports[i]);
     uint32_t answer = ptpm_clock_start(&clock_held, settings, ports, count, managers, manager_count);
     if (answer == PTPM_STARTED) return;
@@ -312,7 +315,7 @@ static void read_words(struct words *words, int argc, char **argv) {
         { "help", no_argument, NULL, 'h' }, { "version", no_argument, NULL, VERSION }, { NULL, 0, NULL, 0 },
     };
     ptpm_clock_defaults(&words->settings);
-    for (int option; (option = getopt_long(argc, argv, "6fu:m:d:o:n:v", options, NULL)) != -1;) take_option(words, option);
+    for (int option; (option = getopt_long(argc, argv, "6fu:m:d:o:n:vh", options, NULL)) != -1;) take_option(words, option);
     if (optind == argc) refuse("the clock's identity is missing");
     const char *rest = identity_at(argv[optind], words->settings.identity);
     if (rest == NULL || *rest != '\0') {
