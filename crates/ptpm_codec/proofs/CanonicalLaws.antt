@@ -1,10 +1,8 @@
 -- What the canonical spelling has at each place, how long it is, and that it spells its message.
-use Rattle.std.proofs.Common.{◌≡◌, ℕ, ◌+◌, ◌%◌, ◌^◌, ◌<◌, ◌≤◌, eqb, List, [], ◌∷◌, ◌++◌, length, take, drop, refl, sym, ap, subst, ◌∙◌, inl, inr, arith, append_assoc}
+use Rattle.std.proofs.Common.{◌≡◌, ℕ, ◌+◌, ◌%◌, ◌^◌, ◌<◌, ◌≤◌, eqb, List, [], ◌∷◌, ◌++◌, length, drop, refl, sym, ap, subst, ◌∙◌, arith, append_assoc}
 use Rattle.std.proofs.lemmas.List.{take_at, drop-drop}
 use Rattle.std.proofs.lemmas.Bool.{cond-false, ne_eqb}
 use Rattle.std.specs.Prelude.{replicate}
-use Rattle.ptpm_codec.specs.declared.message.Action.{Action}
-use Rattle.ptpm_codec.specs.declared.message.Action.TheVariants as actions
 use Rattle.ptpm_codec.specs.declared.message.Message.{Message}
 use Rattle.ptpm_codec.specs.declared.message.Body.{Body}
 use Rattle.ptpm_codec.specs.declared.message.Body.TheVariants as bodies
@@ -81,13 +79,6 @@ record HasHeader (v : Message) (size : ℕ) (following b : List ℕ) : Type 0 wh
   behind : drop 48 b ≡ following
   whole : length b ≡ 48 + length following
 
-action_code-mod : (a : Action) → action_code a ≡ action_code a % 16
-action_code-mod actions.Get = refl
-action_code-mod actions.Set = refl
-action_code-mod actions.Response = refl
-action_code-mod actions.Command = refl
-action_code-mod actions.Acknowledge = refl
-
 header_of_octets : (v : Message) (size : ℕ) (following : List ℕ)
     → v.sdo ≤ 4095
     → Fits v
@@ -97,25 +88,7 @@ header_of_octets : (v : Message) (size : ℕ) (following : List ℕ)
     (a' ∷ b' ∷ c' ∷ d' ∷ e' ∷ f' ∷ g' ∷ h' ∷ []) in
     HasHeader w size following (header_octets w size ++ following)
 unfolding number_at port_identity_at port_identity_octets
-header_of_octets v size following small fits low a b c d e f g h a' b' c' d' e' f' g' h' =
-    let source = fits.source.port in
-    let target = fits.target.port in
-    let number = fits.number in
-    record {
-      message_type = omega arith;
-      version_ptp = refl;
-      message_length = omega arith;
-      sdo = omega arith;
-      domain = refl;
-      source = ap (λ (p : ℕ). record { clock = record { 0 = a ∷ b ∷ c ∷ d ∷ e ∷ f ∷ g ∷ h ∷ [] }; port = p }) (omega arith);
-      number = omega arith;
-      target = ap (λ (p : ℕ). record { clock = record { 0 = a' ∷ b' ∷ c' ∷ d' ∷ e' ∷ f' ∷ g' ∷ h' ∷ [] }; port = p }) (omega arith);
-      starting_hops = refl;
-      hops = refl;
-      action = action_code-mod (action_of v.body);
-      behind = refl;
-      whole = omega arith;
-    }
+header_of_octets v size following small fits low a b c d e f g h a' b' c' d' e' f' g' h' = grind arith
 
 has_header : (v : Message) (size : ℕ) (following : List ℕ)
     → v.sdo ≤ 4095
@@ -151,10 +124,6 @@ continues_with t b behind whole = record {
 
 -- ---- displayData
 
-text_octets-none : text_octets [] ≡ []
-unfolding text_octets
-text_octets-none = refl
-
 text_octets-some : (text : List ℕ) → 0 < length text → text_octets text ≡ ptp_text_octets text
 unfolding text_octets
 text_octets-some text some = cond-false (eqb (length text) 0) [] (ptp_text_octets text) (ne_eqb (length text) 0 (λ none. omega arith))
@@ -165,17 +134,12 @@ record IsPaddedText (text d : List ℕ) : Type 0 where
   most : length d ≤ 2 + length text
 
 padded : (text : List ℕ) → IsPaddedText text (text_octets text)
-unfolding ptp_text_octets
-padded [] = rw text_octets-none (record { spelled = inl (refl, refl); even = refl; most = omega arith })
+unfolding ptp_text_octets text_octets
+padded [] = grind arith
 padded (x ∷ xs) =
     let text : List ℕ = x ∷ xs in
     let pad : List ℕ = replicate ((1 + length text) % 2) 0 in
-    let size = ptp_text_size text in
-    rw (text_octets-some text (omega arith)) (record {
-      spelled = inr (size, sym (take_at text pad (length text) refl));
-      even = omega (arith, size);
-      most = omega (arith, size);
-    })
+    let size = ptp_text_size text in grind (arith, text_octets-some, take_at)
 
 -- ---- the TLV
 
@@ -189,57 +153,11 @@ has_tlv : (body : Body) → IsValidBody body → BodyFits body → HasTlv body (
 unfolding tlv_octets number_at
 has_tlv (bodies.Request action id octets) (asks, field) fits =
     let even = field.even in
-    let small = field.small in
-    record {
-      length_field = omega arith;
-      at_least = omega arith;
-      at_most = omega arith;
-      spelled = λ b at. (
-        asks,
-        record {
-          type = at.tlv_type;
-          id_is = let e = at.first_id in omega arith;
-          octets_are = sym at.data_field;
-          even = omega (arith, at.whole);
-        },
-      );
-    }
+    let small = field.small in grind arith
 has_tlv (bodies.Answer action id octets) (answers, field) fits =
     let even = field.even in
-    let small = field.small in
-    record {
-      length_field = omega arith;
-      at_least = omega arith;
-      at_most = omega arith;
-      spelled = λ b at. (
-        answers,
-        record {
-          type = at.tlv_type;
-          id_is = let e = at.first_id in omega arith;
-          octets_are = sym at.data_field;
-          even = omega (arith, at.whole);
-        },
-      );
-    }
-has_tlv (bodies.Fault action error id text) (answers, small) (error_fits, id_fits) =
-    let p = padded text in
-    let even = p.even in
-    let most = p.most in
-    record {
-      length_field = omega arith;
-      at_least = omega arith;
-      at_most = omega arith;
-      spelled = λ b at. (
-        answers,
-        record {
-          type = at.tlv_type;
-          error_is = let e = at.first_id in omega arith;
-          id_is = let e = at.second_id in omega arith;
-          whole = omega (arith, at.whole);
-          text_is = rw at.display_data p.spelled;
-        },
-      );
-    }
+    let small = field.small in grind arith
+has_tlv (bodies.Fault action error id text) (answers, small) (error_fits, id_fits) = grind (arith, padded)
 
 -- ---- the whole
 
@@ -256,24 +174,7 @@ canonical_spells v valid fits =
     let most = t.at_most in
     let h = has_header v (48 + length tlv) tlv valid.sdo fits (omega arith) in
     let at = continues_with tlv (canonical v) h.behind h.whole in
-    let whole = h.whole in
-    record {
-      at_least = omega arith;
-      at_most = omega arith;
-      message_type = h.message_type;
-      version_ptp = h.version_ptp;
-      message_length = h.message_length ∙ sym whole;
-      sdo = h.sdo;
-      domain = h.domain;
-      source = h.source;
-      number = h.number;
-      target = h.target;
-      starting_hops = h.starting_hops;
-      hops = h.hops;
-      action = h.action;
-      length_field = omega (arith, at.length_field, t.length_field);
-      body = t.spelled (canonical v) at;
-    }
+    let whole = h.whole in grind arith
 
 pub canonical_size : (v : Message) → IsValid v → Fits v → IsCanonicalSize (canonical v)
 canonical_size v valid fits = let s = canonical_spells v valid fits in record { at_least = s.at_least; at_most = s.at_most }
@@ -291,8 +192,7 @@ canonical_octets v rest valid fits =
     let alone = has_header v size tlv valid.sdo fits (omega arith) in
     let followed = has_header v size (tlv ++ rest) valid.sdo fits (omega arith) in
     let number : layout.message_length (canonical v ++ rest) ≡ size =
-    ap layout.message_length (append_assoc (header_octets v size) tlv rest) ∙ followed.message_length in
-    ap (λ n. take n (canonical v ++ rest)) number ∙ take_at (canonical v) rest size alone.whole
+    ap layout.message_length (append_assoc (header_octets v size) tlv rest) ∙ followed.message_length in grind (arith, take_at)
 
 pub canonical_round_trip : (v : Message) (rest : List ℕ)
     → IsValid v

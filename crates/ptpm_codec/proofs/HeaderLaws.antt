@@ -1,5 +1,5 @@
 -- A header is the canonical one where each field is written at its place.
-use Rattle.std.proofs.Common.{arith, ◌≡◌, ℕ, ◌+◌, ◌*◌, ◌%◌, ◌/◌, List, [], ◌∷◌, ◌++◌, ap, drop, length, refl}
+use Rattle.std.proofs.Common.{arith, ◌≡◌, ℕ, ◌+◌, ◌*◌, ◌%◌, ◌/◌, List, [], ◌∷◌, ◌++◌, drop, length, refl}
 use Rattle.std.specs.Prelude.{replicate}
 use Rattle.std.proofs.lemmas.List.{drop_all, length-drop}
 use Rattle.byteorder.specs.Endian.{big_bytes}
@@ -32,5 +32,4 @@ pub numbers_written : (a b c : ℕ) (old : List ℕ) → length old ≡ 6
 numbers_written a b c old size =
     let two : length (drop 2 old) ≡ 4 = rw (length-drop 2 old, size) refl in
     let four : length (drop 2 (drop 2 old)) ≡ 2 = rw (length-drop 2 (drop 2 old), two) refl in
-    let none : drop 2 (drop 2 (drop 2 old)) ≡ [] = drop_all 2 (drop 2 (drop 2 old)) (omega (arith, four)) in
-    ap (λ left. big_bytes 2 a ++ big_bytes 2 b ++ big_bytes 2 c ++ left) none
+    let none : drop 2 (drop 2 (drop 2 old)) ≡ [] = drop_all 2 (drop 2 (drop 2 old)) (omega (arith, four)) in grind arith

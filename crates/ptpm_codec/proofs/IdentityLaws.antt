@@ -1,5 +1,5 @@
 -- Identities: the test of equality, and eight octets told apart by the number that they spell.
-use Rattle.std.proofs.Common.{◌≡◌, ℕ, ◌==◌, ◌<◌, true, List, length, get_or, refl, sym, ◌∙◌, ap}
+use Rattle.std.proofs.Common.{arith, ◌≡◌, ℕ, ◌==◌, ◌<◌, true, List, length, get_or, refl, sym, ◌∙◌, ap}
 use Rattle.std.specs.Int.{from_be_bytes, to_be_bytes, w64}
 use Rattle.std.specs.Str.{bytes_eq}
 use Rattle.std.proofs.lemmas.Bool.{and_parts, eqb-true}
@@ -21,8 +21,7 @@ pub octets_by_number : (a b : List ℕ) (m n : ℕ)
 octets_by_number a b m n la lb sa sb ma nb =
     let forth : m == n ≡ true → a ≡ b = λ e.
     sym (be_bytes_8 a m la sa ma) ∙ (ap (to_be_bytes w64) ((Decides-eqb m n).0 e) ∙ be_bytes_8 b n lb sb nb) in
-    let back : a ≡ b → m == n ≡ true = λ e. (Decides-eqb m n).1 (ma ∙ (ap (from_be_bytes w64) e ∙ sym nb)) in
-    same_from_decides {P = a ≡ b} (m == n) (bytes_eq a b) (forth, back) (bytes_eq-Decides a b)
+    let back : a ≡ b → m == n ≡ true = grind (arith, Decides-eqb) in grind (arith, same_from_decides, bytes_eq-Decides)
 
 pub same_clock-true : (a b : ClockIdentity) → same_clock a b ≡ true → a ≡ b
 same_clock-true a b h = let octets = (bytes_eq-Decides a.0 b.0).0 h in (λ i. record { 0 = octets i })

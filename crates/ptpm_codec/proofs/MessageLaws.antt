@@ -1,5 +1,5 @@
 -- Laws of message values.
-use Rattle.std.proofs.Common.{◌≡◌, ℕ, ◌%◌, ◌==◌, true, List, length, refl}
+use Rattle.std.proofs.Common.{arith, ◌≡◌, ℕ, true, List, refl}
 use Rattle.std.proofs.lemmas.Bool.{and_parts, eqb-true, leb-true}
 use Rattle.ptpm_codec.specs.declared.message.Action.{Action}
 use Rattle.ptpm_codec.specs.declared.message.Action.TheVariants as actions
@@ -7,9 +7,7 @@ use Rattle.ptpm_codec.specs.Message.{is_data_field, is_reply, reply_action, IsDa
 
 -- what the test of a dataField lets pass has the facts
 pub is_data_field-IsDataField : (octets : List ℕ) → is_data_field octets ≡ true → IsDataField octets
-is_data_field-IsDataField octets h =
-    let parts = and_parts (length octets % 2 == 0) _ h in
-    record { even = eqb-true _ _ parts.0; small = leb-true _ 1418 parts.1 }
+is_data_field-IsDataField octets h = grind (arith, and_parts, eqb-true, leb-true)
 
 pub reply_action-is_reply : (a : Action) → is_reply (reply_action a) ≡ true
 reply_action-is_reply actions.Get = refl

@@ -77,20 +77,14 @@ number_at-set : (place i n : ℕ) (m : List ℕ)
     → place ≢ i
     → place + 1 ≢ i
     → number_at place (slice_set m i n) ≡ number_at place m
-number_at-set place i n m p q =
-    let high = get_or-set_other m i place n 0 p in
-    let low = get_or-set_other m i (place + 1) n 0 q in
-    omega (arith, number_at-octets place m, number_at-octets place (slice_set m i n), high, low)
+number_at-set place i n m p q = grind (arith, get_or-set_other, number_at-octets)
 
 -- an octet behind the identity
 port_identity_at-set : (place k n : ℕ) (m : List ℕ)
     → 10 ≤ k
     → port_identity_at place (slice_set m (place + k) n) ≡ port_identity_at place m
 unfolding port_identity_at
-port_identity_at-set place k n m behind =
-    let clock = ap (take 8) (drop-set-add place m k n) ∙ take-set-le 8 (drop place m) k n (omega arith) in
-    let port = number_at-set (place + 8) (place + k) n m (λ e. omega arith) (λ e. omega arith) in
-    rw (clock, port) refl
+port_identity_at-set place k n m behind = grind (arith, drop-set-add, take-set-le, number_at-set)
 
 pub set_hops-source : (m : List ℕ) (n : ℕ)
     → layout.source_port_identity (slice_set m 45 n) ≡ layout.source_port_identity m
@@ -124,15 +118,7 @@ same_tlv : (m k : List ℕ)
 same_tlv m k low same whole =
     let size : length m ≡ 48 + length (drop 48 m) = omega (arith, length-drop 48 m) in
     let before = continues_with (drop 48 m) m refl size in
-    let after = continues_with (drop 48 m) k same (whole ∙ size) in
-    record {
-      tlv_type = after.tlv_type ∙ sym before.tlv_type;
-      first_id = after.first_id ∙ sym before.first_id;
-      second_id = after.second_id ∙ sym before.second_id;
-      data_field = after.data_field ∙ sym before.data_field;
-      display_data = after.display_data ∙ sym before.display_data;
-      whole = whole;
-    }
+    let after = continues_with (drop 48 m) k same (whole ∙ size) in grind arith
 
 management_kept : (id : ℕ) (octets m k : List ℕ)
     → SameTlv m k
@@ -172,14 +158,14 @@ set_hops-spelled v m n s =
       at_most = rw size s.at_most;
       message_type = rw (kept 0 (λ e. omega arith)) s.message_type;
       version_ptp = rw (kept 1 (λ e. omega arith)) s.version_ptp;
-      message_length = number_at-set 2 45 n m (λ e. omega arith) (λ e. omega arith) ∙ s.message_length ∙ sym size;
-      sdo = rw (kept 0 (λ e. omega arith), kept 5 (λ e. omega arith)) s.sdo;
+      message_length = grind (arith, number_at-set);
+      sdo = grind arith;
       domain = rw (kept 4 (λ e. omega arith)) s.domain;
       source = s.source ∙ sym (set_hops-source m n);
       number = s.number ∙ sym (set_hops-number m n);
       target = s.target ∙ sym (set_hops-target m n);
       starting_hops = rw (kept 44 (λ e. omega arith)) s.starting_hops;
-      hops = sym (get_or-set_same m 45 n 0 (let low = s.at_least in omega arith));
+      hops = grind (arith, get_or-set_same);
       action = rw (kept 46 (λ e. omega arith)) s.action;
       length_field = omega (arith, length_field, s.length_field, size);
       body = body_kept v.body m k (same_tlv m k (omega (arith, s.at_least)) (drop-set-lt 48 m 45 n (omega arith)) size) s.body;
@@ -197,9 +183,8 @@ less_hop_message v d e =
     let s = message_of-spells v d e in
     let size = message_size d (message_of-some d v e).0 in
     let low = size.0 in
-    let hops : v.hops ≡ layout.boundary_hops d = s.hops ∙ octet-take 45 (layout.message_length d) d (omega arith) in
+    let hops : v.hops ≡ layout.boundary_hops d = grind (arith, octet-take) in
     let lowered = set_hops-spelled v m (v.hops - 1) s in
     let k = slice_set m 45 (v.hops - 1) in
     let whole = message_octets-whole (record v { hops = v.hops - 1 }) k lowered in
-    let read = spells-message_of (record v { hops = v.hops - 1 }) k (subst (λ x. Spells (record v { hops = v.hops - 1 }) x) (sym whole) lowered) in
-    ap (λ (h : ℕ). message_of (slice_set m 45 (h - 1))) (sym hops) ∙ read
+    let read = spells-message_of (record v { hops = v.hops - 1 }) k (subst (λ x. Spells (record v { hops = v.hops - 1 }) x) (sym whole) lowered) in grind arith

@@ -1,11 +1,11 @@
 -- The parts of the body that a view sees, by the kind of its TLV.
-use Rattle.std.proofs.Common.{◌≡◌, ℕ, Bool, true, false, cond, List, [], Option, Some, None, refl, sym, ap, ◌∙◌}
+use Rattle.std.proofs.Common.{arith, ◌≡◌, ℕ, Bool, true, false, cond, List, [], Option, Some, None, refl, sym, ap, ◌∙◌}
 use Rattle.ptpm_codec.specs.declared.message.Action.{Action}
 use Rattle.ptpm_codec.specs.declared.message.Body.{Body}
 use Rattle.ptpm_codec.specs.declared.message.Body.TheVariants as bodies
 use Rattle.ptpm_codec.specs.declared.message.Message.{Message}
 use Rattle.ptpm_codec.specs.declared.tlv.TlvKind.{TlvKind}
-use Rattle.ptpm_codec.specs.declared.tlv.TlvKind.TheVariants.{Management, ErrorStatus}
+use Rattle.ptpm_codec.specs.declared.tlv.TlvKind.TheVariants.{Management}
 use Rattle.ptpm_codec.specs.Layout as layout
 use Rattle.ptpm_codec.specs.Message.{is_reply, action_of, id_of, octets_of, error_of, text_of}
 use Rattle.ptpm_codec.specs.Reading.{body_from, body_at, message_at, IsViewed}
@@ -16,8 +16,7 @@ pub body_seen : (v : Message) (m : List ℕ) (action : Action) (kind found : Tlv
     → message_at m ≡ v → IsViewed m action kind → kind ≡ found → body_from found action m ≡ v.body
 unfolding body_at
 body_seen v m action kind found e i k =
-    let seen : body_from kind action m ≡ body_at m = rw (i.action_is, i.kind_is) refl in
-    ap (λ (t : TlvKind). body_from t action m) (sym k) ∙ seen ∙ ap (λ (w : Message). w.body) e
+    let seen : body_from kind action m ≡ body_at m = rw (i.action_is, i.kind_is) refl in grind arith
 
 pub action_seen : (v : Message) (m : List ℕ) (action : Action) (kind : TlvKind)
     → message_at m ≡ v
@@ -68,18 +67,6 @@ fault_of-parts (bodies.Request a i octets) action error id text p q r s = absurd
 fault_of-parts (bodies.Answer a i octets) action error id text p q r s = absurd cc
 fault_of-parts (bodies.Fault a e i t) action error id text p q r s = rw (p, same_some error e q, r, s) refl
 
-management_of-seen : (action : Action) (m : List ℕ) (kind : TlvKind) (r : Bool) (id : ℕ)
-    (octets : List ℕ)
-    → None ≡ error_of (body_from kind action m)
-    → id ≡ id_of (body_from kind action m)
-    → octets ≡ octets_of (body_from kind action m)
-    → r ≡ is_reply action
-    → cond r (bodies.Answer action id octets) (bodies.Request action id octets)
-    ≡ body_from kind action m
-management_of-seen action m Management r id octets none p q h =
-    rw (p ∙ id_of-management action m, q ∙ octets_of-management action m, h) refl
-management_of-seen action m ErrorStatus r id octets none p q h = absurd cc
-
 pub management_of-parts : (x : Body) (action : Action) (m : List ℕ) (kind : TlvKind) (r : Bool)
     (id : ℕ) (octets : List ℕ)
     → body_from kind action m ≡ x
@@ -88,5 +75,4 @@ pub management_of-parts : (x : Body) (action : Action) (m : List ℕ) (kind : Tl
     → octets ≡ octets_of x
     → r ≡ is_reply action
     → cond r (bodies.Answer action id octets) (bodies.Request action id octets) ≡ x
-management_of-parts x action m kind r id octets e none p q h =
-    management_of-seen action m kind r id octets (none ∙ ap error_of (sym e)) (p ∙ ap id_of (sym e)) (q ∙ ap octets_of (sym e)) h ∙ e
+management_of-parts x action m kind r id octets e none p q h = grind (arith, id_of-management, octets_of-management)

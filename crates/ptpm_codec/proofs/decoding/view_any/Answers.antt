@@ -4,9 +4,7 @@ use Rattle.ptpm_codec.proofs.ReadingLaws.{octets-take, valid_of, spells_read}
 use Rattle.ptpm_codec.proofs.decoding.view_any.Goals as goal
 
 pub returns-clause-spelled : goal.returns-clause-spelled
-returns-clause-spelled c =
-    spells_read c.args.datagram.now c.in_ok-message.message.now c.in_ok-action.tlv c.in_ok-message.ensures.refusal c.in_ok-message.ensures.octets
-    (rw (← c.u16_at.ensures, ← c.u16_at-2.ensures) c.in_ok-action.ensures.refusal) (rw (← c.u16_at.ensures) c.in_ok-action.ensures.tlv) c.in_ok-judge_text.ensures.refusal
+returns-clause-spelled c = grind (arith, spells_read)
 
 pub returns-clause-valid : goal.returns-clause-valid
 returns-clause-valid c =

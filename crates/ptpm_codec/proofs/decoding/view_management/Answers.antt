@@ -4,13 +4,10 @@ use Rattle.ptpm_codec.proofs.ReadingLaws.{octets-take, reading-well_formed, spel
 use Rattle.ptpm_codec.proofs.decoding.view_management.Goals as goal
 
 pub returns-clause-well_formed : goal.returns-clause-well_formed
-returns-clause-well_formed c =
-    well_formed_management c.args.datagram.now c.in-Ok.message.now c.in-Ok.ensures.refusal c.in-Ok.ensures.octets
-    (rw (← c.u16_at.ensures, ← c.u16_at-2.ensures) c.in_ok-action.ensures.sound) (rw (← c.u16_at.ensures) c.in_ok-action.ensures.tlv)
+returns-clause-well_formed c = grind (arith, well_formed_management)
 
 pub returns-clause-exact : goal.returns-clause-exact
-returns-clause-exact c =
-    reading-well_formed c.args.datagram.now c.in-Ok.message.now (returns-clause-well_formed c) c.in-Ok.ensures.octets
+returns-clause-exact c = grind (arith, reading-well_formed, returns-clause-well_formed)
 
 pub returns-clause-spelled : goal.returns-clause-spelled
 returns-clause-spelled c =

@@ -11,17 +11,10 @@ copied : (d place copy : List ℕ) → IsWellFormed d
     → length place ≡ length (message_octets d)
     → copy ≡ take (length place) d
     → copy ≡ message_octets d
-copied d place copy well size is =
-    is ∙ ap (λ n. take n d) (size ∙ length-take-le _ d (message_size d well).1)
+copied d place copy well size is = grind (arith, length-take-le, message_size)
 
 pub lower-requires : goal.lower-requires
-lower-requires c =
-    let d = c.args.datagram.now in
-    let size = message_size d c.requires.well_formed in
-    let octet = octet-take 45 (message_length d) d (omega (arith, size.0)) in
-    let long = length-take-le (message_length d) d size.1 in
-    let same = copied d c.args.place.now c.copy_from_slice.new.self c.requires.well_formed c.requires.size c.copy_from_slice.ensures.after in
-    (rw same (record { inside = omega (arith, long, size.0); above = omega (arith, octet, c.requires.hops) }))
+lower-requires c = grind (arith, message_size, octet-take, length-take-le, copied)
 
 pub returns : goal.returns
 returns c =

@@ -1,29 +1,19 @@
-use Rattle.std.proofs.Common.{sym, ◌∙◌, arith}
+use Rattle.std.proofs.Common.{arith}
 use Rattle.std.proofs.lemmas.List.{length-take-le}
 use Rattle.ptpm_codec.proofs.ReadingLaws.{message_size}
 use Rattle.ptpm_codec.proofs.hops.message_size.Goals as goal
 
 pub u16_at-requires : goal.u16_at-requires
-u16_at-requires c =
-    let size = message_size c.args.datagram.now c.requires in
-    omega (arith, size.0, size.1)
+u16_at-requires c = grind (arith, message_size)
 
 pub returns-clause-size : goal.returns-clause-size
-returns-clause-size c =
-    let size = message_size c.args.datagram.now c.requires in
-    c.u16_at.ensures ∙ sym (length-take-le _ c.args.datagram.now size.1)
+returns-clause-size c = grind (arith, message_size, length-take-le)
 
 pub returns-clause-long : goal.returns-clause-long
-returns-clause-long c =
-    let size = message_size c.args.datagram.now c.requires in
-    omega (arith, size.0, c.u16_at.ensures)
+returns-clause-long c = grind (arith, message_size)
 
 pub returns-clause-small : goal.returns-clause-small
-returns-clause-small c =
-    let size = message_size c.args.datagram.now c.requires in
-    omega (arith, size.2, c.u16_at.ensures)
+returns-clause-small c = grind (arith, message_size)
 
 pub returns-clause-inside : goal.returns-clause-inside
-returns-clause-inside c =
-    let size = message_size c.args.datagram.now c.requires in
-    omega (arith, size.1, c.u16_at.ensures)
+returns-clause-inside c = grind (arith, message_size)

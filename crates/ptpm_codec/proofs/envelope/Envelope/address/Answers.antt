@@ -1,7 +1,5 @@
-use Rattle.std.proofs.Common.{◌∙◌, ◌++◌, ap, subst, sym}
-use Rattle.ptpm_codec.specs.Canonical.{canonical}
-use Rattle.ptpm_codec.specs.declared.message.Body.{Body}
-use Rattle.ptpm_codec.specs.Message.{BodyFits, action_of}
+use Rattle.std.proofs.Common.{arith, subst, sym}
+use Rattle.ptpm_codec.specs.Message.{BodyFits}
 use Rattle.ptpm_codec.proofs.EnvelopeLaws.{envelope_in_two}
 use Rattle.ptpm_codec.proofs.envelope.Envelope.address.Goals as goal
 
@@ -14,8 +12,4 @@ returns-clause-fits c = record {
 }
 
 pub returns-clause-octets : goal.returns-clause-octets
-returns-clause-octets c =
-    let v = c.args.draft.now in
-    (λ i. c.write_header.ensures.octets i ++ c.write_management_head.ensures.octets i)
-    ∙ envelope_in_two v (action_of v.body) c.args.id
-    ∙ ap (λ (b : Body). canonical (record v { body = b })) (sym c.requires.empty)
+returns-clause-octets c = grind (arith, envelope_in_two)
