@@ -1,7 +1,8 @@
 -- Tests of whether a member's values differ, and binary digits that are read from the highest on.
+use Rattle.std.proofs.lemmas.Grind.{common_steps}
 use mathlib.Core.Bool.{beq}
 use mir.Val.{bool_byte}
-use Rattle.std.proofs.Common.{arith, ◌≡◌, ◌∙◌, ap, refl, sym, ℕ, zero, suc, ◌+◌, ◌*◌, ◌-◌, ◌<◌, ◌^◌, Bool, true, false, not, nat_eq, ℤ, pos, nat_abs, int_eq, if◌then◌else◌, List, [], ◌∷◌, map, length, drop, get_or, Option, Some, None, option_map, bytes_eq, eq-eqb}
+use Rattle.std.proofs.Common.{arith, ◌≡◌, ◌∙◌, ap, refl, sym, ℕ, zero, suc, ◌+◌, ◌*◌, ◌-◌, ◌<◌, ◌^◌, Bool, true, false, not, nat_eq, pos, nat_abs, int_eq, if◌then◌else◌, List, [], ◌∷◌, map, length, drop, get_or, Option, Some, None, option_map, bytes_eq, eq-eqb}
 use Rattle.std.proofs.Math.Nat.{pow-suc}
 use Rattle.std.proofs.lemmas.Slice.Eq.{bytes_eq-Decides}
 use Rattle.std.proofs.lemmas.Bool.Decides.{Decides-eqb, Decides-int_eq, same_from_decides}
@@ -9,16 +10,14 @@ use Rattle.ptpm_data.specs.declared.changed.ClockMembers.{ClockMembers}
 use Rattle.ptpm_data.specs.declared.changed.PortMembers.{PortMembers}
 use Rattle.ptpm_data.specs.declared.data_sets.PortDataSet.{PortDataSet}
 use Rattle.ptpm_data.specs.declared.members.Member.{Member}
-use Rattle.ptpm_data.specs.Changed.{changed, clock_changed, clock_members, differ, is_same, member_of, members_changed, no_members, number_of, port_members}
-use Rattle.ptpm_data.specs.MemberMap.{MemberValue, Number, Octets, PortOf, clock_member, flag, natural}
-use Rattle.ptpm_data.specs.Members.{DataSetsValue, port_of}
+use Rattle.ptpm_data.specs.Changed.{changed, clock_changed, clock_members, differ, member_of, members_changed, no_members, number_of, port_members}
+use Rattle.ptpm_data.specs.MemberMap.{MemberValue, Octets, clock_member, flag, natural}
+use Rattle.ptpm_data.specs.Members.{DataSetsValue}
 
 -- ---- tests of values
 
 natural_same : (a b : ℕ) → nat_eq a b ≡ int_eq (pos a) (pos b)
-natural_same a b =
-    same_from_decides _ _ (Decides-eqb a b)
-    ((λ e. ap nat_abs ((Decides-int_eq (pos a) (pos b)).0 e)), (λ e. (Decides-int_eq (pos a) (pos b)).1 (ap pos e)))
+natural_same a b = grind (arith, same_from_decides, Decides-eqb, nat_abs, Decides-int_eq)
 
 pub naturals : (a b : ℕ) (r : Bool) → r ≡ not (nat_eq a b) → r ≡ differ (natural a) (natural b)
 naturals a b r tested = tested ∙ ap not (natural_same a b)
@@ -49,28 +48,19 @@ pub some_told : {R : Type 0} (f : R → PortDataSet) (r : Option R) (x : R) (o :
     → option_map f r ≡ o → r ≡ Some x → o ≡ Some (f x)
 some_told f r x o told is = cc
 
-nothing_differs : record { 0 = 0 } ≡ members_changed None None
-unfolding number_of
-nothing_differs = refl
-
-all_gone : (p : PortDataSet) → record { 0 = 0xff } ≡ members_changed (Some p) None
-unfolding number_of
-all_gone p = refl
-
-all_come : (p : PortDataSet) → record { 0 = 0xff } ≡ members_changed None (Some p)
-unfolding number_of
-all_come p = refl
-
 pub of_neither : (p q : Option PortDataSet) → p ≡ None → q ≡ None → record { 0 = 0 } ≡ members_changed p q
-of_neither p q lacks lacks_too = at_values members_changed _ _ _ _ _ (sym lacks) (sym lacks_too) nothing_differs
+unfolding number_of
+of_neither p q lacks lacks_too = grind (arith, at_values)
 
 pub of_the_former : (p q : Option PortDataSet) (x : PortDataSet) → p ≡ Some x → q ≡ None
     → record { 0 = 0xff } ≡ members_changed p q
-of_the_former p q x has lacks = at_values members_changed _ _ _ _ _ (sym has) (sym lacks) (all_gone x)
+unfolding number_of
+of_the_former p q x has lacks = grind (arith, at_values)
 
 pub of_the_latter : (p q : Option PortDataSet) (x : PortDataSet) → p ≡ None → q ≡ Some x
     → record { 0 = 0xff } ≡ members_changed p q
-of_the_latter p q x lacks has = at_values members_changed _ _ _ _ _ (sym lacks) (sym has) (all_come x)
+unfolding number_of
+of_the_latter p q x lacks has = grind (arith, at_values)
 
 -- ---- digits
 
@@ -107,8 +97,7 @@ digit_read digits place number digit d below read is =
     let next : suc i ≡ length digits - place = omega arith in
     let here : length digits - (place + 1) ≡ i = omega arith in
     let more = one_more digits i d (omega arith) in
-    let rest : number_of (drop (suc i) digits) ≡ number = ap (λ n. number_of (drop n digits)) next ∙ sym read in
-    rw (here, more, rest, is, byte_is (get_or digits i d)) (omega arith)
+    let rest : number_of (drop (suc i) digits) ≡ number = ap (λ n. number_of (drop n digits)) next ∙ sym read in grind (arith, byte_is)
 
 digit_small : (b : Bool) → (if b then 1 else 0) < 2
 digit_small true = omega arith
@@ -116,28 +105,16 @@ digit_small false = omega arith
 
 pub still_small : (place number digit : ℕ) (b : Bool) → number < 2 ^ place → digit ≡ bool_byte b
     → 2 * number + digit < 2 ^ (place + 1)
-still_small place number digit b small is =
-    let one : place + 1 ≡ suc place = omega arith in
-    let twice = pow-suc 2 place in
-    let least = digit_small b in
-    rw (one, twice, is, byte_is b) (omega arith)
+still_small place number digit b small is = grind (arith, common_steps, pow-suc, digit_small, byte_is)
 
 -- ---- nothing differs between a value and itself
-
-int_eq-refl : (n : ℤ) → int_eq n n ≡ true
-int_eq-refl n = (Decides-int_eq n n).1 refl
 
 octets_same : (octets : List ℕ) → bytes_eq octets octets ≡ true
 octets_same octets = (bytes_eq-Decides octets octets).1 refl
 
-same_itself : (v : MemberValue) → is_same v v ≡ true
-same_itself (Number n) = int_eq-refl n
-same_itself (Octets octets) = octets_same octets
-same_itself (PortOf clock port) = rw (octets_same clock) (eq-eqb port port refl)
-
 differ_itself : (v : Option MemberValue) → differ v v ≡ false
 differ_itself None = refl
-differ_itself (Some v) = ap not (same_itself v)
+differ_itself (Some v) = grind (arith, octets_same, eq-eqb, Decides-int_eq)
 
 no_digit : (value : Member → Option MemberValue) (ms : List Member)
     → number_of (map (λ m. differ (value m) (value m)) ms) ≡ 0
@@ -152,6 +129,4 @@ no_clock_member : (d : DataSetsValue) → clock_changed d d ≡ record { 0 = 0 }
 no_clock_member d = ap (λ n. let m : ClockMembers = record { 0 = n } in m) (no_digit (λ m. clock_member m d) clock_members)
 
 pub nothing_changed : (d : DataSetsValue) → no_members ≡ changed d d
-nothing_changed d =
-    let none = λ (port : ℕ). no_port_member (port_of port d) in
-    rw (no_clock_member d, none 1, none 2, none 3, none 4, none 5, none 6, none 7, none 8) refl
+nothing_changed d = grind (arith, no_port_member, no_clock_member)

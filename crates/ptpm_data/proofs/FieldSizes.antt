@@ -6,7 +6,6 @@ use Rattle.ptpm_codec.specs.declared.identity.ClockIdentity.{ClockIdentity}
 use Rattle.ptpm_codec.proofs.PtpTextLaws.{ptp_text_size}
 use Rattle.ptpm_data.specs.declared.data_sets.DefaultDataSet.{DefaultDataSet}
 use Rattle.ptpm_data.specs.declared.data_sets.CurrentDataSet.{CurrentDataSet}
-use Rattle.ptpm_data.specs.declared.data_sets.ParentDataSet.{ParentDataSet}
 use Rattle.ptpm_data.specs.declared.data_sets.TimePropertiesDataSet.{TimePropertiesDataSet}
 use Rattle.ptpm_data.specs.declared.data_sets.PortDataSet.{PortDataSet}
 use Rattle.ptpm_data.specs.declared.management_id.Layout.{Layout}
@@ -27,13 +26,6 @@ default_size d n h = simp length-append (omega arith)
 current_size : (c : CurrentDataSet) → length (current_data_field c) ≡ 18
 unfolding current_data_field i64_octets
 current_size c = simp length-append (omega arith)
-
-parent_size : (p : ParentDataSet)
-    → length p.parent_port.clock.0 ≡ 8
-    → length p.grandmaster.0 ≡ 8
-    → length (parent_data_field p) ≡ 32
-unfolding parent_data_field precedence_octets i32_octets
-parent_size p h k = simp length-append (omega arith)
 
 time_size : (t : TimePropertiesDataSet) → length (time_properties_data_field t) ≡ 4
 unfolding time_properties_data_field i16_octets
@@ -91,24 +83,6 @@ is_port_layout layouts.ClockAccuracy = false
 is_port_layout layouts.UtcProperties = false
 is_port_layout _ = true
 
-of_clock : (layout : Layout) (d : DataSetsValue) → IsSized d
-    → IsFieldWithin (field_limit (is_port_layout layout)) (clock_field_of layout d)
-unfolding is_port_layout clock_field_of
-of_clock layouts.UserDescription d s =
-    let text : length d.description ≤ 128 = s.text in
-    within 130 _ (ptp_text_size d.description) (omega arith) (omega arith)
-of_clock layouts.DefaultDataSet d s = within 130 20 (default_size d.default _ s.identity) refl (omega arith)
-of_clock layouts.CurrentDataSet d s = within 130 18 (current_size d.current) refl (omega arith)
-of_clock layouts.ParentDataSet d s = within 130 32 (parent_size d.parent s.parent s.grandmaster) refl (omega arith)
-of_clock layouts.TimePropertiesDataSet d s = within 130 4 (time_size d.time) refl (omega arith)
-of_clock layouts.Priority1 d s = within 130 2 refl refl (omega arith)
-of_clock layouts.Priority2 d s = within 130 2 refl refl (omega arith)
-of_clock layouts.Domain d s = within 130 2 refl refl (omega arith)
-of_clock layouts.SlaveOnly d s = within 130 2 refl refl (omega arith)
-of_clock layouts.ClockAccuracy d s = within 130 2 refl refl (omega arith)
-of_clock layouts.UtcProperties d s = within 130 4 (utc_size d.time) refl (omega arith)
-of_clock _ d s = within 26 0 refl refl (omega arith)
-
 -- what a port may say the clock may say
 of_either : (b : Bool) {octets : List ℕ} → IsFieldWithin 26 octets
     → IsFieldWithin (field_limit b) octets
@@ -119,7 +93,8 @@ of_either false {octets} h =
 
 of_layout : (layout : Layout) (port : Option ℕ) (d : DataSetsValue) → IsSized d
     → IsFieldWithin (field_limit (is_port_layout layout)) (data_field_of layout port d)
-of_layout layout None d s = of_clock layout d s
+unfolding clock_field_of i32_octets is_port_layout parent_data_field precedence_octets
+of_layout layout None d s = grind (arith, within, ptp_text_size, default_size, current_size, time_size, utc_size, length-append)
 of_layout layout (Some n) d s = of_either (is_port_layout layout) (at_port layout d.default.identity n (port_of n d) s.identity)
 
 -- ---- the table's scopes are those of its layouts

@@ -1,5 +1,5 @@
 -- Data sets are no more than their map of members.
-use Rattle.std.proofs.Common.{arith, ◌≡◌, ◌==◌, ℕ, suc, ◌+◌, ◌-◌, ℤ, Bool, true, false, List, [], ◌∷◌, Option, Some, None, option_and_then, slice_get, refl, ap, sym, ◌∙◌}
+use Rattle.std.proofs.Common.{arith, ◌≡◌, ℕ, suc, ◌+◌, ℤ, Bool, true, false, List, [], ◌∷◌, Option, Some, None, option_and_then, slice_get, refl, ap, sym, ◌∙◌}
 use Rattle.std.proofs.lemmas.Bool.Decides.{nat_tests}
 use Rattle.std.proofs.lemmas.Option.{same_Some}
 use Rattle.ptpm_codec.specs.declared.identity.ClockIdentity.{ClockIdentity}
@@ -7,11 +7,9 @@ use Rattle.ptpm_codec.specs.declared.identity.PortIdentity.{PortIdentity}
 use Rattle.ptpm_data.specs.declared.members.Member.{Member}
 use Rattle.ptpm_data.specs.declared.members.Member.TheVariants as members
 use Rattle.ptpm_data.specs.declared.port_state.PortState.{PortState}
-use Rattle.ptpm_data.specs.declared.port_state.PortState.TheVariants as states
 use Rattle.ptpm_data.specs.declared.port_state.DelayMechanism.{DelayMechanism}
-use Rattle.ptpm_data.specs.declared.port_state.DelayMechanism.TheVariants as mechanisms
 use Rattle.ptpm_data.specs.declared.data_sets.PortDataSet.{PortDataSet}
-use Rattle.ptpm_data.specs.PortState.{state_number, state_of, mechanism_number, mechanism_of}
+use Rattle.ptpm_data.specs.PortState.{state_number, mechanism_number}
 use Rattle.ptpm_data.specs.Members.{DataSetsValue, port_of}
 use Rattle.ptpm_data.specs.MemberMap.{MemberValue, Octets, Place, OfClock, OfPort, natural, integer, flag, identity, port_identity, port_member, value_of}
 
@@ -38,32 +36,15 @@ identity_same c d h = let octets = octets_same c.0 d.0 h in λ i. record { 0 = o
 port_identity_same : (p q : PortIdentity) → port_identity p ≡ port_identity q → p ≡ q
 port_identity_same p q h =
     let clock : p.clock.0 ≡ q.clock.0 = cc in
-    let port : p.port ≡ q.port = cc in
-    λ i. record { clock = record { 0 = clock i }; port = port i }
-
-state_back : (s : PortState) → state_of (state_number s) ≡ Some s
-state_back states.Initializing = refl
-state_back states.Faulty = refl
-state_back states.Disabled = refl
-state_back states.Listening = refl
-state_back states.PreMaster = refl
-state_back states.Master = refl
-state_back states.Passive = refl
-state_back states.Uncalibrated = refl
-state_back states.Slave = refl
+    let port : p.port ≡ q.port = cc in grind arith
 
 state_same : (s t : PortState) → natural (state_number s) ≡ natural (state_number t) → s ≡ t
-state_same s t h = same_Some s t (sym (state_back s) ∙ ap state_of (natural_same _ _ h) ∙ state_back t)
-
-mechanism_back : (m : DelayMechanism) → mechanism_of (mechanism_number m) ≡ Some m
-mechanism_back mechanisms.EndToEnd = refl
-mechanism_back mechanisms.PeerToPeer = refl
-mechanism_back mechanisms.NoMechanism = refl
+state_same s t h = grind (arith, natural_same)
 
 mechanism_same : (m n : DelayMechanism)
     → natural (mechanism_number m) ≡ natural (mechanism_number n)
     → m ≡ n
-mechanism_same m n h = same_Some m n (sym (mechanism_back m) ∙ ap mechanism_of (natural_same _ _ h) ∙ mechanism_back n)
+mechanism_same m n h = grind (arith, natural_same)
 
 -- ---- ports
 
@@ -76,17 +57,7 @@ port_same p q h =
     let timeout = natural_same _ _ (h members.ReceiptTimeout) in
     let sync = integer_same _ _ (h members.LogSync) in
     let mechanism = mechanism_same _ _ (h members.DelayMechanism) in
-    let min_pdelay = integer_same _ _ (h members.LogMinPdelay) in
-    λ i. record {
-      state = state i;
-      log_min_delay_req = min_delay i;
-      peer_delay = peer_delay i;
-      log_announce = announce i;
-      receipt_timeout = timeout i;
-      log_sync = sync i;
-      delay_mechanism = mechanism i;
-      log_min_pdelay = min_pdelay i;
-    }
+    let min_pdelay = integer_same _ _ (h members.LogMinPdelay) in grind arith
 
 option_same : (o p : Option PortDataSet)
     → ((m : Member) → option_and_then (port_member m) o ≡ option_and_then (port_member m) p)
@@ -106,10 +77,7 @@ ports_same (p ∷ ps) (q ∷ qs) h =
     λ i. first i ∷ rest i
 
 port_at : (d : DataSetsValue) (i : ℕ) → port_of (i + 1) d ≡ slice_get d.ports i
-port_at d i =
-    let no : (i + 1) == 0 ≡ false = grind (arith, nat_tests) in
-    let at : (i + 1) - 1 ≡ i = omega arith in
-    rw (no, at) refl
+port_at d i = grind (arith, nat_tests)
 
 -- ---- the data sets
 
@@ -149,39 +117,4 @@ map_decides a b h =
     let time_source = natural_same _ _ (h (OfClock members.TimeSource)) in
     let port : (i : ℕ) → slice_get a.ports i ≡ slice_get b.ports i =
     λ i. sym (port_at a i) ∙ option_same _ _ (λ m. h (OfPort (i + 1) m)) ∙ port_at b i in
-    let ports = ports_same a.ports b.ports port in
-    λ i. record {
-      default = record {
-        identity = identity i;
-        domain = domain i;
-        two_step = two_step i;
-        precedence = record { priority1 = priority1 i; class = class i; accuracy = accuracy i; variance = variance i; priority2 = priority2 i };
-      };
-      description = text i;
-      current = record { steps_removed = steps i; offset_from_master = offset i; mean_path_delay = delay i };
-      parent = record {
-        parent_port = parent_port i;
-        parent_stats = stats i;
-        observed_variance = observed_variance i;
-        observed_rate = observed_rate i;
-        grandmaster = grandmaster i;
-        precedence = record {
-          priority1 = grandmaster_priority1 i;
-          class = grandmaster_class i;
-          accuracy = grandmaster_accuracy i;
-          variance = grandmaster_variance i;
-          priority2 = grandmaster_priority2 i;
-        };
-      };
-      time = record {
-        utc_offset = utc_offset i;
-        leap61 = leap61 i;
-        leap59 = leap59 i;
-        utc_valid = utc_valid i;
-        ptp_timescale = timescale i;
-        time_traceable = time_traceable i;
-        frequency_traceable = frequency_traceable i;
-        time_source = time_source i;
-      };
-      ports = ports i;
-    }
+    let ports = ports_same a.ports b.ports port in grind arith

@@ -1,5 +1,5 @@
 -- Looking a name up by way of the ids.
-use Rattle.std.proofs.Common.{◌≡◌, ℕ, ◌+◌, ◌<◌, ◌≤◌, true, false, List, [], ◌∷◌, Option, Some, None, if◌then◌else◌, bytes_eq, drop, length, get_or, drop-cons, add-one, refl, ap, ◌∙◌}
+use Rattle.std.proofs.Common.{arith, ◌≡◌, ℕ, ◌+◌, ◌<◌, ◌≤◌, List, [], ◌∷◌, Option, Some, None, if◌then◌else◌, bytes_eq, drop, length, get_or, drop-cons, add-one, refl, ap, ◌∙◌}
 use Rattle.std.proofs.Math.ListN.{drop_of_length-le}
 use Rattle.ptpm_data.specs.ManagementId.{RowValue, row_of, row_named, if_named}
 
@@ -32,16 +32,14 @@ named_among_step name ids i h = rw (drop-cons ids i 0 h, add-one i) refl
 -- at one id: another name
 pub passes : (name : List ℕ) (r o : Option RowValue) → if_named name r ≡ None → named_or name r o ≡ o
 passes name None o h = refl
-passes name (Some e) o h =
-    elim (bytes_eq e.name name) as (λ b. (if b then Some e else None) ≡ None → (if b then Some e else o) ≡ o) [ true ↦ λ q. cc | false ↦ λ q. refl ] h
+passes name (Some e) o h = grind (arith, bytes_eq)
 
 -- at one id: this name
 pub stops : (name : List ℕ) (r o : Option RowValue) (e : RowValue)
     → if_named name r ≡ Some e
     → named_or name r o ≡ Some e
 stops name None o e h = cc
-stops name (Some d) o e h =
-    elim (bytes_eq d.name name) as (λ b. (if b then Some d else None) ≡ Some e → (if b then Some d else o) ≡ Some e) [ true ↦ λ q. q | false ↦ λ q. cc ] h
+stops name (Some d) o e h = grind (arith, bytes_eq)
 
 pub goes_on : (name ids : List ℕ) (i : ℕ)
     → i < length ids

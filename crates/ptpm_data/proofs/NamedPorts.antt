@@ -1,5 +1,5 @@
 -- The ports that a target port means: all of them for 0xFFFF, else the one of that number.
-use Rattle.std.proofs.Common.{◌≡◌, ◌∙◌, sym, ap, refl, ℕ, zero, suc, ◌+◌, ◌-◌, ◌<◌, ◌≤◌, Bool, true, false, ◌==◌, ◌||◌, List, [], take, drop, take_all, append-nil, ◌∷◌, ◌++◌, map, length, get_or, set, inl, inr, arith, Option, Some}
+use Rattle.std.proofs.Common.{◌≡◌, ◌∙◌, sym, ap, refl, ℕ, zero, suc, ◌+◌, ◌-◌, ◌<◌, ◌≤◌, true, false, ◌==◌, List, [], take, drop, take_all, append-nil, ◌∷◌, ◌++◌, map, length, get_or, set, inl, inr, arith, Option, Some}
 use Rattle.std.specs.List.{filter, range_with_len, enumerate_from}
 use Rattle.std.proofs.lemmas.Bool.{cond-false, cond-true, or_from, ne_eqb, eq-eqb, cases_lt}
 use Rattle.ptpm_data.specs.Changes.{is_named, IsTargetOf, changed_if, named_changed}
@@ -20,12 +20,8 @@ every_named a (suc n) = ap (λ (xs : List ℕ). a ∷ xs) (every_named (a + 1) n
 not_named : (port n : ℕ) → (port == 0xffff) ≡ false → (port ≡ n → ⊥) → is_named port n ≡ false
 not_named port n one other = or_from _ _ one (ne_eqb port n other)
 
-either_or : (b : Bool) → (b || true) ≡ true
-either_or true = refl
-either_or false = refl
-
 own_named : (port n : ℕ) → port ≡ n → is_named port n ≡ true
-own_named port n e = rw (eq-eqb port n e) (either_or (port == 0xffff))
+own_named port n e = grind (arith, eq-eqb)
 
 none_named : (port a n : ℕ)
     → (port == 0xffff) ≡ false
@@ -58,21 +54,14 @@ pub named_ports-every : (port n k : ℕ)
     → k ≡ n
     → named_ports port n ≡ range_with_len 1 (k + 1 - 1)
 unfolding named_ports
-named_ports-every port n k e same =
-    let number : k + 1 - 1 ≡ n = omega arith in
-    rw (e, number) (every_named 1 n)
+named_ports-every port n k e same = grind (arith, every_named)
 
 pub named_ports-one : (port n : ℕ)
     → (port ≡ 0xffff → ⊥)
     → IsTargetOf port n
     → named_ports port n ≡ range_with_len port (port + 1 - port)
 unfolding named_ports
-named_ports-one port n other target =
-    let number : port + 1 - port ≡ 1 = omega arith in
-    rw number (elim target [
-      | inl every ↦ absurd (other every)
-      | inr own ↦ one_named port 1 n (ne_eqb port 0xffff other) own.0 (let high = own.1 in omega arith)
-    ])
+named_ports-one port n other target = grind (arith, one_named, ne_eqb)
 
 -- ---- the answers of so many ports, one after another
 
@@ -82,8 +71,7 @@ pub answers-after : (q : RequestValue) (refusal : Option ErrorId) (d : DataSetsV
     → map (answer q refusal d) (map Some (range_with_len first n)) ++ answer q refusal d (Some port) ∷ []
     ≡ map (answer q refusal d) (map Some (range_with_len first m))
 answers-after q refusal d first n m port here one =
-    let ports : map Some (range_with_len first m) ≡ map Some (range_with_len first n) ++ Some port ∷ [] = rw one (map-range_with_len_more (λ k. Some k) first n port here) in
-    sym (rw ports (map-append (answer q refusal d) (map Some (range_with_len first n)) (Some port ∷ [])))
+    let ports : map Some (range_with_len first m) ≡ map Some (range_with_len first n) ++ Some port ∷ [] = rw one (map-range_with_len_more (λ k. Some k) first n port here) in grind (arith, map-append)
 
 pub answers-count : (q : RequestValue) (refusal : Option ErrorId) (d : DataSetsValue) (first n : ℕ)
     → length (map (answer q refusal d) (map Some (range_with_len first n))) ≡ n
@@ -119,8 +107,7 @@ one_changed : (port : ℕ) (change : PortDataSet → PortDataSet) (k i : ℕ) (p
     → map (λ e. changed_if (is_named port e.0) change e.1) (enumerate_from k ports)
     ≡ set ports i (change (get_or ports i p))
 one_changed port change k i [] p one here below = absurd (omega arith)
-one_changed port change k zero (q ∷ ps) p one here below =
-    rw (own_named port k (omega arith)) (ap (λ (xs : List PortDataSet). change q ∷ xs) (none_changed port change (k + 1) ps one (omega arith)))
+one_changed port change k zero (q ∷ ps) p one here below = grind (arith, own_named, none_changed)
 one_changed port change k (suc i) (q ∷ ps) p one here below =
     rw (not_named port k one (λ e. omega arith)) (ap (λ (xs : List PortDataSet). q ∷ xs) (one_changed port change (k + 1) i ps p one (omega arith) (omega arith)))
 
@@ -130,14 +117,7 @@ pub named_changed-one : (port : ℕ) (change : PortDataSet → PortDataSet) (por
     → IsTargetOf port (length ports)
     → named_changed port change ports ≡ set ports (port - 1) (change (get_or ports (port - 1) p))
 unfolding named_changed
-named_changed-one port change ports p other target =
-    elim target [
-      | inl every ↦ absurd (other every)
-      | inr own ↦
-          let low = own.0 in
-          let high = own.1 in
-          one_changed port change 1 (port - 1) ports p (ne_eqb port 0xffff other) (omega arith) (omega arith)
-    ]
+named_changed-one port change ports p other target = grind (arith, one_changed, ne_eqb)
 
 -- a change in place has reached the end of the list
 pub map_over_all : (change : PortDataSet → PortDataSet) (old new : List PortDataSet) (i : ℕ)

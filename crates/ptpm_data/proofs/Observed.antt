@@ -1,5 +1,5 @@
 -- What an observation moves and keeps, member by member.
-use Rattle.std.proofs.Common.{◌≡◌, ◌∙◌, ap, refl, sym, ℕ, zero, suc, ◌==◌, ◌-◌, ℤ, Bool, true, false, ◌&&◌, not, if◌then◌else◌, List, [], ◌∷◌, map, length, slice_get, Option, Some, None, option_and_then, unwrap_or}
+use Rattle.std.proofs.Common.{arith, ◌≡◌, ◌∙◌, ap, refl, ℕ, zero, suc, ℤ, Bool, true, false, ◌&&◌, not, List, [], ◌∷◌, map, length, slice_get, Option, Some, None, option_and_then, unwrap_or}
 use Rattle.std.specs.Option.{option_or}
 use Rattle.std.proofs.lemmas.Bool.{or_parts}
 use Rattle.ptpm_data.specs.declared.members.Member.{Member}
@@ -12,11 +12,10 @@ use Rattle.ptpm_data.specs.declared.observation.PortObservation.{PortObservation
 use Rattle.ptpm_data.specs.declared.observation.ObservationError.{ObservationError}
 use Rattle.ptpm_data.specs.declared.observation.ObservedGrandmaster.{ObservedGrandmaster}
 use Rattle.ptpm_data.specs.declared.observation.ObservedGrandmaster.TheVariants.{Itself, Announced}
-use Rattle.ptpm_data.specs.MemberMap.{Place, OfClock, OfPort, natural, integer, flag, identity, port_identity, clock_member, port_member, value_of}
+use Rattle.ptpm_data.specs.MemberMap.{Place, OfClock, OfPort, natural, integer, flag, clock_member, port_member, value_of}
 use Rattle.ptpm_data.specs.Members.{DataSetsValue, is_own_grandmaster}
-use Rattle.ptpm_data.specs.Observation.{accepted_observation, disables, disables_one, grandmaster_after, grandmaster_follows, grandmaster_identity, grandmaster_parent, is_disabled, is_disabled_state, observation_refusal, observed, port_after, ports_after, state_after, unless_not_observed}
-use Rattle.ptpm_data.specs.ObservationLaws.{following, of_grandmaster, observed_of_clock, observed_of_port, observed_state, observed_there, observed_value, IsSizedGrandmaster, IsSizedObservation}
-use Rattle.ptpm_data.specs.PortState.{state_number}
+use Rattle.ptpm_data.specs.Observation.{accepted_observation, disables, disables_one, grandmaster_after, grandmaster_follows, is_disabled, is_disabled_state, observation_refusal, observed, port_after, ports_after, state_after, unless_not_observed}
+use Rattle.ptpm_data.specs.ObservationLaws.{of_grandmaster, observed_of_clock, observed_of_port, observed_there, observed_value, IsSizedGrandmaster, IsSizedObservation}
 use Rattle.ptpm_data.specs.RequestLaws.{IsSized}
 use Rattle.ptpm_data.proofs.Observing.{enables_none, ports_after-length}
 
@@ -40,18 +39,6 @@ flag_told (Some c) b = refl
 -- ---- the grandmaster
 
 module _ (o : ClockObservation) (p : ParentDataSet) where
-  follows_stats : (b : Bool) → (grandmaster_follows b o p).parent_stats ≡ p.parent_stats
-  follows_stats true = refl
-  follows_stats false = refl
-
-  follows_variance : (b : Bool) → (grandmaster_follows b o p).observed_variance ≡ p.observed_variance
-  follows_variance true = refl
-  follows_variance false = refl
-
-  follows_rate : (b : Bool) → (grandmaster_follows b o p).observed_rate ≡ p.observed_rate
-  follows_rate true = refl
-  follows_rate false = refl
-
   follows_parent : (b : Bool) → (grandmaster_follows b o p).parent_port ≡ p.parent_port
   follows_parent true = refl
   follows_parent false = refl
@@ -60,94 +47,50 @@ module _ (o : ClockObservation) (p : ParentDataSet) where
   follows_identity true = refl
   follows_identity false = refl
 
-  follows_priority1 : (b : Bool)
-      → natural (grandmaster_follows b o p).precedence.priority1
-      ≡ option_or (following b None) (natural p.precedence.priority1)
-  follows_priority1 true = refl
-  follows_priority1 false = refl
-
-  follows_priority2 : (b : Bool)
-      → natural (grandmaster_follows b o p).precedence.priority2
-      ≡ option_or (following b None) (natural p.precedence.priority2)
-  follows_priority2 true = refl
-  follows_priority2 false = refl
-
-  follows_class : (b : Bool)
-      → natural (grandmaster_follows b o p).precedence.class
-      ≡ option_or (following b o.clock_class) (natural p.precedence.class)
-  follows_class true = natural_told o.clock_class p.precedence.class
-  follows_class false = refl
-
-  follows_accuracy : (b : Bool)
-      → natural (grandmaster_follows b o p).precedence.accuracy
-      ≡ option_or (following b o.clock_accuracy) (natural p.precedence.accuracy)
-  follows_accuracy true = natural_told o.clock_accuracy p.precedence.accuracy
-  follows_accuracy false = refl
-
-  follows_quality : (b : Bool)
-      → natural (grandmaster_follows b o p).precedence.variance
-      ≡ option_or (following b o.variance) (natural p.precedence.variance)
-  follows_quality true = natural_told o.variance p.precedence.variance
-  follows_quality false = refl
-
 module _ (o : ClockObservation) (d : DataSetsValue) where
   abbrev after : Option ObservedGrandmaster → ParentDataSet
   after g = grandmaster_after g o d.default d.parent
 
   stats_kept : (g : Option ObservedGrandmaster) → (after g).parent_stats ≡ d.parent.parent_stats
-  stats_kept None = follows_stats o d.parent (is_own_grandmaster d)
+  stats_kept None = grind arith
   stats_kept (Some g) = refl
 
   variance_kept : (g : Option ObservedGrandmaster) → (after g).observed_variance ≡ d.parent.observed_variance
-  variance_kept None = follows_variance o d.parent (is_own_grandmaster d)
+  variance_kept None = grind arith
   variance_kept (Some g) = refl
 
   rate_kept : (g : Option ObservedGrandmaster) → (after g).observed_rate ≡ d.parent.observed_rate
-  rate_kept None = follows_rate o d.parent (is_own_grandmaster d)
+  rate_kept None = grind arith
   rate_kept (Some g) = refl
-
-  parent_told : (g : Option ObservedGrandmaster)
-      → port_identity (after g).parent_port
-      ≡ option_or (option_and_then (λ g. port_identity (grandmaster_parent g d.default)) g) (port_identity d.parent.parent_port)
-  parent_told None = ap port_identity (follows_parent o d.parent (is_own_grandmaster d))
-  parent_told (Some Itself) = refl
-  parent_told (Some (Announced a)) = refl
-
-  identity_told : (g : Option ObservedGrandmaster)
-      → identity (after g).grandmaster
-      ≡ option_or (option_and_then (λ g. identity (grandmaster_identity g d.default)) g) (identity d.parent.grandmaster)
-  identity_told None = ap identity (follows_identity o d.parent (is_own_grandmaster d))
-  identity_told (Some Itself) = refl
-  identity_told (Some (Announced a)) = refl
 
   priority1_told : (g : Option ObservedGrandmaster)
       → natural (after g).precedence.priority1
       ≡ option_or (of_grandmaster (λ p. p.priority1) None o d g) (natural d.parent.precedence.priority1)
-  priority1_told None = follows_priority1 o d.parent (is_own_grandmaster d)
+  priority1_told None = grind arith
   priority1_told (Some g) = refl
 
   priority2_told : (g : Option ObservedGrandmaster)
       → natural (after g).precedence.priority2
       ≡ option_or (of_grandmaster (λ p. p.priority2) None o d g) (natural d.parent.precedence.priority2)
-  priority2_told None = follows_priority2 o d.parent (is_own_grandmaster d)
+  priority2_told None = grind arith
   priority2_told (Some g) = refl
 
   class_told : (g : Option ObservedGrandmaster)
       → natural (after g).precedence.class
       ≡ option_or (of_grandmaster (λ p. p.class) o.clock_class o d g) (natural d.parent.precedence.class)
-  class_told None = follows_class o d.parent (is_own_grandmaster d)
+  class_told None = grind (arith, natural_told)
   class_told (Some g) = refl
 
   accuracy_told : (g : Option ObservedGrandmaster)
       → natural (after g).precedence.accuracy
       ≡ option_or (of_grandmaster (λ p. p.accuracy) o.clock_accuracy o d g) (natural d.parent.precedence.accuracy)
-  accuracy_told None = follows_accuracy o d.parent (is_own_grandmaster d)
+  accuracy_told None = grind (arith, natural_told)
   accuracy_told (Some g) = refl
 
   quality_told : (g : Option ObservedGrandmaster)
       → natural (after g).precedence.variance
       ≡ option_or (of_grandmaster (λ p. p.variance) o.variance o d g) (natural d.parent.precedence.variance)
-  quality_told None = follows_quality o d.parent (is_own_grandmaster d)
+  quality_told None = grind (arith, natural_told)
   quality_told (Some g) = refl
 
   clock_told : (ports : List PortObservation) (m : Member)
@@ -159,7 +102,7 @@ module _ (o : ClockObservation) (d : DataSetsValue) where
   clock_told ports members.StepsRemoved = natural_told o.steps_removed _
   clock_told ports members.OffsetFromMaster = integer_told o.offset_from_master _
   clock_told ports members.MeanPathDelay = integer_told o.mean_path_delay _
-  clock_told ports members.ParentPort = parent_told o.grandmaster
+  clock_told ports members.ParentPort = grind (arith, follows_parent)
   clock_told ports members.ParentStats = ap (λ b. flag (unwrap_or o.parent_stats b)) (stats_kept o.grandmaster) ∙ flag_told o.parent_stats _
   clock_told ports members.ObservedVariance = ap (λ n. natural (unwrap_or o.observed_variance n)) (variance_kept o.grandmaster) ∙ natural_told o.observed_variance _
   clock_told ports members.ObservedRate = ap (λ n. integer (unwrap_or o.observed_rate n)) (rate_kept o.grandmaster) ∙ integer_told o.observed_rate _
@@ -168,7 +111,7 @@ module _ (o : ClockObservation) (d : DataSetsValue) where
   clock_told ports members.GrandmasterAccuracy = accuracy_told o.grandmaster
   clock_told ports members.GrandmasterVariance = quality_told o.grandmaster
   clock_told ports members.GrandmasterPriority2 = priority2_told o.grandmaster
-  clock_told ports members.Grandmaster = identity_told o.grandmaster
+  clock_told ports members.Grandmaster = grind (arith, follows_identity)
   clock_told ports members.UtcOffset = integer_told o.utc_offset _
   clock_told ports members.Leap61 = flag_told o.leap61 _
   clock_told ports members.Leap59 = flag_told o.leap59 _
@@ -181,43 +124,22 @@ module _ (o : ClockObservation) (d : DataSetsValue) where
 
 -- ---- ports
 
-state_told : (b : Bool) (x : Option PortState) (s : PortState)
-    → natural (state_number (state_after b x s)) ≡ option_or (observed_state b x) (natural (state_number s))
-state_told true x s = refl
-state_told false None s = refl
-state_told false (Some t) s = refl
-
 port_told : (m : Member) (o : PortObservation) (p : PortDataSet)
     → port_member m (port_after o p) ≡ option_or (observed_of_port m o p) (port_member m p)
-port_told members.State o p = state_told (is_disabled p.state) o.state p.state
+port_told members.State o p = grind arith
 port_told members.PeerDelay o p = integer_told o.peer_delay p.peer_delay
 port_told _ o p = refl
-
-nothing_there : (m : Member) (x : Option PortObservation) → observed_there m x None ≡ None
-nothing_there m None = refl
-nothing_there m (Some o) = refl
 
 place_told : (m : Member) (os : List PortObservation) (ports : List PortDataSet) (i : ℕ)
     → option_and_then (port_member m) (slice_get (ports_after os ports) i)
     ≡ option_or (observed_there m (slice_get os i) (slice_get ports i)) (option_and_then (port_member m) (slice_get ports i))
 unfolding ports_after
 place_told m [] ports i = refl
-place_told m (o ∷ os) [] i = rw (nothing_there m (slice_get (o ∷ os) i)) refl
+place_told m (o ∷ os) [] i = grind arith
 place_told m (o ∷ os) (p ∷ ports) zero = port_told m o p
 place_told m (o ∷ os) (p ∷ ports) (suc i) = place_told m os ports i
 
-numbered_told : (b : Bool) (m : Member) (os : List PortObservation) (ports : List PortDataSet) (i : ℕ)
-    → option_and_then (port_member m) (if b then None else slice_get (ports_after os ports) i)
-    ≡ option_or (observed_there m (if b then None else slice_get os i) (if b then None else slice_get ports i))
-    (option_and_then (port_member m) (if b then None else slice_get ports i))
-numbered_told true m os ports i = refl
-numbered_told false m os ports i = place_told m os ports i
-
 -- ---- which ports are disabled
-
-only_first : (b : Bool) → (b && true) ≡ false → b ≡ false
-only_first true h = cc
-only_first false h = refl
 
 state_stays : (b : Bool) (x : Option PortState) (s : PortState)
     → is_disabled s ≡ b
@@ -225,7 +147,7 @@ state_stays : (b : Bool) (x : Option PortState) (s : PortState)
     → is_disabled (state_after b x s) ≡ is_disabled s
 state_stays true x s is free = refl
 state_stays false None s is free = refl
-state_stays false (Some t) s is free = only_first (is_disabled t) free ∙ sym is
+state_stays false (Some t) s is free = grind arith
 
 disabled_stay : (os : List PortObservation) (ports : List PortDataSet)
     → disables_one os ports ≡ false
@@ -274,20 +196,20 @@ module _ (o : ClockObservation) (ports : List PortObservation) (d : DataSetsValu
   pub observed-disabled : map (λ p. is_disabled p.state) (observed o ports d).ports ≡ map (λ p. is_disabled p.state) d.ports
   observed-disabled =
       observed-all (λ e. map (λ p. is_disabled p.state) e.ports ≡ map (λ p. is_disabled p.state) d.ports) o ports d refl
-      (λ accepted. disabled_stay ports d.ports (enables_none o ports d accepted))
+      (λ accepted. grind (arith, disabled_stay, enables_none))
 
   pub observed-exact : (place : Place)
       → observation_refusal o ports d ≡ None
       → value_of place (observed o ports d) ≡ option_or (observed_value place o ports d) (value_of place d)
   observed-exact (OfClock m) accepted = rw (observed-accepted accepted) (clock_told o d ports m)
-  observed-exact (OfPort n m) accepted = rw (observed-accepted accepted) (numbered_told (n == 0) m ports d.ports (n - 1))
+  observed-exact (OfPort n m) accepted = grind (arith, observed-accepted, place_told)
 
   pub observed-stays : (place : Place)
       → observed_value place o ports d ≡ None
       → value_of place (observed o ports d) ≡ value_of place d
   observed-stays place none =
       observed-all (λ e. value_of place e ≡ value_of place d) o ports d refl
-      (λ accepted. ap (value_of place) (sym (observed-accepted accepted)) ∙ (observed-exact place accepted ∙ ap (λ x. option_or x (value_of place d)) none))
+      (λ accepted. grind (arith, observed-accepted, observed-exact))
 
   sized_identity : (g : Option ObservedGrandmaster)
       → IsSizedGrandmaster g
@@ -308,11 +230,4 @@ module _ (o : ClockObservation) (ports : List PortObservation) (d : DataSetsValu
   pub observed-sized : IsSizedObservation o → IsSized d → IsSized (observed o ports d)
   observed-sized h s =
       observed-all IsSized o ports d s
-      (λ accepted. record {
-        some_port = rw (ports_after-length ports d.ports) s.some_port;
-        at_most_eight = rw (ports_after-length ports d.ports) s.at_most_eight;
-        text = s.text;
-        identity = s.identity;
-        parent = sized_parent o.grandmaster h s;
-        grandmaster = sized_identity o.grandmaster h s;
-      })
+      (λ accepted. grind (arith, ports_after-length, sized_parent, sized_identity))

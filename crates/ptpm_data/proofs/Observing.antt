@@ -1,5 +1,5 @@
 -- The ports of an observation, one after another, and what an observation keeps.
-use Rattle.std.proofs.Common.{arith, ◌≡◌, ◌∙◌, ap, refl, sym, ℕ, zero, suc, ◌+◌, ◌<◌, ◌≤◌, Bool, true, false, ◌||◌, ◌&&◌, not, nat_lt, List, [], ◌∷◌, ◌++◌, append-nil, take, take_all, drop, length, get_or, set, add-one, None}
+use Rattle.std.proofs.Common.{arith, ◌≡◌, ◌∙◌, ap, refl, sym, ℕ, zero, suc, ◌+◌, ◌<◌, ◌≤◌, Bool, true, false, ◌||◌, nat_lt, List, [], ◌∷◌, ◌++◌, append-nil, take, take_all, length, get_or, set, add-one, None}
 use Rattle.std.specs.List.{refill}
 use Rattle.std.proofs.lemmas.List.{drop_all}
 use Rattle.std.proofs.lemmas.Bool.{not-false}
@@ -7,14 +7,9 @@ use Rattle.std.proofs.lemmas.Bool.Decides.{nat_tests}
 use Rattle.ptpm_data.specs.declared.data_sets.PortDataSet.{PortDataSet}
 use Rattle.ptpm_data.specs.declared.observation.PortObservation.{PortObservation}
 use Rattle.ptpm_data.specs.declared.observation.ClockObservation.{ClockObservation}
-use Rattle.ptpm_data.specs.Members.{DataSetsValue, IsConsistent, is_grandmaster, is_same_precedence}
-use Rattle.ptpm_data.specs.Ranges.{is_clock_accuracy}
-use Rattle.ptpm_data.specs.Observation.{accepted_observation, default_after, disables, disables_one, grandmaster_differs, is_left_disabled, left_disabled, observation_refusal, parent_after, port_after, ports_after, time_after}
+use Rattle.ptpm_data.specs.Members.{DataSetsValue, IsConsistent, is_grandmaster}
+use Rattle.ptpm_data.specs.Observation.{accepted_observation, default_after, disables, disables_one, is_left_disabled, left_disabled, observation_refusal, parent_after, port_after, ports_after}
 use Rattle.ptpm_data.proofs.StartLemmas.{passes, precedence_sound}
-
-or_nothing : (b : Bool) → (b || false) ≡ b
-or_nothing true = refl
-or_nothing false = refl
 
 or_after : (a b c : Bool) → (a || (b || c)) ≡ ((a || b) || c)
 or_after true b c = refl
@@ -29,7 +24,7 @@ module _ (o : PortObservation) (p : PortDataSet) where
   unfolding disables_one
   disables_next [] ports i a b = absurd (omega arith)
   disables_next (x ∷ os) [] i a b = absurd (omega arith)
-  disables_next (x ∷ os) (y ∷ ports) zero a b = or_nothing (disables x y)
+  disables_next (x ∷ os) (y ∷ ports) zero a b = grind arith
   disables_next (x ∷ os) (y ∷ ports) (suc i) a b =
       rw (disables_next os ports i (omega arith) (omega arith)) (or_after (disables x y) _ _)
 
@@ -46,9 +41,7 @@ module _ (o : PortObservation) (p : PortDataSet) where
       → before ≡ disables_one (take i os) ports
       → before ≡ false
       → disables (get_or os i o) (get_or ports i p) ≡ disables_one (take (i + 1) os) ports
-  disables_on os ports i before a b here not_yet =
-      let e : disables_one (take i os) ports ≡ false = sym here ∙ not_yet in
-      rw (disables_more os ports i a b, e) refl
+  disables_on os ports i before a b here not_yet = grind (arith, disables_more)
 
   left_next : (os : List PortObservation) (ports : List PortDataSet) (i : ℕ)
       → i < length os
@@ -82,22 +75,13 @@ module _ (o : PortObservation) (p : PortDataSet) where
   ports_next (x ∷ os) (y ∷ ports) (suc i) a b =
       ap (λ (ps : List PortDataSet). port_after x y ∷ ps) (ports_next os ports i (omega arith) (omega arith))
 
-  pub ports_more : (os : List PortObservation) (ports : List PortDataSet) (i : ℕ)
-      → i < length os
-      → i < length ports
-      → ports_after (take (i + 1) os) ports
-      ≡ set (ports_after (take i os) ports) i
-      (port_after (get_or os i o) (get_or (ports_after (take i os) ports) i p))
-  ports_more os ports i a b = rw (add-one i) (ports_next os ports i a b)
-
   pub ports_step : (os : List PortObservation) (ports before : List PortDataSet) (i : ℕ) (moved : PortDataSet)
       → i < length os
       → i < length ports
       → before ≡ ports_after (take i os) ports
       → moved ≡ port_after (get_or os i o) (get_or before i p)
       → set before i moved ≡ ports_after (take (i + 1) os) ports
-  ports_step os ports before i moved a b here is =
-      rw (is, here) (sym (ports_more os ports i a b))
+  ports_step os ports before i moved a b here is = grind (arith, add-one, ports_next)
 
 pub disables_found : (os : List PortObservation) (ports : List PortDataSet) (i : ℕ) (before : Bool)
     → i < length os
@@ -120,46 +104,23 @@ ports_after-length (o ∷ os) (p ∷ ports) = ap (λ (n : ℕ). suc n) (ports_af
 
 -- a list that was written over as a whole
 pub refilled : {X : Type 0} (xs ws : List X) → length ws ≡ length xs → refill (length xs) xs ws ≡ ws
-refilled xs ws e =
-    let rest : drop (length ws) xs ≡ [] = drop_all (length ws) xs (omega arith) in
-    rw (rest, append-nil) (take_all (length xs) ws (omega arith))
+refilled xs ws e = grind (arith, drop_all, append-nil, take_all)
 
 -- ---- what follows where an observation is accepted
 
 module _ (o : ClockObservation) (ports : List PortObservation) (d : DataSetsValue) (accepted : observation_refusal o ports d ≡ None) where
   pub has_places : length ports ≤ length d.ports
   unfolding observation_refusal
-  has_places =
-      let more : nat_lt (length d.ports) (length ports) ≡ false = (passes _ _ _ accepted).0 in
-      grind (arith, nat_tests)
+  has_places = grind (arith, nat_lt, passes, nat_tests)
 
   pub enables_none : disables_one ports d.ports ≡ false
   unfolding observation_refusal
-  enables_none =
-      let places = passes (nat_lt (length d.ports) (length ports)) _ _ accepted in
-      let accuracy = passes (not (is_clock_accuracy (default_after o d.default).precedence.accuracy)) _ _ places.1 in
-      let leaps = passes ((time_after o d.time).leap61 && (time_after o d.time).leap59) _ _ accuracy.1 in
-      (passes (disables_one ports d.ports) _ _ leaps.1).0
-
-  agrees : grandmaster_differs (default_after o d.default) (parent_after o d.default d.parent) ≡ false
-  unfolding observation_refusal
-  agrees =
-      let places = passes (nat_lt (length d.ports) (length ports)) _ _ accepted in
-      let accuracy = passes (not (is_clock_accuracy (default_after o d.default).precedence.accuracy)) _ _ places.1 in
-      let leaps = passes ((time_after o d.time).leap61 && (time_after o d.time).leap59) _ _ accuracy.1 in
-      let state = passes (disables_one ports d.ports) _ _ leaps.1 in
-      (passes (grandmaster_differs (default_after o d.default) (parent_after o d.default d.parent)) _ _ state.1).0
+  enables_none = grind (arith, passes, nat_lt)
 
   own_precedence : is_grandmaster (default_after o d.default) (parent_after o d.default d.parent) ≡ true
       → (parent_after o d.default d.parent).precedence ≡ (default_after o d.default).precedence
-  own_precedence own =
-      let same = is_same_precedence (parent_after o d.default d.parent).precedence (default_after o d.default).precedence in
-      precedence_sound _ _ (not-false same (ap (λ b. b && not same) (sym own) ∙ agrees))
+  unfolding observation_refusal
+  own_precedence own = grind (arith, precedence_sound, not-false, passes)
 
   pub consistent : IsConsistent d → IsConsistent (accepted_observation o ports d)
-  consistent before = record {
-    some_port = rw (ports_after-length ports d.ports) before.some_port;
-    at_most_eight = rw (ports_after-length ports d.ports) before.at_most_eight;
-    description = before.description;
-    grandmaster = own_precedence;
-  }
+  consistent before = grind (arith, ports_after-length, own_precedence)

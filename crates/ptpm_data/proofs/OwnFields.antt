@@ -1,11 +1,9 @@
 -- The dataField of a text and of UTC_PROPERTIES, read back of the octets that set it.
-use Rattle.std.proofs.Common.{◌≡◌, arith, refl, ℕ, zero, suc, ◌+◌, ◌*◌, ◌/◌, ◌%◌, ◌^◌, ◌<◌, ◌≤◌, ◌==◌, Bool, true, List, [], ◌∷◌, ◌++◌, length, take, replicate, Option, Some, None, inl, inr}
-use Rattle.std.specs.Int.{w16}
+use Rattle.std.proofs.Common.{◌≡◌, arith, refl, ℕ, zero, suc, ◌+◌, ◌%◌, ◌<◌, ◌≤◌, ◌==◌, Bool, true, List, [], ◌∷◌, ◌++◌, length, take, replicate, Option, Some, None, inl, inr}
 use Rattle.std.specs.List.{list_all, range_with_len}
 use Rattle.std.proofs.lemmas.Bool.{and_parts, cases_lt, eqb-true}
 use Rattle.std.proofs.lemmas.Int.{of_z-to_z}
 use Rattle.std.proofs.lemmas.List.{length-take-le}
-use Rattle.byteorder.specs.Endian.{big_number}
 use Rattle.ptpm_codec.specs.declared.identity.ClockIdentity.{ClockIdentity}
 use Rattle.ptpm_codec.specs.PtpText.{is_ptp_text, ptp_text, ptp_text_octets}
 use Rattle.ptpm_data.specs.declared.management_id.Layout.TheVariants as layouts
@@ -23,11 +21,7 @@ pub text_back : (octets : List ℕ) → is_ptp_text octets ≡ true
     ≡ take (1 + octet 0 octets) octets ++ replicate ((1 + octet 0 octets) % 2) 0
 unfolding ptp_text_octets
 text_back [] h = cc
-text_back (t ∷ xs) h =
-    let size : 1 + length xs ≡ 1 + t + (1 + t) % 2 = eqb-true (1 + length xs) (1 + t + (1 + t) % 2) h in
-    let room : t ≤ length xs = omega arith in
-    let more : 1 + t ≡ suc t = omega arith in
-    rw (length-take-le t xs room, more) refl
+text_back (t ∷ xs) h = grind (arith, eqb-true, length-take-le)
 
 -- ---- UTC_PROPERTIES
 
@@ -63,13 +57,7 @@ offset_back : (a b : ℕ) (xs : List ℕ)
     → b < 256
     → i16_octets (first_i16 (a ∷ b ∷ xs)) ≡ a ∷ b ∷ []
 unfolding i16_octets first_i16
-offset_back a b xs small_a small_b =
-    let n : big_number 2 (a ∷ b ∷ xs) ≡ 256 * a + b = omega arith in
-    let small : 256 * a + b < 2 ^ 16 = omega arith in
-    let back = of_z-to_z w16 (256 * a + b) small in
-    let high : (256 * a + b) / 256 % 256 ≡ a = omega arith in
-    let low : (256 * a + b) % 256 ≡ b = omega arith in
-    rw (n, back, high, low) refl
+offset_back a b xs small_a small_b = grind (arith, of_z-to_z)
 
 pub utc_back : (octets : List ℕ) (t : TimePropertiesDataSet) → length octets ≡ 4 → AreOctets octets
     → utc_properties_data_field (with_utc_properties t octets)

@@ -1,9 +1,9 @@
 -- An accepted SET is answered by its own octets.
-use Rattle.std.proofs.Common.{◌≡◌, ◌∙◌, arith, refl, sym, ap, subst, ℕ, zero, suc, ◌+◌, ◌-◌, ◌<◌, ◌≤◌, ◌==◌, Bool, true, false, not, ◌||◌, if◌then◌else◌, List, [], ◌∷◌, length, map, slice_get, Option, Some, None, inl, inr}
+use Rattle.std.proofs.Common.{◌≡◌, ◌∙◌, arith, refl, ap, subst, ℕ, zero, suc, ◌+◌, ◌-◌, ◌<◌, ◌≤◌, ◌==◌, Bool, true, false, not, ◌||◌, if◌then◌else◌, List, [], ◌∷◌, length, map, slice_get, Option, Some, None}
 use Rattle.std.specs.Prelude.{⊤}
 use Rattle.std.specs.Int.{w8}
-use Rattle.std.specs.List.{All, enumerate_from, filter, list_all, range_with_len}
-use Rattle.std.specs.Option.{is_some, option_map}
+use Rattle.std.specs.List.{All, enumerate_from, filter, range_with_len}
+use Rattle.std.specs.Option.{option_map}
 use Rattle.std.proofs.lemmas.Bool.{cases_Bool, eqb-true}
 use Rattle.std.proofs.lemmas.Bool.Decides.{nat_tests}
 use Rattle.std.proofs.lemmas.Int.{of_z-to_z}
@@ -16,11 +16,10 @@ use Rattle.ptpm_data.specs.declared.data_sets.PortDataSet.{PortDataSet}
 use Rattle.ptpm_data.specs.declared.port_change.PortChange.{PortChange}
 use Rattle.ptpm_data.specs.declared.port_change.PortChange.TheVariants as changes
 use Rattle.ptpm_data.specs.declared.port_state.DelayMechanism.{DelayMechanism}
-use Rattle.ptpm_data.specs.declared.port_state.DelayMechanism.TheVariants as mechanisms
 use Rattle.ptpm_data.specs.declared.rights.Rights.{Rights}
-use Rattle.ptpm_data.specs.ManagementId.{RowValue, has_action, id_table, is_of_port, is_port_row, row_of, set_of}
+use Rattle.ptpm_data.specs.ManagementId.{RowValue, has_action, is_of_port, row_of, set_of}
 use Rattle.ptpm_data.specs.Members.{DataSetsValue, port_of}
-use Rattle.ptpm_data.specs.PortState.{mechanism_number, mechanism_of}
+use Rattle.ptpm_data.specs.PortState.{mechanism_number}
 use Rattle.ptpm_data.specs.Request.{RequestValue}
 use Rattle.ptpm_data.specs.Reply.{Answer, Value}
 use Rattle.ptpm_data.specs.SetField.{first_i8, octet}
@@ -78,8 +77,7 @@ shown_port port n change d s =
     let high = s.within in
     let found = some_at d.ports (n - 1) (omega arith) in
     let no : n == 0 ≡ false = grind (arith, nat_tests) in
-    let place : 1 + (n - 1) ≡ n = omega arith in
-    (found.0, rw (no, named_at port (port_after change) 1 (n - 1) d.ports, place, s.named, found.1) refl)
+    let place : 1 + (n - 1) ≡ n = omega arith in grind (arith, found, named_at)
 
 -- ---- which ids a SET may name
 
@@ -104,15 +102,12 @@ is_settable layout = has_one_number layout
 abbrev sets_what_it_holds : RowValue → Bool
 sets_what_it_holds e = not (has_action actions.Set e.actions) || is_settable e.layout
 
-table_sets : list_all sets_what_it_holds id_table ≡ true
-table_sets = refl
-
 settable : (id : ℕ) (e : RowValue)
     → row_of id ≡ Some e
     → has_action actions.Set e.actions ≡ true
     → is_settable e.layout ≡ true
 unfolding row_of
-settable id e is may = then_get _ _ (found (λ x. x.id == id) sets_what_it_holds id_table e table_sets is) may
+settable id e is may = grind (arith, then_get, found)
 
 -- ---- the dataField of each id of one number
 
@@ -120,25 +115,6 @@ module _ (octets : List ℕ) (range : AreOctets octets) where
   back : i8_octet (first_i8 octets) ≡ octet 0 octets
   unfolding i8_octet first_i8
   back = of_z-to_z w8 (octet 0 octets) (range 0)
-
-mechanism_named : (n : ℕ)
-    → is_some (mechanism_of n) ≡ true
-    → (m : DelayMechanism) × (mechanism_of n ≡ Some m) × (mechanism_number m ≡ n)
-mechanism_named n h =
-    elim (cases_Bool (n == 1)) [
-      | inl one ↦ let e = eqb-true n 1 one in rw e (mechanisms.EndToEnd, refl, refl)
-      | inr not_one ↦ elim (cases_Bool (n == 2)) [
-        | inl two ↦ let e = eqb-true n 2 two in rw e (mechanisms.PeerToPeer, refl, refl)
-        | inr not_two ↦ elim (cases_Bool (n == 0xfe)) [
-          | inl none ↦ let e = eqb-true n 0xfe none in rw e (mechanisms.NoMechanism, refl, refl)
-          | inr not_none ↦
-              let nothing : mechanism_of n ≡ None = rw (not_one, not_two, not_none) refl in
-              let P : Option DelayMechanism → Type 0 = λ o. is_some o ≡ true in
-              let wrong : false ≡ true = subst P nothing h in
-              cc
-        ]
-      ]
-    ]
 
 module _ (port n : ℕ) (octets : List ℕ) (d : DataSetsValue) (range : AreOctets octets) (s : IsShown port n (length d.ports)) where
   shown_mechanism : (o : Option DelayMechanism)
@@ -160,7 +136,7 @@ module _ (port n : ℕ) (octets : List ℕ) (d : DataSetsValue) (range : AreOcte
       → is_set_value (set_of layout) octets ≡ true
       → data_field_of layout (Some n) (set_members layout port octets d)
       ≡ octet_data_field (octet 0 octets)
-  unfolding set_members port_field_of is_port_layout is_set_value set_of
+  unfolding is_port_layout is_set_value port_field_of set_members set_of
   shown_field layouts.LogAnnounceInterval one at good =
       rw (shown_port port n (changes.LogAnnounceInterval (first_i8 octets)) d s).1 (ap octet_data_field (back octets range))
   shown_field layouts.AnnounceReceiptTimeout one at good =
@@ -169,19 +145,8 @@ module _ (port n : ℕ) (octets : List ℕ) (d : DataSetsValue) (range : AreOcte
       rw (shown_port port n (changes.LogSyncInterval (first_i8 octets)) d s).1 (ap octet_data_field (back octets range))
   shown_field layouts.LogMinPdelayReqInterval one at good =
       rw (shown_port port n (changes.LogMinPdelayReqInterval (first_i8 octets)) d s).1 (ap octet_data_field (back octets range))
-  shown_field layouts.DelayMechanism one at good = shown_mechanism (mechanism_of (octet 0 octets)) (mechanism_named (octet 0 octets) good)
+  shown_field layouts.DelayMechanism one at good = grind (arith, shown_mechanism, cases_Bool, eqb-true)
   shown_field _ one at good = cc
-
-clock_field : (layout : Layout) (port : ℕ) (octets : List ℕ) (d : DataSetsValue)
-    → has_one_number layout ≡ true → is_port_layout layout ≡ false
-    → data_field_of layout None (set_members layout port octets d)
-    ≡ octet_data_field (octet 0 octets)
-unfolding clock_field_of set_members is_port_layout
-clock_field layouts.Priority1 port octets d one clock = refl
-clock_field layouts.Priority2 port octets d one clock = refl
-clock_field layouts.Domain port octets d one clock = refl
-clock_field layouts.ClockAccuracy port octets d one clock = refl
-clock_field _ port octets d one clock = cc
 
 number_field : (layout : Layout)
     → has_one_number layout ≡ true
@@ -199,8 +164,9 @@ module _ (port : ℕ) (octets : List ℕ) (d : DataSetsValue) (range : AreOctets
       → (b : Bool) (own : Option ℕ) → is_port_layout layout ≡ b
       → IsAnswerer b port (length d.ports) own
       → data_field_of layout own (set_members layout port octets d) ≡ standard_field layout octets
+  unfolding clock_field_of is_port_layout set_members
   one_number layout one good true (Some n) at s = shown_field port n octets d range s layout one at good ∙ number_field layout one octets
-  one_number layout one good false None at s = clock_field layout port octets d one at ∙ number_field layout one octets
+  one_number layout one good false None at s = grind (arith, number_field)
   one_number layout one good true None at s = absurd s
   one_number layout one good false (Some n) at s = absurd s
 
@@ -254,10 +220,8 @@ each true q e octets set field =
     All-map P (answer q None e) (map Some (named_ports q.port (length e.ports)))
     (All-map Q (λ n. Some n) (named_ports q.port (length e.ports))
     (filtered (λ n. Q (Some n)) (is_named q.port) 1 (length e.ports)
-    (λ k low high yes. said q.action _ octets set (field (Some k) (record { positive = low; within = omega arith; named = yes })))))
-each false q e octets set field =
-    let P : Answer → Type 0 = λ a. a.outcome ≡ Value octets in
-    All-cons P (answer q None e None) [] (said q.action _ octets set (field None tt)) (λ k x below. absurd (omega arith))
+    (λ k low high yes. grind (arith, said))))
+each false q e octets set field = grind (arith, All-cons, said)
 
 module _ (q : RequestValue) (rights : Rights) (d : DataSetsValue) (a : IsAcceptedSet q rights) (range : AreOctets q.octets) where
   field_after : (e : RowValue) (own : Option ℕ) → row_of q.id ≡ Some e
@@ -278,11 +242,7 @@ module _ (q : RequestValue) (rights : Rights) (d : DataSetsValue) (a : IsAccepte
       let P : Option RowValue → Type 0 = λ o. refusal_at o q rights ≡ None in
       let wrong = subst P is a.accepted in
       cc
-  answered (Some e) own is answerer =
-      let C : ℕ → Type 0 = λ count. IsAnswerer (is_of_port q.id) q.port count own in
-      let O : Option RowValue → Type 0 = λ o. IsAnswerer (is_port_row o) q.port (length d.ports) own in
-      let B : Bool → Type 0 = λ b. IsAnswerer b q.port (length d.ports) own in
-      field_after e own is (subst B (sym (layout_of q.id e is)) (subst O is (subst C (changed_by-ports q rights d) answerer)))
+  answered (Some e) own is answerer = grind (arith, field_after, layout_of, changed_by-ports)
 
   pub own_octets : All (λ x. x.outcome ≡ Value (standard_field_at (row_of q.id) q.octets))
       (reply_to q rights d).answers

@@ -1,8 +1,6 @@
 -- Data sets are no more than a map to whole numbers and lists of octets.
-use Rattle.std.proofs.Common.{arith, ◌≡◌, ◌∙◌, refl, sym, ap, ℕ, ◌^◌, ◌<◌, Bool, true, false, List, [], ◌∷◌, ◌++◌, length, Option, Some, None, option_and_then}
+use Rattle.std.proofs.Common.{arith, ◌≡◌, refl, ℕ, ◌^◌, ◌<◌, Bool, true, false, List, [], ◌∷◌, ◌++◌, length, Option, Some, None, option_and_then}
 use Rattle.std.specs.Option.{option_map}
-use Rattle.byteorder.specs.Endian.{big_bytes, big_from}
-use Rattle.byteorder.specs.Numbers.{big_number-reads_back}
 use Rattle.ptpm_data.specs.declared.members.Member.{Member}
 use Rattle.ptpm_data.specs.declared.members.Member.TheVariants as members
 use Rattle.ptpm_data.specs.declared.data_sets.PortDataSet.{PortDataSet}
@@ -25,10 +23,6 @@ same_front (x ∷ xs) (y ∷ ys) us vs size e =
     let rest : xs ++ us ≡ ys ++ vs = cc in
     let parts = same_front xs ys us vs (omega arith) rest in
     (λ i. first i ∷ parts.0 i, parts.1)
-
-port_octets : (m n : ℕ) → m < 2 ^ 16 → n < 2 ^ 16 → big_bytes 2 m ≡ big_bytes 2 n → m ≡ n
-port_octets m n small_m small_n e =
-    sym (big_number-reads_back 2 m [] small_m) ∙ ap (λ (xs : List ℕ). big_from 0 2 (xs ++ [])) e ∙ big_number-reads_back 2 n [] small_n
 
 -- ---- values that are no portIdentity
 
@@ -78,11 +72,7 @@ module _ (a b : DataSetsValue) (left : IsReadable a) (right : IsReadable b) wher
   at_clock : (m : Member)
       → option_map plain (clock_member m a) ≡ option_map plain (clock_member m b)
       → clock_member m a ≡ clock_member m b
-  at_clock members.ParentPort e =
-      let octets : a.parent.parent_port.clock.0 ++ big_bytes 2 a.parent.parent_port.port ≡ b.parent.parent_port.clock.0 ++ big_bytes 2 b.parent.parent_port.port = cc in
-      let parts = same_front _ _ _ _ (left.clock ∙ sym right.clock) octets in
-      let port = port_octets _ _ left.port right.port parts.1 in
-      λ i. Some (PortOf (parts.0 i) (port i))
+  at_clock members.ParentPort e = grind (arith, same_front)
   at_clock m e = plain_same (clock_member m a) (clock_member m b) refl refl e
 
   at_place : (place : Place)

@@ -1,6 +1,6 @@
 -- What holds of every reply.
-use Rattle.std.proofs.Common.{◌≡◌, ◌∙◌, refl, ap, ℕ, ◌≤◌, ◌-◌, ◌+◌, Bool, true, false, if◌then◌else◌, List, [], ◌∷◌, length, map, Option, Some, None, inl, inr, arith}
-use Rattle.std.specs.List.{All, range_with_len}
+use Rattle.std.proofs.Common.{◌≡◌, refl, ℕ, ◌≤◌, ◌-◌, ◌+◌, Bool, true, false, if◌then◌else◌, List, [], ◌∷◌, length, map, Option, Some, None, arith}
+use Rattle.std.specs.List.{All}
 use Rattle.std.proofs.lemmas.List.{length-map}
 use Rattle.std.proofs.lemmas.List.FromFn.{length-range_with_len}
 use Rattle.std.proofs.lemmas.List.Elements.{All-map}
@@ -13,7 +13,7 @@ use Rattle.ptpm_data.specs.Request.{RequestValue}
 use Rattle.ptpm_data.specs.Reply.{Outcome, Answer}
 use Rattle.ptpm_data.specs.Members.{DataSetsValue, HasPort}
 use Rattle.ptpm_data.specs.DataField.{data_field_at}
-use Rattle.ptpm_data.specs.Changes.{IsTargetOf, IsTargetPort}
+use Rattle.ptpm_data.specs.Changes.{IsTargetPort}
 use Rattle.ptpm_data.specs.Replies.{answer, answerers, named_ports, outcome, reply_of}
 use Rattle.ptpm_data.specs.RequestLaws.{IsSized, IsForOne, IsOneAnswer, IsOutcomeOf, answerer}
 use Rattle.ptpm_data.proofs.FieldSizes.{of_id}
@@ -63,7 +63,7 @@ one_of true q refusal d has eight =
     let low = own.0 in
     let high = own.1 in
     let one : q.port + 1 - q.port ≡ 1 = omega arith in
-    let named : named_ports q.port (length d.ports) ≡ q.port ∷ [] = named_ports-one q.port (length d.ports) (λ e. omega arith) (inr own) ∙ ap (λ (n : ℕ). range_with_len q.port n) one in
+    let named : named_ports q.port (length d.ports) ≡ q.port ∷ [] = grind (arith, named_ports-one) in
     (outcome refusal q.action (data_field_at q.id (Some q.port) d), rw named refl)
 one_of false q refusal d has eight = (outcome refusal q.action (data_field_at q.id None d), refl)
 
@@ -76,23 +76,10 @@ reply_of-one q refusal d has eight = one_of (is_of_port q.id) q refusal d has ei
 
 -- ---- how many answers
 
-named_count : (port n : ℕ)
-    → IsTargetOf port n
-    → 1 ≤ n
-    → n ≤ 8
-    → (1 ≤ length (named_ports port n)) × (length (named_ports port n) ≤ 8)
-named_count port n (inl every) low high =
-    rw (named_ports-every port n n every refl, length-range_with_len) (omega arith, omega arith)
-named_count port n (inr own) low high =
-    let least = own.0 in
-    let most = own.1 in
-    rw (named_ports-one port n (λ e. omega arith) (inr own), length-range_with_len) (omega arith, omega arith)
-
 count_of : (b : Bool) (q : RequestValue) (refusal : Option ErrorId) (d : DataSetsValue)
     → IsTargetPort q.port d → IsSized d
     → (1 ≤ length (answers_of b q refusal d)) × (length (answers_of b q refusal d) ≤ 8)
-count_of true q refusal d target s =
-    rw (length-map, length-map) (named_count q.port (length d.ports) target s.some_port s.at_most_eight)
+count_of true q refusal d target s = grind (arith, length-map, named_ports-every, length-range_with_len, named_ports-one)
 count_of false q refusal d target s = (omega arith, omega arith)
 
 pub reply_of-count : (q : RequestValue) (refusal : Option ErrorId) (d : DataSetsValue)

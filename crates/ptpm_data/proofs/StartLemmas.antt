@@ -1,12 +1,13 @@
 -- The ports of a start, one after another.
-use Rattle.std.proofs.Common.{arith, ◌≡◌, ◌==◌, nat_lt, nat_le, Bool, true, false, not, ◌&&◌, if◌then◌else◌, bytes_eq, ℕ, ◌+◌, ◌<◌, ◌≤◌, List, [], ◌∷◌, ◌++◌, Option, Some, None, Result, Ok, Err, map, take, drop, length, get_or, drop-cons, add-one, refl, ap, sym, subst, IsErrAnd, MatchResult, ◌∙◌}
+use Rattle.std.proofs.lemmas.Grind.{common_steps}
+use Rattle.std.proofs.Common.{arith, ◌≡◌, nat_lt, nat_le, Bool, true, false, if◌then◌else◌, bytes_eq, ℕ, ◌+◌, ◌<◌, ◌≤◌, List, [], ◌∷◌, ◌++◌, Option, Some, None, Result, Ok, Err, map, take, drop, length, get_or, drop-cons, add-one, refl, ap, sym, subst, IsErrAnd, MatchResult, ◌∙◌}
 use Rattle.std.proofs.Math.ListN.{drop_of_length-le}
 use Rattle.std.proofs.lemmas.List.{take_more, map-append}
 use Rattle.std.specs.Option.{option_or}
 use Rattle.ptpm_data.specs.declared.start.StartError.{StartError}
 use Rattle.ptpm_data.specs.declared.start.PortStart.{PortStart}
 use Rattle.ptpm_data.specs.declared.data_sets.PortDataSet.{PortDataSet}
-use Rattle.ptpm_data.specs.Start.{port_data_set, port_fault, ports_fault, port_start_of, unless, count_fault, clock_fault, grandmaster_fault, all_ones}
+use Rattle.ptpm_data.specs.Start.{port_data_set, port_fault, ports_fault, port_start_of, unless, count_fault, clock_fault, grandmaster_fault}
 use Rattle.ptpm_data.specs.ManagementId.{set_of}
 use Rattle.ptpm_data.specs.Ranges.{is_description}
 use Rattle.ptpm_data.specs.Members.{is_grandmaster, is_same_precedence}
@@ -27,10 +28,6 @@ pub unless_ok : {A E : Type 0} (o : Option E) (a b : A) → unless o a ≡ Ok b 
 unless_ok None a b h = (refl, cc)
 unless_ok (Some e) a b h = cc
 
-pub unless_err : {A E : Type 0} (o : Option E) (a : A) (e : E) → unless o a ≡ Err e → o ≡ Some e
-unless_err None a e h = cc
-unless_err (Some d) a e h = cc
-
 pub started_ok : (p : PortStart) (s : PortDataSet)
     → port_start_of p ≡ Ok s
     → (port_fault p ≡ None) × (s ≡ port_data_set p)
@@ -39,7 +36,7 @@ started_ok p s h = unless_ok _ _ _ h
 
 pub started_err : (p : PortStart) (m : StartError) → port_start_of p ≡ Err m → port_fault p ≡ Some m
 unfolding port_start_of
-started_err p m h = unless_err _ _ _ h
+started_err p m h = grind arith
 
 -- a port without a fault
 pub goes_on : (ps : List PortStart) (i : ℕ) (p : PortStart) (s : PortDataSet)
@@ -69,8 +66,7 @@ pub made_on : (ps : List PortStart) (i : ℕ) (p : PortStart) (s : PortDataSet)
     → i < length ps
     → sets ≡ map port_data_set (take i ps) → port_start_of (get_or ps i p) ≡ Ok s
     → sets ++ s ∷ [] ≡ map port_data_set (take (i + 1) ps)
-made_on ps i p s sets below made ok =
-    rw (take_more ps i p below, map-append port_data_set (take i ps) (get_or ps i p ∷ []), made, (started_ok _ s ok).1) refl
+made_on ps i p s sets below made ok = grind (arith, common_steps, take_more, map-append, get_or, started_ok)
 
 -- an error that `?` hands on
 pub handed_on : {A E : Type 0} (r : Result A E) (e : E) (P : A → Type 0) (Q : E → Type 0)
@@ -90,44 +86,23 @@ passes false e o h = (refl, h)
 
 pub count_sound : (n : ℕ) → count_fault n ≡ None → (1 ≤ n) × (n ≤ 8)
 unfolding count_fault
-count_sound n h =
-    let none = passes (n == 0) _ _ h in
-    let many = passes (nat_lt 8 n) _ _ none.1 in
-    let a : n == 0 ≡ false = none.0 in
-    let b : nat_lt 8 n ≡ false = many.0 in
-    (grind (arith, nat_tests), grind (arith, nat_tests))
+count_sound n h = grind (arith, passes, nat_lt, nat_tests)
 
 pub description_sound : (c : ClockStart)
     → clock_fault c ≡ None
     → is_description c.user_description.items ≡ true
 unfolding clock_fault
-description_sound c h =
-    let identity = passes (bytes_eq c.identity.0 all_ones) _ _ h in
-    let text = passes (not (is_description c.user_description.items)) _ _ identity.1 in
-    not-false _ text.0
+description_sound c h = grind (arith, passes, bytes_eq, not-false)
 
 pub description_small : (text : List ℕ) → is_description text ≡ true → length text ≤ 128
 unfolding is_description set_of
 description_small text h = let small = (and_parts (nat_le (length text) 128) _ h).0 in grind (arith, nat_tests)
 
 pub precedence_sound : (x y : ClockPrecedence) → is_same_precedence x y ≡ true → x ≡ y
-precedence_sound x y h =
-    let p = and_parts _ _ h in
-    let q = and_parts _ _ p.1 in
-    let r = and_parts _ _ q.1 in
-    let s = and_parts _ _ r.1 in
-    let priority1 = eqb-true _ _ p.0 in
-    let class = eqb-true _ _ q.0 in
-    let accuracy = eqb-true _ _ r.0 in
-    let variance = eqb-true _ _ s.0 in
-    let priority2 = eqb-true _ _ s.1 in
-    λ i. record { priority1 = priority1 i; class = class i; accuracy = accuracy i; variance = variance i; priority2 = priority2 i }
+precedence_sound x y h = grind (arith, and_parts, eqb-true)
 
 pub grandmaster_sound : (default : DefaultDataSet) (parent : ParentDataSet)
     → grandmaster_fault default parent ≡ None
     → is_grandmaster default parent ≡ true → parent.precedence ≡ default.precedence
 unfolding grandmaster_fault
-grandmaster_sound default parent h own =
-    let same = is_same_precedence parent.precedence default.precedence in
-    let test = (passes (is_grandmaster default parent && not same) _ _ h).0 in
-    precedence_sound _ _ (not-false same (ap (λ b. b && not same) (sym own) ∙ test))
+grandmaster_sound default parent h own = grind (arith, passes, precedence_sound, not-false)

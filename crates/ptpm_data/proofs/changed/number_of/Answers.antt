@@ -7,6 +7,6 @@ loop-place-init c = record { read = none_read c.args.digits.now; small = omega a
 
 pub loop-place-preserved : goal.loop-place-preserved
 loop-place-preserved c = record {
-  read = digit_read c.args.digits.now c.loop-place.place c.loop-place.number c.from.result _ (omega arith) c.loop-place.invariant.read c.from.ensures;
+  read = grind (arith, digit_read);
   small = still_small c.loop-place.place c.loop-place.number c.from.result _ c.loop-place.invariant.small c.from.ensures;
 }

@@ -1,4 +1,4 @@
-use Rattle.std.proofs.Common.{sym, arith}
+use Rattle.std.proofs.Common.{arith}
 use Rattle.std.proofs.lemmas.List.{get_or_default}
 use Rattle.std.proofs.lemmas.List.Edits.{map_over_more}
 use Rattle.ptpm_data.specs.PortChange.{port_after}
@@ -17,5 +17,4 @@ returns-after-loop-set c =
     (map_over_all (port_after c.args.change) c.args.ports.now c.loop-set.set-items c.loop-set.set-index (omega arith) c.loop-set.invariant)
 
 pub returns-else-port-eq-EVERY_PORT : goal.returns-else-port-eq-EVERY_PORT
-returns-else-port-eq-EVERY_PORT c =
-    rw c.change-else-port-eq-EVERY_PORT.ensures (sym (named_changed-one _ _ _ _ c.if-port-eq-EVERY_PORT.false c.requires))
+returns-else-port-eq-EVERY_PORT c = grind (arith, named_changed-one)

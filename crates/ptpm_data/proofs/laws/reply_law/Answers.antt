@@ -1,6 +1,4 @@
-use Rattle.std.proofs.Common.{refl}
-use Rattle.ptpm_data.specs.Refusals.{refusal_of}
-use Rattle.ptpm_data.specs.Changes.{changed_by}
+use Rattle.std.proofs.Common.{arith, refl}
 use Rattle.ptpm_data.specs.Replies.{reply_to, reply_of}
 use Rattle.ptpm_data.proofs.ReplyLemmas.{reply_of-one, reply_of-outcomes, reply_of-count}
 use Rattle.ptpm_data.proofs.Keeping.{changed_by-ports, changed_by-sized}
@@ -16,21 +14,16 @@ returns-clause-id c = λ q rights d. refl
 
 pub returns-clause-one_answer : goal.returns-clause-one_answer
 unfolding reply_to
-returns-clause-one_answer c = λ q rights d s one.
-    reply_of-one q (refusal_of q rights) (changed_by q rights d) (rw (changed_by-ports q rights d) one)
-    (changed_by-sized q rights d s).at_most_eight
+returns-clause-one_answer c = grind (arith, reply_of-one, changed_by-ports, changed_by-sized)
 
 pub returns-clause-outcomes : goal.returns-clause-outcomes
 unfolding reply_to
-returns-clause-outcomes c = λ q rights d s request.
-    reply_of-outcomes q (refusal_of q rights) (changed_by q rights d) request (changed_by-sized q rights d s)
+returns-clause-outcomes c = grind (arith, reply_of-outcomes, changed_by-sized)
 
 pub returns-clause-some_answer : goal.returns-clause-some_answer
 unfolding reply_to
-returns-clause-some_answer c = λ q rights d s target.
-    (reply_of-count q (refusal_of q rights) (changed_by q rights d) (rw (changed_by-ports q rights d) target) (changed_by-sized q rights d s)).0
+returns-clause-some_answer c = grind (arith, reply_of-count, changed_by-ports, changed_by-sized)
 
 pub returns-clause-at_most_eight_answers : goal.returns-clause-at_most_eight_answers
 unfolding reply_to
-returns-clause-at_most_eight_answers c = λ q rights d s target.
-    (reply_of-count q (refusal_of q rights) (changed_by q rights d) (rw (changed_by-ports q rights d) target) (changed_by-sized q rights d s)).1
+returns-clause-at_most_eight_answers c = grind (arith, reply_of-count, changed_by-ports, changed_by-sized)

@@ -7,9 +7,7 @@ pub loop-id-init : goal.loop-id-init
 loop-id-init c = named_among_all c.args.name.now
 
 pub loop-id-preserved : goal.loop-id-preserved
-loop-id-preserved c =
-    let other = sym c.row_if_named.ensures ∙ ap (option_map row_value) c.in_default.is in
-    goes_on c.args.name.now management_ids c.loop-id.id-index (omega arith) c.loop-id.invariant other
+loop-id-preserved c = grind (arith, option_map, goes_on, management_ids)
 
 pub returns-in-Some : goal.returns-in-Some
 returns-in-Some c =

@@ -1,4 +1,4 @@
-use Rattle.std.proofs.Common.{◌∙◌, arith, sym, rules}
+use Rattle.std.proofs.Common.{arith, rules}
 use Rattle.ptpm_data.specs.Observation.{left_disabled}
 use Rattle.ptpm_data.proofs.Observing.{left_more}
 use Rattle.ptpm_data.proofs.observation.left_disabled.Goals as goal
@@ -8,9 +8,4 @@ unfolding left_disabled
 loop-place-init c = record { made = search rules; count = search rules }
 
 pub loop-place-preserved : goal.loop-place-preserved
-loop-place-preserved c = record {
-  made =
-      c.push.ensures.items
-      ∙ rw (c.loop-place.invariant.made, c.leaves_disabled.ensures) (sym (left_more _ _ _ _ _ (omega arith) (omega arith)));
-  count = search rules;
-}
+loop-place-preserved c = grind (arith, left_more)

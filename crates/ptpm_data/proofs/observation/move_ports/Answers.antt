@@ -9,6 +9,6 @@ loop-place-init c = record { moved = refl; count = refl }
 
 pub loop-place-preserved : goal.loop-place-preserved
 loop-place-preserved c = record {
-  moved = ports_step _ _ _ _ _ _ _ (omega arith) (omega arith) c.loop-place.invariant.moved c.move_members.ensures;
+  moved = grind (arith, ports_step);
   count = search rules;
 }

@@ -1,6 +1,5 @@
-use Rattle.std.proofs.Common.{arith, ◌∙◌, ap, sym, map}
+use Rattle.std.proofs.Common.{arith, ◌∙◌, sym}
 use Rattle.std.proofs.lemmas.List.{take_all}
-use Rattle.ptpm_data.specs.Start.{port_data_set}
 use Rattle.ptpm_data.proofs.StartLemmas.{goes_on, stops, no_more, made_on, handed_on}
 use Rattle.ptpm_data.proofs.start.port_data_sets.Goals as goal
 
@@ -8,7 +7,7 @@ pub loop-port-preserved : goal.loop-port-preserved
 loop-port-preserved c =
     let ok = sym c.data_set.ensures ∙ c.in_ok-data_set.was in
     record {
-      made = c.push.ensures.items ∙ made_on _ _ _ _ _ (omega arith) c.loop-port.invariant.made ok;
+      made = grind (arith, made_on);
       sound = goes_on _ _ _ _ (omega arith) c.loop-port.invariant.sound ok;
     }
 
@@ -18,7 +17,4 @@ returns-in_err-data_set c =
     handed_on _ _ _ _ c.from_residual.ensures.1 (stops _ _ _ _ (omega arith) c.loop-port.invariant.sound err)
 
 pub returns : goal.returns
-returns c = (
-  no_more _ _ (omega arith) c.loop-port.invariant.sound,
-  c.loop-port.invariant.made ∙ ap (map port_data_set) (take_all _ _ (omega arith)),
-)
+returns c = grind (arith, no_more, take_all)

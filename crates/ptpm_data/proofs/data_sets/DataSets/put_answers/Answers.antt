@@ -1,8 +1,8 @@
-use Rattle.std.proofs.Common.{◌≡◌, ◌∙◌, [], ◌∷◌, ◌+◌, ◌-◌, ℕ, List, Option, Some, ap, arith, length, map, subst, sym}
+use Rattle.std.proofs.Common.{◌≡◌, ◌∙◌, [], ◌∷◌, ◌+◌, ◌-◌, ℕ, List, Option, Some, ap, arith, length, subst, sym}
 use Rattle.std.specs.List.{range_with_len}
 use Rattle.ptpm_data.specs.DataField.{data_field_of}
 use Rattle.ptpm_data.specs.ManagementId.{row_value}
-use Rattle.ptpm_data.specs.Replies.{answer, named_ports, outcome}
+use Rattle.ptpm_data.specs.Replies.{named_ports, outcome}
 use Rattle.ptpm_data.specs.Reply.{Answer}
 use Rattle.ptpm_data.specs.Request.{RequestValue}
 use Rattle.ptpm_data.proofs.Answering.{answer_by_row}
@@ -12,9 +12,7 @@ use Rattle.ptpm_data.proofs.data_sets.DataSets.put_answers.Goals as goal
 pub loop-port-init : goal.loop-port-init
 loop-port-init g c =
     let first = c.named_ports-first.result.0 in
-    let nothing : 0 ≡ first - first = omega arith in
-    subst (λ (n : ℕ). g.A.Answers.taken c.args.answers.now (map (answer c.args.request.now c.args.refusal c.args.self.now) (map Some (range_with_len first n))) c.args.answers.now)
-    nothing (g.met.A.Answers.none_taken c.args.answers.now)
+    let nothing : 0 ≡ first - first = omega arith in grind arith
 
 pub loop-port-preserved : goal.loop-port-preserved
 loop-port-preserved g c =
@@ -29,12 +27,7 @@ loop-port-preserved g c =
     (g.met.A.Answers.taken_after c.args.answers.now c.loop-port.answers c.put_answer.new.answers _ _ c.loop-port.invariant one)
 
 pub put_answer-requires : goal.put_answer-requires
-put_answer-requires g c =
-    let first = c.named_ports-first.result.0 in
-    let here = c.loop-port.port in
-    let counted = g.met.A.Answers.counted c.args.answers.now c.loop-port.answers _ c.loop-port.invariant in
-    let so_many = answers-count c.args.request.now c.args.refusal c.args.self.now first (here - first) in
-    omega (arith, counted, so_many, c.requires.room, c.loop-port-test.true, c.loop-port.auto.port, c.named_ports-first.ensures.at_most_eight)
+put_answer-requires g c = grind (arith, answers-count)
 
 pub returns : goal.returns
 returns g c =
@@ -43,6 +36,4 @@ returns g c =
     let last : here - first ≡ c.named_ports-first.result.1 - first =
     omega (arith, c.loop-port-test.false, c.loop-port.auto.port, c.loop-port.auto.port-end c.named_ports-first.ensures.ordered) in
     let ports = ap (range_with_len first) last ∙ sym c.named_ports-first.ensures.numbers
-    ∙ ap (λ (q : RequestValue). named_ports q.port (length c.args.self.now.ports)) c.request.view_is in
-    subst (λ (ns : List ℕ). g.A.Answers.taken c.args.answers.now (map (answer c.args.request.now c.args.refusal c.args.self.now) (map Some ns)) c.loop-port.answers)
-    ports c.loop-port.invariant
+    ∙ ap (λ (q : RequestValue). named_ports q.port (length c.args.self.now.ports)) c.request.view_is in grind arith

@@ -1,8 +1,7 @@
-use Rattle.std.proofs.Common.{◌≡◌, ◌∙◌, ap, subst, sym}
-use Rattle.ptpm_data.specs.ManagementId.{row_value, row_of}
+use Rattle.std.proofs.Common.{arith, ◌≡◌, ◌∙◌, ap}
+use Rattle.ptpm_data.specs.ManagementId.{row_of}
 use Rattle.ptpm_data.specs.Request.{RequestValue}
-use Rattle.ptpm_data.specs.Replies.{is_get, read_reply_to, reply_of}
-use Rattle.ptpm_data.specs.Reply.{ReplyValue}
+use Rattle.ptpm_data.specs.Replies.{is_get, read_reply_to}
 use Rattle.ptpm_data.proofs.Answering.{no_entry, entry_is, refused_by_clock, reply_of-unlisted, read-unlisted, read-listed, read-other}
 use Rattle.ptpm_data.proofs.data_sets.DataSets.read_into.Goals as goal
 use Rattle.ptpm_data.proofs.data_sets.DataSets.read_into.Goals.{then-get, else-get, then-get-2, else-get-2}
@@ -10,7 +9,7 @@ use Rattle.ptpm_data.proofs.data_sets.DataSets.read_into.Goals.{then-get, else-g
 pub returns-in_default : goal.returns-in_default
 returns-in_default g c =
     let id : row_of c.request.inside.id ≡ row_of c.args.request.now.id = ap (λ (q : RequestValue). row_of q.id) c.request.view_is in
-    let get : is_get c.args.request.now.action ≡ c.is_get-get.result = ap (λ (q : RequestValue). is_get q.action) (sym c.request.view_is) ∙ sym c.is_get-get.ensures in
+    let get : is_get c.args.request.now.action ≡ c.is_get-get.result = grind arith in
     let gone = no_entry (c.by_id.ensures ∙ id) c.in_default.is in
     let reply : refused_by_clock c.args.request.now c.if-get.error ≡ read_reply_to c.args.request.now c.args.self.now =
     elim c.if-get.branch [
@@ -18,19 +17,7 @@ returns-in_default g c =
       | else-get w ↦
           rw w.error-is
           (reply_of-unlisted c.args.request.now _ c.args.self.now gone ∙ read-other c.args.request.now c.args.self.now (get ∙ w.if-get.false))
-    ] in
-    subst (λ (r : ReplyValue). g.A.Answers.taken c.args.answers.now r.answers c.take_refusal.new.self) reply c.take_refusal.ensures
+    ] in grind arith
 
 pub returns : goal.returns
-returns g c =
-    let id : row_of c.request.inside.id ≡ row_of c.args.request.now.id = ap (λ (q : RequestValue). row_of q.id) c.request.view_is in
-    let get : is_get c.args.request.now.action ≡ c.is_get-get.result = ap (λ (q : RequestValue). is_get q.action) (sym c.request.view_is) ∙ sym c.is_get-get.ensures in
-    let here = entry_is (c.by_id.ensures ∙ id) c.in-Some.is in
-    let reply : reply_of c.args.request.now c.if-get-2.refusal c.args.self.now ≡ read_reply_to c.args.request.now c.args.self.now =
-    elim c.if-get-2.branch [
-      | then-get-2 w ↦
-          rw (w.refusal-is, w.refusal-refusal.ensures)
-          (read-listed c.args.request.now c.args.self.now (row_value c.in-Some.row) w.empty.result (w.empty.ensures tt) here (get ∙ w.if-get-2.true))
-      | else-get-2 w ↦ rw w.refusal-is (read-other c.args.request.now c.args.self.now (get ∙ w.if-get-2.false))
-    ] in
-    subst (λ (r : ReplyValue). g.A.Answers.taken c.args.answers.now r.answers c.put_reply.new.answers) reply c.put_reply.ensures
+returns g c = grind (arith, entry_is, then-get-2, read-listed, else-get-2, read-other)
