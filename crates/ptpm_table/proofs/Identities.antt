@@ -1,9 +1,9 @@
 -- The order of identities tells apart what the test of equality tells apart.
-use Rattle.std.proofs.Common.{◌≡◌, ℕ, true, sym, ◌∙◌, ap, List, ◌&&◌}
+use Rattle.std.proofs.Common.{arith, ◌≡◌, ℕ, true, sym, ◌∙◌, ap, List}
 use Rattle.std.proofs.lemmas.Map.Lookups.{CmpEqualImpliesEq, exact_bytes, exact_pairs, exact_unsigned}
 use Rattle.std.proofs.lemmas.Map.Text.{is_eq-slice_cmp}
 use Rattle.std.proofs.lemmas.Cmp.{eq_by_cmp_equiv, nat_cmp_total, nat_list_cmp_total, on_total, then_total}
-use Rattle.std.specs.Cmp.{IsTotalOrder, tied_then, unsigned_tied}
+use Rattle.std.specs.Cmp.{IsTotalOrder}
 use Rattle.std.specs.Cmp.Lexicographic.{slice_cmp}
 use Rattle.std.specs.Ordering.{eq_by_cmp, nat_cmp}
 use Rattle.ptpm_codec.specs.Identity.{identity_cmp, same_identity}
@@ -21,9 +21,7 @@ exact_identities a b h =
     ap identity_from (exact_pairs (slice_cmp nat_cmp) nat_cmp exact_bytes exact_unsigned (a.clock.0, a.port) (b.clock.0, b.port) h)
 
 pub tied_identities : (a b : PortIdentity) → eq_by_cmp identity_cmp a b ≡ same_identity a b
-tied_identities a b =
-    sym (tied_then (slice_cmp nat_cmp a.clock.0 b.clock.0) (nat_cmp a.port b.port))
-    ∙ (λ i. is_eq-slice_cmp a.clock.0 b.clock.0 i && unsigned_tied a.port b.port i)
+tied_identities a b = grind (arith, is_eq-slice_cmp)
 
 pub same_identity-refl : (a : PortIdentity) → same_identity a a ≡ true
 same_identity-refl a = sym (tied_identities a a) ∙ (eq_by_cmp_equiv identities_total).refl a

@@ -1,13 +1,11 @@
 -- Kept messages: written over for another copy, and read back.
-use Rattle.std.proofs.Common.{suc, arith, ◌≡◌, ◌<◌, ◌≤◌, ◌^◌, ℕ, ◌+◌, ◌-◌, ◌*◌, Bool, true, false, refl, sym, ◌∙◌, ap, subst, List, [], ◌∷◌, ◌++◌, length, get_or, map, take, drop, Option, Some, None, unwrap_or, slice_set, All}
-use Rattle.ptpm_codec.specs.declared.error.ErrorId.{ErrorId}
-use Rattle.ptpm_codec.specs.declared.error.ErrorId.TheVariants as errors
+use Rattle.std.proofs.Common.{suc, arith, ◌≡◌, ◌<◌, ◌≤◌, ◌^◌, ℕ, ◌+◌, ◌-◌, ◌*◌, Bool, true, false, refl, sym, ◌∙◌, ap, subst, List, [], ◌∷◌, ◌++◌, length, get_or, map, take, drop, Some, None, unwrap_or, slice_set, All}
 use Rattle.ptpm_codec.specs.declared.message.Action.{Action}
 use Rattle.ptpm_codec.specs.declared.message.Action.TheVariants as actions
 use Rattle.ptpm_codec.specs.declared.message.Message.{Message}
 use Rattle.ptpm_codec.specs.Canonical.{canonical, port_identity_octets, text_octets, tlv_octets}
 use Rattle.ptpm_codec.specs.Layout.{message_octets}
-use Rattle.ptpm_codec.specs.Message.{Fits, IsValid, IsRequestAction, error_number}
+use Rattle.ptpm_codec.specs.Message.{Fits, IsValid, IsRequestAction}
 use Rattle.ptpm_codec.specs.Reading.{message_of}
 use Rattle.ptpm_codec.specs.Spelling.{Spells}
 use Rattle.ptpm_codec.proofs.CanonicalLaws.{by_clocks, canonical_octets, canonical_size, canonical_spells}
@@ -24,7 +22,7 @@ use Rattle.std.specs.Prelude.{is_some}
 use Rattle.ptpm_table.proofs.ListLemmas.{All-unmap}
 use Rattle.ptpm_codec.specs.Message.{reply_action}
 use Rattle.ptpm_table.specs.Entries.{FitsAnswer, FitsCount, FitsOutcome, FitsRequest}
-use Rattle.ptpm_table.specs.KeptMessages.{AreSizes, EachKept, Envelope, IsCopyOf, IsKeptMessage, IsKeptReply, answer_in, error_of_number, first_copy, has_port, kept_message, outcome_in, outcome_of_body, pieces, port_for, port_in, renewed, sent_message, source_port}
+use Rattle.ptpm_table.specs.KeptMessages.{AreSizes, EachKept, Envelope, IsCopyOf, IsKeptMessage, IsKeptReply, answer_in, first_copy, has_port, kept_message, outcome_in, outcome_of_body, pieces, port_for, port_in, renewed, sent_message, source_port}
 use Rattle.ptpm_table.specs.Rendering.{answer_body, hops_passed, rendered, reply_message}
 
 -- ---- written over
@@ -62,8 +60,8 @@ renewed_of_port e first at heard ingress port o own copy fits =
     let v : Message = sent_message e first at (record { port = Some port; outcome = o }) in
     let v1 : Message = record v { domain = heard.domain } in
     let v2 : Message = record v1 { starting_hops = h } in
-    let fits1 : Fits v1 = record { source = fits.source; number = fits.number; target = fits.target; body = fits.body } in
-    let fits2 : Fits v2 = record { source = fits.source; number = fits.number; target = fits.target; body = fits.body } in
+    let fits1 : Fits v1 = grind arith in
+    let fits2 : Fits v2 = grind arith in
     ap (λ (m : List ℕ). slice_set (slice_set m 44 h) 45 h) (set_domain v heard.domain)
     ∙ ap (λ (m : List ℕ). slice_set m 45 h) (set_starting_hops v1 h fits1)
     ∙ set_hops v2 h fits2
@@ -106,15 +104,6 @@ renewed_reply of_port e heard ingress (m ∷ ms) copy low kept =
 
 -- ---- read back
 
-error_back : (error : ErrorId) → error_of_number (error_number error) ≡ error
-error_back errors.ResponseTooBig = refl
-error_back errors.NoSuchId = refl
-error_back errors.WrongLength = refl
-error_back errors.WrongValue = refl
-error_back errors.NotSetable = refl
-error_back errors.NotSupported = refl
-error_back errors.GeneralError = refl
-
 outcome_back : (request : Action) (id most : ℕ) (o : Outcome)
     → IsRequestAction request
     → FitsOutcome request most o
@@ -129,7 +118,7 @@ outcome_back actions.Set id most reply.Done asks fits = absurd (cc)
 outcome_back actions.Command id most reply.Done asks fits = refl
 outcome_back actions.Response id most reply.Done asks fits = absurd (cc)
 outcome_back actions.Acknowledge id most reply.Done asks fits = absurd (cc)
-outcome_back request id most (reply.Refused error) asks fits = ap reply.Refused (error_back error)
+outcome_back request id most (reply.Refused error) asks fits = grind arith
 
 message_back : (v : Message) → IsValid v → Fits v → message_of (canonical v) ≡ Some v
 message_back v valid fits =
@@ -145,15 +134,12 @@ pub answer_back : (of_port : Bool) (e : Envelope) (first : Heard) (at : ℕ) (re
     → answer_in of_port (canonical (sent_message e first at a)) ≡ a
 answer_back false e first at request a action asks suits valid fits =
     let read = message_back (sent_message e first at a) valid fits in
-    let outcome : outcome_in (message_of (canonical (sent_message e first at a))) ≡ a.outcome =
-    ap outcome_in read ∙ (ap (λ (x : Action). outcome_of_body (answer_body x e.id a.outcome)) action ∙ outcome_back request e.id 130 a.outcome asks suits.1) in
+    let outcome : outcome_in (message_of (canonical (sent_message e first at a))) ≡ a.outcome = grind (arith, outcome_back) in
     (λ i. record { port = sym suits.0 i; outcome = outcome i })
 answer_back true e first at request a action asks suits valid fits =
     let read = message_back (sent_message e first at a) valid fits in
-    let outcome : outcome_in (message_of (canonical (sent_message e first at a))) ≡ a.outcome =
-    ap outcome_in read ∙ (ap (λ (x : Action). outcome_of_body (answer_body x e.id a.outcome)) action ∙ outcome_back request e.id 26 a.outcome asks suits.1) in
-    let port : port_in true (message_of (canonical (sent_message e first at a))) ≡ a.port =
-    ap (port_in true) read ∙ subst (λ (p : Option ℕ). Some (unwrap_or p at) ≡ p) (sym suits.0.1) refl in
+    let outcome : outcome_in (message_of (canonical (sent_message e first at a))) ≡ a.outcome = grind (arith, outcome_back) in
+    let port : port_in true (message_of (canonical (sent_message e first at a))) ≡ a.port = grind (arith, unwrap_or) in
     (λ i. record { port = port i; outcome = outcome i })
 
 -- a message that was encoded is kept
@@ -164,14 +150,7 @@ pub kept_back : (of_port : Bool) (e : Envelope) (first : Heard) (at : ℕ) (requ
     → IsCopyOf e first
     → IsKeptMessage e of_port (canonical (sent_message e first at a))
 kept_back of_port e first at request a action asks suits valid fits own =
-    let back = answer_back of_port e first at request a action asks suits valid fits in
-    record {
-      first = first;
-      at = at;
-      copy = own;
-      spelled = ap (λ (x : Answer). canonical (sent_message e first at x)) (sym back);
-      fits = subst (λ (x : Answer). Fits (sent_message e first at x)) (sym back) fits;
-    }
+    let back = answer_back of_port e first at request a action asks suits valid fits in grind arith
 
 -- ---- cutting
 
@@ -204,15 +183,6 @@ each_more : (e : Envelope) (of_port : Bool) (ms : List (List ℕ)) (m : List ℕ
 each_more e of_port [] m each kept = (kept, tt)
 each_more e of_port (x ∷ ms) m each kept = (each.0, each_more e of_port ms m each.1 kept)
 
-pub kept_more : (e : Envelope) (of_port : Bool) (sizes octets m : List ℕ)
-    → IsKeptReply e of_port sizes octets
-    → IsKeptMessage e of_port m
-    → 54 ≤ length m → IsKeptReply e of_port (sizes ++ length m ∷ []) (octets ++ m)
-kept_more e of_port sizes octets m kept one least = record {
-  cut = subst (AreSizes (sizes ++ length m ∷ [])) (sym (length-append octets m)) (sizes_more sizes (length octets) (length m) kept.cut least);
-  each = subst (EachKept e of_port) (sym (pieces_more sizes octets m kept.cut)) (each_more e of_port (pieces sizes octets) m kept.each one);
-}
-
 -- ---- sizes
 
 pub canonical_length : (v : Message)
@@ -236,12 +206,6 @@ body_length request action id most (reply.Refused error) least fits = omega arit
 abbrev pub most_octets : Bool → ℕ
 most_octets false = 184
 most_octets true = 80
-
-tlv_small : (of_port : Bool) (request action : Action) (id : ℕ) (a : Answer)
-    → FitsAnswer of_port request a
-    → 48 + length (tlv_octets (answer_body action id a.outcome)) ≤ most_octets of_port
-tlv_small false request action id a suits = omega (arith, body_length request action id 130 a.outcome (omega arith) suits.1)
-tlv_small true request action id a suits = omega (arith, body_length request action id 26 a.outcome (omega arith) suits.1)
 
 pub kept_length : (of_port : Bool) (e : Envelope) (first : Heard) (at : ℕ) (request : Action) (a : Answer)
     → FitsAnswer of_port request a
@@ -297,7 +261,7 @@ pub encoded : (of_port : Bool) (e : Envelope) (first : Heard) (at : ℕ) (reques
 encoded of_port e first at request a v own message action asks suits =
     subst (λ (w : Message). IsValid w → Fits w → IsEncoded of_port e a w) message (λ valid fits. record {
       kept = kept_back of_port e first at request a action asks suits valid fits own;
-      back = answer_back of_port e first at request a action asks suits valid fits;
+      back = grind (arith, answer_back);
       small = kept_length of_port e first at request a suits fits;
       least = kept_least e first at a valid fits;
     })
@@ -331,9 +295,7 @@ pub made_small : (of_port : Bool) (e : Envelope) (request action : Action)
     → All (λ a. FitsAnswer of_port request (answer_of a)) answers
     → v ≡ reply_message e.clock (first_copy e) action e.id 0 (answer_of item)
     → 48 + length (tlv_octets v.body) ≤ most_octets of_port
-made_small of_port e request action answers i item v is inside suit message =
-    subst (λ (w : Message). 48 + length (tlv_octets w.body) ≤ most_octets of_port) (sym message)
-    (tlv_small of_port request action e.id (answer_of item) (suit_at of_port request answers i item is inside suit))
+made_small of_port e request action answers i item v is inside suit message = grind (arith, suit_at, body_length)
 
 -- the message of an answer, as it is encoded
 pub made : (of_port : Bool) (e : Envelope) (request action : Action) (answers : List PortAnswer)
@@ -347,8 +309,7 @@ pub made : (of_port : Bool) (e : Envelope) (request action : Action) (answers : 
     → IsRequestAction request → IsValid v → Fits v → IsEncoded of_port e (answer_of item) v
 made of_port e request action answers i item v is inside suit message chosen own asks valid fits =
     let suits = suit_at of_port request answers i item is inside suit in
-    let same : kept_message e (answer_of item) ≡ v =
-    ap (λ (x : Action). reply_message e.clock (first_copy e) x e.id 0 (answer_of item)) (own ∙ sym chosen) ∙ sym message in
+    let same : kept_message e (answer_of item) ≡ v = grind arith in
     encoded of_port e (first_copy e) 0 request (answer_of item) v (record { source_is = refl; number_is = refl }) same own asks suits valid fits
 
 -- what is kept after one more answer
@@ -358,23 +319,6 @@ pub record IsFilled (of_port : Bool) (e : Envelope) (answers : List PortAnswer) 
   pub count : length sizes ≡ i
   pub room : length octets ≤ i * most_octets of_port
 
-filled_next : (of_port : Bool) (e : Envelope) (answers : List PortAnswer) (sizes octets : List ℕ)
-    (i : ℕ) (item : PortAnswer) (v : Message)
-    → IsFilled of_port e answers sizes octets i
-    → item ≡ get_or answers i item
-    → i < length answers
-    → IsEncoded of_port e (answer_of item) v
-    → IsFilled of_port e answers (sizes ++ length (canonical v) ∷ []) (octets ++ canonical v)
-    (i + 1)
-filled_next of_port e answers sizes octets i item v filled is inside made = record {
-  kept = kept_more e of_port sizes octets (canonical v) filled.kept made.kept made.least;
-  answers_are = ap (map (answer_in of_port)) (pieces_more sizes octets (canonical v) filled.kept.cut)
-      ∙ answers_more of_port (pieces sizes octets) (canonical v) answers i item inside filled.answers_are (made.back ∙ ap answer_of is);
-  count = length-append sizes (length (canonical v) ∷ []) ∙ ap (λ n. n + 1) filled.count;
-  room = subst (λ n. n ≤ (i + 1) * most_octets of_port) (sym (length-append octets (canonical v)))
-      (filled_more of_port i (length octets) (length (canonical v)) filled.room made.small);
-}
-
 pub filled_after : (of_port : Bool) (e : Envelope) (answers : List PortAnswer)
     (sizes octets sizes' octets' : List ℕ) (i : ℕ) (item : PortAnswer) (v : Message)
     → IsFilled of_port e answers sizes octets i
@@ -383,9 +327,7 @@ pub filled_after : (of_port : Bool) (e : Envelope) (answers : List PortAnswer)
     → IsEncoded of_port e (answer_of item) v
     → sizes' ≡ sizes ++ length (canonical v) ∷ [] → octets' ≡ octets ++ canonical v
     → IsFilled of_port e answers sizes' octets' (i + 1)
-filled_after of_port e answers sizes octets sizes' octets' i item v filled is inside made s o =
-    subst (λ (p : List ℕ × List ℕ). IsFilled of_port e answers p.0 p.1 (i + 1)) (λ j. (sym s j, sym o j))
-    (filled_next of_port e answers sizes octets i item v filled is inside made)
+filled_after of_port e answers sizes octets sizes' octets' i item v filled is inside made s o = grind (arith, pieces_more, answers_more, length-append, filled_more, sizes_more, each_more)
 
 -- ---- how many messages
 
@@ -418,8 +360,7 @@ pub fitting_slots : (q : RequestValue) (r : ReplyValue) (answers : List PortAnsw
     → SuitsReply (has_port answers) q.action answers
 fitting_slots q r answers fits are =
     let s : SuitsReply (is_of_port q.id) q.action answers = record {
-      count = subst (FitsCount (is_of_port q.id)) (ap length (sym are) ∙ length-map answers answer_of) fits.count;
+      count = grind (arith, length-map);
       suits = All-unmap (FitsAnswer (is_of_port q.id) q.action) answer_of answers
           (subst (λ (xs : List Answer). All (FitsAnswer (is_of_port q.id) q.action) xs) (sym are) fits.answers);
-    } in
-    subst (λ (b : Bool). SuitsReply b q.action answers) (port_told (is_of_port q.id) q.action answers s) s
+    } in grind (arith, port_told)

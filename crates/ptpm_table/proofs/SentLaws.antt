@@ -37,17 +37,12 @@ one_more xs place inside =
 pub octets_more : (xs : List (ℕ × List ℕ)) (place : ℕ)
     → place < length xs
     → all_octets (messages_of (take (place + 1) xs)) ≡ all_octets (messages_of (take place xs)) ++ (get_or xs place (0, [])).1
-octets_more xs place inside =
-    ap all_octets (one_more xs place inside)
-    ∙ all_octets-append (messages_of (take place xs)) ((get_or xs place (0, [])).1 ∷ [])
-    ∙ ap (λ o. all_octets (messages_of (take place xs)) ++ o) (append-nil (get_or xs place (0, [])).1)
+octets_more xs place inside = grind (arith, one_more, all_octets-append, get_or, append-nil)
 
 pub sizes_more : (xs : List (ℕ × List ℕ)) (place : ℕ)
     → place < length xs
     → map length (messages_of (take (place + 1) xs)) ≡ map length (messages_of (take place xs)) ++ length (get_or xs place (0, [])).1 ∷ []
-sizes_more xs place inside =
-    ap (map length) (one_more xs place inside)
-    ∙ map-append length (messages_of (take place xs)) ((get_or xs place (0, [])).1 ∷ [])
+sizes_more xs place inside = grind (arith, one_more, map-append, get_or)
 
 pub small_at : (xs : List (ℕ × List ℕ)) (place : ℕ)
     → place < length xs
@@ -81,10 +76,8 @@ sent_valid : (of_port : Bool) (e : Envelope) (first : Heard) (at : ℕ) (request
     → IsReplyAction e.action
     → FitsAnswer of_port request a
     → IsValid (sent_message e first at a)
-sent_valid false e first at request a answers suits =
-    record { sdo = omega arith; body = body_valid request e.action e.id 130 a.outcome answers (omega arith) suits.1 }
-sent_valid true e first at request a answers suits =
-    record { sdo = omega arith; body = body_valid request e.action e.id 26 a.outcome answers (omega arith) suits.1 }
+sent_valid false e first at request a answers suits = grind (arith, body_valid)
+sent_valid true e first at request a answers suits = grind (arith, body_valid)
 
 abbrev pub message_at : Envelope → Heard → ℕ → Answer → List ℕ
 message_at e first at a = canonical (sent_message e first at a)
@@ -204,11 +197,7 @@ pub sent_kept : (of_port : Bool) (e : Envelope) (first : Heard) (at : ℕ) (xs :
     → sizes ≡ map length (map (message_at e first at) xs)
     → octets ≡ all_octets (map (message_at e first at) xs)
     → IsKeptReply e of_port sizes octets
-sent_kept of_port e first at xs sizes octets each s o =
-    subst (λ (p : List ℕ × List ℕ). IsKeptReply e of_port p.0 p.1) (λ i. (sym s i, sym o i)) (record {
-      cut = each_cut of_port e first at xs each;
-      each = subst (EachKept e of_port) (sym (pieces_back (map (message_at e first at) xs))) (each_kept of_port e first at xs each);
-    })
+sent_kept of_port e first at xs sizes octets each s o = grind (arith, each_cut, pieces_back, each_kept)
 
 pub sent_back : (of_port : Bool) (e : Envelope) (first : Heard) (at : ℕ) (xs : List Answer)
     (sizes octets : List ℕ)
@@ -216,7 +205,4 @@ pub sent_back : (of_port : Bool) (e : Envelope) (first : Heard) (at : ℕ) (xs :
     → sizes ≡ map length (map (message_at e first at) xs)
     → octets ≡ all_octets (map (message_at e first at) xs)
     → map (answer_in of_port) (pieces sizes octets) ≡ xs
-sent_back of_port e first at xs sizes octets each s o =
-    (λ i. map (answer_in of_port) (pieces (s i) (o i)))
-    ∙ ap (map (answer_in of_port)) (pieces_back (map (message_at e first at) xs))
-    ∙ each_back of_port e first at xs each
+sent_back of_port e first at xs sizes octets each s o = grind (arith, pieces_back, each_back)

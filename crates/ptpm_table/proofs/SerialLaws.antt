@@ -1,5 +1,5 @@
 -- Numbers modulo 65,536 and the indexes behind them.
-use Rattle.std.proofs.Common.{arith, ◌≡◌, ℕ, ◌%◌, ◌+◌, ◌-◌, ◌<◌, ◌≤◌, ⊎_elim}
+use Rattle.std.proofs.Common.{arith, ◌≡◌, ℕ, ◌%◌, ◌+◌, ◌-◌, ◌<◌, ◌≤◌}
 use Rattle.std.proofs.lemmas.Bool.{cases_lt}
 use Rattle.std.proofs.lemmas.Bool.Decides.{nat_tests}
 use Rattle.ptpm_table.specs.declared.serial.Serial.TheVariants.{Same, Newer, Older}
@@ -8,30 +8,13 @@ use Rattle.ptpm_table.specs.Serial.{serial_of, order_of, class_of, ahead, InWind
 ahead_of_later : (i j : ℕ) → i ≤ j → j ≤ i + 32767 → ahead (i % 65536) (j % 65536) ≡ j - i
 ahead_of_later i j below near = omega arith
 
-ahead_of_earlier : (i j : ℕ)
-    → j < i
-    → i ≤ j + 32768
-    → ahead (i % 65536) (j % 65536) ≡ 65536 - (i - j)
-ahead_of_earlier i j above near = omega arith
-
 class_of_later : (i j d : ℕ) → i ≤ j → j ≤ i + 32767 → d ≡ j - i → class_of d ≡ order_of i j
 class_of_later i j d below near distance = grind (arith, nat_tests)
-
-class_of_earlier : (i j d : ℕ)
-    → j < i
-    → i ≤ j + 32768
-    → d ≡ 65536 - (i - j)
-    → class_of d ≡ order_of i j
-class_of_earlier i j d above near distance = grind (arith, nat_tests)
 
 -- in the window, the class of the numbers is the order of the indexes
 pub serial_in_window : (i j : ℕ) → InWindow i j → serial_of (i % 65536) (j % 65536) ≡ order_of i j
 unfolding serial_of
-serial_in_window i j w =
-    ⊎_elim
-    (λ earlier. class_of_earlier i j _ earlier w.not_far_behind (ahead_of_earlier i j earlier w.not_far_behind))
-    (λ later. class_of_later i j _ later w.not_far_ahead (ahead_of_later i j later w.not_far_ahead))
-    (cases_lt j i)
+serial_in_window i j w = grind (arith, class_of_later, ahead_of_later, cases_lt, nat_tests)
 
 -- ---- the order of two indexes
 

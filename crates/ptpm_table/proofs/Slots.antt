@@ -1,10 +1,9 @@
 -- The slots of a table: the entry of a manager is that of its slot, and stays its own when another slot is written.
 use Rattle.std.proofs.Common.{suc, zero, arith, ◌≡◌, ℕ, ◌+◌, ◌<◌, Bool, true, false, cond, refl, sym, ◌∙◌, ap, subst, ⊎_elim, ◌||◌, List, [], ◌∷◌, ◌++◌, length, take, get_or, set, Option, Some, None, All, Bor}
 use Rattle.std.proofs.lemmas.Bool.{cases_Bool, or_parts, or_left, cond-true, cond-false, false≢true, ltb-false}
-use Rattle.std.specs.List.{position_or_len}
 use Rattle.std.specs.Map.{lookup}
 use Rattle.std.specs.Option.{option_copied}
-use Rattle.std.specs.Prelude.{IfSome, MatchOption, ⊤, is_some, slice_get, position, nat_lt}
+use Rattle.std.specs.Prelude.{IfSome, MatchOption, ⊤, is_some, position}
 use Rattle.std.proofs.lemmas.List.Folds.{find_at}
 use Rattle.std.proofs.lemmas.List.{map-append, take_more}
 use Rattle.std.proofs.lemmas.List.Elements.{All-push}
@@ -33,11 +32,7 @@ none_used : (q : PortIdentity) (ss : List Slot)
 none_used q [] h = refl
 none_used q (s ∷ ss) h =
     let parts = or_parts (same_identity q s.kept.manager) (is_known q (managers ss)) h in
-    let rest : lookup (same_identity q) (used ss) ≡ None = none_used q ss parts.1 in
-    ⊎_elim
-    (λ (t : s.taken ≡ true). ap (lookup (same_identity q)) (cond-true s.taken _ _ t) ∙ (cond-false _ _ _ parts.0 ∙ rest))
-    (λ (t : s.taken ≡ false). ap (lookup (same_identity q)) (cond-false s.taken _ _ t) ∙ rest)
-    (cases_Bool s.taken)
+    let rest : lookup (same_identity q) (used ss) ≡ None = none_used q ss parts.1 in grind (arith, cond-true, cond-false, cases_Bool)
 
 lookup_used : (q : PortIdentity) (ss : List Slot)
     → has_twice (managers ss) ≡ false
@@ -48,21 +43,18 @@ lookup_used q (s ∷ ss) h =
     ⊎_elim
     (λ (y : same_identity q s.kept.manager ≡ true).
     let same : q ≡ s.kept.manager = same_identity-true q s.kept.manager y in
-    let others : lookup (same_identity q) (used ss) ≡ None =
-    none_used q ss (subst (λ p. is_known p (managers ss) ≡ false) (sym same) parts.0) in
+    let others : lookup (same_identity q) (used ss) ≡ None = grind (arith, none_used) in
     let own : entry_in (slot_of q (s ∷ ss)) ≡ entry_in (Some s) = ap entry_in (cond-true _ _ _ y) in
     ⊎_elim
-    (λ (t : s.taken ≡ true). ap (lookup (same_identity q)) (cond-true s.taken _ _ t)
-    ∙ (cond-true _ _ _ y ∙ (sym (cond-true s.taken _ _ t) ∙ sym own)))
-    (λ (t : s.taken ≡ false). ap (lookup (same_identity q)) (cond-false s.taken _ _ t)
-    ∙ (others ∙ (sym (cond-false s.taken _ _ t) ∙ sym own)))
+    (λ (t : s.taken ≡ true). grind (arith, cond-true))
+    (λ (t : s.taken ≡ false). grind (arith, cond-false))
     (cases_Bool s.taken))
     (λ (n : same_identity q s.kept.manager ≡ false).
     let later : entry_in (slot_of q (s ∷ ss)) ≡ entry_in (slot_of q ss) = ap entry_in (cond-false _ _ _ n) in
     let rest : lookup (same_identity q) (used ss) ≡ entry_in (slot_of q ss) = lookup_used q ss parts.1 in
     ⊎_elim
-    (λ (t : s.taken ≡ true). ap (lookup (same_identity q)) (cond-true s.taken _ _ t) ∙ (cond-false _ _ _ n ∙ (rest ∙ sym later)))
-    (λ (t : s.taken ≡ false). ap (lookup (same_identity q)) (cond-false s.taken _ _ t) ∙ (rest ∙ sym later))
+    (λ (t : s.taken ≡ true). grind (arith, cond-true, cond-false))
+    (λ (t : s.taken ≡ false). grind (arith, cond-false))
     (cases_Bool s.taken))
     (cases_Bool (same_identity q s.kept.manager))
 
@@ -76,7 +68,7 @@ pub known_slot : (q : PortIdentity) (ss : List Slot)
     → is_known q (managers ss) ≡ is_some (slot_of q ss)
 known_slot q [] = refl
 known_slot q (s ∷ ss) = ⊎_elim
-    (λ (y : same_identity q s.kept.manager ≡ true). or_left _ _ y ∙ sym (ap is_some (cond-true _ (Some s) (slot_of q ss) y)))
+    (λ (y : same_identity q s.kept.manager ≡ true). grind (arith, or_left, cond-true))
     (λ (n : same_identity q s.kept.manager ≡ false). ap (λ b. b || is_known q (managers ss)) n
     ∙ (known_slot q ss ∙ sym (ap is_some (cond-false _ (Some s) (slot_of q ss) n))))
     (cases_Bool (same_identity q s.kept.manager))
@@ -86,7 +78,7 @@ pub rights_slot : (q : PortIdentity) (ss : List Slot)
     → rights_in (configured ss) q ≡ rights_at (slot_of q ss)
 rights_slot q [] = refl
 rights_slot q (s ∷ ss) = ⊎_elim
-    (λ (y : same_identity q s.kept.manager ≡ true). cond-true _ _ _ y ∙ sym (ap rights_at (cond-true _ (Some s) (slot_of q ss) y)))
+    (λ (y : same_identity q s.kept.manager ≡ true). grind (arith, cond-true))
     (λ (n : same_identity q s.kept.manager ≡ false). cond-false _ _ _ n
     ∙ (rights_slot q ss ∙ sym (ap rights_at (cond-false _ (Some s) (slot_of q ss) n))))
     (cases_Bool (same_identity q s.kept.manager))
@@ -124,15 +116,11 @@ slot_set : (who q : PortIdentity) (ss : List Slot) (i : ℕ) (d new : Slot)
     slot_of q (set ss i new) ≡ cond (same_identity who q) (Some new) (slot_of q ss)
 slot_set who q [] i d new distinct inside y e = absurd (omega arith)
 slot_set who q (s ∷ ss) zero d new distinct inside y e =
-    let same : who ≡ s.kept.manager = same_identity-true who s.kept.manager y in
-    ap (λ p. cond (same_identity q p) (Some new) (slot_of q ss)) (e ∙ same)
-    ∙ same_twice (same_identity q s.kept.manager) (same_identity who q) (Some new) (Some s) (slot_of q ss)
-    (same_identity-comm q s.kept.manager ∙ ap (λ p. same_identity p q) (sym same))
+    let same : who ≡ s.kept.manager = same_identity-true who s.kept.manager y in grind (arith, same_twice, same_identity-comm)
 slot_set who q (s ∷ ss) (suc i) d new distinct inside y e =
     let parts = or_parts (is_known s.kept.manager (managers ss)) (has_twice (managers ss)) distinct in
     let at_i : who ≡ (get_or ss i d).kept.manager = same_identity-true who (get_or ss i d).kept.manager y in
-    let other : same_identity s.kept.manager who ≡ false =
-    subst (λ p. same_identity s.kept.manager p ≡ false) (sym at_i) (other_manager s.kept.manager ss i d (omega arith) parts.0) in
+    let other : same_identity s.kept.manager who ≡ false = grind (arith, other_manager) in
     ap (cond (same_identity q s.kept.manager) (Some s)) (slot_set who q ss i d new parts.1 (omega arith) y e)
     ∙ swapped (same_identity q s.kept.manager) (same_identity who q) (Some s) (Some new) (slot_of q ss)
     (λ f g. let same : q ≡ s.kept.manager = same_identity-true q s.kept.manager f in
@@ -157,14 +145,7 @@ pub entries_set : (who : PortIdentity) (ss : List Slot) (i : ℕ) (d new : Slot)
     from_entries {R = identity_cmp} (used (set ss i new)) ≡ insert (from_entries (used ss)) who new.kept.entry
 entries_set who ss i d new distinct inside y e f t =
     let at_i : who ≡ (get_or ss i d).kept.manager = same_identity-true who (get_or ss i d).kept.manager y in
-    let still : has_twice (managers (set ss i new)) ≡ false =
-    ap (λ ms. has_twice (identities ms)) (configured_set ss i d new inside e f) ∙ distinct in
-    one_entry (used ss) (used (set ss i new)) who new.kept.entry (λ q.
-    lookup_used q (set ss i new) still ∙ (ap entry_in (slot_set who q ss i d new distinct inside y (e ∙ sym at_i))
-    ∙ ⊎_elim
-    (λ (b : same_identity who q ≡ true). ap entry_in (cond-true _ _ _ b) ∙ (cond-true new.taken _ _ t ∙ sym (cond-true _ _ _ b)))
-    (λ (b : same_identity who q ≡ false). ap entry_in (cond-false _ _ _ b) ∙ (sym (lookup_used q ss distinct) ∙ sym (cond-false _ _ _ b)))
-    (cases_Bool (same_identity who q))))
+    let still : has_twice (managers (set ss i new)) ≡ false = grind (arith, configured_set) in grind (arith, one_entry, lookup_used, slot_set, cond-true, cond-false, cases_Bool)
 
 -- a slot written for the same clock leaves the clocks as they were
 pub clocks_set : (ss : List Slot) (i : ℕ) (d new : Slot)
@@ -178,14 +159,7 @@ clocks_set (s ∷ ss) (suc i) d new inside e = ap (λ cs. s.kept.clock ∷ cs) (
 -- a configured manager has a place
 pub has_place : (who : PortIdentity) (ss : List Slot) → is_known who (managers ss) ≡ true →
     position (λ s. same_identity who s.kept.manager) ss ≡ None → ⊥
-has_place who ss known none =
-    let at : ℕ = position_or_len (λ (s : Slot). same_identity who s.kept.manager) ss in
-    ⊎_elim
-    (λ (y : nat_lt at (length ss) ≡ true). let e : Some at ≡ None = sym (cond-true _ _ _ y) ∙ none in absurd (cc))
-    (λ (n : nat_lt at (length ss) ≡ false).
-    let past : slice_get ss at ≡ None = slice_get_past ss _ (ltb-false _ _ n) in
-    false≢true (sym (known_slot who ss ∙ ap is_some (find_at (λ (s : Slot). same_identity who s.kept.manager) ss ∙ past)) ∙ known))
-    (cases_Bool (nat_lt at (length ss)))
+has_place who ss known none = grind (arith, cond-true, slice_get_past, ltb-false, false≢true, known_slot, find_at, cases_Bool)
 
 -- every slot is of the clock that all are of
 pub clock_at : (clock : ClockIdentity) (ss : List Slot) (i : ℕ) (d : Slot)
@@ -210,8 +184,7 @@ pub used_more : (ss : List Slot) (s : Slot)
     → used (ss ++ s ∷ []) ≡ []
 used_more [] s free none = cond-false s.taken _ _ free
 used_more (x ∷ ss) s free none = ⊎_elim
-    (λ (t : x.taken ≡ true).
-    let e : (x.kept.manager, x.kept.entry) ∷ used ss ≡ [] = sym (cond-true x.taken _ _ t) ∙ none in absurd (cc))
+    (λ (t : x.taken ≡ true). grind (arith, cond-true))
     (λ (t : x.taken ≡ false).
     cond-false x.taken _ _ t ∙ used_more ss s free (sym (cond-false x.taken _ _ t) ∙ none))
     (cases_Bool x.taken)

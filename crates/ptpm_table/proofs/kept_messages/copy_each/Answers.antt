@@ -1,4 +1,4 @@
-use Rattle.std.proofs.Common.{◌<◌, ◌≤◌, ◌+◌, ◌++◌, ◌∷◌, ◌∙◌, [], ap, arith, get_or, length, sym, take}
+use Rattle.std.proofs.Common.{◌≤◌, ◌+◌, [], ap, arith, get_or, length, take}
 use Rattle.std.proofs.lemmas.List.{length-append, length-map, length-take-le}
 use Rattle.arrayvec.specs.ArrayVec.{array_vec_len}
 use Rattle.ptpm_table.specs.Sending.{all_octets, messages_of}
@@ -6,26 +6,10 @@ use Rattle.ptpm_table.proofs.SentLaws.{count_of, octets_more, octets_within, siz
 use Rattle.ptpm_table.proofs.kept_messages.copy_each.Goals as goal
 
 pub overflow_cast-message : goal.overflow_cast-message
-overflow_cast-message g c =
-    let small = small_at (g.O.Outgoing.sent c.args.out.now) c.loop-place.place (omega (arith, c.loop-place-test.true, c.count-place-end.ensures)) c.requires.small in
-    omega (arith, small, ap length c.message-message.ensures)
+overflow_cast-message g c = grind (arith, small_at)
 
 pub push-requires : goal.push-requires
-push-requires g c =
-    let all = g.O.Outgoing.sent c.args.out.now in
-    let before = take c.loop-place.place all in
-    let few : array_vec_len c.loop-place.sizes < 8 =
-    omega (
-      arith,
-      ap length c.loop-place.invariant.sizes,
-      length-map (messages_of before) length,
-      count_of before,
-      length-take-le c.loop-place.place all (omega (arith, c.loop-place-test.true, c.count-place-end.ensures)),
-      c.loop-place-test.true,
-      c.count-place-end.ensures,
-      c.requires.few,
-    ) in
-    (omega arith, few)
+push-requires g c = grind (arith, length-map, count_of, length-take-le)
 
 pub put_message-requires : goal.put_message-requires
 put_message-requires g c =
@@ -44,16 +28,4 @@ put_message-requires g c =
     (omega arith, room)
 
 pub loop-place-preserved : goal.loop-place-preserved
-loop-place-preserved g c =
-    let all = g.O.Outgoing.sent c.args.out.now in
-    let inside : c.loop-place.place < length all = omega (arith, c.loop-place-test.true, c.count-place-end.ensures) in
-    record {
-      sizes =
-          c.push.ensures.items
-          ∙ (λ i. c.loop-place.invariant.sizes i ++ length (c.message-message.ensures i) ∷ [])
-          ∙ sym (sizes_more all c.loop-place.place inside);
-      messages =
-          c.put_message.ensures.items
-          ∙ (λ i. c.loop-place.invariant.messages i ++ c.message-message.ensures i)
-          ∙ sym (octets_more all c.loop-place.place inside);
-    }
+loop-place-preserved g c = grind (arith, sizes_more, octets_more)

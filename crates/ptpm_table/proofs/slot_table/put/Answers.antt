@@ -1,4 +1,4 @@
-use Rattle.std.proofs.Common.{sym, ◌∙◌, ap, refl, true, get_or}
+use Rattle.std.proofs.Common.{arith, sym, ◌∙◌, ap, refl, true, get_or}
 use Rattle.std.specs.FinMap.{from_entries, insert}
 use Rattle.std.proofs.lemmas.List.Quantifiers.{position-Some}
 use Rattle.ptpm_codec.specs.Identity.{identity_cmp, same_identity}
@@ -18,18 +18,10 @@ returns-in-Some-clause-entries c =
     ∙ ap (λ (k : KeptValue). insert (from_entries {R = identity_cmp} (used c.args.slots.now)) c.args.who.now k.entry) c.replace.ensures
 
 pub returns-in-Some-clause-configured : goal.returns-in-Some-clause-configured
-returns-in-Some-clause-configured c =
-    let old : Slot = get_or c.args.slots.now c.in-Some.place c.index-slots-place.result in
-    let new : Slot = record { rights = old.rights; taken = true; kept = c.replace.new.self } in
-    let p = position-Some (λ (s : Slot). same_identity c.args.who.now s.kept.manager) c.args.slots.now c.in-Some.place c.index-slots-place.result (sym c.in-Some.ensures) in
-    configured_set c.args.slots.now c.in-Some.place c.index-slots-place.result new p.0 (ap (λ (k : KeptValue). k.manager) c.replace.ensures) refl
+returns-in-Some-clause-configured c = grind (arith, get_or, position-Some, configured_set)
 
 pub returns-in-Some-clause-clocks : goal.returns-in-Some-clause-clocks
-returns-in-Some-clause-clocks c =
-    let old : Slot = get_or c.args.slots.now c.in-Some.place c.index-slots-place.result in
-    let new : Slot = record { rights = old.rights; taken = true; kept = c.replace.new.self } in
-    let p = position-Some (λ (s : Slot). same_identity c.args.who.now s.kept.manager) c.args.slots.now c.in-Some.place c.index-slots-place.result (sym c.in-Some.ensures) in
-    clocks_set c.args.slots.now c.in-Some.place c.index-slots-place.result new p.0 (ap (λ (k : KeptValue). k.clock) c.replace.ensures)
+returns-in-Some-clause-clocks c = grind (arith, get_or, position-Some, clocks_set)
 
 pub returns-in_default-clause-entries : goal.returns-in_default-clause-entries
 returns-in_default-clause-entries c = absurd (has_place c.args.who.now c.args.slots.now c.requires.known (sym c.in_default.ensures))

@@ -1,4 +1,4 @@
-use Rattle.std.proofs.Common.{sym, ◌∙◌, ap, refl, subst, true, get_or}
+use Rattle.std.proofs.Common.{arith, sym, ◌∙◌, ap, refl, subst, true, get_or}
 use Rattle.std.specs.FinMap.{from_entries, insert}
 use Rattle.std.proofs.lemmas.List.Quantifiers.{position-Some}
 use Rattle.ptpm_codec.specs.declared.identity.ClockIdentity.{ClockIdentity}
@@ -12,10 +12,7 @@ use Rattle.ptpm_table.proofs.Slots.{clock_at, clocks_set, configured_set, entrie
 use Rattle.ptpm_table.proofs.slot_table.put_sent.Goals as goal
 
 pub keep_sent-requires-clause-manager : goal.keep_sent-requires-clause-manager
-keep_sent-requires-clause-manager g c =
-    let old : Slot = get_or c.args.slots.now c.in-Some.place c.index-slots-place.result in
-    let p = position-Some (λ (s : Slot). same_identity c.args.heard.now.source s.kept.manager) c.args.slots.now c.in-Some.place c.index-slots-place.result (sym c.in-Some.ensures) in
-    same_identity-true c.args.heard.now.source old.kept.manager p.1
+keep_sent-requires-clause-manager g c = grind (arith, get_or, position-Some, same_identity-true)
 
 pub keep_sent-requires-clause-sent : goal.keep_sent-requires-clause-sent
 keep_sent-requires-clause-sent g c =

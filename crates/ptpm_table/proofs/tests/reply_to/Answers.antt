@@ -20,18 +20,7 @@ one_answer : (q : RequestValue) (r : ReplyValue) (a : Answer)
     → r.action ≡ reply_action q.action
     → r.id ≡ q.id →
     r.answers ≡ a ∷ [] → FitsAnswer (is_of_port q.id) q.action a → FitsRequest q r
-one_answer q r a action id answers fits = record {
-  action = action;
-  id = id;
-  count = subst (λ (xs : List Answer). FitsCount (is_of_port q.id) (length xs)) (sym answers) (one (is_of_port q.id));
-  answers = subst (λ (xs : List Answer). All (FitsAnswer (is_of_port q.id) q.action) xs) (sym answers) (lone (FitsAnswer (is_of_port q.id) q.action) a fits);
-}
+one_answer q r a action id answers fits = grind (arith, one, lone)
 
 pub returns : goal.returns
-returns c =
-    let r : ReplyValue = record { action = actions.Response; id = c.request.inside.id; answers = map answer_of c.push.new.self.items } in
-    let a : Answer = record { port = c.args.port; outcome = outcome_of c.args.what } in
-    let given : PortAnswer = record { port = c.args.port; what = c.args.what } in
-    let answers : r.answers ≡ a ∷ [] =
-    ap (map answer_of) (c.push.ensures.items ∙ ap (λ xs. xs ++ given ∷ []) c.new-answers.ensures) in
-    one_answer c.args.request.now r a (sym c.requires.action) (ap (λ (q : RequestValue). q.id) c.request.view_is) answers c.requires.fits
+returns c = grind (arith, one_answer)

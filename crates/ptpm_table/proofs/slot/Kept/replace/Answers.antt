@@ -1,17 +1,13 @@
-use Rattle.std.proofs.Common.{All, Bool, ◌≡◌, ◌∙◌, ap, length, map, subst, sym}
+use Rattle.std.proofs.Common.{arith, All, Bool, ◌≡◌, ◌∙◌, ap, map, subst, sym}
 use Rattle.ptpm_codec.specs.declared.message.Action.{Action}
 use Rattle.ptpm_data.specs.Reply.{ReplyValue, answer_of}
 use Rattle.ptpm_data.specs.Request.{RequestValue}
-use Rattle.ptpm_table.specs.Entries.{FitsAnswer, FitsCount}
+use Rattle.ptpm_table.specs.Entries.{FitsAnswer}
 use Rattle.ptpm_table.proofs.KeptMessageLaws.{fitting_slots}
 use Rattle.ptpm_table.proofs.slot.Kept.replace.Goals as goal
 
 pub encode_each-requires-clause-count : goal.encode_each-requires-clause-count
-encode_each-requires-clause-count c =
-    let are : map answer_of c.as_slice-answers.result.now ≡ c.args.reply.now.answers =
-    ap (map answer_of) c.as_slice-answers.ensures.value ∙ ap (λ (r : ReplyValue). r.answers) c.reply.view_is in
-    let suits = fitting_slots c.args.request.now c.args.reply.now c.as_slice-answers.result.now c.requires.fits are in
-    subst (λ (b : Bool). FitsCount b (length c.as_slice-answers.result.now)) (sym c.has_port-self-inside.ensures) suits.count
+encode_each-requires-clause-count c = grind (arith, fitting_slots)
 
 pub encode_each-requires-clause-suits : goal.encode_each-requires-clause-suits
 encode_each-requires-clause-suits c =

@@ -1,4 +1,4 @@
-use Rattle.std.proofs.Common.{arith, ◌<◌, ◌^◌, ◌∙◌, ◌++◌, ap, length, map, sym}
+use Rattle.std.proofs.Common.{arith, ◌<◌, ◌^◌, ◌∙◌, ◌++◌, ap, map, sym}
 use Rattle.ptpm_codec.specs.Message.{reply_action}
 use Rattle.ptpm_table.specs.KeptMessages.{Envelope, IsCopyOf, KeptValue, pieces, renewed}
 use Rattle.ptpm_table.specs.Rendering.{rendered}
@@ -6,11 +6,7 @@ use Rattle.ptpm_table.proofs.KeptMessageLaws.{length_answers, renewed_reply}
 use Rattle.ptpm_table.proofs.slot.Kept.resend.Goals as goal
 
 pub resend_each-requires-clause-room : goal.resend_each-requires-clause-room
-resend_each-requires-clause-room g c =
-    let count = length_answers c.self.inside.of_port c.self.inside.sizes.items c.self.inside.messages.items in
-    let kept = ap (λ (v : KeptValue). length v.entry.reply.answers) c.self.view_is in
-    let sizes = ap length c.as_slice-sizes.ensures.value in
-    omega (arith, count, kept, sizes, c.requires.room)
+resend_each-requires-clause-room g c = grind (arith, length_answers)
 
 pub returns-clause-messages : goal.returns-clause-messages
 returns-clause-messages g c =
