@@ -1,33 +1,17 @@
 -- What a clock has after its turns is what the requests that it carried out leave.
-use Rattle.std.proofs.Common.{◌≡◌, ℕ, List, [], ◌∷◌, ◌++◌, Result, Ok, Err, Some, refl, sym, ◌∙◌, ap}
+use Rattle.std.proofs.Common.{arith, ◌≡◌, ℕ, List, [], ◌∷◌, ◌++◌, Some, refl, sym, ◌∙◌, ap}
 use Rattle.std.specs.FinMap.{get}
-use Rattle.ptpm_codec.specs.declared.error.DecodeError.{DecodeError}
 use Rattle.ptpm_codec.specs.declared.identity.PortIdentity.{PortIdentity}
-use Rattle.ptpm_codec.specs.declared.message.Message.{Message}
-use Rattle.ptpm_codec.specs.Reading.{reading}
-use Rattle.ptpm_agent.specs.declared.verdict.Verdict.{Verdict}
-use Rattle.ptpm_agent.specs.declared.verdict.Verdict.TheVariants as verdicts
-use Rattle.ptpm_agent.specs.CarriedOut.{AreOfOthers, after_requests, carried_by, carried_in, carried_in_turns, carried_of}
+use Rattle.ptpm_agent.specs.CarriedOut.{AreOfOthers, after_requests, carried_in, carried_in_turns}
 use Rattle.ptpm_agent.specs.Laws.{after_each}
-use Rattle.ptpm_agent.specs.Turn.{Clock, NumberedRequest, State, after_request, entry_of, judged, next_by, turn, turn_by}
+use Rattle.ptpm_agent.specs.Turn.{Clock, NumberedRequest, State, after_request, entry_of, turn}
 use Rattle.ptpm_agent.proofs.Entries.{get-insert_other, get-insert_same}
-
-next_by-carried : (w : Verdict) (c : Clock) (s : State) (v : Message)
-    → next_by w c s v ≡ after_requests c s (carried_by w v)
-next_by-carried verdicts.AnsweredNew c s v = refl
-next_by-carried _ c s v = refl
-
-turn_by-carried : (c : Clock) (s : State) (ingress : ℕ) (datagram : List ℕ)
-    (r : Result Message DecodeError)
-    → (turn_by c s ingress datagram r).next ≡ after_requests c s (carried_of c s r)
-turn_by-carried c s ingress datagram (Err cause) = refl
-turn_by-carried c s ingress datagram (Ok v) = next_by-carried (judged c s v) c s v
 
 -- one turn
 pub turn-carried : (c : Clock) (s : State) (ingress : ℕ) (datagram : List ℕ)
     → (turn c s ingress datagram).next ≡ after_requests c s (carried_in c s datagram)
 unfolding turn
-turn-carried c s ingress datagram = turn_by-carried c s ingress datagram (reading datagram)
+turn-carried c s ingress datagram = grind arith
 
 -- these requests and then those
 pub after_requests-append : (c : Clock) (s : State) (rs qs : List NumberedRequest)
@@ -57,7 +41,4 @@ kept-others c s m (r ∷ rs) others =
 pub kept-latest : (c : Clock) (s : State) (front rest : List NumberedRequest) (r : NumberedRequest)
     → AreOfOthers r.manager rest
     → get (after_requests c s (front ++ r ∷ rest)).entries r.manager ≡ Some (entry_of c (after_requests c s front) r)
-kept-latest c s front rest r others =
-    ap (λ (t : State). get t.entries r.manager) (after_requests-append c s front (r ∷ rest))
-    ∙ kept-others c (after_request c (after_requests c s front) r) r.manager rest others
-    ∙ get-insert_same (after_requests c s front).entries r.manager (entry_of c (after_requests c s front) r)
+kept-latest c s front rest r others = grind (arith, after_requests-append, kept-others, get-insert_same)

@@ -1,20 +1,14 @@
 -- At-most-once execution over all that happens at a clock. Deliveries alone are the case without observations.
-use Rattle.std.proofs.Common.{◌≡◌, ℕ, List, [], ◌∷◌, ◌++◌, Option, Some, None, false, length, refl, sym, ◌∙◌, ap, subst}
-use Rattle.std.proofs.lemmas.Option.{none-some, same_Some}
-use Rattle.std.specs.FinMap.{get}
+use Rattle.std.proofs.Common.{arith, ◌≡◌, ℕ, List, [], ◌∷◌, ◌++◌, Option, Some, None, false, length, refl, ◌∙◌, ap}
 use Rattle.std.specs.List.{cons_option}
 use Rattle.ptpm_codec.specs.declared.identity.PortIdentity.{PortIdentity}
-use Rattle.ptpm_data.specs.declared.observation.ClockObservation.{ClockObservation}
-use Rattle.ptpm_data.specs.declared.observation.PortObservation.{PortObservation}
 use Rattle.ptpm_data.specs.Members.{DataSetsValue}
-use Rattle.ptpm_data.specs.Observation.{observed}
 use Rattle.ptpm_data.proofs.Observed.{observed-ports}
-use Rattle.ptpm_table.specs.Entries.{Entry}
 use Rattle.ptpm_agent.specs.Turn.{Clock, State, outbox_of, turn}
 use Rattle.ptpm_agent.specs.Once.{Delivery, History, RequestCopy, after_copy, applied_once, copies, copy_of, due_reply, initial_history, joins}
 use Rattle.ptpm_agent.specs.Window.{AreNumbered, IsInTime, IsInWindow, IsNumbered, KeepsWindow}
-use Rattle.ptpm_agent.specs.Laws.{IsKept, StandsAt, due_messages, initial_clock_state, turns}
-use Rattle.ptpm_agent.specs.Observing.{ComeInTime, ComesInTime, Delivered, Happening, Observed, after_arrival, after_happening, after_happenings, applied_in_place, deliveries_alone, history_after, moved_history, moved_state}
+use Rattle.ptpm_agent.specs.Laws.{StandsAt, due_messages, initial_clock_state, turns}
+use Rattle.ptpm_agent.specs.Observing.{ComeInTime, ComesInTime, Delivered, Happening, Observed, after_arrival, after_happening, after_happenings, applied_in_place, deliveries_alone, history_after}
 use Rattle.ptpm_agent.proofs.AtMostOnce.{TurnsAs, after_copy-ports, applied_once-ports, stands-initial_history, turn-no_copy, turns_as}
 
 -- ---- one happening
@@ -25,43 +19,19 @@ pub stands-arrival : (first : PortIdentity → ℕ) (c : Clock) (ports : ℕ) (s
     → length h.sets.ports ≡ ports → copy_of c ports x ≡ o → StandsAt first s h
     → ((k : RequestCopy) → copy_of c ports x ≡ Some k → IsInTime first h k)
     → StandsAt first (turn c s x.ingress x.datagram).next (after_arrival c h o)
-stands-arrival first c ports s h x None many e at time =
-    subst (λ (t : State). StandsAt first t h)
-    (sym (turn-no_copy c s x (ap (λ (d : DataSetsValue). copy_of c (length d.ports) x) at.sets ∙ (ap (λ p. copy_of c p x) many ∙ e)))) at
+stands-arrival first c ports s h x None many e at time = grind (arith, turn-no_copy)
 stands-arrival first c ports s h x (Some k) many e at time = (turns_as first c s h x k at (ap (λ p. copy_of c p x) many ∙ e) (time k e)).stands
-
--- what is kept of a manager, where data sets move
-IsKept-moved : (first : PortIdentity → ℕ) (o : ClockObservation) (ports : List PortObservation)
-    (h : History) (p : PortIdentity) (e : Option Entry)
-    → IsKept first h p e
-    → IsKept first (moved_history o ports h) p e
-IsKept-moved first o ports h p None kept = kept
-IsKept-moved first o ports h p (Some e) kept = record { some = kept.some; kept = kept.kept; number = kept.number }
-
-stands-moved : (first : PortIdentity → ℕ) (o : ClockObservation) (ports : List PortObservation)
-    (s : State) (h : History)
-    → StandsAt first s h
-    → StandsAt first (moved_state o ports s) (moved_history o ports h)
-stands-moved first o ports s h at = record {
-  sets = ap (observed o ports) at.sets;
-  entries = λ p. IsKept-moved first o ports h p (get s.entries p) (at.entries p);
-}
 
 stands-happening : (first : PortIdentity → ℕ) (c : Clock) (ports : ℕ) (s : State) (h : History)
     (x : Happening)
     → length h.sets.ports ≡ ports → StandsAt first s h → ComesInTime first c ports h x
     → StandsAt first (after_happening c s x) (history_after c ports h x)
 stands-happening first c ports s h (Delivered x) many at time = stands-arrival first c ports s h x (copy_of c ports x) many refl at time
-stands-happening first c ports s h (Observed o seen) many at time = stands-moved first o seen s h at
-
-after_arrival-ports : (c : Clock) (h : History) (o : Option RequestCopy)
-    → length (after_arrival c h o).sets.ports ≡ length h.sets.ports
-after_arrival-ports c h None = refl
-after_arrival-ports c h (Some k) = after_copy-ports c h k
+stands-happening first c ports s h (Observed o seen) many at time = grind arith
 
 history_after-ports : (c : Clock) (ports : ℕ) (h : History) (x : Happening)
     → length (history_after c ports h x).sets.ports ≡ length h.sets.ports
-history_after-ports c ports h (Delivered x) = after_arrival-ports c h (copy_of c ports x)
+history_after-ports c ports h (Delivered x) = grind (arith, after_copy-ports)
 history_after-ports c ports h (Observed o seen) = observed-ports o seen h.sets
 
 -- ---- all that happens
@@ -180,16 +150,8 @@ arrives_in_time : (first : PortIdentity → ℕ) (c : Clock) (h : History) (o : 
     (ks : List RequestCopy)
     → AreNumbered first (cons_option o ks) → KeepsWindow c h (cons_option o ks)
     → ArrivesInTime first c h o ks
-arrives_in_time first c h None ks numbered window = record {
-  time = λ k e. absurd (none-some k e);
-  numbered = numbered;
-  window = window;
-}
-arrives_in_time first c h (Some j) ks numbered window = record {
-  time = λ k e. subst (λ (i : RequestCopy). IsInTime first h i) (same_Some j k e) (record { numbered = numbered.0; window = window.0 });
-  numbered = numbered.1;
-  window = window.1;
-}
+arrives_in_time first c h None ks numbered window = grind arith
+arrives_in_time first c h (Some j) ks numbered window = grind arith
 
 pub time-alone : (first : PortIdentity → ℕ) (c : Clock) (ports : ℕ) (h : History) (xs : List Delivery)
     → AreNumbered first (copies c ports xs) → KeepsWindow c h (copies c ports xs)
@@ -199,12 +161,6 @@ time-alone first c ports h (x ∷ xs) numbered window =
     let t = arrives_in_time first c h (copy_of c ports x) (copies c ports xs) numbered window in
     (t.time, time-alone first c ports (after_arrival c h (copy_of c ports x)) xs t.numbered t.window)
 
--- a clock that stands at the same place by other names
-stands_as : (first : PortIdentity → ℕ) (s t : State) (h g : History)
-    → s ≡ t → h ≡ g → StandsAt first s h → StandsAt first t g
-stands_as first s t h g same_state same_history at =
-    subst (λ (u : State). StandsAt first u g) same_state (subst (λ (e : History). StandsAt first s e) same_history at)
-
 pub stands_turns : (first : PortIdentity → ℕ) (c : Clock) (ports : ℕ) (s : State) (h : History)
     (xs : List Delivery)
     → length h.sets.ports ≡ ports
@@ -212,9 +168,7 @@ pub stands_turns : (first : PortIdentity → ℕ) (c : Clock) (ports : ℕ) (s :
     → AreNumbered first (copies c ports xs)
     → KeepsWindow c h (copies c ports xs)
     → StandsAt first (turns c s xs) (applied_once c h (copies c ports xs))
-stands_turns first c ports s h xs many at numbered window =
-    stands_as first _ _ _ _ (turns-alone c s xs) (applied_once-alone c ports h xs)
-    (stands_happenings first c ports s h (deliveries_alone xs) many at (time-alone first c ports h xs numbered window))
+stands_turns first c ports s h xs many at numbered window = grind (arith, turns-alone, applied_once-alone, stands_happenings, time-alone)
 
 pub sets_once : (c : Clock) (first : PortIdentity → ℕ) (d : DataSetsValue) (xs : List Delivery)
     → AreNumbered first (copies c (length d.ports) xs)

@@ -1,6 +1,7 @@
 -- The copies for the egress ports, port by port.
+use Rattle.std.proofs.lemmas.Grind.{common_steps}
 use Rattle.std.proofs.Common.{arith, ◌≡◌, ℕ, ◌<◌, ◌≤◌, ◌+◌, ◌-◌, ◌==◌, ◌&&◌, not, zero, suc, List, [], ◌∷◌, ◌++◌, length, map, cond, Bool, true, false, refl, sym, ◌∙◌, ap, subst, ⊎_elim}
-use Rattle.std.proofs.lemmas.Bool.{cases_Bool, cases_eq, and_left, cond-true, cond-false, eq-eqb}
+use Rattle.std.proofs.lemmas.Bool.{cases_Bool, cases_eq, and_left, eq-eqb}
 use Rattle.std.proofs.lemmas.List.{append-nil}
 use Rattle.std.specs.List.{filter, range_with_len}
 use Rattle.ptpm_data.specs.Members.{DataSetsValue, may_forward}
@@ -34,20 +35,8 @@ range_with_len-suc a (suc n) =
 
 filter-last : (t : ℕ → Bool) (f : ℕ → ℕ × List ℕ) (xs : List ℕ) (x : ℕ)
     → map f (filter t (xs ++ x ∷ [])) ≡ map f (filter t xs) ++ cond (t x) (f x ∷ []) []
-filter-last t f [] x = ⊎_elim
-    (λ (y : t x ≡ true). ap (map f) (cond-true (t x) (x ∷ []) [] y) ∙ sym (cond-true (t x) (f x ∷ []) [] y))
-    (λ (n : t x ≡ false). ap (map f) (cond-false (t x) (x ∷ []) [] n) ∙ sym (cond-false (t x) (f x ∷ []) [] n))
-    (cases_Bool (t x))
-filter-last t f (z ∷ zs) x = ⊎_elim
-    (λ (y : t z ≡ true).
-    ap (map f) (cond-true (t z) (z ∷ filter t (zs ++ x ∷ [])) (filter t (zs ++ x ∷ [])) y)
-    ∙ (ap (λ (r : List (ℕ × List ℕ)). f z ∷ r) (filter-last t f zs x)
-    ∙ ap (λ (r : List ℕ). map f r ++ cond (t x) (f x ∷ []) []) (sym (cond-true (t z) (z ∷ filter t zs) (filter t zs) y))))
-    (λ (n : t z ≡ false).
-    ap (map f) (cond-false (t z) (z ∷ filter t (zs ++ x ∷ [])) (filter t (zs ++ x ∷ [])) n)
-    ∙ (filter-last t f zs x
-    ∙ ap (λ (r : List ℕ). map f r ++ cond (t x) (f x ∷ []) []) (sym (cond-false (t z) (z ∷ filter t zs) (filter t zs) n))))
-    (cases_Bool (t z))
+filter-last t f [] x = grind arith
+filter-last t f (z ∷ zs) x = grind (arith, common_steps)
 
 copies_up_to-more : (ingress : ℕ) (d : DataSetsValue) (datagram : List ℕ) (port : ℕ)
     → 1 ≤ port
@@ -68,18 +57,13 @@ pub copies_up_to-pass : (ingress : ℕ) (d : DataSetsValue) (datagram : List ℕ
     → (not (port == ingress) && may_forward port d) ≡ true
     → copies_up_to ingress d datagram port
     ≡ copies_up_to ingress d datagram (port - 1) ++ (port, with_less_hop datagram) ∷ []
-copies_up_to-pass ingress d datagram port some y =
-    copies_up_to-more ingress d datagram port some
-    ∙ ap (λ (xs : List (ℕ × List ℕ)). copies_up_to ingress d datagram (port - 1) ++ xs) (cond-true _ _ _ y)
+copies_up_to-pass ingress d datagram port some y = grind (arith, copies_up_to-more)
 
 pub copies_up_to-skip : (ingress : ℕ) (d : DataSetsValue) (datagram : List ℕ) (port : ℕ)
     → 1 ≤ port
     → (not (port == ingress) && may_forward port d) ≡ false
     → copies_up_to ingress d datagram port ≡ copies_up_to ingress d datagram (port - 1)
-copies_up_to-skip ingress d datagram port some n =
-    copies_up_to-more ingress d datagram port some
-    ∙ (ap (λ (xs : List (ℕ × List ℕ)). copies_up_to ingress d datagram (port - 1) ++ xs) (cond-false _ _ _ n)
-    ∙ append-nil (copies_up_to ingress d datagram (port - 1)))
+copies_up_to-skip ingress d datagram port some n = grind (arith, copies_up_to-more, append-nil)
 
 -- ---- how many there are
 
@@ -90,11 +74,7 @@ length-copies f (x ∷ xs) = ap suc (length-copies f xs)
 length-filter_range : (t : ℕ → Bool) (a n : ℕ) → length (filter t (range_with_len a n)) ≤ n
 length-filter_range t a zero = omega arith
 length-filter_range t a (suc n) =
-    let rest : length (filter t (range_with_len (a + 1) n)) ≤ n = length-filter_range t (a + 1) n in
-    ⊎_elim
-    (λ (y : t a ≡ true). subst (λ (xs : List ℕ). length xs ≤ suc n) (sym (cond-true (t a) (a ∷ filter t (range_with_len (a + 1) n)) (filter t (range_with_len (a + 1) n)) y)) (omega (arith, rest)))
-    (λ (f : t a ≡ false). subst (λ (xs : List ℕ). length xs ≤ suc n) (sym (cond-false (t a) (a ∷ filter t (range_with_len (a + 1) n)) (filter t (range_with_len (a + 1) n)) f)) (omega (arith, rest)))
-    (cases_Bool (t a))
+    let rest : length (filter t (range_with_len (a + 1) n)) ≤ n = length-filter_range t (a + 1) n in grind arith
 
 -- one less where a number of the range does not pass
 length-filter_range_but_one : (t : ℕ → Bool) (a n i : ℕ)
@@ -104,26 +84,21 @@ length-filter_range_but_one : (t : ℕ → Bool) (a n i : ℕ)
     → length (filter t (range_with_len a n)) + 1 ≤ n
 length-filter_range_but_one t a zero i low high f = absurd (omega (arith, low, high))
 length-filter_range_but_one t a (suc n) i low high f = ⊎_elim
-    (λ (same : i ≡ a).
-    let at : t a ≡ false = subst (λ j. t j ≡ false) same f in
-    let rest : length (filter t (range_with_len (a + 1) n)) ≤ n = length-filter_range t (a + 1) n in
-    subst (λ (xs : List ℕ). length xs + 1 ≤ suc n) (sym (cond-false (t a) (a ∷ filter t (range_with_len (a + 1) n)) (filter t (range_with_len (a + 1) n)) at)) (omega (arith, rest)))
+    (λ (same : i ≡ a). grind (arith, length-filter_range))
     (λ (other : i ≡ a → ⊥).
     let above : a + 1 ≤ i = omega (arith, low, other) in
     let inside : i < a + 1 + n = omega (arith, high) in
     let rest : length (filter t (range_with_len (a + 1) n)) + 1 ≤ n = length-filter_range_but_one t (a + 1) n i above inside f in
     ⊎_elim
-    (λ (y : t a ≡ true). subst (λ (xs : List ℕ). length xs + 1 ≤ suc n) (sym (cond-true (t a) (a ∷ filter t (range_with_len (a + 1) n)) (filter t (range_with_len (a + 1) n)) y)) (omega (arith, rest)))
-    (λ (g : t a ≡ false). subst (λ (xs : List ℕ). length xs + 1 ≤ suc n) (sym (cond-false (t a) (a ∷ filter t (range_with_len (a + 1) n)) (filter t (range_with_len (a + 1) n)) g)) (omega (arith, rest)))
+    (λ (y : t a ≡ true). grind arith)
+    (λ (g : t a ≡ false). grind arith)
     (cases_Bool (t a)))
     (cases_eq i a)
 
 pub length-copies_up_to : (ingress : ℕ) (d : DataSetsValue) (datagram : List ℕ) (n : ℕ)
     → length (copies_up_to ingress d datagram n) ≤ n
 unfolding copies_up_to
-length-copies_up_to ingress d datagram n =
-    subst (λ k. k ≤ n) (sym (length-copies (λ port. (port, with_less_hop datagram)) (filter (λ port. passes ingress d port) (range_with_len 1 n))))
-    (length-filter_range (λ port. passes ingress d port) 1 n)
+length-copies_up_to ingress d datagram n = grind (arith, length-copies, length-filter_range)
 
 -- nothing goes out at the ingress port
 pub length-copies_up_to_but_one : (ingress : ℕ) (d : DataSetsValue) (datagram : List ℕ) (n : ℕ)

@@ -5,8 +5,6 @@ use Rattle.std.specs.FinMap.{get, insert, get-insert}
 use Rattle.ptpm_codec.specs.declared.identity.PortIdentity.{PortIdentity}
 use Rattle.ptpm_codec.specs.declared.message.Message.{Message}
 use Rattle.ptpm_codec.specs.Identity.{same_identity}
-use Rattle.ptpm_data.specs.Changes.{changed_by}
-use Rattle.ptpm_data.specs.Members.{DataSetsValue}
 use Rattle.ptpm_table.specs.Entries.{Entries, Entry}
 use Rattle.ptpm_agent.specs.Addressing.{request_of}
 use Rattle.ptpm_agent.specs.Turn.{Clock, State, carried_out, new_reply}
@@ -44,15 +42,9 @@ latest_at : (first : PortIdentity → ℕ) (h : History) (m : PortIdentity) (e :
     → IsLatest first h m e
 latest_at first h m e k g some kept number = record {
   some = subst (λ i. 0 < i) (sym g) some;
-  kept = subst (λ i. kept_reply m i h.accepted ≡ Some (accepted_at m i e)) (sym g) kept;
-  number = subst (λ i. e.number ≡ number_of (first m) i) (sym g) number;
+  kept = grind arith;
+  number = grind arith;
 }
-
-greatest_same : (m : PortIdentity) (a : Accepted) (rest : List Accepted)
-    → same_identity m a.manager ≡ true
-    → greatest m rest < a.index
-    → greatest m (a ∷ rest) ≡ a.index
-greatest_same m a rest same above = cond-true _ _ _ same ∙ omega arith
 
 pub greatest_other : (m : PortIdentity) (a : Accepted) (rest : List Accepted)
     → same_identity m a.manager ≡ false
@@ -78,9 +70,7 @@ IsKept-other : (first : PortIdentity → ℕ) (c : Clock) (h : History) (x : Req
     → IsKept first h m o
     → IsKept first (joined c h x) m o
 IsKept-other first c h x m None other k = greatest_other m (accepted_from c h x) h.accepted other ∙ k
-IsKept-other first c h x m (Some e) other k =
-    latest_at first (joined c h x) m e (greatest m h.accepted) (greatest_other m (accepted_from c h x) h.accepted other) k.some
-    (kept_other m (greatest m h.accepted) (accepted_from c h x) h.accepted other ∙ k.kept) k.number
+IsKept-other first c h x m (Some e) other k = grind arith
 
 abbrev pub accepted_entry : Clock → State → Message → Entry
 accepted_entry c s v = record { number = v.number; request = request_of v; reply = new_reply c s v }
@@ -98,14 +88,7 @@ IsLatest-joined : (first : PortIdentity → ℕ) (c : Clock) (s : State) (h : Hi
     → IsNumbered first (copy_from x v)
     → greatest v.source h.accepted < x.index
     → IsLatest first (joined c h (copy_from x v)) v.source (accepted_entry c s v)
-IsLatest-joined first c s h x v stands n above =
-    let same : same_identity v.source v.source ≡ true = same_identity-refl v.source in
-    let new : Accepted = accepted_from c h (copy_from x v) in
-    latest_at first (joined c h (copy_from x v)) v.source (accepted_entry c s v) x.index
-    (greatest_same v.source new h.accepted same above) n.positive
-    (kept_same v.source new h.accepted same
-    ∙ ap (λ (d : DataSetsValue). Some (accepted_at v.source x.index (accepted_entry c (record s { sets = d }) v))) (sym stands.sets))
-    n.number
+IsLatest-joined first c s h x v stands n above = grind (arith, same_identity-refl)
 
 -- a clock that carries a copy out stands where the history stands that the copy joins
 pub StandsAt-joined : (first : PortIdentity → ℕ) (c : Clock) (s : State) (h : History)
@@ -115,7 +98,7 @@ pub StandsAt-joined : (first : PortIdentity → ℕ) (c : Clock) (s : State) (h 
     → greatest v.source h.accepted < x.index
     → StandsAt first (carried_out c s v) (joined c h (copy_from x v))
 StandsAt-joined first c s h x v stands n above = record {
-  sets = ap (changed_by (request_of v) (c.rights v.source)) stands.sets;
+  sets = grind arith;
   entries = λ m.
       let new : History = joined c h (copy_from x v) in
       let e : Entry = accepted_entry c s v in
@@ -123,8 +106,6 @@ StandsAt-joined first c s h x v stands n above = record {
       (λ (same : same_identity m v.source ≡ true).
       subst (λ (q : PortIdentity). IsKept first new q (get (insert s.entries v.source e) q)) (sym (same_identity-true m v.source same))
       (subst (IsKept first new v.source) (sym (get-insert_same s.entries v.source e)) (IsLatest-joined first c s h x v stands n above)))
-      (λ (other : same_identity m v.source ≡ false).
-      subst (IsKept first new m) (sym (get-insert_other s.entries v.source e m other))
-      (IsKept-other first c h (copy_from x v) m (get s.entries m) other (stands.entries m)))
+      (λ (other : same_identity m v.source ≡ false). grind (arith, get-insert_other))
       (cases_Bool (same_identity m v.source));
 }

@@ -1,17 +1,14 @@
 -- A copy of the latest request is due the reply that was kept when it was accepted, whatever has happened since.
-use Rattle.std.proofs.Common.{arith, ◌≡◌, ℕ, ◌<◌, ◌≤◌, List, [], ◌∷◌, Option, Some, None, true, false, refl, sym, ◌∙◌, ap, subst, ⊎_elim}
-use Rattle.std.proofs.lemmas.Bool.{cases_Bool, and_parts, and_right, eq-eqb, ne_eqb, ltb-true, cond-true, cond-false}
+use Rattle.std.proofs.Common.{arith, ◌≡◌, ℕ, ◌<◌, ◌≤◌, List, [], ◌∷◌, Option, Some, None, true, false, refl, sym, subst, ⊎_elim}
+use Rattle.std.proofs.lemmas.Bool.{cases_Bool, cond-true}
 use Rattle.ptpm_codec.specs.declared.identity.PortIdentity.{PortIdentity}
 use Rattle.ptpm_codec.specs.Identity.{same_identity}
 use Rattle.ptpm_data.specs.Replies.{reply_to}
-use Rattle.ptpm_table.specs.Numbering.{same_request}
 use Rattle.ptpm_codec.proofs.IdentityLaws.{same_identity-true}
 use Rattle.ptpm_table.proofs.Identities.{same_identity-refl}
 use Rattle.ptpm_agent.specs.Turn.{Clock}
-use Rattle.ptpm_agent.specs.Once.{Accepted, History, RequestCopy, accepted_from, after_copy, copy_of, due_reply, greatest, joined, joins, kept_for, kept_reply}
+use Rattle.ptpm_agent.specs.Once.{Accepted, History, RequestCopy, accepted_from, after_copy, copy_of, due_reply, greatest, joined, joins, kept_reply}
 use Rattle.ptpm_agent.specs.Observing.{AreOfOneRequest, Delivered, Happening, Observed, after_arrival, applied_in_place, history_after}
-use Rattle.ptpm_agent.proofs.AtMostOnce.{joins-below}
-use Rattle.ptpm_agent.proofs.Entries.{greatest_other, kept_other, kept_same}
 
 -- request k of a manager was accepted, and what is kept of it is a
 record Keeps (m : PortIdentity) (k : ℕ) (a : Accepted) (h : History) : Type 0 where
@@ -27,8 +24,7 @@ greatest_more m k a rest same below = subst (λ n. k ≤ n) (sym (cond-true _ _ 
 kept_above : (m : PortIdentity) (k : ℕ) (a : Accepted) (rest : List Accepted)
     → k < a.index
     → kept_reply m k (a ∷ rest) ≡ kept_reply m k rest
-kept_above m k a rest above =
-    cond-false _ _ _ (and_right _ _ (ne_eqb a.index k (λ (e : a.index ≡ k). omega (arith, e, above))))
+kept_above m k a rest above = grind arith
 
 keeps-joined : (c : Clock) (m : PortIdentity) (k : ℕ) (a : Accepted) (h : History) (x : RequestCopy)
     → greatest x.heard.source h.accepted < x.index
@@ -39,25 +35,16 @@ keeps-joined c m k a h x above keeps = ⊎_elim
     let past : greatest m h.accepted < x.index =
     subst (λ (p : PortIdentity). greatest p h.accepted < x.index) (sym (same_identity-true m x.heard.source same)) above in
     record {
-      kept = kept_above m k (accepted_from c h x) h.accepted (omega (arith, past, keeps.accepted)) ∙ keeps.kept;
-      accepted = greatest_more m k (accepted_from c h x) h.accepted same keeps.accepted;
+      kept = grind arith;
+      accepted = grind arith;
     })
-    (λ (other : same_identity m x.heard.source ≡ false).
-    record {
-      kept = kept_other m k (accepted_from c h x) h.accepted other ∙ keeps.kept;
-      accepted = subst (λ n. k ≤ n) (sym (greatest_other m (accepted_from c h x) h.accepted other)) keeps.accepted;
-    })
+    (λ (other : same_identity m x.heard.source ≡ false). grind arith)
     (cases_Bool (same_identity m x.heard.source))
 
 keeps-copy : (c : Clock) (m : PortIdentity) (k : ℕ) (a : Accepted) (h : History) (x : RequestCopy)
     → Keeps m k a h
     → Keeps m k a (after_copy c h x)
-keeps-copy c m k a h x keeps = ⊎_elim
-    (λ (y : joins h x ≡ true).
-    subst (λ (g : History). Keeps m k a g) (sym (cond-true _ _ _ y))
-    (keeps-joined c m k a h x (ltb-true _ _ (and_parts _ _ y).1) keeps))
-    (λ (n : joins h x ≡ false). subst (λ (g : History). Keeps m k a g) (sym (cond-false _ _ _ n)) keeps)
-    (cases_Bool (joins h x))
+keeps-copy c m k a h x keeps = grind (arith, keeps-joined)
 
 keeps-arrival : (c : Clock) (m : PortIdentity) (k : ℕ) (a : Accepted) (h : History)
     (o : Option RequestCopy)
@@ -85,12 +72,7 @@ keeps-happenings c ports m k a h (x ∷ xs) keeps =
 keeps-first : (c : Clock) (h : History) (k : RequestCopy)
     → joins h k ≡ true
     → Keeps k.heard.source k.index (accepted_from c h k) (after_copy c h k)
-keeps-first c h k y =
-    let same : same_identity k.heard.source k.heard.source ≡ true = same_identity-refl k.heard.source in
-    subst (λ (g : History). Keeps k.heard.source k.index (accepted_from c h k) g) (sym (cond-true _ _ _ y)) (record {
-      kept = kept_same k.heard.source (accepted_from c h k) h.accepted same;
-      accepted = subst (λ n. k.index ≤ n) (sym (cond-true _ _ _ same)) (omega arith);
-    })
+keeps-first c h k y = grind (arith, same_identity-refl)
 
 -- the reply that is due to another copy of the latest request
 due_reply-latest : (c : Clock) (h : History) (k j : RequestCopy) (a : Accepted)
@@ -99,14 +81,7 @@ due_reply-latest : (c : Clock) (h : History) (k j : RequestCopy) (a : Accepted)
     → kept_reply k.heard.source k.index h.accepted ≡ Some a
     → greatest k.heard.source h.accepted ≡ k.index
     → due_reply c h j ≡ Some a.reply
-due_reply-latest c h k j a one asked kept latest =
-    let at : greatest j.heard.source h.accepted ≡ j.index =
-    ap (λ (p : PortIdentity). greatest p h.accepted) one.source ∙ latest ∙ sym one.index in
-    let here : kept_reply j.heard.source j.index h.accepted ≡ Some a =
-    (λ i. kept_reply (one.source i) (one.index i) h.accepted) ∙ kept in
-    cond-false _ _ _ (joins-below h j (omega (arith, at)))
-    ∙ (cond-true _ _ _ (eq-eqb _ _ at)
-    ∙ (ap (kept_for j) here ∙ cond-true _ _ _ (ap (λ q. same_request q j.request) asked ∙ one.request)))
+due_reply-latest c h k j a one asked kept latest = grind arith
 
 pub due_reply-kept_since : (c : Clock) (ports : ℕ) (h : History) (k j : RequestCopy)
     (xs : List Happening)

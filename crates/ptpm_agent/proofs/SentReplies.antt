@@ -117,14 +117,13 @@ pub sent_reply : {O : Type 0} (shown : O → List (ℕ × List ℕ)) (grown : O 
     → IsSentReply me heard q.action q.id of_port messages r
 sent_reply shown grown q s t me heard r ingress of_port messages is fits sent port held =
     let own : of_port ≡ is_of_port q.id = port ∙ sent_of_port shown grown q s t r fits sent in
-    let named : IsSenderOf shown s me heard r.action r.id ingress [] =
-    subst (λ (p : Action × ℕ). IsSenderOf shown s me heard p.0 p.1 ingress []) (λ i. (sym fits.action i, sym fits.id i)) is in
+    let named : IsSenderOf shown s me heard r.action r.id ingress [] = grind arith in
     record {
       ingress = ingress;
       action_is = fits.action;
       id_is = fits.id;
-      count = subst (λ (b : Bool). FitsCount b (length r.answers)) (sym own) fits.count;
-      answers = subst (λ (b : Bool). All (FitsAnswer b q.action) r.answers) (sym own) fits.answers;
+      count = grind arith;
+      answers = grind arith;
       fits = all_fit shown grown s t me heard r ingress [] named sent;
       messages_are = held ∙ sent_by shown grown s t me heard r ingress [] named sent;
     }

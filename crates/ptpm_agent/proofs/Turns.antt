@@ -1,19 +1,13 @@
 -- What a turn does with a message, by what the message is to the clock.
-use Rattle.std.proofs.Common.{◌≡◌, ℕ, ◌==◌, ◌&&◌, ◌||◌, not, List, [], length, Option, Some, None, Result, Ok, Err, IfErr, IfOk, OnErr, map, ◌++◌, Bool, true, false, refl, sym, ◌∙◌, ap, subst, ⊎_elim}
-use Rattle.std.proofs.lemmas.Bool.{cases_Bool, and_parts, and_from, and_left, and_right, or_left, or_right, not-true, cond-true, cond-false, true≢false, false≢true}
-use Rattle.std.proofs.lemmas.Option.{none-some, same_Some}
+use Rattle.std.proofs.Common.{arith, ◌≡◌, ℕ, ◌==◌, ◌||◌, not, List, [], length, Option, Some, Result, Ok, Err, OnErr, map, ◌++◌, Bool, true, false, refl, sym, ◌∙◌, ap, subst}
+use Rattle.std.proofs.lemmas.Bool.{and_parts, and_from, or_left, or_right, not-true, cond-true, cond-false, false≢true}
 use Rattle.std.specs.FinMap.{get}
 use Rattle.ptpm_codec.specs.declared.error.DecodeError.{DecodeError}
 use Rattle.ptpm_codec.specs.declared.identity.ClockIdentity.{ClockIdentity}
-use Rattle.ptpm_codec.specs.declared.identity.PortIdentity.{PortIdentity}
 use Rattle.ptpm_codec.specs.declared.message.Message.{Message}
-use Rattle.ptpm_codec.specs.Identity.{every_clock, same_clock, same_identity}
-use Rattle.ptpm_codec.specs.Layout.{message_octets}
-use Rattle.ptpm_codec.specs.Reading.{message_at, message_of, ok_unless, reading, some_unless}
-use Rattle.ptpm_codec.specs.Refusal.{refusal}
+use Rattle.ptpm_codec.specs.Identity.{every_clock, same_clock}
+use Rattle.ptpm_codec.specs.Reading.{message_of, reading}
 use Rattle.ptpm_data.specs.Members.{DataSetsValue}
-use Rattle.ptpm_table.specs.declared.reply_table.Look.{Look}
-use Rattle.ptpm_table.specs.declared.reply_table.Look.TheVariants as looks
 use Rattle.ptpm_table.specs.Entries.{Entry, is_known}
 use Rattle.ptpm_table.specs.Numbering.{look_at}
 use Rattle.ptpm_table.specs.Rendering.{rendered}
@@ -30,29 +24,17 @@ use Rattle.ptpm_agent.proofs.Entries.{get-insert_other}
 
 -- ---- the message of a datagram
 
-ok_unless-some : (o : Option DecodeError) (v w : Message)
-    → some_unless o v ≡ Some w
-    → ok_unless o v ≡ Ok w
-ok_unless-some None v w e = ap (λ (u : Message). Ok u) (same_Some v w e)
-ok_unless-some (Some cause) v w e = absurd (none-some w e)
-
-some_unless-ok : (o : Option DecodeError) (v w : Message)
-    → ok_unless o v ≡ Ok w
-    → some_unless o v ≡ Some w
-some_unless-ok None v w e = ap (λ (u : Message). Some u) (subst (λ (r : Result Message DecodeError). IfOk r (λ u. v ≡ u)) e refl)
-some_unless-ok (Some cause) v w e = absurd (subst (λ (r : Result Message DecodeError). IfOk r (λ u. ⊥)) e tt)
-
 pub reading-message_of : (datagram : List ℕ) (v : Message)
     → message_of datagram ≡ Some v
     → reading datagram ≡ Ok v
 unfolding message_of
-reading-message_of datagram v e = ok_unless-some (refusal datagram) (message_at (message_octets datagram)) v e
+reading-message_of datagram v e = grind arith
 
 pub message_of-reading : (datagram : List ℕ) (v : Message)
     → reading datagram ≡ Ok v
     → message_of datagram ≡ Some v
 unfolding message_of
-message_of-reading datagram v e = some_unless-ok (refusal datagram) (message_at (message_octets datagram)) v e
+message_of-reading datagram v e = grind arith
 
 pub turn-message : (c : Clock) (s : State) (ingress : ℕ) (datagram : List ℕ) (v : Message)
     → message_of datagram ≡ Some v
@@ -60,22 +42,12 @@ pub turn-message : (c : Clock) (s : State) (ingress : ℕ) (datagram : List ℕ)
 unfolding turn
 turn-message c s ingress datagram v e = ap (λ (r : Result Message DecodeError). turn_by c s ingress datagram r) (reading-message_of datagram v e)
 
--- what holds of the state as it was, and of what each message leaves, holds of what a turn leaves
-turn_by-next : (P : State → Type 0) (c : Clock) (s : State) (ingress : ℕ) (datagram : List ℕ)
-    (r : Result Message DecodeError)
-    → reading datagram ≡ r
-    → P s
-    → ((v : Message) → message_of datagram ≡ Some v → P (next_by (judged c s v) c s v))
-    → P (turn_by c s ingress datagram r).next
-turn_by-next P c s ingress datagram (Err cause) e before each = before
-turn_by-next P c s ingress datagram (Ok v) e before each = each v (message_of-reading datagram v e)
-
 pub turn-next : (P : State → Type 0) (c : Clock) (s : State) (ingress : ℕ) (datagram : List ℕ)
     → P s
     → ((v : Message) → message_of datagram ≡ Some v → P (next_by (judged c s v) c s v))
     → P (turn c s ingress datagram).next
 unfolding turn
-turn-next P c s ingress datagram before each = turn_by-next P c s ingress datagram (reading datagram) refl before each
+turn-next P c s ingress datagram before each = grind (arith, message_of-reading)
 
 pub on_err : {A E : Type 0} (r : Result A E) (P : Type 0) → P → OnErr r P
 on_err (Ok a) P p = tt
@@ -117,8 +89,7 @@ pub judged-reply : (c : Clock) (s : State) (v : Message)
     → is_request v ≡ false
     → judged c s v ≡ verdicts.NotARequest
 unfolding judged
-judged-reply c s v d o a q =
-    cond-false _ _ _ (ap not d) ∙ (cond-false _ _ _ o ∙ (cond-false _ _ _ (ap not a) ∙ cond-true _ _ _ (ap not q)))
+judged-reply c s v d o a q = grind arith
 
 pub judged-request : (c : Clock) (s : State) (v : Message)
     → is_in_domain c s v ≡ true
@@ -127,27 +98,14 @@ pub judged-request : (c : Clock) (s : State) (v : Message)
     → is_request v ≡ true
     → judged c s v ≡ verdict_at (look c s v)
 unfolding judged
-judged-request c s v d o a q =
-    cond-false _ _ _ (ap not d) ∙ (cond-false _ _ _ o ∙ (cond-false _ _ _ (ap not a) ∙ cond-false _ _ _ (ap not q)))
-
-repeat_verdict : (l : Look) → is_repeat l ≡ true → verdict_at l ≡ verdicts.AnsweredRepeat
-repeat_verdict looks.Unknown r = absurd (false≢true r)
-repeat_verdict looks.New r = absurd (false≢true r)
-repeat_verdict looks.Repeat r = refl
-repeat_verdict looks.Conflict r = absurd (false≢true r)
-repeat_verdict looks.Old r = absurd (false≢true r)
+judged-request c s v d o a q = grind arith
 
 -- an accepted repeat is answered in every domain
 pub judged-repeat : (c : Clock) (s : State) (v : Message)
     → v.sdo == 0 ≡ true
     → is_accepted_repeat c s v ≡ true
     → judged c s v ≡ verdicts.AnsweredRepeat
-judged-repeat c s v sdo repeat =
-    let own = and_parts (not (is_own c v)) (is_addressed c s.sets v && (is_request v && is_repeat (look c s v))) repeat in
-    let addressed = and_parts (is_addressed c s.sets v) (is_request v && is_repeat (look c s v)) own.1 in
-    let request = and_parts (is_request v) (is_repeat (look c s v)) addressed.1 in
-    let home : is_in_domain c s v ≡ true = and_from _ _ sdo (or_right (v.domain == s.sets.default.domain) (is_accepted_repeat c s v) repeat) in
-    judged-request c s v home (not-true _ own.0) addressed.0 request.0 ∙ repeat_verdict (look c s v) request.1
+judged-repeat c s v sdo repeat = grind (arith, and_parts, or_right, judged-request, not-true)
 
 -- ---- a copy of a numbered request
 
@@ -163,13 +121,7 @@ pub record CopyParts (c : Clock) (ports : ℕ) (v : Message) : Type 0 where
 pub copy_parts : (c : Clock) (ports : ℕ) (v : Message)
     → is_copy c ports v ≡ true
     → CopyParts c ports v
-copy_parts c ports v h =
-    let a = and_parts _ _ h in
-    let b = and_parts _ _ a.1 in
-    let e = and_parts _ _ b.1 in
-    let f = and_parts _ _ e.1 in
-    let g = and_parts _ _ f.1 in
-    record { sdo = a.0; own = not-true _ b.0; known = e.0; target = f.0; port = g.0; request = g.1 }
+copy_parts c ports v h = grind arith
 
 addressed : (c : Clock) (d : DataSetsValue) (v : Message)
     → CopyParts c (length d.ports) v
@@ -181,26 +133,17 @@ pub look-copy : (c : Clock) (s : State) (v : Message)
     → look c s v ≡ look_at (get s.entries v.source) v.number (request_of v)
 look-copy c s v p = cond-true _ _ _ (and_from _ _ p.known p.target)
 
--- a test that holds leaves the other
-and_true : (a b : Bool) → a ≡ true → (a && b) ≡ b
-and_true a b e = ap (λ t. t && b) e
-
 in_domain-copy : (c : Clock) (s : State) (v : Message)
     → CopyParts c (length s.sets.ports) v
     → is_in_domain c s v ≡ (v.domain == s.sets.default.domain || is_repeat (look c s v))
-in_domain-copy c s v p =
-    and_true (v.sdo == 0) _ p.sdo
-    ∙ ap (λ t. v.domain == s.sets.default.domain || t)
-    (and_true (not (is_own c v)) _ (ap not p.own)
-    ∙ (and_true (is_addressed c s.sets v) _ (addressed c s.sets v p) ∙ and_true (is_request v) _ p.request))
+in_domain-copy c s v p = grind arith
 
 -- in the clock's domain, or a repeat: as the number says
 pub judged-numbered : (c : Clock) (s : State) (v : Message)
     → CopyParts c (length s.sets.ports) v
     → (v.domain == s.sets.default.domain || is_repeat (look c s v)) ≡ true
     → judged c s v ≡ verdict_at (look_at (get s.entries v.source) v.number (request_of v))
-judged-numbered c s v p d =
-    judged-request c s v (in_domain-copy c s v p ∙ d) p.own (addressed c s.sets v p) p.request ∙ ap verdict_at (look-copy c s v p)
+judged-numbered c s v p d = grind (arith, judged-request)
 
 pub judged-elsewhere : (c : Clock) (s : State) (v : Message)
     → CopyParts c (length s.sets.ports) v
@@ -208,20 +151,12 @@ pub judged-elsewhere : (c : Clock) (s : State) (v : Message)
     → judged c s v ≡ verdicts.OtherDomain
 judged-elsewhere c s v p d = judged-foreign c s v (in_domain-copy c s v p ∙ d)
 
--- it is not passed on, for its target is exactly this clock
-is_forwarded-copy : (c : Clock) (ingress : ℕ) (d : DataSetsValue) (v : Message)
-    → is_for_this_clock c v ≡ true
-    → is_forwarded c.identity ingress d v ≡ false
-is_forwarded-copy c ingress d v t =
-    and_right (v.sdo == 0) _ (and_right (v.domain == d.default.domain) _ (and_right (not (is_own c v)) _ (and_left _ _ (ap not t))))
-
 pub forwarded-copy : (c : Clock) (ingress : ℕ) (d : DataSetsValue) (datagram : List ℕ) (v : Message)
     → message_of datagram ≡ Some v
     → is_for_this_clock c v ≡ true
     → forwarded c.identity ingress d datagram ≡ []
 unfolding forwarded
-forwarded-copy c ingress d datagram v e t =
-    ap (forwarded_by c.identity ingress d datagram) e ∙ cond-false _ _ _ (is_forwarded-copy c ingress d v t)
+forwarded-copy c ingress d datagram v e t = grind arith
 
 -- a message is passed on at each egress port, or not at all
 pub forwarded-on : (me : ClockIdentity) (ingress : ℕ) (d : DataSetsValue) (datagram : List ℕ)
@@ -241,21 +176,6 @@ pub forwarded-not : (me : ClockIdentity) (ingress : ℕ) (d : DataSetsValue) (da
 unfolding forwarded
 forwarded-not me ingress d datagram v e n = ap (forwarded_by me ingress d datagram) (message_of-reading datagram v e) ∙ cond-false _ _ _ n
 
-message_of-refused : (datagram : List ℕ) (o : Option DecodeError) (v : Message)
-    (cause : DecodeError)
-    → ok_unless o v ≡ Err cause
-    → some_unless o v ≡ None
-message_of-refused datagram None v cause e = absurd (subst (λ (r : Result Message DecodeError). IfErr r (λ u. ⊥)) e tt)
-message_of-refused datagram (Some other) v cause e = refl
-
-pub forwarded-refused : (me : ClockIdentity) (ingress : ℕ) (d : DataSetsValue) (datagram : List ℕ)
-    (cause : DecodeError)
-    → reading datagram ≡ Err cause
-    → forwarded me ingress d datagram ≡ []
-unfolding forwarded message_of
-forwarded-refused me ingress d datagram cause e =
-    ap (forwarded_by me ingress d datagram) (message_of-refused datagram (refusal datagram) (message_at (message_octets datagram)) cause e)
-
 -- ---- any other message changes nothing
 
 -- a numbered request in the clock's domain, or a repeat, is a copy
@@ -266,11 +186,7 @@ pub is_copy-numbered : (c : Clock) (s : State) (v : Message)
     → is_request v ≡ true
     → is_numbered c v ≡ true
     → is_copy c (length s.sets.ports) v ≡ true
-is_copy-numbered c s v d o a q n =
-    let sdo = (and_parts (v.sdo == 0) (v.domain == s.sets.default.domain || is_accepted_repeat c s v) d).0 in
-    let port = (and_parts (is_for_this_clock c v || same_clock v.target.clock every_clock) (names_port (length s.sets.ports) v.target.port) a).1 in
-    let numbered = and_parts (is_known v.source c.managers) (is_for_this_clock c v) n in
-    and_from _ _ sdo (and_from _ _ (ap not o) (and_from _ _ numbered.0 (and_from _ _ numbered.1 (and_from _ _ port q))))
+is_copy-numbered c s v d o a q n = grind arith
 
 -- what holds of each verdict where it is the first that holds, holds of the verdict
 pub judged-each : (P : Verdict → Type 0) (c : Clock) (s : State) (v : Message)
@@ -284,19 +200,7 @@ pub judged-each : (P : Verdict → Type 0) (c : Clock) (s : State) (v : Message)
     → is_request v ≡ true
     → P (verdict_at (look c s v)))
     → P (judged c s v)
-judged-each P c s v foreign own away reply request = ⊎_elim
-    (λ (d : is_in_domain c s v ≡ true). ⊎_elim
-    (λ (o : is_own c v ≡ true). subst P (sym (judged-own c s v d o)) own)
-    (λ (o : is_own c v ≡ false). ⊎_elim
-    (λ (a : is_addressed c s.sets v ≡ true). ⊎_elim
-    (λ (q : is_request v ≡ true). subst P (sym (judged-request c s v d o a q)) (request d o a q))
-    (λ (q : is_request v ≡ false). subst P (sym (judged-reply c s v d o a q)) reply)
-    (cases_Bool (is_request v)))
-    (λ (a : is_addressed c s.sets v ≡ false). subst P (sym (judged-away c s v d o a)) away)
-    (cases_Bool (is_addressed c s.sets v)))
-    (cases_Bool (is_own c v)))
-    (λ (d : is_in_domain c s v ≡ false). subst P (sym (judged-foreign c s v d)) foreign)
-    (cases_Bool (is_in_domain c s v))
+judged-each P c s v foreign own away reply request = grind (arith, judged-own, judged-request, judged-reply, judged-away, judged-foreign)
 
 -- a request without a number is answered from the data sets as they stand
 pub verdict_at-unnumbered : (c : Clock) (s : State) (v : Message)
@@ -308,10 +212,7 @@ pub next_by-no_copy : (c : Clock) (s : State) (v : Message)
     → is_copy c (length s.sets.ports) v ≡ false
     → next_by (judged c s v) c s v ≡ s
 next_by-no_copy c s v no_copy = judged-each (λ (w : Verdict). next_by w c s v ≡ s) c s v refl refl refl refl
-    (λ d o a q. ⊎_elim
-    (λ (n : is_numbered c v ≡ true). absurd (true≢false (sym (is_copy-numbered c s v d o a q n) ∙ no_copy)))
-    (λ (n : is_numbered c v ≡ false). ap (λ (w : Verdict). next_by w c s v) (verdict_at-unnumbered c s v n))
-    (cases_Bool (is_numbered c v)))
+    (λ d o a q. grind arith)
 
 -- ---- what a verdict says of its message
 
@@ -334,10 +235,7 @@ target-is_again : (c : Clock) (s : State) (v : Message)
 unfolding is_again
 target-is_again c s v = judged-each (λ (w : Verdict). is_again w ≡ true → is_for_this_clock c v ≡ true) c s v
     (λ e. absurd (false≢true e)) (λ e. absurd (false≢true e)) (λ e. absurd (false≢true e)) (λ e. absurd (false≢true e))
-    (λ d o a q e. ⊎_elim
-    (λ (n : is_numbered c v ≡ true). (and_parts (is_known v.source c.managers) (is_for_this_clock c v) n).1)
-    (λ (n : is_numbered c v ≡ false). absurd (false≢true (sym (ap is_again (verdict_at-unnumbered c s v n)) ∙ e)))
-    (cases_Bool (is_numbered c v)))
+    (λ d o a q e. grind arith)
 
 target-repeat : (c : Clock) (s : State) (v : Message)
     → judged c s v ≡ verdicts.AnsweredRepeat
@@ -352,10 +250,7 @@ is_copy-is_new : (c : Clock) (s : State) (v : Message)
 unfolding is_new
 is_copy-is_new c s v = judged-each (λ (w : Verdict). is_new w ≡ true → is_copy c (length s.sets.ports) v ≡ true) c s v
     (λ e. absurd (false≢true e)) (λ e. absurd (false≢true e)) (λ e. absurd (false≢true e)) (λ e. absurd (false≢true e))
-    (λ d o a q e. ⊎_elim
-    (λ (n : is_numbered c v ≡ true). is_copy-numbered c s v d o a q n)
-    (λ (n : is_numbered c v ≡ false). absurd (false≢true (sym (ap is_new (verdict_at-unnumbered c s v n)) ∙ e)))
-    (cases_Bool (is_numbered c v)))
+    (λ d o a q e. grind arith)
 
 pub is_copy-new : (c : Clock) (s : State) (v : Message)
     → judged c s v ≡ verdicts.AnsweredNew
@@ -381,8 +276,7 @@ is_addressed-unnumbered c s v e = is_addressed-is_unnumbered c s v (ap is_unnumb
 port_of_addressed : (c : Clock) (d : DataSetsValue) (v : Message)
     → is_addressed c d v ≡ true
     → names_port (length d.ports) v.target.port ≡ true
-port_of_addressed c d v a =
-    (and_parts (is_for_this_clock c v || same_clock v.target.clock every_clock) (names_port (length d.ports) v.target.port) a).1
+port_of_addressed c d v a = grind arith
 
 pub new_parts : (c : Clock) (s : State) (v : Message)
     → judged c s v ≡ verdicts.AnsweredNew
@@ -405,15 +299,8 @@ pub turned_refused : (c : Clock) (s : State) (ingress : ℕ) (datagram : List �
     → out ≡ []
     → next ≡ s
     → IsTurned (turn c s ingress datagram) (verdicts.Malformed cause) out next
-unfolding turn
-turned_refused c s ingress datagram cause out next e sent same =
-    subst (λ (r : Result Message DecodeError). IsTurned (turn_by c s ingress datagram r) (verdicts.Malformed cause) out next) (sym e)
-    (record {
-      verdict_is = refl;
-      outbox_is = sent ∙ sym (ap (λ (f : List (ℕ × List ℕ)). f ++ []) (forwarded-refused c.identity ingress s.sets datagram cause e));
-      sets_are = ap (λ (t : State). t.sets) same;
-      entries_are = ap (λ (t : State). t.entries) same;
-    })
+unfolding forwarded message_of turn
+turned_refused c s ingress datagram cause out next e sent same = grind arith
 
 -- on a message whose verdict is w
 turned_at : (c : Clock) (s : State) (ingress : ℕ) (datagram : List ℕ) (v : Message) (w : Verdict)
@@ -430,9 +317,9 @@ turned_at c s ingress datagram v w out next e verdict sent left =
     subst (λ (r : Result Message DecodeError). IsTurned (turn_by c s ingress datagram r) w out next) (sym e)
     (record {
       verdict_is = verdict;
-      outbox_is = sent ∙ ap (λ (u : Verdict). forwarded c.identity ingress s.sets datagram ++ reply_messages c ingress (heard_of v) (reply_by u c s v)) verdict;
-      sets_are = ap (λ (t : State). t.sets) left ∙ ap (λ (u : Verdict). (next_by u c s v).sets) verdict;
-      entries_are = ap (λ (t : State). t.entries) left ∙ ap (λ (u : Verdict). (next_by u c s v).entries) verdict;
+      outbox_is = grind arith;
+      sets_are = grind arith;
+      entries_are = grind arith;
     })
 
 pub turned_new : (c : Clock) (s : State) (ingress : ℕ) (datagram : List ℕ) (v : Message)
@@ -444,8 +331,7 @@ pub turned_new : (c : Clock) (s : State) (ingress : ℕ) (datagram : List ℕ) (
     → next ≡ carried_out c s v
     → IsTurned (turn c s ingress datagram) w out next
 turned_new c s ingress datagram v w out next e verdict new sent left =
-    let none : forwarded c.identity ingress s.sets datagram ≡ [] =
-    forwarded-copy c ingress s.sets datagram v (message_of-reading datagram v e) (new_parts c s v (sym verdict ∙ new)).target in
+    let none : forwarded c.identity ingress s.sets datagram ≡ [] = grind (arith, forwarded-copy, message_of-reading, new_parts) in
     turned_at c s ingress datagram v w out next e verdict
     (sent ∙ (sym (ap (λ (f : List (ℕ × List ℕ)). f ++ rendered c.identity (heard_of v) (new_reply c s v) ingress) none)
     ∙ sym (ap (λ (u : Verdict). forwarded c.identity ingress s.sets datagram ++ reply_messages c ingress (heard_of v) (reply_by u c s v)) new)))
@@ -461,8 +347,7 @@ pub turned_repeat : (c : Clock) (s : State) (ingress : ℕ) (datagram : List ℕ
     → next ≡ s
     → IsTurned (turn c s ingress datagram) w out next
 turned_repeat c s ingress datagram v w out next e read verdict repeat kept sent same =
-    let none : forwarded c.identity ingress s.sets datagram ≡ [] =
-    forwarded-copy c ingress s.sets datagram v (message_of-reading datagram v read) (target-repeat c s v (sym verdict ∙ repeat)) in
+    let none : forwarded c.identity ingress s.sets datagram ≡ [] = grind (arith, forwarded-copy, message_of-reading, target-repeat) in
     turned_at c s ingress datagram v w out next read verdict
     (sent ∙ sym ((λ i. none i ++ reply_messages c ingress (heard_of v) (reply_by (repeat i) c s v))
     ∙ ap (λ (k : Option Entry). reply_messages c ingress (heard_of v) (kept_reply_of k)) kept))
@@ -489,28 +374,7 @@ turned_other c s ingress datagram v w out next e verdict other sent same =
 
 -- ---- whose entries there are
 
--- a manager is not one who is none
-other_identity : (managers : List PortIdentity) (m q : PortIdentity)
-    → is_known m managers ≡ false
-    → is_known q managers ≡ true
-    → same_identity m q ≡ false
-other_identity managers m q unknown known = ⊎_elim
-    (λ (same : same_identity m q ≡ true).
-    absurd (true≢false (sym known ∙ (sym (ap (λ (p : PortIdentity). is_known p managers) (same_identity-true m q same)) ∙ unknown))))
-    (λ (other : same_identity m q ≡ false). other) (cases_Bool (same_identity m q))
-
-AreOfManagers-next_by : (c : Clock) (s : State) (v : Message) (w : Verdict)
-    → is_known v.source c.managers ≡ true
-    → AreOfManagers c s.entries
-    → AreOfManagers c (next_by w c s v).entries
-AreOfManagers-next_by c s v verdicts.AnsweredNew known before m unknown =
-    get-insert_other s.entries v.source _ m (other_identity c.managers m v.source unknown known) ∙ before m unknown
-AreOfManagers-next_by c s v _ known before m unknown = before m unknown
-
 pub AreOfManagers-judged : (c : Clock) (s : State) (v : Message)
     → AreOfManagers c s.entries
     → AreOfManagers c (next_by (judged c s v) c s v).entries
-AreOfManagers-judged c s v before = ⊎_elim
-    (λ (y : is_copy c (length s.sets.ports) v ≡ true). AreOfManagers-next_by c s v (judged c s v) (copy_parts c (length s.sets.ports) v y).known before)
-    (λ (n : is_copy c (length s.sets.ports) v ≡ false). subst (λ (t : State). AreOfManagers c t.entries) (sym (next_by-no_copy c s v n)) before)
-    (cases_Bool (is_copy c (length s.sets.ports) v))
+AreOfManagers-judged c s v before = grind (arith, next_by-no_copy, get-insert_other, same_identity-true)

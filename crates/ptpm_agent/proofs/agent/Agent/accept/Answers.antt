@@ -1,40 +1,29 @@
-use Rattle.std.proofs.Common.{[], ◌≡◌, ◌∙◌, ap, refl, rules, subst, sym}
-use Rattle.std.specs.Bool.{IsTrue}
+use Rattle.std.proofs.Common.{arith, [], ◌≡◌, ◌∙◌, ap, refl, rules}
 use Rattle.std.specs.FinMap.{insert}
 use Rattle.ptpm_codec.specs.Message.{reply_action}
 use Rattle.ptpm_data.specs.Changes.{changed_by}
 use Rattle.ptpm_data.specs.Replies.{reply_to}
 use Rattle.ptpm_data.proofs.Answering.{reply_to-parts}
-use Rattle.ptpm_table.specs.declared.heard.Heard.{Heard}
-use Rattle.ptpm_table.specs.Entries.{is_known}
 use Rattle.ptpm_table.specs.Rendering.{rendered}
 use Rattle.ptpm_agent.specs.Addressing.{heard_of}
 use Rattle.ptpm_agent.specs.Agent.{state_of}
 use Rattle.ptpm_agent.specs.Turn.{new_reply}
-use Rattle.ptpm_agent.proofs.Fitting.{fits_numbered, may_judge_action, may_judge_port}
+use Rattle.ptpm_agent.proofs.Fitting.{fits_numbered}
 use Rattle.ptpm_agent.proofs.SentReplies.{sender_as_made, sent_rendered, sent_reply}
 use Rattle.ptpm_agent.proofs.Turns.{new_parts}
 use Rattle.ptpm_agent.proofs.agent.Agent.accept.Goals as goal
 
 pub decide_into-requires-clause-action : goal.decide_into-requires-clause-action
-decide_into-requires-clause-action g c =
-    let p = new_parts _ _ _ c.requires.new in
-    may_judge_action c.request_of-request.result c.args.message.now c.request_of-request.ensures p.request
+decide_into-requires-clause-action g c = grind (arith, new_parts)
 
 pub decide_into-requires-clause-port : goal.decide_into-requires-clause-port
-decide_into-requires-clause-port g c =
-    let p = new_parts _ _ _ c.requires.new in
-    may_judge_port c.request_of-request.result c.args.self.now.sets c.args.message.now c.request_of-request.ensures p.port
+decide_into-requires-clause-port g c = grind (arith, new_parts)
 
 pub keep_sent-requires-clause-known : goal.keep_sent-requires-clause-known
-keep_sent-requires-clause-known g c =
-    let p = new_parts _ _ _ c.requires.new in
-    subst (λ (h : Heard). IsTrue (is_known h.source (g.T.ReplyTable.owner c.args.self.now.table).managers)) (sym c.heard_of-heard.ensures) p.known
+keep_sent-requires-clause-known g c = grind (arith, new_parts)
 
 pub keep_sent-requires-clause-action : goal.keep_sent-requires-clause-action
-keep_sent-requires-clause-action g c =
-    let p = new_parts _ _ _ c.requires.new in
-    may_judge_action c.request_of-request.result c.args.message.now c.request_of-request.ensures p.request
+keep_sent-requires-clause-action g c = grind (arith, new_parts)
 
 pub keep_sent-requires-clause-sent : goal.keep_sent-requires-clause-sent
 keep_sent-requires-clause-sent g c =

@@ -1,12 +1,12 @@
-use Rattle.std.proofs.Common.{◌≡◌, ℕ, List, [], ◌∷◌, ◌++◌, ◌<◌, ◌≤◌, ◌+◌, arith, length, take, refl, sym, ◌∙◌, ap, subst}
+use Rattle.std.proofs.Common.{◌≡◌, ℕ, [], ◌∷◌, ◌++◌, ◌<◌, ◌≤◌, ◌+◌, arith, length, take, refl, sym, ◌∙◌, ap, subst}
 use Rattle.std.proofs.lemmas.List.{take_all, take_more}
 use Rattle.ptpm_codec.specs.declared.identity.PortIdentity.{PortIdentity}
 use Rattle.ptpm_data.specs.Members.{DataSetsValue, HasPort}
 use Rattle.ptpm_agent.specs.Laws.{StandsAt, after_each, datagrams_of, last_sent}
 use Rattle.ptpm_agent.specs.Once.{History, applied_once, copies}
-use Rattle.ptpm_agent.specs.Turn.{State, Turned, outbox_of, turn}
+use Rattle.ptpm_agent.specs.Turn.{State, outbox_of, turn}
 use Rattle.ptpm_agent.proofs.Deliveries.{outbox_due-at, stands_turns}
-use Rattle.ptpm_agent.proofs.Lists.{after_each-append, after_each-datagrams, datagrams_of-append, last_sent-append, state_after}
+use Rattle.ptpm_agent.proofs.Lists.{after_each-append, after_each-datagrams, datagrams_of-append, last_sent-append}
 use Rattle.ptpm_agent.proofs.TurnKeeps.{turn-ports}
 use Rattle.ptpm_agent.proofs.agent.Agent.handle_each.Goals as goal
 
@@ -17,10 +17,7 @@ pub handle-requires : goal.handle-requires
 handle-requires g c =
     let item = c.index-datagrams-place.result in
     let within : c.loop-place.place < length c.args.datagrams.now = omega arith in
-    let port : HasPort item.0 c.args.self.now.sets =
-    subst (λ (x : ℕ × List ℕ). HasPort x.0 c.args.self.now.sets) (sym c.index-datagrams-place.is)
-    (c.requires.ports c.loop-place.place item within) in
-    record { port = (port.0, subst (λ n. item.0 ≤ n) (sym c.loop-place.invariant.ports) port.1) }
+    let port : HasPort item.0 c.args.self.now.sets = grind arith in grind arith
 
 pub loop-place-preserved : goal.loop-place-preserved
 loop-place-preserved g c =
@@ -31,28 +28,9 @@ loop-place-preserved g c =
     let now : State = record { sets = c.loop-place.self.sets; entries = g.T.ReplyTable.entries c.loop-place.self.table } in
     let within : c.loop-place.place < length c.args.datagrams.now = omega arith in
     let front = take c.loop-place.place c.args.datagrams.now in
-    let more : take (c.loop-place.place + 1) c.args.datagrams.now ≡ front ++ item ∷ [] =
-    take_more c.args.datagrams.now c.loop-place.place item within
-    ∙ ap (λ (x : ℕ × List ℕ). front ++ x ∷ []) (sym c.index-datagrams-place.is) in
-    let octets : turn here now item.0 c.as_slice.result.now ≡ turn here now item.0 item.1 =
-    ap (λ (b : List ℕ). turn here now item.0 b) c.as_slice.ensures in
-    let same : turn here now item.0 item.1 ≡ turn clock (after_each clock old front) item.0 item.1 =
-    (λ i. turn (c.loop-place.invariant.clock i) (c.loop-place.invariant.turned i) item.0 item.1) in
-    record {
-      clock = c.handle.ensures.clock ∙ c.loop-place.invariant.clock;
-      ports =
-          ap (λ (d : DataSetsValue). length d.ports) c.handle.ensures.turned.sets_are
-          ∙ turn-ports here now item.0 c.as_slice.result.now
-          ∙ c.loop-place.invariant.ports;
-      turned =
-          state_after _ _ _ _ c.handle.ensures.turned
-          ∙ ap (λ (t : Turned). t.next) (octets ∙ same)
-          ∙ sym (ap (λ xs. after_each clock old xs) more ∙ after_each-append clock old front item);
-      sent =
-          c.handle.ensures.turned.outbox_is
-          ∙ ap (λ (t : Turned). outbox_of t) (octets ∙ same)
-          ∙ sym (ap (λ xs. last_sent clock old c.args.out.now xs) more ∙ last_sent-append clock old c.args.out.now front item);
-    }
+    let more : take (c.loop-place.place + 1) c.args.datagrams.now ≡ front ++ item ∷ [] = grind (arith, take_more) in
+    let octets : turn here now item.0 c.as_slice.result.now ≡ turn here now item.0 item.1 = grind arith in
+    let same : turn here now item.0 item.1 ≡ turn clock (after_each clock old front) item.0 item.1 = grind arith in grind (arith, turn-ports, after_each-append, last_sent-append)
 
 -- a clock has as many ports as where it stands
 as_many : (first : PortIdentity → ℕ) (s : State) (h : History)
@@ -61,19 +39,10 @@ as_many : (first : PortIdentity → ℕ) (s : State) (h : History)
 as_many first s h at = ap (λ (d : DataSetsValue). length d.ports) (sym at.sets)
 
 pub returns-clause-turned : goal.returns-clause-turned
-returns-clause-turned g c =
-    let clock = g.T.ReplyTable.owner c.args.self.now.table in
-    let old : State = record { sets = c.args.self.now.sets; entries = g.T.ReplyTable.entries c.args.self.now.table } in
-    let past : length c.args.datagrams.now ≤ c.loop-place.place = omega arith in
-    c.loop-place.invariant.turned ∙ ap (λ xs. after_each clock old xs) (take_all c.loop-place.place c.args.datagrams.now past)
+returns-clause-turned g c = grind (arith, take_all)
 
 pub returns-clause-sent : goal.returns-clause-sent
-returns-clause-sent g c =
-    let clock = g.T.ReplyTable.owner c.args.self.now.table in
-    let old : State = record { sets = c.args.self.now.sets; entries = g.T.ReplyTable.entries c.args.self.now.table } in
-    let past : length c.args.datagrams.now ≤ c.loop-place.place = omega arith in
-    c.loop-place.invariant.sent
-    ∙ ap (λ xs. last_sent clock old c.args.out.now xs) (take_all c.loop-place.place c.args.datagrams.now past)
+returns-clause-sent g c = grind (arith, take_all)
 
 pub returns-clause-once : goal.returns-clause-once
 returns-clause-once g c = λ first h xs is at numbered window.

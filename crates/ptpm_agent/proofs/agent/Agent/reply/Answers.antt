@@ -1,4 +1,4 @@
-use Rattle.std.proofs.Common.{◌≡◌, ◌++◌, ◌∙◌, ap, rules, sym}
+use Rattle.std.proofs.Common.{arith, ◌≡◌, ◌++◌, ◌∙◌, ap, rules, sym}
 use Rattle.ptpm_codec.specs.Message.{reply_action}
 use Rattle.ptpm_data.specs.Replies.{read_reply_to}
 use Rattle.ptpm_data.proofs.Answering.{read_reply_to-parts}
@@ -7,20 +7,15 @@ use Rattle.ptpm_agent.specs.Addressing.{heard_of}
 use Rattle.ptpm_agent.specs.Agent.{state_of}
 use Rattle.ptpm_agent.specs.Turn.{reply_by, reply_messages}
 use Rattle.ptpm_agent.specs.declared.verdict.Verdict.{Verdict}
-use Rattle.ptpm_agent.proofs.Fitting.{may_judge_action, may_judge_port}
 use Rattle.ptpm_agent.proofs.SentReplies.{sent_rendered}
 use Rattle.ptpm_agent.proofs.Turns.{unnumbered_parts}
 use Rattle.ptpm_agent.proofs.agent.Agent.reply.Goals as goal
 
 pub read_into-requires-clause-action : goal.read_into-requires-clause-action
-read_into-requires-clause-action g c =
-    let p = unnumbered_parts _ _ _ (sym c.requires.verdict ∙ c.in-AnsweredUnnumbered.is) in
-    may_judge_action c.request_of-request.result c.args.message.now c.request_of-request.ensures p.1
+read_into-requires-clause-action g c = grind (arith, unnumbered_parts)
 
 pub read_into-requires-clause-port : goal.read_into-requires-clause-port
-read_into-requires-clause-port g c =
-    let p = unnumbered_parts _ _ _ (sym c.requires.verdict ∙ c.in-AnsweredUnnumbered.is) in
-    may_judge_port c.request_of-request.result c.args.self.now.sets c.args.message.now c.request_of-request.ensures p.0
+read_into-requires-clause-port g c = grind (arith, unnumbered_parts)
 
 pub returns-in-AnsweredUnnumbered-clause-sent : goal.returns-in-AnsweredUnnumbered-clause-sent
 returns-in-AnsweredUnnumbered-clause-sent g c =
@@ -34,7 +29,7 @@ returns-in-AnsweredUnnumbered-clause-sent g c =
     sent_rendered g.O.Outgoing.sent g.O.Outgoing.grown c.address.new.self c.read_into.new.answers c.clock.result c.heard_of-heard.result (read_reply_to q sets)
     (reply_action q.action) q.id c.args.ingress (g.O.Outgoing.sent c.args.out.now) (read_reply_to-parts q sets)
     (record {
-      held_is = ap (λ r. g.O.Outgoing.sent r.now) c.address.ensures.place ∙ ap g.O.Outgoing.sent c.new-sender.ensures.held;
+      held_is = grind arith;
       ingress_is = c.address.ensures.ingress;
       id_is = c.address.ensures.id;
       envelope_is = c.address.ensures.envelope;

@@ -1,10 +1,10 @@
-use Rattle.std.proofs.Common.{◌≡◌, ◌++◌, ap, refl, sym, ◌∙◌}
+use Rattle.std.proofs.Common.{arith, ◌≡◌, ◌++◌, ap, refl, sym, ◌∙◌}
 use Rattle.std.specs.FinMap.{get}
 use Rattle.ptpm_table.specs.Rendering.{rendered}
 use Rattle.ptpm_table.specs.declared.heard.Heard.{Heard}
 use Rattle.ptpm_agent.specs.Agent.{state_of}
 use Rattle.ptpm_agent.specs.Addressing.{heard_of}
-use Rattle.ptpm_agent.proofs.Turns.{turned_new, turned_other, turned_refused, turned_repeat, on_err, verdict_new}
+use Rattle.ptpm_agent.proofs.Turns.{turned_new, turned_other, turned_refused, turned_repeat}
 use Rattle.ptpm_agent.proofs.agent.Agent.try_handle.Goals as goal
 
 pub returns-in-Err-clause-turned : goal.returns-in-Err-clause-turned
@@ -44,8 +44,4 @@ returns-in_default-clause-turned g c =
     (sym c.view.ensures.exact ∙ c.in-Ok.is) c.judge-verdict.ensures.verdict c.in_default.not-AnsweredNew c.answer.ensures.sent refl
 
 pub returns-in_err-reply-in-AnsweredNew-clause-only_new : goal.returns-in_err-reply-in-AnsweredNew-clause-only_new
-returns-in_err-reply-in-AnsweredNew-clause-only_new g c =
-    on_err _ _
-    (verdict_new (g.T.ReplyTable.owner c.args.self.now.table)
-    (state_of g.T.ReplyTable.entries c.args.self.now) c.args.datagram.now c.in-Ok.message
-    c.judge-verdict.result.0 (sym c.view.ensures.exact ∙ c.in-Ok.is) c.judge-verdict.ensures.verdict c.in-AnsweredNew.is)
+returns-in_err-reply-in-AnsweredNew-clause-only_new g c = grind arith
