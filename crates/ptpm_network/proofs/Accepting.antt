@@ -1,5 +1,5 @@
 -- How what was accepted of a manager, its requests and its reports go on together.
-use Rattle.ptpm_network.proofs.Common.{by_test, suc, zero, arith, ◌≡◌, ℕ, ◌<◌, ◌≤◌, ◌+◌, ◌-◌, ◌==◌, ◌&&◌, max, List, [], ◌∷◌, ◌++◌, Some, None, true, false, refl, sym, ◌∙◌, ap, ⊎_elim, length, length-append, cases_eq, and_parts, and_from, and_left, and_right, eqb-true, eq-eqb, ne_eqb, cond-true, cond-false, slice_get, PortIdentity, same_identity, Answer, RequestValue, answer_body, Accepted, greatest, kept_reply, Report, outcome_in, Answers, HasOneAnswer, SessionState, outcomes_kept, reports_of, IsAsked, IsInStep, InWindow, append_assoc, append-nil, WasAccepted, get_append, get_appended}
+use Rattle.ptpm_network.proofs.Common.{by_test, suc, zero, arith, ◌≡◌, ℕ, ◌<◌, ◌≤◌, ◌+◌, ◌-◌, ◌==◌, ◌&&◌, max, List, [], ◌∷◌, ◌++◌, Some, true, false, refl, sym, ◌∙◌, ap, ⊎_elim, length, length-append, cases_eq, and_parts, and_from, and_left, and_right, eqb-true, eq-eqb, ne_eqb, cond-true, cond-false, slice_get, PortIdentity, same_identity, Answer, RequestValue, answer_body, Accepted, greatest, kept_reply, Report, outcome_in, Answers, HasOneAnswer, SessionState, outcomes_kept, reports_of, IsAsked, IsInStep, InWindow, append_assoc, append-nil, WasAccepted, get_append, get_appended}
 
 -- ---- one more accepted request
 
@@ -72,12 +72,6 @@ without_gap-own m ports es d s y above own at k p le = ⊎_elim
     (λ (ne : d.index ≡ k → ⊥). grind (arith, greatest-same, was_accepted-joined))
     (cases_eq d.index k)
 
--- indexes are from 1 on
-from_one-joined : (m : PortIdentity) (es : List Accepted) (d : Accepted)
-    → IsAbove m es d → kept_reply m 0 es ≡ None
-    → kept_reply m 0 (d ∷ es) ≡ None
-from_one-joined m es d above none = grind (arith, kept-rest, and_right, ne_eqb, and_left)
-
 -- a manager goes on where one of its requests joins, or one of another manager
 pub in_step-joined : (m : PortIdentity) (ports : ℕ) (es : List Accepted) (d : Accepted)
     (s : SessionState)
@@ -89,7 +83,7 @@ in_step-joined m ports es d s above own at = record {
   one_at_a_time = at.one_at_a_time;
   begun_before = grind (arith, greatest-same, greatest-other);
   accepted_before = omega (arith, greatest-grows m d es, at.accepted_before);
-  from_one = from_one-joined m es d above at.from_one;
+  from_one = kept-joined m es d 0 above (omega arith) ∙ at.from_one;
   without_gap = λ k p le. by_test (same_identity m d.manager)
       (λ y. without_gap-own m ports es d s y above (own y) at k p le)
       (λ n. grind (arith, greatest-other, was_accepted-joined));
@@ -129,7 +123,7 @@ report_of k e a = record { index = k; outcome = outcome_in (answer_body e.reply.
 outcomes_kept-more : (m : PortIdentity) (es : List Accepted) (n k : ℕ) (e : Accepted) (a : Answer)
     → k ≡ suc n → kept_reply m k es ≡ Some e → e.reply.answers ≡ a ∷ []
     → outcomes_kept m es k ≡ outcomes_kept m es n ++ report_of k e a ∷ []
-outcomes_kept-more m es n k e a next kept one = grind arith
+outcomes_kept-more m es n k e a next kept one = rw (next, rw next at kept, one)
 
 -- a report tells the one answer that is kept for request k
 pub record IsToldOf (m : PortIdentity) (k : ℕ) (es : List Accepted) (report : Report) : Type 0 where
@@ -185,4 +179,4 @@ pub in_order : (m : PortIdentity) (ports : ℕ) (es : List Accepted) (s : Sessio
     → IsInStep m ports es s
     → IsInOrder m s.begun es s.reports
 in_order m ports es s at =
-    let told = told-begins m es (greatest m es) (length s.reports) at.accepted_before in grind (arith)
+    let told = told-begins m es (greatest m es) (length s.reports) at.accepted_before in grind arith

@@ -1,11 +1,10 @@
 -- Where no delivery of a list of events is late, it is late for no session.
-use Rattle.ptpm_network.proofs.Common.{arith, ◌≡◌, ℕ, List, [], ◌∷◌, Option, Some, None, Result, Ok, Err, false, refl, ◌∙◌, ap, and_right, is_none, if◌then◌else◌, option_map, AllByRecursion, PortIdentity, SessionValue, IsOfOrigin, IsReached, AreInTime, happens, is_late_delivery, is_late_frame, step, taken, IsNetwork, Network, Frame, held, Happened, network_event, RunningNetwork, initial_network, Refusal, refusal, Event, IsInRange, frame_at, AreFirsts, Stands, NetworkState, Origin, RequestOf, ReplyTo, Neither, initial_state, is_late, is_late_at}
+use Rattle.ptpm_network.proofs.Common.{arith, ◌≡◌, ℕ, List, [], ◌∷◌, Option, Some, None, Result, Ok, Err, false, refl, ◌∙◌, ap, and_right, is_none, if◌then◌else◌, option_map, AllByRecursion, PortIdentity, SessionValue, IsOfOrigin, IsReached, AreInTime, happens, is_late_delivery, is_late_frame, step, taken, IsNetwork, Network, Frame, held, Happened, network_event, RunningNetwork, Refusal, refusal, Event, IsInRange, frame_at, AreFirsts, Stands, NetworkState, Origin, RequestOf, ReplyTo, Neither, is_late, is_late_at}
 use Rattle.ptpm_network.specs.ByManager.{StaysInTime, in_time_while, is_behind, is_for, is_late_for, is_late_frame_for}
 use Rattle.ptpm_network.proofs.Held.{frame_at-map}
-use Rattle.ptpm_network.proofs.Promise.{first_of_sessions, firsts}
-use Rattle.ptpm_network.proofs.Reaching.{first-reached, frame_at-is, step-reached}
+use Rattle.ptpm_network.proofs.Promise.{firsts}
+use Rattle.ptpm_network.proofs.Reaching.{frame_at-is, step-reached}
 use Rattle.ptpm_network.proofs.Running.{Follows, follows}
-use Rattle.ptpm_network.proofs.Standing.{stands-initial_state}
 
 module _ (N : Network) (n : IsNetwork N) (first : PortIdentity → ℕ) (r : RunningNetwork) (w : NetworkState) (known : IsReached N w) (at : Stands N first r w) (s : ℕ) where
   not_behind : (octets : List ℕ) (o : Origin) → IsOfOrigin N w octets o → is_late w o ≡ false → is_behind r o ≡ false
@@ -29,7 +28,7 @@ module _ (N : Network) (n : IsNetwork N) (first : PortIdentity → ℕ) (r : Run
   while-in_time e es (Ok h) (Some reason) f is time behind = let never : None ≡ Some reason = f.reason in absurd (cc)
   while-in_time e es (Ok h) None f none time behind = grind (arith, frame_at-map, frame-for)
 
-all-in_time : (N : Network) (first : PortIdentity → ℕ) (r : RunningNetwork) (w : NetworkState) (s : ℕ) (es : List Event)
+pub all-in_time : (N : Network) (first : PortIdentity → ℕ) (r : RunningNetwork) (w : NetworkState) (s : ℕ) (es : List Event)
     → AreFirsts N first → IsNetwork N → IsReached N w → Stands N first r w
     → AllByRecursion IsInRange es → AreInTime N w (taken N w es)
     → StaysInTime N s r es
@@ -39,10 +38,3 @@ all-in_time N first r w s (e ∷ es) firsts n known at i time =
     while-in_time N n first r w known at s e es (network_event N r e) (refusal N w e)
     (record { reason = f.reason; next = λ h is late. f.next h is firsts i.0 late }) refl time
     (λ next there timely. all-in_time N first next (step N w e) s es firsts n (step-reached N w e n i.0 known) there i.1 timely)
-
-pub stays-in_time : (N : Network) (s : ℕ) (es : List Event)
-    → IsNetwork N → AllByRecursion IsInRange es → AreInTime N (initial_state N) (taken N (initial_state N) es)
-    → StaysInTime N s (initial_network N) es
-stays-in_time N s es n i time =
-    all-in_time N (first_of_sessions N N.sessions) (initial_network N) (initial_state N) s es (firsts N n) n (first-reached N n)
-    (stands-initial_state N (first_of_sessions N N.sessions)) i time

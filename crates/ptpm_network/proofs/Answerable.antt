@@ -1,5 +1,5 @@
 -- The request of a session is answered along a way, whatever else happens meanwhile, and so also where nothing does.
-use Rattle.ptpm_network.proofs.Common.{arith, ◌≡◌, ℕ, ◌<◌, ◌≤◌, ◌+◌, ◌*◌, List, [], ◌∷◌, ◌++◌, false, refl, ◌∙◌, ap, subst, length, append-nil, cond-true, eqb-false, is_none, AllByRecursion, Deliver, Event, IsInRange, Send, frames_limit, HasReported, AreInTime, is_late_frame, run, step, taken, End, IsNetwork, Network, NetworkState, initial_state, is_idle, ComeIn, ComesIn, Hop, IsAnswerable, IsWay, LinksHaveAtMost, ends_of, handed_in, made_each_way, passed_at_most}
+use Rattle.ptpm_network.proofs.Common.{arith, ◌≡◌, ℕ, ◌<◌, ◌≤◌, ◌+◌, ◌*◌, List, [], ◌∷◌, ◌++◌, false, refl, ◌∙◌, ap, subst, length, append-nil, cond-true, eqb-false, is_none, AllByRecursion, Deliver, Event, IsInRange, Send, frames_limit, HasReported, IsReached, AreInTime, is_late_frame, run, step, taken, End, IsNetwork, Network, NetworkState, initial_state, is_idle, ComeIn, ComesIn, Hop, IsAnswerable, IsWay, LinksHaveAtMost, ends_of, handed_in, made_each_way, passed_at_most}
 use Rattle.std.proofs.Math.Nat.{ne_of_gt}
 use Rattle.ptpm_network.specs.Meanwhile.{ComeInMeanwhile, IsAnswerableMeanwhile, LeavesWay}
 use Rattle.ptpm_network.proofs.Meanwhile.{sent-goes}
@@ -10,14 +10,12 @@ use Rattle.ptpm_network.proofs.Worth.{unanswered-some}
 
 -- ---- whatever else happens
 
-pub answerable-meanwhile : (N : Network) (es : List Event) (s : ℕ) (hops : List Hop) (port ends : ℕ)
-    → IsNetwork N → AllByRecursion IsInRange es → s < N.sessions
-    → is_idle ((run N (initial_state N) es).session s) ≡ false
-    → 0 < ((run N (initial_state N) es).session s).attempts_left
-    → IsWay N (run N (initial_state N) es) s hops port → LinksHaveAtMost N ends
-    → length (run N (initial_state N) es).frames + made_each_way ends hops ≤ frames_limit
-    → IsAnswerableMeanwhile N (run N (initial_state N) es) s hops port ends
-answerable-meanwhile N es s hops port ends n range place busy attempts way all room = grind (arith, reached, unanswered-some, eqb-false, send-taken, ne_of_gt, sent-goes, send-frames)
+module _ (N : Network) (w : NetworkState) (s : ℕ) (hops : List Hop) (port ends : ℕ) where
+  pub answerable-at : IsNetwork N → IsReached N w → s < N.sessions → LinksHaveAtMost N ends
+      → is_idle (w.session s) ≡ false → 0 < (w.session s).attempts_left → IsWay N w s hops port
+      → length w.frames + made_each_way ends hops ≤ frames_limit
+      → IsAnswerableMeanwhile N w s hops port ends
+  answerable-at n r place all busy attempts way room = grind (arith, unanswered-some, eqb-false, send-taken, ne_of_gt, sent-goes, send-frames)
 
 -- ---- where nothing else does
 
@@ -63,7 +61,7 @@ pub answerable : (N : Network) (es : List Event) (s : ℕ) (hops : List Hop) (po
     → length (run N (initial_state N) es).frames + made_each_way ends hops ≤ frames_limit
     → IsAnswerable N (run N (initial_state N) es) s hops port
 answerable N es s hops port ends n range place busy attempts way all room =
-    answerable-alone N (run N (initial_state N) es) s hops port ends (answerable-meanwhile N es s hops port ends n range place busy attempts way all room)
+    answerable-alone N (run N (initial_state N) es) s hops port ends (answerable-at N (run N (initial_state N) es) s hops port ends n (reached N es n range) place all busy attempts way room)
 
 -- ---- a network that runs goes through these events too
 

@@ -1,5 +1,5 @@
 -- The frames that a clock makes of one that comes in keep the invariant.
-use Rattle.ptpm_network.proofs.Common.{arith, ◌≡◌, ℕ, ◌<◌, ◌≤◌, ◌^◌, List, [], ◌∷◌, Option, Some, None, true, refl, sym, ap, subst, and_from, cond-true, cond-false, eq-eqb, map, AllByRecursion, ClockIdentity, Message, canonical, Fits, action_of, is_reply, heard_of, RequestValue, Answers, HasOneAnswer, IsMessage, number_of, all_weaker, Answer, ReplyValue, Heard, hops_passed, rendered, reply_message, due_messages, Accepted, History, RequestCopy, accepted_from, after_copy, copy_of, due_reply, joins, kept_reply, Clock, same_identity-refl, IsSendable, IsFrame, IsOfOrigin, IsReached, arrives, delivery, reply_frames, reply_origin, AtPort, HasEnd, IsNetwork, Network, manager, ports, Frame, NetworkState, Origin, ReplyTo, accepted_at_target, history, all_flat, all_made}
+use Rattle.ptpm_network.proofs.Common.{by_test, arith, ◌≡◌, ℕ, ◌<◌, ◌≤◌, ◌^◌, List, [], ◌∷◌, Option, Some, None, true, refl, sym, ap, subst, and_from, cond-true, cond-false, eq-eqb, same_Some, map, AllByRecursion, ClockIdentity, Message, canonical, Fits, action_of, is_reply, heard_of, RequestValue, Answers, HasOneAnswer, IsMessage, number_of, all_weaker, Answer, ReplyValue, Heard, hops_passed, rendered, reply_message, due_messages, Accepted, History, RequestCopy, accepted_from, after_copy, copy_of, due_reply, joins, kept_for, kept_reply, Clock, same_identity-refl, IsSendable, IsFrame, IsOfOrigin, IsReached, arrives, delivery, reply_frames, reply_origin, AtPort, HasEnd, IsNetwork, Network, manager, ports, Frame, NetworkState, Origin, ReplyTo, accepted_at_target, history, all_flat, all_made}
 use Rattle.ptpm_network.specs.Invariant.{IsReplyFrame}
 use Rattle.ptpm_network.proofs.Arriving.{IsCopyOf, history-here}
 use Rattle.ptpm_network.proofs.Frames.{SaysKept, says_kept}
@@ -13,21 +13,22 @@ pub record IsDue (c : Clock) (h : History) (copy : RequestCopy) (r : ReplyValue)
   pub kept : kept_reply copy.heard.source copy.index (after_copy c h copy).accepted ≡ Some entry
   pub reply : entry.reply ≡ r
 
-kept-accepted : (c : Clock) (h : History) (copy : RequestCopy)
-    → kept_reply copy.heard.source copy.index (accepted_from c h copy ∷ h.accepted)
-    ≡ Some (accepted_from c h copy)
-kept-accepted c h copy = cond-true _ _ _ (and_from _ _ (same_identity-refl copy.heard.source) (eq-eqb copy.index copy.index refl))
+kept_for-some : (copy : RequestCopy) (o : Option Accepted) (r : ReplyValue)
+    → kept_for copy o ≡ Some r
+    → (e : Accepted) × (o ≡ Some e) × (e.reply ≡ r)
+kept_for-some copy None r e = absurd (cc)
+kept_for-some copy (Some a) r e = grind (arith, same_Some, cond-true, cond-false)
 
-module _ (c : Clock) (h : History) (copy : RequestCopy) (r : ReplyValue) where
-  due-joins : joins h copy ≡ true → due_reply c h copy ≡ Some r → IsDue c h copy r
-  due-joins y e = record {
-    entry = accepted_from c h copy;
-    kept = grind (arith, cond-true, kept-accepted);
-    reply = grind (arith, cond-true);
-  }
-
-  pub is_due : due_reply c h copy ≡ Some r → IsDue c h copy r
-  is_due e = grind (arith, due-joins, cond-true, cond-false)
+pub is_due : (c : Clock) (h : History) (copy : RequestCopy) (r : ReplyValue)
+    → due_reply c h copy ≡ Some r
+    → IsDue c h copy r
+is_due c h copy r e = by_test (joins h copy)
+    (λ y. record {
+      entry = accepted_from c h copy;
+      kept = grind (arith, cond-true, and_from, same_identity-refl, eq-eqb);
+      reply = same_Some (accepted_from c h copy).reply r (rw y at e);
+    })
+    (λ j. grind (arith, kept_for-some))
 
 -- ---- frames of new messages
 
@@ -44,14 +45,6 @@ pub rendered-one : (me : ClockIdentity) (heard : Heard) (r : ReplyValue) (ingres
     ≡ (ingress, canonical (reply_message me heard r.action r.id ingress a)) ∷ []
 unfolding rendered
 rendered-one me heard r ingress a e = ap (map (λ (b : Answer). (ingress, canonical (reply_message me heard r.action r.id ingress b)))) e
-
-pub rendered-all : (P : List ℕ → Type 0) (me : ClockIdentity) (heard : Heard) (r : ReplyValue)
-    (ingress : ℕ)
-    → ((a : Answer) → IsSendable a → P (canonical (reply_message me heard r.action r.id ingress a)))
-    → AllByRecursion IsSendable r.answers
-    → AllByRecursion (λ (m : ℕ × List ℕ). P m.1) (rendered me heard r ingress)
-unfolding rendered
-rendered-all P me heard r ingress each a = all_made IsSendable (λ (m : ℕ × List ℕ). P m.1) _ each r.answers a
 
 pub small : (p n : ℕ) → p ≤ n → n ≤ 8 → p < 2 ^ 16
 small p n a b = omega arith
@@ -74,11 +67,12 @@ pub rendered-says : (P : List ℕ → Type 0) (N : Network) (c port : ℕ) (v : 
     → ((octets : List ℕ) (u : Message) → IsMessage octets u → u.source.clock ≡ (N.clock c).identity → u.target ≡ v.source
     → is_reply (action_of u.body) ≡ true → P octets)
     → AllByRecursion (λ (m : ℕ × List ℕ). P m.1) (rendered (N.clock c).identity (heard_of v) r port)
+unfolding rendered
 rendered-says P N c port v q r n end fits id answers each =
     let me = (N.clock c).identity in
-    rendered-all P me (heard_of v) r port
+    all_made IsSendable (λ (m : ℕ × List ℕ). P m.1) _
     (λ a s. each _ (reply_at me (heard_of v) r port (hops_passed (heard_of v)) a) (reply-message N c port v q r a n end fits id answers s) refl refl (answer_body-is_reply q r a.outcome answers))
-    answers.sendable
+    r.answers answers.sendable
 
 -- ---- the reply to a numbered copy
 
@@ -99,9 +93,9 @@ keeps_due N w c port f copy r reached of e d =
     let u = arrives w c (delivery port f) in
     let due = is_due (N.clock c) (history N w c) copy r d in
     let here : history N u c ≡ after_copy (N.clock c) (history N w c) copy = grind (arith, history-here) in
-    let kept_here : kept_reply copy.heard.source copy.index (history N u c).accepted ≡ Some due.entry = grind (arith) in
-    let kept_m : kept_reply (manager N of.session) of.k (history N u c).accepted ≡ Some due.entry = grind (arith) in
-    let kept : kept_reply (manager N of.session) of.k (accepted_at_target N u of.session) ≡ Some due.entry = grind (arith) in
+    let kept_here : kept_reply copy.heard.source copy.index (history N u c).accepted ≡ Some due.entry = grind arith in
+    let kept_m : kept_reply (manager N of.session) of.k (history N u c).accepted ≡ Some due.entry = grind arith in
+    let kept : kept_reply (manager N of.session) of.k (accepted_at_target N u of.session) ≡ Some due.entry = grind arith in
     record {
       entry = due.entry;
       kept = kept;
@@ -131,36 +125,30 @@ kept-frame N s k port accepted me heard entry target positive kept one source nu
         ingress = port;
         port = in';
         hops = hops_passed heard;
-        is = grind (arith);
+        is = grind arith;
       },
       tt,
     )
 
-due-origin : (N : Network) (w : NetworkState) (c port : ℕ) (f : Frame) (copy : RequestCopy)
-    (r : ReplyValue)
-    → IsNetwork N → IsReached N (arrives w c (delivery port f)) → HasEnd N (AtPort c port)
-    → (of : IsCopyOf N w c port f copy)
-    → copy_of (N.clock c) (ports N c) (delivery port f) ≡ Some copy
-    → due_reply (N.clock c) (history N w c) copy ≡ Some r
-    → AllByRecursion
-    (λ m. IsOfOrigin N (arrives w c (delivery port f)) m.1 (ReplyTo of.session of.k))
-    (rendered (N.clock c).identity copy.heard r copy.ingress)
-due-origin N w c port f copy r n reached end of e d =
-    let accepted = accepted_at_target N (arrives w c (delivery port f)) of.session in
-    let keeps = keeps_due N w c port f copy r reached of e d in
-    let target : (N.clock c).identity ≡ (N.session of.session).setup.target = grind (arith) in
-    let in' : copy.ingress < 2 ^ 16 = grind (arith, small) in
-    let P : ℕ × List ℕ → Type 0 = λ m. IsReplyFrame (N.session of.session).setup accepted of.k m.1 in grind (arith, all_weaker, kept-frame)
+module _ (N : Network) (w : NetworkState) (c port : ℕ) (f : Frame) (copy : RequestCopy) (n : IsNetwork N) (reached : IsReached N (arrives w c (delivery port f))) (end : HasEnd N (AtPort c port)) (of : IsCopyOf N w c port f copy) (e : copy_of (N.clock c) (ports N c) (delivery port f) ≡ Some copy) where
+  due-origin : (r : ReplyValue)
+      → due_reply (N.clock c) (history N w c) copy ≡ Some r
+      → AllByRecursion
+      (λ m. IsOfOrigin N (arrives w c (delivery port f)) m.1 (ReplyTo of.session of.k))
+      (rendered (N.clock c).identity copy.heard r copy.ingress)
+  due-origin r d =
+      let accepted = accepted_at_target N (arrives w c (delivery port f)) of.session in
+      let keeps = keeps_due N w c port f copy r reached of e d in
+      let target : (N.clock c).identity ≡ (N.session of.session).setup.target = grind arith in
+      let in' : copy.ingress < 2 ^ 16 = grind (arith, small) in
+      let P : ℕ × List ℕ → Type 0 = λ m. IsReplyFrame (N.session of.session).setup accepted of.k m.1 in grind (arith, all_weaker, kept-frame)
 
-pub due-frames : (N : Network) (w : NetworkState) (c port : ℕ) (f : Frame) (copy : RequestCopy)
-    (o : Option ReplyValue)
-    → IsNetwork N → IsReached N (arrives w c (delivery port f)) → HasEnd N (AtPort c port)
-    → IsCopyOf N w c port f copy → copy_of (N.clock c) (ports N c) (delivery port f) ≡ Some copy
-    → due_reply (N.clock c) (history N w c) copy ≡ o
-    → AllByRecursion (IsFrame N (arrives w c (delivery port f)))
-    (reply_frames N c (reply_origin f.origin) (due_messages (N.clock c) copy o))
-due-frames N w c port f copy None n reached end of e d = tt
-due-frames N w c port f copy (Some r) n reached end of e d =
-    reply_frames-are N (arrives w c (delivery port f)) c (reply_origin f.origin) (rendered (N.clock c).identity copy.heard r copy.ingress) n
-    (subst (λ (x : Origin). AllByRecursion (λ m. IsOfOrigin N (arrives w c (delivery port f)) m.1 (reply_origin x)) (rendered (N.clock c).identity copy.heard r copy.ingress)) (sym of.origin)
-    (due-origin N w c port f copy r n reached end of e d))
+  pub due-frames : (o : Option ReplyValue)
+      → due_reply (N.clock c) (history N w c) copy ≡ o
+      → AllByRecursion (IsFrame N (arrives w c (delivery port f)))
+      (reply_frames N c (reply_origin f.origin) (due_messages (N.clock c) copy o))
+  due-frames None d = tt
+  due-frames (Some r) d =
+      reply_frames-are N (arrives w c (delivery port f)) c (reply_origin f.origin) (rendered (N.clock c).identity copy.heard r copy.ingress) n
+      (subst (λ (x : Origin). AllByRecursion (λ m. IsOfOrigin N (arrives w c (delivery port f)) m.1 (reply_origin x)) (rendered (N.clock c).identity copy.heard r copy.ingress)) (sym of.origin)
+      (due-origin r d))

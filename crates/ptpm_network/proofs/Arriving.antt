@@ -40,15 +40,21 @@ is_copy_of N w c port f copy n r place i e =
       origin = by.origin;
       target = by.target;
       says = says;
-      index = grind (arith);
+      index = grind arith;
       ingress = ap (λ (x : RequestCopy). x.ingress) is;
       source = ap (λ (x : RequestCopy). x.heard.source) is;
       number = ap (λ (x : RequestCopy). x.heard.number) is;
       request = ap (λ (x : RequestCopy). x.request) is;
-      read = grind (arith);
+      read = grind arith;
     }
 
 -- ---- what a delivery leaves of a clock
+
+applied_once-arrival : (c : Clock) (h : History) (ks : List RequestCopy) (o : Option RequestCopy)
+    → applied_once c h (ks ++ cons_option o []) ≡ after_arrival c (applied_once c h ks) o
+applied_once-arrival c h [] None = refl
+applied_once-arrival c h [] (Some k) = refl
+applied_once-arrival c h (j ∷ js) o = applied_once-arrival c (after_copy c h j) js o
 
 module _ (N : Network) (w : NetworkState) (c : ℕ) (x : Delivery) where
   -- the copies of a list with one more delivery
@@ -59,19 +65,12 @@ module _ (N : Network) (w : NetworkState) (c : ℕ) (x : Delivery) where
   pub copies-elsewhere : (d : ℕ) → d == c ≡ false → copies_at N (arrives w c x) d ≡ copies_at N w d
   copies-elsewhere d n = ap (copies (N.clock d) (ports N d)) (with_place-other w.arrivals c (w.arrivals c ++ x ∷ []) d n)
 
-applied_once-arrival : (c : Clock) (h : History) (ks : List RequestCopy) (o : Option RequestCopy)
-    → applied_once c h (ks ++ cons_option o []) ≡ after_arrival c (applied_once c h ks) o
-applied_once-arrival c h [] None = refl
-applied_once-arrival c h [] (Some k) = refl
-applied_once-arrival c h (j ∷ js) o = applied_once-arrival c (after_copy c h j) js o
-
-module _ (N : Network) (w : NetworkState) (c : ℕ) (x : Delivery) where
   pub history-here : history N (arrives w c x) c
       ≡ after_arrival (N.clock c) (history N w c) (copy_of (N.clock c) (ports N c) x)
   history-here = grind (arith, copies-here, applied_once-arrival)
 
   pub history-elsewhere : (d : ℕ) → d == c ≡ false → history N (arrives w c x) d ≡ history N w d
-  history-elsewhere d n = ap (applied_once (N.clock d) (initial_history (N.start d))) (copies-elsewhere N w c x d n)
+  history-elsewhere d n = ap (applied_once (N.clock d) (initial_history (N.start d))) (copies-elsewhere d n)
 
 -- a clock keeps its number of ports
 pub history-ports : (N : Network) (w : NetworkState) (c : ℕ)
@@ -88,30 +87,27 @@ pub record JoinsAt (N : Network) (w : NetworkState) (c port : ℕ) (f : Frame) :
 abbrev HereAfter : Network → NetworkState → ℕ → ℕ → Frame → Type 0
 HereAfter N w c port f = (history N (arrives w c (delivery port f)) c ≡ history N w c) ⊎ JoinsAt N w c port f
 
-here_by : (N : Network) (w : NetworkState) (c port : ℕ) (f : Frame) (o : Option RequestCopy)
-    → IsNetwork N → IsReached N w → c < N.clocks → IsHeard N w f.octets f.origin
-    → copy_of (N.clock c) (ports N c) (delivery port f) ≡ o
-    → HereAfter N w c port f
-here_by N w c port f None n r place i e = grind (arith, history-here)
-here_by N w c port f (Some copy) n r place i e =
-    let is : history N (arrives w c (delivery port f)) c ≡ after_copy (N.clock c) (history N w c) copy = grind (arith, history-here) in
-    by_test (joins (history N w c) copy)
-    (λ y. grind (arith, is_copy_of, ltb-true, and_parts, cond-true))
-    (λ f. inl (is ∙ cond-false _ _ _ f))
+module _ (N : Network) (w : NetworkState) (c port : ℕ) (f : Frame) (n : IsNetwork N) (r : IsReached N w) (place : c < N.clocks) (i : IsHeard N w f.octets f.origin) where
+  here_by : (o : Option RequestCopy)
+      → copy_of (N.clock c) (ports N c) (delivery port f) ≡ o
+      → HereAfter N w c port f
+  here_by None e = grind (arith, history-here)
+  here_by (Some copy) e =
+      let is : history N (arrives w c (delivery port f)) c ≡ after_copy (N.clock c) (history N w c) copy = grind (arith, history-here) in
+      by_test (joins (history N w c) copy)
+      (λ y. grind (arith, is_copy_of, ltb-true, and_parts, cond-true))
+      (λ f. inl (is ∙ cond-false _ _ _ f))
 
-pub here_after : (N : Network) (w : NetworkState) (c port : ℕ) (f : Frame)
-    → IsNetwork N → IsReached N w → c < N.clocks → IsHeard N w f.octets f.origin
-    → HereAfter N w c port f
-here_after N w c port f n r place i = here_by N w c port f (copy_of (N.clock c) (ports N c) (delivery port f)) n r place i refl
+  pub here_after : HereAfter N w c port f
+  here_after = here_by (copy_of (N.clock c) (ports N c) (delivery port f)) refl
 
 -- ---- data sets stay data sets
 
 module _ (N : Network) (w : NetworkState) (c port : ℕ) (f : Frame) (n : IsNetwork N) (r : IsReached N w) (place : c < N.clocks) (i : IsHeard N w f.octets f.origin) where
   clock-after : AreDataSets (ports N c) (history N (arrives w c (delivery port f)) c).sets
   clock-after = ⊎_elim
-      (λ (e : history N (arrives w c (delivery port f)) c ≡ history N w c). grind (arith))
-      (λ (j : JoinsAt N w c port f). subst (λ (h : History). AreDataSets (ports N c) h.sets) (sym j.is)
-      (kept j.copy.request ((N.clock c).rights j.copy.heard.source) (ports N c) (history N w c).sets (r.clocks c place)))
+      (λ (e : history N (arrives w c (delivery port f)) c ≡ history N w c). rw e (r.clocks c place))
+      (λ (j : JoinsAt N w c port f). rw j.is (kept j.copy.request ((N.clock c).rights j.copy.heard.source) (ports N c) (history N w c).sets (r.clocks c place)))
       (here_after N w c port f n r place i)
 
   clocks-after : (d : ℕ)

@@ -1,5 +1,5 @@
 -- Nothing but the requests that a clock carries out changes it, whatever happens in its network.
-use Rattle.ptpm_network.proofs.Common.{arith, ◌≡◌, ℕ, List, [], ◌∷◌, ◌++◌, Option, Some, None, refl, subst, eqb-true, option_map, Result, Ok, Err, Begin, Deliver, Event, Resume, Retune, Send, Stranger, Refusal, forged, no_port, no_room, no_session, Held, RunningNetwork, after_turn, network_run, reaches, AtPort, AtSession, End, Network, Frame, strange_frame, seen}
+use Rattle.ptpm_network.proofs.Common.{arith, ◌≡◌, ℕ, List, [], ◌∷◌, ◌++◌, Option, Some, None, refl, eqb-true, Result, Ok, Err, Deliver, Event, Stranger, Refusal, Held, RunningNetwork, after_turn, network_run, reaches, AtPort, AtSession, End, Network, Frame, strange_frame, seen}
 use Rattle.std.specs.Prelude.{IfOk}
 use Rattle.ptpm_agent.specs.CarriedOut.{after_requests}
 use Rattle.ptpm_agent.specs.Turn.{NumberedRequest}
@@ -8,6 +8,7 @@ use Rattle.ptpm_network.specs.CarriedOut.{carried_at, carried_by_event, carried_
 use Rattle.ptpm_network.specs.RunningNetwork.{Happened, goes_on, unless_refused}
 unfoldable use Rattle.ptpm_network.specs.RunningNetwork.{network_event}
 
+-- the clock that took the turn, or another
 after_turn-carried : (N : Network) (r : RunningNetwork) (c d ingress : ℕ) (f : Frame)
     → (after_turn N r d ingress f).clock c
     ≡ after_requests (N.clock c) (r.clock c) (carried_at N r c (AtPort d ingress) f.octets)
@@ -20,7 +21,7 @@ reaches-carried N r c h (AtPort d port) = after_turn-carried N r c d port (seen 
 reaches-carried N r c h (AtSession s) = grind arith
 
 -- where clock c has these requests carried out, and nothing else of it is changed
-abbrev HasCarried : Network → RunningNetwork → ℕ → List NumberedRequest → Happened → Type 0
+abbrev pub HasCarried : Network → RunningNetwork → ℕ → List NumberedRequest → Happened → Type 0
 HasCarried N r c rs h = h.network.clock c ≡ after_requests (N.clock c) (r.clock c) rs
 
 -- what holds of all that may happen holds where a reason to refuse it is looked for first
@@ -34,21 +35,9 @@ if_not_refused (Some reason) x P p = tt
 pub event-carried : (N : Network) (r : RunningNetwork) (c : ℕ) (e : Event)
     → IfOk (network_event N r e) (HasCarried N r c (carried_by_event N r c e))
 unfolding carried_by_event network_event
-event-carried N r c (Begin s a) = grind (arith, if_not_refused, option_map)
-event-carried N r c (Send s) = grind (arith, if_not_refused, option_map)
-event-carried N r c (Resume s attempts) = grind (arith, if_not_refused)
-event-carried N r c (Retune s domain) = if_not_refused (no_session N s) _ (HasCarried N r c []) refl
 event-carried N r c (Deliver n) = grind (arith, if_not_refused, reaches-carried)
-event-carried N r c (Stranger d port datagram) =
-    let P = HasCarried N r c (carried_at N r c (AtPort d port) datagram) in
-    if_not_refused (no_port N d port) _ P
-    (if_not_refused (forged N datagram) _ P (if_not_refused (no_room r.frames) _ P (after_turn-carried N r c d port (strange_frame d port datagram))))
-
-pub event-carries : (N : Network) (r : RunningNetwork) (c : ℕ) (e : Event) (h : Happened)
-    → network_event N r e ≡ Ok h
-    → h.network.clock c ≡ after_requests (N.clock c) (r.clock c) (carried_by_event N r c e)
-event-carries N r c e h is =
-    subst (λ (x : Result Happened Refusal). IfOk x (HasCarried N r c (carried_by_event N r c e))) is (event-carried N r c e)
+event-carried N r c (Stranger d port datagram) = search (if_not_refused, after_turn-carried N r c d port (strange_frame d port datagram))
+event-carried N r c _ = search if_not_refused
 
 -- ---- any list of events
 

@@ -1,6 +1,6 @@
 -- What a clock on the way does with a copy of a request, or of the reply: it passes it on, and nothing else changes.
 use Rattle.std.proofs.Math.Nat.{mul-le-mul_left}
-use Rattle.ptpm_network.proofs.Common.{by_test, suc, zero, arith, ◌≡◌, ℕ, ◌<◌, ◌≤◌, ◌+◌, ◌-◌, ◌*◌, ◌/◌, ◌==◌, ◌&&◌, ◌||◌, Bool, List, [], ◌∷◌, ◌++◌, Some, None, true, sym, ◌∙◌, ap, subst, ⊎_elim, length, length-append, and_from, and_left, and_parts, and_right, cond-false, cond-true, eq-eqb, eqb-false, eqb-true, false≢true, lt-ltb, ne_eqb, or_cases, or_from, append-nil, slice_get_within, flat_map, map, not, slice_get, AllByRecursion, filter, list_any, range_with_len, ClockIdentity, PortIdentity, Message, every_clock, same_clock, boundary_hops, domain_number, Fits, message_of, DataSetsValue, may_forward, egress_ports, forwarded, with_less_hop, copy_of, is_addressed, is_for_this_clock, is_own, names_port, Clock, AreDataSets, IsOfOrigin, IsReached, delivered_at_clock, delivery, forwarded_frames, made_frames, read_messages, AtPort, AtSession, End, IsNetwork, Network, manager, peers, ports, same_end, Frame, NetworkState, RequestOf, ReplyTo, frames_to, history, LinksHaveAtMost, passed_at_most, get_append, le_trans, filter-few, length-range_with_len, length-map, flat-few}
+use Rattle.ptpm_network.proofs.Common.{by_test, suc, zero, arith, ◌≡◌, ℕ, ◌<◌, ◌≤◌, ◌+◌, ◌-◌, ◌*◌, ◌/◌, ◌==◌, ◌&&◌, ◌||◌, Bool, List, [], ◌∷◌, ◌++◌, Some, None, true, refl, sym, ◌∙◌, ap, subst, ⊎_elim, length, length-append, and_from, and_left, and_parts, and_right, cond-false, cond-true, eq-eqb, eqb-false, eqb-true, false≢true, lt-ltb, ne_eqb, or_cases, or_from, append-nil, slice_get_within, flat_map, map, not, slice_get, AllByRecursion, filter, list_any, range_with_len, ClockIdentity, PortIdentity, Message, every_clock, same_clock, boundary_hops, domain_number, Fits, message_of, DataSetsValue, may_forward, egress_ports, forwarded, with_less_hop, copy_of, is_addressed, is_for_this_clock, is_own, names_port, Clock, AreDataSets, IsOfOrigin, IsReached, delivered_at_clock, delivery, forwarded_frames, made_frames, read_messages, AtPort, AtSession, End, IsNetwork, Network, manager, peers, ports, same_end, Frame, NetworkState, RequestOf, ReplyTo, frames_to, history, LinksHaveAtMost, passed_at_most, get_append, le_trans, filter-few, length-range_with_len, length-map, flat-few, slice_get-map, option_map}
 use Rattle.ptpm_network.proofs.Arriving.{history-elsewhere, history-here}
 use Rattle.ptpm_network.proofs.Exchanging.{clocks_apart, message-domain}
 use Rattle.ptpm_network.proofs.Frames.{says_reply, says_request}
@@ -19,15 +19,8 @@ pub in_right : {X : Type 0} (xs ys : List X) (x : X) → IsIn ys x → IsIn (xs 
 in_right [] ys x p = p
 in_right (z ∷ xs) ys x p = let q = in_right xs ys x p in (suc q.0, q.1)
 
-in_map-at : {X Y : Type 0} (f : X → Y) (xs : List X) (i : ℕ) (x : X)
-    → slice_get xs i ≡ Some x
-    → slice_get (map f xs) i ≡ Some (f x)
-in_map-at f [] i x e = absurd (cc)
-in_map-at f (y ∷ xs) zero x e = let q : y ≡ x = cc in ap (λ z. Some (f z)) q
-in_map-at f (y ∷ xs) (suc i) x e = in_map-at f xs i x e
-
 pub in_map : {X Y : Type 0} (f : X → Y) (xs : List X) (x : X) → IsIn xs x → IsIn (map f xs) (f x)
-in_map f xs x p = (p.0, in_map-at f xs p.0 x p.1)
+in_map f xs x p = (p.0, slice_get-map f xs p.0 ∙ ap (option_map f) p.1)
 
 in_flat-at : {X Y : Type 0} (f : X → List Y) (xs : List X) (i : ℕ) (x : X) (y : Y)
     → slice_get xs i ≡ Some x → IsIn (f x) y
@@ -36,26 +29,16 @@ in_flat-at f [] i x y e p = absurd (cc)
 in_flat-at f (z ∷ xs) zero x y e p = let q : z ≡ x = cc in grind (arith, in_left)
 in_flat-at f (z ∷ xs) (suc i) x y e p = in_right (f z) (flat_map f xs) y (in_flat-at f xs i x y e p)
 
-pub in_flat : {X Y : Type 0} (f : X → List Y) (xs : List X) (x : X) (y : Y)
-    → IsIn xs x → IsIn (f x) y
-    → IsIn (flat_map f xs) y
-in_flat f xs x y p q = in_flat-at f xs p.0 x y p.1 q
-
 in_filter-at : {X : Type 0} (test : X → Bool) (xs : List X) (i : ℕ) (x : X)
     → slice_get xs i ≡ Some x → test x ≡ true
     → IsIn (filter test xs) x
 in_filter-at test [] i x e t = absurd (cc)
-in_filter-at test (y ∷ xs) zero x e t = grind (arith, cond-true)
+in_filter-at test (y ∷ xs) zero x e t = let q : y ≡ x = cc in rw (q, t) (0, refl)
 in_filter-at test (y ∷ xs) (suc i) x e t =
     let rest = in_filter-at test xs i x e t in
     by_test (test y)
-    (λ h. subst (λ ys. IsIn ys x) (sym (cond-true _ _ _ h)) (suc rest.0, rest.1))
-    (λ h. subst (λ ys. IsIn ys x) (sym (cond-false _ _ _ h)) rest)
-
-pub in_filter : {X : Type 0} (test : X → Bool) (xs : List X) (x : X)
-    → IsIn xs x → test x ≡ true
-    → IsIn (filter test xs) x
-in_filter test xs x p t = in_filter-at test xs p.0 x p.1 t
+    (λ h. rw h (suc rest.0, rest.1))
+    (λ h. rw h rest)
 
 in_range-at : (a n i : ℕ) → i < n → slice_get (range_with_len a n) i ≡ Some (a + i)
 in_range-at a zero i lt = absurd (omega arith)
@@ -72,8 +55,7 @@ in_range n p low high =
 pub same_end-true : (a b : End) → same_end a b ≡ true → a ≡ b
 same_end-true (AtPort c p) (AtPort d q) y = grind (arith, and_parts, eqb-true)
 same_end-true (AtSession s) (AtSession t) y = ap AtSession (eqb-true s t y)
-same_end-true (AtSession s) (AtPort c p) y = absurd (false≢true y)
-same_end-true (AtPort c p) (AtSession s) y = absurd (false≢true y)
+same_end-true _ _ y = absurd (false≢true y)
 
 pub in_any : (e : End) (ends : List End) → list_any (same_end e) ends ≡ true → IsIn ends e
 in_any e [] y = absurd (false≢true y)
@@ -84,15 +66,21 @@ in_any e (d ∷ ends) y = ⊎_elim
 
 -- ---- the ports that a clock passes messages on at
 
+forwarding-exists : (q : ℕ) (d : DataSetsValue)
+    → may_forward q d ≡ true
+    → (1 ≤ q) × (q ≤ length d.ports)
+forwarding-exists q d y = grind (arith, false≢true, cond-true, cond-false, eqb-false, slice_get_within)
+
 egress-in : (p q : ℕ) (d : DataSetsValue)
     → (q ≡ p → ⊥) → may_forward q d ≡ true
     → IsIn (egress_ports p d) q
-egress-in p q d ne y = grind (arith, in_filter, in_range, and_from, ne_eqb, false≢true, cond-true, cond-false, eqb-false, slice_get_within)
+egress-in p q d ne y =
+    let exists = forwarding-exists q d y in
+    let at = in_range (length d.ports) q exists.0 exists.1 in
+    in_filter-at (λ port. not (port == p) && may_forward port d) (range_with_len 1 (length d.ports)) at.0 q at.1
+    (and_from (not (q == p)) (may_forward q d) (ap not (ne_eqb q p ne)) y)
 
 -- ---- how many frames a message makes at most
-
-pub few-egress : (p : ℕ) (d : DataSetsValue) → length d.ports ≤ 8 → length (egress_ports p d) ≤ 8
-few-egress p d few = omega (arith, filter-few (λ port. not (port == p) && may_forward port d) (range_with_len 1 (length d.ports)), length-range_with_len 1 (length d.ports))
 
 -- each end has so few others that eight of them make no more frames than this
 abbrev pub MakesAtMost : Network → ℕ → Type 0
@@ -193,10 +181,10 @@ pub passing-made : (N : Network) (w : NetworkState) (c p q : ℕ) (f : Frame) (e
 passing-made N w c p q f e v may link =
     let d = (history N w c).sets in
     let sent : List (ℕ × List ℕ) = map (λ port. (port, with_less_hop f.octets)) (egress_ports p d) in
+    let out = in_map (λ port. (port, with_less_hop f.octets)) (egress_ports p d) q (egress-in p q d may.two_ports may.egress) in
     in_right w.frames (made_frames N c (history N w c) p f) (passed_copy f e)
     (subst (λ fs. IsIn fs (passed_copy f e)) (sym (made-passing N w c p q f v may))
-    (in_flat (λ (m : ℕ × List ℕ). frames_to (peers N.links (AtPort c m.0)) m.1 f.origin f.first_hops (f.forwardings + 1)) sent (q, with_less_hop f.octets) (passed_copy f e)
-    (in_map (λ port. (port, with_less_hop f.octets)) (egress_ports p d) q (egress-in p q d may.two_ports may.egress))
+    (in_flat-at (λ (m : ℕ × List ℕ). frames_to (peers N.links (AtPort c m.0)) m.1 f.origin f.first_hops (f.forwardings + 1)) sent out.0 (q, with_less_hop f.octets) (passed_copy f e) out.1
     (in_map (λ end. record { end = end; octets = with_less_hop f.octets; origin = f.origin; first_hops = f.first_hops; forwardings = f.forwardings + 1 }) (peers N.links (AtPort c q)) e (in_any e (peers N.links (AtPort c q)) link))))
 
 pub passing-few : (N : Network) (w : NetworkState) (most c p q : ℕ) (f : Frame)
@@ -206,7 +194,7 @@ pub passing-few : (N : Network) (w : NetworkState) (most c p q : ℕ) (f : Frame
 passing-few N w most c p q f few sets v may =
     let d = (history N w c).sets in
     let sent : List (ℕ × List ℕ) = map (λ port. (port, with_less_hop f.octets)) (egress_ports p d) in
-    let size : length sent ≤ 8 = grind (arith, length-map, few-egress) in
+    let size : length sent ≤ 8 = grind (arith, length-map, filter-few, length-range_with_len) in
     let made : length (made_frames N c (history N w c) p f) ≤ most = grind (arith, made-passing, few-forwarded) in
     omega (arith, made, length-append w.frames (made_frames N c (history N w c) p f))
 

@@ -1,5 +1,5 @@
 -- Which events leave a way: all but those of the session's own and requests for DOMAIN and DISABLE_PORT at its clocks.
-use Rattle.ptpm_network.proofs.Common.{by_test, suc, zero, arith, ◌≡◌, ℕ, ◌<◌, ◌≤◌, ◌+◌, ◌-◌, ◌==◌, ◌||◌, ◌⊎◌, not, Bool, true, false, List, [], ◌∷◌, Option, Some, None, refl, sym, ◌∙◌, ap, length, map, slice_get, find, and_parts, cond-true, cond-false, eq-eqb, eqb-false, eqb-true, ne_eqb, not-true, or_cases, true≢false, AllByRecursion, DataSetsValue, is_forwarding_port, may_forward, is_named, set_members, row_of, changed_by, RequestValue, after_arrival, History, RequestCopy, Clock, Begin, Deliver, Event, IsInRange, Resume, Retune, Send, Stranger, frames_limit, arrives, delivery, happens, run, step, strange_frame, with_place, IsNetwork, Network, Frame, NetworkState, initial_state, greatest_accepted, history, issued, Hop, at_place, with_place-other, with_place-same}
+use Rattle.ptpm_network.proofs.Common.{by_test, suc, zero, arith, ◌≡◌, ℕ, ◌<◌, ◌≤◌, ◌+◌, ◌-◌, ◌==◌, ◌||◌, ◌⊎◌, not, Bool, true, false, List, [], ◌∷◌, Option, Some, None, refl, sym, ◌∙◌, ap, map, slice_get, find, and_parts, cond-true, cond-false, eq-eqb, eqb-true, not-true, or_cases, true≢false, AllByRecursion, DataSetsValue, is_forwarding_port, may_forward, is_named, set_members, row_of, changed_by, RequestValue, after_arrival, History, RequestCopy, Clock, Begin, Deliver, Event, IsInRange, Resume, Retune, Send, Stranger, refusal, IsReached, arrives, delivery, happens, strange_frame, with_place, IsNetwork, Network, Frame, NetworkState, greatest_accepted, history, issued, Hop, at_place, with_place-other, with_place-same}
 use Rattle.std.specs.List.{enumerate_from, list_all}
 use Rattle.ptpm_data.specs.declared.rights.Rights.{Rights}
 use Rattle.ptpm_data.specs.declared.data_sets.PortDataSet.{PortDataSet}
@@ -14,13 +14,14 @@ use Rattle.ptpm_data.specs.ManagementId.{RowValue}
 use Rattle.ptpm_data.specs.PortChange.{enabled}
 use Rattle.ptpm_data.specs.PortState.{is_forwarding, mechanism_of}
 use Rattle.ptpm_data.specs.SetField.{octet}
-use Rattle.ptpm_network.specs.Meanwhile.{LeavesWay, StaysOpen, concerns, is_closing, may_close}
+use Rattle.ptpm_network.specs.Way.{IsWayIn}
+use Rattle.ptpm_network.specs.Meanwhile.{StaysOpen, concerns, is_closing, may_close}
 use Rattle.ptpm_network.proofs.Accepting.{greatest-grows}
 use Rattle.ptpm_network.proofs.Arriving.{history-elsewhere, history-here}
-use Rattle.std.proofs.Common.{rules, le_refl}
-use Rattle.ptpm_network.proofs.Reaching.{step-reached, after-step, after-delivery}
-use Rattle.ptpm_network.proofs.Schedule.{reached}
+use Rattle.std.proofs.Common.{rules}
+use Rattle.ptpm_network.proofs.Reaching.{after-delivery}
 use Rattle.ptpm_network.proofs.Unchanged.{strange-happens}
+use Rattle.ptpm_network.proofs.Lists.{flipped}
 
 -- ---- a request for another id
 
@@ -120,12 +121,9 @@ arrival-open : (c : Clock) (h : History) (o : Option RequestCopy)
     → SameOpen h.sets (after_arrival c h o).sets
 unfolding changed_by
 arrival-open c h None n = open-same h.sets
-arrival-open c h (Some copy) n = grind (arith, cond-true, cond-false, open-same, changed_at-open)
+arrival-open c h (Some copy) n = grind (arith, changed_at-open, open-same)
 
-flipped : (a b : ℕ) → a == b ≡ false → b == a ≡ false
-flipped a b n = ne_eqb b a (λ (e : b ≡ a). eqb-false a b n (sym e))
-
-as-was : (N : Network) (w u : NetworkState) (c : ℕ)
+pub as-was : (N : Network) (w u : NetworkState) (c : ℕ)
     → history N u c ≡ history N w c
     → StaysOpen N w u c
 as-was N w u c e = search (rules, λ (port : ℕ). ap (λ (h : History). may_forward port h.sets) e)
@@ -133,9 +131,9 @@ as-was N w u c e = search (rules, λ (port : ℕ). ap (λ (h : History). may_for
 module _ (N : Network) (w : NetworkState) where
   arrives-grows : (c s : ℕ) (port : ℕ) (f : Frame)
       → greatest_accepted N w s ≤ greatest_accepted N (arrives w c (delivery port f)) s
-  arrives-grows c s port f = grind (arith, eqb-true, history-here, history-elsewhere, cond-true, greatest-grows, cond-false)
+  arrives-grows c s port f = grind (arith, eqb-true, history-here, history-elsewhere, greatest-grows)
 
-  happens-grows : (s : ℕ) (e : Event) → greatest_accepted N w s ≤ greatest_accepted N (happens N w e) s
+  pub happens-grows : (s : ℕ) (e : Event) → greatest_accepted N w s ≤ greatest_accepted N (happens N w e) s
   unfolding happens
   happens-grows s (Deliver n) = grind (arith, after-delivery, arrives-grows)
   happens-grows s (Stranger c port datagram) = arrives-grows c s port (strange_frame c port datagram)
@@ -143,20 +141,21 @@ module _ (N : Network) (w : NetworkState) where
 
 -- ---- an event
 
-pub stays-open : (N : Network) (es : List Event) (e : Event) (c : ℕ)
-    → IsNetwork N → AllByRecursion IsInRange es → IsInRange e
-    → may_close N (run N (initial_state N) es) c e ≡ false
-    → StaysOpen N (run N (initial_state N) es) (step N (run N (initial_state N) es) e) c
+pub happens-open : (N : Network) (w : NetworkState) (e : Event) (c : ℕ)
+    → IsNetwork N → IsReached N w → IsInRange e → may_close N w c e ≡ false → refusal N w e ≡ None
+    → StaysOpen N w (happens N w e) c
 unfolding happens
-stays-open N es e c n range i free = grind (arith, after-step, as-was, reached, after-delivery, strange-happens, eqb-true, history-elsewhere, flipped, history-here, arrival-open)
+happens-open N w (Deliver k) c n r i free none = grind (arith, after-delivery, as-was, history-here, arrival-open, eqb-true, history-elsewhere, flipped)
+happens-open N w (Stranger d port datagram) c n r i free none = grind (arith, as-was, strange-happens)
+happens-open N w e c n r i free none = as-was N w (happens N w e) c refl
 
 -- what a session has said and heard is as it was
-record SameTalk (w u : NetworkState) (s : ℕ) : Type 0 where
+pub record SameTalk (w u : NetworkState) (s : ℕ) : Type 0 where
   pub begun : (u.session s).begun ≡ (w.session s).begun
   pub reports : (u.session s).reports ≡ (w.session s).reports
   pub domain : (u.session s).domain ≡ (w.session s).domain
 
-same-session : (w u : NetworkState) (s : ℕ) → u.session s ≡ w.session s → SameTalk w u s
+pub same-session : (w u : NetworkState) (s : ℕ) → u.session s ≡ w.session s → SameTalk w u s
 same-session w u s e = search
 
 -- a session that may send more often, or less, is as it was
@@ -166,7 +165,7 @@ attempts-same : (w u : NetworkState) (t s attempts : ℕ)
 attempts-same w u t s attempts e = grind (arith, at_place)
 
 module _ (N : Network) (w : NetworkState) (s : ℕ) where
-  happens-same : (e : Event) → concerns w s e ≡ false → SameTalk w (happens N w e) s
+  pub happens-same : (e : Event) → concerns w s e ≡ false → SameTalk w (happens N w e) s
   unfolding happens
   happens-same (Begin t a) n = same-session w (happens N w (Begin t a)) s (with_place-other w.session t _ s (flipped t s n))
   happens-same (Send t) n = attempts-same w (happens N w (Send t)) t s ((w.session t).attempts_left - 1) refl
@@ -183,17 +182,12 @@ all_both : {X : Type 0} (P Q R : X → Type 0)
 all_both P Q R f [] p q = tt
 all_both P Q R f (x ∷ xs) p q = (f x p.0 q.0, all_both P Q R f xs p.1 q.1)
 
-pub leaves-way : (N : Network) (es : List Event) (e : Event) (s : ℕ) (hops : List Hop) (port frames : ℕ)
-    → IsNetwork N → AllByRecursion IsInRange es → IsInRange e → s < N.sessions
-    → concerns (run N (initial_state N) es) s e ≡ false
-    → AllByRecursion (λ h. StaysOpen N (run N (initial_state N) es) (step N (run N (initial_state N) es) e) h.clock) hops
-    → StaysOpen N (run N (initial_state N) es) (step N (run N (initial_state N) es) e) (N.session s).target
-    ⊎ (greatest_accepted N (step N (run N (initial_state N) es) e) s ≡ issued (step N (run N (initial_state N) es) e) s)
-    → length (step N (run N (initial_state N) es) e).frames + frames ≤ frames_limit
-    → LeavesWay N (run N (initial_state N) es) (step N (run N (initial_state N) es) e) s hops port frames
-leaves-way N es e s hops port frames n range i place free clear target room = grind (arith, after-step, same-session, happens-same, step-reached, reached, le_refl, happens-grows, all_both)
-
-pub leaves-both : (N : Network) (w u v : NetworkState) (s : ℕ) (hops : List Hop) (port frames : ℕ)
-    → LeavesWay N w u s hops port frames → LeavesWay N u v s hops port frames
-    → LeavesWay N w v s hops port frames
-leaves-both N w u v s hops port frames a b = search (a.way, b.way, a.room, b.room)
+-- the clocks stay open, and the target does or has accepted the last request by now
+pub way-left : (N : Network) (w u : NetworkState) (s domain port : ℕ) (hops : List Hop)
+    → s < N.sessions → IsReached N u → issued u s ≡ issued w s
+    → greatest_accepted N w s ≤ greatest_accepted N u s
+    → AllByRecursion (λ h. StaysOpen N w u h.clock) hops
+    → StaysOpen N w u (N.session s).target ⊎ (greatest_accepted N u s ≡ issued u s)
+    → IsWayIn N w s domain hops port
+    → IsWayIn N u s domain hops port
+way-left N w u s domain port hops place r counted grows clear target way = grind (arith, all_both)

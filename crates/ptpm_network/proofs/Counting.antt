@@ -1,10 +1,10 @@
 -- How many frames an event makes.
-use Rattle.ptpm_network.proofs.Common.{by_test, arith, ◌≡◌, ℕ, ◌+◌, ◌<◌, ◌≤◌, ◌*◌, List, [], ◌∷◌, ◌++◌, Option, Some, None, refl, subst, length, length-append, ltb-false, length-map, nat_lt, AllByRecursion, list_any, first_of-none, option_or-none, ClockIdentity, Message, canonical, boundary_hops, DataSetsValue, ReplyValue, Heard, rendered, forwarded, forwarded_by, is_forwarded, due_messages, RequestCopy, copy_of, due_reply, Deliver, Event, FramesAtMaximum, IsInRange, Send, Stranger, forged, frame_at, frames_limit, no_frame, no_port, no_room, no_session, refusal, send_refused, IsReached, answer_messages, arrives, delivery, forwarded_frames, happens, made_frames, reply_frames, run, sent_frames, step, strange_frame, AtPort, AtSession, End, HasEnd, IsLink, IsNetwork, Network, peers, ports, same_end, Frame, NetworkState, Origin, initial_state, frames_to, history, filter-fewer, flat-few}
+use Rattle.ptpm_network.proofs.Common.{by_test, arith, ◌≡◌, ℕ, ◌+◌, ◌<◌, ◌≤◌, List, [], ◌∷◌, ◌++◌, Option, Some, None, refl, subst, length, length-append, ltb-false, length-map, nat_lt, AllByRecursion, list_any, first_of-none, option_or-none, ClockIdentity, Message, canonical, boundary_hops, message_of, DataSetsValue, ReplyValue, Heard, rendered, forwarded, forwarded_by, is_forwarded, due_messages, RequestCopy, copy_of, due_reply, Deliver, Event, FramesAtMaximum, IsInRange, Send, Stranger, forged, frame_at, frames_limit, no_frame, no_port, no_room, no_session, refusal, send_refused, IsReached, answer_messages, answer_origin, answering_frames, arrives, delivery, forwarded_frames, happens, made_frames, run, sent_frames, step, strange_frame, AtPort, AtSession, End, HasEnd, IsLink, IsNetwork, Network, peers, ports, same_end, Frame, NetworkState, Origin, frames_to, history, filter-fewer, flat-few}
 use Rattle.ptpm_agent.proofs.Egress.{copies_up_to-all, length-copies_up_to_but_one}
 use Rattle.ptpm_network.proofs.Answering.{keeps_due}
 use Rattle.ptpm_network.proofs.Arriving.{IsCopyOf, arrives-reached, is_copy_of}
 use Rattle.ptpm_network.proofs.Frames.{IsHeard, heard-frame}
-use Rattle.ptpm_network.proofs.Reaching.{first-reached, frame_at-is, step-reached, after-step, after-delivery, strange-comes}
+use Rattle.ptpm_network.proofs.Reaching.{frame_at-is, step-reached, after-step, after-delivery, strange-comes}
 use Rattle.ptpm_network.proofs.Requests.{read_few}
 use Rattle.ptpm_network.proofs.Schedule.{reached}
 
@@ -19,38 +19,29 @@ peers-few N (link ∷ links) e a = by_test (list_any (same_end e) link)
     (λ y. rw y (omega (arith, filter-fewer (same_end e) link y, a.0.at_most_sixteen)))
     (λ n. rw n (peers-few N links e a.1))
 
-frames_to-few : (N : Network) (e : End) (octets : List ℕ) (o : Origin) (first_hops forwardings : ℕ)
-    → IsNetwork N
-    → length (frames_to (peers N.links e) octets o first_hops forwardings) ≤ 15
-frames_to-few N e octets o first_hops forwardings n = grind (arith, length-map, peers-few)
+module _ (N : Network) (n : IsNetwork N) where
+  frames_to-few : (e : End) (octets : List ℕ) (o : Origin) (first_hops forwardings : ℕ)
+      → length (frames_to (peers N.links e) octets o first_hops forwardings) ≤ 15
+  frames_to-few e octets o first_hops forwardings = grind (arith, length-map, peers-few)
 
-sent-few : (N : Network) (s k : ℕ) (o : Option Message)
-    → IsNetwork N
-    → length (sent_frames (peers N.links (AtSession s)) s k o) ≤ 15
-sent-few N s k None n = omega arith
-sent-few N s k (Some v) n = frames_to-few N (AtSession s) (canonical v) _ (boundary_hops (canonical v)) 0 n
-
-forwarded_frames-few : (N : Network) (c : ℕ) (f : Frame) (sent : List (ℕ × List ℕ))
-    → IsNetwork N
-    → length (forwarded_frames N c f sent) ≤ 15 * length sent
-forwarded_frames-few N c f sent n = flat-few _ 15 (λ m. grind (arith, frames_to-few)) sent
-
-reply_frames-few : (N : Network) (c : ℕ) (o : Origin) (sent : List (ℕ × List ℕ))
-    → IsNetwork N
-    → length (reply_frames N c o sent) ≤ 15 * length sent
-reply_frames-few N c o sent n = flat-few _ 15 (λ m. grind (arith, frames_to-few)) sent
+  sent-few : (s k : ℕ) (o : Option Message)
+      → length (sent_frames (peers N.links (AtSession s)) s k o) ≤ 15
+  sent-few s k None = omega arith
+  sent-few s k (Some v) = frames_to-few (AtSession s) (canonical v) _ (boundary_hops (canonical v)) 0
 
 -- ---- one turn of a clock
 
--- at most seven copies are passed on
-forwarded_by-few : (me : ClockIdentity) (port : ℕ) (d : DataSetsValue) (octets : List ℕ)
-    (o : Option Message)
-    → 1 ≤ port → port ≤ length d.ports → length d.ports ≤ 8
-    → length (forwarded_by me port d octets o) ≤ 7
-forwarded_by-few me port d octets None low high eight = omega arith
-forwarded_by-few me port d octets (Some v) low high eight = by_test (is_forwarded me port d v)
-    (λ y. rw (y, ← (copies_up_to-all port d octets)) (omega (arith, length-copies_up_to_but_one port d octets (length d.ports) low high)))
-    (λ n. rw n (omega arith))
+module _ (me : ClockIdentity) (port : ℕ) (d : DataSetsValue) (octets : List ℕ) (low : 1 ≤ port) (high : port ≤ length d.ports) (eight : length d.ports ≤ 8) where
+  -- at most seven copies are passed on
+  forwarded_by-few : (o : Option Message) → length (forwarded_by me port d octets o) ≤ 7
+  forwarded_by-few None = omega arith
+  forwarded_by-few (Some v) = by_test (is_forwarded me port d v)
+      (λ y. rw (y, ← (copies_up_to-all port d octets)) (omega (arith, length-copies_up_to_but_one port d octets (length d.ports) low high)))
+      (λ n. rw n (omega arith))
+
+  forwarded-few : length (forwarded me port d octets) ≤ 7
+  unfolding forwarded
+  forwarded-few = forwarded_by-few (message_of octets)
 
 length-rendered : (me : ClockIdentity) (heard : Heard) (r : ReplyValue) (ingress : ℕ)
     → length (rendered me heard r ingress) ≡ length r.answers
@@ -67,7 +58,7 @@ due-few : (N : Network) (w : NetworkState) (c port : ℕ) (f : Frame) (copy : Re
 due-few N w c port f copy None reached of e d = omega arith
 due-few N w c port f copy (Some r) reached of e d =
     let keeps = keeps_due N w c port f copy r reached of e d in
-    let one : length r.answers ≡ 1 = grind (arith) in
+    let one : length r.answers ≡ 1 = grind arith in
     omega (arith, length-rendered (N.clock c).identity copy.heard r copy.ingress, one)
 
 answers-few : (N : Network) (w : NetworkState) (c port : ℕ) (f : Frame) (o : Option RequestCopy)
@@ -81,15 +72,29 @@ answers-few N w c port f (Some copy) n r place i eight e =
 made-few : (N : Network) (w : NetworkState) (c port : ℕ) (f : Frame)
     → IsNetwork N → IsReached N w → HasEnd N (AtPort c port) → IsHeard N w f.octets f.origin
     → length (made_frames N c (history N w c) port f) ≤ 225
-unfolding forwarded
-made-few N w c port f n r end i = grind (arith, length-append, forwarded_frames-few, reply_frames-few, answers-few, forwarded_by-few)
+made-few N w c port f n r end i =
+    let h = history N w c in
+    let sets = r.clocks c end.0 in
+    let has : port ≤ length h.sets.ports = rw sets.ports_are end.2 in
+    let eight : length h.sets.ports ≤ 8 = rw sets.ports_are sets.at_most_eight in
+    let copy = copy_of (N.clock c) (ports N c) (delivery port f) in
+    let sent = forwarded (N.clock c).identity port h.sets f.octets in
+    let told = answer_messages (N.clock c) h port f.octets copy in
+    omega (
+      arith,
+      length-append (forwarded_frames N c f sent) (answering_frames N c h port f copy),
+      flat-few _ 15 (λ m. frames_to-few N n (AtPort c m.0) m.1 f.origin f.first_hops (f.forwardings + 1)) sent,
+      flat-few _ 15 (λ m. frames_to-few N n (AtPort c m.0) m.1 (answer_origin f.origin copy) (boundary_hops m.1) 0) told,
+      forwarded-few (N.clock c).identity port h.sets f.octets end.1 has eight,
+      answers-few N w c port f copy n r end.0 i eight refl,
+    )
 
 -- ---- any event
 
 more : {X : Type 0} (xs ys : List X) → length ys ≤ 225 → length (xs ++ ys) ≤ length xs + 225
 more xs ys few = omega (arith, length-append xs ys, few)
 
-happens-few : (N : Network) (w : NetworkState) (e : Event)
+pub happens-few : (N : Network) (w : NetworkState) (e : Event)
     → IsNetwork N → IsReached N w → IsInRange e → refusal N w e ≡ None
     → length (happens N w e).frames ≤ length w.frames + 225
 unfolding refusal happens
@@ -129,7 +134,7 @@ happens-within N w (Stranger c port datagram) n r i none within =
     filled (length w.frames) _ (room w.frames q.1) (happens-few N w (Stranger c port datagram) n r i none)
 happens-within N w _ n r i none within = within
 
-run-within : (N : Network) (w : NetworkState) (es : List Event)
+pub run-within : (N : Network) (w : NetworkState) (es : List Event)
     → IsNetwork N → IsReached N w → AllByRecursion IsInRange es → length w.frames ≤ 400000
     → length (run N w es).frames ≤ 400000
 run-within N w [] n r i within = within
@@ -138,15 +143,3 @@ run-within N w (e ∷ es) n r i within =
     (after-step (λ (u : NetworkState). length u.frames ≤ 400000) N w e within (λ none. happens-within N w e n r i.0 none within))
 
 -- ---- from where a list of events leads
-
-pub event-few : (N : Network) (es : List Event) (e : Event)
-    → IsNetwork N → AllByRecursion IsInRange es → IsInRange e
-    → refusal N (run N (initial_state N) es) e ≡ None
-    → length (happens N (run N (initial_state N) es) e).frames
-    ≤ length (run N (initial_state N) es).frames + 225
-event-few N es e n i range none = happens-few N (run N (initial_state N) es) e n (reached N es n i) range none
-
-pub ever-within : (N : Network) (es : List Event)
-    → IsNetwork N → AllByRecursion IsInRange es
-    → length (run N (initial_state N) es).frames ≤ 400000
-ever-within N es n i = run-within N (initial_state N) es n (first-reached N n) i (omega arith)

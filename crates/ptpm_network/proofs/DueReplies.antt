@@ -1,5 +1,5 @@
 -- What is due to a copy of a request, and what its delivery makes.
-use Rattle.ptpm_network.proofs.Common.{arith, ◌≡◌, ℕ, ◌<◌, ◌≤◌, List, ◌++◌, Some, None, true, false, and_from, and_right, cond-true, cond-false, eq-eqb, le-ltb, ne_eqb, bytes_eq-Decides, AllByRecursion, RequestValue, same_request, due_messages, Accepted, History, RequestCopy, due_reply, greatest, joins, kept_reply, Clock, delivers_copy, copy_parts, forwarded-copy, Deliver, Event, IsInRange, IsReached, happens, reply_frames, reply_origin, run, IsNetwork, Network, manager, Frame, NetworkState, accepted_at_target, initial_state, history}
+use Rattle.ptpm_network.proofs.Common.{arith, ◌≡◌, ℕ, ◌<◌, ◌≤◌, List, ◌++◌, Some, None, true, false, subst, and_from, and_right, cond-true, cond-false, eq-eqb, le-ltb, ne_eqb, bytes_eq-Decides, AllByRecursion, RequestValue, same_request, due_messages, Accepted, History, RequestCopy, due_reply, greatest, joins, kept_reply, Clock, delivers_copy, copy_parts, forwarded-copy, Deliver, Event, IsInRange, IsReached, happens, reply_frames, reply_origin, run, HasEnd, IsNetwork, Network, manager, Frame, NetworkState, accepted_at_target, initial_state, history}
 use Rattle.std.proofs.Math.Nat.{ne_of_gt}
 use Rattle.ptpm_network.specs.Copies.{IsCopyAt}
 use Rattle.ptpm_network.proofs.Arriving.{IsCopyOf, is_copy_of}
@@ -11,13 +11,6 @@ use Rattle.ptpm_network.proofs.Schedule.{reached}
 
 pub same_request-refl : (q : RequestValue) → same_request q q ≡ true
 same_request-refl q = grind (arith, and_from, eq-eqb, bytes_eq-Decides)
-
--- the copy of a frame is of the session that the frame is of
-copy_at-of : (N : Network) (w : NetworkState) (n c port : ℕ) (f : Frame) (copy : RequestCopy)
-    → IsNetwork N → IsReached N w → IsCopyAt N w n c port f copy
-    → IsCopyOf N w c port f copy
-copy_at-of N w n c port f copy is r at =
-    let frame = frame_at-is N w n f r at.frame in grind (arith, is_copy_of, heard-frame)
 
 not_above : (c : Clock) (h : History) (copy : RequestCopy)
     → copy.index ≤ greatest copy.heard.source h.accepted
@@ -36,8 +29,8 @@ keeps-latest : (N : Network) (w : NetworkState) (c port : ℕ) (f : Frame) (copy
     → KeepsLatest (N.clock c) (history N w c) copy
 keeps-latest N w c port f copy r of latest =
     let accepted : ℕ → List Accepted = λ d. (history N w d).accepted in
-    let here : greatest (manager N of.session) (accepted_at_target N w of.session) ≡ of.k = grind (arith) in
-    let was = (r.sessions of.session of.says.place).without_gap of.k of.says.positive (omega (arith, here)) in grind (arith)
+    let here : greatest (manager N of.session) (accepted_at_target N w of.session) ≡ of.k = grind arith in
+    let was = (r.sessions of.session of.says.place).without_gap of.k of.says.positive (omega (arith, here)) in grind arith
 
 pub due-latest : (c : Clock) (h : History) (copy : RequestCopy)
     → greatest copy.heard.source h.accepted ≡ copy.index → (keeps : KeepsLatest c h copy)
@@ -53,7 +46,9 @@ pub latest-kept : (N : Network) (es : List Event) (n c port : ℕ) (f : Frame) (
 latest-kept N es n c port f copy is i at latest =
     let w : NetworkState = run N (initial_state N) es in
     let r = reached N es is i in
-    let keeps = keeps-latest N w c port f copy r (copy_at-of N w n c port f copy is r at) latest in
+    let frame = frame_at-is N w n f r at.frame in
+    let of = is_copy_of N w c port f copy is r (subst (HasEnd N) at.end frame.end).0 (heard-frame N w f.octets f.origin frame.origin) at.heard in
+    let keeps = keeps-latest N w c port f copy r of latest in
     (keeps.kept, keeps.is, due-latest (N.clock c) (history N w c) copy latest keeps)
 
 -- ---- older ones none

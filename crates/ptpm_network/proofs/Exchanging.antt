@@ -1,11 +1,10 @@
 -- What one copy of a session's last request brings about at its target, and one of the reply at the session.
-use Rattle.ptpm_network.proofs.Common.{arith, ◌≡◌, ℕ, ◌<◌, ◌+◌, ◌-◌, ◌^◌, ◌==◌, List, [], ◌∷◌, ◌++◌, Some, None, true, false, refl, sym, ◌∙◌, ap, subst, ⊎_elim, length, length-append, and_from, cases_eq, cond-true, eq-eqb, eqb-false, false_from_ne_true, le-leb, le-ltb, lt-ltb, or_left, or_right, append-nil, nat_lt, not, AllByRecursion, option_or, ClockIdentity, PortIdentity, Message, canonical, same_clock, boundary_hops, domain_number, Fits, IsValid, first_of, message_of, canonical_spells, same_clock-refl, same_clock-true, octet-take, message_of-some, message_of-spells, message_size, reply_to, Answer, ReplyValue, RequestValue, reply_message, History, RequestCopy, copy_from, copy_of, due_reply, greatest, is_copy, kept_reply, is_for_this_clock, Clock, Report, outcome_in, Deliver, Event, FramesAtMaximum, IsInRange, frame_at, frames_limit, no_frame, no_room, refusal, HasReplied, HasReported, HasRoom, IsHeardBy, IsAsked, IsFrame, IsOfOrigin, IsReached, arrives, delivered_at, delivered_at_clock, delivery, happens, index_of, is_answer, made_frames, report_from, reported, run, step, step_by, told_by, AtPort, AtSession, End, HasEnd, IsNetwork, Network, manager, peers, ports, Frame, NetworkState, Origin, RequestOf, ReplyTo, SessionState, accepted_at_target, initial_state, greatest_accepted, history, is_idle, is_late, issued, new_frames, with_place-same, forwarded-copy}
+use Rattle.ptpm_network.proofs.Common.{arith, ◌≡◌, ℕ, ◌<◌, ◌+◌, ◌-◌, ◌^◌, List, [], ◌∷◌, ◌++◌, Some, None, true, false, refl, sym, ◌∙◌, ap, subst, ⊎_elim, length, length-append, and_from, cases_eq, cond-true, eq-eqb, eqb-false, false_from_ne_true, le-leb, le-ltb, lt-ltb, or_left, or_right, append-nil, option_or, ClockIdentity, PortIdentity, Message, canonical, same_clock, boundary_hops, domain_number, Fits, IsValid, first_of, message_of, canonical_spells, same_clock-refl, same_clock-true, octet-take, message_of-some, message_of-spells, message_size, Answer, ReplyValue, RequestValue, reply_message, History, RequestCopy, copy_by, copy_from, copy_of, due_reply, greatest, is_copy, kept_reply, is_for_this_clock, Clock, Report, outcome_in, Deliver, Event, FramesAtMaximum, frame_at, frames_limit, no_frame, no_room, refusal, HasReplied, HasReported, HasRoom, IsHeardBy, IsAsked, IsFrame, IsOfOrigin, IsReached, arrives, delivered_at, delivered_at_clock, delivery, happens, index_of, made_frames, report_from, reported, step, step_by, AtPort, AtSession, End, HasEnd, IsNetwork, Network, manager, peers, ports, Frame, NetworkState, RequestOf, ReplyTo, accepted_at_target, greatest_accepted, history, is_idle, issued, new_frames, with_place-same, forwarded-copy}
 use Rattle.ptpm_network.proofs.Answering.{keeps_due, rendered-one, small}
 use Rattle.ptpm_network.proofs.Arriving.{arrives-reached, is_copy_of}
 use Rattle.ptpm_network.proofs.DueReplies.{due-latest}
 use Rattle.ptpm_network.proofs.Frames.{SaysRequest, heard-frame, says_reply, says_request, sendable-one}
 use Rattle.ptpm_network.proofs.Messages.{message-hops, reply-fits, reply-valid, reply_at, request_at}
-use Rattle.ptpm_network.proofs.Reaching.{frame_at-is}
 use Rattle.ptpm_network.proofs.Schedule.{reached}
 
 -- ---- an event that is not refused
@@ -48,19 +47,7 @@ request-is_copy : (N : Network) (s k domain hops : ℕ) (q : RequestValue)
     (request_at N s k domain hops q) ≡ true
 request-is_copy N s k domain hops q n place asked = grind (arith, request_at, clocks_apart, clocks_same, and_from, or_right, le-leb, or_left, eq-eqb)
 
-copy-is : (N : Network) (s port : ℕ) (f : Frame) (v : Message)
-    → message_of f.octets ≡ Some v
-    → is_copy (N.clock (N.session s).target) (ports N (N.session s).target) v ≡ true
-    → copy_of (N.clock (N.session s).target) (ports N (N.session s).target) (delivery port f)
-    ≡ Some (copy_from (delivery port f) v)
-copy-is N s port f v e is = grind (arith, cond-true)
-
 -- ---- a reply is due to it
-
-due-new : (c : Clock) (h : History) (x : RequestCopy)
-    → x.heard.domain ≡ h.sets.default.domain → greatest x.heard.source h.accepted < x.index
-    → due_reply c h x ≡ Some (reply_to x.request (c.rights x.heard.source) h.sets)
-due-new c h x domain above = cond-true _ _ _ (and_from (x.heard.domain == h.sets.default.domain) (nat_lt (greatest x.heard.source h.accepted) x.index) (eq-eqb _ _ domain) (lt-ltb _ _ above))
 
 abbrev IsDueTo : Clock → History → RequestCopy → Type 0
 IsDueTo c h x = (r : ReplyValue) × (due_reply c h x ≡ Some r)
@@ -79,9 +66,9 @@ module _ (N : Network) (w : NetworkState) (s : ℕ) (octets : List ℕ) (x : Req
   due-repeat g =
       let at = r.sessions s place in
       let was = at.without_gap (issued w s) of.says.positive (omega (arith, g)) in
-      let here : greatest x.heard.source (accepted_at_target N w s) ≡ x.index = grind (arith) in
-      let kept : kept_reply x.heard.source x.index (accepted_at_target N w s) ≡ Some was.entry = grind (arith) in
-      let same : was.entry.request ≡ x.request = grind (arith) in
+      let here : greatest x.heard.source (accepted_at_target N w s) ≡ x.index = grind arith in
+      let kept : kept_reply x.heard.source x.index (accepted_at_target N w s) ≡ Some was.entry = grind arith in
+      let same : was.entry.request ≡ x.request = grind arith in
       (was.entry.reply, due-latest (N.clock (N.session s).target) (history N w (N.session s).target) x here (record { kept = was.entry; is = kept; request = same }))
 
   due-first : domain_number octets ≡ (history N w (N.session s).target).sets.default.domain
@@ -89,7 +76,7 @@ module _ (N : Network) (w : NetworkState) (s : ℕ) (octets : List ℕ) (x : Req
       → IsDueTo (N.clock (N.session s).target) (history N w (N.session s).target) x
   due-first domain ne =
       let above : greatest (manager N s) (accepted_at_target N w s) < x.index = omega (arith, (r.sessions s place).begun_before, of.index, ne) in
-      (_, due-new (N.clock (N.session s).target) (history N w (N.session s).target) x (of.domain ∙ domain) (subst (λ (m : PortIdentity). greatest m (accepted_at_target N w s) < x.index) (sym of.source) above))
+      (_, cond-true _ _ _ (and_from _ _ (eq-eqb _ _ (of.domain ∙ domain)) (lt-ltb _ _ (subst (λ (m : PortIdentity). greatest m (accepted_at_target N w s) < x.index) (sym of.source) above))))
 
 due-to : (N : Network) (w : NetworkState) (s : ℕ) (octets : List ℕ) (x : RequestCopy)
     → IsReached N w → s < N.sessions → IsLatestCopy N w s octets x → IsHeardBy N w s octets
@@ -130,8 +117,8 @@ reply-message N w s port f x r n reached place end origin i of ingress number e 
     let says = due.says in
     let sendable = sendable-one due.entry.request due.entry says.one.answer says.one.is says.answers in
     let clock = n.are_clocks c session.exists in
-    let source : length x.heard.source.clock.0 ≡ 8 = grind (arith) in
-    let source_port : x.heard.source.port < 2 ^ 16 = grind (arith) in
+    let source : length x.heard.source.clock.0 ≡ 8 = grind arith in
+    let source_port : x.heard.source.port < 2 ^ 16 = grind arith in
     let in' : x.ingress < 2 ^ 16 = grind (arith, small) in
     let a = says.one.answer in grind (arith, reply-valid, reply-fits)
 
@@ -162,14 +149,6 @@ made-reply : (N : Network) (w : NetworkState) (s port : ℕ) (f : Frame) (x : Re
     (canonical (reply_message (N.clock (N.session s).target).identity x.heard r.action r.id x.ingress m.answer)) (ReplyTo s (issued w s))
 made-reply N w s port f x v r origin e here is due ingress m = grind (arith, forwarded-copy, rendered-one, append-nil)
 
-replied-by : (N : Network) (w : NetworkState) (s port : ℕ) (f : Frame) (reply : List ℕ)
-    → made_frames N (N.session s).target (history N w (N.session s).target) port f
-    ≡ new_frames (peers N.links (AtPort (N.session s).target port)) reply (ReplyTo s (issued w s))
-    → domain_number reply ≡ domain_number f.octets
-    → boundary_hops reply ≡ (N.session s).setup.hops - boundary_hops f.octets
-    → HasReplied N w (delivered_at_clock N w (N.session s).target port f) s port f.octets
-replied-by N w s port f reply made domain hops = record { reply = reply; frames = ap (λ fs. w.frames ++ fs) made; domain = domain; hops = hops }
-
 pub replied : (N : Network) (w : NetworkState) (s port : ℕ) (f : Frame)
     → IsNetwork N → IsReached N w → s < N.sessions → IsFrame N w f
     → f.end ≡ AtPort (N.session s).target port → f.origin ≡ RequestOf s (issued w s)
@@ -178,32 +157,25 @@ pub replied : (N : Network) (w : NetworkState) (s port : ℕ) (f : Frame)
 replied N w s port f n r place i end origin heard =
     let c = (N.session s).target in
     let session = n.are_sessions s place in
-    let own : IsOfOrigin N w f.octets (RequestOf s (issued w s)) = grind (arith) in
+    let own : IsOfOrigin N w f.octets (RequestOf s (issued w s)) = grind arith in
     let says = says_request N w s (issued w s) f.octets n r own in
     let v : Message = request_at N s (issued w s) says.domain says.hops says.request in
     let x : RequestCopy = copy_from (delivery port f) v in
     let domain : says.domain ≡ domain_number f.octets = message-domain v f.octets says.message.read in
     let of : IsLatestCopy N w s f.octets x = record { says = says; source = refl; index = ap index_of origin; request = refl; domain = domain } in
-    let is = copy-is N s port f v says.message.read (request-is_copy N s (issued w s) says.domain says.hops says.request n place says.asked) in
+    let is : copy_of (N.clock c) (ports N c) (delivery port f) ≡ Some x =
+    ap (copy_by (N.clock c) (ports N c) (delivery port f)) says.message.read ∙ cond-true _ _ _ (request-is_copy N s (issued w s) says.domain says.hops says.request n place says.asked) in
     let due = due-to N w s f.octets x r place of heard in
     let m = reply-message N w s port f x due.0 n r place (subst (HasEnd N) end i.end) origin i.origin of refl says.message.fits.number is due.1 in
     let u : Message = reply_message (N.clock c).identity x.heard (due.0).action (due.0).id x.ingress m.answer in
-    replied-by N w s port f (canonical u) (made-reply N w s port f x v due.0 origin says.message.read (clocks_same (N.session s).setup.target (N.clock c).identity session.target) is due.1 refl m)
-    (said-domain u (domain_number f.octets) m.valid m.fits domain)
-    (said-hops u ((N.session s).setup.hops - boundary_hops f.octets) m.valid m.fits (ap (λ k. (N.session s).setup.hops - k) (message-hops v f.octets says.message.read)))
+    record {
+      reply = canonical u;
+      frames = ap (λ fs. w.frames ++ fs) (made-reply N w s port f x v due.0 origin says.message.read (clocks_same (N.session s).setup.target (N.clock c).identity session.target) is due.1 refl m);
+      domain = grind (arith, said-domain);
+      hops = said-hops u ((N.session s).setup.hops - boundary_hops f.octets) m.valid m.fits (ap (λ k. (N.session s).setup.hops - k) (message-hops v f.octets says.message.read));
+    }
 
 -- ---- the session reports
-
-told-in_domain : (state : SessionState) (octets : List ℕ) (v : Message)
-    → message_of octets ≡ Some v → domain_number octets ≡ state.domain
-    → told_by state (message_of octets)
-    ≡ Some (record { index = length state.begun; outcome = outcome_in v.body })
-told-in_domain state octets v e domain = ap (told_by state) e ∙ cond-true _ _ _ (eq-eqb v.domain state.domain (message-domain v octets e ∙ domain))
-
-answer-is : (s : ℕ) (state : SessionState) (o : Origin)
-    → o ≡ ReplyTo s (length state.begun) → is_idle state ≡ false
-    → is_answer s state o ≡ true
-answer-is s state o origin busy = ap (is_answer s state) origin ∙ and_from _ _ (eq-eqb s s refl) (and_from _ _ (eq-eqb (length state.begun) (length state.begun) refl) (ap not busy))
 
 pub reports-answer : (N : Network) (w : NetworkState) (s : ℕ) (f : Frame)
     → IsNetwork N → IsReached N w → s < N.sessions → IsFrame N w f
@@ -212,46 +184,14 @@ pub reports-answer : (N : Network) (w : NetworkState) (s : ℕ) (f : Frame)
     → HasReported w (delivered_at N w f (AtSession s)) s
 reports-answer N w s f n r place i origin busy domain =
     let at = r.sessions s place in
-    let own : IsOfOrigin N w f.octets (ReplyTo s (issued w s)) = grind (arith) in
+    let own : IsOfOrigin N w f.octets (ReplyTo s (issued w s)) = grind arith in
     let says = says_reply N w s (issued w s) f.octets n r own in
     let v : Message = reply_at (N.session s).setup.target says.heard says.entry.reply says.ingress says.hops says.answer in
     let report : Report = record { index = issued w s; outcome = outcome_in v.body } in
-    let from : report_from s (w.session s) f ≡ Some report = grind (arith, cond-true, answer-is, told-in_domain) in
+    let from : report_from s (w.session s) f ≡ Some report = grind (arith, cond-true, and_from, eq-eqb, message-domain) in
     let now : (delivered_at N w f (AtSession s)).session s ≡ reported (w.session s) (Some report) = grind (arith, with_place-same, eq-eqb) in
     let size : length ((w.session s).reports ++ report ∷ []) ≡ length (w.session s).reports + 1 = length-append (w.session s).reports (report ∷ []) in
     let all : length ((w.session s).reports ++ report ∷ []) ≡ length (w.session s).begun =
     omega (arith, size, at.one_at_a_time, at.accepted_before, at.begun_before, eqb-false (length (w.session s).reports) (length (w.session s).begun) busy) in grind (arith, eq-eqb)
 
 -- ---- the laws
-
-pub never-late : (w : NetworkState) (s : ℕ)
-    → (is_late w (RequestOf s (issued w s)) ≡ false) × (is_late w (ReplyTo s (issued w s)) ≡ false)
-never-late w s = let now = le-ltb (issued w s + 32768) (issued w s) (omega arith) in (now, now)
-
-pub copy-replied : (N : Network) (es : List Event) (n s port : ℕ) (f : Frame)
-    → IsNetwork N → AllByRecursion IsInRange es → s < N.sessions
-    → frame_at (run N (initial_state N) es).frames n ≡ Some f
-    → f.end ≡ AtPort (N.session s).target port
-    → f.origin ≡ RequestOf s (issued (run N (initial_state N) es) s)
-    → IsHeardBy N (run N (initial_state N) es) s f.octets → HasRoom (run N (initial_state N) es)
-    → HasReplied N (run N (initial_state N) es) (step N (run N (initial_state N) es) (Deliver n)) s
-    port f.octets
-copy-replied N es n s port f net range place e end origin heard room =
-    let w : NetworkState = run N (initial_state N) es in
-    let r = reached N es net range in
-    subst (λ (u : NetworkState). HasReplied N w u s port f.octets) (sym (delivery-step N w n f (AtPort (N.session s).target port) e end room))
-    (replied N w s port f net r place (frame_at-is N w n f r e) end origin heard)
-
-pub reply-reported : (N : Network) (es : List Event) (n s : ℕ) (f : Frame)
-    → IsNetwork N → AllByRecursion IsInRange es → s < N.sessions
-    → frame_at (run N (initial_state N) es).frames n ≡ Some f → f.end ≡ AtSession s
-    → f.origin ≡ ReplyTo s (issued (run N (initial_state N) es) s)
-    → is_idle ((run N (initial_state N) es).session s) ≡ false
-    → domain_number f.octets ≡ ((run N (initial_state N) es).session s).domain
-    → HasRoom (run N (initial_state N) es)
-    → HasReported (run N (initial_state N) es) (step N (run N (initial_state N) es) (Deliver n)) s
-reply-reported N es n s f net range place e end origin busy domain room =
-    let w : NetworkState = run N (initial_state N) es in
-    let r = reached N es net range in
-    subst (λ (u : NetworkState). HasReported w u s) (sym (delivery-step N w n f (AtSession s) e end room))
-    (reports-answer N w s f net r place (frame_at-is N w n f r e) origin busy domain)

@@ -1,5 +1,5 @@
 -- What a frame of each origin says, and that what a clock passes on keeps its origin.
-use Rattle.ptpm_network.proofs.Common.{arith, ◌≡◌, ℕ, ◌<◌, ◌≤◌, ◌+◌, ◌-◌, ◌^◌, List, [], ◌∷◌, Some, sym, ◌∙◌, ap, subst, length, same_Some, slice_get_within, slice_get, AllByRecursion, Message, canonical, boundary_hops, Fits, message_of, Answer, RequestValue, Heard, with_less_hop, Accepted, kept_reply, number_of, Answers, HasOneAnswer, IsSendable, IsAsked, IsForeign, IsFrame, IsInStep, IsMessage, IsOfOrigin, IsReached, SessionState, forwarded_frames, AtPort, HasEnd, IsNetwork, Network, manager, peers, ports, Frame, NetworkState, Origin, RequestOf, ReplyTo, Neither, accepted_at_target, frames_to, all_flat, all_made, le_trans}
+use Rattle.ptpm_network.proofs.Common.{arith, ◌≡◌, ℕ, ◌<◌, ◌≤◌, ◌+◌, ◌-◌, ◌^◌, List, [], ◌∷◌, Some, sym, ◌∙◌, ap, subst, length, same_Some, slice_get_within, slice_get, AllByRecursion, Message, canonical, boundary_hops, Fits, message_of, Answer, RequestValue, Heard, with_less_hop, Accepted, kept_reply, number_of, Answers, HasOneAnswer, IsSendable, IsAsked, IsForeign, IsFrame, IsInStep, IsMessage, IsOfOrigin, IsReached, SessionState, forwarded_frames, AtPort, HasEnd, IsNetwork, Network, manager, peers, ports, Frame, NetworkState, Origin, RequestOf, ReplyTo, Neither, accepted_at_target, all_flat, all_made, le_trans}
 use Rattle.ptpm_network.specs.Invariant.{IsReplyFrame, IsRequestFrame}
 use Rattle.ptpm_network.proofs.Accepting.{kept-le}
 use Rattle.ptpm_network.proofs.Messages.{IsPassedOn, canonical-message, less_hop-canonical, less_hop-hops, less_hop-message, message-hops, reply_at, reply-fits, reply-valid, request_at, request-fits, request-valid}
@@ -67,20 +67,11 @@ module _ (N : Network) (s k : ℕ) (accepted : List Accepted) (state : SessionSt
   request_says octets i =
       let asked = step.asked (k - 1) i.request i.begun_as in
       let v : Message = request_at N s k i.domain i.hops i.request in
-      record {
-        place = place;
-        positive = i.positive;
-        within = omega (arith, i.positive, slice_get_within state.begun (k - 1) i.request i.begun_as);
-        request = i.request;
-        begun_as = i.begun_as;
-        asked = asked;
-        domain = i.domain;
-        hops = i.hops;
-        is = i.is;
-        message = subst (λ m. IsMessage m v) (sym i.is)
-            (canonical-message v (request-valid N s k i.domain i.hops (ports N (N.session s).target) i.request asked)
-            (request-fits N s k i.domain i.hops (ports N (N.session s).target) i.request n place asked));
-      }
+      let within : k ≤ length state.begun = omega (arith, i.positive, slice_get_within state.begun (k - 1) i.request i.begun_as) in
+      let message : IsMessage octets v = subst (λ m. IsMessage m v) (sym i.is)
+      (canonical-message v (request-valid N s k i.domain i.hops (ports N (N.session s).target) i.request asked)
+      (request-fits N s k i.domain i.hops (ports N (N.session s).target) i.request n place asked)) in
+      search (asked, message, within)
 
   pub reply_says : (octets : List ℕ)
       → IsReplyFrame (N.session s).setup accepted k octets
@@ -90,29 +81,14 @@ module _ (N : Network) (s k : ℕ) (accepted : List Accepted) (state : SessionSt
       let clock = n.are_clocks (N.session s).target session.exists in
       let says = kept_says N s k accepted state i.entry step i.positive i.kept in
       let sendable = sendable-one i.entry.request i.entry i.answer i.one says.answers in
-      let identity : length (N.session s).setup.target.0 ≡ 8 = grind (arith) in
-      let source : length i.heard.source.clock.0 ≡ 8 = grind (arith) in
-      let port : i.heard.source.port < 2 ^ 16 = grind (arith) in
+      let identity : length (N.session s).setup.target.0 ≡ 8 = grind arith in
+      let source : length i.heard.source.clock.0 ≡ 8 = grind arith in
+      let port : i.heard.source.port < 2 ^ 16 = grind arith in
       let v : Message = reply_at (N.session s).setup.target i.heard i.entry.reply i.ingress i.hops i.answer in
-      record {
-        place = place;
-        positive = i.positive;
-        entry = i.entry;
-        kept = i.kept;
-        says = says;
-        answer = i.answer;
-        one = i.one;
-        heard = i.heard;
-        source = i.source;
-        number = i.number;
-        ingress = i.ingress;
-        port = i.port;
-        hops = i.hops;
-        is = i.is;
-        message = subst (λ m. IsMessage m v) (sym i.is)
-            (canonical-message v (reply-valid (N.session s).setup.target i.heard i.entry.request i.entry.reply i.ingress i.hops i.answer says.answers sendable)
-            (reply-fits (N.session s).setup.target i.heard i.entry.request i.entry.reply i.ingress i.hops i.answer identity source port (omega (arith, i.number)) i.port says.asked.id says.answers sendable));
-      }
+      let message : IsMessage octets v = subst (λ m. IsMessage m v) (sym i.is)
+      (canonical-message v (reply-valid (N.session s).setup.target i.heard i.entry.request i.entry.reply i.ingress i.hops i.answer says.answers sendable)
+      (reply-fits (N.session s).setup.target i.heard i.entry.request i.entry.reply i.ingress i.hops i.answer identity source port (omega (arith, i.number)) i.port says.asked.id says.answers sendable)) in
+      search (says, message)
 
   -- ---- with one hop less
 
@@ -162,9 +138,8 @@ IsHeard N w octets Neither = (v : Message) → message_of octets ≡ Some v → 
 pub heard-frame : (N : Network) (w : NetworkState) (octets : List ℕ) (o : Origin)
     → IsOfOrigin N w octets o
     → IsHeard N w octets o
-heard-frame N w octets (RequestOf s k) i = i
-heard-frame N w octets (ReplyTo s k) i = i
 heard-frame N w octets Neither i = grind (arith, same_Some)
+heard-frame N w octets _ i = i
 
 -- the message that a request's frame, or a reply's, is of
 pub same_read : (octets : List ℕ) (v u : Message)
@@ -181,24 +156,17 @@ passed_on-origin N w octets (RequestOf s k) v n r (place, i) e = grind (arith, r
 passed_on-origin N w octets (ReplyTo s k) v n r (place, i) e = grind (arith, reply_passed)
 passed_on-origin N w octets Neither v n r i e =
     let p = i v e in
-    record { message = record v { hops = v.hops - 1 }; is = less_hop-message v octets e p.0; foreign = grind (arith) }
+    record { message = record v { hops = v.hops - 1 }; is = less_hop-message v octets e p.0; foreign = grind arith }
 
 -- what a clock passes on of a frame is of the frame's origin, with a hop less and a forwarding more
-passed_on-frames : (N : Network) (w : NetworkState) (c : ℕ) (f : Frame)
-    → IsNetwork N → IsReached N w → IsHeard N w f.octets f.origin
-    → boundary_hops f.octets + f.forwardings ≡ f.first_hops → (m : ℕ × List ℕ)
-    → IsPassedOn f.octets m
-    → AllByRecursion (IsFrame N w)
-    (frames_to (peers N.links (AtPort c m.0)) m.1 f.origin f.first_hops (f.forwardings + 1))
-passed_on-frames N w c f n r i hops m p =
-    all_made (HasEnd N) (IsFrame N w) _
-    (λ e h. grind (arith, passed_on-origin, message-hops, less_hop-hops))
-    (peers N.links (AtPort c m.0)) (has_peers N (AtPort c m.0) n)
-
 pub forwarded_frames-are : (N : Network) (w : NetworkState) (c port : ℕ) (f : Frame)
     (sent : List (ℕ × List ℕ))
     → AllByRecursion (IsPassedOn f.octets) sent → IsNetwork N → IsReached N w
     → IsHeard N w f.octets f.origin → boundary_hops f.octets + f.forwardings ≡ f.first_hops
     → AllByRecursion (IsFrame N w) (forwarded_frames N c f sent)
 forwarded_frames-are N w c port f sent a n r i hops =
-    all_flat (IsPassedOn f.octets) (IsFrame N w) _ (λ m p. passed_on-frames N w c f n r i hops m p) sent a
+    all_flat (IsPassedOn f.octets) (IsFrame N w) _
+    (λ m p. all_made (HasEnd N) (IsFrame N w) _
+    (λ e h. grind (arith, passed_on-origin, message-hops, less_hop-hops))
+    (peers N.links (AtPort c m.0)) (has_peers N (AtPort c m.0) n))
+    sent a

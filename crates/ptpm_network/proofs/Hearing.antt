@@ -16,7 +16,7 @@ pub begun-value : (start : SessionStart) (s : SessionState) (q : RequestValue)
 begun-value start s q le =
     let more : length (s.begun ++ q ∷ []) ≡ length s.begun + 1 = length-append s.begun (q ∷ []) in
     let index : length (s.begun ++ q ∷ []) - 1 ≡ length s.begun = omega (arith, more) in
-    let waits : unanswered (begun_in start s q) ≡ Some q = grind (arith, cond-false, ne_eqb, get_last) in grind (arith)
+    let waits : unanswered (begun_in start s q) ≡ Some q = grind (arith, cond-false, ne_eqb, get_last) in grind arith
 
 -- one that was told the answer to its last request waits for none
 pub answered-value : (start : SessionStart) (s : SessionState) (report : Report)

@@ -1,5 +1,5 @@
 -- Frames as a running network holds them, without their first hops and forwardings.
-use Rattle.ptpm_network.proofs.Common.{arith, ◌≡◌, ℕ, ◌+◌, List, [], ◌∷◌, ◌++◌, Option, Some, None, refl, ◌∙◌, ap, cond-true, cond-false, map-append, slice_get-map, flat_map, map, option_map, slice_get, Message, canonical, boundary_hops, frame_at, Held, RunningNetwork, after_turn, held, posted, seen, sent_posted, forwarded_frames, sent_frames, AtPort, End, Network, peers, Frame, Origin, RequestOf, frames_to}
+use Rattle.ptpm_network.proofs.Common.{arith, ◌≡◌, ℕ, ◌+◌, List, [], ◌∷◌, Option, Some, None, refl, ap, cond-true, cond-false, map-append, slice_get-map, flat_map, map, option_map, slice_get, Message, canonical, boundary_hops, frame_at, Held, RunningNetwork, after_turn, held, posted, seen, sent_posted, forwarded_frames, sent_frames, AtPort, End, Network, peers, Frame, Origin, RequestOf, frames_to}
 
 -- a frame by its number
 pub frame_at-map : (fs : List Frame) (n : ℕ)
@@ -20,15 +20,17 @@ pub held-sent_frames : (ends : List End) (s k : ℕ) (o : Option Message)
 held-sent_frames ends s k None = refl
 held-sent_frames ends s k (Some v) = held-frames_to ends (canonical v) (RequestOf s k) (boundary_hops (canonical v)) 0
 
+pub held-flat : (N : Network) (c : ℕ) (o : Origin) (first : ℕ × List ℕ → ℕ) (forwardings : ℕ) (sent : List (ℕ × List ℕ))
+    → map held (flat_map (λ m. frames_to (peers N.links (AtPort c m.0)) m.1 o (first m) forwardings) sent)
+    ≡ flat_map (λ m. posted (peers N.links (AtPort c m.0)) m.1 o) sent
+held-flat N c o first forwardings [] = refl
+held-flat N c o first forwardings (m ∷ ms) =
+    rw (map-append, held-frames_to (peers N.links (AtPort c m.0)) m.1 o (first m) forwardings, held-flat N c o first forwardings ms)
+
 pub held-forwarded : (N : Network) (c : ℕ) (f : Frame) (sent : List (ℕ × List ℕ))
     → map held (forwarded_frames N c f sent)
     ≡ flat_map (λ m. posted (peers N.links (AtPort c m.0)) m.1 f.origin) sent
-held-forwarded N c f [] = refl
-held-forwarded N c f (m ∷ ms) =
-    let fs : List Frame = frames_to (peers N.links (AtPort c m.0)) m.1 f.origin f.first_hops (f.forwardings + 1) in
-    map-append held fs (forwarded_frames N c f ms)
-    ∙ ap (λ (hs : List Held). hs ++ map held (forwarded_frames N c f ms)) (held-frames_to (peers N.links (AtPort c m.0)) m.1 f.origin f.first_hops (f.forwardings + 1))
-    ∙ ap (λ (hs : List Held). posted (peers N.links (AtPort c m.0)) m.1 f.origin ++ hs) (held-forwarded N c f ms)
+held-forwarded N c f sent = held-flat N c f.origin (λ m. f.first_hops) (f.forwardings + 1) sent
 
 -- a clock that hears a frame sends the same, whatever the frame's first hops and forwardings
 pub turned-seen : (N : Network) (r : RunningNetwork) (c port : ℕ) (f : Frame)

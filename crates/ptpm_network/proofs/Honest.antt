@@ -13,7 +13,7 @@ use Rattle.ptpm_agent.proofs.Entries.{accepted_entry, get-insert_other, get-inse
 use Rattle.ptpm_agent.proofs.Turns.{turn-next}
 use Rattle.ptpm_network.proofs.Answering.{rendered-says}
 use Rattle.ptpm_network.proofs.Messages.{canonical-message, request-fits, request-valid}
-use Rattle.ptpm_network.proofs.Origins.{IsCopyBy, IsTrue, IsTrueTo, foreign-true, is_copy_by, message-true}
+use Rattle.ptpm_network.proofs.Origins.{IsCopyBy, IsTrue, is_copy_by, message-true}
 use Rattle.ptpm_network.proofs.Refusals.{asked-not_refused, begin-not_refused}
 use Rattle.ptpm_network.proofs.Requests.{answered as reply-answers, kept, read_answered}
 use Rattle.ptpm_network.proofs.Steps.{has_peers}
@@ -68,12 +68,6 @@ next-honest c p s v verdicts.AnsweredNew fits h = record {
 }
 next-honest c p s v _ fits h = h
 
-pub turn-honest : (c : Clock) (p : ℕ) (s : State) (port : ℕ) (d : List ℕ)
-    → ((v : Message) → message_of d ≡ Some v → Fits v) → IsHonestClock p s
-    → IsHonestClock p (turn c s port d).next
-turn-honest c p s port d fits h =
-    turn-next (IsHonestClock p) c s port d h (λ v e. next-honest c p s v (judged c s v) (fits v e) h)
-
 -- ---- what it replies
 
 -- a reply says what was asked
@@ -86,7 +80,7 @@ kept-replies : (o : Option Entry) (r : ReplyValue)
     → (q : RequestValue) × IsReplyTo q r
 kept-replies None r sendable e = absurd (cc)
 kept-replies (Some entry) r sendable e =
-    let s = sendable entry refl in grind (arith)
+    let s = sendable entry refl in grind arith
 
 replies : (c : Clock) (p : ℕ) (s : State) (v : Message) (w : Verdict) (r : ReplyValue)
     → Fits v → IsHonestClock p s → reply_by w c s v ≡ Some r
@@ -114,7 +108,7 @@ module _ (N : Network) (n : IsNetwork N) (c port : ℕ) (end : HasEnd N (AtPort 
       → AllByRecursion (λ (m : ℕ × List ℕ). IsTrue N m.1 (answer_origin f.origin k)) (turn (N.clock c) s port f.octets).replies
   turned-true f None i e =
       subst (AllByRecursion (λ (m : ℕ × List ℕ). IsTrue N m.1 Neither)) (sym (turn-reads (N.clock c) s (delivery port f) (reading f.octets) refl e))
-      (all_weaker (λ (m : ℕ × List ℕ). IsForeignFrame N m.1) (λ (m : ℕ × List ℕ). IsTrue N m.1 Neither) (λ m x. foreign-true N m.1 x) _
+      (all_weaker (λ (m : ℕ × List ℕ). IsForeignFrame N m.1) (λ (m : ℕ × List ℕ). IsTrue N m.1 Neither) (λ m x. message-true N m.1 x.message Neither x.is x.foreign) _
       (read-foreign N c port s.sets f.octets f.origin (message_of f.octets) n end h.sets i refl))
   turned-true f (Some k) i e =
       let d = delivers_copy (N.clock c) (length s.sets.ports) (delivery port f) k e in
@@ -137,7 +131,7 @@ pub turns-honest : (N : Network) (r : RunningNetwork) (c port : ℕ) (f : Frame)
     → IsHonest N (after_turn N r c port f)
 turns-honest N r c port f n h end i = record {
   clocks = λ d there. at_place (λ j (s : State). IsHonestClock (ports N j) s) r.clock c (turn (N.clock c) (r.clock c) port f.octets).next d
-      (turn-honest (N.clock c) (ports N c) (r.clock c) port f.octets (λ v e. (i v e).0) (h.clocks c end.0)) (h.clocks d there);
+      (turn-next (IsHonestClock (ports N c)) (N.clock c) (r.clock c) port f.octets (h.clocks c end.0) (λ v e. next-honest (N.clock c) (ports N c) (r.clock c) v _ (i v e).0 (h.clocks c end.0))) (h.clocks d there);
   sessions = h.sessions;
   frames = grind (arith, all_append, frames-true);
 }
@@ -164,7 +158,7 @@ sent-by : (N : Network) (t : ℕ) (value : SessionValue) (o : Option RequestValu
 sent-by N t value None v n place h u e = absurd (cc)
 sent-by N t value (Some q) v n place h u e =
     let made : request_message value.setup value.domain value.issued q ≡ v = same_Some _ v e in
-    let is : v ≡ request_message (N.session t).setup value.domain value.issued q = grind (arith) in
+    let is : v ≡ request_message (N.session t).setup value.domain value.issued q = grind arith in
     let asked = h.asked q u in
     let p = ports N (N.session t).target in
     let first : Message = request_message (N.session t).setup value.domain value.issued q in grind (arith, canonical-message, request-valid, request-fits)
@@ -182,11 +176,6 @@ pub sent-all : (Q : Held → Type 0) (N : Network) (t k : ℕ) (o : Option Messa
 sent-all Q N t k None n each = tt
 sent-all Q N t k (Some v) n each = all_made (HasEnd N) Q _ (each v refl) (peers N.links (AtSession t)) (has_peers N (AtSession t) n)
 
-sent-true : (N : Network) (t : ℕ) (value : SessionValue) (v : Message)
-    → t < N.sessions → IsSentBy N t value v
-    → IsTrue N (canonical v) (RequestOf t value.issued)
-sent-true N t value v place s = grind (arith, message-true, IsTrueTo)
-
 pub sends-honest : (N : Network) (r : RunningNetwork) (t : ℕ)
     → IsNetwork N → IsHonest N r → t < N.sessions
     → IsHonest N (sends_in N r t)
@@ -198,7 +187,8 @@ sends-honest N r t n h place =
       sessions = base.sessions;
       frames = all_append (IsTrueFrame N) r.frames _ h.frames
           (sent-all (IsTrueFrame N) N t (r.session t).issued (due_message (r.session t)) n
-          (λ v e x he. record { end = he; says = sent-true N t (r.session t) v place (sent_by N t (r.session t) v n place value e) }));
+          (λ v e x he. let by = sent_by N t (r.session t) v n place value e in
+          record { end = he; says = grind (arith, message-true) }));
     }
 
 hears-honest : (N : Network) (r : RunningNetwork) (t : ℕ) (x : Received)
@@ -206,7 +196,7 @@ hears-honest : (N : Network) (r : RunningNetwork) (t : ℕ) (x : Received)
     → IsHonest N (hears r t x)
 hears-honest N r t (received.Ignored reason) h place = h
 hears-honest N r t (received.Answered report) h place =
-    let base = session-honest N r t (answered (r.session t)) h (record { setup = (h.sessions t place).setup; asked = λ q e. absurd (cc) }) in grind (arith)
+    let base = session-honest N r t (answered (r.session t)) h (record { setup = (h.sessions t place).setup; asked = λ q e. absurd (cc) }) in grind arith
 
 -- ---- any event
 
@@ -233,7 +223,7 @@ begins-honest N r t a n h place id e =
     let fine = (begin-not_refused (r.session t) a e).1 in
     let asked : IsAsked (ports N (N.session t).target) (ask.request_of a) =
     asked-not_refused (ports N (N.session t).target) a clock.at_most_eight id
-    (subst (λ p. ask_refusal p a ≡ None) (ap (λ (x : Setup). x.ports) value.setup ∙ session.ports) fine) in grind (arith)
+    (subst (λ p. ask_refusal p a ≡ None) (ap (λ (x : Setup). x.ports) value.setup ∙ session.ports) fine) in grind arith
 
 module _ (N : Network) (n : IsNetwork N) (r : RunningNetwork) (h : IsHonest N r) where
   pub frame-true : (k : ℕ) (x : Held) → frame_at r.frames k ≡ Some x → IsTrueFrame N x

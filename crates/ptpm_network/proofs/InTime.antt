@@ -1,9 +1,8 @@
 -- A copy that is not late lies in the window of its manager.
-use Rattle.ptpm_network.proofs.Common.{arith, by_test, ◌≡◌, ℕ, ◌<◌, ◌==◌, List, [], ◌∷◌, ◌++◌, Option, Some, None, false, refl, sym, ◌∙◌, ap, subst, eqb-true, ltb-false, append-nil, AllByRecursion, cons_option, PortIdentity, InWindow, initial_clock_state, turns, Delivery, History, RequestCopy, after_copy, applied_once, initial_history, copy_of, greatest, Clock, AreNumbered, IsInTime, IsInWindow, IsNumbered, KeepsWindow, sets_once, Event, Deliver, IsInRange, Stranger, frame_at, refusal, IsReached, AreInTime, arrives, delivery, happens, is_late_delivery, is_late_frame, run, step, strange_frame, AtPort, HasEnd, IsNetwork, Network, ports, AreFirsts, Frame, NetworkState, copies_at, initial_state, history, is_late, all_append}
+use Rattle.ptpm_network.proofs.Common.{arith, by_test, ◌≡◌, ℕ, ◌<◌, ◌==◌, List, [], ◌∷◌, ◌++◌, Option, Some, None, false, refl, sym, ◌∙◌, ap, subst, eqb-true, ltb-false, append-nil, AllByRecursion, cons_option, PortIdentity, InWindow, Delivery, History, RequestCopy, after_copy, applied_once, initial_history, copy_of, greatest, Clock, AreNumbered, IsInTime, IsInWindow, IsNumbered, KeepsWindow, Event, Deliver, IsInRange, Stranger, refusal, IsReached, AreInTime, arrives, delivery, happens, is_late_delivery, is_late_frame, run, step, strange_frame, IsNetwork, Network, ports, AreFirsts, Frame, NetworkState, copies_at, initial_state, history, is_late, all_append}
 use Rattle.ptpm_network.proofs.Accepting.{in_step-window}
 use Rattle.ptpm_network.proofs.Arriving.{IsCopyOf, copies-elsewhere, copies-here, is_copy_of}
 use Rattle.ptpm_network.proofs.Frames.{IsHeard, heard-frame}
-use Rattle.ptpm_network.proofs.Schedule.{reached}
 use Rattle.ptpm_network.proofs.Reaching.{first-reached, frame_at-is, step-reached, after-step, after-delivery, strange-comes}
 use Rattle.ptpm_network.proofs.Steps.{InStep}
 
@@ -17,7 +16,7 @@ module _ (first : PortIdentity → ℕ) (N : Network) (w : NetworkState) (c port
   copy-numbered : IsCopyOf N w c port f copy → IsNumbered first copy
   copy-numbered of = record {
     positive = subst (λ k. 0 < k) (sym of.index) of.says.positive;
-    number = grind (arith);
+    number = grind arith;
   }
 
   pub in_window : IsNetwork N
@@ -25,20 +24,6 @@ module _ (first : PortIdentity → ℕ) (N : Network) (w : NetworkState) (c port
       → copy_of (N.clock c) (ports N c) (delivery port f) ≡ Some copy
       → IsInTime first (history N w c) copy
   in_window n r place i late e = grind (arith, is_copy_of, copy-numbered, copy-window)
-
--- a frame that was sent
-pub frame-in_window : (N : Network) (es : List Event) (first : PortIdentity → ℕ) (k c port : ℕ)
-    (f : Frame) (copy : RequestCopy)
-    → IsNetwork N → AllByRecursion IsInRange es → AreFirsts N first
-    → frame_at (run N (initial_state N) es).frames k ≡ Some f → f.end ≡ AtPort c port
-    → is_late (run N (initial_state N) es) f.origin ≡ false
-    → copy_of (N.clock c) (ports N c) (delivery port f) ≡ Some copy
-    → IsInTime first (history N (run N (initial_state N) es) c) copy
-frame-in_window N es first k c port f copy n i firsts e end late is =
-    let w : NetworkState = run N (initial_state N) es in
-    let r = reached N es n i in
-    let frame = frame_at-is N w k f r e in
-    in_window first N w c port f copy firsts n r (subst (HasEnd N) end frame.end).0 (heard-frame N w f.octets f.origin frame.origin) late is
 
 -- ---- all copies that came in at a clock
 
@@ -56,43 +41,37 @@ record Keeping (N : Network) (first : PortIdentity → ℕ) (A : Type 0) (c : �
 abbrev Keeps : Network → (PortIdentity → ℕ) → Type 0 → NetworkState → Type 0
 Keeps N first A w = (c : ℕ) → c < N.clocks → Keeping N first A c (copies_at N w c)
 
-keeping-by : (N : Network) (first : PortIdentity → ℕ) (A : Type 0) (w : NetworkState) (c port : ℕ)
-    (f : Frame) (o : Option RequestCopy)
-    → IsNetwork N → IsReached N w → c < N.clocks → IsHeard N w f.octets f.origin
-    → (A → is_late w f.origin ≡ false) → copy_of (N.clock c) (ports N c) (delivery port f) ≡ o
-    → Keeping N first A c (copies_at N w c)
-    → Keeping N first A c (copies_at N w c ++ cons_option o [])
-keeping-by N first A w c port f None n r place i late e keeps = subst (Keeping N first A c) (sym (append-nil (copies_at N w c))) keeps
-keeping-by N first A w c port f (Some copy) n r place i late e keeps =
-    let of = is_copy_of N w c port f copy n r place i e in grind (arith, all_append, copy-numbered, window-append, copy-window)
+module _ (N : Network) (first : PortIdentity → ℕ) (A : Type 0) (w : NetworkState) (n : IsNetwork N) (r : IsReached N w) where
+  keeping-by : (c port : ℕ) (f : Frame) (o : Option RequestCopy)
+      → c < N.clocks → IsHeard N w f.octets f.origin → (A → is_late w f.origin ≡ false)
+      → copy_of (N.clock c) (ports N c) (delivery port f) ≡ o
+      → Keeping N first A c (copies_at N w c)
+      → Keeping N first A c (copies_at N w c ++ cons_option o [])
+  keeping-by c port f None place i late e keeps = subst (Keeping N first A c) (sym (append-nil (copies_at N w c))) keeps
+  keeping-by c port f (Some copy) place i late e keeps =
+      let of = is_copy_of N w c port f copy n r place i e in grind (arith, all_append, copy-numbered, window-append, copy-window)
 
-keeps-arriving : (N : Network) (first : PortIdentity → ℕ) (A : Type 0) (w : NetworkState)
-    (d port : ℕ) (f : Frame)
-    → IsNetwork N → IsReached N w → IsHeard N w f.octets f.origin → (A → is_late w f.origin ≡ false)
-    → Keeps N first A w
-    → Keeps N first A (arrives w d (delivery port f))
-keeps-arriving N first A w d port f n r i late keeps c place =
-    let x : Delivery = delivery port f in
-    by_test (c == d)
-    (λ y. let cd : c ≡ d = eqb-true c d y in
-    let there : d < N.clocks = subst (λ j. j < N.clocks) cd place in
-    subst (λ j. Keeping N first A j (copies_at N (arrives w d x) j)) (sym cd)
-    (subst (Keeping N first A d) (sym (copies-here N w d x))
-    (keeping-by N first A w d port f (copy_of (N.clock d) (ports N d) x) n r there i late refl (keeps d there))))
-    (λ o. grind (arith, copies-elsewhere))
+  keeps-arriving : (d port : ℕ) (f : Frame)
+      → IsHeard N w f.octets f.origin → (A → is_late w f.origin ≡ false) → Keeps N first A w
+      → Keeps N first A (arrives w d (delivery port f))
+  keeps-arriving d port f i late keeps c place =
+      let x : Delivery = delivery port f in
+      by_test (c == d)
+      (λ y. let there : d < N.clocks = rw (eqb-true c d y) at place in
+      rw (eqb-true c d y, copies-here N w d x) (keeping-by d port f (copy_of (N.clock d) (ports N d) x) there i late refl (keeps d there)))
+      (λ o. rw (copies-elsewhere N w d x c o) (keeps c place))
 
-keeps-happens : (N : Network) (first : PortIdentity → ℕ) (A : Type 0) (w : NetworkState) (e : Event)
-    → IsNetwork N → IsReached N w → IsInRange e → refusal N w e ≡ None
-    → (A → is_late_delivery w e ≡ false) → Keeps N first A w
-    → Keeps N first A (happens N w e)
-unfolding refusal happens
-keeps-happens N first A w (Deliver k) n r i e late keeps =
-    after-delivery (Keeps N first A) N w k keeps
-    (λ f at c port end. keeps-arriving N first A w c port f n r (heard-frame N w f.octets f.origin (frame_at-is N w k f r at).origin) (λ a. sym (ap (is_late_frame w) at) ∙ late a) keeps)
-    (λ f at s end. keeps)
-keeps-happens N first A w (Stranger d port datagram) n r i e late keeps =
-    keeps-arriving N first A w d port (strange_frame d port datagram) n r (strange-comes N w d port datagram i e).1 (λ a. refl) keeps
-keeps-happens N first A w _ n r i e late keeps = keeps
+  keeps-happens : (e : Event)
+      → IsInRange e → refusal N w e ≡ None → (A → is_late_delivery w e ≡ false) → Keeps N first A w
+      → Keeps N first A (happens N w e)
+  unfolding refusal happens
+  keeps-happens (Deliver k) i e late keeps =
+      after-delivery (Keeps N first A) N w k keeps
+      (λ f at c port end. keeps-arriving c port f (heard-frame N w f.octets f.origin (frame_at-is N w k f r at).origin) (λ a. sym (ap (is_late_frame w) at) ∙ late a) keeps)
+      (λ f at s end. keeps)
+  keeps-happens (Stranger d port datagram) i e late keeps =
+      keeps-arriving d port (strange_frame d port datagram) (strange-comes N w d port datagram i e).1 (λ a. refl) keeps
+  keeps-happens _ i e late keeps = keeps
 
 keeps-run : (N : Network) (first : PortIdentity → ℕ) (A : Type 0) (w : NetworkState)
     (es : List Event)
@@ -120,10 +99,3 @@ pub copies-in_window : (N : Network) (es : List Event) (c : ℕ)
 copies-in_window N es c n i late place =
     (keeps-run N (λ m. 0) (AreInTime N (initial_state N) es) (initial_state N) es n (first-reached N n) i (λ a. a)
     (keeps-first N (λ m. 0) (AreInTime N (initial_state N) es)) c place).window late
-
-pub turns-once : (N : Network) (es : List Event) (first : PortIdentity → ℕ) (c : ℕ)
-    → IsNetwork N → AllByRecursion IsInRange es → AreFirsts N first
-    → AreInTime N (initial_state N) es → c < N.clocks
-    → (turns (N.clock c) (initial_clock_state (N.start c)) ((run N (initial_state N) es).arrivals c)).sets ≡ (history N (run N (initial_state N) es) c).sets
-turns-once N es first c n i firsts late place =
-    sets_once (N.clock c) first (N.start c) ((run N (initial_state N) es).arrivals c) (copies-numbered N es first c n i firsts place) (copies-in_window N es c n i late place)

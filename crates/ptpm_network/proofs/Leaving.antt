@@ -1,8 +1,8 @@
 -- What events leave as it was: frames stay, and a way stays one where its clocks and its session do.
-use Rattle.ptpm_network.proofs.Common.{arith, ◌≡◌, ℕ, List, [], ◌∷◌, Deliver, Event, Send, Stranger, happens, run, step, End, Network, NetworkState, Frame, Origin, history, issued, Hop, all_weaker}
+use Rattle.ptpm_network.proofs.Common.{arith, ◌≡◌, ℕ, List, [], ◌∷◌, Deliver, Event, Send, Stranger, happens, run, step, Network, NetworkState, Frame, history, issued, Hop, all_weaker}
 use Rattle.ptpm_network.specs.Way.{IsWayIn}
 use Rattle.ptpm_network.proofs.Carrying.{IsIn, in_left}
-use Rattle.ptpm_network.proofs.RoundTrip.{Comes, Hears, passes-stays}
+use Rattle.ptpm_network.proofs.RoundTrip.{Hears}
 use Rattle.ptpm_network.proofs.Reaching.{after-step, after-delivery}
 
 -- ---- frames stay
@@ -22,13 +22,6 @@ pub run-frames : (N : Network) (w : NetworkState) (es : List Event) (x : Frame)
 run-frames N w [] x p = p
 run-frames N w (e ∷ es) x p = run-frames N (step N w e) es x (after-step (λ (u : NetworkState). IsIn u.frames x) N w e p (λ none. happens-frames N w x e p))
 
--- so what is on its way to an end stays so
-pub run-comes : (N : Network) (w : NetworkState) (es : List Event) (end : End) (o : Origin)
-    (domain hops : ℕ)
-    → Comes w end o domain hops
-    → Comes (run N w es) end o domain hops
-run-comes N w es end o domain hops c = search (run-frames N w es c.frame c.held)
-
 -- ---- a way stays one
 
 -- where all clocks but the target are as they were, and the target hears the last request
@@ -36,4 +29,4 @@ pub way-stays : (N : Network) (w u : NetworkState) (s domain port : ℕ) (hops :
     → ((d : ℕ) → (d ≡ (N.session s).target → ⊥) → history N u d ≡ history N w d)
     → Hears N u s (issued u s) domain → IsWayIn N w s domain hops port
     → IsWayIn N u s domain hops port
-way-stays N w u s domain port hops same hears way = grind (arith, all_weaker, passes-stays)
+way-stays N w u s domain port hops same hears way = grind (arith, all_weaker)

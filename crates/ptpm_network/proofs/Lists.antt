@@ -1,6 +1,6 @@
 -- What holds of each element of a list, and functions of places that change at one.
 use Rattle.std.proofs.Common.{suc, zero, ◌≡◌, ℕ, ◌*◌, ◌<◌, ◌≤◌, ◌==◌, not, List, [], ◌∷◌, ◌++◌, Some, Bool, true, false, refl, sym, subst, length, length-append, arith, slice_get, map, filter}
-use Rattle.std.proofs.lemmas.Bool.{cond-true, cond-false, eqb-true, true≢false}
+use Rattle.std.proofs.lemmas.Bool.{cond-true, cond-false, eqb-false, eqb-true, true≢false, ne_eqb}
 use Rattle.std.specs.Prelude.{flat_map}
 use Rattle.std.specs.List.{AllByRecursion, list_any}
 use Rattle.ptpm_network.specs.Events.{frame_at}
@@ -12,6 +12,10 @@ pub all_weaker : {X : Type 0} (P Q : X → Type 0)
     → AllByRecursion Q xs
 all_weaker P Q f [] a = tt
 all_weaker P Q f (x ∷ xs) a = (f x a.0, all_weaker P Q f xs a.1)
+
+pub all_of : {X : Type 0} (P : X → Type 0) → ((x : X) → P x) → (xs : List X) → AllByRecursion P xs
+all_of P f [] = tt
+all_of P f (x ∷ xs) = (f x, all_of P f xs)
 
 pub all_append : {X : Type 0} (P : X → Type 0)
     → (xs ys : List X) → AllByRecursion P xs → AllByRecursion P ys
@@ -87,12 +91,15 @@ pub at_places : {A B : Type 0} (P : ℕ → A → B → Type 0) (f : ℕ → A) 
     → P j (with_place f i a j) (with_place g i b j)
 at_places P f g i a b j new old = grind (arith, eqb-true)
 
+pub flipped : (a b : ℕ) → a == b ≡ false → b == a ≡ false
+flipped a b n = ne_eqb b a (λ (e : b ≡ a). eqb-false a b n (sym e))
+
 -- ---- how many there are
 
 pub filter-few : {X : Type 0} (test : X → Bool) (xs : List X) → length (filter test xs) ≤ length xs
 filter-few test [] = omega arith
 filter-few test (x ∷ xs) =
-    let rest : length (filter test xs) ≤ length xs = filter-few test xs in grind (arith)
+    let rest : length (filter test xs) ≤ length xs = filter-few test xs in grind arith
 
 -- one less at least, where one is left out
 pub filter-fewer : {X : Type 0} (test : X → Bool) (xs : List X)

@@ -5,10 +5,10 @@ use Rattle.ptpm_network.specs.Way.{IsWayIn}
 use Rattle.ptpm_network.specs.Machine as machine
 use Rattle.ptpm_network.specs.Meanwhile.{ComeInMeanwhile, LeavesWay}
 use Rattle.ptpm_network.proofs.Carrying.{MakesAtMost, few-made}
-use Rattle.ptpm_network.proofs.Leaving.{run-comes, way-stays}
+use Rattle.ptpm_network.proofs.Leaving.{way-stays, run-frames}
 use Rattle.ptpm_network.proofs.Reaching.{run-reached}
 use Rattle.ptpm_network.proofs.RoundTrip.{Comes, HandedOn, Hears, Moved, first_end, hears-stays, leads-first, pass_back, pass_there, reply}
-use Rattle.ptpm_network.proofs.Sending.{IsSameSession, Sent, reported-since, same-moved, same-sent, send-step, sent-comes, sent-few, tell}
+use Rattle.ptpm_network.proofs.Sending.{IsSameSession, Sent, send-step, sent-comes, sent-few, tell, sent-session}
 use Rattle.ptpm_network.proofs.Steps.{sends-reached}
 use Rattle.ptpm_network.proofs.Taking.{run-append}
 
@@ -27,7 +27,7 @@ module _ (N : Network) (w v u : NetworkState) (s : ℕ) (hops : List Hop) (port 
       → made ≡ most * suc n → IsOpen N w v s hops port made → Moved N s v u most
       → Hears N u s (issued w s) (w.session s).domain
       → IsOpen N w u s hops port (most * n)
-  open-moved most n e o m hears = grind (arith, same-moved, way-stays, Hears)
+  open-moved most n e o m hears = grind (arith, IsSameSession, way-stays, Hears)
 
 -- ---- one message after another
 
@@ -43,7 +43,7 @@ module _ (N : Network) (w : NetworkState) (s : ℕ) (hops : List Hop) (port made
   others-comes : (e : End) (o : Origin) (domain left : ℕ)
       → Comes (run N w past) e o domain left
       → Comes (run N w (past ++ others)) e o domain left
-  others-comes e o domain left c = subst (λ (v : NetworkState). Comes v e o domain left) (sym (run-append N w past others)) (run-comes N (run N w past) others e o domain left c)
+  others-comes e o domain left c = rw (run-append N w past others) (search (run-frames N (run N w past) others c.frame c.held))
 
 -- A message of the request is on its way to this end, and whatever happens it goes on from there to these.
 abbrev Goes : Network → NetworkState → ℕ → List Hop → ℕ → ℕ → Origin → End → List End → ℕ → Type 0
@@ -84,11 +84,6 @@ behind (h ∷ hops) to = visited hops to ++ AtPort h.clock h.far ∷ []
 pub visited-is : (hops : List Hop) (to : End) → first_end hops to ∷ behind hops to ≡ visited hops to
 visited-is [] to = refl
 visited-is (h ∷ hops) to = refl
-
-behind-is : (hops : List Hop) (to far : End) (rest : List End)
-    → first_end hops to ∷ (behind hops to ++ far ∷ rest)
-    ≡ (visited hops to ++ far ∷ []) ++ rest
-behind-is hops to far rest = ap (λ es. es ++ far ∷ rest) (visited-is hops to) ∙ sym (append_assoc (visited hops to) (far ∷ []) rest)
 
 -- the clocks of a part of the way
 abbrev AreOf : Network → NetworkState → ℕ → List Hop → List Hop → Type 0
@@ -132,7 +127,7 @@ module _ (N : Network) (w : NetworkState) (s : ℕ) (all : List Hop) (port ends 
       let first : End = first_end hops target in
       let link = leads-first N hops far target leads.1 in
       let on = goes hops (left - 1) (lost + 1) far (from ∷ es) (λ u passes. (of u passes).1) (omega (arith, le, sum)) (omega (arith, le)) leads.1 (goes-back h hops from es lost of leads.0 next) in
-      subst (λ ls. Goes N w s all port ends (RequestOf s (issued w s)) (AtPort h.clock h.near) ls left) (behind-is hops target far (from ∷ es))
+      subst (λ ls. Goes N w s all port ends (RequestOf s (issued w s)) (AtPort h.clock h.near) ls left) (ap (λ ls. ls ++ far ∷ from ∷ es) (visited-is hops target) ∙ sym (append_assoc (visited hops target) (far ∷ []) (from ∷ es)))
       (hand-on N w s all port ends (AtPort h.clock h.near) first (behind hops target ++ far ∷ from ∷ es) (RequestOf s (issued w s)) (RequestOf s (issued w s)) left (left - 1) n
       (λ u o comes. grind (arith, pass_there, open-room, open-hears)) on)
 
@@ -145,7 +140,7 @@ module _ (N : Network) (w : NetworkState) (s : ℕ) (all : List Hop) (port ends 
       let o : IsOpen N w v s all port made = others-open N w s all port made past others n range clear leaves in
       let told = tell N s v (issued w s) (w.session s).domain 0 n place o.reached (omega (arith, o.room)) o.same.counted (o.same.idle ∙ busy) o.same.domain
       (others-comes N w s all port made past others (AtSession s) (ReplyTo s (issued w s)) (w.session s).domain 0 comes) in
-      let u : NetworkState = step N v (Deliver told.number) in grind (arith, run-append, reported-since)
+      let h = told.reported in grind (arith, run-append)
 
 -- ---- from the sending on
 
@@ -156,10 +151,6 @@ made-along most (h ∷ hops) to =
     let size : length (visited hops to ++ AtPort h.clock h.far ∷ []) ≡ suc (length (visited hops to)) = omega (arith, length-append (visited hops to) (AtPort h.clock h.far ∷ [])) in
     omega (arith, made-along most hops to, ap (λ n. most * n) size)
 
-behind-length : (hops : List Hop) (to last : End)
-    → length (behind hops to ++ last ∷ []) ≡ length (visited hops to)
-behind-length hops to last = omega (arith, length-append (behind hops to) (last ∷ []), ap length (visited-is hops to))
-
 -- once it is sent
 open-sent : (N : Network) (w : NetworkState) (s : ℕ) (hops : List Hop) (port most : ℕ)
     → IsNetwork N → IsReached N w → s < N.sessions → MakesAtMost N most → Sent N w s
@@ -167,7 +158,8 @@ open-sent : (N : Network) (w : NetworkState) (s : ℕ) (hops : List Hop) (port m
     → IsOpen N w (machine.sends N w s) s hops port (made_along most hops)
 open-sent N w s hops port most n r place few sent way room =
     let u : NetworkState = machine.sends N w s in
-    let same = same-sent N w s in
+    let own = sent-session N w s in
+    let same : IsSameSession w u s = search own in
     let hears : Hears N u s (issued u s) (w.session s).domain = grind (arith, Hears, hears-stays) in
     record {
       reached = sends-reached N w s n place r;
@@ -187,7 +179,9 @@ sent-goes N w s hops port ends n r place all busy sent goes' way room =
     let few = few-made N ends all in
     let to : End = AtPort (N.session s).target port in
     let is : step N w (Send s) ≡ machine.sends N w s = send-step N w s goes' in
-    let made : made_along most hops ≡ most * length (behind hops to ++ AtSession s ∷ []) = made-along most hops to ∙ ap (λ k. most * k) (sym (behind-length hops to (AtSession s))) in
+    let made : made_along most hops ≡ most * length (behind hops to ++ AtSession s ∷ []) =
+    let size : length (visited hops to) ≡ length (behind hops to ++ AtSession s ∷ []) = omega (arith, length-append (behind hops to) (AtSession s ∷ []), ap length (visited-is hops to)) in
+    made-along most hops to ∙ ap (λ k. most * k) size in
     let clear : IsOpen N w (step N w (Send s)) s hops port (most * length (behind hops to ++ AtSession s ∷ [])) = grind (arith, open-sent) in
     let comes = sent-comes N w s (first_end hops to) sent (leads-first N hops (AtSession s) to way.leads).there in
     let sum : 0 + (N.session s).setup.hops ≡ (N.session s).setup.hops = omega arith in

@@ -1,8 +1,10 @@
 -- What requests and replies say as octets, and what stays of them as they are passed on.
-use Rattle.ptpm_network.proofs.Common.{by_test, arith, ◌≡◌, ℕ, ◌<◌, ◌-◌, ◌^◌, ◌==◌, ◌&&◌, nat_lt, not, List, [], ◌∷◌, Option, Some, None, Bool, true, refl, sym, ◌∙◌, ap, subst, length, and_parts, cond-true, cond-false, ltb-true, append-nil, get_or-set_other, get_or-set_same, length-set, take_all, map, slice_set, AllByRecursion, ErrorId, ClockIdentity, Action, Message, canonical, same_clock, boundary_hops, message_length, message_octets, Fits, IsValid, error_number, action_of, is_reply, message_of, Spells, canonical_octets, canonical_spells, number_at-octets, octet-take, message_of-some, message_of-spells, message_size, spells-message_of, DataSetsValue, may_forward, Answer, Outcome, ReplyValue, RequestValue, Heard, reply_action-is_reply, answer_body, reply_message, egress_ports, forwarded, forwarded_by, is_forwarded, with_less_hop, request_message, Answers, IsSendable, IsAsked, IsMessage, IsNetwork, Network}
+use Rattle.ptpm_network.proofs.Common.{by_test, arith, ◌≡◌, ℕ, ◌<◌, ◌-◌, ◌^◌, List, [], Option, Some, None, true, refl, sym, ◌∙◌, ap, subst, length, cond-true, cond-false, ltb-true, append-nil, get_or-set_other, get_or-set_same, length-set, take_all, slice_set, AllByRecursion, ErrorId, ClockIdentity, Action, Message, canonical, boundary_hops, message_length, message_octets, Fits, IsValid, error_number, action_of, is_reply, message_of, Spells, canonical_octets, canonical_spells, number_at-octets, octet-take, message_of-some, message_of-spells, message_size, spells-message_of, DataSetsValue, Answer, Outcome, ReplyValue, RequestValue, Heard, reply_action-is_reply, answer_body, reply_message, egress_ports, forwarded, forwarded_by, is_forwarded, with_less_hop, request_message, Answers, IsSendable, IsAsked, IsMessage, IsNetwork, Network, all_made}
 use Rattle.ptpm_codec.specs.declared.error.ErrorId.TheVariants as errors
 use Rattle.ptpm_codec.proofs.RewritingLaws.{less_hop_message, set_hops}
 use Rattle.ptpm_data.specs.Reply as reply
+use Rattle.ptpm_network.proofs.Tests.{and_first, and_rest}
+use Rattle.ptpm_network.proofs.Lists.{all_of}
 
 -- ---- canonical spellings
 
@@ -50,24 +52,15 @@ pub record IsPassedOn (d : List ℕ) (sent : ℕ × List ℕ) : Type 0 where
   pub hop : 0 < message.hops
   pub octets : sent.1 ≡ with_less_hop d
 
-all_pairs : {X Y : Type 0} (P : X × Y → Type 0) (y : Y)
-    → ((x : X) → P (x, y)) → (xs : List X)
-    → AllByRecursion P (map (λ x. (x, y)) xs)
-all_pairs P y f [] = tt
-all_pairs P y f (x ∷ xs) = (f x, all_pairs P y f xs)
-
-has_hop : (a b c d e f : Bool) → (a && (b && (c && (d && (e && f))))) ≡ true → e ≡ true
-has_hop a b c d e f y = (and_parts e f (and_parts d (e && f) (and_parts c (d && (e && f)) (and_parts b (c && (d && (e && f))) (and_parts a (b && (c && (d && (e && f)))) y).1).1).1).1).0
-
 passed_on-by : (me : ClockIdentity) (port : ℕ) (sets : DataSetsValue) (d : List ℕ)
     (o : Option Message)
     → message_of d ≡ o
     → AllByRecursion (IsPassedOn d) (forwarded_by me port sets d o)
 passed_on-by me port sets d None e = tt
 passed_on-by me port sets d (Some v) e = by_test (is_forwarded me port sets v)
-    (λ y. let hop = ltb-true 0 v.hops (has_hop (v.sdo == 0) (v.domain == sets.default.domain) (not (same_clock v.source.clock me)) (not (same_clock v.target.clock me)) (nat_lt 0 v.hops) (may_forward port sets) y) in
+    (λ y. let hop = ltb-true 0 v.hops (search (and_first, and_rest)) in
     subst (AllByRecursion (IsPassedOn d)) (sym (cond-true _ _ _ y))
-    (all_pairs (IsPassedOn d) (with_less_hop d) (λ p. record { message = v; read = e; hop = hop; octets = refl }) (egress_ports port sets)))
+    (all_made (λ p. Unit {0}) (IsPassedOn d) _ (λ p is. record { message = v; read = e; hop = hop; octets = refl }) (egress_ports port sets) (all_of _ (λ p. tt) _)))
     (λ n. grind (arith, cond-false))
 
 pub passed_on : (me : ClockIdentity) (port : ℕ) (sets : DataSetsValue) (d : List ℕ)
@@ -90,7 +83,7 @@ module _ (N : Network) (s k domain hops ports : ℕ) (q : RequestValue) where
       → Fits (request_at N s k domain hops q)
   request-fits n place asked =
       let session = n.are_sessions s place in
-      let clock = n.are_clocks (N.session s).target session.exists in grind (arith)
+      let clock = n.are_clocks (N.session s).target session.exists in grind arith
 
 -- ---- replies
 

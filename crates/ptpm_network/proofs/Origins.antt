@@ -1,6 +1,6 @@
 -- What a message of each origin is: one with a session's identity is its own request, and one that is told to a session is a reply
 -- to it. That holds of what comes in in the machine, and of every frame of a running network, in time or late.
-use Rattle.ptpm_network.proofs.Common.{arith, ◌≡◌, ℕ, ◌<◌, List, Some, true, false, sym, ◌∙◌, not-true, true≢false, same_Some, Message, Fits, action_of, is_reply, message_of, copy_parts, is_copy, IsForeign, IsForeignFrame, IsMessage, IsReached, IsNetwork, Network, manager, NetworkState, Origin, RequestOf, ReplyTo, Neither}
+use Rattle.ptpm_network.proofs.Common.{arith, ◌≡◌, ℕ, ◌<◌, List, Some, true, false, sym, ◌∙◌, not-true, true≢false, same_Some, Message, Fits, action_of, is_reply, message_of, copy_parts, is_copy, IsForeign, IsMessage, IsReached, IsNetwork, Network, manager, NetworkState, Origin, RequestOf, ReplyTo, Neither}
 use Rattle.ptpm_network.proofs.Frames.{IsHeard, says_reply, says_request}
 use Rattle.ptpm_network.proofs.Messages.{answer_body-is_reply, reply_at, request_at}
 
@@ -30,9 +30,6 @@ pub message-true : (N : Network) (octets : List ℕ) (u : Message) (o : Origin)
     → IsMessage octets u → IsTrueTo N u o
     → IsTrue N octets o
 message-true N octets u o m t v e = grind (arith, same_Some)
-
-pub foreign-true : (N : Network) (octets : List ℕ) → IsForeignFrame N octets → IsTrue N octets Neither
-foreign-true N octets i = message-true N octets i.message Neither i.is i.foreign
 
 -- what comes in in the machine is true to its origin
 pub heard-true : (N : Network) (w : NetworkState) (octets : List ℕ) (o : Origin)

@@ -113,7 +113,7 @@ module _ (first p : ℕ) (c : Clock) (s : State) (port : ℕ) (octets : List ℕ
       let kept : kept_reply m k (new_entry ∷ accepted) ≡ Some new_entry = grind (arith, cond-true, and_from, eq-eqb) in
       let at : IsLast m first (new_entry ∷ accepted) (accepted_entry c s v) = grind (arith, accepted_at, accepted_entry) in
       record {
-        gains = grind (arith);
+        gains = grind arith;
         last = grind (arith, accepted_kept);
         replies = inr (record { entry = new_entry; kept = ap (kept_reply m k) here ∙ kept; is = d.replies });
         latest = λ e. absurd (omega arith);
@@ -140,7 +140,7 @@ module _ (first p : ℕ) (c : Clock) (s : State) (port : ℕ) (octets : List ℕ
       let was = o.step.without_gap k o.positive (omega (arith, same)) in
       let kept : kept_reply m k accepted ≡ Some (accepted_at m (greatest m accepted) e) = ap (λ i. kept_reply m i accepted) same ∙ last.kept in
       let entry : was.entry ≡ accepted_at m (greatest m accepted) e = same_Some was.entry _ (sym was.is ∙ kept) in
-      let request : e.request ≡ request_of v = grind (arith) in
+      let request : e.request ≡ request_of v = grind arith in
       let repeat : look_at (get s.entries m) v.number (request_of v) ≡ looks.Repeat =
       looked Same (order_of-same (greatest m accepted) k (sym same))
       ∙ ap (λ (x : Option Entry). look_by Same (asks_same x (request_of v))) is

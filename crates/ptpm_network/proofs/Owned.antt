@@ -72,7 +72,7 @@ told_of N s value reports a octets o report n place takes i says time setup issu
     let said = reply_says N s k a.accepted (state_of value reports a) n place step octets (subst (IsSaid N s a octets) own.1 says refl) in
     let same = same_read octets takes.message _ said.message takes.read in
     let number : takes.message.number ≡ number_of (N.session s).setup.first k = ap (λ (u : Message). u.number) same ∙ said.number in
-    let last : k ≡ length a.begun = grind (arith, takes-last) in grind (arith)
+    let last : k ≡ length a.begun = grind (arith, takes-last) in grind arith
 
 module _ (N : Network) (s : ℕ) (value : SessionValue) (reports : List Report) (clock : State) (frames : List Held) (a : Account) (at : IsOwn N s value reports clock frames a) where
   pub told : length reports ≤ length a.begun
@@ -106,7 +106,7 @@ module _ (N : Network) (s : ℕ) (value : SessionValue) (reports : List Report) 
   pub own-message : (v : Message) → IsSentBy N s value v → IsRequestFrame (N.session s).setup a.begun value.issued (canonical v)
   own-message v by =
       let issued : length a.begun ≡ value.issued = sym (ap (λ (x : SessionValue). x.issued) at.value_is) in
-      let same : request_message (N.session s).setup value.domain (length a.begun) by.request ≡ v = grind (arith) in
+      let same : request_message (N.session s).setup value.domain (length a.begun) by.request ≡ v = grind arith in
       subst (λ i. IsRequestFrame (N.session s).setup a.begun i (canonical v)) issued
       (subst (λ (x : Message). IsRequestFrame (N.session s).setup a.begun (length a.begun) (canonical x)) same
       (request-sent (N.session s) (state_of value reports a) by.request (sym (ap (λ (x : SessionValue). x.unanswered) at.value_is) ∙ by.unanswered)))

@@ -1,5 +1,5 @@
 -- Every event keeps the invariant, and so it holds after every schedule.
-use Rattle.ptpm_network.proofs.Common.{arith, ◌≡◌, ℕ, ◌<◌, ◌^◌, ◌==◌, ◌&&◌, nat_lt, not, List, [], ◌∷◌, Option, Some, None, true, refl, subst, length, and_parts, cond-true, cond-false, eqb-true, eqb-false, leb-true, ltb-true, not-false, not-true, same_Some, nat_le, AllByRecursion, first_of-none, option_or-none, Message, message_of, kept_reply, Ask, Report, ask_refusal, outcome_in, begin_refusal, BeginRefused, Begin, Deliver, Event, Forged, IsInRange, NoSuchName, Resume, Retune, Send, Stranger, begin_refused, forged, frame_at, is_forged, no_port, no_room, no_session, refusal, IsAsked, IsFrame, IsOfOrigin, IsReached, delivered, happens, is_answer, report_from, reported, run, step, strange_frame, told_by, with_session, AtPort, AtSession, HasEnd, IsNetwork, Network, manager, ports, Frame, NetworkState, Origin, RequestOf, ReplyTo, Neither, SessionState, accepted_at_target, initial_state, is_idle, issued, session_value, frame_at-all, get_append, le_trans, octet, delivered_at_clock}
+use Rattle.ptpm_network.proofs.Common.{arith, ◌≡◌, ℕ, ◌<◌, ◌^◌, nat_lt, not, List, [], ◌∷◌, Option, Some, None, true, refl, subst, length, and_parts, cond-true, cond-false, eqb-true, eqb-false, leb-true, ltb-true, not-false, not-true, same_Some, nat_le, AllByRecursion, first_of-none, option_or-none, Message, message_of, kept_reply, Ask, Report, ask_refusal, outcome_in, begin_refusal, BeginRefused, Begin, Deliver, Event, Forged, IsInRange, NoSuchName, Resume, Retune, Send, Stranger, begin_refused, forged, frame_at, is_forged, no_port, no_room, no_session, refusal, IsAsked, IsFrame, IsOfOrigin, IsReached, delivered, happens, is_answer, report_from, reported, run, step, strange_frame, told_by, with_session, AtPort, AtSession, HasEnd, IsNetwork, Network, manager, ports, Frame, NetworkState, Origin, RequestOf, ReplyTo, Neither, SessionState, accepted_at_target, initial_state, issued, session_value, frame_at-all, get_append, le_trans, octet, delivered_at_clock}
 use Rattle.ptpm_manager.specs.Ask as ask
 use Rattle.ptpm_network.proofs.Accepting.{IsToldOf, in_step-begun, in_step-reported}
 use Rattle.ptpm_network.proofs.Frames.{heard-frame, says_reply, IsHeard}
@@ -9,6 +9,7 @@ use Rattle.ptpm_network.proofs.Steps.{sends-reached, session-changes, session-se
 use Rattle.ptpm_network.proofs.Strangers.{strange-message}
 use Rattle.ptpm_network.proofs.Unnumbered.{delivered_at_clock-reached}
 use Rattle.ptpm_network.specs.Machine.{delivered_at_session}
+use Rattle.ptpm_network.proofs.Tests.{and_first, and_rest}
 
 -- ---- a frame comes in at a session
 
@@ -33,12 +34,10 @@ reports-by N w s octets (RequestOf t k) r n reached i y e = absurd (cc)
 reports-by N w s octets Neither r n reached i y e = absurd (cc)
 reports-by N w s octets (ReplyTo t k) r n reached i y e =
     let says = says_reply N w t k octets n reached i in
-    let outer = and_parts (t == s) (k == length (w.session s).begun && not (is_idle (w.session s))) y in
-    let inner = and_parts (k == length (w.session s).begun) (not (is_idle (w.session s))) outer.1 in
-    let ts : t ≡ s = eqb-true t s outer.0 in
-    let last : k ≡ issued w s = eqb-true k (issued w s) inner.0 in
+    let ts : t ≡ s = eqb-true t s (search and_first) in
+    let last : k ≡ issued w s = eqb-true k (issued w s) (search (and_first, and_rest)) in
     let told = told-message (w.session s) (message_of octets) (reply_at (N.session t).setup.target says.heard says.entry.reply says.ingress says.hops says.answer) r says.message.read e in
-    let kept : kept_reply (manager N s) k (accepted_at_target N w s) ≡ Some says.entry = grind (arith) in grind (arith, eqb-false, not-true)
+    let kept : kept_reply (manager N s) k (accepted_at_target N w s) ≡ Some says.entry = grind arith in grind (arith, eqb-false, not-true, and_first, and_rest)
 
 pub reports_of_frame : (N : Network) (w : NetworkState) (s : ℕ) (f : Frame) (r : Report)
     → IsNetwork N → IsReached N w → IsOfOrigin N w f.octets f.origin
@@ -143,7 +142,7 @@ run-reached N w (e ∷ es) n i r = run-reached N (step N w e) es n i.1 (step-rea
 
 pub first-reached : (N : Network) → IsNetwork N → IsReached N (initial_state N)
 first-reached N n = record {
-  sessions = grind (arith);
+  sessions = grind arith;
   clocks = λ c place. (n.are_clocks c place).start;
   frames = tt;
 }

@@ -1,13 +1,14 @@
 -- A session tells the answer to its request by octets as the machine tells it by origins.
-use Rattle.ptpm_network.proofs.Common.{by_test, arith, ◌≡◌, ℕ, ◌<◌, ◌≤◌, ◌+◌, ◌==◌, ◌&&◌, not, List, [], ◌∷◌, Option, Some, None, Result, Ok, Err, Bool, true, false, refl, sym, ◌∙◌, ap, subst, length, and_from, and_parts, cond-true, cond-false, eq-eqb, eqb-true, ltb-false, not-false, not-true, or_left, or_right, true≢false, false≢true, is_some, AllByRecursion, first_of-none, DecodeError, Action, Message, same_identity, action_of, id_of, is_reply, message_of, reading, Outcome, answer_body, same_identity-refl, same_identity-true, same_clock-refl, same_clock-true, message_of-reading, reading-message_of, Report, first_of, answer_by, answer_to, is_content, is_from_target, is_in_domain, reason_of, received_of, outcome_in, SessionValue, is_waiting, number_of, Event, IsInRange, frame_at, IsOfOrigin, IsReached, is_answer, report_from, run, told_by, AtSession, HasEnd, IsNetwork, Network, SessionStart, manager, Frame, NetworkState, Origin, RequestOf, ReplyTo, Neither, SessionState, accepted_at_target, initial_state, is_idle, is_late, issued, session_value, unanswered}
-use Rattle.ptpm_data.specs.Reply as reply
+use Rattle.ptpm_network.proofs.Common.{by_test, arith, ◌≡◌, ℕ, ◌<◌, ◌≤◌, ◌+◌, ◌==◌, not, List, [], ◌∷◌, Option, Some, None, Result, Ok, Err, Bool, true, false, refl, sym, ◌∙◌, ap, subst, and_from, and_parts, cond-true, cond-false, eq-eqb, eqb-true, ltb-false, not-false, not-true, or_left, or_right, true≢false, false≢true, is_some, first_of-none, DecodeError, Message, same_identity, action_of, id_of, is_reply, message_of, reading, same_identity-refl, same_identity-true, same_clock-refl, same_clock-true, message_of-reading, reading-message_of, Report, first_of, answer_by, answer_to, is_content, is_from_target, is_in_domain, reason_of, received_of, outcome_in, SessionValue, is_waiting, number_of, IsOfOrigin, IsReached, is_answer, report_from, told_by, IsNetwork, Network, SessionStart, manager, Frame, NetworkState, Origin, RequestOf, ReplyTo, Neither, SessionState, accepted_at_target, is_idle, is_late, issued, session_value, AllByRecursion}
 use Rattle.ptpm_manager.specs.declared.receiving.Reason.{Reason}
+use Rattle.ptpm_manager.specs.declared.receiving.Reason.TheVariants as reasons
 use Rattle.ptpm_manager.specs.declared.receiving.Received.TheVariants as received
 use Rattle.ptpm_network.proofs.Frames.{SaysReply, heard-frame, same_read, says_reply}
 use Rattle.ptpm_network.proofs.Messages.{action_of-answer_body, answer_body-is_reply, reply_at}
 use Rattle.ptpm_network.proofs.Origins.{IsTrueTo, heard-true}
-use Rattle.ptpm_network.proofs.Reaching.{frame_at-is, no_report, told-message}
+use Rattle.ptpm_network.proofs.Reaching.{no_report, told-message}
 use Rattle.ptpm_network.proofs.Schedule.{reached}
+use Rattle.ptpm_network.proofs.Tests.{and_first, and_rest}
 
 -- ---- the tests of a session, one by one
 
@@ -21,48 +22,42 @@ pub record IsAccepted (s : SessionValue) (v : Message) : Type 0 where
   pub number : v.number == number_of s.setup.first s.issued ≡ true
   pub content : is_content s.unanswered (action_of v.body) (id_of v.body) ≡ true
 
-each_passes : {A : Type 0} (a b c d e f g : Bool) (p q r s t u v : A)
-    → first_of
-    ((not a, p) ∷ (not b, q) ∷ (not c, r) ∷ (not d, s) ∷ (not e, t) ∷ (not f, u) ∷ (not g, v) ∷ [])
-    ≡ None
-    → (a ≡ true) × (b ≡ true) × (c ≡ true) × (d ≡ true) × (e ≡ true) × (f ≡ true) × (g ≡ true)
-each_passes a b c d e f g p q r s t u v h = grind (arith, first_of-none, not-false)
-
 no_reason : (s : SessionValue) (v : Message) → IsAccepted s v → reason_of s v ≡ None
 unfolding reason_of
-no_reason s v a = grind arith
+no_reason s v a = rw (a.domain, a.reply, a.target, a.source, a.waiting, a.number, a.content)
+
+-- where no reason is found, each test of the list fails
+none_holds : {A : Type 0} (tests : List (Bool × A)) → first_of tests ≡ None → AllByRecursion (λ (t : Bool × A). t.0 ≡ false) tests
+none_holds [] e = tt
+none_holds (t ∷ ts) e = let p = first_of-none t.0 t.1 ts e in (p.0, none_holds ts p.1)
 
 is_accepted : (s : SessionValue) (v : Message) → reason_of s v ≡ None → IsAccepted s v
 unfolding reason_of
-is_accepted s v e = grind (arith, each_passes)
+is_accepted s v e =
+    let tests : List (Bool × Reason) =
+    (not (is_in_domain s.domain v), reasons.OtherDomain) ∷ (not (is_reply (action_of v.body)), reasons.NotAReply)
+    ∷ (not (same_identity v.target s.setup.me), reasons.OtherTarget) ∷ (not (is_from_target s v.source), reasons.OtherSource)
+    ∷ (not (is_waiting s), reasons.NothingAsked) ∷ (not (v.number == number_of s.setup.first s.issued), reasons.OtherNumber)
+    ∷ (not (is_content s.unanswered (action_of v.body) (id_of v.body)), reasons.OtherContent) ∷ [] in
+    let p = none_holds tests e in grind (arith, not-false)
 
 -- ---- the reply to the unanswered request passes them
-
-id_of-answer_body : (action : Action) (id : ℕ) (o : Outcome) → id_of (answer_body action id o) ≡ id
-id_of-answer_body action id (reply.Value octets) = refl
-id_of-answer_body action id _ = refl
 
 abbrev message_said : (N : Network) (w : NetworkState) (s k : ℕ) (octets : List ℕ)
     → SaysReply N s k (w.session s).begun (accepted_at_target N w s) octets
     → Message
 message_said N w s k octets says = reply_at (N.session s).setup.target says.heard says.entry.reply says.ingress says.hops says.answer
 
-module _ (N : Network) (w : NetworkState) (s : ℕ) (octets : List ℕ) (says : SaysReply N s (issued w s) (w.session s).begun (accepted_at_target N w s) octets) (busy : is_idle (w.session s) ≡ false) where
-  -- what is unanswered is the request that the reply is to
-  unanswered-said : unanswered (w.session s) ≡ Some says.entry.request
-  unanswered-said = cond-false _ _ _ busy ∙ says.says.begun_as
+module _ (N : Network) (w : NetworkState) (s k : ℕ) (octets : List ℕ) (says : SaysReply N s k (w.session s).begun (accepted_at_target N w s) octets) where
+  content-said : is_content (Some says.entry.request) (action_of (message_said N w s k octets says).body)
+      (id_of (message_said N w s k octets says).body) ≡ true
+  content-said = grind (arith, action_of-answer_body, and_from, eq-eqb, true≢false)
 
-  answer-accepted : says.heard.domain == (w.session s).domain ≡ true
-      → IsAccepted (session_value (N.session s) (w.session s))
-      (message_said N w s (issued w s) octets says)
-  answer-accepted domain = grind (arith, unanswered-said, answer_body-is_reply, same_identity-refl, and_from, same_clock-refl, eq-eqb, or_right, or_left, action_of-answer_body, id_of-answer_body, true≢false)
-
--- what is received of a message that passes
-received-message : (s : SessionValue) (octets : List ℕ) (v : Message)
-    → message_of octets ≡ Some v → reason_of s v ≡ None
-    → received_of s octets
-    ≡ received.Answered (record { index = s.issued; outcome = outcome_in v.body })
-received-message s octets v e none = grind (arith, reading-message_of)
+answer-accepted : (N : Network) (w : NetworkState) (s : ℕ) (octets : List ℕ)
+    (says : SaysReply N s (issued w s) (w.session s).begun (accepted_at_target N w s) octets)
+    → is_idle (w.session s) ≡ false → says.heard.domain == (w.session s).domain ≡ true
+    → IsAccepted (session_value (N.session s) (w.session s)) (message_said N w s (issued w s) octets says)
+answer-accepted N w s octets says busy domain = grind (arith, cond-false, answer_body-is_reply, same_identity-refl, and_from, same_clock-refl, eq-eqb, content-said, or_right, or_left)
 
 told-domain : (state : SessionState) (o : Option Message) (v : Message) (r : Report)
     → o ≡ Some v → told_by state o ≡ Some r
@@ -76,15 +71,14 @@ received-by : (N : Network) (w : NetworkState) (s : ℕ) (octets : List ℕ) (o 
 received-by N w s octets (RequestOf t k) r n reached i y e = absurd (false≢true y)
 received-by N w s octets Neither r n reached i y e = absurd (false≢true y)
 received-by N w s octets (ReplyTo t k) r n reached i y e =
-    let outer = and_parts (t == s) (k == length (w.session s).begun && not (is_idle (w.session s))) y in
-    let inner = and_parts (k == length (w.session s).begun) (not (is_idle (w.session s))) outer.1 in
-    let ts : t ≡ s = eqb-true t s outer.0 in
-    let last : k ≡ issued w s = eqb-true k (issued w s) inner.0 in
-    let own : IsOfOrigin N w octets (ReplyTo s (issued w s)) = grind (arith) in
+    let ts : t ≡ s = eqb-true t s (search and_first) in
+    let last : k ≡ issued w s = eqb-true k (issued w s) (search (and_first, and_rest)) in
+    let own : IsOfOrigin N w octets (ReplyTo s (issued w s)) = grind arith in
     let says = says_reply N w s (issued w s) octets n reached own in
     let v : Message = message_said N w s (issued w s) octets says in
-    let accepted = answer-accepted N w s octets says (not-true _ inner.1) (told-domain (w.session s) (message_of octets) v r says.message.read e) in
-    received-message (session_value (N.session s) (w.session s)) octets v says.message.read (no_reason (session_value (N.session s) (w.session s)) v accepted)
+    let accepted = answer-accepted N w s octets says (not-true (is_idle (w.session s)) (search (and_first, and_rest))) (told-domain (w.session s) (message_of octets) v r says.message.read e) in
+    let value : SessionValue = session_value (N.session s) (w.session s) in
+    ap (answer_to value) (reading-message_of octets v says.message.read) ∙ ap (λ (x : Option Reason). answer_by x value v) (no_reason value v accepted)
     ∙ ap received.Answered (sym (told-message (w.session s) (message_of octets) v r says.message.read e))
 
 -- ---- and nothing else does
@@ -163,14 +157,3 @@ received-as_reported N w s f r n reached place i late = (
       let takes = takes-by (session_value (N.session s) (w.session s)) f.octets r (reading f.octets) refl e in
       cond-true _ _ _ (takes-answer N w s f.octets f.origin r n reached place i late takes) ∙ takes-told (N.session s) (w.session s) f.octets r takes,
 )
-
-pub frame-as_reported : (N : Network) (es : List Event) (k s : ℕ) (f : Frame) (r : Report)
-    → IsNetwork N → AllByRecursion IsInRange es
-    → frame_at (run N (initial_state N) es).frames k ≡ Some f → f.end ≡ AtSession s
-    → is_late (run N (initial_state N) es) f.origin ≡ false
-    → (report_from s ((run N (initial_state N) es).session s) f ≡ Some r → received_of (session_value (N.session s) ((run N (initial_state N) es).session s)) f.octets ≡ received.Answered r) × (received_of (session_value (N.session s) ((run N (initial_state N) es).session s)) f.octets ≡ received.Answered r → report_from s ((run N (initial_state N) es).session s) f ≡ Some r)
-frame-as_reported N es k s f r n i e end late =
-    let w : NetworkState = run N (initial_state N) es in
-    let reached' = reached N es n i in
-    let frame = frame_at-is N w k f reached' e in
-    received-as_reported N w s f r n reached' (subst (HasEnd N) end frame.end) frame.origin late

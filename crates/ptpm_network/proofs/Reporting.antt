@@ -1,5 +1,5 @@
 -- What reports of a running network are worth, and that it runs to the report that a way gives.
-use Rattle.ptpm_network.proofs.Common.{arith, ◌≡◌, ℕ, ◌<◌, ◌≤◌, ◌+◌, List, Some, true, false, ap, subst, length, cond-true, is_some, slice_get, AllByRecursion, PortIdentity, Report, is_waiting, Event, IsInRange, frames_limit, RunningNetwork, network_run, StandsAfter, run, IsNetwork, Network, AreFirsts, Stands, NetworkState, SessionState, initial_state, is_idle, session_value, Hop, IsAnswerable, IsWay, LinksHaveAtMost, RunsToReport, made_each_way, IsWorth, HasReported, AreInTime, taken}
+use Rattle.ptpm_network.proofs.Common.{arith, ◌≡◌, ℕ, ◌<◌, ◌≤◌, ◌+◌, List, Some, false, subst, length, cond-true, is_some, slice_get, AllByRecursion, PortIdentity, Report, Event, IsInRange, frames_limit, RunningNetwork, network_run, StandsAfter, run, IsNetwork, Network, AreFirsts, Stands, NetworkState, initial_state, is_idle, Hop, IsAnswerable, IsWay, LinksHaveAtMost, RunsToReport, made_each_way, IsWorth, HasReported}
 use Rattle.ptpm_network.specs.Way.{ReportsAfter}
 use Rattle.ptpm_network.proofs.Answerable.{answer-runs, answerable, answering}
 use Rattle.ptpm_network.proofs.Promise.{first_of_sessions, firsts}
@@ -27,39 +27,12 @@ module _ (N : Network) (past : List Event) (r : RunningNetwork) (s i : ℕ) (rep
 
 -- ---- running to the report
 
-idle-not_waiting : (N : Network) (s : ℕ) (x : SessionState)
-    → is_idle x ≡ true
-    → is_waiting (session_value (N.session s) x) ≡ false
-idle-not_waiting N s x idle = ap is_some (cond-true _ _ _ idle)
-
-reports-run : (N : Network) (first : PortIdentity → ℕ) (r : RunningNetwork) (w : NetworkState)
+pub reports-run : (N : Network) (first : PortIdentity → ℕ) (r : RunningNetwork) (w : NetworkState)
     (s : ℕ) (es : List Event)
     → s < N.sessions → Stands N first r w → HasReported w (run N w es) s
     → Stands N first (network_run N r es) (run N w es)
     → ReportsAfter N r s es
-reports-run N first r w s es place at h next = grind (arith, idle-not_waiting)
-
--- in whatever way the machine reports
-pub reported-run : (N : Network) (past es : List Event) (r : RunningNetwork) (s : ℕ)
-    → StandsAfter N past r → s < N.sessions → AllByRecursion IsInRange es
-    → taken N (run N (initial_state N) past) es ≡ es → AreInTime N (run N (initial_state N) past) es
-    → HasReported (run N (initial_state N) past) (run N (run N (initial_state N) past) es) s
-    → ReportsAfter N r s es
-reported-run N past es r s at place range whole time h =
-    let w : NetworkState = run N (initial_state N) past in
-    let first : PortIdentity → ℕ = first_of_sessions N N.sessions in
-    let given : AreFirsts N first = firsts N at.promised.network in
-    let n = at.promised.network in
-    let now = at.stands first given in
-    let next = network_run-stands N first r w es given n (reached N past n at.promised.in_range) now range (taken-in_time N w es time) in grind (arith, reports-run)
-
-runs-to_report : (N : Network) (first : PortIdentity → ℕ) (r : RunningNetwork) (w : NetworkState)
-    (s : ℕ) (hops : List Hop) (port : ℕ)
-    → s < N.sessions → Stands N first r w → (a : IsAnswerable N w s hops port)
-    → Stands N first (network_run N r (answering s a.deliveries))
-    (run N w (answering s a.deliveries))
-    → RunsToReport N r s hops port
-runs-to_report N first r w s hops port place at a next = grind (arith, reports-run, answering)
+reports-run N first r w s es place at h next = grind (arith, is_some, cond-true)
 
 pub running-answered : (N : Network) (es : List Event) (first : PortIdentity → ℕ)
     (r : RunningNetwork) (s : ℕ) (hops : List Hop) (port ends : ℕ)
@@ -75,7 +48,7 @@ running-answered N es first r s hops port ends n range firsts at place busy atte
     let a : IsAnswerable N w s hops port = answerable N es s hops port ends n range place busy attempts way all room in
     let more : List Event = answering s a.deliveries in
     let runs = answer-runs N w s hops port a in
-    let next = network_run-stands N first r w more firsts n (reached N es n range) at runs.0 (taken-in_time N w more runs.2) in grind (arith, runs-to_report)
+    let next = network_run-stands N first r w more firsts n (reached N es n range) at runs.0 (taken-in_time N w more runs.2) in grind (arith, reports-run)
 
 pub answered-after : (N : Network) (past : List Event) (r : RunningNetwork) (s : ℕ)
     (hops : List Hop) (port ends : ℕ)

@@ -1,8 +1,8 @@
 -- What a request keeps of the data sets, and what its reply says.
-use Rattle.ptpm_network.proofs.Common.{arith, refl, ℕ, zero, suc, ◌+◌, ◌<◌, ◌≤◌, ◌^◌, Bool, true, false, List, length, map, Option, Some, None, cond-true, cond-false, length-map, AllByRecursion, filter, range_with_len, ErrorId, Action, IsDataField, changed_by, is_named, data_field_at, is_of_port, DataSetsValue, refusal_of, answer, named_ports, outcome, read_refusal, read_reply_to, reply_of, reply_to, ReplyValue, RequestValue, changed_by-ports, changed_by-sized, Answers, AreDataSets, HasOneAnswer, IsForOne, IsSendable, IsSendableOutcome, all_made, filter-few, length-range_with_len}
+use Rattle.ptpm_network.proofs.Common.{arith, ◌≡◌, refl, ℕ, zero, suc, ◌+◌, ◌<◌, ◌≤◌, ◌^◌, Bool, true, false, List, length, map, Option, Some, None, cond-true, cond-false, length-map, AllByRecursion, filter, range_with_len, ErrorId, Action, IsDataField, changed_by, is_named, data_field_at, is_of_port, DataSetsValue, refusal_of, answer, named_ports, outcome, read_refusal, read_reply_to, reply_of, reply_to, RequestValue, changed_by-ports, changed_by-sized, Answers, AreDataSets, HasOneAnswer, IsForOne, IsSendable, IsSendableOutcome, all_made, filter-few, length-range_with_len}
 use Rattle.ptpm_codec.specs.declared.message.Action.TheVariants as actions
 use Rattle.ptpm_data.specs.declared.rights.Rights.{Rights}
-use Rattle.ptpm_data.specs.RequestLaws.{IsFieldWithin, IsOneAnswer, IsSized, answerer, field_limit}
+use Rattle.ptpm_data.specs.RequestLaws.{IsFieldWithin, IsSized, field_limit}
 use Rattle.ptpm_data.proofs.FieldSizes.{of_id}
 use Rattle.ptpm_data.proofs.ReplyLemmas.{answers_of, reply_of-one}
 
@@ -44,22 +44,18 @@ named-small port a (suc n) below =
     let first : a < 2 ^ 16 = omega arith in
     let others = named-small port (a + 1) n (omega arith) in grind (arith, cond-true, cond-false)
 
-named_ports-small : (port n : ℕ) → n ≤ 8 → AllByRecursion (λ k. k < 2 ^ 16) (named_ports port n)
-unfolding named_ports
-named_ports-small port n small = named-small port 1 n (omega arith)
-
 -- ---- the whole reply
 
 answers-sendable : (b : Bool) (q : RequestValue) (refusal : Option ErrorId) (d : DataSetsValue)
     → IsSized d → AllByRecursion IsSendable (answers_of b q refusal d)
-unfolding answer
+unfolding answer named_ports
 answers-sendable true q refusal d s =
     let P : Option ℕ → Type 0 = λ own. IsSendable (answer q refusal d own) in
     let named = named_ports q.port (length d.ports) in
     all_made P IsSendable (answer q refusal d) (λ own fits. fits) (map Some named)
     (all_made (λ k. k < 2 ^ 16) P (λ k. Some k)
     (λ k small. grind (arith, outcome-sendable, shown))
-    named (named_ports-small q.port (length d.ports) s.at_most_eight))
+    named (named-small q.port 1 (length d.ports) (omega (arith, s.at_most_eight))))
 answers-sendable false q refusal d s = (record { port = tt; outcome = outcome-sendable refusal q.action _ (shown q.id None d s) }, tt)
 
 reply_of-answers : (q : RequestValue) (refusal : Option ErrorId) (d : DataSetsValue)
@@ -82,16 +78,14 @@ read_answered q ports d s = reply_of-answers q (read_refusal q) d (sized ports d
 
 -- ---- one answer
 
-one_answer : (q : RequestValue) (reply : ReplyValue)
-    → IsOneAnswer (answerer q) reply
-    → HasOneAnswer q reply
-one_answer q reply one = grind arith
-
 pub once : (q : RequestValue) (r : Rights) (ports : ℕ) (d : DataSetsValue)
     → AreDataSets ports d → IsForOne ports q
     → HasOneAnswer q (reply_to q r d)
 unfolding reply_to
-once q r ports d s one = grind (arith, kept, one_answer, reply_of-one, sized)
+once q r ports d s one =
+    let after = kept q r ports d s in
+    let has : is_of_port q.id ≡ true → (1 ≤ q.port) × (q.port ≤ length (changed_by q r d).ports) = grind arith in
+    let one' = reply_of-one q (refusal_of q r) (changed_by q r d) has (sized ports (changed_by q r d) after).at_most_eight in grind arith
 
 -- ---- at most eight
 

@@ -2,7 +2,6 @@
 use Rattle.ptpm_network.proofs.Common.{arith, ◌≡◌, ℕ, ◌<◌, ◌≤◌, ◌+◌, List, [], ◌∷◌, ◌++◌, None, false, refl, sym, ap, subst, length, eq-eqb, AllByRecursion, is_none, cond-true, Event, IsInRange, Resume, Retune, frames_limit, refusal, happens, run, step, taken, with_session, IsNetwork, Network, NetworkState, SessionState, initial_state, is_idle, issued, IsWay, LinksHaveAtMost, Hop, made_each_way, all_append, with_place-same, AreInTime, RunningNetwork, RunsToReport, StandsAfter, network_run}
 use Rattle.ptpm_network.specs.Way.{IsWayIn}
 use Rattle.ptpm_network.specs.Meanwhile.{IsAnswerableMeanwhile, IsReady}
-use Rattle.ptpm_network.proofs.Answerable.{answerable-meanwhile}
 use Rattle.ptpm_network.proofs.Exchanging.{step-taken}
 use Rattle.ptpm_network.proofs.Promise.{stands-network_run}
 use Rattle.ptpm_network.proofs.Reporting.{answered-after}
@@ -10,6 +9,8 @@ use Rattle.ptpm_network.proofs.RoundTrip.{Hears}
 use Rattle.ptpm_network.proofs.Taking.{run-append}
 use Rattle.ptpm_network.proofs.Worth.{session-named}
 use Rattle.ptpm_network.proofs.Leaving.{way-stays}
+use Rattle.ptpm_network.proofs.Answerable.{answerable-at}
+use Rattle.ptpm_network.proofs.Schedule.{reached}
 
 -- ---- they are not refused
 
@@ -60,17 +61,17 @@ ready-set N w s x hops port ends busy attempts counted way room = grind (arith, 
 -- ---- events of the session's own
 
 module _ (N : Network) (w : NetworkState) (s : ℕ) (hops : List Hop) (port ends : ℕ) (place : s < N.sessions) (busy : is_idle (w.session s) ≡ false) (room : length w.frames + made_each_way ends hops ≤ frames_limit) where
-  resumed-ready : (attempts : ℕ)
+  pub resumed-ready : (attempts : ℕ)
       → 0 < attempts → IsWay N w s hops port
       → IsReady N (step N w (Resume s attempts)) s hops port ends
   resumed-ready attempts some way = grind (arith, resume-step, ready-set)
 
-  retuned-ready : (domain : ℕ)
+  pub retuned-ready : (domain : ℕ)
       → 0 < (w.session s).attempts_left → IsWayIn N w s domain hops port
       → IsReady N (step N w (Retune s domain)) s hops port ends
   retuned-ready domain some way = grind (arith, retune-step, ready-set)
 
-  both-ready : (domain attempts : ℕ)
+  pub both-ready : (domain attempts : ℕ)
       → 0 < attempts → IsWayIn N w s domain hops port
       → IsReady N (step N (step N w (Retune s domain)) (Resume s attempts)) s hops port ends
   both-ready domain attempts some way = grind (arith, session-set, way-set, retune-step, resume-step, ready-set)
@@ -96,64 +97,27 @@ pub ready-answerable : (N : Network) (es : List Event) (s : ℕ) (hops : List Ho
     → IsNetwork N → AllByRecursion IsInRange es → s < N.sessions → LinksHaveAtMost N ends
     → IsReady N (run N (initial_state N) es) s hops port ends
     → IsAnswerableMeanwhile N (run N (initial_state N) es) s hops port ends
-ready-answerable N es s hops port ends n range place all ready = answerable-meanwhile N es s hops port ends n range place ready.busy ready.attempts ready.way all ready.room
+ready-answerable N es s hops port ends n range place all ready = answerable-at N (run N (initial_state N) es) s hops port ends n (reached N es n range) place all ready.busy ready.attempts ready.way ready.room
 
-module _ (N : Network) (es : List Event) (s : ℕ) (hops : List Hop) (port ends : ℕ) (n : IsNetwork N) (range : AllByRecursion IsInRange es) (place : s < N.sessions) (busy : is_idle ((run N (initial_state N) es).session s) ≡ false) (all : LinksHaveAtMost N ends) (room : length (run N (initial_state N) es).frames + made_each_way ends hops ≤ frames_limit) where
-  abbrev w : NetworkState
-  w = run N (initial_state N) es
-
-  after : (own : List Event)
-      → AllByRecursion IsInRange own
-      → IsReady N (run N w own) s hops port ends
-      → IsAnswerableMeanwhile N (run N (initial_state N) (es ++ own)) s hops port ends
-  after own more ready =
-      ready-answerable N (es ++ own) s hops port ends n (all_append IsInRange es own range more) place all
-      (subst (λ (u : NetworkState). IsReady N u s hops port ends) (sym (run-append N (initial_state N) es own)) ready)
-
-  pub answerable-resumed : (attempts : ℕ)
-      → 0 < attempts → IsWay N w s hops port
-      → IsAnswerableMeanwhile N (run N (initial_state N) (es ++ Resume s attempts ∷ [])) s hops port ends
-  answerable-resumed attempts some way = after (Resume s attempts ∷ []) (tt, tt) (resumed-ready N w s hops port ends place busy room attempts some way)
-
-  pub answerable-moved : (domain attempts : ℕ)
-      → 0 < attempts → IsWayIn N w s domain hops port
-      → IsAnswerableMeanwhile N (run N (initial_state N) (es ++ moving s domain attempts)) s hops port ends
-  answerable-moved domain attempts some way = after (moving s domain attempts) (tt, (tt, tt)) (both-ready N w s hops port ends place busy room domain attempts some way)
-
-  pub answerable-retuned : (domain : ℕ)
-      → 0 < (w.session s).attempts_left → IsWayIn N w s domain hops port
-      → IsAnswerableMeanwhile N (run N (initial_state N) (es ++ Retune s domain ∷ [])) s hops port ends
-  answerable-retuned domain some way = after (Retune s domain ∷ []) (tt, tt) (retuned-ready N w s hops port ends place busy room domain some way)
+pub answerable-after : (N : Network) (es own : List Event) (s : ℕ) (hops : List Hop) (port ends : ℕ)
+    → IsNetwork N → AllByRecursion IsInRange es → s < N.sessions → LinksHaveAtMost N ends
+    → AllByRecursion IsInRange own → IsReady N (run N (run N (initial_state N) es) own) s hops port ends
+    → IsAnswerableMeanwhile N (run N (initial_state N) (es ++ own)) s hops port ends
+answerable-after N es own s hops port ends n range place all more ready =
+    ready-answerable N (es ++ own) s hops port ends n (all_append IsInRange es own range more) place all
+    (subst (λ (u : NetworkState). IsReady N u s hops port ends) (sym (run-append N (initial_state N) es own)) ready)
 
 -- ---- a network that runs
 
 -- it runs to the report after events of the session's own, if these are taken and no delivery
-module _ (N : Network) (past : List Event) (r : RunningNetwork) (s : ℕ) (hops : List Hop) (port ends : ℕ) (at : StandsAfter N past r) (place : s < N.sessions) (busy : is_idle ((run N (initial_state N) past).session s) ≡ false) (all : LinksHaveAtMost N ends) (room : length (run N (initial_state N) past).frames + made_each_way ends hops ≤ frames_limit) where
-  abbrev v : NetworkState
-  v = run N (initial_state N) past
-
-  runs-after : (own : List Event)
-      → AllByRecursion IsInRange own
-      → AreInTime N v own
-      → taken N v own ≡ own
-      → IsReady N (run N v own) s hops port ends
-      → RunsToReport N (network_run N r own) s hops port
-  runs-after own range time whole ready =
-      let there : StandsAfter N (past ++ own) (network_run N r own) =
-      subst (λ (es : List Event). StandsAfter N (past ++ es) (network_run N r own)) whole
-      (stands-network_run N past r own at range (subst (AreInTime N v) (sym whole) time)) in
-      let here : IsReady N (run N (initial_state N) (past ++ own)) s hops port ends = grind (arith, run-append) in grind (arith, answered-after)
-
-  pub runs-resumed : (attempts : ℕ)
-      → 0 < attempts → IsWay N v s hops port
-      → RunsToReport N (network_run N r (Resume s attempts ∷ [])) s hops port
-  runs-resumed attempts some way =
-      runs-after (Resume s attempts ∷ []) (tt, tt) ((λ none. refl), tt) (taken-resumed N v s attempts place busy)
-      (resumed-ready N v s hops port ends place busy room attempts some way)
-
-  pub runs-moved : (domain attempts : ℕ)
-      → 0 < attempts → IsWayIn N v s domain hops port
-      → RunsToReport N (network_run N r (moving s domain attempts)) s hops port
-  runs-moved domain attempts some way =
-      runs-after (moving s domain attempts) (tt, (tt, tt)) ((λ none. refl), ((λ none. refl), tt)) (taken-moved N v s domain attempts place busy)
-      (both-ready N v s hops port ends place busy room domain attempts some way)
+pub runs-after : (N : Network) (past own : List Event) (r : RunningNetwork) (s : ℕ) (hops : List Hop) (port ends : ℕ)
+    → StandsAfter N past r → s < N.sessions → LinksHaveAtMost N ends
+    → AllByRecursion IsInRange own → AreInTime N (run N (initial_state N) past) own
+    → taken N (run N (initial_state N) past) own ≡ own
+    → IsReady N (run N (run N (initial_state N) past) own) s hops port ends
+    → RunsToReport N (network_run N r own) s hops port
+runs-after N past own r s hops port ends at place all range time whole ready =
+    let there : StandsAfter N (past ++ own) (network_run N r own) =
+    subst (λ (es : List Event). StandsAfter N (past ++ es) (network_run N r own)) whole
+    (stands-network_run N past r own at range (subst (AreInTime N (run N (initial_state N) past)) (sym whole) time)) in
+    let here : IsReady N (run N (initial_state N) (past ++ own)) s hops port ends = grind (arith, run-append) in grind (arith, answered-after)

@@ -60,7 +60,7 @@ pub hears-stays : (N : Network) (w u : NetworkState) (s k domain : ℕ)
     → Hears N u s k domain
 hears-stays N w u s k domain same h = ⊎_elim
     (λ (d : (history N w (N.session s).target).sets.default.domain ≡ domain). inl (ap (λ (x : History). x.sets.default.domain) same ∙ d))
-    (λ (g : greatest_accepted N w s ≡ k). grind (arith))
+    (λ (g : greatest_accepted N w s ≡ k). grind arith)
     h
 
 -- A message of request k comes in at this end, and another is on its way to the next one then.
@@ -94,7 +94,7 @@ pass N s w most k c p q e o domain hops n few r room late hears passing can hop 
     let i = frame_at-is N w number.0 f r number.1 in
     let exists = (subst (HasEnd N) comes.at_end i.end).0 in
     let v = passing f.octets exists (subst (IsOfOrigin N w f.octets) comes.origin_is i.origin) in
-    let may : MayPass (history N w c).sets p q f.octets = grind (arith) in
+    let may : MayPass (history N w c).sets p q f.octets = grind arith in
     let u : NetworkState = delivered_at_clock N w c p f in
     let is : step N w (Deliver number.0) ≡ u = delivery-step N w number.0 f (AtPort c p) number.1 comes.at_end room in
     let reached_u : IsReached N u = grind (arith, step-reached) in
@@ -156,9 +156,9 @@ reply N s w most k domain hops lost port from n place few r room e sum link hear
     record {
       number = number.0;
       comes_in = one-delivery N w number.0 f (AtPort t port) number.1 comes.at_end room (ap (is_late w) comes.origin_is ∙ in_time w s k e);
-      moved = grind (arith);
+      moved = grind arith;
       hears = subst (λ (x : NetworkState). Hears N x s k domain) (sym is) (hears-after N s w k domain port f n place r i reached_u e comes.origin_is hears);
-      comes = grind (arith);
+      comes = grind arith;
     }
 
 -- ---- a way
@@ -173,11 +173,6 @@ pub leads-first : (N : Network) (hops : List Hop) (from to : End)
     → AreLinked N from (first_end hops to)
 leads-first N [] from to leads = leads
 leads-first N (h ∷ hops) from to leads = leads.0
-
-pub passes-stays : (N : Network) (w u : NetworkState) (target domain : ℕ) (h : Hop)
-    → history N u h.clock ≡ history N w h.clock → PassesOn N w target domain h
-    → PassesOn N u target domain h
-passes-stays N w u target domain h same p = search
 
 module _ (N : Network) (s : ℕ) (w : NetworkState) (most k domain hops : ℕ) (h : Hop) (e : End) (n : IsNetwork N) (few : MakesAtMost N most) (r : IsReached N w) (room : HasRoom w) (is : issued w s ≡ k) (hears : Hears N w s k domain) where
   -- a clock passes a request on to the far side, and the reply back to the near one

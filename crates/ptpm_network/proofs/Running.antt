@@ -24,18 +24,16 @@ pub record Follows (x : Result Happened Refusal) (o : Option Refusal)
 by_last : (P : RunningNetwork → Type 0) (a b : Option Refusal) (h : Happened)
     → a ≡ b → (b ≡ None → P h.network)
     → Follows (unless_refused a (Ok h)) b P
-by_last P None None h e holds = record { reason = refl; next = grind (arith) }
+by_last P None None h e holds = record { reason = refl; next = grind arith }
 by_last P (Some a) (Some b) h e holds = record { reason = e; next = λ g is. absurd (cc) }
-by_last P None (Some b) h e holds = absurd (cc)
-by_last P (Some a) None h e holds = absurd (cc)
+by_last P _ _ h e holds = absurd (cc)
 
 by_reason : {P : RunningNetwork → Type 0} (a b o : Option Refusal) (x : Result Happened Refusal)
     → a ≡ b → (b ≡ None → Follows x o P)
     → Follows (unless_refused a x) (option_or b o) P
 by_reason None None o x e behind = behind refl
 by_reason (Some a) (Some b) o x e behind = record { reason = e; next = λ g is. absurd (cc) }
-by_reason None (Some b) o x e behind = absurd (cc)
-by_reason (Some a) None o x e behind = absurd (cc)
+by_reason _ _ o x e behind = absurd (cc)
 
 -- ---- a frame comes in
 
@@ -87,7 +85,7 @@ module _ (N : Network) (first : PortIdentity → ℕ) (r : RunningNetwork) (w : 
       (λ x. AreFirsts N first → IsInRange e → is_late_delivery w e ≡ false → Stands N first x (happens N w e))
   unfolding network_event refusal happens
   follows (Begin s a) =
-      by_session s _ (begin_refused N w s a) _ (λ place. grind (arith))
+      by_session s _ (begin_refused N w s a) _ (λ place. grind arith)
       (λ place firsts range late. session-stands N first r w s (begun (r.session s) (ask.request_of a)) (begun_in (N.session s) (w.session s) (ask.request_of a)) at place
       (ap (λ (v : SessionValue). begun v (ask.request_of a)) (at.sessions s place) ∙ begun-value (N.session s) (w.session s) (ask.request_of a) (told s place)) refl)
   follows (Send s) =

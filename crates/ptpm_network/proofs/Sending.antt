@@ -1,5 +1,5 @@
 -- A session sends its unanswered request, and is told the answer.
-use Rattle.ptpm_network.proofs.Common.{◌≡◌, ℕ, ◌<◌, ◌≤◌, ◌+◌, ◌-◌, List, [], ◌∷◌, ◌++◌, Some, None, true, false, refl, sym, ◌∙◌, ap, subst, length, length-append, eq-eqb, ne_eqb, list_any, Message, canonical, boundary_hops, domain_number, RequestValue, send_refusal, request_message, Deliver, Send, refusal, HasReported, HasRoom, IsReached, happens, step, AtSession, End, IsNetwork, Network, peers, ports, same_end, Frame, NetworkState, RequestOf, ReplyTo, SessionState, is_idle, is_late, issued, new_frames, unanswered, ComesIn, with_place-same, length-map, arith}
+use Rattle.ptpm_network.proofs.Common.{◌≡◌, ℕ, ◌<◌, ◌≤◌, ◌+◌, ◌-◌, List, ◌++◌, Some, None, true, false, refl, sym, ◌∙◌, ap, subst, length, length-append, eq-eqb, ne_eqb, list_any, Message, canonical, boundary_hops, domain_number, RequestValue, send_refusal, request_message, Deliver, Send, refusal, HasReported, HasRoom, IsReached, happens, step, AtSession, End, IsNetwork, Network, peers, ports, same_end, Frame, NetworkState, RequestOf, ReplyTo, is_idle, is_late, issued, new_frames, unanswered, ComesIn, with_place-same, length-map, arith}
 use Rattle.ptpm_network.specs.Machine as machine
 use Rattle.ptpm_network.proofs.Carrying.{IsIn, MakesAtMost, in_any, in_map, in_right}
 use Rattle.ptpm_network.proofs.Exchanging.{delivery-step, is_room, reports-answer, said-domain, said-hops, step-taken}
@@ -31,7 +31,7 @@ send-frames N w s q n r place e =
     let fits = request-fits N s k (w.session s).domain (N.session s).setup.hops p q n place asked in
     record {
       octets = canonical v;
-      frames = grind (arith);
+      frames = grind arith;
       domain = said-domain v (w.session s).domain valid fits refl;
       hops = said-hops v (N.session s).setup.hops valid fits refl;
     }
@@ -48,25 +48,17 @@ module _ (N : Network) (w : NetworkState) (s : ℕ) where
   unfolding happens
   send-step none = step-taken N w (Send s) none
 
+  -- its session is as it was, but for the attempts
+  pub sent-session : (machine.sends N w s).session s
+      ≡ record (w.session s) { attempts_left = (w.session s).attempts_left - 1 }
+  sent-session = with_place-same w.session s (record (w.session s) { attempts_left = (w.session s).attempts_left - 1 }) s (eq-eqb s s refl)
+
 -- its requests, reports and domain are as they were
 pub record IsSameSession (w u : NetworkState) (s : ℕ) : Type 0 where
   pub counted : issued u s ≡ issued w s
   pub reports : (u.session s).reports ≡ (w.session s).reports
   pub domain : (u.session s).domain ≡ (w.session s).domain
   pub idle : is_idle (u.session s) ≡ is_idle (w.session s)
-
-pub same-sent : (N : Network) (w : NetworkState) (s : ℕ) → IsSameSession w (machine.sends N w s) s
-same-sent N w s = grind (arith, with_place-same, eq-eqb)
-
-pub same-moved : (w u z : NetworkState) (s : ℕ)
-    → z.session ≡ u.session → IsSameSession w u s
-    → IsSameSession w z s
-same-moved w u z s e same = search (ap (λ (f : ℕ → SessionState). f s) e, same)
-
-pub reported-since : (w z x : NetworkState) (s : ℕ)
-    → IsSameSession w z s → HasReported z x s
-    → HasReported w x s
-reported-since w z x s same h = search (h.index ∙ same.counted, h.reports ∙ ap (λ rs. rs ++ h.report ∷ []) same.reports)
 
 -- copies of it are on their way, and no more than this
 pub sent-comes : (N : Network) (w : NetworkState) (s : ℕ) (end : End)

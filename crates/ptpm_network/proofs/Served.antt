@@ -1,5 +1,5 @@
 -- A session whose own messages come in time is served, after every list of events, whatever comes late of others.
-use Rattle.ptpm_network.proofs.Common.{arith, by_test, ◌≡◌, ℕ, ◌+◌, ◌<◌, ◌≤◌, ◌==◌, ◌^◌, ◌&&◌, Bool, List, [], ◌∷◌, length, Option, Some, None, Result, Ok, Err, true, false, refl, sym, ◌∙◌, ap, subst, and_cases, and_from, cond-true, cond-false, eq-eqb, eqb-true, eqb-false, ne_eqb, ltb-false, true≢false, all_append, frame_at-all, AllByRecursion, Message, Fits, IsForeign, message_of, with_session_value, canonical, RequestValue, is_copy, received_of, IsAsked, strange_frame, with_place, with_place-same, with_place-other, AtPort, AtSession, End, HasEnd, IsNetwork, Network, manager, ports, Held, seen, Origin, RequestOf, ReplyTo, SessionValue, Happened, network_event, network_run, goes_on, delivers, reaches, hears, RunningNetwork, initial_network, begun, resumed, retuned, sent, due_message, Ask, begin_refusal, BeginRefused, SendRefused, Refusal, Event, Begin, Send, Resume, Retune, Deliver, Stranger, IsInRange, Forged, is_forged, forged, frame_at, first_of-none, no_port, no_room, no_session, nothing_to_resume, send_refusal, option_map, is_late_at, sends_in, PortIdentity, DataSetsValue, Entry, initial_history, StandsAfter, session_value}
+use Rattle.ptpm_network.proofs.Common.{arith, by_test, ◌≡◌, ℕ, ◌+◌, ◌<◌, ◌≤◌, ◌==◌, ◌^◌, ◌&&◌, Bool, List, [], ◌∷◌, length, Option, Some, None, Result, Ok, Err, true, false, refl, sym, ◌∙◌, ap, subst, and_cases, and_from, eq-eqb, eqb-true, ltb-false, true≢false, all_append, frame_at-all, AllByRecursion, Message, Fits, IsForeign, message_of, with_session_value, canonical, is_copy, received_of, IsAsked, strange_frame, with_place, AtPort, AtSession, End, HasEnd, IsNetwork, Network, manager, ports, Held, seen, Origin, SessionValue, Happened, network_event, network_run, goes_on, delivers, reaches, hears, RunningNetwork, begun, resumed, retuned, sent, due_message, Ask, begin_refusal, BeginRefused, SendRefused, Refusal, Event, Begin, Send, Resume, Retune, Deliver, Stranger, IsInRange, Forged, is_forged, forged, frame_at, first_of-none, no_port, no_room, no_session, nothing_to_resume, send_refusal, option_map, is_late_at, sends_in, PortIdentity, DataSetsValue, Entry, initial_history, StandsAfter, session_value}
 use Rattle.ptpm_agent.specs.Laws.{IsKept}
 use Rattle.ptpm_manager.specs.Ask as ask
 use Rattle.ptpm_manager.specs.Receiving.{left_by}
@@ -14,11 +14,12 @@ use Rattle.ptpm_network.proofs.Honest.{IsHonest, IsSentBy, IsTrueFrame, Then, be
 use Rattle.ptpm_network.specs.Invariant.{IsRequestFrame}
 use Rattle.ptpm_network.proofs.Own.{IsLastOf, TurnsOwn, turns_own}
 use Rattle.ptpm_network.proofs.Owned.{IsOwn, IsOwnFrame, own-begun, own-hears, own-message, own-resumed, own-retuned, own-sent, reports_with, state_of}
-use Rattle.ptpm_network.proofs.Promise.{first_of_sessions, firsts, stands-first}
+use Rattle.ptpm_network.proofs.Promise.{first_of_sessions, firsts}
 use Rattle.ptpm_network.proofs.Reaching.{first-reached, port-exists, session-exists}
 use Rattle.ptpm_network.proofs.Refusals.{begin-not_refused, option_map-none}
 use Rattle.ptpm_network.proofs.Serving.{Own, comes_own, own-turned}
 use Rattle.ptpm_network.proofs.Strangers.{strange-message}
+use Rattle.ptpm_network.proofs.Lists.{flipped}
 
 -- ---- what is in time
 
@@ -29,20 +30,7 @@ module _ (N : Network) (s : ℕ) (r : RunningNetwork) where
       → (r.session s).issued ≤ k + 32768
   timely-for o p end k late e here is = grind (arith, true≢false, ltb-false, and_cases)
 
-  clock-in_time : (o : Origin) (d port k : ℕ)
-      → is_for N s (AtPort d port) o && is_behind r o ≡ false → o ≡ RequestOf s k → d ≡ (N.session s).target
-      → (r.session s).issued ≤ k + 32768
-  clock-in_time o d port k late e here = grind (arith, timely-for, and_from, eq-eqb)
-
-  session-in_time : (o : Origin) (k : ℕ)
-      → is_for N s (AtSession s) o && is_behind r o ≡ false → o ≡ ReplyTo s k
-      → (r.session s).issued ≤ k + 32768
-  session-in_time o k late e = timely-for o (ReplyTo s k) (AtSession s) k late e (and_from (s == s) (s == s) (eq-eqb s s refl) (eq-eqb s s refl)) refl
-
 -- ---- one event
-
-flip : (s t : ℕ) → t == s ≡ false → s == t ≡ false
-flip s t n = ne_eqb s t (λ (e : s ≡ t). eqb-false t s n (sym e))
 
 -- every frame is true, and the session is as its account says
 pub record Stays (N : Network) (s : ℕ) (r : RunningNetwork) (a : Account) : Type 0 where
@@ -56,7 +44,7 @@ module _ (N : Network) (n : IsNetwork N) (s : ℕ) (place : s < N.sessions) (r :
   own-set : (f : SessionValue → SessionValue) (t : ℕ)
       → IsOwn N s (f (r.session s)) (r.reports s) (r.clock (N.session s).target) r.frames a
       → IsOwn N s (with_place r.session t (f (r.session t)) s) (r.reports s) (r.clock (N.session s).target) r.frames a
-  own-set f t new = grind (arith, eqb-true, IsOwn, with_place-same, eq-eqb, with_place-other, flip)
+  own-set f t new = grind (arith, eqb-true)
 
   moved-honest : (t : ℕ) (f : SessionValue → SessionValue) → t < N.sessions
       → (f (r.session t)).setup ≡ (r.session t).setup → (f (r.session t)).unanswered ≡ (r.session t).unanswered
@@ -70,16 +58,12 @@ module _ (N : Network) (n : IsNetwork N) (s : ℕ) (place : s < N.sessions) (r :
       (record { begun = with_begun s (Begin t q) a.begun; accepted = a.accepted })
   own-begins t q there id fine =
       let request = ask.request_of q in
-      let P : SessionValue → List RequestValue → Type 0 = λ x bs. IsOwn N s x (r.reports s) (r.clock (N.session s).target) r.frames (record { begun = bs; accepted = a.accepted }) in
       by_test (t == s)
       (λ y. let ts : t ≡ s = eqb-true t s y in
       let asked : IsAsked (ports N (N.session s).target) request = subst (λ j. IsAsked (ports N (N.session j).target) request) ts ((begins-honest N r t q n h there id fine).asked request refl) in
       let idle = subst (λ j. begin_refusal (r.session j) q ≡ None) ts fine in
-      subst (λ (x : SessionValue). P x (with_begun s (Begin t q) a.begun))
-      (ap (λ j. begun (r.session j) request) (sym ts) ∙ sym (with_place-same r.session t (begun (r.session t) request) s (eq-eqb s t (sym ts))))
-      (subst (P (begun (r.session s) request)) (sym (cond-true _ _ _ y))
-      (own-begun N s (r.session s) (r.reports s) (r.clock (N.session s).target) r.frames a at request asked (begin-not_refused (r.session s) q idle).0)))
-      (λ o. grind (arith, with_place-other, flip, cond-false))
+      rw (ts, eq-eqb s s refl) (own-begun N s (r.session s) (r.reports s) (r.clock (N.session s).target) r.frames a at request asked (begin-not_refused (r.session s) q idle).0))
+      (λ o. rw (o, flipped t s o) at)
 
   own-sends : (t : ℕ) → t < N.sessions → Own N s (sends_in N r t) a
   own-sends t there =
@@ -100,7 +84,7 @@ module _ (N : Network) (n : IsNetwork N) (s : ℕ) (place : s < N.sessions) (r :
       → (t ≡ s → IsOwn N s (left_by (r.session s) x) (reports_with (r.reports s) x) (r.clock (N.session s).target) r.frames a)
       → Own N s (hears r t x) a
   own-hears_in t (received.Ignored reason) new = at
-  own-hears_in t (received.Answered report) new = grind (arith, IsOwn, eqb-true, with_place-same, eq-eqb, with_place-other, flip)
+  own-hears_in t (received.Answered report) new = grind (arith, eqb-true)
 
   issued-begun : (r.session s).issued ≡ length a.begun
   issued-begun = ap (λ (x : SessionValue). x.issued) at.value_is
@@ -111,12 +95,12 @@ module _ (N : Network) (n : IsNetwork N) (s : ℕ) (place : s < N.sessions) (r :
       (record { begun = a.begun; accepted = with_carried (manager N s) (N.clock (N.session s).target) (r.clock (N.session s).target) (carried_at N r (N.session s).target end x.octets) a.accepted })
   own-reaches x (AtPort d port) i said end late =
       own-turned N n s place r h a at port (seen x) i.says said d end
-      (λ k o here. grind (arith, issued-begun, clock-in_time))
+      (λ k o here. grind (arith, issued-begun, timely-for, and_from, eq-eqb))
   own-reaches x (AtSession t) i said end late =
       own-hears_in t (received_of (r.session t) x.octets)
       (λ ts. subst (λ j. IsOwn N s (left_by (r.session s) (received_of (r.session j) x.octets)) (reports_with (r.reports s) (received_of (r.session j) x.octets)) (r.clock (N.session s).target) r.frames a) (sym ts)
       (own-hears N s (r.session s) (r.reports s) (r.clock (N.session s).target) r.frames a at x.octets x.origin (received_of (r.session s) x.octets) n place i.says said
-      (λ k o. grind (arith, issued-begun, session-in_time)) refl))
+      (λ k o. grind (arith, issued-begun, timely-for, and_from, eq-eqb)) refl))
 
   -- both, after what happened
   stays : (x : RunningNetwork) (b : Account) → IsHonest N x → Own N s x b → Stays N s x b
@@ -188,7 +172,7 @@ account-while : (N : Network) (s : ℕ) (r : RunningNetwork) (a b : Account) (es
 account-while N s r a b es late (Ok h) at time behind = behind h refl time.0 time.1
 account-while N s r a b es late (Err reason) at time behind = at
 
-account-run : (N : Network) (s : ℕ) (r : RunningNetwork) (a : Account) (es : List Event)
+pub account-run : (N : Network) (s : ℕ) (r : RunningNetwork) (a : Account) (es : List Event)
     → HasAccount N s r a → AllByRecursion IsInRange es → StaysInTime N s r es
     → HasAccount N s (network_run N r es) (account_from N s r a es)
 account-run N s r a [] at i time = at
@@ -205,9 +189,9 @@ module _ (N : Network) (s : ℕ) (r : RunningNetwork) (a : Account) (at : Stays 
       let c = (N.session s).target in
       let i = frame-true N at.network r at.honest number x copy.frame in
       let said = frame_at-all (IsOwnFrame N s a) r.frames number x at.own.frames_say copy.frame in
-      let late : is_late_at k (r.session s).issued ≡ false = grind (arith) in
+      let late : is_late_at k (r.session s).issued ≡ false = grind arith in
       let time : length a.begun ≤ k + 32768 = grind (arith, issued-begun, ltb-false) in
-      let many : ports N c ≡ length (r.clock c).sets.ports = grind (arith) in
+      let many : ports N c ≡ length (r.clock c).sets.ports = grind arith in
       turns_own (manager N s) (N.session s).setup.first (ports N c) (N.clock c) (r.clock c) port x.octets v k a.accepted (state_of (r.session s) (r.reports s) a) copy.read
       (comes_own N at.network s at.place r at.honest a at.own port (seen x) i.says said v k copy.origin time copy.read (subst (λ p. is_copy (N.clock c) p v ≡ true) many copy.copy))
 
@@ -225,15 +209,8 @@ module _ (N : Network) (s : ℕ) (r : RunningNetwork) (a : Account) (at : Stays 
         older = λ number port k x v copy l. (timely number port k x v copy).older l;
       }
 
-served_by : (N : Network) (s : ℕ) (r : RunningNetwork) (a : Account) → HasAccount N s r a → IsServedSoFar N s r a
+pub served_by : (N : Network) (s : ℕ) (r : RunningNetwork) (a : Account) → HasAccount N s r a → IsServedSoFar N s r a
 served_by N s r a at = record { account = at; served = is-served N s r a (stays-by N s r a at) }
-
-pub served-after : (N : Network) (s : ℕ) (es : List Event)
-    → IsNetwork N → s < N.sessions → AllByRecursion IsInRange es → StaysInTime N s (initial_network N) es
-    → IsServed N s (network_run N (initial_network N) es) (account_of N s es)
-served-after N s es n place i time =
-    (served_by N s (network_run N (initial_network N) es) (account_of N s es)
-    (account-run N s (initial_network N) (account_of N s []) es (AtStart (initial_network N) place (stands-first N n)) i time)).served
 
 pub served-first : (N : Network) (s : ℕ) (r : RunningNetwork) → s < N.sessions → StandsAfter N [] r → IsServedSoFar N s r (account_of N s [])
 served-first N s r place at = served_by N s r (account_of N s []) (AtStart r place at)

@@ -1,9 +1,9 @@
 -- What a turn of any clock makes of a session whose own messages come in time, whatever comes late of others.
-use Rattle.ptpm_network.proofs.Common.{arith, by_test, IsForOne, ◌≡◌, ℕ, ◌+◌, ◌<◌, ◌≤◌, ◌==◌, inl, List, [], ◌∷◌, ◌++◌, length, Option, Some, None, Result, Ok, Err, true, false, refl, sym, ◌∙◌, ap, subst, ⊎_elim, cases_eq, cond-true, cond-false, eq-eqb, eqb-true, eqb-false, true≢false, map, all_append, all_weaker, AllByRecursion, PortIdentity, Message, DecodeError, same_identity, message_of, reading, message_of-reading, RequestValue, Accepted, Delivery, RequestCopy, copy_of, delivers_copy, copy_parts, no_copy, is_copy, heard_of, request_of, Clock, State, turn, judged, Verdict, same_identity-true, IsInStep, answer_origin, delivery, reply_origin, with_place, with_place-same, with_place-other, AtPort, HasEnd, IsNetwork, Network, manager, ports, Frame, Held, held, turn_frames, after_turn, Origin, RequestOf, ReplyTo, SessionValue, Report, RunningNetwork}
+use Rattle.ptpm_network.proofs.Common.{arith, by_test, IsForOne, ◌≡◌, ℕ, ◌+◌, ◌<◌, ◌≤◌, ◌==◌, inl, List, [], ◌++◌, length, Option, Some, None, Result, Ok, Err, true, false, refl, sym, ◌∙◌, ap, subst, ⊎_elim, cases_eq, cond-false, eq-eqb, eqb-true, eqb-false, true≢false, map, all_append, all_weaker, AllByRecursion, PortIdentity, Message, DecodeError, same_identity, message_of, reading, message_of-reading, RequestValue, Accepted, Delivery, RequestCopy, copy_of, delivers_copy, copy_parts, no_copy, is_copy, heard_of, request_of, Clock, State, turn, judged, Verdict, same_identity-true, IsInStep, answer_origin, delivery, reply_origin, AtPort, HasEnd, IsNetwork, Network, manager, ports, Frame, Held, held, turn_frames, after_turn, Origin, RequestOf, ReplyTo, SessionValue, Report, RunningNetwork, false_from_ne_true}
 use Rattle.std.specs.FinMap.{get}
 use Rattle.ptpm_agent.specs.CarriedOut.{carried_by, carried_of}
 use Rattle.ptpm_agent.specs.declared.verdict.Verdict.TheVariants as verdicts
-use Rattle.ptpm_agent.specs.Turn.{NumberedRequest, next_by}
+use Rattle.ptpm_agent.specs.Turn.{next_by}
 use Rattle.ptpm_agent.proofs.AtMostOnce.{turn-no_copy}
 use Rattle.ptpm_agent.proofs.Entries.{accepted_entry, get-insert_other}
 use Rattle.ptpm_agent.proofs.Turns.{is_copy-new}
@@ -20,13 +20,10 @@ use Rattle.ptpm_network.proofs.Owned.{IsOwn, IsOwnFrame, IsSaid, said-passed, sa
 use Rattle.ptpm_network.proofs.Requests.{answered as reply-answers, once}
 use Rattle.ptpm_network.proofs.Origins.{IsTrue, is_copy_by}
 use Rattle.ptpm_network.proofs.Truth.{turn_frames-all}
+use Rattle.ptpm_network.proofs.Lists.{all_of}
 
 abbrev pub Own : Network → ℕ → RunningNetwork → Account → Type 0
 Own N s r a = IsOwn N s (r.session s) (r.reports s) (r.clock (N.session s).target) r.frames a
-
-all_of : {X : Type 0} (P : X → Type 0) → ((x : X) → P x) → (xs : List X) → AllByRecursion P xs
-all_of P f [] = tt
-all_of P f (x ∷ xs) = (f x, all_of P f xs)
 
 -- ---- a turn that is no turn on the session's own copy
 
@@ -194,13 +191,13 @@ module _ (N : Network) (n : IsNetwork N) (s : ℕ) (place : s < N.sessions) (r :
       (kept_says N s by.k new state told.entry step o.positive told.kept).one o.source o.number (small port (ports N c) end.2 (n.are_clocks c end.0).at_most_eight)))
       t.replies)))))
       (λ (ne : by.session ≡ s → ⊥).
-      let other : same_identity (manager N s) v.source ≡ false = grind (arith, same_identity-true) in
+      let other : same_identity (manager N s) v.source ≡ false = grind (arith, false_from_ne_true, same_identity-true) in
       let same : new ≡ a.accepted = grind (arith, with_carried-others) in
       let entries = ap (λ (x : State). get x.entries (manager N s)) d.next ∙ entries-others (manager N s) (N.clock c) st v (judged (N.clock c) st v) other in
       own-with end new (inl same) (last-kept same entries) (Some k) e
       (λ step.
       (replies-elsewhere c (with_accepted a new) (Some k) end.0 e
-      (λ t j o q ts. grind (arith)))))
+      (λ t j o q ts. grind arith))))
       (cases_eq by.session s)
 
   -- any clock takes its turn
@@ -209,13 +206,7 @@ module _ (N : Network) (n : IsNetwork N) (s : ℕ) (place : s < N.sessions) (r :
       (with_accepted a (with_carried (manager N s) (N.clock (N.session s).target) (r.clock (N.session s).target) (carried_at N r (N.session s).target (AtPort d port) f.octets) a.accepted))
   own-turned d end time =
       let c = (N.session s).target in
-      let next : ℕ → State = λ j. (turn (N.clock j) (r.clock j) port f.octets).next in
-      let after : ℕ → List Held = λ j. r.frames ++ map held (turn_frames N (r.clock j) j port f) in
-      let account : List NumberedRequest → Account = λ qs. with_accepted a (with_carried (manager N s) (N.clock c) (r.clock c) qs a.accepted) in
       by_test (c == d)
       (λ y. let cd : c ≡ d = eqb-true c d y in
-      subst (λ j. IsOwn N s (r.session s) (r.reports s) (with_place r.clock j (next j) c) (after j) (account (carried_at N r c (AtPort j port) f.octets))) cd
-      (subst (λ (x : State). IsOwn N s (r.session s) (r.reports s) x (after c) (account (carried_at N r c (AtPort c port) f.octets))) (sym (with_place-same r.clock c (next c) c (eq-eqb c c refl)))
-      (subst (λ qs. IsOwn N s (r.session s) (r.reports s) (next c) (after c) (account qs)) (sym (cond-true _ _ _ (eq-eqb c c refl)))
-      (own-here (subst (λ j. HasEnd N (AtPort j port)) (sym cd) end) (λ k o. time k o (sym cd)) (copy_of (N.clock c) (length (r.clock c).sets.ports) (delivery port f)) refl))))
-      (λ o. grind (arith, IsOwn, with_place-other, cond-false, own-elsewhere))
+      rw (← cd, eq-eqb c c refl) (own-here (subst (λ j. HasEnd N (AtPort j port)) (sym cd) end) (λ k o. time k o (sym cd)) (copy_of (N.clock c) (length (r.clock c).sets.ports) (delivery port f)) refl))
+      (λ o. rw o (own-elsewhere d end o))

@@ -1,5 +1,5 @@
 -- What sessions do keeps the invariant.
-use Rattle.ptpm_network.proofs.Common.{by_test, arith, ◌≡◌, ℕ, ◌<◌, ◌-◌, List, [], ◌∷◌, Option, Some, None, Bool, refl, sym, subst, length, eqb-true, cond-true, cond-false, slice_get_within, option_map, slice_get, AllByRecursion, filter, list_any, canonical, RequestValue, Accepted, kept_reply, request_message, IsFrame, IsInStep, IsOfOrigin, IsReached, sends, sent_frames, with_frames, with_session, End, AtSession, HasEnd, IsLink, IsNetwork, Network, SessionStart, manager, peers, ports, same_end, Frame, NetworkState, Origin, RequestOf, ReplyTo, Neither, SessionState, accepted_at_target, new_frames, unanswered, all_append, all_made, all_weaker, with_place-other, with_place-same}
+use Rattle.ptpm_network.proofs.Common.{by_test, arith, ◌≡◌, ℕ, ◌<◌, ◌-◌, List, [], ◌∷◌, Option, Some, None, Bool, refl, length, eqb-true, cond-true, cond-false, slice_get_within, option_map, slice_get, AllByRecursion, filter, list_any, canonical, RequestValue, Accepted, kept_reply, request_message, IsFrame, IsInStep, IsOfOrigin, IsReached, sends, sent_frames, with_frames, with_session, End, AtSession, HasEnd, IsLink, IsNetwork, Network, SessionStart, manager, peers, ports, same_end, Frame, NetworkState, Origin, RequestOf, ReplyTo, Neither, SessionState, accepted_at_target, new_frames, unanswered, all_append, all_made, all_weaker, at_place}
 use Rattle.ptpm_manager.specs.declared.setup.Setup.{Setup}
 use Rattle.ptpm_network.specs.Invariant.{IsReplyFrame, IsRequestFrame}
 use Rattle.ptpm_network.proofs.Accepting.{in_step-set}
@@ -11,8 +11,8 @@ all_filter : {X : Type 0} (P : X → Type 0) (test : X → Bool) (xs : List X)
     → AllByRecursion P (filter test xs)
 all_filter P test [] a = tt
 all_filter P test (x ∷ xs) a = by_test (test x)
-    (λ y. subst (AllByRecursion P) (sym (cond-true _ _ _ y)) (a.0, all_filter P test xs a.1))
-    (λ n. subst (AllByRecursion P) (sym (cond-false _ _ _ n)) (all_filter P test xs a.1))
+    (λ y. rw y (a.0, all_filter P test xs a.1))
+    (λ n. rw n (all_filter P test xs a.1))
 
 -- the ends that a message goes to exist
 peers_exist : (N : Network) (links : List (List End)) (e : End)
@@ -20,8 +20,8 @@ peers_exist : (N : Network) (links : List (List End)) (e : End)
     → AllByRecursion (HasEnd N) (peers links e)
 peers_exist N [] e a = tt
 peers_exist N (link ∷ links) e a = by_test (list_any (same_end e) link)
-    (λ y. grind (arith, cond-true, all_filter))
-    (λ n. subst (AllByRecursion (HasEnd N)) (sym (cond-false _ _ _ n)) (peers_exist N links e a.1))
+    (λ y. rw y (all_filter (HasEnd N) _ link a.0.ends))
+    (λ n. rw n (peers_exist N links e a.1))
 
 pub has_peers : (N : Network) (e : End) → IsNetwork N → AllByRecursion (HasEnd N) (peers N.links e)
 has_peers N e n = peers_exist N N.links e n.are_links
@@ -60,14 +60,14 @@ module _ (N : Network) (w u : NetworkState) (begun : BegunStays w u) (kept : Kep
   pub frames-stay : (fs : List Frame)
       → AllByRecursion (IsFrame N w) fs
       → AllByRecursion (IsFrame N u) fs
-  frames-stay fs a = grind (arith, all_weaker, origin-stays)
+  frames-stay fs a = all_weaker (IsFrame N w) (IsFrame N u) (λ f i. search (origin-stays f.octets f.origin i.origin)) fs a
 
 -- ---- one session changes
 
 begun-stays : (w : NetworkState) (s : ℕ) (v : SessionState)
     → ((i : ℕ) (q : RequestValue) → slice_get (w.session s).begun i ≡ Some q → slice_get v.begun i ≡ Some q)
     → BegunStays w (with_session w s v)
-begun-stays w s v g t i q e = grind (arith, slice_get, with_place-same, eqb-true, with_place-other)
+begun-stays w s v g t i q e = grind (arith, slice_get, eqb-true)
 
 abbrev pub InStep : Network → NetworkState → ℕ → SessionState → Type 0
 InStep N w s v = IsInStep (manager N s) (ports N (N.session s).target) (accepted_at_target N w s) v
@@ -77,7 +77,7 @@ pub session-changes : (N : Network) (w : NetworkState) (s : ℕ) (v : SessionSta
     → InStep N w s v → IsReached N w
     → IsReached N (with_session w s v)
 session-changes N w s v g at r = record {
-  sessions = grind (arith, with_place-same, eqb-true, with_place-other);
+  sessions = λ t place. at_place (InStep N w) w.session s v t at (r.sessions t place);
   clocks = r.clocks;
   frames = frames-stay N w (with_session w s v) (begun-stays w s v g) (λ t k e place h. h) w.frames r.frames;
 }

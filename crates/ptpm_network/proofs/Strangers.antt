@@ -1,5 +1,5 @@
 -- A stranger's datagram that is not refused is of no clock and of no session.
-use Rattle.ptpm_network.proofs.Common.{suc, zero, arith, ◌≡◌, ℕ, ◌<◌, ◌≤◌, ◌+◌, ◌-◌, ◌^◌, List, Some, Bool, true, false, refl, sym, ◌∙◌, ap, subst, ⊎_elim, length, take, drop, cases_eq, or_parts, and_cases, le-leb, true≢false, drop-take, length-drop, length-take-le, take-take, nat_le, list_any, range_with_len, ClockIdentity, PortIdentity, Body, Message, same_clock, same_identity, message_length, message_octets, number_at, port_identity_at, source_port_identity, BodyFits, Fits, PortIdentityFits, message_of, Spells, SpellsBody, number_at-octets, number-take, IsOctets, message_of-some, message_of-spells, message_size, octets-take, same_identity-refl, same_clock-refl, is_forged, is_taken, IsForeign, Network, manager}
+use Rattle.ptpm_network.proofs.Common.{suc, zero, arith, ◌≡◌, ℕ, ◌<◌, ◌≤◌, ◌+◌, ◌-◌, ◌^◌, List, Some, Bool, true, false, refl, sym, ◌∙◌, ap, subst, ⊎_elim, length, take, drop, cases_eq, or_parts, and_cases, le-leb, true≢false, drop-take, length-drop, length-take-le, take-take, nat_le, list_any, range_with_len, PortIdentity, Body, Message, same_clock, same_identity, message_length, message_octets, number_at, port_identity_at, source_port_identity, BodyFits, Fits, PortIdentityFits, message_of, Spells, SpellsBody, number_at-octets, number-take, IsOctets, message_of-some, message_of-spells, message_size, octets-take, same_identity-refl, same_clock-refl, is_forged, is_taken, IsForeign, Network, manager}
 use Rattle.ptpm_codec.specs.declared.message.Body.TheVariants as bodies
 
 -- ---- ranges
@@ -41,25 +41,16 @@ none_of_range test (suc n) a i e le lt =
     (λ (ne : a ≡ i → ⊥). none_of_range test n (a + 1) i p.1 (omega arith) (omega arith))
     (cases_eq a i)
 
-not_taken-clock : (who : PortIdentity) (clock : ClockIdentity)
-    → same_clock who.clock clock ≡ false → who.clock ≡ clock
-    → ⊥
-not_taken-clock who clock n h = true≢false (sym (same_clock-refl who.clock) ∙ (ap (same_clock who.clock) h ∙ n))
-
-not_taken-session : (who m : PortIdentity) → same_identity who m ≡ false → who ≡ m → ⊥
-not_taken-session who m n h = true≢false (sym (same_identity-refl who) ∙ (ap (same_identity who) h ∙ n))
-
 untaken : (N : Network) (v : Message) (who : PortIdentity)
     → v.source ≡ who → is_taken N who ≡ false
     → IsForeign N v
 untaken N v who e none =
     let parts = or_parts (list_any (λ c. same_clock who.clock (N.clock c).identity) (range_with_len 0 N.clocks)) (list_any (λ s. same_identity who (manager N s)) (range_with_len 0 N.sessions)) none in
     record {
-      no_request = λ s exists h. not_taken-session who (manager N s)
-          (none_of_range (λ t. same_identity who (manager N t)) N.sessions 0 s parts.1 (omega arith) (omega (arith, exists))) (sym e ∙ h);
-      no_reply = λ c s there exists from' h. not_taken-clock who (N.clock c).identity
-          (none_of_range (λ d. same_clock who.clock (N.clock d).identity) N.clocks 0 c parts.0 (omega arith) (omega (arith, there)))
-          (ap (λ (m : PortIdentity). m.clock) (sym e) ∙ from');
+      no_request = λ s exists h. true≢false (sym (same_identity-refl who) ∙ (ap (same_identity who) (sym e ∙ h)
+          ∙ none_of_range (λ t. same_identity who (manager N t)) N.sessions 0 s parts.1 (omega arith) (omega (arith, exists))));
+      no_reply = λ c s there exists from' h. true≢false (sym (same_clock-refl who.clock) ∙ (ap (same_clock who.clock) (ap (λ (m : PortIdentity). m.clock) (sym e) ∙ from')
+          ∙ none_of_range (λ d. same_clock who.clock (N.clock d).identity) N.clocks 0 c parts.0 (omega arith) (omega (arith, there))));
     }
 
 -- ---- the source of a message stands within it

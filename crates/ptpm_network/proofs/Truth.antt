@@ -18,7 +18,7 @@ passed_on-true N d m o p i u e =
     let v : Message = p.message in
     let says = i v p.read in
     let less = less_hop-message v d p.read says.0 in
-    let same : record v { hops = v.hops - 1 } ≡ u = grind (arith) in grind (arith, IsTrueTo, true-hop)
+    let same : record v { hops = v.hops - 1 } ≡ u = grind arith in grind (arith, IsTrueTo, true-hop)
 
 -- ---- a turn
 

@@ -1,5 +1,5 @@
 -- What a clock sends in a turn is what the machine says that it sends.
-use Rattle.ptpm_network.proofs.Common.{arith, by_test, ◌≡◌, ℕ, ◌&&◌, ◌||◌, not, List, Option, Some, None, Result, Ok, Err, Bool, true, false, refl, sym, ◌∙◌, ap, length, and_from, and_left, and_right, and_parts, cond-true, cond-false, true≢false, DecodeError, PortIdentity, Message, message_of, reading, DataSetsValue, Verdict, forwarded, StandsAt, Delivery, History, RequestCopy, copy_of, is_copy, heard_of, is_addressed, is_own, Clock, State, Turned, judged, reply_by, reply_messages, turn, turn_by, IsInTime, no_copy, turns_as, judged-foreign, judged-request, message_of-reading, reading-message_of, turn-message, answer_messages, delivery, is_read, read_messages, Frame, judged-own, judged-away, judged-reply}
+use Rattle.ptpm_network.proofs.Common.{arith, by_test, ◌≡◌, ℕ, ◌&&◌, ◌||◌, List, Option, Some, None, Result, Ok, Err, Bool, true, false, refl, sym, ◌∙◌, ap, length, and_from, and_left, and_right, and_parts, cond-true, cond-false, true≢false, DecodeError, PortIdentity, Message, message_of, reading, DataSetsValue, Verdict, forwarded, StandsAt, Delivery, History, RequestCopy, copy_of, is_copy, heard_of, is_addressed, is_own, Clock, State, judged, reply_by, reply_messages, turn, IsInTime, no_copy, turns_as, judged-foreign, judged-request, message_of-reading, reading-message_of, turn-message, answer_messages, delivery, is_read, read_messages, Frame, judged-own, judged-away, judged-reply}
 use Rattle.ptpm_agent.specs.Turn.{is_in_domain}
 
 -- ---- a message that is no numbered copy
@@ -17,18 +17,6 @@ is_read-foreign true true r x e = absurd (true≢false e)
 is_read-foreign true false r x e = refl
 is_read-foreign false b r x e = refl
 
-is_read-own : (a b o x : Bool) → o ≡ true → (a && (b && (not o && x))) ≡ false
-is_read-own a b o x e = and_right a _ (and_right b _ (and_left (not o) x (ap not e)))
-
-is_read-away : (a b o d x : Bool) → d ≡ false → (a && (b && (not o && (d && x)))) ≡ false
-is_read-away a b o d x e = and_right a _ (and_right b _ (and_right (not o) _ (and_left d x e)))
-
-is_read-reply : (a b o d q x : Bool) → q ≡ false → (a && (b && (not o && (d && (q && x))))) ≡ false
-is_read-reply a b o d q x e = and_right a _ (and_right b _ (and_right (not o) _ (and_right d _ (and_left q x e))))
-
-not_repeat : (o d q r : Bool) → r ≡ false → (not o && (d && (q && r))) ≡ false
-not_repeat o d q r e = and_right (not o) _ (and_right d _ (and_right q r e))
-
 in_domain : (a b r : Bool) → (a && (b || r)) ≡ true → r ≡ false → (a ≡ true) × (b ≡ true)
 in_domain true true r y e = (refl, refl)
 in_domain true false r y e = absurd (true≢false (sym y ∙ e))
@@ -39,36 +27,19 @@ module _ (c : Clock) (s : State) (ingress : ℕ) (v : Message) (n : is_copy c (l
       → is_own c v ≡ false → is_addressed c s.sets v ≡ true
       → reply_messages c ingress (heard_of v) (reply_by (judged c s v) c s v)
       ≡ read_messages c s.sets ingress (Some v)
-  says_request_or_nothing d o a = grind (arith, true≢false, and_parts, says_nothing, judged-reply, is_read-reply, cond-false, judged-request, not_repeat, in_domain, and_from, cond-true)
+  says_request_or_nothing d o a = grind (arith, true≢false, and_parts, says_nothing, judged-reply, and_left, and_right, cond-false, judged-request, in_domain, and_from, cond-true)
 
   says_as_read : reply_messages c ingress (heard_of v) (reply_by (judged c s v) c s v)
       ≡ read_messages c s.sets ingress (Some v)
   says_as_read = by_test (is_in_domain c s v)
       (λ d. by_test (is_own c v)
-      (λ o. grind (arith, says_nothing, judged-own, is_read-own))
+      (λ o. grind (arith, says_nothing, judged-own, and_left, and_right))
       (λ o. by_test (is_addressed c s.sets v)
       (λ a. says_request_or_nothing d o a)
-      (λ a. grind (arith, says_nothing, judged-away, is_read-away))))
+      (λ a. grind (arith, says_nothing, judged-away, and_left, and_right))))
       (λ d. grind (arith, says_nothing, judged-foreign, is_read-foreign))
 
 -- ---- a turn
-
-turn-refused : (c : Clock) (s : State) (ingress : ℕ) (d : List ℕ) (cause : DecodeError)
-    → reading d ≡ Err cause
-    → turn c s ingress d ≡ turn_by c s ingress d (Err cause)
-unfolding turn
-turn-refused c s ingress d cause e = ap (λ (r : Result Message DecodeError). turn_by c s ingress d r) e
-
-not_both : {X : Type 0} (cause : DecodeError) (v : Message) (r : Result Message DecodeError)
-    → r ≡ Err cause → r ≡ Ok v
-    → X
-not_both cause v r e h = let q : Err cause ≡ Ok v = sym e ∙ h in absurd (cc)
-
-no_message : (d : List ℕ) (cause : DecodeError) (o : Option Message)
-    → message_of d ≡ o → reading d ≡ Err cause
-    → o ≡ None
-no_message d cause None m e = refl
-no_message d cause (Some v) m e = not_both cause v (reading d) e (reading-message_of d v m)
 
 pub turn-forwards : (c : Clock) (s : State) (ingress : ℕ) (d : List ℕ)
     → (turn c s ingress d).forwards ≡ forwarded c.identity ingress s.sets d
@@ -79,38 +50,30 @@ pub turn-reads : (c : Clock) (s : State) (x : Delivery) (r : Result Message Deco
     → reading x.datagram ≡ r → copy_of c (length s.sets.ports) x ≡ None
     → (turn c s x.ingress x.datagram).replies
     ≡ read_messages c s.sets x.ingress (message_of x.datagram)
-turn-reads c s x (Err cause) e none =
-    ap (λ (t : Turned). t.replies) (turn-refused c s x.ingress x.datagram cause e)
-    ∙ sym (ap (read_messages c s.sets x.ingress) (no_message x.datagram cause (message_of x.datagram) refl e))
+unfolding turn
+turn-reads c s x (Err cause) e none = grind (arith, reading-message_of)
 turn-reads c s x (Ok v) e none =
-    let m : message_of x.datagram ≡ Some v = message_of-reading x.datagram v e in
-    ap (λ (t : Turned). t.replies) (turn-message c s x.ingress x.datagram v m)
-    ∙ says_as_read c s x.ingress v (no_copy c (length s.sets.ports) x v none m)
-    ∙ sym (ap (read_messages c s.sets x.ingress) m)
+    let m : message_of x.datagram ≡ Some v = message_of-reading x.datagram v e in grind (arith, turn-message, says_as_read, no_copy)
 
 -- ---- both are the machine's
 
-pub turn-passes_on : (c : Clock) (first : PortIdentity → ℕ) (s : State) (h : History) (ingress : ℕ)
-    (f : Frame)
-    → StandsAt first s h
-    → (turn c s ingress f.octets).forwards ≡ forwarded c.identity ingress h.sets f.octets
-turn-passes_on c first s h ingress f at = turn-forwards c s ingress f.octets ∙ ap (λ (d : DataSetsValue). forwarded c.identity ingress d f.octets) at.sets
+module _ (c : Clock) (first : PortIdentity → ℕ) (s : State) (h : History) (ingress : ℕ) (f : Frame) where
+  pub turn-passes_on : StandsAt first s h
+      → (turn c s ingress f.octets).forwards ≡ forwarded c.identity ingress h.sets f.octets
+  turn-passes_on at = turn-forwards c s ingress f.octets ∙ ap (λ (d : DataSetsValue). forwarded c.identity ingress d f.octets) at.sets
 
-answers-by : (c : Clock) (first : PortIdentity → ℕ) (s : State) (h : History) (ingress : ℕ)
-    (f : Frame) (o : Option RequestCopy)
-    → StandsAt first s h
-    → ((k : RequestCopy) → copy_of c (length h.sets.ports) (delivery ingress f) ≡ Some k → IsInTime first h k)
-    → copy_of c (length h.sets.ports) (delivery ingress f) ≡ o
-    → (turn c s ingress f.octets).replies ≡ answer_messages c h ingress f.octets o
-answers-by c first s h ingress f None at time e =
-    turn-reads c s (delivery ingress f) (reading f.octets) refl (ap (λ (d : DataSetsValue). copy_of c (length d.ports) (delivery ingress f)) at.sets ∙ e)
-    ∙ ap (λ (d : DataSetsValue). read_messages c d ingress (message_of f.octets)) at.sets
-answers-by c first s h ingress f (Some k) at time e = (turns_as first c s h (delivery ingress f) k at e (time k e)).replies
+  answers-by : (o : Option RequestCopy)
+      → StandsAt first s h
+      → ((k : RequestCopy) → copy_of c (length h.sets.ports) (delivery ingress f) ≡ Some k → IsInTime first h k)
+      → copy_of c (length h.sets.ports) (delivery ingress f) ≡ o
+      → (turn c s ingress f.octets).replies ≡ answer_messages c h ingress f.octets o
+  answers-by None at time e =
+      turn-reads c s (delivery ingress f) (reading f.octets) refl (ap (λ (d : DataSetsValue). copy_of c (length d.ports) (delivery ingress f)) at.sets ∙ e)
+      ∙ ap (λ (d : DataSetsValue). read_messages c d ingress (message_of f.octets)) at.sets
+  answers-by (Some k) at time e = (turns_as first c s h (delivery ingress f) k at e (time k e)).replies
 
-pub turn-answers : (c : Clock) (first : PortIdentity → ℕ) (s : State) (h : History) (ingress : ℕ)
-    (f : Frame)
-    → StandsAt first s h
-    → ((k : RequestCopy) → copy_of c (length h.sets.ports) (delivery ingress f) ≡ Some k → IsInTime first h k)
-    → (turn c s ingress f.octets).replies
-    ≡ answer_messages c h ingress f.octets (copy_of c (length h.sets.ports) (delivery ingress f))
-turn-answers c first s h ingress f at time = answers-by c first s h ingress f (copy_of c (length h.sets.ports) (delivery ingress f)) at time refl
+  pub turn-answers : StandsAt first s h
+      → ((k : RequestCopy) → copy_of c (length h.sets.ports) (delivery ingress f) ≡ Some k → IsInTime first h k)
+      → (turn c s ingress f.octets).replies
+      ≡ answer_messages c h ingress f.octets (copy_of c (length h.sets.ports) (delivery ingress f))
+  turn-answers at time = answers-by (copy_of c (length h.sets.ports) (delivery ingress f)) at time refl

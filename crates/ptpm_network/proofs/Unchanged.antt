@@ -17,14 +17,9 @@ pub strangers-leave : (N : Network) (es : List Event) (c port : ℕ) (datagram :
     → IsNetwork N → AllByRecursion IsInRange es → IsInRange (Stranger c port datagram)
     → history N (step N (run N (initial_state N) es) (Stranger c port datagram)) d
     ≡ history N (run N (initial_state N) es) d
-strangers-leave N es c port datagram d n i octets = grind (arith, reached, after-step, strange-happens)
+strangers-leave N es c port datagram d n i octets = grind (arith, after-step, strange-happens, reached)
 
 -- ---- refused requests
-
-pub no_copy-leaves : (N : Network) (w : NetworkState) (c : ℕ) (x : Delivery)
-    → copy_of (N.clock c) (ports N c) x ≡ None
-    → history N (arrives w c x) c ≡ history N w c
-no_copy-leaves N w c x none = history-here N w c x ∙ ap (after_arrival (N.clock c) (history N w c)) none
 
 pub refused-copy : (c : Clock) (h : History) (copy : RequestCopy) (r : ReplyValue) (a : Answer)
     (error : ErrorId)

@@ -8,6 +8,7 @@ use Rattle.ptpm_network.proofs.Messages.{passed_on}
 use Rattle.ptpm_network.proofs.Origins.{IsTrue, IsTrueTo, heard-true}
 use Rattle.ptpm_network.proofs.Requests.{read_answered}
 use Rattle.ptpm_network.proofs.Steps.{KeptStays, more-frames, origin-stays}
+use Rattle.ptpm_network.proofs.Tests.{and_first, and_rest}
 
 -- ---- a message that comes in
 
@@ -23,7 +24,7 @@ record ReadParts (c : Clock) (d : DataSetsValue) (v : Message) : Type 0 where
   pub not_numbered : is_numbered c v ≡ false
 
 read_parts : (c : Clock) (d : DataSetsValue) (v : Message) → is_read c d v ≡ true → ReadParts c d v
-read_parts c d v y = grind (arith, and_parts, not-true)
+read_parts c d v y = search (and_first, and_rest, not-true)
 
 -- what is not numbered is of no session
 no_session : (N : Network) (c : ℕ) (d : DataSetsValue) (o : Origin) (v : Message)
@@ -41,7 +42,7 @@ foreign-reply : (N : Network) (c : ℕ) (v u : Message)
     → u.source.clock ≡ (N.clock c).identity → u.target ≡ v.source
     → IsForeign N u
 foreign-reply N c v u n place none source target = record {
-  no_request = grind (arith);
+  no_request = grind arith;
   no_reply = λ d s there exists from' h. none s exists (sym target ∙ h);
 }
 
@@ -63,9 +64,8 @@ heard-stays : (N : Network) (w u : NetworkState) (octets : List ℕ) (o : Origin
     → ((s i : ℕ) → (w.session s).begun ≡ (u.session s).begun) → KeptStays N w u
     → IsHeard N w octets o
     → IsHeard N u octets o
-heard-stays N w u octets (RequestOf s k) same kept i = origin-stays N w u (λ t j q e. subst (λ b. slice_get b j ≡ Some q) (same t j) e) kept octets (RequestOf s k) i
-heard-stays N w u octets (ReplyTo s k) same kept i = origin-stays N w u (λ t j q e. subst (λ b. slice_get b j ≡ Some q) (same t j) e) kept octets (ReplyTo s k) i
 heard-stays N w u octets Neither same kept i = i
+heard-stays N w u octets o same kept i = origin-stays N w u (λ t j q e. subst (λ b. slice_get b j ≡ Some q) (same t j) e) kept octets o i
 
 answering-frames : (N : Network) (w : NetworkState) (c port : ℕ) (f : Frame)
     (o : Option RequestCopy)

@@ -20,8 +20,8 @@ over_clock_0 = record { clock = 0; near = 1; far = 2 } ∷ []
 ring-way : IsWay ring_of_three_clocks (in_ring (Begin 0 get_priority1 ∷ [])) 0 over_clock_0 1
 unfolding refusal happens begin_refusal ask_refusal target_port row_of
 ring-way = record {
-  leads = grind (arith);
-  passes = grind (arith);
+  leads = grind arith;
+  passes = grind arith;
   hops_suffice = omega arith;
   heard = inl refl;
 }

@@ -1,5 +1,5 @@
 -- What a report is worth: its request was carried out exactly once, and the report tells the answer of that moment.
-use Rattle.ptpm_network.proofs.Common.{by_test, suc, zero, arith, ◌≡◌, ℕ, ◌<◌, ◌≤◌, ◌+◌, ◌-◌, ◌==◌, ◌&&◌, max, Bool, List, [], ◌∷◌, ◌++◌, Some, None, refl, sym, ◌∙◌, ap, subst, ⊎_elim, ◌⊎◌, inl, inr, length, length-append, append_assoc, and_parts, and_left, and_right, eqb-true, ltb-true, ne_eqb, cond-true, cond-false, lt-ltb, append-nil, not, slice_get, AllByRecursion, find, PortIdentity, same_identity, first_of, DataSetsValue, Answer, RequestValue, same_identity-true, Accepted, History, RequestCopy, accepted_from, after_copy, applied_once, initial_history, greatest, joins, kept_reply, Clock, Ask, Report, begin_refusal, Begin, BeginRefused, Event, IsInRange, NoSuchName, no_session, refusal, IsReached, WasAccepted, run, IsNetwork, Network, manager, NetworkState, SessionState, accepted_at_target, copies_at, initial_state, history, issued, outcomes_kept, reports_by, reports_of, unanswered, IsWorth, WasCarriedOut, entries_of, all_weaker}
+use Rattle.ptpm_network.proofs.Common.{by_test, suc, zero, arith, ◌≡◌, ℕ, ◌<◌, ◌≤◌, ◌+◌, ◌-◌, ◌==◌, ◌&&◌, max, Bool, List, [], ◌∷◌, ◌++◌, Some, None, refl, sym, ◌∙◌, ap, subst, ⊎_elim, ◌⊎◌, inl, inr, length, length-append, append_assoc, and_parts, and_left, and_right, eqb-true, ltb-true, ne_eqb, cond-true, cond-false, lt-ltb, append-nil, is_some, not, slice_get, AllByRecursion, find, PortIdentity, same_identity, first_of, DataSetsValue, Answer, RequestValue, same_identity-true, Accepted, History, RequestCopy, accepted_from, after_copy, applied_once, initial_history, greatest, joins, kept_reply, Clock, Ask, Report, begin_refusal, Begin, BeginRefused, Event, IsInRange, NoSuchName, no_session, refusal, IsReached, WasAccepted, run, IsNetwork, Network, manager, NetworkState, SessionState, accepted_at_target, copies_at, initial_state, history, issued, outcomes_kept, reports_by, reports_of, unanswered, IsWorth, WasCarriedOut, entries_of, all_weaker}
 use Rattle.std.proofs.Math.Nat.{ne_of_lt}
 use Rattle.ptpm_manager.specs.declared.error.BeginError.TheVariants as begins
 use Rattle.ptpm_network.proofs.Accepting.{report_of}
@@ -65,11 +65,6 @@ first-entry m k (d ∷ es) e kept = by_test (same_identity m d.manager && d.inde
 alone : (e : Accepted) (rest es : List Accepted) → es ≡ e ∷ rest → length es ≤ 1 → es ≡ e ∷ []
 alone e [] es is few = is
 alone e (d ∷ rest) es is few = let size : length es ≡ suc (suc (length rest)) = ap length is in absurd (omega arith)
-
-only-entry : (m : PortIdentity) (k : ℕ) (es : List Accepted) (e : Accepted)
-    → AreOnce es → kept_reply m k es ≡ Some e
-    → entries_of m k es ≡ e ∷ []
-only-entry m k es e once kept = let first = first-entry m k es e kept in alone e first.0 (entries_of m k es) first.1 (once m k)
 
 -- ---- the moment at which a request was carried out
 
@@ -186,20 +181,17 @@ module _ (N : Network) (es : List Event) (s i : ℕ) (r : Report) (n : IsNetwork
       let w : NetworkState = run N (initial_state N) es in
       let is = told N w s i r (reached N es n range) place e in
       let index : suc i ≡ r.index = sym (ap (λ (p : Report). p.index) is.is) in
-      let kept : kept_reply (manager N s) r.index (accepted_at_target N w s) ≡ Some is.entry = grind (arith) in
+      let accepted = accepted_at_target N w s in
+      let kept : kept_reply (manager N s) r.index accepted ≡ Some is.entry = grind arith in
       record {
         entry = is.entry;
-        once = grind (arith, only-entry, at_most_once);
-        begun_as = grind (arith);
+        once = let first = first-entry (manager N s) r.index accepted is.entry kept in alone is.entry first.0 _ first.1 (at_most_once N w (N.session s).target (manager N s) r.index);
+        begun_as = grind arith;
         carried_out = grind (arith, carried_out);
         answer = is.answer;
         one = is.one;
         outcome = ap (λ (p : Report). p.outcome) is.is;
       }
-
-pub once : (N : Network) (es : List Event) (c : ℕ) (m : PortIdentity) (k : ℕ)
-    → length (entries_of m k (history N (run N (initial_state N) es) c).accepted) ≤ 1
-once N es c m k = at_most_once N (run N (initial_state N) es) c m k
 
 -- ---- a session waits for its report
 
@@ -213,17 +205,8 @@ pub unanswered-some : (s : SessionState)
 unanswered-some s lt =
     let last = get-below s.begun (length s.begun - 1) (omega arith) in grind (arith, cond-false, ne_eqb, ne_of_lt)
 
-pub unreported-last : (N : Network) (es : List Event) (s k : ℕ)
-    → IsNetwork N → AllByRecursion IsInRange es → s < N.sessions
-    → length ((run N (initial_state N) es).session s).reports < k
-    → k ≤ issued (run N (initial_state N) es) s
-    → k ≡ issued (run N (initial_state N) es) s
-unreported-last N es s k n range place lt le = omega (arith, lt, le, ((reached N es n range).sessions s place).one_at_a_time)
-
-pub waits-for_report : (N : Network) (es : List Event) (s : ℕ) (a : Ask)
-    → s < N.sessions
-    → length ((run N (initial_state N) es).session s).reports
-    < issued (run N (initial_state N) es) s
-    → refusal N (run N (initial_state N) es) (Begin s a) ≡ Some (BeginRefused begins.Busy)
-unfolding begin_refusal refusal
-waits-for_report N es s a place lt = grind (arith, unanswered-some, session-named)
+pub begins-busy : (N : Network) (w : NetworkState) (s : ℕ) (a : Ask)
+    → s < N.sessions → length (w.session s).reports < issued w s
+    → refusal N w (Begin s a) ≡ Some (BeginRefused begins.Busy)
+unfolding refusal begin_refusal
+begins-busy N w s a place lt = grind (arith, is_some, unanswered-some, session-named)

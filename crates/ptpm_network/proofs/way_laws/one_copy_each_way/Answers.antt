@@ -1,14 +1,25 @@
-use Rattle.ptpm_network.proofs.Exchanging.{copy-replied, delivery-taken, never-late, reply-reported}
+use Rattle.ptpm_network.proofs.Exchanging.{delivery-taken, delivery-step, reports-answer, replied}
 use Rattle.ptpm_network.proofs.way_laws.one_copy_each_way.Goals as goal
+use Rattle.ptpm_network.proofs.Common.{HasReplied, run, issued, sym, HasReported, arith, subst, le-ltb, NetworkState, AtSession, ◌+◌, AtPort, initial_state}
+use Rattle.ptpm_network.proofs.Schedule.{reached}
+use Rattle.ptpm_network.proofs.Reaching.{frame_at-is}
 
 pub returns-clause-in_time : goal.returns-clause-in_time
-returns-clause-in_time c = never-late
+returns-clause-in_time c = λ w s. let now = le-ltb (issued w s + 32768) (issued w s) (omega arith) in (now, now)
 
 pub returns-clause-taken : goal.returns-clause-taken
 returns-clause-taken c = delivery-taken
 
 pub returns-clause-request : goal.returns-clause-request
-returns-clause-request c = copy-replied
+returns-clause-request c = λ N es n s port f net range place e end origin heard room.
+    let w : NetworkState = run N (initial_state N) es in
+    let r = reached N es net range in
+    subst (λ (u : NetworkState). HasReplied N w u s port f.octets) (sym (delivery-step N w n f (AtPort (N.session s).target port) e end room))
+    (replied N w s port f net r place (frame_at-is N w n f r e) end origin heard)
 
 pub returns-clause-reply : goal.returns-clause-reply
-returns-clause-reply c = reply-reported
+returns-clause-reply c = λ N es n s f net range place e end origin busy domain room.
+    let w : NetworkState = run N (initial_state N) es in
+    let r = reached N es net range in
+    subst (λ (u : NetworkState). HasReported w u s) (sym (delivery-step N w n f (AtSession s) e end room))
+    (reports-answer N w s f net r place (frame_at-is N w n f r e) origin busy domain)
