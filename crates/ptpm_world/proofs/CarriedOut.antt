@@ -1,25 +1,19 @@
 -- A step, and a run, change nothing of a clock but by the requests that it carries out.
-use Rattle.ptpm_world.proofs.Common.{◌≡◌, ◌∙◌, ℕ, List, [], ◌∷◌, Ok, Err, IsOkAnd, OnOk, Result, ap, Happened, Leads, Network, Refusal, RunningNetwork, network_event, StepError, Took, World, IsStep, running}
+use Rattle.ptpm_world.proofs.Common.{subst, ◌≡◌, ◌∙◌, ℕ, List, [], ◌∷◌, Ok, Err, IsOkAnd, OnOk, Result, ap, Happened, Leads, Network, Refusal, RunningNetwork, network_event, StepError, Took, World, IsStep, running}
 use Rattle.std.specs.Prelude.{IfOk}
 use Rattle.ptpm_agent.specs.CarriedOut.{after_requests}
-use Rattle.ptpm_agent.specs.Turn.{State}
 use Rattle.ptpm_network.specs.CarriedOut.{carried_by_event, carried_by_events, carried_while}
 use Rattle.ptpm_network.specs.Events.{Event}
 use Rattle.ptpm_network.proofs.CarriedOut.{event-carried, then-carried}
-use Rattle.ptpm_world.proofs.Ending.{step-went}
-
-went-carried : (x : Result Happened Refusal) (new : RunningNetwork) (c : ℕ) (state : State)
-    → IsOkAnd x (λ h. new ≡ h.network)
-    → IfOk x (λ h. h.network.clock c ≡ state)
-    → new.clock c ≡ state
-went-carried (Ok h) new c state went is = ap (λ (r : RunningNetwork). r.clock c) went ∙ is
-went-carried (Err why) new c state went is = absurd went
+use Rattle.ptpm_world.proofs.Ending.{happened, step-went}
 
 pub step-carries : (N : Network) (c : ℕ) (old new : World) (e : Event) (result : Result Took StepError)
     → IsStep N old new e result
     → OnOk result ((running new).clock c ≡ after_requests (N.clock c) ((running old).clock c) (carried_by_event N (running old) c e))
 step-carries N c old new e (Ok t) step =
-    went-carried (network_event N (running old) e) (running new) c _ (step-went N old new e t step) (event-carried N (running old) c e)
+    let h = happened (network_event N (running old) e) (running new) (step-went N old new e t step) in
+    ap (λ (r : RunningNetwork). r.clock c) h.2
+    ∙ subst (λ (x : Result Happened Refusal). IfOk x (λ k. k.network.clock c ≡ after_requests (N.clock c) ((running old).clock c) (carried_by_event N (running old) c e))) h.1 (event-carried N (running old) c e)
 step-carries N c old new e (Err why) step = tt
 
 goes_on-carries : (N : Network) (r new : RunningNetwork) (c : ℕ) (e : Event) (es : List Event)

@@ -1,18 +1,17 @@
 -- Events at a clock: what the world becomes, and what is answered.
-use Rattle.ptpm_world.proofs.Common.{arith, ◌≡◌, ℕ, ◌<◌, ◌&&◌, not, List, ◌++◌, Some, None, Ok, Err, true, false, refl, sym, ◌∙◌, ap, length, nat_lt, nat_le, and_from, and_left, and_right, cond-true, cond-false, le-ltb, lt-ltb, slice_get_within, flat_map, map, slice_get, DataSetsValue, has_port, State, turn, Deliver, Stranger, NoSuchFrame, frames_limit, frame_at, is_forged, no_port, no_room, Held, delivers, held, network_event, reaches, seen, takes_turn, turn_frames, strange_frame, AtPort, Network, origin_by, posted_by, Frame, Origin, Neither, World, RunningClock, held_in, link_ends, IsOf, agent_clock, agent_state, running, IsStep}
+use Rattle.ptpm_world.proofs.Common.{arith, ◌≡◌, ℕ, ◌<◌, ◌&&◌, not, List, ◌++◌, Some, None, Ok, Err, true, false, sym, ◌∙◌, ap, length, nat_lt, nat_le, and_from, and_left, and_right, cond-true, cond-false, le-ltb, lt-ltb, slice_get_within, flat_map, map, slice_get, DataSetsValue, has_port, State, turn, Deliver, Stranger, NoSuchFrame, frames_limit, frame_at, is_forged, no_port, Held, delivers, held, network_event, takes_turn, turn_frames, Network, origin_by, posted_by, Frame, World, RunningClock, held_in, link_ends, IsOf, agent_clock, agent_state, running, IsStep}
 use Rattle.std.proofs.Math.Nat.{le_refl}
 use Rattle.ptpm_agent.specs.Agent.{IsTurned}
 use Rattle.ptpm_agent.specs.declared.verdict.Verdict.{Verdict}
-use Rattle.ptpm_network.specs.Network.{End}
 use Rattle.ptpm_network.proofs.Posting.{held-turn_frames}
 use Rattle.ptpm_agent.proofs.Lists.{state_after}
 use Rattle.ptpm_agent.proofs.TurnKeeps.{turn-ports}
 use Rattle.ptpm_world.specs.declared.took.StepError.TheVariants as errors
 use Rattle.ptpm_world.specs.declared.took.Took.TheVariants.{AtClock}
-use Rattle.ptpm_network.specs.Events.{Event, forged}
+use Rattle.ptpm_network.specs.Events.{Event}
 use Rattle.ptpm_world.proofs.Changing.{ClockChange, clock_change-network, clock_change-running}
 use Rattle.ptpm_world.proofs.Ending.{step_fine, step_refused}
-use Rattle.ptpm_world.proofs.Refusing.{delivered, full, roomy, skips, stops}
+use Rattle.ptpm_world.proofs.Refusing.{full, skips, stops}
 
 -- ---- a turn
 
@@ -28,7 +27,7 @@ module _ (N : Network) (old new : World) (c port : ℕ) (x y : RunningClock) (f 
   frames_after = grind (arith, flat_map, there, held-turn_frames)
 
   -- an event that gives the clock this turn
-  turn-step : (e : Event)
+  pub turn-step : (e : Event)
       → held_in new.frames
       ≡ held_in old.frames
       ++ flat_map
@@ -52,36 +51,7 @@ pub ports_after : (x y : RunningClock) (port : ℕ) (octets : List ℕ) (verdict
     → length y.agent.sets.ports ≡ length x.agent.sets.ports
 ports_after x y port octets verdict out turned = ap (λ (d : DataSetsValue). length d.ports) turned.sets_are ∙ turn-ports (agent_clock x.agent) (agent_state x.agent) port octets
 
--- the same frames, by what is equal to their parts
-pub turned_same : (new mid old : List Held) (some links : List (List End)) (c port : ℕ)
-    (passed reply : Origin) (sent out : List (ℕ × List ℕ))
-    → new ≡ mid ++ flat_map (posted_by some c port passed reply) sent
-    → mid ≡ old
-    → some ≡ links
-    → sent ≡ out
-    → new ≡ old ++ flat_map (posted_by links c port passed reply) out
-turned_same new mid old some links c port passed reply sent out e m l o = grind (arith, flat_map)
-
 -- ---- a frame comes in
-
-pub deliver_clock-fine : (N : Network) (old new : World) (n c port : ℕ) (x y : RunningClock)
-    (h : Held) (verdict : Verdict) (out : List (ℕ × List ℕ))
-    → IsOf N old
-    → ClockChange old new c x y
-    → frame_at (held_in old.frames) n ≡ Some h
-    → h.end ≡ AtPort c port
-    → nat_lt frames_limit (length (held_in old.frames)) ≡ false
-    → IsTurned (turn (agent_clock x.agent) (agent_state x.agent) port h.octets) verdict out
-    (agent_state y.agent)
-    → held_in new.frames
-    ≡ held_in old.frames
-    ++ flat_map
-    (posted_by (link_ends old.links.items) c port h.origin (origin_by verdict h.origin))
-    out
-    → IsStep N old new (Deliver n) (Ok (AtClock verdict))
-deliver_clock-fine N old new n c port x y h verdict out is change e at room turned sent =
-    turn-step N old new c port x y (seen h) verdict out is change turned (Deliver n) sent
-    (delivered N (running old) n h e room ∙ ap (λ (end : End). Ok (reaches N (running old) h end)) at)
 
 pub deliver-no_frame : (N : Network) (old new : World) (n : ℕ)
     → IsOf N new
@@ -106,7 +76,7 @@ has_port-same : (port : ℕ) (d e : DataSetsValue)
 has_port-same port d e same = ap (λ n. nat_le 1 port && nat_le port n) same
 
 -- the clock at a place has the ports of the network's
-port_there : (N : Network) (w : World) (c port : ℕ) (x : RunningClock)
+pub port_there : (N : Network) (w : World) (c port : ℕ) (x : RunningClock)
     → IsOf N w
     → slice_get w.clocks.items c ≡ Some x
     → has_port port x.agent.sets ≡ true
@@ -122,27 +92,6 @@ pub stranger-no_clock : (N : Network) (w : World) (c port : ℕ) (datagram : Lis
     → IsStep N w w (Stranger c port datagram) (Err errors.NoSuchName)
 unfolding network_event
 stranger-no_clock N w c port datagram is e = grind (arith, step_refused, stops, le_refl, cond-true, and_left, le-ltb)
-
-pub stranger-turned : (N : Network) (old new : World) (c port : ℕ) (x y : RunningClock)
-    (datagram : List ℕ) (verdict : Verdict) (out : List (ℕ × List ℕ))
-    → IsOf N old
-    → ClockChange old new c x y
-    → has_port port x.agent.sets ≡ true
-    → is_forged N datagram ≡ false
-    → nat_lt frames_limit (length (held_in old.frames)) ≡ false
-    → IsTurned (turn (agent_clock x.agent) (agent_state x.agent) port datagram) verdict out
-    (agent_state y.agent)
-    → held_in new.frames
-    ≡ held_in old.frames
-    ++ flat_map
-    (posted_by (link_ends old.links.items) c port Neither (origin_by verdict Neither))
-    out
-    → IsStep N old new (Stranger c port datagram) (Ok (AtClock verdict))
-unfolding network_event
-stranger-turned N old new c port x y datagram verdict out is change has honest room turned sent =
-    turn-step N old new c port x y (strange_frame c port datagram) verdict out is change turned (Stranger c port datagram) sent
-    (skips (no_port N c port) _ _ (port_there N old c port x is change.at has)
-    (skips (forged N datagram) _ _ (cond-false _ _ _ honest) (skips (no_room (held_in old.frames)) _ _ (roomy (held_in old.frames) room) refl)))
 
 module _ (N : Network) (old new : World) (c port : ℕ) (x : RunningClock) (datagram : List ℕ) (is : IsOf N old) (is_new : IsOf N new) (at : slice_get old.clocks.items c ≡ Some x) where
   pub stranger-no_port : has_port port x.agent.sets ≡ false

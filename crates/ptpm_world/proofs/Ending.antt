@@ -60,6 +60,13 @@ pub step-went : (N : Network) (old new : World) (e : Event) (t : Took)
     → IsOkAnd (network_event N (running old) e) (λ h. running new ≡ h.network)
 step-went N old new e t step = grind arith
 
+-- what an event did that led here
+pub happened : (x : Result Happened Refusal) (new : RunningNetwork)
+    → IsOkAnd x (λ h. new ≡ h.network)
+    → (h : Happened) × (x ≡ Ok h) × (new ≡ h.network)
+happened (Ok h) new went = (h, refl, went)
+happened (Err why) new went = absurd went
+
 -- it is refused for this reason
 pub refused_by : (x : Result Happened Refusal) (why : StepError)
     → Err why ≡ answer_of x

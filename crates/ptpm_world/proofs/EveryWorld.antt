@@ -1,5 +1,5 @@
 -- What holds of every world, by what it keeps of itself.
-use Rattle.ptpm_world.proofs.Common.{arith, ◌≡◌, ℕ, ◌<◌, ◌≤◌, All, List, Option, Some, None, false, refl, ◌∙◌, ap, drop, length, take, length-map, length-take, slice_get_within, is_some, slice_index_or, PortIdentity, is_known, identities, AreOfManagers, HasEnd, Network, ports, Held, RunningClock, World, described_end, IsThere, port_counts, frame_in, IsOf, running, state_of, table_entries}
+use Rattle.ptpm_world.proofs.Common.{arith, ◌≡◌, ℕ, ◌<◌, ◌≤◌, All, Option, Some, None, false, refl, ◌∙◌, ap, length, length-map, length-take, slice_get_within, is_some, slice_index_or, PortIdentity, is_known, identities, AreOfManagers, HasEnd, Network, ports, Held, RunningClock, World, described_end, IsThere, port_counts, frame_in, IsOf, running, state_of, table_entries}
 use Rattle.std.proofs.lemmas.List.Elements.{All-map}
 use Rattle.std.specs.FinMap.{get}
 use Rattle.ptpm_table.specs.declared.slot_table.SlotTable.{SlotTable}
@@ -61,14 +61,9 @@ pub has_ends : (N : Network) (w : World)
 has_ends N w is = All-map (λ (f : Held). HasEnd N f.end) (frame_in w.frames.octets.items) w.frames.stored.items
     (λ k d below. has_end N w is (slice_index_or w.frames.stored.items k d).end (w.frames_there k d below).end)
 
-short_part : (start size : ℕ) (store : List ℕ)
-    → size ≤ 1472
-    → length (take size (drop start store)) ≤ 1472
-short_part start size store short = omega (arith, length-take size (drop start store), short)
-
 pub short_frames : (w : World) → All (λ (f : Held). length f.octets ≤ 1472) (running w).frames
 short_frames w = All-map (λ (f : Held). length f.octets ≤ 1472) (frame_in w.frames.octets.items) w.frames.stored.items
-    (λ k d below. grind (arith, short_part))
+    (λ k d below. grind (arith, length-take))
 
 pub few_frames : (w : World) → length (running w).frames ≤ 400000
 few_frames w = omega (arith, length-map w.frames.stored.items (frame_in w.frames.octets.items), w.frames.few)

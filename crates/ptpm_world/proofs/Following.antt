@@ -1,29 +1,12 @@
 -- From where a list of events led, a world goes on as the machine does.
-use Rattle.ptpm_world.proofs.Common.{arith, ◌≡◌, IsOkAnd, result_err, Happened, network_event, Result, Ok, Err, List, [], ◌∷◌, ◌++◌, Some, None, false, refl, ap, cond-true, cond-false, append-nil, append_assoc, is_none, option_map, IsInRange, Refusal, refusal, StandsAfter, AreInTime, is_late_delivery, run, step, taken, Network, RunningNetwork, NetworkState, initial_state, StepError, Took, World, running, IsStep}
+use Rattle.ptpm_world.proofs.Common.{arith, sym, subst, ◌∙◌, ◌≡◌, result_err, Happened, network_event, Result, Ok, Err, List, [], ◌∷◌, ◌++◌, Some, None, false, ap, cond-true, cond-false, append-nil, append_assoc, is_none, option_map, IsInRange, Refusal, refusal, StandsAfter, AreInTime, is_late_delivery, run, step, taken, Network, RunningNetwork, NetworkState, initial_state, StepError, Took, World, running, IsStep}
 use Rattle.ptpm_network.specs.Events.{Event}
 use Rattle.ptpm_network.proofs.Promise.{stands-event, stands-judged}
 use Rattle.ptpm_network.proofs.Taking.{in_time-parts, run-append, taken-append}
 use Rattle.ptpm_world.specs.Stepping.{IsMachineStep}
-use Rattle.ptpm_world.proofs.Ending.{err_is, refused_by, step-went}
+use Rattle.ptpm_world.proofs.Ending.{err_is, happened, refused_by, step-went}
 
 -- ---- a step
-
-went-none : (x : Result Happened Refusal) (P : Happened → Type 0)
-    → IsOkAnd x P
-    → result_err x ≡ None
-went-none (Ok h) P went = refl
-went-none (Err why) P went = absurd went
-
-stands-went : (N : Network) (past : List Event) (r new : RunningNetwork) (e : Event)
-    (x : Result Happened Refusal)
-    → network_event N r e ≡ x
-    → IsOkAnd x (λ h. new ≡ h.network)
-    → StandsAfter N past r
-    → IsInRange e
-    → is_late_delivery (run N (initial_state N) past) e ≡ false
-    → StandsAfter N (past ++ e ∷ []) new
-stands-went N past r new e (Ok h) is went at range prompt = grind (arith, stands-event)
-stands-went N past r new e (Err why) is went at range prompt = absurd went
 
 pub step-machine : (N : Network) (past : List Event) (old new : World) (e : Event)
     (result : Result Took StepError)
@@ -32,10 +15,10 @@ pub step-machine : (N : Network) (past : List Event) (old new : World) (e : Even
     → IsInRange e
     → IsMachineStep N past new e result
 step-machine N past old new e (Ok t) step at range =
-    let went = step-went N old new e t step in
+    let h = happened (network_event N (running old) e) (running new) (step-went N old new e t step) in
     record {
-      stands = λ prompt. stands-went N past (running old) (running new) e (network_event N (running old) e) refl went at range prompt;
-      taken = grind (arith, stands-judged, went-none);
+      stands = λ prompt. subst (λ (r : RunningNetwork). StandsAfter N (past ++ e ∷ []) r) (sym h.2) (stands-event N past (running old) e h.0 at range h.1 prompt);
+      taken = sym (stands-judged N past (running old) e at) ∙ ap (λ (x : Result Happened Refusal). result_err x) h.1;
       reason = tt;
     }
 step-machine N past old new e (Err why) step at range = grind (arith, option_map, stands-judged, refused_by, err_is)

@@ -35,36 +35,23 @@ filter_room p xs i d inside passes =
     sym (filter-append p (take (i + 1) xs) (drop (i + 1) xs)) ∙ ap (filter p) (take-append-drop (i + 1) xs) in
     omega (arith, length-append (filter p (take (i + 1) xs)) (filter p (drop (i + 1) xs)), ap length parts)
 
-found_all : {A : Type 0} (P : A → Type 0) (b : Bool) (y : A) (rest : Option A) (x : A)
+found : {A : Type 0} (P : A → Type 0) (p : A → Bool) (b : Bool) (y : A) (rest : Option A) (x : A)
+    → p y ≡ b
     → P y
-    → (rest ≡ Some x → P x)
+    → (rest ≡ Some x → P x × (p x ≡ true))
     → cond b (Some y) rest ≡ Some x
-    → P x
-found_all P true y rest x here behind h = let same : y ≡ x = cc in subst P same here
-found_all P false y rest x here behind h = behind h
+    → P x × (p x ≡ true)
+found P p true y rest x is here behind h = let same : y ≡ x = cc in subst (λ z. P z × (p z ≡ true)) same (here, is)
+found P p false y rest x is here behind h = behind h
 
 -- what holds of each element holds of the one that is found, which passes
-pub find-all : {A : Type 0} (P : A → Type 0) (p : A → Bool) (xs : List A) (x : A)
+pub find-holds : {A : Type 0} (P : A → Type 0) (p : A → Bool) (xs : List A) (x : A)
     → All P xs
     → find p xs ≡ Some x
-    → P x
-find-all P p [] x all h = absurd (cc)
-find-all P p (y ∷ ys) x all h =
-    found_all P (p y) y (find p ys) x (All-head P y ys all) (find-all P p ys x (All-tail P y ys all)) h
-
-found_passes : {A : Type 0} (p : A → Bool) (b : Bool) (y : A) (rest : Option A) (x : A)
-    → p y ≡ b
-    → (rest ≡ Some x → p x ≡ true)
-    → cond b (Some y) rest ≡ Some x
-    → p x ≡ true
-found_passes p true y rest x here behind h = let same : y ≡ x = cc in subst (λ z. p z ≡ true) same here
-found_passes p false y rest x here behind h = behind h
-
-pub find-passes : {A : Type 0} (p : A → Bool) (xs : List A) (x : A)
-    → find p xs ≡ Some x
-    → p x ≡ true
-find-passes p [] x h = absurd (cc)
-find-passes p (y ∷ ys) x h = found_passes p (p y) y (find p ys) x refl (find-passes p ys x) h
+    → P x × (p x ≡ true)
+find-holds P p [] x all h = absurd (cc)
+find-holds P p (y ∷ ys) x all h =
+    found P p (p y) y (find p ys) x refl (All-head P y ys all) (find-holds P p ys x (All-tail P y ys all)) h
 
 -- ---- ends
 
@@ -167,8 +154,8 @@ pub few_others : (counts : List ℕ) (sessions : ℕ) (e : End) (links : List Ne
     → link_of e links ≡ Some l → length (others e l.ends.items) ≤ 15
 few_others counts sessions e links l all found =
     let test : NetworkLink → Bool = λ m. list_any (is_same e) m.ends.items in
-    let few = find-all (λ m. (length m.ends.items ≤ 16) × All (IsThere counts sessions) m.ends.items) test links l all found in
-    omega (arith, few.0, others-fewer e l.ends.items (find-passes test links l found))
+    let few = find-holds (λ m. (length m.ends.items ≤ 16) × All (IsThere counts sessions) m.ends.items) test links l all found in
+    omega (arith, few.0.0, others-fewer e l.ends.items few.1)
 
 pub stored_posted : (counts : List ℕ) (sessions : ℕ) (e : End) (links : List NetworkLink)
     (l : NetworkLink) (xs : List Stored) (s : Stored)
@@ -180,9 +167,9 @@ pub stored_posted : (counts : List ℕ) (sessions : ℕ) (e : End) (links : List
 stored_posted counts sessions e links l xs s before all origin found =
     let test : NetworkLink → Bool = λ m. list_any (is_same e) m.ends.items in
     let P : Stored → Type 0 = IsStoredFrame counts sessions in
-    let there = find-all (λ m. (length m.ends.items ≤ 16) × All (IsThere counts sessions) m.ends.items) test links l all found in
+    let there = find-holds (λ m. (length m.ends.items ≤ 16) × All (IsThere counts sessions) m.ends.items) test links l all found in
     let ends : All (IsThere counts sessions) (others e l.ends.items) =
-    All-filter (λ o. not (is_same e o)) (IsThere counts sessions) l.ends.items there.1 in
+    All-filter (λ o. not (is_same e o)) (IsThere counts sessions) l.ends.items there.0.1 in
     let stored : (x : End) → IsThere counts sessions x → P (at_end s x) = λ x h. record { end = h; origin = origin } in
     All-append P xs (map (at_end s) (others e l.ends.items)) before
     (All-map P (at_end s) (others e l.ends.items) (All-weaker (IsThere counts sessions) (λ x. P (at_end s x)) stored (others e l.ends.items) ends))
@@ -210,16 +197,12 @@ pub posting-within : {links : List NetworkLink} {l : NetworkLink} {s : Stored}
     → Posting links l s store octets next xs ys → All (IsWithin next) ys
 posting-within {links} {l} {s} {store} {octets} {next} {xs} {ys} p = grind (arith, within_posted)
 
--- frames of a message of at most 1,472 octets, at these ends
-short_ends : (s : Stored) (ends : List End) → IsShort s → All IsShort (map (at_end s) ends)
-short_ends s ends short = All-map IsShort (at_end s) ends (λ k d below. short)
-
 pub posting-short : {links : List NetworkLink} {l : NetworkLink} {s : Stored}
     {store octets next : List ℕ} {xs ys : List Stored}
     → Posting links l s store octets next xs ys → All IsShort xs → IsShort s → All IsShort ys
 posting-short {links} {l} {s} {store} {octets} {next} {xs} {ys} p before short =
     subst (λ (fs : List Stored). All IsShort fs) (sym p.longer)
-    (All-append IsShort xs (map (at_end s) (others s.end l.ends.items)) before (short_ends s (others s.end l.ends.items) short))
+    (All-append IsShort xs (map (at_end s) (others s.end l.ends.items)) before (All-map IsShort (at_end s) (others s.end l.ends.items) (λ k d below. short)))
 
 pub posting-count : {links : List NetworkLink} {l : NetworkLink} {s : Stored}
     {store octets next : List ℕ} {xs ys : List Stored}

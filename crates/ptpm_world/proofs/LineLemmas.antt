@@ -89,12 +89,12 @@ end-on (Some xs) (Some ys) c first octet line None h e = e
 shown_some : (shown : List ℕ) (octet : ℕ)
     → slice_get shown 0 ≡ Some octet
     → (1 ≤ length shown) × (take 1 shown ≡ octet ∷ [])
-shown_some [] octet h = absurd (some_there octet (sym h))
+shown_some [] octet h = absurd (cc)
 shown_some (x ∷ xs) octet h = (omega arith, ap (λ o. o ∷ []) (same_Some x octet h))
 
 shown_none : (shown : List ℕ) → slice_get shown 0 ≡ None → length shown ≡ 0
 shown_none [] h = refl
-shown_none (x ∷ xs) h = absurd (some_there x h)
+shown_none (x ∷ xs) h = absurd (cc)
 
 pub octet-some : (a b c : Option (List ℕ)) (limit : Option ℕ) (shown : List ℕ) (octet : ℕ)
     → slice_get shown 0 ≡ Some octet

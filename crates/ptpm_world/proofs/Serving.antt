@@ -1,24 +1,12 @@
 -- A step, and a run, serve each session whose own messages come in time, whatever comes late of others.
-use Rattle.ptpm_world.proofs.Common.{arith, ◌≡◌, ℕ, List, [], ◌∷◌, ◌++◌, Ok, Err, IsOkAnd, OnOk, Result, false, refl, sym, subst, Happened, IsInRange, Leads, Network, Refusal, RunningNetwork, network_event, StepError, Took, World, IsStep, running}
+use Rattle.ptpm_world.proofs.Common.{arith, ◌≡◌, ℕ, List, [], ◌∷◌, ◌++◌, Ok, Err, IsOkAnd, OnOk, Result, false, sym, subst, Happened, IsInRange, Leads, Network, Refusal, RunningNetwork, network_event, StepError, Took, World, IsStep, running}
 use Rattle.ptpm_network.specs.ByManager.{Account, StaysInTime, account_from, account_while, account_with, in_time_while, is_late_for}
 use Rattle.ptpm_network.specs.Events.{Event}
 use Rattle.ptpm_network.specs.Served.{IsServedSoFar}
 use Rattle.ptpm_network.proofs.Served.{served-event}
-use Rattle.ptpm_world.proofs.Ending.{step-went}
+use Rattle.ptpm_world.proofs.Ending.{happened, step-went}
 
 -- ---- a step
-
-went-served : (N : Network) (s : ℕ) (r new : RunningNetwork) (a : Account) (e : Event)
-    (x : Result Happened Refusal)
-    → network_event N r e ≡ x
-    → IsOkAnd x (λ h. new ≡ h.network)
-    → IsServedSoFar N s r a
-    → IsInRange e
-    → is_late_for N s r e ≡ false
-    → IsServedSoFar N s new (account_with N s r e a)
-went-served N s r new a e (Ok h) is went at range prompt =
-    subst (λ (z : RunningNetwork). IsServedSoFar N s z (account_with N s r e a)) (sym went) (served-event N s r a e h at range is prompt)
-went-served N s r new a e (Err why) is went at range prompt = absurd went
 
 pub step-serves : (N : Network) (s : ℕ) (old new : World) (a : Account) (e : Event)
     (result : Result Took StepError)
@@ -28,7 +16,8 @@ pub step-serves : (N : Network) (s : ℕ) (old new : World) (a : Account) (e : E
     → is_late_for N s (running old) e ≡ false
     → OnOk result (IsServedSoFar N s (running new) (account_with N s (running old) e a))
 step-serves N s old new a e (Ok t) step at range prompt =
-    went-served N s (running old) (running new) a e (network_event N (running old) e) refl (step-went N old new e t step) at range prompt
+    let h = happened (network_event N (running old) e) (running new) (step-went N old new e t step) in
+    subst (λ (z : RunningNetwork). IsServedSoFar N s z (account_with N s (running old) e a)) (sym h.2) (served-event N s (running old) a e h.0 at range h.1 prompt)
 step-serves N s old new a e (Err why) step at range prompt = tt
 
 -- ---- a list of events, and one more

@@ -1,5 +1,5 @@
 -- Events at a session: what the world becomes, and what is answered.
-use Rattle.ptpm_world.proofs.Common.{arith, ◌≡◌, ℕ, ◌<◌, List, [], ◌∷◌, ◌++◌, Option, Some, None, Result, Ok, Err, OnOk, OnErr, IfOk, IfErr, is_some, not, if◌then◌else◌, true, false, refl, sym, ◌∙◌, ap, subst, option_map, length, nat_lt, slice_get_within, append-nil, slice_get, slice_set, Report, SessionValue, begin_refusal, begun, due_message, is_waiting, resumed, retuned, send_refusal, Begin, Send, Resume, Retune, Deliver, BeginRefused, SendRefused, Refusal, frame_at, frames_limit, Done, Happened, Held, acts, hears, network_event, posted, reaches, sends_in, sent_posted, unless_refused, with_session_value, AtSession, Network, peers, Origin, RequestOf, StepError, Took, World, RunningSession, held_in, link_ends, IsOf, reports_of, running, session_of, IsStep, begin_error, error_of, heard, reports_in, cond-true, cond-false}
+use Rattle.ptpm_world.proofs.Common.{arith, ◌≡◌, ℕ, ◌<◌, List, [], ◌∷◌, ◌++◌, Option, Some, None, Result, Ok, Err, OnOk, OnErr, IfOk, IfErr, is_some, not, if◌then◌else◌, true, false, refl, sym, ◌∙◌, ap, subst, option_map, length, nat_lt, slice_get_within, append-nil, slice_get, slice_set, Report, SessionValue, begin_refusal, due_message, send_refusal, Begin, Send, Deliver, BeginRefused, SendRefused, Refusal, frame_at, frames_limit, Done, Happened, Held, acts, hears, network_event, posted, reaches, sends_in, sent_posted, unless_refused, with_session_value, AtSession, Network, peers, RequestOf, StepError, Took, World, RunningSession, held_in, link_ends, IsOf, reports_of, running, session_of, IsStep, begin_error, error_of, heard, reports_in}
 use Rattle.std.proofs.Math.Nat.{le_refl}
 use Rattle.ptpm_codec.specs.declared.message.Message.{Message}
 use Rattle.ptpm_codec.specs.Canonical.{canonical}
@@ -11,13 +11,11 @@ use Rattle.ptpm_manager.specs.declared.error.SendError.{SendError}
 use Rattle.ptpm_manager.specs.declared.error.SendError.TheVariants as sends
 use Rattle.ptpm_manager.specs.declared.receiving.Received.{Received}
 use Rattle.ptpm_manager.specs.declared.receiving.Received.TheVariants as received
-use Rattle.ptpm_manager.specs.Ask.{request_of}
 use Rattle.ptpm_manager.specs.Receiving.{left_by, received_of}
 use Rattle.ptpm_manager.specs.Session.{sent}
 use Rattle.ptpm_manager.specs.Setup.{request_message}
 use Rattle.ptpm_network.specs.Events.{Event, no_session}
 use Rattle.ptpm_network.specs.Network.{End}
-use Rattle.ptpm_network.specs.RunningNetwork.{nothing_to_resume}
 use Rattle.ptpm_world.specs.declared.took.StepError.TheVariants as errors
 use Rattle.ptpm_world.specs.declared.took.Took.TheVariants.{Fine}
 use Rattle.ptpm_world.proofs.Changing.{SessionChange, running_by, session_change-network, session_change-none, session_change-quiet, session_change-running}
@@ -27,27 +25,12 @@ use Rattle.ptpm_world.proofs.Ending.{step_fine, step_memory, step_refused}
 
 -- ---- a name that no session has
 
-module _ (N : Network) (w : World) (s : ℕ) (is : IsOf N w) (past : s ≡ length w.sessions.items) where
-  no_name : (e : Event) (x : Result Happened Refusal)
-      → network_event N (running w) e ≡ unless_refused (no_session N s) x
-      → IsStep N w w e (Err errors.NoSuchName)
-  no_name e x at = grind (arith, step_refused, stops, absent, le_refl)
-
-  pub begin-no_name : (a : Ask) → IsStep N w w (Begin s a) (Err errors.NoSuchName)
-  unfolding network_event
-  begin-no_name a = no_name (Begin s a) _ refl
-
-  pub send-no_name : IsStep N w w (Send s) (Err errors.NoSuchName)
-  unfolding network_event
-  send-no_name = no_name (Send s) _ refl
-
-  pub resume-no_name : (attempts : ℕ) → IsStep N w w (Resume s attempts) (Err errors.NoSuchName)
-  unfolding network_event
-  resume-no_name attempts = no_name (Resume s attempts) _ refl
-
-  pub retune-no_name : (domain : ℕ) → IsStep N w w (Retune s domain) (Err errors.NoSuchName)
-  unfolding network_event
-  retune-no_name domain = no_name (Retune s domain) _ refl
+pub no_name : (N : Network) (w : World) (s : ℕ) (e : Event) (x : Result Happened Refusal)
+    → IsOf N w
+    → s ≡ length w.sessions.items
+    → network_event N (running w) e ≡ unless_refused (no_session N s) x
+    → IsStep N w w e (Err errors.NoSuchName)
+no_name N w s e x is past at = grind (arith, step_refused, stops, absent, le_refl)
 
 -- ---- a session that is there, and what it becomes
 
@@ -63,7 +46,7 @@ module _ (N : Network) (old new : World) (place : ℕ) (x y : RunningSession) (i
 
   -- ---- begin, resume and retune: the session becomes another, and nothing else happens
 
-  acts-fine : (e : Event) (why : SessionValue → Option Refusal) (change : SessionValue → SessionValue)
+  pub acts-fine : (e : Event) (why : SessionValue → Option Refusal) (change : SessionValue → SessionValue)
       → network_event N (running old) e
       ≡ acts N (running old) place (why ((running old).session place)) (change ((running old).session place))
       → why x.session ≡ None
@@ -77,22 +60,12 @@ module _ (N : Network) (old new : World) (place : ℕ) (x y : RunningSession) (i
       (at ∙ skips (no_session N place) _ _ there (skips (why ((running old).session place)) _ _ (ap why session_is ∙ none) refl))
       (session_change-quiet old new place x y value (held_in old.frames) c (v ∙ ap change (sym session_is)) r f) refl changed
 
-  acts-refused : (e : Event) (why : SessionValue → Option Refusal) (value : SessionValue) (reason : Refusal)
+  pub acts-refused : (e : Event) (why : SessionValue → Option Refusal) (value : SessionValue) (reason : Refusal)
       → network_event N (running old) e
       ≡ acts N (running old) place (why ((running old).session place)) value
       → why x.session ≡ Some reason
       → IsStep N old new e (Err (error_of reason))
   acts-refused e why value reason at some = grind (arith, step_refused, skips, there, stops, session_is, changed)
-
-  pub begin-fine : (a : Ask)
-      → begin_refusal x.session a ≡ None
-      → y.session ≡ begun x.session (request_of a)
-      → y.reports.items ≡ x.reports.items
-      → held_in new.frames ≡ held_in old.frames
-      → IsStep N old new (Begin place a) (Ok Fine)
-  unfolding network_event
-  begin-fine a none =
-      acts-fine (Begin place a) (λ z. option_map BeginRefused (begin_refusal z a)) (λ z. begun z (request_of a)) refl (ap (option_map BeginRefused) none)
 
   -- by the session's error, which is want of memory or why it refuses
   pub begin-error : (a : Ask) (e : BeginError)
@@ -102,32 +75,6 @@ module _ (N : Network) (old new : World) (place : ℕ) (x y : RunningSession) (i
   begin-error a begins.OutOfMemory h = step_memory N old new (Begin place a) changed
   begin-error a e h =
       acts-refused (Begin place a) (λ z. option_map BeginRefused (begin_refusal z a)) _ (BeginRefused e) refl (ap (option_map BeginRefused) (h (λ q. absurd (cc))))
-
-  pub resume-fine : (attempts : ℕ)
-      → is_waiting x.session ≡ true
-      → y.session ≡ resumed x.session attempts
-      → y.reports.items ≡ x.reports.items
-      → held_in new.frames ≡ held_in old.frames
-      → IsStep N old new (Resume place attempts) (Ok Fine)
-  unfolding network_event
-  resume-fine attempts waiting =
-      acts-fine (Resume place attempts) nothing_to_resume (λ z. resumed z attempts) refl (cond-false _ _ _ (ap not waiting))
-
-  pub resume-refused : (attempts : ℕ) (e : SendError)
-      → (e ≡ sends.Idle) × (is_waiting x.session ≡ false)
-      → IsStep N old new (Resume place attempts) (Err (errors.Send e))
-  unfolding network_event
-  resume-refused attempts e why =
-      subst (λ (o : SendError). IsStep N old new (Resume place attempts) (Err (errors.Send o))) (sym why.0)
-      (acts-refused (Resume place attempts) nothing_to_resume _ (SendRefused sends.Idle) refl (cond-true _ _ _ (ap not why.1)))
-
-  pub retune-fine : (domain : ℕ)
-      → y.session ≡ retuned x.session domain
-      → y.reports.items ≡ x.reports.items
-      → held_in new.frames ≡ held_in old.frames
-      → IsStep N old new (Retune place domain) (Ok Fine)
-  unfolding network_event
-  retune-fine domain = acts-fine (Retune place domain) (λ z. None) (λ z. retuned z domain) refl refl
 
   -- ---- send
 
@@ -146,19 +93,6 @@ module _ (N : Network) (old new : World) (place : ℕ) (x y : RunningSession) (i
       → IsStep N old new (Send place) (Err (errors.Send e))
   send-refused e room some = step_refused N old new (Send place) (SendRefused e) (send-judged (Some e) _ room some refl) changed
 
-  sends-frames : (issued : ℕ) (octets : List ℕ) (v : Message)
-      → x.session.issued ≡ issued
-      → due_message x.session ≡ Some v
-      → octets ≡ canonical v
-      → held_in old.frames
-      ++ posted (peers (link_ends old.links.items) (AtSession place)) octets
-      (RequestOf place issued)
-      ≡ held_in old.frames
-      ++ sent_posted (peers N.links (AtSession place)) place
-      ((running old).session place).issued
-      (due_message ((running old).session place))
-  sends-frames issued octets v count due same = grind (arith, session_is)
-
   pub send-fine : (issued : ℕ) (octets : List ℕ) (v : Message)
       → nat_lt frames_limit (length (held_in old.frames)) ≡ false
       → send_refusal x.session ≡ None
@@ -173,8 +107,10 @@ module _ (N : Network) (old new : World) (place : ℕ) (x y : RunningSession) (i
       (RequestOf place issued)
       → IsStep N old new (Send place) (Ok Fine)
   send-fine issued octets v room none count due same value r f =
+      let s : SessionValue = (running old).session place in
+      let frames : List Held = held_in old.frames ++ sent_posted (peers N.links (AtSession place)) place s.issued (due_message s) in
       step_fine N old new (Send place) (record { deed = Done; network = sends_in N (running old) place }) Fine (send-judged None _ room none refl)
-      (session_change-quiet old new place x y (sent ((running old).session place)) _ c (value ∙ ap sent (sym session_is)) r (f ∙ sends-frames issued octets v count due same))
+      (session_change-quiet old new place x y (sent ((running old).session place)) frames c (value ∙ ap sent (sym session_is)) r (grind (arith, session_is)))
       refl changed
 
   -- ---- a frame comes in
@@ -190,21 +126,6 @@ module _ (N : Network) (old new : World) (place : ℕ) (x y : RunningSession) (i
       (r ∙ ap (λ (z : List Report). z ++ report ∷ []) (sym (ap reports_of c.at))) f
   hear-goes (received.Ignored reason) v r f = session_change-none old new place x y c v (r ∙ append-nil x.reports.items) f
 
-  hear-fine : (n : ℕ) (h : Held) (t : Took)
-      → frame_at (held_in old.frames) n ≡ Some h
-      → h.end ≡ AtSession place
-      → nat_lt frames_limit (length (held_in old.frames)) ≡ false
-      → y.session ≡ left_by x.session (received_of x.session h.octets)
-      → y.reports.items ≡ x.reports.items ++ reports_in (received_of x.session h.octets)
-      → held_in new.frames ≡ held_in old.frames
-      → t ≡ heard (received_of x.session h.octets)
-      → IsStep N old new (Deliver n) (Ok t)
-  hear-fine n h t e at room v r f told =
-      let same : received_of x.session h.octets ≡ received_of ((running old).session place) h.octets = grind (arith, session_is) in
-      step_fine N old new (Deliver n) (reaches N (running old) h (AtSession place)) t
-      (delivered N (running old) n h e room ∙ ap (λ (end : End). Ok (reaches N (running old) h end)) at)
-      (hear-goes (received_of x.session h.octets) v r f ∙ ap (hears (running old) place) same) (told ∙ ap heard same) changed
-
   -- by what the session answers
   pub hear-step : (n : ℕ) (h : Held) (result : Result Took StepError)
       → frame_at (held_in old.frames) n ≡ Some h
@@ -216,7 +137,11 @@ module _ (N : Network) (old new : World) (place : ℕ) (x y : RunningSession) (i
       → IfOk result (λ t. t ≡ heard (received_of x.session h.octets))
       → IfErr result (λ e. e ≡ errors.OutOfMemory)
       → IsStep N old new (Deliver n) result
-  hear-step n h (Ok t) e at room v r f told memory = hear-fine n h t e at room v r f told
+  hear-step n h (Ok t) e at room v r f told memory =
+      let same : received_of x.session h.octets ≡ received_of ((running old).session place) h.octets = grind (arith, session_is) in
+      step_fine N old new (Deliver n) (reaches N (running old) h (AtSession place)) t
+      (delivered N (running old) n h e room ∙ ap (λ (end : End). Ok (reaches N (running old) h end)) at)
+      (hear-goes (received_of x.session h.octets) v r f ∙ ap (hears (running old) place) same) (told ∙ ap heard same) changed
   hear-step n h (Err why) e at room v r f told memory = grind (arith, step_memory, changed)
 
 -- ---- too many frames, and what is sent
@@ -244,17 +169,6 @@ unfolding send_refusal
 message_due s e =
     let q = unanswered-by s.unanswered _ e in
     (request_message s.setup s.domain s.issued q.0, ap (option_map (request_message s.setup s.domain s.issued)) q.1)
-
--- the same frames, by what is equal to their parts
-pub posted_same : (new mid old : List Held) (some links : List (List End)) (from : End)
-    (sent octets : List ℕ) (origin : Origin)
-    → new ≡ mid ++ posted (peers some from) sent origin
-    → mid ≡ old
-    → some ≡ links
-    → sent ≡ octets
-    → new ≡ old ++ posted (peers links from) octets origin
-posted_same new mid old some links from sent octets origin e m l o =
-    e ∙ ap (λ hs. hs ++ posted (peers some from) sent origin) m ∙ ap (λ (ls : List (List End)). old ++ posted (peers ls from) sent origin) l ∙ ap (λ os. old ++ posted (peers links from) os origin) o
 
 pub hear-unchanged : (w : World) (place : ℕ) (x y : RunningSession) (frames : List Held)
     (result : Result Took StepError)

@@ -126,16 +126,6 @@ pub clock_is : (clocks : List NetworkClock) (c : ℕ) (k : NetworkClock) → sli
     → slice_index_or (map clock_value clocks) c no_clock ≡ clock_value k
 clock_is clocks c k e = at_place (map clock_value clocks) c (clock_value k) no_clock (get_map clock_value clocks c k e)
 
-pub session_is : (n : NetworkValue) (s : ℕ) (t : NetworkSession)
-    → slice_get n.sessions s ≡ Some t
-    → session_at n s ≡ t
-session_is n s t e = at_place n.sessions s t no_session e
-
-pub target_below : (clocks : List NetworkClock) (target : ℕ)
-    → target < length (map clock_value clocks)
-    → target < length clocks
-target_below clocks target h = let same = length-map clocks clock_value in omega (arith, h, same)
-
 apart : (a b : ClockIdentity) → a ≢ b → same_clock a b ≡ false
 apart a b differ = false_from_ne_true (same_clock a b) (λ same. differ (same_clock-true a b same))
 
@@ -174,11 +164,6 @@ few_managers n facts c =
     let counted = length-map (filter (λ s. s.target == c) n.sessions) with_rights ∙ length-filter (λ s. s.target == c) n.sessions in
     subst (λ k. k ≤ 16) (sym counted) (facts.managers c)
 
-tail_distinct : (s : NetworkSession) (ss : List NetworkSession)
-    → AreDistinct (λ t. t.identity) (s ∷ ss)
-    → AreDistinct (λ t. t.identity) ss
-tail_distinct s ss d i j x y p q e = let same = d (suc i) (suc j) x y p q e in omega (arith, same)
-
 stands_once : (s : NetworkSession) (ss : List NetworkSession) (c : ℕ)
     → AreDistinct (λ t. t.identity) (s ∷ ss)
     → is_known s.identity (identities (configured ss c)) ≡ false
@@ -199,7 +184,7 @@ pub none_twice : (ss : List NetworkSession) (c : ℕ)
     → has_twice (identities (configured ss c)) ≡ false
 none_twice [] c d = refl
 none_twice (s ∷ ss) c d =
-    twice-more (s.target == c) s (filter (λ t. t.target == c) ss) (stands_once s ss c d) (none_twice ss c (tail_distinct s ss d))
+    twice-more (s.target == c) s (filter (λ t. t.target == c) ss) (stands_once s ss c d) (none_twice ss c (λ i j x y p q e. let same = d (suc i) (suc j) x y p q e in omega (arith, same)))
 
 -- ---- one clock
 
@@ -264,31 +249,18 @@ end_there : (n : NetworkValue) (e : End)
 end_there n (ends.Clock place port) is = (length is.0.ports, (get_map (λ (c : ClockValue). length c.ports) n.clocks place is.0 is.1, (is.2, is.3)))
 end_there n (ends.Session place) is = is
 
-link_there : (n : NetworkValue) (l : NetworkLink)
-    → IsLinkOf n l.ends.items
-    → IsLink (map (λ c. length c.ports) n.clocks) (length n.sessions) l
-link_there n l is = (
-  is.at_most_sixteen,
-  all_places (IsEndOf n) (IsThere (map (λ c. length c.ports) n.clocks) (length n.sessions)) (end_there n) l.ends.items is.ends,
-)
-
-links_there : (n : NetworkValue) (links : List NetworkLink)
-    → IsAccepted n
-    → map link_value links ≡ n.links
-    → AreLinks (map (λ c. length c.ports) n.clocks) (length n.sessions) links
-links_there n links facts same =
-    all_places (λ (l : NetworkLink). IsLinkOf n l.ends.items) (IsLink (map (λ c. length c.ports) n.clocks) (length n.sessions))
-    (λ l is. link_there n l is) links
-    (all_unmade (IsLinkOf n) link_value links (subst (AllByRecursion (IsLinkOf n)) (sym same) facts.links))
-
 pub are_links : (n : NetworkValue) (clocks : List RunningClock) (sessions : List RunningSession)
     (links : List NetworkLink)
     → IsAccepted n
     → AreStartedClocks n clocks → AreStartedSessions n sessions → map link_value links ≡ n.links
     → AreLinks (port_counts clocks) (length sessions) links
 are_links n clocks sessions links facts c s same =
-    subst (λ counts. AreLinks counts (length sessions) links) (sym (counts_are n clocks c))
-    (subst (λ count. AreLinks (map (λ k. length k.ports) n.clocks) count links) (sym s.count) (links_there n links facts same))
+    let counts = map (λ (k : ClockValue). length k.ports) n.clocks in
+    let all = all_unmade (IsLinkOf n) link_value links (subst (AllByRecursion (IsLinkOf n)) (sym same) facts.links) in
+    let there : AreLinks counts (length n.sessions) links =
+    all_places (λ (l : NetworkLink). IsLinkOf n l.ends.items) (IsLink counts (length n.sessions))
+    (λ l is. (is.at_most_sixteen, all_places (IsEndOf n) (IsThere counts (length n.sessions)) (end_there n) l.ends.items is.ends)) links all in
+    rw (counts_are n clocks c, s.count) there
 
 ends_are : (links : List NetworkLink)
     → link_ends links ≡ map (map described_end) (map link_value links)

@@ -1,5 +1,5 @@
 -- What the lines of a trace tell of the machine, where no delivery is late.
-use Rattle.ptpm_world.proofs.Common.{arith, ◌≡◌, ◌∙◌, ℕ, ◌<◌, ◌+◌, ◌++◌, ◌⊎◌, inl, inr, Bool, false, List, [], ◌∷◌, length, map, None, Some, Ok, Err, Option, Result, refl, sym, ap, subst, append_assoc, append-nil, length-append, length-map, eq-eqb, option_map, result_err, AllByRecursion, Report, Begin, Deliver, IsInRange, Refusal, Resume, Retune, Send, Stranger, frame_at, refusal, AreInTime, is_late_delivery, step, AtSession, HasEnd, Network, Happened, Held, RunningNetwork, held, network_after, network_event, unless_refused, StandsAfter, Frame, NetworkState, initial_state, Names, placed, placed_all, Played, event_of, played, played_by, unless_fault, line_fault, StepError, Took, after, answer, answer_of, error_of, took_of, event_line, event_text}
+use Rattle.ptpm_world.proofs.Common.{arith, ◌≡◌, ◌∙◌, ℕ, ◌<◌, ◌+◌, ◌++◌, ◌⊎◌, inl, inr, Bool, false, List, [], ◌∷◌, length, map, None, Some, Ok, Err, Option, Result, refl, sym, ap, subst, append_assoc, append-nil, length-append, length-map, same_Some, eq-eqb, option_map, result_err, AllByRecursion, Report, Deliver, IsInRange, Refusal, Retune, frame_at, refusal, AreInTime, is_late_delivery, step, AtSession, HasEnd, Network, Happened, Held, RunningNetwork, held, network_after, network_event, unless_refused, StandsAfter, Frame, NetworkState, initial_state, Names, placed, placed_all, Played, event_of, played, played_by, unless_fault, line_fault, after, answer, answer_of, error_of, took_of, event_line, event_text}
 use Rattle.std.specs.Prelude.{IfOk, ◌↔◌}
 use Rattle.ptpm_network.specs.Events as machine
 use Rattle.ptpm_network.specs.Events.{forged, no_session}
@@ -47,12 +47,9 @@ if_not_refused (Some reason) x P p = tt
 
 event-told : (N : Network) (r : RunningNetwork) (e : machine.Event) → IfOk (network_event N r e) (DidTell r)
 unfolding network_event
-event-told N r (Begin s a) = grind (arith, if_not_refused, option_map)
-event-told N r (Send s) = grind (arith, if_not_refused, option_map)
-event-told N r (Resume s attempts) = grind (arith, if_not_refused)
-event-told N r (Retune s domain) = if_not_refused (no_session N s) _ (DidTell r) (inr (record { other = λ e. absurd (cc); same = refl }))
 event-told N r (Deliver n) = grind (arith, if_not_refused, with_place-same, eq-eqb)
-event-told N r (Stranger c port datagram) = grind (arith, if_not_refused)
+event-told N r (Retune s domain) = if_not_refused (no_session N s) _ (DidTell r) (inr (record { other = λ e. absurd (cc); same = refl }))
+event-told N r e = grind (arith, if_not_refused, option_map)
 
 -- ---- an event's line
 
@@ -75,15 +72,6 @@ reports-same : (N : Network) (past : List machine.Event) (r : RunningNetwork) (s
     → r.reports s ≡ ((state_after N past).session s).reports
 reports-same N past r s at place = (at.stands (first_of_sessions N N.sessions) (firsts N at.promised.network)).reports s place
 
-one_more : {X : Type 0} (xs : List Report) (x : Report) → xs ≡ xs ++ x ∷ [] → X
-one_more xs x e = absurd (omega (arith, ap length e, length-append xs (x ∷ [])))
-
-err_ok : {X : Type 0} (e : StepError) (t : Took) → ◌≡◌ {A = Result Took StepError} (Err e) (Ok t) → X
-err_ok e t h = absurd (cc)
-
-ok_same : (a b : Took) → ◌≡◌ {A = Result Took StepError} (Ok a) (Ok b) → a ≡ b
-ok_same a b h = cc
-
 module _ (N : Network) (past : List machine.Event) (r : RunningNetwork) (e : machine.Event) (at : StandsAfter N past r) where
   abbrev w : NetworkState
   w = state_after N past
@@ -100,7 +88,8 @@ module _ (N : Network) (past : List machine.Event) (r : RunningNetwork) (e : mac
   silent next after same (s, (place, (report, more))) =
       let before : r.reports s ≡ (w.session s).reports = reports-same N past r s at place in
       let later : next.reports s ≡ ((step N w e).session s).reports = grind (arith, reports-same, there) in
-      one_more (w.session s).reports report (sym before ∙ sym (ap (λ (f : ℕ → List Report). f s) same) ∙ later ∙ more)
+      let grown : (w.session s).reports ≡ (w.session s).reports ++ report ∷ [] = sym before ∙ sym (ap (λ (f : ℕ → List Report). f s) same) ∙ later ∙ more in
+      omega (arith, ap length grown, length-append {A = Report})
 
   -- the session of a frame that is there
   placed_session : (n s : ℕ) (f : Held) → frame_at r.frames n ≡ Some f → f.end ≡ AtSession s → s < N.sessions
@@ -108,25 +97,19 @@ module _ (N : Network) (past : List machine.Event) (r : RunningNetwork) (e : mac
       let frames : r.frames ≡ map held w.frames = (stands-headline N past r at).frames in
       by_frame (frame_at w.frames n) refl (sym (frame_at-map w.frames n) ∙ ap (λ (hs : List Held). frame_at hs n) (sym frames) ∙ here)
     where
-      none_some : {X : Type 0} (h : Held) → ◌≡◌ {A = Option Held} None (Some h) → X
-      none_some h e = absurd (cc)
-
-      same_some : (a b : Held) → ◌≡◌ {A = Option Held} (Some a) (Some b) → a ≡ b
-      same_some a b e = cc
-
       by_frame : (o : Option Frame) → frame_at w.frames n ≡ o → option_map held o ≡ Some f → s < N.sessions
-      by_frame None is e = none_some f e
+      by_frame None is e = absurd (cc)
       by_frame (Some g) is e =
           let has : HasEnd N g.end = (frame_at-is N w n g (reached N past at.promised.network at.promised.in_range) is).end in
-          subst (HasEnd N) (ap (λ (h : Held). h.end) (same_some (held g) f e) ∙ end) has
+          subst (HasEnd N) (ap (λ (h : Held). h.end) (same_Some (held g) f e) ∙ end) has
 
   told-by : (x : Result Happened Refusal)
       → IfOk x (DidTell r)
       → StandsAfter N (past ++ e ∷ []) (network_after r x)
       → (answer_of x ≡ Ok Answered) ↔ IsReported N w e
-  told-by (Err reason) did after = (λ told. err_ok (error_of reason) Answered told, λ more. absurd (silent r after refl more))
+  told-by (Err reason) did after = (λ told. absurd (cc), λ more. absurd (silent r after refl more))
   told-by (Ok h) (inr quiet) after =
-      (λ told. absurd (quiet.other (ok_same (took_of h.deed) Answered told)), λ more. absurd (silent h.network after quiet.same more))
+      (λ told. absurd (quiet.other (cc)), λ more. absurd (silent h.network after quiet.same more))
   told-by (Ok h) (inl a) after =
       let place : a.session < N.sessions = placed_session a.number a.session a.frame a.at a.end in
       let before : r.reports a.session ≡ (w.session a.session).reports = reports-same N past r a.session at place in
@@ -144,12 +127,8 @@ frames-counted N past r at = ap length (stands-headline N past r at).frames ∙ 
 late-event : (N : Network) (past : List machine.Event) (r : RunningNetwork) (e : machine.Event)
     → StandsAfter N past r
     → is_late_event r e ≡ is_late_delivery (state_after N past) e
-late-event N past r (Begin s a) at = refl
-late-event N past r (Send s) at = refl
-late-event N past r (Resume s attempts) at = refl
-late-event N past r (Retune s domain) at = refl
 late-event N past r (Deliver n) at = late-after N past r n at
-late-event N past r (Stranger c port datagram) at = refl
+late-event N past r e at = refl
 
 -- a refused event's line does not say late
 not-late : (number : ℕ) (verb : List ℕ) (x : Result Happened Refusal) (late : Bool) (before after : ℕ)
@@ -194,22 +173,17 @@ IsToldFrom N names r p = (past : List machine.Event) (last : RunningNetwork)
     → AreInTime N (state_after N past) (placed_all names p.events)
     → IsTold N names past p last
 
-fault_ok : {X : Type 0} (f : ScriptError) (r : RunningNetwork)
-    → ◌≡◌ {A = Result RunningNetwork ScriptError} (Err f) (Ok r)
-    → X
-fault_ok f r e = absurd (cc)
-
 by-fault : (N : Network) (names : Names) (r : RunningNetwork) (f : Option ScriptError) (p : Played RunningNetwork)
     → IsToldFrom N names r p
     → IsToldFrom N names r (unless_fault f p)
 by-fault N names r None p h = h
-by-fault N names r (Some f) p h = λ past last e range at time. fault_ok f last e
+by-fault N names r (Some f) p h = λ past last e range at time. absurd (cc)
 
 by-event : (N : Network) (names : Names) (r : RunningNetwork) (place : ℕ) (x : Result (Option Event) ScriptError)
     (others : RunningNetwork → Played RunningNetwork)
     → ((next : RunningNetwork) → IsToldFrom N names next (others next))
     → IsToldFrom N names r (played_by x N names r place others)
-by-event N names r place (Err f) others h = λ past last e range at time. fault_ok f last e
+by-event N names r place (Err f) others h = λ past last e range at time. absurd (cc)
 by-event N names r place (Ok None) others h = h r
 by-event N names r place (Ok (Some event)) others h = λ past last end range at time.
     let e : machine.Event = placed names event in

@@ -1,8 +1,7 @@
 -- What is found in a world by its name, and what its frames belong to.
-use Rattle.ptpm_world.proofs.Common.{suc, zero, arith, ◌≡◌, ℕ, ◌+◌, ◌-◌, ◌<◌, ◌≤◌, Bool, not, if◌then◌else◌, nat_lt, List, [], ◌∷◌, Option, Some, None, refl, ap, length, map, All, IfNone, IfSome, bytes_eq, find, position, slice_get, position_or_len, prefix_len, cases_Bool, cond-true, cond-false, prefix_len-le-length, get_or_from_slice_get, same_Some, slice_get_past, slice_get_within, count_limit, frame_at, Held, Frames, IsOfSession, IsStoredFrame, held_in, origin_of, place_in}
+use Rattle.ptpm_world.proofs.Common.{suc, zero, arith, ◌≡◌, ℕ, ◌+◌, ◌-◌, ◌<◌, Bool, not, if◌then◌else◌, nat_lt, List, [], ◌∷◌, Option, Some, None, refl, ap, length, map, All, IfNone, IfSome, bytes_eq, find, position, slice_get, position_or_len, prefix_len, cases_Bool, cond-true, cond-false, prefix_len-le-length, get_or_from_slice_get, same_Some, slice_get_past, slice_get_within, frame_at, Held, Frames, IsOfSession, IsStoredFrame, held_in, origin_of, place_in}
 use Rattle.std.proofs.lemmas.Bool.Decides.{nat_tests}
 use Rattle.std.proofs.lemmas.List.Folds.{find_at}
-use Rattle.ptpm_network.specs.State as state
 use Rattle.ptpm_world.specs.declared.frames.Origin.{Origin}
 
 -- ---- by names
@@ -45,12 +44,6 @@ of_no_name name_of xs name e = grind (arith, find_at, slice_get, place-map, slic
 
 -- ---- frames
 
--- what a frame belongs to is a request of a session that is there, by what the machine sees
-abbrev pub IsOfOrigin : ℕ → state.Origin → Type 0
-IsOfOrigin sessions (state.RequestOf s k) = (s < sessions) × (k ≤ count_limit)
-IsOfOrigin sessions (state.ReplyTo s k) = (s < sessions) × (k ≤ count_limit)
-IsOfOrigin sessions state.Neither = Unit {0}
-
 pub made_at : {X Y : Type 0} (make : X → Y) (xs : List X) (i : ℕ) (y : Y)
     → slice_get (map make xs) i ≡ Some y
     → (x : X) × (slice_get xs i ≡ Some x) × (make x ≡ y)
@@ -58,7 +51,7 @@ made_at make [] i y e = absurd (cc)
 made_at make (x ∷ xs) zero y e = (x, refl, same_Some (make x) y e)
 made_at make (x ∷ xs) (suc i) y e = made_at make xs i y e
 
-held_there : (frames : List Held) (n : ℕ) (h : Held)
+pub held_there : (frames : List Held) (n : ℕ) (h : Held)
     → frame_at frames n ≡ Some h
     → slice_get frames (n - 1) ≡ Some h
 held_there frames n h e = grind (arith, cond-true, cond-false, cases_Bool)

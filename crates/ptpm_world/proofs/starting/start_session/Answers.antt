@@ -1,9 +1,11 @@
-use Rattle.ptpm_world.proofs.Common.{◌≡◌, ◌<◌, ℕ, Some, ap, ◌∙◌, refl, length, arith, slice_get, fresh, clock_value, network_value}
+use Rattle.ptpm_world.proofs.Common.{◌≡◌, ◌<◌, ℕ, Some, ap, ◌∙◌, refl, length, length-map, arith, slice_get, fresh, clock_value, network_value}
 use Rattle.ptpm_script.specs.declared.network.Network.{Network}
 use Rattle.ptpm_script.specs.declared.network.NetworkSession.{NetworkSession}
 use Rattle.ptpm_script.specs.NetworkValue.{CanStart}
 use Rattle.ptpm_script.proofs.NetworkFacts.{of_text-accepted}
-use Rattle.ptpm_world.proofs.StartingLemmas.{clock_is, get_map, read_at, session_at_clock, session_is, started_session, starts_at, target_below, two_clocks}
+use Rattle.ptpm_world.proofs.StartingLemmas.{clock_is, get_map, read_at, session_at_clock, started_session, starts_at, two_clocks}
+use Rattle.ptpm_world.specs.Described.{no_session}
+use Rattle.ptpm_world.proofs.DescribedLaws.{at_place}
 use Rattle.ptpm_world.proofs.starting.start_session.Goals as goal
 use Rattle.ptpm_world.proofs.starting.start_session.Goals.{After-index-clocks-session}
 
@@ -13,7 +15,7 @@ below : (network : Network) (place : ℕ) (s : NetworkSession)
     → s.target < length network.clocks.items
 below network place s here =
     let n = network_value network in
-    target_below network.clocks.items s.target (session_at_clock n (of_text-accepted n network.of_text) place s here).target
+    omega (arith, (session_at_clock n (of_text-accepted n network.of_text) place s here).target, length-map network.clocks.items clock_value)
 
 -- the session at its place
 session_there : (c : After-index-clocks-session)
@@ -69,7 +71,7 @@ returns c =
     let n = network_value c.args.network.now in
     let s = c.index-sessions-place.result in
     let k = c.index-clocks-session.result in
-    started_session n c.args.place s (clock_value k) _ (session_is n c.args.place s (session_there here))
+    started_session n c.args.place s (clock_value k) _ (at_place n.sessions c.args.place s no_session (session_there here))
     (clock_is c.args.network.now.clocks.items s.target k (clock_there here)) c.in_ok-copy.ensures refl
     (c.new.ensures
     ∙ ap (λ p. fresh (record { me = s.identity; target = k.start.identity; ports = p; first = s.first; hops = s.hops; attempts = s.attempts }) s.domain)

@@ -1,7 +1,8 @@
-use Rattle.ptpm_world.proofs.Common.{◌≡◌, ◌++◌, ◌∙◌, All, ℕ, List, Some, ap, arith, length, nat_lt, refl, subst, sym, slice_get_read, flat_map, slice_get, frame_at, frames_limit, origin_by, posted_by, Held, Origin, AreLinks, IsStoredFrame, World, port_counts, described_end, frame_value, held_in, link_ends, origin_of}
-use Rattle.ptpm_table.specs.Outbox.{sent}
+use Rattle.ptpm_world.proofs.Common.{Deliver, Ok, reaches, running, seen, ◌≡◌, ◌++◌, ◌∙◌, All, ℕ, List, Some, ap, arith, length, nat_lt, refl, subst, sym, slice_get_read, flat_map, slice_get, frame_at, frames_limit, origin_by, posted_by, Held, AreLinks, IsStoredFrame, World, port_counts, described_end, frame_value, held_in, link_ends, origin_of}
 use Rattle.ptpm_world.proofs.Changing.{names-clock, names-session}
-use Rattle.ptpm_world.proofs.ClockSteps.{deliver-no_frame, deliver-too_many, deliver_clock-fine, ports_after, turned_same}
+use Rattle.ptpm_world.proofs.ClockSteps.{deliver-no_frame, deliver-too_many, ports_after, turn-step}
+use Rattle.ptpm_network.specs.Network.{End}
+use Rattle.ptpm_world.proofs.Refusing.{delivered}
 use Rattle.ptpm_world.proofs.Kept.{kept-clock}
 use Rattle.ptpm_world.proofs.SessionSteps.{hear-step, hear-unchanged}
 use Rattle.ptpm_world.proofs.There.{IsAtClock, at_clock, at_session, lent_octets, with_octets}
@@ -81,14 +82,13 @@ returns-in-Clock-clause-step c = λ N is.
     let turned = c.take_turn-verdict.ensures.turned in
     let verdict = c.take_turn-verdict.result in
     let out = c.take_turn-verdict.new.outbox in
-    let origin = origin_of c.origin-origin.result in
-    let frames = turned_same _ _ (held_in w.frames) (link_ends c.as_slice.result.now) (link_ends w.links.items) c.in-Clock.place c.in-Clock.port origin (origin_by verdict origin) (sent c.entries.result.now) out
-    c.post_turn.ensures.frames c.in_ok-make_room.ensures.frames (ap link_ends c.as_slice.ensures.value) c.entries.ensures.messages in
-    let belong = subst (λ (o : Origin). held_in c.post_turn.new.frames ≡ held_in w.frames ++ flat_map (posted_by (link_ends w.links.items) c.in-Clock.place c.in-Clock.port o (origin_by verdict o)) out) (sym (coming here).origin_is) frames in
-    deliver_clock-fine N w _ c.args.number c.in-Clock.place c.in-Clock.port x y h verdict out is
+    let frames : held_in c.post_turn.new.frames ≡ held_in w.frames ++ flat_map (posted_by (link_ends w.links.items) c.in-Clock.place c.in-Clock.port h.origin (origin_by verdict h.origin)) out =
+    cc (c.post_turn.ensures.frames, c.in_ok-make_room.ensures.frames, c.as_slice.ensures.value, c.entries.ensures.messages, (coming here).origin_is) in
+    turn-step N w _ c.in-Clock.place c.in-Clock.port x y (seen h) verdict out is
     (record { at = turning here; clocks = refl; sessions = refl; links = refl; name = c.take_turn-verdict.ensures.name; clock = c.take_turn-verdict.ensures.clock; ports = ports_after x y c.in-Clock.port c.octets.result.now verdict out turned })
-    e (coming here).end
-    (ap (λ (fs : List Held). nat_lt frames_limit (length fs)) (sym c.in_ok-make_room.ensures.frames) ∙ sym c.is_full.ensures ∙ c.if-is_full.false) turned belong
+    turned (Deliver c.args.number) frames
+    (delivered N (running w) c.args.number h e (ap (λ (fs : List Held). nat_lt frames_limit (length fs)) (sym c.in_ok-make_room.ensures.frames) ∙ sym c.is_full.ensures ∙ c.if-is_full.false)
+    ∙ ap (λ (end : End). Ok (reaches N (running w) h end)) (coming here).end)
 
 pub returns-in-Clock-clause-names : goal.returns-in-Clock-clause-names
 returns-in-Clock-clause-names c = grind (arith, names-clock, turning, After-index_mut-clock)

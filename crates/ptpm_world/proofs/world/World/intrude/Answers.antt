@@ -1,7 +1,7 @@
-use Rattle.ptpm_world.proofs.Common.{◌≡◌, ◌∙◌, All, Some, ap, length, refl, subst, sym, same_Some, slice_get_read, slice_get, has_port, origin_by, Neither, RunningClock, AreLinks, IsStoredFrame, port_counts, held_in, link_ends, Stranger}
-use Rattle.ptpm_table.specs.Outbox.{sent}
+use Rattle.ptpm_world.proofs.Common.{◌++◌, cond-false, flat_map, network_event, posted_by, strange_frame, ◌≡◌, ◌∙◌, All, Some, ap, length, refl, subst, sym, same_Some, slice_get_read, slice_get, has_port, origin_by, Neither, RunningClock, AreLinks, IsStoredFrame, port_counts, held_in, link_ends, Stranger}
 use Rattle.ptpm_world.proofs.Changing.{names-clock}
-use Rattle.ptpm_world.proofs.ClockSteps.{ports_after, stranger-forges, stranger-no_clock, stranger-no_port, stranger-too_many, stranger-turned, turned_same}
+use Rattle.ptpm_world.proofs.ClockSteps.{ports_after, stranger-forges, stranger-no_clock, stranger-no_port, stranger-too_many, port_there, turn-step}
+use Rattle.ptpm_world.proofs.Refusing.{roomy, skips}
 use Rattle.ptpm_world.proofs.Ending.{step_named}
 use Rattle.ptpm_world.proofs.Kept.{kept-clock}
 use Rattle.ptpm_world.proofs.world.World.intrude.Goals as goal
@@ -70,6 +70,7 @@ invariant_of-self-2 c =
     record { few_clocks = kept.few_clocks; few_sessions = kept.few_sessions; links_there = kept.links_there; frames_there = kept.frames_there }
 
 pub returns-clause-step : goal.returns-clause-step
+unfolding network_event
 returns-clause-step c = λ N is.
     let w = c.args.self.now in
     let x = c.index_mut-clock.result.now in
@@ -82,12 +83,14 @@ returns-clause-step c = λ N is.
     let turned = c.take_turn-verdict.ensures.turned in
     let verdict = c.take_turn-verdict.result in
     let out = c.take_turn-verdict.new.outbox in
-    let frames = turned_same _ _ (held_in w.frames) (link_ends c.as_slice.result.now) (link_ends w.links.items) c.in-Some.place c.args.port Neither (origin_by verdict Neither) (sent c.entries.result.now) out
-    c.post_turn.ensures.frames c.in_ok-make_room.ensures.frames (ap link_ends c.as_slice.ensures.value) c.entries.ensures.messages in
+    let frames : held_in c.post_turn.new.frames ≡ held_in w.frames ++ flat_map (posted_by (link_ends w.links.items) c.in-Some.place c.args.port Neither (origin_by verdict Neither)) out =
+    cc (c.post_turn.ensures.frames, c.in_ok-make_room.ensures.frames, c.as_slice.ensures.value, c.entries.ensures.messages) in
     step_named N w _ (λ k. Stranger k c.args.port c.args.datagram.now) c.in-Some.place _ _ c.in-Some.ensures.found.0
-    (stranger-turned N w _ c.in-Some.place c.args.port x y c.args.datagram.now verdict out is
+    (turn-step N w _ c.in-Some.place c.args.port x y (strange_frame c.in-Some.place c.args.port c.args.datagram.now) verdict out is
     (record { at = at; clocks = refl; sessions = refl; links = refl; name = c.take_turn-verdict.ensures.name; clock = c.take_turn-verdict.ensures.clock; ports = ports_after x y c.args.port c.args.datagram.now verdict out turned })
-    has honest (sym c.is_full.ensures ∙ c.if-is_full.false) turned frames)
+    turned _ frames
+    (skips _ _ _ (port_there N w c.in-Some.place c.args.port x is at has)
+    (skips _ _ _ (cond-false _ _ _ honest) (skips _ _ _ (roomy (held_in w.frames) (sym c.is_full.ensures ∙ c.if-is_full.false)) refl))))
 
 pub returns-clause-names : goal.returns-clause-names
 returns-clause-names c =

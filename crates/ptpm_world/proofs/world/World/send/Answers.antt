@@ -1,8 +1,8 @@
-use Rattle.ptpm_world.proofs.Common.{arith, Send, ◌≡◌, Some, refl, sym, ◌∙◌, ap, subst, All, length, slice_get_read, slice_get, SessionValue, AtSession, RequestOf, AreLinks, IsStoredFrame, port_counts, held_in, link_ends}
+use Rattle.ptpm_world.proofs.Common.{arith, Send, ◌++◌, posted, peers, network_event, ◌≡◌, Some, refl, sym, ◌∙◌, ap, subst, All, length, slice_get_read, slice_get, SessionValue, AtSession, RequestOf, AreLinks, IsStoredFrame, port_counts, held_in, link_ends}
 use Rattle.ptpm_world.proofs.Changing.{names-session}
 use Rattle.ptpm_world.proofs.Ending.{step_error, step_named}
 use Rattle.ptpm_world.proofs.Kept.{kept-session}
-use Rattle.ptpm_world.proofs.SessionSteps.{message_due, posted_same, send-fine, send-no_name, send-refused, send-too_many}
+use Rattle.ptpm_world.proofs.SessionSteps.{message_due, send-fine, no_name, send-refused, send-too_many}
 use Rattle.ptpm_world.proofs.world.World.send.Goals as goal
 use Rattle.ptpm_world.proofs.world.World.send.Goals.{After-index_mut}
 
@@ -12,7 +12,8 @@ named : (c : After-index_mut)
 named c = slice_get_read c.args.self.now.sessions.items _ c.in-Some.place c.index_mut.result.now refl c.in-Some.ensures.found.1 c.index_mut.ensures.value
 
 pub returns-in_default-clause-step : goal.returns-in_default-clause-step
-returns-in_default-clause-step c = λ N is. send-no_name N c.args.self.now _ is c.in_default.ensures.none
+unfolding network_event
+returns-in_default-clause-step c = λ N is. no_name N c.args.self.now _ _ _ is c.in_default.ensures.none refl
 
 pub returns-then-is_full-clause-step : goal.returns-then-is_full-clause-step
 returns-then-is_full-clause-step c = grind (arith, step_named, send-too_many)
@@ -47,8 +48,8 @@ returns-clause-step c = λ N is.
     let at = named (goal.at.returns-clause-step c).After-index_mut in
     let due = message_due x.session c.in_ok-send.ensures.refusal in
     let count = sym (c.issued.ensures.count ∙ ap (λ (z : SessionValue). z.issued) c.in_ok-send.ensures.sent) in
-    let frames = posted_same _ _ (held_in w.frames) (link_ends c.as_slice.result.now) (link_ends w.links.items) (AtSession c.in-Some.place) c.as_slice-2.result.now c.send.new.buffer.items (RequestOf c.in-Some.place c.issued.result)
-    c.post.ensures.frames c.in_ok-make_room.ensures.frames (ap link_ends c.as_slice.ensures.value) c.as_slice-2.ensures.value in
+    let frames : held_in c.post.new.self ≡ held_in w.frames ++ posted (peers (link_ends w.links.items) (AtSession c.in-Some.place)) c.send.new.buffer.items (RequestOf c.in-Some.place c.issued.result) =
+    cc (c.post.ensures.frames, c.in_ok-make_room.ensures.frames, c.as_slice.ensures.value, c.as_slice-2.ensures.value) in
     step_named N w _ Send c.in-Some.place _ _ c.in-Some.ensures.found.0
     (send-fine N w _ c.in-Some.place x _ is (record { at = at; sessions = refl; clocks = refl; links = refl; name = refl; identity = refl })
     c.issued.result c.send.new.buffer.items due.0 (sym c.is_full.ensures ∙ c.if-is_full.false) c.in_ok-send.ensures.refusal count due.1
