@@ -1,13 +1,13 @@
 //! A clock, as a host keeps it.
 
-ghost use Rattle.std.specs.Prelude.{◌≡◌, ◌≢◌, ◌≤◌, Ok, None, Some, IfErr, IfOk, MatchResult, OnErr, OnOk, [], drop, length, take};
+ghost use Rattle.std.specs.Prelude.{◌≡◌, ◌≢◌, ◌≤◌, Ok, None, Some, IfErr, IfOk, MatchResult, OnErr, OnOk, All, [], drop, length, take};
 ghost use Rattle.std.specs.List.{AllZip};
 ghost use Rattle.ptpm_data.specs.Changed.{changed, no_members};
 ghost use Rattle.ptpm_data.specs.Members.{has_port};
 ghost use Rattle.ptpm_table.specs.Managers.{IsFresh};
 ghost use Rattle.ptpm_agent.specs.Agent.{IsTurned};
 ghost use Rattle.ptpm_agent.specs.Turn.{turn};
-ghost use Rattle.ptpm_host.specs.Clock.{IsFreshClock, KeepsBehind, clock_in, handle_refusal, messages_in, start_by, start_refusal, state_in};
+ghost use Rattle.ptpm_host.specs.Clock.{IsFreshClock, IsWhole, KeepsBehind, clock_in, handle_refusal, messages_in, start_by, start_refusal, state_in};
 ghost use Rattle.ptpm_host.specs.Observing.{IsObserved, observe_refusal, ports_left};
 ghost use Rattle.ptpm_host.specs.Settings.{configured};
 ghost use Rattle.ptpm_data.specs.Start.{unless};
@@ -136,6 +136,7 @@ impl HostedClock {
             IsTurned (turn (clock_in self.old) (state_in self.old) port datagram.now) h.verdict
             (messages_in (take h.count room.new)) (state_in self.new)) }
         ensures count { IfOk result (λ h. h.count ≤ length room.new) }
+        ensures whole { IfOk result (λ h. All IsWhole (take h.count room.new)) }
         ensures places { IfOk result (λ h. drop h.count room.new ≡ drop h.count room.old) }
         ensures behind { AllZip KeepsBehind room.old room.new }
         ensures refusal { MatchResult result
@@ -176,6 +177,7 @@ impl HostedClock {
         ensures new_alone { IfOk result
             (λ h. h.0.verdict ≢ Verdict.AnsweredNew → h.1 ≡ no_members) }
         ensures count { IfOk result (λ h. h.0.count ≤ length room.new) }
+        ensures whole { IfOk result (λ h. All IsWhole (take h.0.count room.new)) }
         ensures places { IfOk result (λ h. drop h.0.count room.new ≡ drop h.0.count room.old) }
         ensures behind { AllZip KeepsBehind room.old room.new }
         ensures refusal { MatchResult result
