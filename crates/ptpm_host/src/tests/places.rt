@@ -74,12 +74,8 @@ fn changes(
         clock: ClockMembers(members),
         ..ChangedMembers::NONE
     };
-    match clock.handle_changed(1, datagram, room) {
-        Ok((handled, changed)) => {
-            handled.verdict == verdict && handled.count == 1 && changed == wanted
-        }
-        Err(_) => false,
-    }
+    let before = clock.sets().copy();
+    sends_one(clock, 1, datagram, room, verdict) && clock.sets().changed_since(&before) == wanted
 }
 
 /// This message stands in a place, for this port.
