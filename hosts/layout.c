@@ -308,6 +308,20 @@ static void managers(void) {
           "the port of a manager");
 }
 
+/* The longest message fills its place, and its size counts no octet behind the place. */
+static void longest(void) {
+    uint8_t octets[PTPM_MOST_OCTETS];
+    struct ptpm_clock_settings s = own_values();
+    memset(octets, 0x5a, sizeof octets);
+    octets_of("0d1205c02a000000" "0000000000000000" "00000000" MANAGER "0944" "0001" "047f" OTHER "ffff" "0201" "0100"
+              "0001" "058c" "0002", octets);
+    check(start(&s) == PTPM_STARTED
+          && ptpm_clock_handle(&clock_held, 1, octets, sizeof octets, sent, PTPM_MOST_SENT, &count) == PTPM_NOT_ADDRESSED
+          && count == 1 && sent[0].port == 2, "the longest message that is passed on");
+    octets[45] = 0;
+    check(sent[0].size == sizeof octets && memcmp(sent[0].octets, octets, sizeof octets) == 0, "its size and its octets");
+}
+
 /* The members that a datagram changes, and no others. */
 static void changes(void) {
     static const struct { const char *source, *target, *tlv; unsigned action; uint32_t clock; uint8_t ports[2]; } cases[] = {
@@ -506,6 +520,7 @@ int main(void) {
     observed_grandmaster();
     observed_of_ports();
     managers();
+    longest();
     changes();
     changed_members();
     sessions();

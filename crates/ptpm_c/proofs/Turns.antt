@@ -4,6 +4,7 @@ use Rattle.std.specs.Prelude.{IsSomeAnd}
 use Rattle.ptpm_data.specs.declared.changed.ChangedMembers.{ChangedMembers}
 use Rattle.ptpm_data.specs.Changed.{changed, no_members}
 use Rattle.ptpm_data.specs.Members.{DataSetsValue}
+use Rattle.ptpm_data.proofs.Differing.{nothing_changed}
 use Rattle.ptpm_agent.specs.declared.verdict.Verdict.{Verdict}
 use Rattle.ptpm_agent.specs.declared.verdict.Verdict.TheVariants as verdicts
 use Rattle.ptpm_agent.specs.Agent.{IsTurned}
@@ -11,7 +12,7 @@ use Rattle.ptpm_agent.specs.Turn.{outbox_of}
 use Rattle.ptpm_host.specs.declared.clock.HostedClock.{HostedClock}
 use Rattle.ptpm_host.specs.Clock.{clock_in, state_in}
 use Rattle.ptpm_host.specs.Numbers.{verdict_number}
-use Rattle.ptpm_host.proofs.Changing.{nothing_moved}
+use Rattle.ptpm_host.proofs.Changing.{sets_stay}
 use Rattle.ptpm_c.specs.Turned.{IsTurnedTo, turn_of}
 
 one_value : (held : Option HostedClock) (b c : HostedClock) → held ≡ Some b → held ≡ Some c → b ≡ c
@@ -97,5 +98,6 @@ none_to (Some d) c members port datagram number messages turned other none =
       sets_are = turned.sets_are;
       entries_are = turned.entries_are;
     } in
-    none ∙ nothing_moved c d port datagram (turn_of c port datagram).verdict (outbox_of (turn_of c port datagram)) moved
-    (λ new. other (turned.number_is ∙ ap verdict_number new))
+    let same = sets_stay c d port datagram (turn_of c port datagram).verdict (outbox_of (turn_of c port datagram)) moved
+    (λ new. other (turned.number_is ∙ ap verdict_number new)) in
+    none ∙ nothing_changed c.agent.sets ∙ ap (λ s. changed c.agent.sets s) (sym same)

@@ -2,7 +2,7 @@
 //! its header.
 #![tactic(auto)]
 
-ghost use Rattle.std.specs.Prelude.{◌≡◌, ◌≢◌, ◌≤◌, IfNone, IfSome, IsSomeAnd, None, Ok, Some, drop, length, take};
+ghost use Rattle.std.specs.Prelude.{◌≡◌, ◌≢◌, ◌≤◌, IfNone, IfSome, IsSomeAnd, None, Ok, Some, All, drop, length, take};
 ghost use Rattle.std.specs.List.{AllZip};
 ghost use Rattle.ptpm_data.specs.Changed.{changed, no_members};
 ghost use Rattle.ptpm_data.specs.DataField.{data_field_of_id};
@@ -13,7 +13,7 @@ ghost use Rattle.ptpm_host.specs.declared.clock.HostedClock.{HostedClock};
 ghost use Rattle.ptpm_host.specs.declared.refusal.HandleRefusal.{HandleRefusal};
 ghost use Rattle.ptpm_host.specs.declared.refusal.ReadRefusal.{ReadRefusal};
 ghost use Rattle.ptpm_host.specs.declared.refusal.StartRefusal.{StartRefusal};
-ghost use Rattle.ptpm_host.specs.Clock.{IsFreshClock, KeepsBehind, handle_refusal, messages_in, start_by, start_refusal};
+ghost use Rattle.ptpm_host.specs.Clock.{IsFreshClock, IsWhole, KeepsBehind, handle_refusal, messages_in, start_by, start_refusal};
 ghost use Rattle.ptpm_host.specs.Numbers.{handle_number, no_clock, no_memory, observe_number, read_number, start_number, verdict_number};
 ghost use Rattle.ptpm_agent.specs.declared.verdict.Verdict.{Verdict};
 ghost use Rattle.ptpm_host.specs.Observing.{IsObserved, left_number, observe_refusal, ports_left};
@@ -119,6 +119,7 @@ pub extern "C" fn ptpm_clock_handle(
         × ((count.new ≡ 0)
         × ((sent.new ≡ sent.old) × (clock_held handle.new.keeping ≡ Some c))) }
     ensures within { count.new ≤ length sent.new }
+    ensures whole { All IsWhole (take count.new sent.new) }
     ensures places { drop count.new sent.new ≡ drop count.new sent.old }
     ensures behind { AllZip KeepsBehind sent.old sent.new }
     ensures empty { clock_held handle.old.keeping ≡ None
@@ -172,6 +173,7 @@ pub extern "C" fn ptpm_clock_handle_changed(
         × ((count.new ≡ 0)
         × ((sent.new ≡ sent.old) × (clock_held handle.new.keeping ≡ Some c))) }
     ensures within { count.new ≤ length sent.new }
+    ensures whole { All IsWhole (take count.new sent.new) }
     ensures places { drop count.new sent.new ≡ drop count.new sent.old }
     ensures behind { AllZip KeepsBehind sent.old sent.new }
     ensures empty { clock_held handle.old.keeping ≡ None

@@ -51,6 +51,38 @@ fn a_clock_from_start_to_stop(rt: HostRuntime) {
     assert!(rt; answer == 32 && count == 0);
 }
 
+/// The head of the longest message, a SET of USER_DESCRIPTION with a dataField of 1,418 octets, of the manager to the clock
+/// aabbccfffeddee02, at every port: 1 hop of 2 is left.
+const LONGEST_HEAD: &[u8; 54] = b"\x0d\x12\x05\xc0\x00\x00\
+    \x00\x00\x00\x00\x00\x00\x00\x00\x00\x00\x00\x00\x00\x00\
+    \x00\x11\x22\x33\x44\x55\x66\x77\x00\x01\x00\x07\x04\x7f\
+    \xaa\xbb\xcc\xff\xfe\xdd\xee\x02\xff\xff\x02\x01\x01\x00\
+    \x00\x01\x05\x8c\x00\x02";
+
+/// The size of a message that fills its place counts no octet behind the place.
+#[test]
+fn the_longest_message_passed_on(rt: HostRuntime) {
+    let alloc = rt.alloc();
+    let mut datagram = [0x5a; 1472];
+    datagram[..54].copy_from_slice(LONGEST_HEAD);
+    let mut passed_on = datagram;
+    passed_on[45] = 0;
+    let mut handle = Handle::empty();
+    let settings = ClockSettings {
+        identity: [0xaa, 0xbb, 0xcc, 0xff, 0xfe, 0xdd, 0xee, 0x01],
+        ..ClockSettings::new()
+    };
+    let ports = [PortSettings::new(); 2];
+    let mut sent = [Sent::empty(); 15];
+    let mut count = 0;
+    assert!(rt; ptpm_clock_start(alloc, &mut handle, &settings, &ports, &[]) == 0);
+    assert!(rt; ptpm_clock_handle(alloc, &mut handle, 1, &datagram, &mut sent, &mut count) == 3);
+    assert!(rt; count == 1);
+    assert!(rt; sent[0].port == 2 && sent[0].size == 1472);
+    assert!(rt; sent[0].octets.as_slice() == passed_on.as_slice());
+    ptpm_clock_stop(alloc, &mut handle);
+}
+
 /// GET CURRENT_DATA_SET, number 7, of the manager to the clock, at every port.
 const GET_CURRENT: &[u8; 54] = b"\x0d\x12\x00\x36\x00\x00\
     \x00\x00\x00\x00\x00\x00\x00\x00\x00\x00\x00\x00\x00\x00\

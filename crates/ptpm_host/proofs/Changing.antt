@@ -1,11 +1,8 @@
--- A turn whose verdict is not AnsweredNew moves no member.
-use Rattle.std.proofs.Common.{◌≡◌, ◌≢◌, ◌∙◌, ap, sym, refl, ℕ, List, Result, Ok, Err}
+-- A turn whose verdict is not AnsweredNew leaves the data sets.
+use Rattle.std.proofs.Common.{◌≡◌, ◌≢◌, ◌∙◌, ap, refl, ℕ, List, Result, Ok, Err}
 use Rattle.ptpm_codec.specs.declared.error.DecodeError.{DecodeError}
 use Rattle.ptpm_codec.specs.declared.message.Message.{Message}
 use Rattle.ptpm_codec.specs.Reading.{reading}
-use Rattle.ptpm_data.specs.Changed.{changed, no_members}
-use Rattle.ptpm_data.specs.Members.{DataSetsValue}
-use Rattle.ptpm_data.proofs.Differing.{nothing_changed}
 use Rattle.ptpm_agent.specs.declared.verdict.Verdict.{Verdict}
 use Rattle.ptpm_agent.specs.declared.verdict.Verdict.TheVariants as verdicts
 use Rattle.ptpm_agent.specs.Agent.{IsTurned}
@@ -30,13 +27,10 @@ stays : (c : Clock) (s : State) (ingress : ℕ) (datagram : List ℕ)
 unfolding turn
 stays c s ingress datagram other = stays_read c s ingress datagram (reading datagram) other
 
-none_between : (d e : DataSetsValue) → e ≡ d → no_members ≡ changed d e
-none_between d e same = nothing_changed d ∙ ap (λ x. changed d x) (sym same)
-
-pub nothing_moved : (before after : HostedClock) (port : ℕ) (datagram : List ℕ) (verdict : Verdict) (outbox : List (ℕ × List ℕ))
+pub sets_stay : (before after : HostedClock) (port : ℕ) (datagram : List ℕ) (verdict : Verdict) (outbox : List (ℕ × List ℕ))
     → IsTurned (turn (clock_in before) (state_in before) port datagram) verdict outbox (state_in after)
     → verdict ≢ verdicts.AnsweredNew
-    → no_members ≡ changed before.agent.sets after.agent.sets
-nothing_moved before after port datagram verdict outbox turned other =
+    → after.agent.sets ≡ before.agent.sets
+sets_stay before after port datagram verdict outbox turned other =
     let next = stays (clock_in before) (state_in before) port datagram (λ new. other (turned.verdict_is ∙ new)) in
-    none_between before.agent.sets after.agent.sets (turned.sets_are ∙ ap (λ (s : State). s.sets) next)
+    turned.sets_are ∙ ap (λ (s : State). s.sets) next

@@ -1,6 +1,6 @@
 -- A clock that a host keeps, as the definitions of a turn see it, and the messages that are written into its host's places.
 use denote.Param.{number}
-use Rattle.std.specs.Prelude.{◌≡◌, ℕ, Bool, not, nat_lt, List, [], ◌∷◌, drop, take, map, Option, Some, None, Result, Ok, Err}
+use Rattle.std.specs.Prelude.{◌≡◌, ◌≤◌, ℕ, Bool, not, nat_lt, List, [], ◌∷◌, drop, take, map, Option, Some, None, Result, Ok, Err}
 use Rattle.ptpm_codec.specs.Ordered.{first_of}
 use Rattle.ptpm_data.specs.declared.start.StartError.{StartError}
 use Rattle.ptpm_data.specs.Members.{DataSetsValue}
@@ -63,6 +63,10 @@ handle_refusal has_port room = first_of ((not has_port, NoPort) ∷ (nat_lt room
 -- a message with the port that it is sent at
 abbrev pub message_in : Sent → ℕ × List ℕ
 message_in s = (s.port, take s.size s.octets)
+
+-- its size is no more than the octets of its place, so it is the number of octets that the message has
+abbrev pub IsWhole : Sent → Type 0
+IsWhole s = s.size ≤ 1472
 
 -- behind the message that was put into a place stands what stood there
 abbrev pub KeepsBehind : Sent → Sent → Type 0

@@ -1,13 +1,12 @@
 //! A clock, as a host keeps it.
 
-ghost use Rattle.std.specs.Prelude.{◌≡◌, ◌≢◌, ◌≤◌, Ok, None, Some, IfErr, IfOk, MatchResult, OnErr, OnOk, [], drop, length, take};
+ghost use Rattle.std.specs.Prelude.{◌≡◌, ◌≢◌, ◌≤◌, Ok, None, Some, IfErr, IfOk, MatchResult, OnErr, OnOk, All, [], drop, length, take};
 ghost use Rattle.std.specs.List.{AllZip};
-ghost use Rattle.ptpm_data.specs.Changed.{changed, no_members};
 ghost use Rattle.ptpm_data.specs.Members.{has_port};
 ghost use Rattle.ptpm_table.specs.Managers.{IsFresh};
 ghost use Rattle.ptpm_agent.specs.Agent.{IsTurned};
 ghost use Rattle.ptpm_agent.specs.Turn.{turn};
-ghost use Rattle.ptpm_host.specs.Clock.{IsFreshClock, KeepsBehind, clock_in, handle_refusal, messages_in, start_by, start_refusal, state_in};
+ghost use Rattle.ptpm_host.specs.Clock.{IsFreshClock, IsWhole, KeepsBehind, clock_in, handle_refusal, messages_in, start_by, start_refusal, state_in};
 ghost use Rattle.ptpm_host.specs.Observing.{IsObserved, observe_refusal, ports_left};
 ghost use Rattle.ptpm_host.specs.Settings.{configured};
 ghost use Rattle.ptpm_data.specs.Start.{unless};
@@ -19,7 +18,7 @@ use crate::refusal::{HandleRefusal, StartRefusal};
 use crate::sent::Sent;
 use crate::settings::{ClockSettings, ManagerSettings, PortSettings};
 use ptpm_agent::{Agent, Verdict};
-use ptpm_data::{ChangedMembers, DataSets, ObservationError, PortsLeftDisabled};
+use ptpm_data::{DataSets, ObservationError, PortsLeftDisabled};
 use ptpm_table::{BoundTable, Outgoing, ReplyTable, SlotTable};
 use std::alloc::Global;
 
@@ -123,7 +122,8 @@ impl HostedClock {
 
     /// What becomes of a datagram that comes in at a port: one turn of the clock. What it sends is written into the first
     /// places of `room`; the places behind them stay as they are, and so does what stands behind each message. Where it is
-    /// refused, nothing changes. Takes no memory.
+    /// refused, nothing changes. The data sets change behind the verdict `AnsweredNew` alone: a host that acts on what changed
+    /// keeps a copy of them, and then asks `sets` what is another since. Takes no memory.
     #[tactic(auto, using(crate::specs::PlacesLaws::kept_by_none))]
     pub fn handle(
         &mut self,
@@ -136,8 +136,11 @@ impl HostedClock {
             IsTurned (turn (clock_in self.old) (state_in self.old) port datagram.now) h.verdict
             (messages_in (take h.count room.new)) (state_in self.new)) }
         ensures count { IfOk result (λ h. h.count ≤ length room.new) }
+        ensures whole { IfOk result (λ h. All IsWhole (take h.count room.new)) }
         ensures places { IfOk result (λ h. drop h.count room.new ≡ drop h.count room.old) }
         ensures behind { AllZip KeepsBehind room.old room.new }
+        ensures new_alone { IfOk result
+            (λ h. h.verdict ≢ Verdict.AnsweredNew → self.new.agent.sets ≡ self.old.agent.sets) }
         ensures refusal { MatchResult result
             (λ _. handle_refusal (has_port port self.old.agent.sets) (length room.old) ≡ None)
             (λ e. handle_refusal (has_port port self.old.agent.sets) (length room.old) ≡ Some e) }
@@ -157,41 +160,6 @@ impl HostedClock {
             verdict,
             count: places.count(),
         })
-    }
-
-    /// What `handle` does, and the members that have another value behind it than before, of the clock and of each port, so
-    /// that a host reads what it has to act on, and no more. There is none but where the verdict is `AnsweredNew`.
-    pub fn handle_changed(
-        &mut self,
-        port: u16,
-        datagram: &[u8],
-        room: &mut [Sent],
-    ) -> Result<(Handled, ChangedMembers), HandleRefusal>
-        ensures turned { IfOk result
-            (λ h.
-            IsTurned (turn (clock_in self.old) (state_in self.old) port datagram.now) h.0.verdict
-            (messages_in (take h.0.count room.new)) (state_in self.new)) }
-        ensures changed { IfOk result
-            (λ h. h.1 ≡ changed self.old.agent.sets self.new.agent.sets) }
-        ensures new_alone { IfOk result
-            (λ h. h.0.verdict ≢ Verdict.AnsweredNew → h.1 ≡ no_members) }
-        ensures count { IfOk result (λ h. h.0.count ≤ length room.new) }
-        ensures places { IfOk result (λ h. drop h.0.count room.new ≡ drop h.0.count room.old) }
-        ensures behind { AllZip KeepsBehind room.old room.new }
-        ensures refusal { MatchResult result
-            (λ _. handle_refusal (has_port port self.old.agent.sets) (length room.old) ≡ None)
-            (λ e. handle_refusal (has_port port self.old.agent.sets) (length room.old) ≡ Some e) }
-        ensures unchanged { OnErr result (self.new ≡ self.old) }
-        ensures untouched { OnErr result (room.new ≡ room.old) }
-        ensures clock { clock_in self.new ≡ clock_in self.old }
-    {
-        let before = self.agent.sets().copy();
-        let handled = self.handle(port, datagram, room)?;
-        let changed = match handled.verdict {
-            Verdict::AnsweredNew => self.agent.sets().changed_since(&before),
-            _ => ChangedMembers::NONE,
-        };
-        Ok((handled, changed))
     }
 
     /// What the host observes of its clock and of its ports from 1 on: the observed members move, and no other; but for the

@@ -1,6 +1,7 @@
 //! A host's places, into which a clock's messages are written.
 
-ghost use Rattle.std.specs.Prelude.{◌≡◌, ◌≤◌, length};
+ghost use Rattle.std.specs.Prelude.{◌≡◌, ◌≤◌, All, length, take};
+ghost use Rattle.ptpm_host.specs.Clock.{IsWhole};
 
 use crate::sent::Sent;
 use ptpm_codec::Envelope;
@@ -14,6 +15,7 @@ pub(crate) struct Places<'a> {
     count: usize,
     ghost wide: { 15 ≤ length room.now },
     ghost few: { count ≤ 15 },
+    ghost whole: { All IsWhole (take count room.now) },
 }
 
 impl<'a> Places<'a> {

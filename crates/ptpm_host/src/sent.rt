@@ -10,7 +10,7 @@ ghost use Rattle.ptpm_codec.specs.Envelope.{envelope_of, sent_with};
 ghost use Rattle.ptpm_codec.specs.Message.{Fits};
 ghost use Rattle.ptpm_codec.specs.Reading.{IsWellFormed};
 ghost use Rattle.ptpm_table.specs.KeptMessages.{renewed};
-ghost use Rattle.ptpm_host.specs.Clock.{KeepsBehind, message_in};
+ghost use Rattle.ptpm_host.specs.Clock.{IsWhole, KeepsBehind, message_in};
 
 use ptpm_codec::{
     Envelope, MESSAGE_OCTETS, REFUSAL_OCTETS, copy_message, less_hop_in, message_size,
@@ -44,9 +44,10 @@ impl Sent {
 
     /// The message, without its port.
     pub(crate) fn message(&self) -> &[u8]
+        requires { IsWhole self.now }
         ensures { result.now ≡ (message_in self.now).1 }
     {
-        &self.octets[..(self.size as usize).min(MESSAGE_OCTETS)]
+        &self.octets[..self.size as usize]
     }
 
     /// Writes the message of an envelope that answers this dataField from the source port in place of the one that stands here.
@@ -57,6 +58,7 @@ impl Sent {
             envelope.now ≡ envelope_of v action id →
             message_in self.new
             ≡ (port, canonical (sent_with v source (bodies.Answer action id octets.now))) }
+        ensures whole { IsWhole self.new }
         ensures behind { KeepsBehind self.old self.new }
     {
         let size = 54 + octets.len();
@@ -78,6 +80,7 @@ impl Sent {
             envelope.now ≡ envelope_of v action answered →
             message_in self.new
             ≡ (port, canonical (sent_with v source (bodies.Fault action error id []))) }
+        ensures whole { IsWhole self.new }
         ensures behind { KeepsBehind self.old self.new }
     {
         self.port = port;
@@ -93,6 +96,7 @@ impl Sent {
           port,
           slice_set (message_octets datagram.now) 45 (boundary_hops datagram.now - 1),
         ) }
+        ensures whole { IsWhole self.new }
         ensures behind { KeepsBehind self.old self.new }
     {
         let size = message_size(datagram);
@@ -110,6 +114,7 @@ impl Sent {
           port,
           renewed renewal.now.domain renewal.now.port renewal.now.hops message.now,
         ) }
+        ensures whole { IsWhole self.new }
         ensures behind { KeepsBehind self.old self.new }
     {
         self.port = port;

@@ -1,4 +1,5 @@
-//! What stands in the places of a host: a message that is passed on, a reply that is sent again, and a reply to a change.
+//! What stands in the places of a host: a message that is passed on, the longest too, a reply that is sent again, and a reply to
+//! a change.
 
 use super::{MANAGER, REPLY, REQUEST, SET_PRIORITY1};
 use crate::*;
@@ -18,6 +19,13 @@ const PASSED_ON: &[u8; 54] = b"\x0d\x12\x00\x36\x00\x00\
     \x00\x11\x22\x33\x44\x55\x66\x77\x00\x01\x00\x07\x04\x7f\
     \xaa\xbb\xcc\xff\xfe\xdd\xee\x02\xff\xff\x02\x00\x00\x00\
     \x00\x01\x00\x02\x20\x05";
+
+/// The head of the longest message, a SET of USER_DESCRIPTION with a dataField of 1,418 octets, of the manager to that clock.
+const LONGEST_HEAD: &[u8; 54] = b"\x0d\x12\x05\xc0\x00\x00\
+    \x00\x00\x00\x00\x00\x00\x00\x00\x00\x00\x00\x00\x00\x00\
+    \x00\x11\x22\x33\x44\x55\x66\x77\x00\x01\x00\x07\x04\x7f\
+    \xaa\xbb\xcc\xff\xfe\xdd\xee\x02\xff\xff\x02\x01\x01\x00\
+    \x00\x01\x05\x8c\x00\x02";
 
 /// `REQUEST` once more, in domain 9, where it has lost 2 of its 5 hops.
 const REQUEST_AGAIN: &[u8; 54] = b"\x0d\x12\x00\x36\x09\x00\
@@ -66,12 +74,8 @@ fn changes(
         clock: ClockMembers(members),
         ..ChangedMembers::NONE
     };
-    match clock.handle_changed(1, datagram, room) {
-        Ok((handled, changed)) => {
-            handled.verdict == verdict && handled.count == 1 && changed == wanted
-        }
-        Err(_) => false,
-    }
+    let before = clock.sets().copy();
+    sends_one(clock, 1, datagram, room, verdict) && clock.sets().changed_since(&before) == wanted
 }
 
 /// This message stands in a place, for this port.
@@ -89,6 +93,26 @@ fn a_message_passed_on(rt: HostRuntime) {
             let verdict = Verdict::NotAddressed;
             assert!(rt; sends_one(&mut clock, 1, TO_ANOTHER, &mut room, verdict));
             assert!(rt; holds(&room[0], 2, PASSED_ON));
+        }
+        Err(_) => assert!(rt; false, "it starts"),
+    }
+}
+
+/// It fills its place, and its size counts no octet behind the place.
+#[test]
+fn the_longest_message_passed_on(rt: HostRuntime) {
+    let mut datagram = [0x5a; 1472];
+    datagram[..54].copy_from_slice(LONGEST_HEAD);
+    let mut passed_on = datagram;
+    passed_on[45] = 0;
+    let mut room = [Sent::empty(); MOST_SENT];
+    let ports = [PortSettings::new(); 2];
+    match HostedClock::start(rt.alloc(), &super::settings(), &ports, &[MANAGER]) {
+        Ok(mut clock) => {
+            let verdict = Verdict::NotAddressed;
+            assert!(rt; sends_one(&mut clock, 1, &datagram, &mut room, verdict));
+            assert!(rt; room[0].size == 1472);
+            assert!(rt; holds(&room[0], 2, &passed_on));
         }
         Err(_) => assert!(rt; false, "it starts"),
     }
