@@ -29,6 +29,9 @@
 #include <stddef.h>
 #include <stdint.h>
 
+static_assert(sizeof(void *) == 8 && __BYTE_ORDER__ == __ORDER_LITTLE_ENDIAN__,
+              "ptpm is built for 64-bit little-endian processors alone");
+
 #ifdef __cplusplus
 extern "C" {
 #endif
@@ -242,14 +245,15 @@ struct ptpm_source {
     uint16_t port;
 };
 
-static_assert(sizeof(struct ptpm_clock) == 16 && sizeof(struct ptpm_clock_settings) == 216
+static_assert(sizeof(void *) != 8
+              || (sizeof(struct ptpm_clock) == 16 && sizeof(struct ptpm_clock_settings) == 216
                && sizeof(struct ptpm_port_settings) == 16 && sizeof(struct ptpm_observed_clock) == 88
                && sizeof(struct ptpm_observed_port) == 16 && sizeof(struct ptpm_manager_settings) == 12
                && sizeof(struct ptpm_sent) == 1476 && sizeof(struct ptpm_changed) == 12
                && sizeof(struct ptpm_session) == 16
                && sizeof(struct ptpm_session_settings) == 26 && sizeof(struct ptpm_survey) == 16
-               && sizeof(struct ptpm_survey_settings) == 16 && sizeof(struct ptpm_source) == 10,
-              "the library was made for other sizes");
+               && sizeof(struct ptpm_survey_settings) == 16 && sizeof(struct ptpm_source) == 10),
+              "ptpm is built for structs that no flag of the compiler has laid out otherwise");
 
 /* A clock sends at most so many messages for a datagram, and a dataField of its own has at most so many octets; a message
    has at most so many, its dataField included. */
