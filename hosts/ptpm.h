@@ -15,7 +15,7 @@
      something to free. There is one live copy of a handle. The host may move it, and reads and writes nothing inside it.
    - malloc, realloc and free come from one allocator, and malloc aligns each block to the greatest power of two up to 16
      that divides its size. No call is made from a signal handler, or in a forked child of a process with threads.
-   - A call has the stack that it needs, as the library is built for x86-64: ptpm_clock_start 4,200 octets,
+   - A call has the stack that it needs, as the library is built for x86-64 and aarch64: ptpm_clock_start 4,400 octets,
      ptpm_clock_handle_changed 2,100, ptpm_survey_send 1,900, ptpm_clock_handle and ptpm_clock_observe 1,000, every other call 500;
      and beyond that what malloc, realloc, free, memcpy, memmove and memset of the host take. No call calls itself.
 
