@@ -15,7 +15,7 @@
      something to free. There is one live copy of a handle. The host may move it, and reads and writes nothing inside it.
    - malloc, realloc and free come from one allocator, and malloc aligns each block to the greatest power of two up to 16
      that divides its size. No call is made from a signal handler, or in a forked child of a process with threads.
-   - A call has the stack that it needs, as the library is built for x86-64: ptpm_clock_start 4,200 octets,
+   - A call has the stack that it needs, as the library is built for x86-64 and aarch64: ptpm_clock_start 4,400 octets,
      ptpm_clock_handle_changed 2,100, ptpm_survey_send 1,900, ptpm_clock_handle and ptpm_clock_observe 1,000, every other call 500;
      and beyond that what malloc, realloc, free, memcpy, memmove and memset of the host take. No call calls itself.
 
@@ -28,6 +28,9 @@
 #include <stdbool.h>
 #include <stddef.h>
 #include <stdint.h>
+
+static_assert(sizeof(void *) == 8 && __BYTE_ORDER__ == __ORDER_LITTLE_ENDIAN__,
+              "ptpm is built for 64-bit little-endian processors alone");
 
 #ifdef __cplusplus
 extern "C" {
@@ -242,14 +245,15 @@ struct ptpm_source {
     uint16_t port;
 };
 
-static_assert(sizeof(struct ptpm_clock) == 16 && sizeof(struct ptpm_clock_settings) == 216
+static_assert(sizeof(void *) != 8
+              || (sizeof(struct ptpm_clock) == 16 && sizeof(struct ptpm_clock_settings) == 216
                && sizeof(struct ptpm_port_settings) == 16 && sizeof(struct ptpm_observed_clock) == 88
                && sizeof(struct ptpm_observed_port) == 16 && sizeof(struct ptpm_manager_settings) == 12
                && sizeof(struct ptpm_sent) == 1476 && sizeof(struct ptpm_changed) == 12
                && sizeof(struct ptpm_session) == 16
                && sizeof(struct ptpm_session_settings) == 26 && sizeof(struct ptpm_survey) == 16
-               && sizeof(struct ptpm_survey_settings) == 16 && sizeof(struct ptpm_source) == 10,
-              "the library was made for other sizes");
+               && sizeof(struct ptpm_survey_settings) == 16 && sizeof(struct ptpm_source) == 10),
+              "ptpm is built for structs that no flag of the compiler has laid out otherwise");
 
 /* A clock sends at most so many messages for a datagram, and a dataField of its own has at most so many octets; a message
    has at most so many, its dataField included. */
