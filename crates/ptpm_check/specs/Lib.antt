@@ -1,2 +1,3 @@
 pub mod Faults
 pub mod KeyFaults
+pub mod Place

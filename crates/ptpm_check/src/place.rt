@@ -1,5 +1,8 @@
 //! Where a fault stands.
 
+ghost use Rattle.std.specs.Prelude.{◌≡◌};
+ghost use Rattle.ptpm_check.specs.Place.{array_key};
+
 use std::fmt;
 
 /// An array of tables of a network file.
@@ -12,6 +15,11 @@ pub enum Array {
 
 /// Its key.
 impl fmt::Display for Array {
+    ghost use Rattle.std.specs.Prelude.{Some};
+    ghost use Rattle.ptpm_check.specs.Place.{array_key};
+
+    ghost output = { λ a. Some (array_key a) };
+
     fn fmt<W: fmt::Write>(&self, f: &mut fmt::Formatter<W>) -> fmt::Result {
         f.write_str(self.key())
     }
@@ -19,7 +27,9 @@ impl fmt::Display for Array {
 
 impl Array {
     /// The key that it stands at.
-    pub fn key(self) -> &'static str {
+    pub fn key(self) -> &'static str
+        ensures { result.now ≡ array_key self }
+    {
         match self {
             Array::Clock => "clock",
             Array::Session => "session",

@@ -2,3 +2,4 @@ pub mod Names
 pub mod ClockSets
 pub mod Pictures
 pub mod Delivered
+pub mod Drawings

@@ -1,3 +1,4 @@
 pub mod Party
 pub mod Changes
 pub mod Picture
+pub mod Drawing

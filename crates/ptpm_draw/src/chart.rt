@@ -1,5 +1,8 @@
 //! A picture in SVG 1.1: where all of it stands, and how it is written.
 
+ghost use Rattle.std.specs.Prelude.{◌≡◌, IfErr, true};
+ghost use Rattle.ptpm_world.specs.ScriptError.{is_of_writing};
+
 use crate::changes::Changes;
 use crate::drawing::Chosen;
 use crate::lifelines::{CHARACTER, Lifelines, kind_of};
@@ -93,7 +96,9 @@ impl<'a> Chart<'a> {
     }
 
     /// Writes the picture.
-    pub(crate) fn write<W: Write>(&self, alloc: Global, out: &mut W) -> Result<(), ScriptError> {
+    pub(crate) fn write<W: Write>(&self, alloc: Global, out: &mut W) -> Result<(), ScriptError>
+        ensures { IfErr result (λ e. is_of_writing e ≡ true) }
+    {
         self.write_start(out)?;
         self.write_lifelines(out)?;
         let mut label = String::new(alloc);
@@ -195,7 +200,9 @@ impl<'a> Chart<'a> {
         top: usize,
         label: &mut String,
         out: &mut W,
-    ) -> Result<(), ScriptError> {
+    ) -> Result<(), ScriptError>
+        ensures { IfErr result (λ e. is_of_writing e ≡ true) }
+    {
         let Line { row, event, .. } = *line;
         let picture = self.picture;
         spell(
@@ -287,7 +294,9 @@ impl<'a> Chart<'a> {
         top: usize,
         label: &mut String,
         out: &mut W,
-    ) -> Result<usize, ScriptError> {
+    ) -> Result<usize, ScriptError>
+        ensures { IfErr result (λ e. is_of_writing e ≡ true) }
+    {
         let picture = self.picture;
         let mut top = top;
         for count in row.before..row.after {

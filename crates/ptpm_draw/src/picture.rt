@@ -1,6 +1,6 @@
 //! What a picture of a run shows: a row for each event, each message that was sent, and what changed.
 
-ghost use Rattle.std.specs.Prelude.{◌≡◌, [], ◌∷◌, ◌++◌, IfOk, OnOk, drop, length, map, option_map, option_to_list};
+ghost use Rattle.std.specs.Prelude.{◌≡◌, [], ◌∷◌, ◌++◌, IfErr, IfOk, OnOk, drop, length, map, option_and_then, option_map, option_to_list};
 ghost use Rattle.std.specs.List.{range_with_len};
 ghost use Rattle.std.specs.Option.{option_copied};
 ghost use Rattle.ptpm_codec.specs.Reading.{reading};
@@ -8,6 +8,7 @@ ghost use Rattle.ptpm_draw.specs.Picture.{IsWorldOf, drawn_by, drawn_in, is_deli
 ghost use Rattle.ptpm_network.specs.Events.{frame_at};
 ghost use Rattle.ptpm_network.specs.Network as machine;
 ghost use Rattle.ptpm_script.specs.NetworkView.{network_value};
+ghost use Rattle.ptpm_world.specs.declared.script_error.ScriptError.TheVariants as faults;
 ghost use Rattle.ptpm_world.specs.Described.{described};
 ghost use Rattle.ptpm_world.specs.Frames.{frame_value};
 ghost use Rattle.ptpm_world.specs.Placed.{names_in, names_of, placed};
@@ -88,9 +89,10 @@ impl Picture {
     /// Runs a script, and keeps what is drawn of it: of each event, where those before it lead, its row, the messages of the frames
     /// that it made, from the party at whom it happens, and what it changed at its clock.
     pub fn of(alloc: Global, script: &Script) -> Result<Picture, ScriptError>
-        ensures { IfOk result
+        ensures drawn { IfOk result
             (λ p.
             drawn_in p ≡ picture_of (network_value script.now.network) script.now.lines.items) }
+        ensures memory { IfErr result (λ e. e ≡ faults.OutOfMemory) }
     {
         let mut world = World::new(alloc, &script.network)?;
         let mut picture = Picture::empty(alloc);
@@ -228,7 +230,9 @@ impl Picture {
     }
 
     /// What the message of the frame of a number says.
-    pub fn says(&self, number: u32) -> Option<Says> {
+    pub fn says(&self, number: u32) -> Option<Says>
+        ensures { result ≡ option_and_then (λ m. m.says) (frame_at self.now.messages.items number) }
+    {
         self.message(number)?.says
     }
 }

@@ -1,9 +1,10 @@
 //! A script of requests, made into one of everything that happens to them.
 
-ghost use Rattle.std.specs.Prelude.{◌++◌, ◌∷◌, OnOk, [], codes};
+ghost use Rattle.std.specs.Prelude.{◌≡◌, ◌≤◌, ◌==◌, ◌+◌, ◌++◌, ◌∷◌, IfOk, IfSome, OnOk, [], codes, count_by};
 ghost use Rattle.std.specs.Io.KnownBytes.{Appends};
-ghost use Rattle.ptpm_schedule.specs.Going.{Goes};
-ghost use Rattle.ptpm_schedule.specs.Scheduled.{IsScheduled};
+ghost use Rattle.std.specs.Result.{result_err};
+ghost use Rattle.ptpm_schedule.specs.Going.{Went, asked_in};
+ghost use Rattle.ptpm_schedule.specs.Scheduled.{HasScheduled, IsScheduled, is_asked, unasked};
 
 use crate::chances::Chances;
 use crate::left_out::LeftOut;
@@ -31,7 +32,9 @@ pub fn schedule<R: Read + Drop, W: Write, E: Write>(
     out: &mut W,
     err: &mut E,
 ) -> Result<(), ScriptError>
-    ensures { OnOk result (IsScheduled (W.contents out.old) (W.contents out.new)) }
+    ensures scheduled { OnOk result (IsScheduled (W.contents out.old) (W.contents out.new)) }
+    ensures read { IfSome (R.remaining reader)
+        (λ input. HasScheduled input (W.contents out.old) (W.contents out.new) result) }
 {
     let script = read_script(alloc, reader)?;
     judge(script.lines.as_slice())?;
@@ -51,8 +54,8 @@ fn play<W: Write, E: Write>(
     out: &mut W,
     err: &mut E,
 ) -> Result<(), ScriptError>
-    ensures { OnOk result
-        (Goes world.old world.new (W.contents out.old) (W.contents out.new)) }
+    ensures { Went result (asked_in lines.now) world.old world.new (W.contents out.old)
+        (W.contents out.new) traffic.old.lines traffic.new.lines }
 {
     for line in lines {
         if let Some(why) = traffic.ask(world, &line.event, out)? {
@@ -64,22 +67,32 @@ fn play<W: Write, E: Write>(
 }
 
 /// Refuses the first line whose event is none of `begin`, `resume` and `retune`.
-fn judge(lines: &[EventLine]) -> Result<(), ScriptError> {
+fn judge(lines: &[EventLine]) -> Result<(), ScriptError>
+    ensures { result_err result ≡ unasked lines.now }
+{
     for line in lines {
-        match &line.event {
-            Event::Begin(..) | Event::Resume(..) | Event::Retune(..) => {}
-            Event::Send(_) | Event::Deliver(_) | Event::Stranger(..) => {
-                return Err(ScriptError::BadLine(line.number, EventError::UnknownWord));
-            }
+        if !is_asked(&line.event) {
+            return Err(ScriptError::BadLine(line.number, EventError::UnknownWord));
         }
     }
     Ok(())
 }
 
+/// Whether a session is asked for an event.
+fn is_asked(event: &Event) -> bool
+    ensures { result ≡ is_asked event.now }
+{
+    match event {
+        Event::Begin(..) | Event::Resume(..) | Event::Retune(..) => true,
+        Event::Send(_) | Event::Deliver(_) | Event::Stranger(..) => false,
+    }
+}
+
 /// Writes the network file and the divider. Answers how many lines that were.
 fn write_network<W: Write>(text: &str, out: &mut W) -> io::Result<u64>
-    ensures { OnOk result (Appends (W.contents out.old) (W.contents out.new)
+    ensures written { OnOk result (Appends (W.contents out.old) (W.contents out.new)
         (text.now ++ codes "%%" ++ 10 ∷ [])) }
+    ensures counted { IfOk result (λ lines. lines ≤ count_by (λ octet. octet == 10) text.now + 1) }
 {
     writeln!(out, "{text}{DIVIDER}")?;
     let ends = text.bytes().filter(|octet| *octet == b'\n').count();

@@ -1,13 +1,13 @@
 //! What is under way in a network that loses, repeats and reorders messages.
 
-ghost use Rattle.std.specs.Prelude.{◌≡◌, ◌++◌, ◌∷◌, IfOk, List, OnOk, []};
+ghost use Rattle.std.specs.Prelude.{◌≡◌, ◌≢◌, ◌++◌, ◌∷◌, IfOk, List, OnErr, OnOk, []};
 ghost use Rattle.std.specs.Io.KnownBytes.{Appends};
 ghost use Rattle.ptpm_network.specs.Events as machine;
 ghost use Rattle.ptpm_network.specs.Stands.{StandsAfter};
 ghost use Rattle.ptpm_network.specs.Machine.{is_late_delivery, state_after};
 ghost use Rattle.ptpm_network.specs.Network as net;
 ghost use Rattle.ptpm_schedule.specs.EventText.{event_text};
-ghost use Rattle.ptpm_schedule.specs.Going.{Became, Goes, IsSame};
+ghost use Rattle.ptpm_schedule.specs.Going.{Became, IsSame, Went, asked_by};
 ghost use Rattle.ptpm_world.specs.Placed.{names_in, placed};
 ghost use Rattle.ptpm_world.specs.Running.{running};
 
@@ -53,7 +53,9 @@ impl<'a> Traffic<'a> {
         network: &'a Network,
         chances: Chances,
         lines: u64,
-    ) -> Traffic<'a> {
+    ) -> Traffic<'a>
+        ensures { result.lines ≡ lines }
+    {
         Traffic {
             alloc,
             network,
@@ -73,8 +75,8 @@ impl<'a> Traffic<'a> {
         event: &Event,
         out: &mut W,
     ) -> Result<Option<StepError>, ScriptError>
-        ensures { OnOk result
-            (Goes world.old world.new (W.contents out.old) (W.contents out.new)) }
+        ensures { Went result (asked_by event.now) world.old world.new (W.contents out.old) (W.contents out.new)
+            self.old.lines self.new.lines }
     {
         let place = place_of(self.network, event);
         self.settle(world, place, out)?;
@@ -89,8 +91,8 @@ impl<'a> Traffic<'a> {
         place: Option<u16>,
         out: &mut W,
     ) -> Result<Option<StepError>, ScriptError>
-        ensures { OnOk result
-            (Goes world.old world.new (W.contents out.old) (W.contents out.new)) }
+        ensures { Went result (asked_by event.now) world.old world.new (W.contents out.old) (W.contents out.new)
+            self.old.lines self.new.lines }
     {
         match (self.happen(world, event, out)?, event, place) {
             (Tried::Refused(why), _, _) => Ok(Some(why)),
@@ -109,8 +111,8 @@ impl<'a> Traffic<'a> {
         world: &mut World,
         out: &mut W,
     ) -> Result<(), ScriptError>
-        ensures { OnOk result
-            (Goes world.old world.new (W.contents out.old) (W.contents out.new)) }
+        ensures { Went result [] world.old world.new (W.contents out.old) (W.contents out.new)
+            self.old.lines self.new.lines }
     {
         for _ in 0..u64::MAX {
             if self.under_way.is_empty() && self.waiting.is_empty() {
@@ -122,15 +124,14 @@ impl<'a> Traffic<'a> {
     }
 
     /// Lets the network go on until the session at this place, if there is one, waits no more.
-    #[tactic(auto, using(crate::proofs::Going::stands_still))]
     fn settle<W: Write>(
         &mut self,
         world: &mut World,
         place: Option<u16>,
         out: &mut W,
     ) -> Result<(), ScriptError>
-        ensures { OnOk result
-            (Goes world.old world.new (W.contents out.old) (W.contents out.new)) }
+        ensures { Went result [] world.old world.new (W.contents out.old) (W.contents out.new)
+            self.old.lines self.new.lines }
     {
         let Some(place) = place else {
             return Ok(());
@@ -146,8 +147,8 @@ impl<'a> Traffic<'a> {
 
     /// Delivers one of the frames that are under way. Where there are none, one of the sessions that wait sends again.
     fn go_on<W: Write>(&mut self, world: &mut World, out: &mut W) -> Result<(), ScriptError>
-        ensures { OnOk result
-            (Goes world.old world.new (W.contents out.old) (W.contents out.new)) }
+        ensures { Went result [] world.old world.new (W.contents out.old) (W.contents out.new)
+            self.old.lines self.new.lines }
     {
         if !self.under_way.is_empty() {
             let place = self.draws.place(self.under_way.len());
@@ -169,14 +170,12 @@ impl<'a> Traffic<'a> {
         frame: u32,
         out: &mut W,
     ) -> Result<(), ScriptError>
-        ensures { OnOk result
-            (Goes world.old world.new (W.contents out.old) (W.contents out.new)) }
+        ensures { Went result [] world.old world.new (W.contents out.old) (W.contents out.new)
+            self.old.lines self.new.lines }
     {
         let tried = self.happen(world, &Event::Deliver(frame), out)?;
         if let Tried::Happened(Took::Answered) = tried {
-            if let Some(End::Session(place)) = world.frame(frame).map(|frame| frame.end()) {
-                self.waiting.retain(|waits| *waits != place);
-            }
+            leave_reached(&mut self.waiting, world, frame);
         }
         Ok(())
     }
@@ -188,26 +187,25 @@ impl<'a> Traffic<'a> {
         session: u16,
         out: &mut W,
     ) -> Result<(), ScriptError>
-        ensures { OnOk result
-            (Goes world.old world.new (W.contents out.old) (W.contents out.new)) }
+        ensures { Went result [] world.old world.new (W.contents out.old) (W.contents out.new)
+            self.old.lines self.new.lines }
     {
         let tried = self.try_send(world, session, out)?;
         if let Tried::Refused(_) = tried {
-            self.waiting.retain(|waits| *waits != session);
+            leave(&mut self.waiting, session);
         }
         Ok(())
     }
 
     /// Lets the session at a place send. It is refused where there is none.
-    #[tactic(auto, using(crate::proofs::Going::stands_still))]
     fn try_send<W: Write>(
         &mut self,
         world: &mut World,
         session: u16,
         out: &mut W,
     ) -> Result<Tried, ScriptError>
-        ensures { OnOk result
-            (Goes world.old world.new (W.contents out.old) (W.contents out.new)) }
+        ensures { Went result [] world.old world.new (W.contents out.old) (W.contents out.new)
+            self.old.lines self.new.lines }
     {
         let Some(listed) = self.network.sessions().get(session as usize) else {
             return Ok(Tried::Refused(StepError::NoSuchName));
@@ -223,8 +221,8 @@ impl<'a> Traffic<'a> {
         event: &Event,
         out: &mut W,
     ) -> Result<Tried, ScriptError>
-        ensures { OnOk result
-            (Goes world.old world.new (W.contents out.old) (W.contents out.new)) }
+        ensures { Went result (asked_by event.now) world.old world.new (W.contents out.old) (W.contents out.new)
+            self.old.lines self.new.lines }
     {
         if self.lines >= SCRIPT_LINES as u64 {
             return Err(ScriptError::TooManyLines);
@@ -243,16 +241,41 @@ impl<'a> Traffic<'a> {
     }
 
     /// Draws which of the frames between two counts are under way, and which of these twice.
-    fn draw_frames(&mut self, before: u32, after: u32) -> Result<(), OutOfMemory> {
+    fn draw_frames(&mut self, before: u32, after: u32) -> Result<(), OutOfMemory>
+        ensures { self.new.lines ≡ self.old.lines }
+    {
         for sent in before..after {
-            if !self.draws.happens(self.chances.loss) {
-                self.under_way.push(sent + 1).map_err(|_| OutOfMemory)?;
-                if self.draws.happens(self.chances.repeat) {
-                    self.under_way.push(sent + 1).map_err(|_| OutOfMemory)?;
-                }
-            }
+            draw_frame(&mut self.under_way, &mut self.draws, self.chances, sent + 1)?;
         }
         Ok(())
+    }
+}
+
+/// Draws whether a frame is under way, and whether twice.
+fn draw_frame(
+    under_way: &mut Vec<u32>,
+    draws: &mut Draws,
+    chances: Chances,
+    frame: u32,
+) -> Result<(), OutOfMemory> {
+    if !draws.happens(chances.loss) {
+        under_way.push(frame).map_err(|_| OutOfMemory)?;
+        if draws.happens(chances.repeat) {
+            under_way.push(frame).map_err(|_| OutOfMemory)?;
+        }
+    }
+    Ok(())
+}
+
+/// The session at a place waits no more.
+fn leave(waiting: &mut Vec<u16>, session: u16) {
+    waiting.retain(|waits| *waits != session);
+}
+
+/// The session that a frame reached waits no more.
+fn leave_reached(waiting: &mut Vec<u16>, world: &World, frame: u32) {
+    if let Some(End::Session(place)) = world.frame(frame).map(|frame| frame.end()) {
+        leave(waiting, place);
     }
 }
 
@@ -269,14 +292,24 @@ fn write_line<W: Write>(event: &Event, out: &mut W) -> io::Result<()>
 fn try_event(world: &mut World, event: &Event) -> Result<Tried, OutOfMemory>
     ensures same { IsSame world.old world.new }
     ensures became { IfOk result (λ t. Became world.old world.new event.now t) }
+    ensures refused { OnErr result (running world.new ≡ running world.old) }
 {
     if is_late(world, event) {
         return Ok(Tried::Late);
     }
     match world.step(event) {
         Ok(took) => Ok(Tried::Happened(took)),
-        Err(StepError::OutOfMemory) => Err(OutOfMemory),
-        Err(why) => Ok(Tried::Refused(why)),
+        Err(why) => refused(why),
+    }
+}
+
+/// What became of an event that was refused. Want of memory is no refusal.
+fn refused(why: StepError) -> Result<Tried, OutOfMemory>
+    ensures { IfOk result (λ t. (t ≡ Tried.Refused why) × (why ≢ StepError.OutOfMemory)) }
+{
+    match why {
+        StepError::OutOfMemory => Err(OutOfMemory),
+        _ => Ok(Tried::Refused(why)),
     }
 }
 

@@ -46,7 +46,7 @@ pub use Rattle.ptpm_world.specs.Lines.{BothKnown, given, left_in, whole_lines}
 pub use Rattle.ptpm_world.specs.Placed.{Names, names_in, names_of, place_in, placed, placed_all}
 pub use Rattle.ptpm_world.specs.Running.{IsClockOf, IsOf, agent_clock, agent_state, is_late_held, is_late_of, reports_of, running, session_of, sets_of, state_of, table_entries}
 pub use Rattle.ptpm_world.specs.Script.{HasPlayed, HasPrinted, HasStopped, Played, Prints, StandsFor, TakesFirst, begins_comment, behind, closed, closing, ends, event_of, from_file, in_network, is_divider, is_skipped, network_text, played, played_by, read_as, scripted, scripted_from, started, started_session, unless_fault}
-pub use Rattle.ptpm_world.specs.ScriptError.{HasNextFault, ReadsWhole, is_outside, line_fault, next_fault, size_fault, text_fault}
+pub use Rattle.ptpm_world.specs.ScriptError.{HasNextFault, ReadsWhole, is_of_reading, is_outside, line_fault, next_fault, size_fault, text_fault}
 pub use Rattle.ptpm_world.specs.Starting.{AreStartedClocks, AreStartedSessions, IsStartedClock, IsStartedSession}
 pub use Rattle.ptpm_world.specs.Stepping.{IsStep, Leads}
 pub use Rattle.ptpm_world.specs.Stored.{IsShort, IsWithin, at_end, is_same, others}

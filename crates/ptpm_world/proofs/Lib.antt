@@ -31,4 +31,5 @@ mod LineAtHand
 pub mod StartedWorld
 pub mod Telling
 pub mod ScriptLemmas
+pub mod Reading
 pub mod Checking

@@ -4,6 +4,7 @@ use Rattle.ptpm_script.specs.declared.event.Event.{Event}
 use Rattle.ptpm_world.specs.declared.script_error.ScriptError.{ScriptError}
 use Rattle.ptpm_world.specs.declared.whole_script.EventLine.{EventLine}
 use Rattle.ptpm_world.specs.declared.script_error.ScriptError.TheVariants as faults
+use Rattle.ptpm_world.proofs.FaultLemmas.{outside}
 
 -- ---- what a reader tells, call after call
 
@@ -93,7 +94,7 @@ abbrev pub Guards : {A : Type 0} → (ℕ → List (List ℕ × List ℕ) → Pl
 Guards {A} comes others = (n : ℕ) (line : List ℕ × List ℕ) (rest : List (List ℕ × List ℕ))
     → comes n (line ∷ rest) ≡ unless_fault (line_fault n line) (others n line.0 rest)
 
-guarded : {A : Type 0} (comes : ℕ → List (List ℕ × List ℕ) → Played A) (others : ℕ → List ℕ → List (List ℕ × List ℕ) → Played A)
+pub guarded : {A : Type 0} (comes : ℕ → List (List ℕ × List ℕ) → Played A) (others : ℕ → List ℕ → List (List ℕ × List ℕ) → Played A)
     (f : Option ScriptError) (n : ℕ) (line : List ℕ) (xs ys : List ℕ)
     → Guards comes others
     → (octets : List ℕ) × ((whole_lines xs ≡ (line, octets) ∷ whole_lines ys) × (line_fault n (line, octets) ≡ f))
@@ -273,7 +274,11 @@ plays-err r e last {N} {names} {start} {now} {first} {written} more {a} {b} {k} 
     stopped None b p f = tt
     stopped (Some xs) None p f = absurd p
     stopped (Some xs) (Some ys) p f = (
-      λ inside. ap (λ x. x.end) p.comes ∙ ap (λ x. x.end) (f inside),
+      λ inside. (
+        ap (λ x. x.end) p.comes ∙ ap (λ x. x.end) (f inside),
+        subst (Appends first more) (sym (ap (λ x. x.text) p.comes ∙ ap (λ x. p.text ++ x.text) (f inside) ∙ append-nil p.text))
+            (subst (λ w. Appends first w p.text) (sym (kept (λ writing. outside e (ap is_outside writing) inside))) p.is),
+      ),
       λ other. (
         p.text,
         ((played N names now n place (whole_lines ys)).text, (sym (ap (λ x. x.text) p.comes), subst (λ w. Appends first w p.text) (sym (kept other)) p.is)),

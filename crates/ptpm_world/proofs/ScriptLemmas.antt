@@ -78,6 +78,14 @@ pub read-whole : (a b c : Option (List ℕ)) (n k : ℕ) (kept : List ℕ)
     → FileRead a n c k kept
 read-whole a b c n k kept h none goes = grind (arith, both-facts, both-on, stands_for)
 
+-- all is kept of a text that is a network
+pub whole-kept : (kept whole : List ℕ) (n : NetworkValue)
+    → StandsFor kept whole
+    → network_of kept ≡ Ok n
+    → kept ≡ whole
+whole-kept kept whole n (inl same) of = same
+whole-kept kept whole n (inr both) of = absurd (let long = too_long kept both.0 in cc)
+
 -- ---- the network
 
 pub file-network : (a b : Option (List ℕ)) (n k : ℕ) (kept : List ℕ) (network : Result NetworkValue NetError)
@@ -108,10 +116,14 @@ some_same xs ys h = cc
 pub stopped-first : {A : Type 0} (r : Result A ScriptError) (e : ScriptError)
     (all before : Option (List ℕ))
     → IsErrAnd r (λ x. x ≡ e)
-    → (is_outside e ≡ false → IfSome all (λ input. (scripted input).end ≡ Err e))
+    → (is_outside e ≡ false → IfSome all (λ input. scripted input ≡ ends (Err e)))
     → IfSome all (λ input. HasPrinted input before before r)
 stopped-first r e None before given fault = tt
-stopped-first r e (Some input) before given fault = grind (arith, err-is, Appends-nil)
+stopped-first r e (Some input) before given fault =
+    err-is r e (HasPrinted input before before) given (
+      λ inside. (ap (λ p. p.end) (fault inside), subst (Appends before before) (sym (ap (λ p. p.text) (fault inside))) (Appends-nil before)),
+      λ other. ([], ((scripted input).text, (refl, Appends-nil before))),
+    )
 
 -- a fault of the network file
 pub stopped-file : {A : Type 0} (r : Result A ScriptError) (e : ScriptError)

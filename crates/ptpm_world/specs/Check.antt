@@ -1,10 +1,15 @@
--- What is to be found first in lines of events that do not happen (this project's profile).
-use Rattle.std.specs.Prelude.{ℕ, ◌+◌, List, [], ◌∷◌, Option, None}
+-- What is to be found in a script whose events do not happen (this project's profile).
+use Rattle.std.specs.Prelude.{◌≡◌, ◌==◌, ℕ, ◌+◌, List, [], ◌∷◌, Option, None, is_none}
 use Rattle.std.specs.Option.{option_or}
 use Rattle.std.specs.Result.{result_err}
 use Rattle.ptpm_world.specs.Script.{event_of}
 use Rattle.ptpm_world.specs.ScriptError.{line_fault}
+use Rattle.ptpm_world.specs.declared.check.Findings.{Findings}
 use Rattle.ptpm_world.specs.declared.script_error.ScriptError.{ScriptError}
+
+-- no fault is counted exactly where there is none
+abbrev pub IsCounted : Findings → Type 0
+IsCounted f = (f.count == 0) ≡ is_none f.first
 
 -- The first fault of lines of events from this one on, by its numbers in all that is read and after the divider: one that a line
 -- has by itself, or that it is no event. None where each is an event or is skipped.

@@ -12,5 +12,6 @@ pub mod Trace
 pub mod Lines
 pub mod ScriptError
 pub mod Script
+pub mod WholeScript
 pub mod Check
 pub mod MachineTrace

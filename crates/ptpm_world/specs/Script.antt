@@ -167,11 +167,11 @@ abbrev pub TakesFirst : List ℕ → Option (List ℕ) → Option (List ℕ) →
 TakesFirst whole before after =
     (text : List ℕ) × ((rest : List ℕ) × ((text ++ rest ≡ whole) × Appends before after text))
 
--- it ends early: with the lines' first fault, unless reading, writing or memory failed; and, where writing did not fail, a beginning
--- of the lines of their events was written
+-- It ends early. Unless reading, writing or memory failed, it ends with the lines' first fault, and the lines of all events before
+-- that were written. Where it is one of reading or of memory that failed, a beginning of them was.
 abbrev pub HasStopped : {A : Type 0} → Played A → Option (List ℕ) → Option (List ℕ) → ScriptError → Type 0
 HasStopped p before after e =
-    (is_outside e ≡ false → p.end ≡ Err e) × (e ≢ WriteFault → TakesFirst p.text before after)
+    (is_outside e ≡ false → (p.end ≡ Err e) × Appends before after p.text) × (e ≢ WriteFault → TakesFirst p.text before after)
 
 -- the lines of all events were written, and they lead here; each is one that a program can hand in
 abbrev pub HasPlayed : {A : Type 0}

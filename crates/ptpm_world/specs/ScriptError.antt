@@ -3,7 +3,7 @@ use Rattle.std.specs.Prelude.{◌≡◌, ℕ, nat_lt, Bool, true, false, List, [
 use Rattle.std.specs.Option.{option_or}
 use Rattle.std.specs.Str.{is_utf8}
 use Rattle.ptpm_world.specs.declared.script_error.ScriptError.{ScriptError}
-use Rattle.ptpm_world.specs.declared.script_error.ScriptError.TheVariants.{LineTooLong, NotText, OutOfMemory, ReadFault, TooManyLines, WriteFault}
+use Rattle.ptpm_world.specs.declared.script_error.ScriptError.TheVariants.{BadLine, BadNetwork, LineTooLong, NotText, OutOfMemory, ReadFault, TooManyLines, WriteFault}
 use Rattle.ptpm_world.specs.Lines.{BothKnown, IsNextWhole, whole_lines}
 
 -- reading, writing or memory failed, which says nothing of the script
@@ -12,6 +12,19 @@ is_outside ReadFault = true
 is_outside WriteFault = true
 is_outside OutOfMemory = true
 is_outside _ = false
+
+-- a reader's lines can end with it: a line's own fault, or reading or memory failed
+abbrev pub is_of_reading : ScriptError → Bool
+is_of_reading WriteFault = false
+is_of_reading (BadNetwork error) = false
+is_of_reading (BadLine number error) = false
+is_of_reading _ = true
+
+-- what is written can end with it: writing or memory failed
+abbrev pub is_of_writing : ScriptError → Bool
+is_of_writing WriteFault = true
+is_of_writing OutOfMemory = true
+is_of_writing _ = false
 
 -- ---- of one line
 

@@ -1,15 +1,15 @@
 //! Every fault of a script, without running it.
 
-ghost use Rattle.std.specs.Prelude.{◌≡◌, ◌+◌, ℕ, IfOk, IfSome, Ok, OnOk, Some, false, option_map, true};
+ghost use Rattle.std.specs.Prelude.{◌≡◌, ◌<◌, ◌+◌, ℕ, IfErr, IfOk, IfSome, Ok, OnOk, Some, false, option_map, true};
 ghost use Rattle.std.specs.Option.{option_or};
 ghost use Rattle.std.specs.Result.{result_err};
 ghost use Rattle.ptpm_check.specs.Faults.{refusal_of};
 ghost use Rattle.ptpm_script.specs.NetworkText.{network_of};
 ghost use Rattle.ptpm_world.specs.declared.script_error.ScriptError.TheVariants.{BadNetwork};
-ghost use Rattle.ptpm_world.specs.Check.{events_fault};
+ghost use Rattle.ptpm_world.specs.Check.{IsCounted, events_fault};
 ghost use Rattle.ptpm_world.specs.Lines.{left_in, whole_lines};
 ghost use Rattle.ptpm_world.specs.Script.{event_of, scripted, scripted_from};
-ghost use Rattle.ptpm_world.specs.ScriptError.{ReadsWhole, is_outside, text_fault};
+ghost use Rattle.ptpm_world.specs.ScriptError.{ReadsWhole, is_of_reading, is_outside, text_fault};
 
 use crate::lines::Lines;
 use crate::script::{is_skipped, read_text};
@@ -41,6 +41,8 @@ pub fn check_script<R: Read + Drop, W: Write>(
     ensures first { IfOk result
         (λ found.
         IfSome (R.remaining reader) (λ input. found.first ≡ result_err (scripted input).end)) }
+    ensures counted { IfOk result IsCounted }
+    ensures outside { IfErr result (λ e. is_outside e ≡ true) }
 {
     let mut script = Lines::new(alloc, reader)?;
     let findings = check_lines(alloc, &mut script, out)?;
@@ -51,7 +53,9 @@ pub fn check_script<R: Read + Drop, W: Write>(
 impl Findings {
     /// Counts so many faults, of which this is the first.
     fn note(&mut self, fault: ScriptError, count: usize)
+        requires { 0 < count }
         ensures first { self.new.first ≡ option_or self.old.first (Some fault) }
+        ensures counted { IsCounted self.new }
     {
         self.first = self.first.or(Some(fault));
         self.count = self.count.saturating_add(count);
@@ -68,6 +72,8 @@ fn check_lines<R: Read + Drop, W: Write>(
         (λ found.
         IfSome (left_in R.remaining script.old)
         (λ octets. found.first ≡ result_err (scripted_from (script.old.count + 1) octets).end)) }
+    ensures counted { IfOk result IsCounted }
+    ensures outside { IfErr result (λ e. is_outside e ≡ true) }
 {
     let mut findings = Findings {
         first: None,
@@ -94,6 +100,8 @@ fn check_network<W: Write>(
         (findings.new.first
         ≡ option_or findings.old.first
         (option_map BadNetwork (refusal_of (network_of text.now)))) }
+    ensures counted { IsCounted findings.old → OnOk result (IsCounted findings.new) }
+    ensures outside { IfErr result (λ e. is_outside e ≡ true) }
 {
     let document = Document::of(alloc, text)?;
     let faults = document.faults(alloc)?;
@@ -119,6 +127,8 @@ fn check_events<R: Read + Drop, W: Write>(
         findings.new.first
         ≡ option_or findings.old.first
         (events_fault (script.old.count + 1) 1 (whole_lines octets)))) }
+    ensures counted { IsCounted findings.old → OnOk result (IsCounted findings.new) }
+    ensures outside { IfErr result (λ e. is_outside e ≡ true) }
 {
     let mut number = 0;
     while read_next(script, findings, out)? {
@@ -146,6 +156,8 @@ fn read_next<R: Read + Drop, W: Write>(
         → findings.new.first
         ≡ option_or findings.old.first
         (events_fault (script.old.count + 1) place (whole_lines octets))) }
+    ensures counted { IsCounted findings.old → OnOk result (IsCounted findings.new) }
+    ensures outside { IfErr result (λ e. is_outside e ≡ true) }
 {
     match script.read() {
         Ok(more) => Ok(more),
@@ -169,6 +181,8 @@ fn check_event<R: Read + Drop, W: Write>(
         ≡ option_or findings.old.first
         (option_or (text_fault script.now.count script.now.line.items)
         (result_err (event_of number script.now.line.items)))) }
+    ensures counted { IsCounted findings.old → OnOk result (IsCounted findings.new) }
+    ensures outside { IfErr result (λ e. is_outside e ≡ true) }
 {
     let line = match script.text() {
         Ok(line) => line,
@@ -190,8 +204,11 @@ fn note_line<W: Write>(
     findings: &mut Findings,
     out: &mut W,
 ) -> Result<(), ScriptError>
+    requires { is_of_reading fault ≡ true }
     ensures first { OnOk result (findings.new.first ≡ option_or findings.old.first (Some fault)) }
     ensures inside { OnOk result (is_outside fault ≡ false) }
+    ensures counted { IsCounted findings.old → OnOk result (IsCounted findings.new) }
+    ensures outside { IfErr result (λ e. is_outside e ≡ true) }
 {
     match fault {
         ScriptError::LineTooLong(line) => {

@@ -32,7 +32,7 @@ pub(crate) struct Lines<R> {
 
 impl<R: Read + Drop> Lines<R> {
     ghost use Rattle.ptpm_world.specs.Lines.{given, left_in};
-    ghost use Rattle.ptpm_world.specs.ScriptError.{HasNextFault, ReadsWhole, is_outside, text_fault};
+    ghost use Rattle.ptpm_world.specs.ScriptError.{HasNextFault, ReadsWhole, is_of_reading, is_outside, text_fault};
 
     /// The lines of a reader. Takes the memory for one line and for the reader's buffer.
     pub(crate) fn new(alloc: Global, reader: R) -> Result<Lines<R>, ScriptError>
@@ -40,6 +40,7 @@ impl<R: Read + Drop> Lines<R> {
             (λ l. IfSome (R.remaining reader) (λ octets. left_in R.remaining l ≡ Some octets)) }
         ensures count { IfOk result (λ l. l.count ≡ 0) }
         ensures fault { IfErr result (λ e. is_outside e ≡ true) }
+        ensures reading { IfErr result (λ e. is_of_reading e ≡ true) }
     {
         let line = Vec::with_capacity(alloc, LINE_OCTETS).map_err(|_| OutOfMemory)?;
         let reader = BufReader::new(alloc, reader).map_err(|_| OutOfMemory)?;
@@ -65,6 +66,7 @@ impl<R: Read + Drop> Lines<R> {
             (λ e.
             is_outside e ≡ false
             → HasNextFault (self.old.count + 1) (left_in R.remaining self.old) e) }
+        ensures reading { IfErr result (λ e. is_of_reading e ≡ true) }
     {
         match self.line_at_hand() {
             Some(size) => self.take_line(size),
@@ -118,6 +120,7 @@ impl<R: Read + Drop> Lines<R> {
             (ReadsWhole (self.old.count + 1) (left_in R.remaining self.old) true
             self.new.line.items (left_in R.remaining self.new)) }
         ensures fault { IfErr result (λ e. is_outside e ≡ true) }
+        ensures reading { IfErr result (λ e. is_of_reading e ≡ true) }
     {
         let ahead = self.reader.buffer();
         self.line.clear();
@@ -142,6 +145,7 @@ impl<R: Read + Drop> Lines<R> {
             (λ e.
             is_outside e ≡ false
             → HasNextFault (self.old.count + 1) (left_in R.remaining self.old) e) }
+        ensures reading { IfErr result (λ e. is_of_reading e ≡ true) }
     {
         self.line.clear();
         match self.read_octet()? {
@@ -170,6 +174,7 @@ impl<R: Read + Drop> Lines<R> {
             is_outside e ≡ false
             → HasNextFault self.old.count
             (option_map (λ octets. first ∷ octets) (left_in R.remaining self.old)) e) }
+        ensures reading { IfErr result (λ e. is_of_reading e ≡ true) }
     {
         let mut next = Some(first);
         while let Some(octet) = next {
@@ -219,6 +224,7 @@ impl<R: Read + Drop> Lines<R> {
         ensures line { self.new.line.items ≡ self.old.line.items }
         ensures count { self.new.count ≡ self.old.count }
         ensures fault { IfErr result (λ e. is_outside e ≡ true) }
+        ensures reading { IfErr result (λ e. is_of_reading e ≡ true) }
     {
         next_octet(&mut self.reader)
     }
@@ -235,6 +241,7 @@ impl<R: Read + Drop> Lines<R> {
         ensures text { IfOk result (λ text. text.now ≡ self.now.line.items) }
         ensures none { OnOk result (text_fault self.now.count self.now.line.items ≡ None) }
         ensures fault { IfErr result (λ e. text_fault self.now.count self.now.line.items ≡ Some e) }
+        ensures reading { IfErr result (λ e. is_of_reading e ≡ true) }
     {
         match std::str::from_utf8(self.line.as_slice()) {
             Ok(line) => Ok(line),

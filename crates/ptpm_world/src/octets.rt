@@ -3,7 +3,7 @@
 ghost use Rattle.std.specs.Prelude.{◌≡◌, IfErr, IfNone, IfOk, OnSome, true};
 ghost use Rattle.std.specs.Io.KnownBytes.{Consumes, IsAtEnd};
 ghost use Rattle.ptpm_world.specs.Lines.{given};
-ghost use Rattle.ptpm_world.specs.ScriptError.{is_outside};
+ghost use Rattle.ptpm_world.specs.ScriptError.{is_of_reading, is_outside};
 
 use crate::script_error::ScriptError;
 use std::io::BufRead;
@@ -15,6 +15,7 @@ pub(crate) fn next_octet<B: BufRead>(reader: &mut B) -> Result<Option<u8>, Scrip
     ensures end { IfOk result
         (λ o. IfNone o (OnSome (B.remaining reader.old) (IsAtEnd (B.remaining reader.new)))) }
     ensures fault { IfErr result (λ e. is_outside e ≡ true) }
+    ensures reading { IfErr result (λ e. is_of_reading e ≡ true) }
 {
     let ahead = match reader.fill_buf() {
         Ok(ahead) => ahead,

@@ -1,6 +1,6 @@
 //! A script: a network file, a line `%%`, and events, one a line.
 
-ghost use Rattle.std.specs.Prelude.{◌≡◌, ◌==◌, ◌+◌, ◌++◌, ◌<◌, ◌≤◌, ℕ, Err, IfErr, IfOk, IfSome, List, None, Ok, OnOk, Option, Some, false, find, length, not, string_bytes, true};
+ghost use Rattle.std.specs.Prelude.{◌≡◌, ◌≢◌, ◌==◌, ◌+◌, ◌++◌, ◌<◌, ◌≤◌, ℕ, Err, IfErr, IfOk, IfSome, List, None, Ok, OnOk, Option, Some, false, find, length, not, string_bytes, true};
 ghost use Rattle.std.specs.Option.{option_copied};
 ghost use Rattle.ptpm_network.specs.Network as machine;
 ghost use Rattle.ptpm_script.specs.EventLine.{reading};
@@ -12,9 +12,10 @@ ghost use Rattle.ptpm_world.specs.MachineTrace.{ShowsNetwork};
 ghost use Rattle.ptpm_world.specs.Placed.{names_in};
 ghost use Rattle.ptpm_world.specs.Running.{IsOf, running};
 ghost use Rattle.ptpm_world.specs.Script.{HasPlayed, HasPrinted, Played, Prints, StandsFor, ends, from_file, in_network, is_divider, is_skipped, network_text, played, read_as, scripted_from};
-ghost use Rattle.ptpm_world.specs.ScriptError.{is_outside};
+ghost use Rattle.ptpm_world.specs.ScriptError.{is_of_reading, is_outside};
 ghost use Rattle.ptpm_world.specs.Took.{after};
 ghost use Rattle.ptpm_world.specs.Trace.{line_feed};
+ghost use Rattle.ptpm_world.specs.declared.script_error.ScriptError.TheVariants as faults;
 
 use crate::lines::Lines;
 use crate::network_laws::placed_event;
@@ -98,6 +99,7 @@ pub(crate) fn network_of_text(alloc: Global, text: &str) -> Result<Network, Scri
         is_outside e ≡ false
         → (number : ℕ) (lines : List (List ℕ × List ℕ))
         → in_network (network_of text.now) number lines ≡ ends (Err e)) }
+    ensures unwritten { IfErr result (λ e. e ≢ faults.WriteFault) }
 {
     match Network::from_toml(alloc, text) {
         Ok(network) => Ok(network),
@@ -127,6 +129,7 @@ pub(crate) fn read_text<R: Read + Drop>(
         (λ octets.
         (others : ℕ → List (List ℕ × List ℕ) → Played (List ℕ))
         → from_file others (script.old.count + 1) (whole_lines octets) ≡ ends (Err e))) }
+    ensures reading { IfErr result (λ e. is_of_reading e ≡ true) }
 {
     let mut text = String::new(alloc);
     while script.read()? {
@@ -198,6 +201,7 @@ pub(crate) fn event_of(alloc: Global, number: u32, line: &str) -> Result<Event, 
     ensures event { IfOk result (λ event. read_as number (reading line.now) ≡ Ok (Some event)) }
     ensures fault { IfErr result
         (λ e. is_outside e ≡ false → read_as number (reading line.now) ≡ Err e) }
+    ensures unwritten { IfErr result (λ e. e ≢ faults.WriteFault) }
 {
     match read_event(alloc, line) {
         Ok(event) => Ok(event),

@@ -16,6 +16,7 @@ loop-number-preserved g c =
     refl (c.in_ok-read_next.ensures.line came) counted refl in
     record {
       few = omega (arith, c.loop-number.invariant.few, counted);
+      counted = λ was. c.in_ok-check_event.ensures.counted (c.in_ok-read_next.ensures.counted (c.loop-number.invariant.counted was));
       checks = checks-more c.loop-number.invariant.checks next
           (c.in_ok-check_event.ensures.first ∙ ap (λ was. option_or was bad) (c.in_ok-read_next.ensures.same came))
           (ap (λ k. k + 1) counted);

@@ -1,12 +1,14 @@
 use Rattle.ptpm_world.proofs.Common.{◌≤◌, ◌+◌, ◌-◌, left_in}
+use Rattle.ptpm_world.specs.Check.{IsCounted}
 use Rattle.ptpm_world.proofs.Checking.{ChecksOn}
 use Rattle.ptpm_world.proofs.check.check_events.Given as goal
 
--- no more lines were counted here than in all that was read, and what is left has the fault that all had
+-- no more lines were counted here than in all that was read, what was found is counted, and what is left has the fault that all had
 abbrev pub invariant-loop-number : goal.invariant-loop-number
 invariant-loop-number g l =
     record {
       few : l.number ≤ l.script.count;
+      counted : IsCounted l.initial.findings → IsCounted l.findings;
       checks : ChecksOn l.initial.findings.first l.findings.first (l.initial.script.count + 1) (l.script.count + 1) (l.number + 1)
           (left_in g.R.Read.remaining l.initial.script) (left_in g.R.Read.remaining l.script);
     }

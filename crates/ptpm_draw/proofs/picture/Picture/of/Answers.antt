@@ -37,8 +37,8 @@ loop-line-preserved c =
           c.in_ok-play.ensures.drawn;
     }
 
-pub returns : goal.returns
-returns c =
+pub returns-clause-drawn : goal.returns-clause-drawn
+returns-clause-drawn c =
     let n = network_value c.args.script.now.network in
     drawn-all (described n) (names_of n) (running c.loop-line.world) c.as_slice-line-items.result.now c.loop-line.line-index
     (picture_of n c.args.script.now.lines.items) (drawn_in c.loop-line.picture) (omega arith) c.loop-line.invariant.drawn
