@@ -18,7 +18,7 @@ struct question { uint16_t id; size_t size; };
 static const struct question of_clock = { DEFAULT_DATA_SET, 20 }, of_port = { PORT_DATA_SET, MOST_FIELD };
 
 /* Of four numbers so far apart at least one is new, whatever the latest of this manager is. */
-enum { FIRST = 16384, APART = 16384, NUMBERS = 4 };
+enum { APART = 16384, NUMBERS = 4 };
 
 /* So many answers to reads, and none to the question beside them, tell that its number is not new. */
 enum { ENOUGH = 5 };
@@ -77,13 +77,15 @@ static void wait_for_copies(long wait) {
     for (long end = milliseconds() + wait; hear(&size, end) != NULL;) {}
 }
 
-/* A number of the four that is new: the task's is the last that was tried. */
+/* A number of four that is new: the task's is the last that was tried. The first is drawn, since an answer to an earlier session, and
+   one to a session of the same manager beside this one, would count as one to this where it has the same number. */
 static enum finding find_of_four(struct task *task, long *sent) {
     enum finding finding = NOT_NEW;
+    uint16_t first = draw_number();
     int enough = task->settings.attempts < ENOUGH ? task->settings.attempts : ENOUGH;
     wait_for_copies(task->wait);
     for (int k = 0; k < NUMBERS && finding == NOT_NEW; k++) {
-        task->settings.first = (uint16_t)(FIRST + APART * k);
+        task->settings.first = (uint16_t)(first + APART * k);
         finding = ask_under_number(task, enough, sent);
     }
     return finding;

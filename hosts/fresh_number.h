@@ -9,9 +9,9 @@
 
 /* Asks the clock, under the number that the task begins at, a GET of a data set with drawn octets. A GET's dataField is ignored,
    but belongs to what makes a repeat: so it is answered where its number is new, and else not at all. Then the task begins
-   at the number behind it, which is new too. Where no file kept a number (`is_kept` is 0), the task begins at 16384 or up to three
-   times as far ahead; it waits before as long as the task says, since copies of what an earlier session sent may be on their way,
-   and the step ahead may make them new. ANSWERED, or the program's status, which is told then. */
+   at the number behind it, which is new too. Where no file kept a number (`is_kept` is 0), the task begins at a drawn number, or up
+   to three times 16384 ahead of it; it waits before as long as the task says, since copies of what an earlier session sent may be on
+   their way, and the step ahead may make them new. ANSWERED, or the program's status, which is told then. */
 int find_number(struct task *task, int is_kept);
 
 #endif
