@@ -7,6 +7,10 @@
 /* The status with which the program ends. */
 enum status { ANSWERED = 0, REFUSED = 1, NOT_ASKED = 2, NOT_ANSWERED = 3, NOT_WRITTEN = 4, BY_SIGNAL = 128 };
 
+/* Whether the library would take the task's request, without a word of it on the network: ANSWERED, or the program's status, and
+   then why not is told. */
+int judge_request(const struct task *task);
+
 /* Makes the task's request so many times as it says, one behind the other, each sent until it is answered or its attempts are
    used, and prints what each answer tells; the program's status. */
 int ask_clock(const struct task *task);

@@ -111,66 +111,66 @@ static int64_t signed_at(const uint8_t *octets, size_t size) {
 }
 
 /* A TimeInterval, in nanoseconds times 2^16, as nanoseconds with all digits of their fraction. */
-static void print_interval(int64_t interval) {
+static void print_interval(FILE *to, int64_t interval) {
     uint64_t size = interval < 0 ? -(uint64_t)interval : (uint64_t)interval, fraction = size & 0xffff;
-    printf("%s%llu.", interval < 0 ? "-" : "", (unsigned long long)(size >> 16));
+    fprintf(to, "%s%llu.", interval < 0 ? "-" : "", (unsigned long long)(size >> 16));
     do {
         fraction *= 10;
-        putchar('0' + (int)(fraction >> 16));
+        putc('0' + (int)(fraction >> 16), to);
         fraction &= 0xffff;
     } while (fraction != 0);
 }
 
 /* The number's word, or the number where it has none. */
-static void print_word(const struct word *words, uint8_t number) {
+static void print_word(FILE *to, const struct word *words, uint8_t number) {
     while (words->text != NULL && words->number != number) words++;
-    if (words->text != NULL) fputs(words->text, stdout);
-    else printf("%u", number);
+    if (words->text != NULL) fputs(words->text, to);
+    else fprintf(to, "%u", number);
 }
 
-static void print_identity(const uint8_t *octets) {
+static void print_identity(FILE *to, const uint8_t *octets) {
     char text[IDENTITY_TEXT];
     write_identity(text, octets);
-    fputs(text, stdout);
+    fputs(text, to);
 }
 
-static void print_member(const struct member *member, const uint8_t *octets) {
+static void print_member(FILE *to, const struct member *member, const uint8_t *octets) {
     const uint8_t *at = octets + member->at;
     switch (member->kind) {
-    case UNSIGNED: printf("%llu", (unsigned long long)number_at(at, member->size)); break;
-    case HEXADECIMAL: printf("0x%0*llx", 2 * member->size, (unsigned long long)number_at(at, member->size)); break;
-    case SIGNED: printf("%lld", (long long)signed_at(at, member->size)); break;
-    case FLAG: print_word(flags, (*at & member->mask) != 0); break;
-    case VERSION: printf("%u", *at & 15); break;
-    case INTERVAL: print_interval(signed_at(at, member->size)); break;
-    case CLOCK: print_identity(at); break;
+    case UNSIGNED: fprintf(to, "%llu", (unsigned long long)number_at(at, member->size)); break;
+    case HEXADECIMAL: fprintf(to, "0x%0*llx", 2 * member->size, (unsigned long long)number_at(at, member->size)); break;
+    case SIGNED: fprintf(to, "%lld", (long long)signed_at(at, member->size)); break;
+    case FLAG: print_word(to, flags, (*at & member->mask) != 0); break;
+    case VERSION: fprintf(to, "%u", *at & 15); break;
+    case INTERVAL: print_interval(to, signed_at(at, member->size)); break;
+    case CLOCK: print_identity(to, at); break;
     case PORT:
-        print_identity(at);
-        printf("/%llu", (unsigned long long)number_at(at + 8, 2));
+        print_identity(to, at);
+        fprintf(to, "/%llu", (unsigned long long)number_at(at + 8, 2));
         break;
-    case STATE: print_word(states, *at); break;
-    case MECHANISM: print_word(mechanisms, *at); break;
-    case TEXT: print_text(at + 1, *at); break;
+    case STATE: print_word(to, states, *at); break;
+    case MECHANISM: print_word(to, mechanisms, *at); break;
+    case TEXT: print_text(to, at + 1, *at); break;
     }
 }
 
-void print_octets(const char *lead, const uint8_t *octets, size_t size) {
-    printf(size == 0 ? "%svalue -" : "%svalue ", lead);
-    for (size_t i = 0; i < size; i++) printf("%02x", octets[i]);
-    putchar('\n');
+void print_octets(FILE *to, const char *lead, const uint8_t *octets, size_t size) {
+    fprintf(to, size == 0 ? "%svalue -" : "%svalue ", lead);
+    for (size_t i = 0; i < size; i++) fprintf(to, "%02x", octets[i]);
+    putc('\n', to);
 }
 
-void print_members(const char *lead, uint16_t id, const uint8_t *octets, size_t size) {
+void print_members(FILE *to, const char *lead, uint16_t id, const uint8_t *octets, size_t size) {
     const struct field *field = field_of(id);
     size_t wanted = field == NULL || size == 0 ? 0 : field->size != 0 ? field->size : (size_t)(octets[0] + 2) / 2 * 2;
     if (size == 0 || size != wanted) {
-        print_octets(lead, octets, size);
+        print_octets(to, lead, octets, size);
         return;
     }
     for (size_t i = 0; i < MOST_MEMBERS && field->members[i].name != NULL; i++) {
-        printf("%s%s ", lead, field->members[i].name);
-        print_member(&field->members[i], octets);
-        putchar('\n');
+        fprintf(to, "%s%s ", lead, field->members[i].name);
+        print_member(to, &field->members[i], octets);
+        putc('\n', to);
     }
 }
 

@@ -21,9 +21,10 @@ static const struct option options[] = {
     { "unix", required_argument, NULL, 'u' }, { "target", required_argument, NULL, 'T' }, { "to", required_argument, NULL, 'T' },
     { "port", required_argument, NULL, 'p' }, { "domain", required_argument, NULL, 'd' }, { "hops", required_argument, NULL, 'b' },
     { "manager", required_argument, NULL, 'm' }, { "numbers", required_argument, NULL, 'k' },
-    { "attempts", required_argument, NULL, 'a' }, { "timeout", required_argument, NULL, 't' },
-    { "times", required_argument, NULL, 'n' }, { "hexadecimal", no_argument, NULL, 'x' }, { "text", no_argument, NULL, TEXT },
-    { "quiet", no_argument, NULL, 'q' }, { "help", no_argument, NULL, 'h' }, { "version", no_argument, NULL, VERSION },
+    { "wait", required_argument, NULL, 'w' }, { "attempts", required_argument, NULL, 'a' },
+    { "timeout", required_argument, NULL, 't' }, { "times", required_argument, NULL, 'n' },
+    { "hexadecimal", no_argument, NULL, 'x' }, { "text", no_argument, NULL, TEXT }, { "quiet", no_argument, NULL, 'q' },
+    { "help", no_argument, NULL, 'h' }, { "version", no_argument, NULL, VERSION },
     { NULL, 0, NULL, 0 },
 };
 
@@ -69,6 +70,7 @@ static void take_option(struct task *task, struct words *words, int option, cons
     case 'b': task->settings.hops = (uint8_t)number("hops", value, 0, 255); break;
     case 'm': read_manager(task, value); break;
     case 'k': task->numbers = value; break;
+    case 'w': task->wait = number("wait", value, 0, 100000); break;
     case 'a': task->settings.attempts = (uint8_t)number("attempts", value, 1, 255); break;
     case 't': task->milliseconds = number("timeout", value, 1, 100000); break;
     case 'n': task->times = number("times", value, 1, 1000000); break;
@@ -95,7 +97,7 @@ static void read_words(struct task *task, struct words *words, int argc, char **
             take_word(words, argv[optind++]);
             continue;
         }
-        int option = getopt_long(argc, argv, "-i:u:T:p:d:b:m:k:a:t:n:xqh", options, NULL);
+        int option = getopt_long(argc, argv, "-i:u:T:p:d:b:m:k:w:a:t:n:xqh", options, NULL);
         if (option == -1) break;
         if (option == WORD) take_word(words, optarg);
         else take_option(task, words, option, optarg);
@@ -164,10 +166,17 @@ static void judge(const struct task *task, const struct words *words) {
     }
 }
 
+/* Whether who asks is the same in each run, so that a clock may have kept an answer of his. A GET to every clock it never keeps,
+   and a GET by nobody needs none; at a Unix socket clock 0 asks at another port each time. */
+static int is_by_one_manager(const struct task *task) {
+    if (task->is_survey) return 0;
+    return task->numbers != NULL || task->has_manager || (task->path == NULL && task->action != PTPM_GET);
+}
+
 void read_task(struct task *task, int argc, char **argv) {
     struct words words = { .port = NOT_NAMED, .target_port = NOT_NAMED };
     *task = (struct task){
-        .settings = { .port = 1, .target_ports = 8, .hops = 1, .attempts = 30 }, .milliseconds = 200, .times = 1,
+        .settings = { .port = 1, .target_ports = 8, .hops = 1, .attempts = 30 }, .wait = 3000, .milliseconds = 200, .times = 1,
     };
     read_words(task, &words, argc, argv);
     if (words.count < 2) refuse("it takes get, set, command or survey, and a managementId; see ptpm-manage --help");
@@ -177,4 +186,5 @@ void read_task(struct task *task, int argc, char **argv) {
     judge(task, &words);
     long port = words.port >= 0 ? words.port : words.target_port;
     task->port = port < 0 ? 0 : (uint16_t)port;
+    task->is_numbered = is_by_one_manager(task);
 }

@@ -12,11 +12,13 @@ struct task {
     uint16_t port;                              /* the clock's, of an id of a port; 0 where none is named */
     size_t size;
     uint8_t octets[PTPM_MOST_OCTETS];           /* the dataField */
-    struct ptpm_session_settings settings;      /* the number of the first request is 0 before the file of numbers is read */
+    struct ptpm_session_settings settings;      /* the number of the first request is 0 before it is found */
     int has_manager;                            /* whether settings name the manager */
+    int is_numbered;                            /* by a manager who is the same in each run: a file keeps his numbers */
     const char *interface, *address, *path;     /* the way: an interface, an address or both, or a Unix socket */
     int is_six;                                 /* IPv6 */
     const char *numbers;                        /* the file of the next request's number, or NULL */
+    long wait;                                  /* how long a session waits that has no such file yet, in milliseconds */
     long milliseconds;                          /* how long an answer is waited for */
     long times;                                 /* how often the request is made anew */
     int is_in_octets;                           /* answers are printed as octets */

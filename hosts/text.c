@@ -1,5 +1,4 @@
 #include "text.h"
-#include <stdio.h>
 
 /* How many octets the character at the head has, and its number; 0 where there is no well-formed one (RFC 3629). */
 static size_t character(const uint8_t *octets, size_t size, uint32_t *number) {
@@ -27,15 +26,15 @@ static int is_shown(uint32_t number) {
     return 1;
 }
 
-void print_text(const uint8_t *octets, size_t size) {
+void print_text(FILE *to, const uint8_t *octets, size_t size) {
     for (size_t i = 0; i < size;) {
         uint32_t number = 0;
         size_t count = character(octets + i, size - i, &number);
         int is_plain = count > 0 && is_shown(number);
         if (count == 0) count = 1;
         for (size_t k = i; k < i + count; k++) {
-            if (is_plain) putchar(octets[k]);
-            else printf("\\x%02x", octets[k]);
+            if (is_plain) putc(octets[k], to);
+            else fprintf(to, "\\x%02x", octets[k]);
         }
         i += count;
     }

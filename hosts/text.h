@@ -4,9 +4,10 @@
 
 #include <stddef.h>
 #include <stdint.h>
+#include <stdio.h>
 
 /* Prints a text of UTF-8 so that it stays on its line and moves nothing on a terminal: a backslash, and each octet that is no
    UTF-8 or belongs to a control or format character, as \x and two hexadecimal digits. */
-void print_text(const uint8_t *octets, size_t size);
+void print_text(FILE *to, const uint8_t *octets, size_t size);
 
 #endif

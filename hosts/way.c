@@ -2,6 +2,7 @@
 #include "way.h"
 #include "common.h"
 #include "notices.h"
+#include "reading.h"
 #include <arpa/inet.h>
 #include <errno.h>
 #include <ifaddrs.h>
@@ -16,20 +17,22 @@
 static struct sockaddr_storage clock_address;
 static socklen_t clock_size;
 static int at;
-static const char *name;
+static const char *name, *interface;    /* of the way in a notice; of a way over UDP */
+static int is_six;
+
+enum { MOST_DATAGRAM = 65536 };
 
 const char *way_name(void) { return name; }
 
-/* An address of IPv4 or IPv6, at the port of general messages; whether it is one of IPv6. */
-static int read_address(const char *text) {
+/* An address of IPv4 or IPv6, at the port of general messages. */
+static void read_address(const char *text) {
     static const struct addrinfo wanted = { .ai_flags = AI_NUMERICHOST | AI_NUMERICSERV, .ai_socktype = SOCK_DGRAM };
     struct addrinfo *found;
     if (getaddrinfo(text, "320", &wanted, &found) != 0) refuse("--udp %s: it is no address of IPv4 or IPv6", text);
-    int is_six = found->ai_family == AF_INET6;
+    is_six = found->ai_family == AF_INET6;
     memcpy(&clock_address, found->ai_addr, found->ai_addrlen);
     clock_size = found->ai_addrlen;
     freeaddrinfo(found);
-    return is_six;
 }
 
 /* Interfaces with one MAC have the same address of IPv6 for their links: then the scope tells which one it is. */
@@ -45,7 +48,7 @@ static int is_same(const struct sockaddr *one, const struct sockaddr_storage *ot
 
 /* The interface over which this host sends to the clock's address. */
 static const char *interface_to(const char *address) {
-    static char interface[IFNAMSIZ];
+    static char found[IFNAMSIZ];
     struct sockaddr_storage own;
     socklen_t size = sizeof own;
     struct ifaddrs *all;
@@ -55,58 +58,70 @@ static const char *interface_to(const char *address) {
         refuse("nothing was sent: %s: %s", address, strerror(errno));
     }
     close(probe);
-    for (const struct ifaddrs *one = all; one != NULL && *interface == '\0'; one = one->ifa_next) {
-        if (is_same(one->ifa_addr, &own)) snprintf(interface, sizeof interface, "%s", one->ifa_name);
+    for (const struct ifaddrs *one = all; one != NULL && *found == '\0'; one = one->ifa_next) {
+        if (is_same(one->ifa_addr, &own)) snprintf(found, sizeof found, "%s", one->ifa_name);
     }
     freeifaddrs(all);
-    interface[strcspn(interface, ":")] = '\0';      /* behind which an address of IPv4 may have a label */
-    if (*interface == '\0') refuse("nothing was sent: no interface leads to %s", address);
-    return interface;
+    found[strcspn(found, ":")] = '\0';      /* behind which an address of IPv4 may have a label */
+    if (*found == '\0') refuse("nothing was sent: no interface leads to %s", address);
+    return found;
 }
 
-/* The identity of an interface: its hardware address with ff and fe in the middle, as an EUI-64. */
-static void identity_of(const char *interface, uint8_t identity[8]) {
+/* The identity of the interface: its hardware address with ff and fe in the middle, as an EUI-64. */
+static void write_own_identity(uint8_t identity[8]) {
     struct ifreq request = { 0 };
     snprintf(request.ifr_name, sizeof request.ifr_name, "%s", interface);
-    if (ioctl(at, SIOCGIFHWADDR, &request)) give_up(interface);
+    int probe = socket(AF_INET, SOCK_DGRAM | SOCK_CLOEXEC, 0);
+    if (probe < 0 || ioctl(probe, SIOCGIFHWADDR, &request)) give_up(interface);
+    close(probe);
     const uint8_t *a = (const uint8_t *)request.ifr_hwaddr.sa_data;
     memcpy(identity, (const uint8_t[]){ a[0], a[1], a[2], 0xff, 0xfe, a[3], a[4], a[5] }, 8);
 }
 
-/* Whether it is a GET that says nothing of who asks: asked at a port of this process, it takes no number of the manager. */
-static int is_no_managers(const struct task *task) {
-    return !task->is_survey && task->action == PTPM_GET && task->numbers == NULL;
-}
-
-static void meet_udp(struct task *task) {
-    int is_six = task->address != NULL ? read_address(task->address) : task->is_six;
-    const char *interface = task->interface != NULL ? task->interface : interface_to(task->address);
-    if (if_nametoindex(interface) == 0) refuse("nothing was sent: %s: %s", interface, strerror(errno));
+static void find_udp(struct task *task) {
+    is_six = task->is_six;
+    if (task->address != NULL) read_address(task->address);
+    interface = task->interface != NULL ? task->interface : interface_to(task->address);
     name = task->address != NULL ? task->address : interface;
-    const char *what;
-    at = open_udp(interface, is_six, &what);
-    if (at < 0) give_up(what);
+    if (if_nametoindex(interface) == 0) refuse("nothing was sent: %s: %s", interface, strerror(errno));
     if (task->address == NULL) clock_size = group(&clock_address, is_six);
-    if (!task->has_manager) identity_of(interface, task->settings.clock);
-    if (!task->has_manager && is_no_managers(task)) task->settings.port = (uint16_t)(getpid() % 65533 + 2);
+    if (!task->has_manager) write_own_identity(task->settings.clock);
 }
 
-static void meet_unix(struct task *task) {
+static void find_unix(const struct task *task) {
     struct sockaddr_un path = { .sun_family = AF_UNIX };
-    char own_path[sizeof path.sun_path + 32] = "";
-    snprintf(own_path, sizeof own_path, "%s.%ld", task->path, (long)getpid());
-    if (strlen(own_path) >= sizeof path.sun_path) refuse("--unix %s: the path is too long", task->path);
+    if (strlen(task->path) >= sizeof path.sun_path) refuse("--unix %s: the path is too long", task->path);
     strcpy(path.sun_path, task->path);
     memcpy(&clock_address, &path, sizeof path);
     clock_size = sizeof path;
     name = task->path;
-    at = open_unix(own_path);
-    if (!task->has_manager) task->settings.port = (uint16_t)(getpid() % 65534 + 1);
 }
 
-void open_way(struct task *task) {
-    if (task->path != NULL) meet_unix(task);
-    else meet_udp(task);
+void find_way(struct task *task) {
+    if (task->path != NULL) find_unix(task);
+    else find_udp(task);
+    int is_nobodys = !task->is_numbered && (task->path != NULL || !task->is_survey);
+    if (!task->has_manager && is_nobodys) task->settings.port = port_of_nobody(task->settings.port);
+}
+
+static void open_at_interface(void) {
+    const char *what;
+    at = open_udp(interface, is_six, &what);
+    if (at >= 0) return;
+    refuse("nothing was sent: %s: %s%s", what, strerror(errno), errno != EACCES && errno != EPERM ? ""
+           : ": that takes root, or the capabilities CAP_NET_BIND_SERVICE and CAP_NET_RAW");
+}
+
+static void open_beside(const char *path) {
+    char own_path[sizeof ((struct sockaddr_un *)0)->sun_path + 32];
+    int size = snprintf(own_path, sizeof own_path, "%s.%ld", path, (long)getpid());
+    if ((size_t)size >= sizeof ((struct sockaddr_un *)0)->sun_path) refuse("--unix %s: the path is too long", path);
+    at = open_unix(own_path);
+}
+
+void open_way(const struct task *task) {
+    if (task->path != NULL) open_beside(task->path);
+    else open_at_interface();
 }
 
 enum sending send_out(const uint8_t *octets, size_t size) {
@@ -114,12 +129,15 @@ enum sending send_out(const uint8_t *octets, size_t size) {
     return errno == EAGAIN || errno == EWOULDBLOCK || errno == ENOBUFS ? NO_ROOM : NO_WAY;
 }
 
-ssize_t hear(uint8_t octets[MOST_DATAGRAM], long end) {
+const uint8_t *hear(size_t *size, long end) {
+    static uint8_t datagram[MOST_DATAGRAM];
     for (long left; (left = end - milliseconds()) > 0 && !stopped;) {
         struct pollfd waits = { at, POLLIN, 0 };
         if (wait_for(&waits, 1, left) <= 0) continue;
-        ssize_t size = recv(at, octets, MOST_DATAGRAM, MSG_DONTWAIT);
-        if (size >= 0) return size;
+        ssize_t found = recv(at, datagram, sizeof datagram, MSG_DONTWAIT);
+        if (found < 0) continue;
+        *size = (size_t)found;
+        return datagram;
     }
-    return -1;
+    return NULL;
 }

@@ -5,25 +5,26 @@
 #include "task.h"
 #include <stddef.h>
 #include <stdint.h>
-#include <sys/types.h>
 
-enum { MOST_DATAGRAM = 65536 };
+/* Finds the way that the task names, and where the task names no manager, makes the way's own the manager of its settings: over
+   UDP the interface's hardware address with ff and fe in its middle, at a Unix socket clock 0, as pmc; at port 1, or where no
+   numbers are kept at a port of this process. Ends the program with status 2 where there is no way. */
+void find_way(struct task *task);
 
-/* Opens the way that the task names, and where the task names no manager, makes the way's own the manager of its settings: over
-   UDP the interface's hardware address with ff and fe in its middle, at port 1, and for a GET without a file of numbers at a port
-   of this process; at a Unix socket clock 0 and the number of this process, as pmc. Ends the program with status 2 where there is
-   no way. */
-void open_way(struct task *task);
+/* Opens it. Ends the program with status 2 where it can't be opened. */
+void open_way(const struct task *task);
 
 /* What the way is called in a notice. */
 const char *way_name(void);
 
-enum sending { OUT, NO_ROOM, NO_WAY };
+/* What became of a message: of a request NONE_LEFT, where its attempts are used. */
+enum sending { OUT, NO_ROOM, NO_WAY, NONE_LEFT };
 
 /* Hands a message to the socket, and waits for no room there. Where it answers NO_WAY errno says why. */
 enum sending send_out(const uint8_t *octets, size_t size);
 
-/* The next datagram that comes in before a time; -1 where none does, or a signal asks the program to end. */
-ssize_t hear(uint8_t octets[MOST_DATAGRAM], long end);
+/* The next datagram that comes in before a time, which stands until the next call; NULL where none does, or a signal asks the
+   program to end. */
+const uint8_t *hear(size_t *size, long end);
 
 #endif

@@ -1,0 +1,15 @@
+#include "draw.h"
+#include "notices.h"
+#include <errno.h>
+#include <string.h>
+#include <sys/random.h>
+
+void draw_octets(uint8_t *octets, size_t size) {
+    if (getrandom(octets, size, 0) != (ssize_t)size) refuse("nothing was sent: no octets can be drawn: %s", strerror(errno));
+}
+
+uint16_t draw_number(void) {
+    uint8_t octets[2];
+    draw_octets(octets, sizeof octets);
+    return (uint16_t)(octets[0] << 8 | octets[1]);
+}

@@ -1,0 +1,14 @@
+/* Octets that nobody can have foreseen. */
+#ifndef DRAW_H
+#define DRAW_H
+
+#include <stddef.h>
+#include <stdint.h>
+
+/* Fills them by the kernel's generator. Ends the program with status 2 where there is none. */
+void draw_octets(uint8_t *octets, size_t size);
+
+/* A sequenceId of 16 such bits. */
+uint16_t draw_number(void);
+
+#endif

@@ -1,0 +1,30 @@
+#include "reading.h"
+#include "common.h"
+#include "draw.h"
+#include "exchange.h"
+#include <unistd.h>
+
+enum { MOST_READINGS = 10 };
+
+uint16_t port_of_nobody(uint16_t managers) {
+    uint16_t port = (uint16_t)(getpid() % 65532 + 2);       /* 2 to 65533; one of every port is 65535 */
+    return port == managers ? (uint16_t)(port + 1) : port;
+}
+
+int begin_reading(struct ptpm_session *session, const struct task *task, uint16_t id, uint16_t port) {
+    struct ptpm_session_settings settings = task->settings;
+    settings.port = port_of_nobody(settings.port);
+    settings.first = draw_number();
+    settings.attempts = MOST_READINGS;
+    return ptpm_session_start(session, &settings) == PTPM_STARTED
+           && ptpm_session_begin(session, PTPM_GET, id, port, settings.clock, 0) == PTPM_BEGUN;
+}
+
+int is_read(struct ptpm_session *session, const struct task *task) {
+    for (int attempt = 0; attempt < MOST_READINGS && !stopped; attempt++) {
+        enum sending sending = send_again(session);
+        if (sending == NONE_LEFT) return 0;
+        if (sending != NO_WAY && first_answered(session, NULL, milliseconds() + task->milliseconds) == 0) return 1;
+    }
+    return 0;
+}

@@ -1,0 +1,18 @@
+/* A GET of a clock's value by nobody: of no manager, so that it takes no number of his, and the clock answers it from its data
+   sets as they are. */
+#ifndef READING_H
+#define READING_H
+
+#include "task.h"
+
+/* The portNumber at which nobody asks on behalf of this process; not the one that is given. */
+uint16_t port_of_nobody(uint16_t managers);
+
+/* Begins a GET of this id and port of the task's clock, under a drawn number, in a session in place of the one that the handle
+   holds; whether it is begun. */
+int begin_reading(struct ptpm_session *session, const struct task *task, uint16_t id, uint16_t port);
+
+/* Sends it until it is answered, a few times at most; whether it is. */
+int is_read(struct ptpm_session *session, const struct task *task);
+
+#endif

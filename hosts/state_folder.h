@@ -1,0 +1,12 @@
+/* The folder in which a manager's runs keep what the next one needs. */
+#ifndef STATE_FOLDER_H
+#define STATE_FOLDER_H
+
+#include "ptpm.h"
+
+/* The file of numbers of these settings' manager and clock, where the command line names none: MANAGER-PORT.CLOCK in
+   $XDG_STATE_HOME/ptpm; where that is not set, in /var/lib/ptpm for root, and in $HOME/.local/state/ptpm for others. The folders
+   above it are made where they are missing. Ends the program with status 2 where there is no such folder. */
+const char *usual_numbers(const struct ptpm_session_settings *settings);
+
+#endif

@@ -1,0 +1,70 @@
+#include "unanswered.h"
+#include "answer.h"
+#include "asking.h"
+#include "common.h"
+#include "identity.h"
+#include "notices.h"
+#include "number_file.h"
+#include "reading.h"
+#include "way.h"
+
+/* Whether nobody is answered where the manager was not; then it is told what the clock has. */
+static int tell_value(const struct task *task) {
+    static struct answer answer;
+    struct ptpm_session session = { 0 };
+    int is_told = begin_reading(&session, task, task->id, task->port) && is_read(&session, task);
+    if (is_told) {
+        take_report(&session, &answer);
+        complain("the clock answers reads%s", answer.told == PTPM_VALUE ? ", and has by now" : "");
+        if (answer.told == PTPM_VALUE) print_answer(stderr, task, "ptpm-manage: ", &answer);
+    } else if (!stopped) {
+        complain("it answers no read either");
+    }
+    ptpm_session_stop(&session);
+    return is_told;
+}
+
+/* Why a clock that answers reads may drop what this manager asks. */
+static void tell_reason(const struct task *task, enum asked asked) {
+    char manager[IDENTITY_TEXT];
+    unsigned port = task->settings.port;
+    write_identity(manager, task->settings.clock);
+    switch (asked) {
+    case REQUEST:
+        complain("it dropped the request, since a copy of manager %s/%u asks too, or each answer was lost", manager, port);
+        break;
+    case NUMBER:
+        complain("it dropped number %u of manager %s/%u, behind one of another file or of a copy of the manager, or each answer was "
+                 "lost", task->settings.first, manager, port);
+        complain("where it does so each time: once %s is removed, the next run begins a new session", numbers_path());
+        break;
+    case FIRST_NUMBER:
+        complain("it answers no GET of manager %s/%u, under none of four numbers", manager, port);
+        break;
+    }
+}
+
+/* What may be wrong where the clock answers nobody. */
+static void advise(const struct task *task) {
+    if (task->port > 1) complain("numberPorts of get DEFAULT_DATA_SET tells whether the clock has a port %u", task->port);
+    if (task->path == NULL) complain("survey DEFAULT_DATA_SET shows which clocks are in that domain; --domain names another");
+}
+
+int no_answer(const struct task *task, enum asked asked, long sent) {
+    const char *end = stopped ? "ended by a signal: " : "";
+    const char *request = asked != REQUEST ? ": the request itself was not sent"
+        : task->is_survey || task->action == PTPM_GET ? "" : ": the request may have been carried out";
+    if (sent == 0) {
+        complain("%snothing was sent%s%s", end, stopped ? "" : ": no message is taken at ", stopped ? "" : way_name());
+        return stopped ? BY_SIGNAL + stopped : NOT_ASKED;
+    }
+    complain("%sno answer at %s in domain %u to %ld message%s%s", end, way_name(), task->settings.domain, sent,
+             sent == 1 ? "" : "s", request);
+    if (stopped) return BY_SIGNAL + stopped;
+    if (task->is_survey) return NOT_ANSWERED;
+    int is_answered = (task->is_numbered || task->action != PTPM_GET) && tell_value(task);
+    if (stopped) return BY_SIGNAL + stopped;
+    if (!is_answered) advise(task);
+    else if (task->is_numbered) tell_reason(task, asked);
+    return NOT_ANSWERED;
+}

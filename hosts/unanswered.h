@@ -1,0 +1,15 @@
+/* What can be said where no answer came. */
+#ifndef UNANSWERED_H
+#define UNANSWERED_H
+
+#include "task.h"
+
+/* What was sent: the task's request; or before it the question whether the number of a file is new, or which of a new session's
+   is. */
+enum asked { REQUEST, NUMBER, FIRST_NUMBER };
+
+/* Says what is known of it, where so many messages went out: of these nobody knows whether they came in. Where a clock may have
+   dropped them it is read by nobody, and what it has is told. The program's status. */
+int no_answer(const struct task *task, enum asked asked, long sent);
+
+#endif
