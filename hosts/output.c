@@ -19,13 +19,16 @@ struct stream {
     unsigned long lost;
     pthread_mutex_t lock;
     pthread_cond_t has_more, is_empty;
-    char octets[ROOM];
+    char *octets;
 };
 
-#define STREAM(number) { .file = number, .lock = PTHREAD_MUTEX_INITIALIZER, .has_more = PTHREAD_COND_INITIALIZER, \
+static char output[ROOM], notices[ROOM];
+
+#define STREAM(number, room) { .file = number, .octets = room, .lock = PTHREAD_MUTEX_INITIALIZER, .has_more = PTHREAD_COND_INITIALIZER, \
                          .is_empty = PTHREAD_COND_INITIALIZER }
 
-static struct stream standard_output = STREAM(STDOUT_FILENO), standard_error = STREAM(STDERR_FILENO);
+static struct stream standard_output = STREAM(STDOUT_FILENO, output);
+static struct stream standard_error = STREAM(STDERR_FILENO, notices);
 
 /* Writes what waits, as long as the program runs. What can't be written, as where nobody reads any more, is let go. */
 static void *write_all(void *given) {
