@@ -1,5 +1,5 @@
-/* Names for numbers, and numbers for names: the library's, and those of the states of a port. A name that was given stands until the next call of its
-   function. */
+/* Names for numbers, and numbers for names: the library's, and those of the states of a port. A name that was given stands until
+   the next call of its function. */
 #ifndef NAMES_H
 #define NAMES_H
 

@@ -14,8 +14,9 @@ enum { ROOM = 262144, LINE = 2048, TIMES_A_SECOND = 10 };
 
 /* The lines that wait for one stream, the oldest at `first`. */
 struct stream {
-    int file, is_started;
+    int file, is_started, is_ended;
     size_t first, size;
+    pthread_t thread;
     unsigned long lost;
     pthread_mutex_t lock;
     pthread_cond_t has_more, is_empty;
@@ -30,12 +31,13 @@ static char output[ROOM], notices[ROOM];
 static struct stream standard_output = STREAM(STDOUT_FILENO, output);
 static struct stream standard_error = STREAM(STDERR_FILENO, notices);
 
-/* Writes what waits, as long as the program runs. What can't be written, as where nobody reads any more, is let go. */
+/* Writes what waits, until the end. What can't be written, as where nobody reads any more, is let go. */
 static void *write_all(void *given) {
     struct stream *stream = given;
     pthread_mutex_lock(&stream->lock);
     for (;;) {
-        while (stream->size == 0) pthread_cond_wait(&stream->has_more, &stream->lock);
+        while (stream->size == 0 && !stream->is_ended) pthread_cond_wait(&stream->has_more, &stream->lock);
+        if (stream->size == 0) break;
         size_t size = stream->size < ROOM - stream->first ? stream->size : ROOM - stream->first;
         pthread_mutex_unlock(&stream->lock);
         ssize_t count = write(stream->file, stream->octets + stream->first, size);
@@ -47,14 +49,13 @@ static void *write_all(void *given) {
         if (count > 0) stream->size -= (size_t)count;
         if (stream->size == 0) pthread_cond_signal(&stream->is_empty);
     }
+    pthread_mutex_unlock(&stream->lock);
     return NULL;
 }
 
 static void start_stream(struct stream *stream) {
-    pthread_t thread;
-    int failure = pthread_create(&thread, NULL, write_all, stream);
-    errno = failure;
-    if (failure) give_up("a thread that writes");
+    errno = pthread_create(&stream->thread, NULL, write_all, stream);
+    if (errno != 0) give_up("a thread that writes");
     stream->is_started = 1;
 }
 
@@ -121,17 +122,22 @@ void say_at_times(const char *format, ...) {
 
 unsigned long lines_lost(void) { return standard_output.lost + standard_error.lost; }
 
-static void drain(struct stream *stream, const struct timespec *end) {
+/* A thread that waits for a reader is left behind. */
+static void end_stream(struct stream *stream, const struct timespec *end) {
     if (!stream->is_started) return;
     pthread_mutex_lock(&stream->lock);
     while (stream->size > 0 && pthread_cond_timedwait(&stream->is_empty, &stream->lock, end) == 0) continue;
+    int is_written = stream->size == 0;
+    stream->is_ended = 1;
+    pthread_cond_signal(&stream->has_more);
     pthread_mutex_unlock(&stream->lock);
+    if (is_written) pthread_join(stream->thread, NULL);
 }
 
 void end_output(void) {
     struct timespec end;
     clock_gettime(CLOCK_REALTIME, &end);        /* the clock of pthread_cond_timedwait */
     end.tv_sec++;
-    drain(&standard_output, &end);
-    drain(&standard_error, &end);
+    end_stream(&standard_output, &end);
+    end_stream(&standard_error, &end);
 }
