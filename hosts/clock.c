@@ -16,6 +16,8 @@
 #include "service.h"
 #include "signals.h"
 #include "source.h"
+#include <errno.h>
+#include <sys/epoll.h>
 
 enum { SECOND = 1000 };
 
@@ -32,28 +34,48 @@ static void observe_all(void) {
 /* What is polled. The ports come first. */
 enum { UNIX_SOCKET = PORTS, SOURCE, SIGNALS, LINKS, WAITS };
 
-static void list_waits(struct pollfd waits[WAITS]) {
-    for (size_t i = 0; i < PORTS; i++) waits[i] = (struct pollfd){ i < port_count ? ports[i].socket : -1, POLLIN, 0 };
-    waits[UNIX_SOCKET] = (struct pollfd){ unix_socket, POLLIN, 0 };
-    waits[SOURCE] = (struct pollfd){ source, POLLIN, 0 };
-    waits[SIGNALS] = (struct pollfd){ signals, POLLIN, 0 };
-    waits[LINKS] = (struct pollfd){ links, POLLIN, 0 };
+static int polled = -1;
+static unsigned long polled_openings[PORTS];    /* which socket of each port is polled */
+
+static void wait_at(int at, uint32_t what) {
+    struct epoll_event event = { .events = EPOLLIN, .data.u32 = what };
+    if (at >= 0 && epoll_ctl(polled, EPOLL_CTL_ADD, at, &event) && errno != EEXIST) give_up("epoll_ctl");
 }
 
-/* Whether the program goes on. */
-static int take_all(const struct pollfd waits[WAITS]) {
-    if (waits[SIGNALS].revents != 0) {
-        enum asked asked = read_signal(signals);
-        if (asked == END_ASKED) return 0;
-        if (asked == COUNTS_ASKED) print_counts();
+static void wait_at_all(void) {
+    polled = epoll_create1(EPOLL_CLOEXEC);
+    if (polled < 0) give_up("epoll_create1");
+    wait_at(unix_socket, UNIX_SOCKET);
+    wait_at(source, SOURCE);
+    wait_at(signals, SIGNALS);
+    wait_at(links, LINKS);
+}
+
+/* A socket that is closed is not polled any more. */
+static void wait_at_ports(void) {
+    for (uint32_t i = 0; i < port_count; i++) {
+        if (ports[i].openings == polled_openings[i] || ports[i].socket < 0) continue;
+        polled_openings[i] = ports[i].openings;
+        wait_at(ports[i].socket, i);
     }
-    if (waits[LINKS].revents != 0) hear_of_links();
-    for (size_t i = 0; i < port_count; i++) {
-        if (waits[i].revents != 0 && waits[i].fd == ports[i].socket) take_round(&ports[i], ports[i].socket);
+}
+
+/* What has come in there; whether the program goes on. */
+static int take_event(uint32_t what) {
+    enum asked asked = NOTHING_ASKED;
+    switch (what) {
+    case UNIX_SOCKET: take_round(NULL, unix_socket); break;
+    case SOURCE:
+        observe_all();
+        wait_at(source, SOURCE);
+        break;
+    case SIGNALS: asked = read_signal(signals); break;
+    case LINKS: hear_of_links(); break;
+    default:
+        if (ports[what].socket >= 0) take_round(&ports[what], ports[what].socket);
     }
-    if (waits[UNIX_SOCKET].revents != 0) take_round(NULL, unix_socket);
-    if (waits[SOURCE].revents != 0) observe_all();
-    return 1;
+    if (asked == COUNTS_ASKED) print_counts();
+    return asked != END_ASKED;
 }
 
 /* Once a second: what came in at a socket that stood at the path for a moment, and the source, where it moved. */
@@ -67,19 +89,22 @@ static void look_around(long now) {
 
 /* Until a signal asks for the end, or that time comes, where it is not 0. */
 static void run(long end) {
-    struct pollfd waits[WAITS];
+    struct epoll_event events[WAITS];
+    int is_going_on = 1;
     if (source >= 0) observe_all();
+    wait_at_all();
     say_started();
     tell_ready();
-    for (;;) {
+    while (is_going_on) {
         long now = milliseconds();
         if (end != 0 && now >= end) return;
         tell_alive(now);
         renew_ports(now);
+        wait_at_ports();
         look_around(now);
-        list_waits(waits);
         long most = end != 0 && end - now < SECOND ? end - now : SECOND;
-        if (poll(waits, WAITS, (int)until_alive(now, most)) > 0 && !take_all(waits)) return;
+        int found = epoll_wait(polled, events, WAITS, (int)until_alive(now, most));
+        for (int i = 0; i < found && is_going_on; i++) is_going_on = take_event(events[i].data.u32);
     }
 }
 

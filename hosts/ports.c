@@ -41,6 +41,7 @@ void open_port(const char *interface) {
     port->name = interface;
     port->index = if_nametoindex(interface);
     port->socket = open_socket(port, &what);
+    port->openings = 1;
     if (port->socket >= 0) return;
     say("%s: %s%s", what, strerror(errno), needed());
     exit(2);
@@ -71,6 +72,7 @@ static void open_other(struct port *port, unsigned index) {
         close_port(port);
         port->socket = at;
         port->index = index;
+        port->openings++;
         port->refused = 0;
     } else if (port->refused != index) {
         say("%s: the interface was made anew: %s%s%s", port->name, what, other == NULL ? ": " : "", other == NULL ? strerror(errno) : "");

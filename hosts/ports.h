@@ -19,6 +19,7 @@ struct port {
     uint8_t station[STATION];   /* its address on Ethernet */
     unsigned mtu, refused;      /* as the kernel told last; the index at which it could not be opened */
     int is_due;                 /* it may not be in its group any more */
+    unsigned long openings;     /* how many sockets it had */
 };
 
 extern struct port ports[PORTS];

@@ -3,9 +3,10 @@
 #include "common.h"
 #include <arpa/inet.h>
 #include <errno.h>
+#include <linux/udp.h>
 #include <string.h>
 
-enum { PLACES = ROUND + PTPM_MOST_SENT, PARTS = 3 };
+enum { PLACES = ROUND + PTPM_MOST_SENT, PARTS = 3, LEAST_JOINED = 8, MOST_JOINED = 64, MOST_OCTETS = 60000 };
 
 /* What the kernel tells of, or is told for, a datagram's addresses. */
 struct control { _Alignas(struct cmsghdr) char octets[CMSG_SPACE(sizeof(struct in6_pktinfo))]; };
@@ -60,7 +61,7 @@ size_t hear_round(const struct port *port, int at, struct heard heard[ROUND]) {
     static struct control controls[ROUND];
     static struct mmsghdr messages[ROUND];
     static struct iovec parts[ROUND];
-    static int used_before = ROUND;
+    static int used_before = ROUND, wanted = 1;
     for (int i = 0; i < used_before; i++) {
         parts[i] = (struct iovec){ octets[i], MOST_HEARD };
         messages[i].msg_hdr = (struct msghdr){
@@ -68,8 +69,9 @@ size_t hear_round(const struct port *port, int at, struct heard heard[ROUND]) {
             .msg_control = &controls[i], .msg_controllen = sizeof controls[i],
         };
     }
-    int found = recvmmsg(at, messages, ROUND, MSG_DONTWAIT | MSG_TRUNC, NULL);
+    int found = recvmmsg(at, messages, (unsigned)wanted, MSG_DONTWAIT | MSG_TRUNC, NULL);
     used_before = found > 0 ? found : 0;
+    wanted = found < wanted ? 1 : wanted < ROUND ? 2 * wanted : ROUND;      /* to look in vain costs as much as to receive */
     size_t count = 0;
     for (int i = 0; i < found; i++) {
         heard[i].octets = octets[i];
@@ -121,50 +123,114 @@ static void address_datagram(struct msghdr *head, const struct heard *answered, 
     }
 }
 
+/* What goes out at one port: messages for sendmmsg, each of one datagram or of several of one size that the kernel takes apart. */
+struct batch {
+    struct mmsghdr messages[PLACES];
+    unsigned sizes[PLACES];                 /* how many datagrams a message has */
+    struct iovec parts[PLACES * PARTS];
+    union sender to[PLACES];
+    struct control controls[PLACES];
+    uint8_t heads[PLACES][ETHERNET_HEAD];
+    size_t count, part_count;
+};
+
+/* The kernel may not take datagrams together, as where an interface can't send them so. */
+static int is_joining = 1;
+
 /* A frame of Ethernet has at least 60 octets. */
-static size_t frame_message(struct iovec *parts, const struct port *port, const struct outgoing *out, uint8_t head[ETHERNET_HEAD]) {
+static void add_frame(struct batch *batch, const struct port *port, const struct outgoing *out) {
     static uint8_t zeros[ETHERNET_LEAST];
+    struct iovec *parts = &batch->parts[batch->part_count];
+    uint8_t *head = batch->heads[batch->count];
     size_t size = ETHERNET_HEAD + out->message->size;
     write_head(head, out->answered == NULL ? NULL : out->answered->station, port->station);
-    parts[1] = parts[0];
     parts[0] = (struct iovec){ head, ETHERNET_HEAD };
+    parts[1] = (struct iovec){ (void *)out->message->octets, out->message->size };
     parts[2] = (struct iovec){ zeros, size < ETHERNET_LEAST ? ETHERNET_LEAST - size : 0 };
-    return PARTS;
+    batch->messages[batch->count].msg_hdr = (struct msghdr){ .msg_iov = parts, .msg_iovlen = PARTS };
+    batch->sizes[batch->count++] = 1;
+    batch->part_count += PARTS;
 }
 
-/* Sends so many; how many were not taken. */
-static unsigned long send_all(int at, struct mmsghdr *messages, size_t count) {
+static void add_datagram(struct batch *batch, const struct outgoing *out) {
+    struct iovec *part = &batch->parts[batch->part_count++];
+    struct msghdr *head = &batch->messages[batch->count].msg_hdr;
+    *part = (struct iovec){ (void *)out->message->octets, out->message->size };
+    *head = (struct msghdr){ .msg_iov = part, .msg_iovlen = 1 };
+    address_datagram(head, out->answered, &batch->to[batch->count], &batch->controls[batch->count]);
+    batch->sizes[batch->count++] = 1;
+}
+
+/* Whether a datagram may go out together with the one before it: both go to the group, and have one size. */
+static int goes_with(const struct outgoing *one, const struct outgoing *other) {
+    return one->answered == NULL && other->answered == NULL && one->message->size == other->message->size;
+}
+
+/* So many datagrams of one size to the group as one message, whose parts the kernel sends one by one (UDP_SEGMENT). */
+static void add_joined(struct batch *batch, const struct outgoing *const *outs, unsigned count) {
+    struct control *control = &batch->controls[batch->count];
+    uint16_t size = outs[0]->message->size;
+    add_datagram(batch, outs[0]);
+    struct msghdr *head = &batch->messages[batch->count - 1].msg_hdr;
+    for (unsigned i = 1; i < count; i++) batch->parts[batch->part_count++] = (struct iovec){ (void *)outs[i]->message->octets, size };
+    head->msg_iovlen = count;
+    head->msg_control = control;
+    head->msg_controllen = CMSG_SPACE(sizeof size);
+    put_control(CMSG_FIRSTHDR(head), IPPROTO_UDP, UDP_SEGMENT, &size, sizeof size);
+    batch->sizes[batch->count - 1] = count;
+}
+
+/* The messages of a port, in the order in which they were made. */
+static void fill_batch(struct batch *batch, const struct port *port, const struct outgoing *const *outs, size_t count) {
+    batch->count = batch->part_count = 0;
+    for (size_t i = 0; i < count;) {
+        unsigned run = 1, most = MOST_OCTETS / (outs[i]->message->size + 1u) + 1u;
+        if (most > MOST_JOINED) most = MOST_JOINED;
+        while (run < most && i + run < count && goes_with(outs[i], outs[i + run])) run++;
+        if (transport == ETHERNET) add_frame(batch, port, outs[i]);
+        else if (run >= LEAST_JOINED && is_joining) add_joined(batch, &outs[i], run);
+        else add_datagram(batch, outs[i]);
+        i += batch->sizes[batch->count - 1];
+    }
+}
+
+/* One that the kernel does not take apart goes out in its parts; how many were not taken. */
+static unsigned long send_apart(int at, const struct msghdr *head) {
     unsigned long lost = 0;
-    for (size_t done = 0; done < count;) {
-        int taken = sendmmsg(at, messages + done, (unsigned)(count - done), MSG_DONTWAIT);
-        if (taken < 0 && errno == EAGAIN) return lost + count - done;
-        if (taken <= 0) lost++;
-        done += taken > 0 ? (size_t)taken : 1;
+    is_joining = 0;
+    for (size_t i = 0; i < head->msg_iovlen; i++) {
+        const struct iovec *part = &head->msg_iov[i];
+        lost += sendto(at, part->iov_base, part->iov_len, MSG_DONTWAIT, head->msg_name, head->msg_namelen) < 0;
     }
     return lost;
 }
 
-/* What goes out at one port, in the order in which it was made. */
+/* Sends all; how many datagrams were not taken. */
+static unsigned long send_batch(int at, struct batch *batch) {
+    unsigned long lost = 0;
+    for (size_t done = 0; done < batch->count;) {
+        int taken = sendmmsg(at, batch->messages + done, (unsigned)(batch->count - done), MSG_DONTWAIT);
+        if (taken > 0) {
+            done += (size_t)taken;
+            continue;
+        }
+        int is_refused = batch->sizes[done] > 1 && (errno == EINVAL || errno == EIO || errno == EOPNOTSUPP);
+        lost += is_refused ? send_apart(at, &batch->messages[done].msg_hdr) : batch->sizes[done];
+        done++;
+    }
+    return lost;
+}
+
 static unsigned long send_at(size_t place) {
-    static struct mmsghdr messages[PLACES];
-    static struct iovec parts[PLACES][PARTS];
-    static union sender to[PLACES];
-    static struct control controls[PLACES];
-    static uint8_t heads[PLACES][ETHERNET_HEAD];
-    const struct port *port = &ports[place];
+    static struct batch batch;
+    const struct outgoing *outs[PLACES];
     size_t count = 0;
     for (size_t i = 0; i < waiting_count; i++) {
-        const struct outgoing *out = &waiting[i];
-        if (out->message->port != place + 1) continue;
-        parts[count][0] = (struct iovec){ (void *)out->message->octets, out->message->size };
-        struct msghdr *head = &messages[count].msg_hdr;
-        *head = (struct msghdr){ .msg_iov = parts[count], .msg_iovlen = 1 };
-        if (transport == ETHERNET) head->msg_iovlen = frame_message(parts[count], port, out, heads[count]);
-        else address_datagram(head, out->answered, &to[count], &controls[count]);
-        count++;
+        if (waiting[i].message->port == place + 1) outs[count++] = &waiting[i];
     }
-    if (port->socket < 0) return count;
-    return send_all(port->socket, messages, count);
+    if (ports[place].socket < 0) return count;
+    fill_batch(&batch, &ports[place], outs, count);
+    return send_batch(ports[place].socket, &batch);
 }
 
 unsigned long send_round(void) {
