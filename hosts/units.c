@@ -1,23 +1,12 @@
 /* Tests of what the hosts decide without a socket: token buckets, messages that were passed on, and messages in frames. Prints what
    does not hold, and `units: N passed, M failed`. */
 #include "bucket.h"
+#include "checking.h"
 #include "ethernet.h"
 #include "passed_on.h"
-#include <stdio.h>
 #include <string.h>
 
 enum { NOW = 5000, MESSAGE = 54 };
-
-static unsigned passed, failed;
-
-static void check(int holds, const char *what) {
-    if (holds) {
-        passed++;
-        return;
-    }
-    failed++;
-    printf("failed: %s\n", what);
-}
 
 /* How many tokens there are at a time, taken one after another. */
 static long taken(struct bucket *bucket, long now) {
@@ -127,6 +116,5 @@ int main(void) {
     passing_on();
     many_messages();
     frames();
-    printf("units: %u passed, %u failed\n", passed, failed);
-    return failed > 0;
+    return told("units");
 }
