@@ -74,7 +74,8 @@ static void tell_all_changed(const struct ptpm_changed *changed) {
 }
 
 /* A message to who asked at the Unix socket goes back there, and any other goes out with the round; how many were not taken. */
-static unsigned long send_out(const struct ptpm_sent *message, const struct heard *heard, const struct port *port, uint16_t ingress) {
+static unsigned long send_out(const struct ptpm_sent *message, const struct heard *heard, const struct port *port,
+                              uint16_t ingress) {
     if (message->port != ingress) send_later(message, NULL);
     else if (port == NULL) return !answer_peer(message, heard);
     else send_later(message, heard->is_unicast ? heard : NULL);

@@ -59,8 +59,8 @@ static int is_answered(const struct heard *heard, const struct port *port, uint1
     return 0;
 }
 
-size_t keep_back(const struct heard *heard, const struct port *port, uint16_t ingress, uint32_t answer, const struct ptpm_sent *sent,
-                 size_t count, const struct ptpm_sent *kept[PTPM_MOST_SENT]) {
+size_t keep_back(const struct heard *heard, const struct port *port, uint16_t ingress, uint32_t answer,
+                 const struct ptpm_sent *sent, size_t count, const struct ptpm_sent *kept[PTPM_MOST_SENT]) {
     size_t left = 0;
     int is_asked = 0, is_going_on = 0;
     long now = count > 0 ? milliseconds() : 0;

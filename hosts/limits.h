@@ -32,8 +32,8 @@ void lower_hops(struct heard *heard);
 /* Which of the messages that the agent made of a datagram are to go out: those at `ingress` answer it, and the others are it,
    passed on. Keeps them in their order at the head of the places, and says how many there are. port is NULL for a datagram of a
    program of this host. */
-size_t keep_back(const struct heard *heard, const struct port *port, uint16_t ingress, uint32_t answer, const struct ptpm_sent *sent,
-                 size_t count, const struct ptpm_sent *kept[PTPM_MOST_SENT]);
+size_t keep_back(const struct heard *heard, const struct port *port, uint16_t ingress, uint32_t answer,
+                 const struct ptpm_sent *sent, size_t count, const struct ptpm_sent *kept[PTPM_MOST_SENT]);
 
 const struct kept_back *told_kept_back(void);
 

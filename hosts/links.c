@@ -30,11 +30,13 @@ int open_links(void) {
 /* The MTU that the kernel tells of an interface; 0 where it tells none. */
 static unsigned mtu_of(const struct nlmsghdr *message) {
     unsigned mtu = 0;
-    const char *next = (const char *)message + NLMSG_LENGTH(sizeof(struct ifinfomsg)), *end = (const char *)message + message->nlmsg_len;
+    const char *first = (const char *)message, *end = first + message->nlmsg_len;
+    const char *next = first + NLMSG_LENGTH(sizeof(struct ifinfomsg));
     while (next + sizeof(struct rtattr) <= end) {
         const struct rtattr *attribute = (const void *)next;
         if (attribute->rta_len < sizeof *attribute) break;
-        if (attribute->rta_type == IFLA_MTU && next + RTA_LENGTH(sizeof mtu) <= end) memcpy(&mtu, next + RTA_LENGTH(0), sizeof mtu);
+        int is_mtu = attribute->rta_type == IFLA_MTU && next + RTA_LENGTH(sizeof mtu) <= end;
+        if (is_mtu) memcpy(&mtu, next + RTA_LENGTH(0), sizeof mtu);
         next += RTA_ALIGN(attribute->rta_len);
     }
     return mtu;

@@ -156,14 +156,17 @@ static void refuse_twice(char *const *given, size_t count) {
         unsigned index = if_nametoindex(given[i]);
         for (size_t k = 0; k < i; k++) {
             if (strcmp(given[i], given[k]) == 0) refuse("%s: the interface is named twice", given[i]);
-            if (index != 0 && index == if_nametoindex(given[k])) refuse("%s: the interface is named twice, as %s", given[i], given[k]);
+            if (index == 0 || index != if_nametoindex(given[k])) continue;
+            refuse("%s: the interface is named twice, as %s", given[i], given[k]);
         }
     }
 }
 
 static void judge(const struct options *options, int has_two_ways) {
     if (options->interface_count > PORTS) refuse("it takes eight interfaces at most");
-    if (options->interface_count == 0 && options->meeting.path == NULL) refuse("an interface is missing, or a Unix socket: -u PATH");
+    if (options->interface_count == 0 && options->meeting.path == NULL) {
+        refuse("an interface is missing, or a Unix socket: -u PATH");
+    }
     if (has_two_ways) refuse("-2 and -6 do not stand together");
     refuse_twice(options->interfaces, options->interface_count);
 }

@@ -8,6 +8,7 @@
 #include <netinet/in.h>
 #include <stdlib.h>
 #include <string.h>
+#include <sys/ioctl.h>
 #include <unistd.h>
 
 enum { SECOND = 1000 };
@@ -28,6 +29,13 @@ static int open_socket(struct port *port, const char **what) {
     return at;
 }
 
+/* The MTU of the interface as its port is opened: a leave and a join that nobody needs may cost messages where a switch listens. */
+static unsigned mtu_at(int at, unsigned index) {
+    struct ifreq request = { 0 };
+    if (if_indextoname(index, request.ifr_name) == NULL || ioctl(at, SIOCGIFMTU, &request)) return 0;
+    return (unsigned)request.ifr_mtu;
+}
+
 /* What a program needs that may not open a port. */
 static const char *needed(void) {
     if (errno != EACCES && errno != EPERM) return "";
@@ -41,10 +49,12 @@ void open_port(const char *interface) {
     port->name = interface;
     port->index = if_nametoindex(interface);
     port->socket = open_socket(port, &what);
+    if (port->socket < 0) {
+        say("%s: %s%s", what, strerror(errno), needed());
+        exit(2);
+    }
     port->openings = 1;
-    if (port->socket >= 0) return;
-    say("%s: %s%s", what, strerror(errno), needed());
-    exit(2);
+    port->mtu = mtu_at(port->socket, port->index);
 }
 
 /* Two ports at one interface would pass on to its link what comes from there. */
@@ -73,9 +83,11 @@ static void open_other(struct port *port, unsigned index) {
         port->socket = at;
         port->index = index;
         port->openings++;
+        port->mtu = mtu_at(at, index);
         port->refused = 0;
     } else if (port->refused != index) {
-        say("%s: the interface was made anew: %s%s%s", port->name, what, other == NULL ? ": " : "", other == NULL ? strerror(errno) : "");
+        const char *why = other == NULL ? strerror(errno) : "";
+        say("%s: the interface was made anew: %s%s%s", port->name, what, other == NULL ? ": " : "", why);
         port->refused = index;
     }
 }

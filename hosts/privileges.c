@@ -68,8 +68,8 @@ static const int allowed[] = {
     SCMP_SYS(gettid), SCMP_SYS(tgkill), SCMP_SYS(getuid), SCMP_SYS(geteuid), SCMP_SYS(exit), SCMP_SYS(exit_group),
 };
 
-/* Of ioctl: the names and addresses of interfaces, what a socket has sent and nobody has read, and whether a file is a terminal. */
-static const unsigned allowed_controls[] = { SIOCGIFINDEX, SIOCGIFNAME, SIOCGIFHWADDR, SIOCOUTQ, TCGETS };
+/* Of ioctl: the names, addresses and MTU of interfaces, what a socket sent that nobody has read, and whether a file is a terminal. */
+static const unsigned allowed_controls[] = { SIOCGIFINDEX, SIOCGIFNAME, SIOCGIFHWADDR, SIOCGIFMTU, SIOCOUTQ, TCGETS };
 
 static int allow_all(scmp_filter_ctx filter) {
     int failure = filter == NULL ? -ENOMEM : 0;

@@ -47,7 +47,7 @@ static int take_heard(struct heard *heard, const struct port *port, struct mmsgh
     heard->whole = message->msg_len;
     heard->size = heard->whole < MOST_HEARD ? heard->whole : MOST_HEARD;
     heard->sender_size = message->msg_hdr.msg_namelen;
-    if (heard->sender_size > sizeof heard->sender.peer) heard->sender_size = sizeof heard->sender.peer;     /* a path without an end */
+    if (heard->sender_size > sizeof heard->sender.peer) heard->sender_size = sizeof heard->sender.peer;     /* a path has no end */
     heard->station = NULL;
     heard->is_unicast = port == NULL;
     if (port == NULL) return 1;
@@ -172,7 +172,9 @@ static void add_joined(struct batch *batch, const struct outgoing *const *outs, 
     uint16_t size = outs[0]->message->size;
     add_datagram(batch, outs[0]);
     struct msghdr *head = &batch->messages[batch->count - 1].msg_hdr;
-    for (unsigned i = 1; i < count; i++) batch->parts[batch->part_count++] = (struct iovec){ (void *)outs[i]->message->octets, size };
+    for (unsigned i = 1; i < count; i++) {
+        batch->parts[batch->part_count++] = (struct iovec){ (void *)outs[i]->message->octets, size };
+    }
     head->msg_iovlen = count;
     head->msg_control = control;
     head->msg_controllen = CMSG_SPACE(sizeof size);
