@@ -1,17 +1,24 @@
 #define _GNU_SOURCE
 #include "privileges.h"
 #include "common.h"
+#include <asm/ioctls.h>
 #include <errno.h>
 #include <grp.h>
+#include <linux/audit.h>
 #include <linux/capability.h>
+#include <linux/filter.h>
+#include <linux/seccomp.h>
+#include <linux/sockios.h>
+#include <stddef.h>
 #include <stdint.h>
 #include <sys/prctl.h>
 #include <sys/syscall.h>
 #include <unistd.h>
-#ifdef HAS_SECCOMP
-#include <asm/ioctls.h>
-#include <linux/sockios.h>
-#include <seccomp.h>
+
+#ifdef __x86_64__
+enum { MACHINE = (int)AUDIT_ARCH_X86_64 };
+#else
+enum { MACHINE = (int)AUDIT_ARCH_AARCH64 };
 #endif
 
 enum { HALVES = _LINUX_CAPABILITY_U32S_3 };
@@ -49,52 +56,61 @@ void let_go_of_rights(const struct privileges *privileges, enum needs needs) {
     if (prctl(PR_SET_NO_NEW_PRIVS, 1L, 0L, 0L, 0L)) give_up("PR_SET_NO_NEW_PRIVS");
 }
 
-#ifdef HAS_SECCOMP
-
-/* What the program and its C library call from when the filter stands: sockets and what is read and written, what opens a port
-   anew, the source of observations, the Unix socket at its end, threads, memory, time and the end itself. */
+/* What the program and its C library call of the system when the filter stands: sockets and what is read and written, what opens a
+   port anew, the source of observations, the Unix socket at its end, threads, memory, time and the end itself. Each machine lacks
+   some of them. */
 static const int allowed[] = {
-    SCMP_SYS(read), SCMP_SYS(write), SCMP_SYS(writev), SCMP_SYS(recvmsg), SCMP_SYS(recvfrom), SCMP_SYS(recvmmsg), SCMP_SYS(sendto),
-    SCMP_SYS(sendmsg), SCMP_SYS(sendmmsg), SCMP_SYS(poll), SCMP_SYS(epoll_wait), SCMP_SYS(epoll_pwait), SCMP_SYS(epoll_ctl),
-    SCMP_SYS(epoll_create1), SCMP_SYS(socket), SCMP_SYS(bind), SCMP_SYS(connect),
-    SCMP_SYS(setsockopt), SCMP_SYS(getsockopt), SCMP_SYS(getsockname), SCMP_SYS(fcntl), SCMP_SYS(close),
-    SCMP_SYS(open), SCMP_SYS(openat), SCMP_SYS(stat), SCMP_SYS(lstat), SCMP_SYS(fstat), SCMP_SYS(newfstatat), SCMP_SYS(statx),
-    SCMP_SYS(readlink), SCMP_SYS(readlinkat), SCMP_SYS(lseek), SCMP_SYS(unlink), SCMP_SYS(unlinkat), SCMP_SYS(getcwd),
-    SCMP_SYS(inotify_init1), SCMP_SYS(inotify_add_watch), SCMP_SYS(inotify_rm_watch),
-    SCMP_SYS(clone), SCMP_SYS(clone3), SCMP_SYS(set_robust_list), SCMP_SYS(rseq), SCMP_SYS(futex), SCMP_SYS(sched_yield),
-    SCMP_SYS(mmap), SCMP_SYS(munmap), SCMP_SYS(mremap), SCMP_SYS(mprotect), SCMP_SYS(madvise), SCMP_SYS(brk), SCMP_SYS(getrandom),
-    SCMP_SYS(clock_gettime), SCMP_SYS(gettimeofday), SCMP_SYS(time), SCMP_SYS(clock_nanosleep), SCMP_SYS(nanosleep),
-    SCMP_SYS(rt_sigaction), SCMP_SYS(rt_sigprocmask), SCMP_SYS(rt_sigreturn), SCMP_SYS(restart_syscall), SCMP_SYS(getpid),
-    SCMP_SYS(gettid), SCMP_SYS(tgkill), SCMP_SYS(getuid), SCMP_SYS(geteuid), SCMP_SYS(exit), SCMP_SYS(exit_group),
+    SYS_recvmmsg, SYS_sendmmsg, SYS_epoll_pwait, SYS_sendto, SYS_write, SYS_read, SYS_futex, SYS_clock_gettime, SYS_recvmsg,
+    SYS_recvfrom, SYS_sendmsg, SYS_writev, SYS_ppoll, SYS_epoll_ctl, SYS_epoll_create1, SYS_socket, SYS_bind, SYS_connect,
+    SYS_setsockopt, SYS_getsockopt, SYS_getsockname, SYS_fcntl, SYS_close, SYS_openat, SYS_fstat, SYS_newfstatat, SYS_statx,
+    SYS_readlinkat, SYS_lseek, SYS_unlinkat, SYS_getcwd, SYS_inotify_init1, SYS_inotify_add_watch, SYS_inotify_rm_watch,
+    SYS_clone, SYS_clone3, SYS_set_robust_list, SYS_rseq, SYS_sched_yield, SYS_mmap, SYS_munmap, SYS_mremap, SYS_mprotect,
+    SYS_madvise, SYS_brk,
+    SYS_getrandom, SYS_gettimeofday, SYS_clock_nanosleep, SYS_nanosleep, SYS_rt_sigaction, SYS_rt_sigprocmask, SYS_rt_sigreturn,
+    SYS_restart_syscall, SYS_getpid, SYS_gettid, SYS_tgkill, SYS_getuid, SYS_geteuid, SYS_exit, SYS_exit_group,
+#ifdef __x86_64__
+    SYS_epoll_wait, SYS_poll, SYS_open, SYS_stat, SYS_lstat, SYS_readlink, SYS_unlink, SYS_time,
+#endif
 };
 
-/* Of ioctl: the names, addresses and MTU of interfaces, what a socket sent that nobody has read, and whether a file is a terminal. */
+/* Of ioctl: names, addresses and MTU of interfaces, what a socket sent that nobody has read, and whether a file is a terminal. */
 static const unsigned allowed_controls[] = { SIOCGIFINDEX, SIOCGIFNAME, SIOCGIFHWADDR, SIOCGIFMTU, SIOCOUTQ, TCGETS };
 
-static int allow_all(scmp_filter_ctx filter) {
-    int failure = filter == NULL ? -ENOMEM : 0;
-    for (size_t i = 0; i < sizeof allowed / sizeof *allowed && failure == 0; i++) {
-        failure = seccomp_rule_add(filter, SCMP_ACT_ALLOW, allowed[i], 0);
+enum { CALLS = sizeof allowed / sizeof *allowed, CONTROLS = sizeof allowed_controls / sizeof *allowed_controls };
+enum { FIRST_CALL = 4, IOCTL = FIRST_CALL + CALLS, FIRST_CONTROL = IOCTL + 2, REFUSE = FIRST_CONTROL + CONTROLS, ALLOW, SIZE };
+
+static struct sock_filter loads(size_t place) { return (struct sock_filter)BPF_STMT(BPF_LD | BPF_W | BPF_ABS, (uint32_t)place); }
+
+/* Goes to one of two places where what was loaded is, and is not, a number. */
+static struct sock_filter branches(int at, uint32_t number, int where_equal, int where_not) {
+    uint8_t by = (uint8_t)(where_equal - at - 1), by_not = (uint8_t)(where_not - at - 1);
+    return (struct sock_filter)BPF_JUMP(BPF_JMP | BPF_JEQ | BPF_K, number, by, by_not);
+}
+
+/* A call of this machine's whose number is allowed, or an ioctl whose second word is; its first half on a little-endian machine.
+   Any other fails with EPERM. */
+static void write_filter(struct sock_filter filter[SIZE]) {
+    filter[0] = loads(offsetof(struct seccomp_data, arch));
+    filter[1] = branches(1, (uint32_t)MACHINE, 3, 2);
+    filter[2] = (struct sock_filter)BPF_STMT(BPF_RET | BPF_K, SECCOMP_RET_ERRNO | EPERM);
+    filter[3] = loads(offsetof(struct seccomp_data, nr));
+    for (int i = 0; i < CALLS; i++) {
+        filter[FIRST_CALL + i] = branches(FIRST_CALL + i, (uint32_t)allowed[i], ALLOW, FIRST_CALL + i + 1);
     }
-    for (size_t i = 0; i < sizeof allowed_controls / sizeof *allowed_controls && failure == 0; i++) {
-        failure = seccomp_rule_add(filter, SCMP_ACT_ALLOW, SCMP_SYS(ioctl), 1,
-                                   SCMP_A1(SCMP_CMP_MASKED_EQ, UINT32_MAX, allowed_controls[i]));
+    filter[IOCTL] = branches(IOCTL, SYS_ioctl, IOCTL + 1, REFUSE);
+    filter[IOCTL + 1] = loads(offsetof(struct seccomp_data, args[1]));
+    for (int i = 0; i < CONTROLS; i++) {
+        filter[FIRST_CONTROL + i] = branches(FIRST_CONTROL + i, allowed_controls[i], ALLOW, FIRST_CONTROL + i + 1);
     }
-    return failure;
+    filter[REFUSE] = (struct sock_filter)BPF_STMT(BPF_RET | BPF_K, SECCOMP_RET_ERRNO | EPERM);
+    filter[ALLOW] = (struct sock_filter)BPF_STMT(BPF_RET | BPF_K, SECCOMP_RET_ALLOW);
 }
 
 void filter_calls(const struct privileges *privileges) {
+    struct sock_filter filter[SIZE];
+    struct sock_fprog whole = { .len = SIZE, .filter = filter };
     if (privileges->is_unfiltered) return;
-    scmp_filter_ctx filter = seccomp_init(SCMP_ACT_ERRNO(EPERM));
-    int failure = allow_all(filter);
-    if (failure == 0) failure = seccomp_load(filter);
-    errno = -failure;
-    if (failure != 0) give_up("the filter of calls of the system");
-    seccomp_release(filter);
+    write_filter(filter);
+    int failure = prctl(PR_SET_SECCOMP, (unsigned long)SECCOMP_MODE_FILTER, &whole);
+    if (failure && errno != EINVAL) give_up("the filter of system calls");
 }
-
-#else
-
-void filter_calls(const struct privileges *privileges) { (void)privileges; }
-
-#endif

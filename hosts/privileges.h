@@ -18,8 +18,8 @@ enum needs { NEEDS_NOTHING, NEEDS_LOW_PORT, NEEDS_FRAMES };
    can't be done. Comes before any thread. */
 void let_go_of_rights(const struct privileges *privileges, enum needs needs);
 
-/* From now on all calls of the system are refused but those that the program makes; nothing where it was built without
-   libseccomp. Comes before any thread, and threads are made behind it. */
+/* From now on all calls of the system fail but those that the program makes; nothing where the kernel has no filters. Comes before
+   any thread. */
 void filter_calls(const struct privileges *privileges);
 
 #endif
