@@ -44,14 +44,14 @@ def get(number, target=ME, hops=1):
 
 
 class Clock:
-    """clock.c with these words, from when it listens at its Unix socket, where it has one, to its end."""
+    """clock.c with these words, from when it says that it has started to its end."""
 
     def __init__(self, *words):
         self.output = open(os.path.join(work, "output"), "w+")
         self.began = time.monotonic()
         self.process = start("clock", *words, stdout=self.output, stderr=subprocess.STDOUT)
-        for _ in range(500):
-            if self.process.poll() is not None or is_listened_at(words):
+        for _ in range(100):
+            if self.process.poll() is not None or " in domain " in self.text():
                 break
             time.sleep(0.02)
 
@@ -74,9 +74,6 @@ class Clock:
 
 
 def is_listened_at(words):
-    if "-u" not in words:
-        time.sleep(0.3)
-        return True
     with socket.socket(socket.AF_UNIX, socket.SOCK_DGRAM) as probe:
         try:
             probe.connect(words[words.index("-u") + 1])

@@ -1,7 +1,10 @@
 #define _GNU_SOURCE
 #include "common.h"
 #include <arpa/inet.h>
+#include <dirent.h>
 #include <errno.h>
+#include <libgen.h>
+#include <limits.h>
 #include <net/if.h>
 #include <stdio.h>
 #include <stdlib.h>
@@ -10,8 +13,6 @@
 #include <sys/un.h>
 #include <time.h>
 #include <unistd.h>
-
-enum { GENERAL = 320 };
 
 volatile sig_atomic_t stopped;
 static sigset_t while_waiting;
@@ -90,13 +91,13 @@ socklen_t group(struct sockaddr_storage *to, int is_six) {
     if (is_six) {
         struct sockaddr_in6 *six = (struct sockaddr_in6 *)to;
         six->sin6_family = AF_INET6;
-        six->sin6_port = htons(GENERAL);
+        six->sin6_port = htons(GENERAL_PORT);
         inet_pton(AF_INET6, "ff0e::181", &six->sin6_addr);
         return sizeof *six;
     }
     struct sockaddr_in *four = (struct sockaddr_in *)to;
     four->sin_family = AF_INET;
-    four->sin_port = htons(GENERAL);
+    four->sin_port = htons(GENERAL_PORT);
     inet_pton(AF_INET, "224.0.1.129", &four->sin_addr);
     return sizeof *four;
 }
@@ -108,7 +109,7 @@ static int is_set(int at, int level, int option, const void *value, size_t size,
 
 static int joins_four(int at, const struct sockaddr_in *address, unsigned interface, const char **what) {
     int none = 0;
-    struct sockaddr_in any = { .sin_family = AF_INET, .sin_port = htons(GENERAL) };
+    struct sockaddr_in any = { .sin_family = AF_INET, .sin_port = htons(GENERAL_PORT) };
     struct ip_mreqn join = { .imr_multiaddr = address->sin_addr, .imr_ifindex = (int)interface };
     *what = "UDP port 320";
     return bind(at, (struct sockaddr *)&any, sizeof any) == 0
@@ -119,7 +120,7 @@ static int joins_four(int at, const struct sockaddr_in *address, unsigned interf
 
 static int joins_six(int at, const struct sockaddr_in6 *address, unsigned interface, const char **what) {
     int one = 1, none = 0;
-    struct sockaddr_in6 any = { .sin6_family = AF_INET6, .sin6_port = htons(GENERAL) };
+    struct sockaddr_in6 any = { .sin6_family = AF_INET6, .sin6_port = htons(GENERAL_PORT) };
     struct ipv6_mreq join = { .ipv6mr_multiaddr = address->sin6_addr, .ipv6mr_interface = interface };
     if (!is_set(at, IPPROTO_IPV6, IPV6_V6ONLY, &one, sizeof one, what, "IPV6_V6ONLY")) return 0;
     *what = "UDP port 320";
@@ -150,15 +151,56 @@ int open_udp(const char *interface, int is_six, const char **what) {
     return -1;
 }
 
-/* Whether a socket stands at the path, and no program listens at it. */
-static int is_left_over(const struct sockaddr_un *path) {
+int join_again(int at, unsigned interface, int is_six) {
+    struct sockaddr_storage to;
+    group(&to, is_six);
+    if (is_six) {
+        struct ipv6_mreq join = { .ipv6mr_multiaddr = ((struct sockaddr_in6 *)&to)->sin6_addr, .ipv6mr_interface = interface };
+        setsockopt(at, IPPROTO_IPV6, IPV6_DROP_MEMBERSHIP, &join, sizeof join);
+        return setsockopt(at, IPPROTO_IPV6, IPV6_ADD_MEMBERSHIP, &join, sizeof join) == 0;
+    }
+    struct ip_mreqn join = { .imr_multiaddr = ((struct sockaddr_in *)&to)->sin_addr, .imr_ifindex = (int)interface };
+    setsockopt(at, IPPROTO_IP, IP_DROP_MEMBERSHIP, &join, sizeof join);
+    return setsockopt(at, IPPROTO_IP, IP_ADD_MEMBERSHIP, &join, sizeof join) == 0;
+}
+
+/* Removes a socket at the path where no program listens at it. */
+static void remove_unheard(const char *path) {
+    struct sockaddr_un address = { .sun_family = AF_UNIX };
     struct stat found;
-    if (lstat(path->sun_path, &found) || !S_ISSOCK(found.st_mode)) return 0;
+    if (strlen(path) >= sizeof address.sun_path || lstat(path, &found) || !S_ISSOCK(found.st_mode)) return;
+    strcpy(address.sun_path, path);
     int probe = socket(AF_UNIX, SOCK_DGRAM | SOCK_CLOEXEC, 0);
-    if (probe < 0) give_up(path->sun_path);
-    int is_refused = connect(probe, (const struct sockaddr *)path, sizeof *path) && errno == ECONNREFUSED;
+    if (probe < 0) give_up(path);
+    if (connect(probe, (const struct sockaddr *)&address, sizeof address) && errno == ECONNREFUSED) unlink(path);
     close(probe);
-    return is_refused;
+}
+
+/* Whether a name is another with a dot and the number of a process behind it, and there is no such process. */
+static int is_of_gone_process(const char *name, const char *base) {
+    size_t size = strlen(base);
+    if (strncmp(name, base, size) != 0 || name[size] != '.') return 0;
+    long process = decimal(name + size + 1, INT_MAX);
+    return process > 0 && kill((pid_t)process, 0) != 0 && errno == ESRCH;
+}
+
+/* Removes the sockets that programs which are gone left beside the one at a path. */
+static void remove_beside(const char *path) {
+    char folder[PATH_MAX], name[PATH_MAX], beside[2 * PATH_MAX];
+    if (strlen(path) >= PATH_MAX) return;
+    const char *base = basename(strcpy(name, path)), *parent = dirname(strcpy(folder, path));
+    DIR *all = opendir(parent);
+    for (const struct dirent *one; all != NULL && (one = readdir(all)) != NULL;) {
+        if (!is_of_gone_process(one->d_name, base)) continue;
+        snprintf(beside, sizeof beside, "%s/%s", parent, one->d_name);
+        remove_unheard(beside);
+    }
+    if (all != NULL) closedir(all);
+}
+
+void remove_left_over(const char *path) {
+    remove_unheard(path);
+    remove_beside(path);
 }
 
 /* What stands at the path by now may be another program's. */
@@ -168,14 +210,29 @@ static void remove_own(void) {
     unlink(own_path.sun_path);
 }
 
-int open_unix(const char *path) {
+int bind_unix(const char *path, mode_t mode) {
     if (strlen(path) >= sizeof own_path.sun_path) usage();
     strcpy(own_path.sun_path, path);
-    if (is_left_over(&own_path)) unlink(path);
     int at = socket(AF_UNIX, SOCK_DGRAM | SOCK_CLOEXEC, 0);
-    mode_t before = umask(0117);
+    mode_t before = umask(~mode & 0777);
     if (at < 0 || bind(at, (struct sockaddr *)&own_path, sizeof own_path)) give_up(path);
     umask(before);
+    return at;
+}
+
+int open_unix_as(const char *path, mode_t mode) {
+    remove_unheard(path);
+    int at = bind_unix(path, mode);
     if (lstat(path, &own_file) || atexit(remove_own)) give_up(path);
     return at;
+}
+
+int open_unix(const char *path) {
+    char base[sizeof own_path.sun_path];
+    const char *dot = strrchr(path, '.');
+    if (dot != NULL && strlen(path) < sizeof base) {
+        snprintf(base, sizeof base, "%.*s", (int)(dot - path), path);
+        remove_beside(base);
+    }
+    return open_unix_as(path, 0660);
 }

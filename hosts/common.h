@@ -7,6 +7,10 @@
 #include <stddef.h>
 #include <stdint.h>
 #include <sys/socket.h>
+#include <sys/types.h>
+
+/* UDP port of all messages but those of events. */
+enum { GENERAL_PORT = 320 };
 
 /* The program's own: its name, which stands before what it says on standard error. */
 extern const char program[];
@@ -43,8 +47,21 @@ int open_udp(const char *interface, int is_six, const char **what);
 /* The address of that group, and its size. */
 socklen_t group(struct sockaddr_storage *to, int is_six);
 
-/* A Unix socket at a path, with mode 660, in place of one that a program left there and no program listens at. When the
-   program ends it is removed. One a program. */
+/* Joins that group once more at an interface whose memberships may be gone, as where its MTU was too small; whether it is done. */
+int join_again(int at, unsigned interface, int is_six);
+
+/* Removes a socket at a path at which no program listens, and those beside it whose names end in a dot and the number of a process
+   that is gone: ptpm-manage has its own there while it asks. */
+void remove_left_over(const char *path);
+
+/* A Unix socket at a path where nothing stands. */
+int bind_unix(const char *path, mode_t mode);
+
+/* A Unix socket at a path, in place of one that a program left there and no program listens at. When the program ends it is
+   removed. One a program. */
+int open_unix_as(const char *path, mode_t mode);
+
+/* The same with mode 660, at a path that ends in a dot and the number of this process. Those of processes that are gone go. */
 int open_unix(const char *path);
 
 #endif

@@ -2,6 +2,7 @@
    what the library then says must have that value at the place that the standard gives it (IEEE 1588-2019, clauses 13.3, 15.4
    and 15.5). And each constant of an answer must have its name, and ids and errors theirs. Prints what does not hold and `layout: N passed, M
    failed`; its status is 1 where one failed. */
+#include "checking.h"
 #include "ptpm.h"
 #include <stdio.h>
 #include <stdlib.h>
@@ -18,17 +19,6 @@ static struct ptpm_session session;
 static struct ptpm_survey survey;
 static struct ptpm_sent sent[PTPM_MOST_SENT];
 static size_t count;
-static unsigned passed, failed;
-
-static void check(int holds, const char *what) {
-    if (holds) {
-        passed++;
-        return;
-    }
-    failed++;
-    printf("layout: failed: %s\n", what);
-}
-
 /* The octets of a text of two hexadecimal digits each; how many they are. */
 static size_t octets_of(const char *text, uint8_t *octets) {
     size_t size = 0;
@@ -531,6 +521,5 @@ int main(void) {
     ptpm_clock_stop(&clock_held);
     ptpm_session_stop(&session);
     ptpm_survey_stop(&survey);
-    printf("layout: %u passed, %u failed\n", passed, failed);
-    return failed > 0;
+    return told("layout");
 }

@@ -65,10 +65,6 @@ static const struct field fields[] = {
 
 static const char *const without_members[] = { "NULL_PTP_MANAGEMENT", "ENABLE_PORT", "DISABLE_PORT" };
 
-static const struct word states[] = {
-    { 1, "INITIALIZING" }, { 2, "FAULTY" }, { 3, "DISABLED" }, { 4, "LISTENING" }, { 5, "PRE_MASTER" }, { 6, "MASTER" },
-    { 7, "PASSIVE" }, { 8, "UNCALIBRATED" }, { 9, "SLAVE" }, { 0, NULL },
-};
 static const struct word mechanisms[] = { { 1, "E2E" }, { 2, "P2P" }, { 0xfe, "NO_MECHANISM" }, { 0, NULL } };
 static const struct word flags[] = { { 0, "false" }, { 1, "true" }, { 0, NULL } };
 
@@ -121,6 +117,12 @@ static void print_interval(FILE *to, int64_t interval) {
     } while (fraction != 0);
 }
 
+static void print_state(FILE *to, uint8_t state) {
+    const char *name = state_name(state);
+    if (name != NULL) fputs(name, to);
+    else fprintf(to, "%u", state);
+}
+
 /* The number's word, or the number where it has none. */
 static void print_word(FILE *to, const struct word *words, uint8_t number) {
     while (words->text != NULL && words->number != number) words++;
@@ -148,7 +150,7 @@ static void print_member(FILE *to, const struct member *member, const uint8_t *o
         print_identity(to, at);
         fprintf(to, "/%llu", (unsigned long long)number_at(at + 8, 2));
         break;
-    case STATE: print_word(to, states, *at); break;
+    case STATE: print_state(to, *at); break;
     case MECHANISM: print_word(to, mechanisms, *at); break;
     case TEXT: print_text(to, at + 1, *at); break;
     }

@@ -31,3 +31,10 @@ const char *answer_name(uint32_t answer) {
     name[ptpm_answer_name(answer, name, PTPM_MOST_NAME)] = '\0';
     return *name != '\0' ? name : "an answer without a name";
 }
+
+const char *state_name(uint8_t state) {
+    static const char *const states[] = {
+        "INITIALIZING", "FAULTY", "DISABLED", "LISTENING", "PRE_MASTER", "MASTER", "PASSIVE", "UNCALIBRATED", "SLAVE",
+    };
+    return state >= 1 && state <= sizeof states / sizeof *states ? states[state - 1] : NULL;
+}

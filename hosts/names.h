@@ -1,5 +1,5 @@
-/* Names for numbers, and numbers for names, all of them the library's. A name that was given stands until the next call of its
-   function. */
+/* Names for numbers, and numbers for names: the library's, and those of the states of a port. A name that was given stands until
+   the next call of its function. */
 #ifndef NAMES_H
 #define NAMES_H
 
@@ -17,5 +17,8 @@ const char *error_name(uint16_t error);
 
 /* The name of why the library starts or begins nothing: that of the constant in ptpm.h, without PTPM_. */
 const char *answer_name(uint32_t answer);
+
+/* The name of a portState (8.2.15.3.1); NULL where the standard has none. */
+const char *state_name(uint8_t state);
 
 #endif

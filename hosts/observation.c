@@ -1,6 +1,7 @@
 #define _GNU_SOURCE
 #include "observation.h"
 #include "identity.h"
+#include "output.h"
 #include <errno.h>
 #include <stdarg.h>
 #include <stdio.h>
@@ -171,11 +172,11 @@ int read_observation(struct observation *observation, const char *name, char *te
     for (char *line; (line = strsep(&text, "\n")) != NULL;) {
         number++;
         if (take_line(observation, line)) continue;
-        fprintf(stderr, "ptpm-clock: %s: line %d: %s\n", name, number, why);
+        say_at_times("%s: line %d: %s", name, number, why);
         is_right = 0;
     }
     if (is_right && !has_whole_grandmaster(observation)) {
-        fprintf(stderr, "ptpm-clock: %s: %s\n", name, why);
+        say_at_times("%s: %s", name, why);
         is_right = 0;
     }
     return is_right;

@@ -1,45 +1,82 @@
 #define _GNU_SOURCE
 #include "source.h"
 #include "common.h"
+#include "output.h"
 #include <errno.h>
 #include <fcntl.h>
 #include <libgen.h>
 #include <limits.h>
-#include <stdio.h>
 #include <stdlib.h>
 #include <string.h>
 #include <sys/inotify.h>
 #include <sys/stat.h>
+#include <time.h>
 #include <unistd.h>
 
 enum { MOST_TEXT = 65536 };
 
-/* What has come in, and how much of it was the latest text; whether its end has come; whether its head was let go. */
+/* What has come in and is not taken yet: `size` octets from `first` on. How much of it has no empty line, and how much was the
+   latest text; whether its end has come; whether its head was let go. */
 static char held[MOST_TEXT + 1];
-static size_t size, taken;
+static size_t first, size, searched, taken;
 static int is_ended, is_too_long;
 
 static int at, is_pipe, is_first = 1;
-static const char *path, *base;
+static const char *path;
 
-static void complain(const char *what) { fprintf(stderr, "ptpm-clock: %s: %s\n", path, what); }
+/* A folder whose changes are polled, and the name in it that counts: that of the path, or of the file to which links lead. */
+struct watch { char folder[PATH_MAX], name[PATH_MAX]; int number; };
 
-/* What is polled for a file are the changes of its folder. */
-static void watch_folder(void) {
-    static char folder[PATH_MAX], name[PATH_MAX];
-    if (strlen(path) >= sizeof folder) usage();
-    strcpy(folder, path);
-    strcpy(name, path);
-    base = basename(name);
-    at = inotify_init1(IN_NONBLOCK | IN_CLOEXEC);
-    if (at < 0 || inotify_add_watch(at, dirname(folder), IN_CLOSE_WRITE | IN_MOVED_TO) < 0) give_up(path);
+static struct watch of_path = { .number = -1 }, of_target = { .number = -1 };
+static dev_t device_read;
+static ino_t file_read;         /* what was read last */
+
+static void complain(const char *what) { say_at_times("%s: %s", path, what); }
+
+/* Who owns a name in a folder, or the folder, may let the path lead anywhere: what stands in another's file is read for nobody but
+   those who may read it. */
+static int may_choose(const struct stat *owned, const struct stat *file) {
+    return owned->st_uid == 0 || owned->st_uid == geteuid() || owned->st_uid == file->st_uid;
+}
+
+static int is_readable(int file, struct stat *found) {
+    char folder[PATH_MAX];
+    struct stat name, parent;
+    if (strlen(path) >= sizeof folder || fstat(file, found) || lstat(path, &name)) return 0;
+    if (stat(dirname(strcpy(folder, path)), &parent)) return 0;
+    return (found->st_mode & S_IROTH) != 0 || (may_choose(&name, found) && may_choose(&parent, found));
+}
+
+static int open_file(struct stat *found) {
+    int file = open(path, O_RDONLY | O_NONBLOCK | O_CLOEXEC);
+    if (file < 0 || is_readable(file, found)) return file;
+    close(file);
+    errno = EACCES;
+    return -1;
+}
+
+/* What is watched of a folder is the same as before, or the folder that has its name by now. */
+static void watch_folder(struct watch *watch, const char *whole) {
+    if (strlen(whole) >= sizeof watch->folder) return;
+    strcpy(watch->name, whole);
+    strcpy(watch->name, basename(watch->name));
+    strcpy(watch->folder, whole);
+    int number = inotify_add_watch(at, dirname(watch->folder), IN_CLOSE_WRITE | IN_MOVED_TO);
+    if (watch->number >= 0 && number != watch->number) inotify_rm_watch(at, watch->number);
+    watch->number = number;
+}
+
+static void watch_folders(void) {
+    char target[PATH_MAX];
+    watch_folder(&of_path, path);
+    if (realpath(path, target) != NULL) watch_folder(&of_target, target);
 }
 
 int open_source(const char *name) {
     struct stat found;
     path = name;
-    at = open(path, O_RDONLY | O_NONBLOCK | O_CLOEXEC);
-    if (at < 0 || fstat(at, &found)) give_up(path);
+    at = open_file(&found);
+    if (at < 0) give_up(path);
     is_pipe = S_ISFIFO(found.st_mode);
     if (is_pipe) return at;
     close(at);
@@ -47,42 +84,69 @@ int open_source(const char *name) {
         complain("it is neither a file nor a pipe");
         exit(2);
     }
-    watch_folder();
+    at = inotify_init1(IN_NONBLOCK | IN_CLOEXEC);
+    if (at >= 0) watch_folders();
+    if (at < 0 || of_path.number < 0) give_up(path);
     return at;
 }
 
-/* Whether the file may have changed since it was read. */
-static int has_changed(void) {
+static int is_of(const struct watch *watch, const struct inotify_event *event) {
+    return event->wd == watch->number && event->len > 0 && strcmp(event->name, watch->name) == 0;
+}
+
+/* Whether a program that wrote to the file has closed it, or another was moved there. */
+static int is_written(void) {
     _Alignas(struct inotify_event) char events[4096];
-    int changed = is_first;
+    int written = is_first;
     is_first = 0;
     for (ssize_t count; (count = read(at, events, sizeof events)) > 0;) {
         for (char *next = events; next < events + count;) {
             const struct inotify_event *event = (const void *)next;
-            changed |= (event->mask & IN_Q_OVERFLOW) != 0 || (event->len > 0 && strcmp(event->name, base) == 0);
+            written |= (event->mask & IN_Q_OVERFLOW) != 0 || is_of(&of_path, event) || is_of(&of_target, event);
             next += sizeof *event + event->len;
         }
     }
-    return changed;
+    return written;
+}
+
+/* Whether another file stands at the path than the one that was read last, and has been left alone for a second. */
+static int is_other(void) {
+    struct stat found;
+    struct timespec now;
+    clock_gettime(CLOCK_REALTIME, &now);
+    return stat(path, &found) == 0 && S_ISREG(found.st_mode) && (found.st_dev != device_read || found.st_ino != file_read)
+           && labs(now.tv_sec - found.st_mtim.tv_sec) > 1;
+}
+
+int source_has_moved(void) {
+    if (is_pipe) return 0;
+    watch_folders();
+    return is_other();
 }
 
 static void read_file(void) {
-    int file = open(path, O_RDONLY | O_NONBLOCK | O_CLOEXEC);
+    struct stat found;
+    int file = open_file(&found);
     ssize_t count = -1;
-    size = taken = 0;
+    first = size = searched = taken = 0;
     while (file >= 0 && (count = read(file, held + size, MOST_TEXT - size)) > 0) size += (size_t)count;
     if (count < 0) complain(strerror(errno));
     else if (size == MOST_TEXT) complain("it has over 65,535 octets");
     is_ended = count >= 0 && size < MOST_TEXT;
     if (!is_ended) size = 0;
+    if (file >= 0 || stat(path, &found) == 0) {
+        device_read = found.st_dev;
+        file_read = found.st_ino;
+    }
     if (file >= 0) close(file);
+    watch_folders();
 }
 
 /* Where another thing, or nothing, stands at the path by now, there is nothing to poll any more. */
 static void open_again(void) {
     struct stat found;
-    int again = open(path, O_RDONLY | O_NONBLOCK | O_CLOEXEC);
-    int is_there = again >= 0 && fstat(again, &found) == 0 && S_ISFIFO(found.st_mode);
+    int again = open_file(&found);
+    int is_there = again >= 0 && S_ISFIFO(found.st_mode);
     if (!is_there) complain("the pipe is gone, and nothing more is observed");
     if (!is_there && again >= 0) close(again);
     close(at);
@@ -91,6 +155,8 @@ static void open_again(void) {
 
 /* The pipe is opened anew for the next program that writes to it, and is never without a reader. */
 static void read_pipe(void) {
+    memmove(held, held + first, size);
+    first = 0;
     ssize_t count = read(at, held + size, MOST_TEXT - size);
     if (count > 0) size += (size_t)count;
     if (count != 0) return;
@@ -99,45 +165,62 @@ static void read_pipe(void) {
 }
 
 int read_source(void) {
+    size_t before = is_pipe ? size : 0;
     if (is_pipe) read_pipe();
-    else if (has_changed()) read_file();
-    for (size_t k = 0; k < size; k++) {
+    else if (is_written() || is_other()) read_file();
+    for (size_t k = before; k < size; k++) {
         if (held[k] == '\0') held[k] = 1;       /* which is no text either */
     }
     return at;
 }
 
+/* Empty lines at the head, which are let go together. */
+static size_t blank_lines(void) {
+    size_t count = 0;
+    while (count < size && held[first + count] == '\n') count++;
+    return count;
+}
+
 /* How much of what is held is the next text: up to an empty line, of a pipe, or to the end. */
 static size_t size_of_text(void) {
-    const char *end = is_pipe ? memmem(held, size, "\n\n", 2) : NULL;
-    if (is_pipe && size > 0 && held[0] == '\n') return 1;
-    if (end != NULL) return (size_t)(end - held) + 2;
+    size_t behind = searched > 0 ? searched - 1 : 0;
+    const char *next = held + first;
+    if (is_pipe && size > 0 && *next == '\n') return blank_lines();
+    const char *end = is_pipe ? memmem(next + behind, size - behind, "\n\n", 2) : NULL;
+    if (end != NULL) return (size_t)(end - next) + 2;
+    searched = size;
     return is_ended ? size : 0;
 }
 
-/* Whether the text that was found is the rest of one that is too long, or an empty line. */
+/* Whether the text that was found is the rest of one that is too long, or empty lines. */
 static int is_let_go(void) {
     int is_rest = is_too_long;
     is_too_long = 0;
-    return is_rest || (taken == 1 && *held == '\n');
+    return is_rest || (is_pipe && held[first] == '\n');
 }
 
 /* More of it than there is room for, and no end. */
 static void let_go_all(void) {
     complain("what came in at once has over 65,535 octets");
-    size = 0;
+    size = searched = 0;
     is_too_long = 1;
+}
+
+/* Lets go of the latest text. */
+static void go_behind(void) {
+    first += taken;
+    size -= taken;
+    if (taken > 0) searched = 0;
 }
 
 int next_text(char **text) {
     do {
-        size -= taken;
-        memmove(held, held + taken, size);
+        go_behind();
         taken = size_of_text();
     } while (taken > 0 && is_let_go());
     if (taken > 0) {
-        held[taken < size ? taken - 1 : taken] = '\0';      /* in place of an empty line, or behind all */
-        *text = held;
+        held[first + (taken < size ? taken - 1 : taken)] = '\0';      /* in place of an empty line, or behind all */
+        *text = held + first;
         return 1;
     }
     if (is_ended) is_ended = is_too_long = 0;

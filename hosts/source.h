@@ -5,6 +5,9 @@
 /* Opens it, and answers what is to be polled. Ends the program with status 2 where there is no such file. */
 int open_source(const char *path);
 
+/* Whether it is to be read although nothing was polled: a folder that was made anew, or a link, leads to another file by now. */
+int source_has_moved(void);
+
 /* Reads what has come in by now, without waiting, and answers what is to be polled from now on: -1 where a pipe was removed, and
    the last program that wrote to it has closed it. */
 int read_source(void);

@@ -11,12 +11,23 @@ _ptpm_takes() { [[ $2 = -* ]] && "$1" --help 2>&1 < /dev/null | grep -qE -- "(^|
 
 _ptpm_ids() { ptpm ids 2> /dev/null | cut -d ' ' -f 2; }
 
-# Offers those of the words that begin as the word at the cursor does, or as it does in capitals.
+# Offers those of the words given that begin as the word at the cursor does, or as it does in capitals. They are compared as they
+# are, and not expanded: an interface may have any name.
 _ptpm_offer() {
-    local word=${COMP_WORDS[COMP_CWORD]}
-    mapfile -t COMPREPLY < <(compgen -W "$1" -- "$word")
-    [[ ${#COMPREPLY[@]} -gt 0 ]] || mapfile -t COMPREPLY < <(compgen -W "$1" -- "${word^^}")
+    local word=${COMP_WORDS[COMP_CWORD]} one
+    COMPREPLY=()
+    for one; do [[ $one != "$word"* ]] || COMPREPLY+=("$one"); done
+    [[ ${#COMPREPLY[@]} -gt 0 ]] || for one; do [[ $one != "${word^^}"* ]] || COMPREPLY+=("$one"); done
 }
+
+# The lines of its standard input as words of _ptpm_offer.
+_ptpm_offer_lines() {
+    local -a lines
+    mapfile -t lines
+    _ptpm_offer "${lines[@]}"
+}
+
+_ptpm_offer_interfaces() { _ptpm_offer_lines < <(cd /sys/class/net && printf '%s\n' *); }
 
 # Of the words before the cursor the last that is one of those given.
 _ptpm_last() {
@@ -27,31 +38,33 @@ _ptpm_last() {
 }
 
 _ptpm() {
-    local before=${COMP_WORDS[COMP_CWORD - 1]} commands="answer show ids make run check schedule draw" command
-    command=$(_ptpm_last "$commands")
+    local before=${COMP_WORDS[COMP_CWORD - 1]} command
+    local -a commands=(answer show ids make run check schedule draw)
+    command=$(_ptpm_last "${commands[*]}")
     case $command,$before,${COMP_WORDS[COMP_CWORD]} in
-    ,*) _ptpm_offer "$commands --help --version" ;;
-    *,*,-*) _ptpm_offer "$(_ptpm_options ptpm "$command")" ;;
-    make,make,*) _ptpm_offer "get set command" ;;
-    make,get,* | make,set,* | make,command,*) _ptpm_offer "$(_ptpm_ids)" ;;
+    ,*) _ptpm_offer "${commands[@]}" --help --version ;;
+    *,*,-*) _ptpm_offer_lines < <(_ptpm_options ptpm "$command") ;;
+    make,make,*) _ptpm_offer get set command ;;
+    make,get,* | make,set,* | make,command,*) _ptpm_offer_lines < <(_ptpm_ids) ;;
     esac
 }
 
 _ptpm_manage() {
-    local before=${COMP_WORDS[COMP_CWORD - 1]} actions="get set command survey"
+    local before=${COMP_WORDS[COMP_CWORD - 1]}
+    local -a actions=(get set command survey)
     case $before,${COMP_WORDS[COMP_CWORD]} in
-    *,-*) _ptpm_offer "$(_ptpm_options ptpm-manage)" ;;
-    get,* | set,* | command,* | survey,*) _ptpm_offer "$(_ptpm_ids)" ;;
-    -i,* | --interface,*) _ptpm_offer "$(cd /sys/class/net && echo *)" ;;
-    *) _ptpm_takes ptpm-manage "$before" || [[ -n $(_ptpm_last "$actions") ]] || _ptpm_offer "$actions" ;;
+    *,-*) _ptpm_offer_lines < <(_ptpm_options ptpm-manage) ;;
+    get,* | set,* | command,* | survey,*) _ptpm_offer_lines < <(_ptpm_ids) ;;
+    -i,* | --interface,*) _ptpm_offer_interfaces ;;
+    *) _ptpm_takes ptpm-manage "$before" || [[ -n $(_ptpm_last "${actions[*]}") ]] || _ptpm_offer "${actions[@]}" ;;
     esac
 }
 
 # What is no option is an interface, but for the first, the clock's identity.
 _ptpm_clock() {
     case ${COMP_WORDS[COMP_CWORD]} in
-    -*) _ptpm_offer "$(_ptpm_options ptpm-clock)" ;;
-    *) _ptpm_takes ptpm-clock "${COMP_WORDS[COMP_CWORD - 1]}" || _ptpm_offer "$(cd /sys/class/net && echo *)" ;;
+    -*) _ptpm_offer_lines < <(_ptpm_options ptpm-clock) ;;
+    *) _ptpm_takes ptpm-clock "${COMP_WORDS[COMP_CWORD - 1]}" || _ptpm_offer_interfaces ;;
     esac
 }
 

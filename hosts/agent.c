@@ -1,0 +1,136 @@
+#define _GNU_SOURCE
+#include "agent.h"
+#include "counts.h"
+#include "identity.h"
+#include "names.h"
+#include "observation.h"
+#include "output.h"
+#include "peers.h"
+#include <stdio.h>
+#include <stdlib.h>
+#include <string.h>
+
+static struct ptpm_clock clock_held;
+static const struct options *options;
+
+/* A clock that is heard at its Unix socket alone has a port too. */
+static size_t clock_ports(void) { return port_count > 0 ? port_count : 1; }
+
+void start_clock(const struct options *given) {
+    struct ptpm_port_settings settings[PORTS];
+    size_t count = clock_ports();
+    options = given;
+    for (size_t i = 0; i < count; i++) ptpm_port_defaults(&settings[i]);
+    uint32_t answer = ptpm_clock_start(&clock_held, &options->settings, settings, count, options->managers, options->manager_count);
+    if (answer == PTPM_STARTED) return;
+    say("it does not start: %s", answer_name(answer));
+    exit(1);
+}
+
+/* The portState that a GET of PORT_DATA_SET tells. */
+static const char *state_of(size_t port) {
+    enum { PORT_DATA_SET = 0x2004, PORT_STATE = 10 };
+    uint8_t octets[PTPM_MOST_READ];
+    size_t size;
+    if (ptpm_clock_read(&clock_held, PORT_DATA_SET, (uint16_t)port, octets, sizeof octets, &size) != PTPM_READ) return "?";
+    const char *name = state_name(octets[PORT_STATE]);
+    return name != NULL ? name : "?";
+}
+
+/* Who it is and where it is heard, once it is. */
+void say_started(void) {
+    char identity[IDENTITY_TEXT], text[2048];
+    write_identity(identity, options->settings.identity);
+    size_t size = (size_t)snprintf(text, sizeof text, "%s in domain %u:", identity, options->settings.domain);
+    for (size_t i = 0; i < clock_ports(); i++) {
+        const char *where = port_count > 0 ? ports[i].name : options->meeting.path;
+        size += (size_t)snprintf(text + size, sizeof text - size, " port %zu at %.128s %s,", i + 1, where, state_of(i + 1));
+    }
+    say("%s %zu manager%s", text, options->manager_count, options->manager_count == 1 ? "" : "s");
+}
+
+/* Members by their names, which the answers have that refuse their values, behind BAD_. */
+static void tell_changed(const char *where, uint32_t first, uint32_t members) {
+    char line[1024];
+    int size = snprintf(line, sizeof line, "%s", where);
+    for (uint32_t i = 0; i < 32; i++) {
+        if ((members >> i & 1) == 0) continue;
+        size += snprintf(line + size, sizeof line - (size_t)size, " %s", answer_name(first + i) + strlen("BAD_"));
+    }
+    print_line("%s", line);
+}
+
+static void tell_turn(uint16_t ingress, const struct heard *heard, uint32_t answer, size_t out, size_t count) {
+    print_line("port %u, %zu octets: %u %s, %zu of %zu sent", ingress, heard->whole, answer, answer_name(answer), out, count);
+}
+
+static void tell_all_changed(const struct ptpm_changed *changed) {
+    if (changed->clock != 0) tell_changed("changed:", PTPM_BAD_IDENTITY, changed->clock);
+    for (size_t i = 0; i < clock_ports(); i++) {
+        char where[32];
+        snprintf(where, sizeof where, "changed at port %zu:", i + 1);
+        if (changed->ports[i] != 0) tell_changed(where, PTPM_BAD_STATE, changed->ports[i]);
+    }
+}
+
+/* A message to who asked at the Unix socket goes back there, and any other goes out with the round; how many were not taken. */
+static unsigned long send_out(const struct ptpm_sent *message, const struct heard *heard, const struct port *port,
+                              uint16_t ingress) {
+    if (message->port != ingress) send_later(message, NULL);
+    else if (port == NULL) return !answer_peer(message, heard);
+    else send_later(message, heard->is_unicast ? heard : NULL);
+    return 0;
+}
+
+/* What becomes of a datagram; port is NULL at the Unix socket. */
+static void take_turn(struct heard *heard, const struct port *port) {
+    const struct ptpm_sent *kept[PTPM_MOST_SENT];
+    struct ptpm_changed changed;
+    size_t room, count;
+    uint16_t ingress = port == NULL ? 1 : (uint16_t)(port - ports + 1);
+    if (port != NULL && !is_heard(heard, port)) return;
+    lower_hops(heard);
+    struct ptpm_sent *places = places_to_send(&room);
+    uint32_t answer = ptpm_clock_handle_changed(&clock_held, ingress, heard->octets, heard->size, places, room, &count, &changed);
+    count_answer(answer);
+    size_t left = keep_back(heard, port, ingress, answer, places, count, kept);
+    unsigned long lost = 0;
+    for (size_t i = 0; i < left; i++) lost += send_out(kept[i], heard, port, ingress);
+    use_places(count);
+    if (options->is_told) {
+        lost += send_round();
+        tell_turn(ingress, heard, answer, left - lost, count);
+        tell_all_changed(&changed);
+    }
+    count_dropped(lost);
+}
+
+void take_round(const struct port *port, int at) {
+    static struct heard heard[ROUND];
+    size_t count = hear_round(port, at, heard);
+    for (size_t i = 0; i < count; i++) take_turn(&heard[i], port);
+    count_dropped(send_round());
+}
+
+static void tell_left(uint8_t left) {
+    for (int i = 0; i < OBSERVED_PORTS; i++) {
+        if (left >> i & 1) say_at_times("%s: port %d stays DISABLED", options->source, i + 1);
+    }
+}
+
+/* The clock observes what a text tells, all of it or nothing. */
+void observe(char *text) {
+    struct observation observation;
+    uint8_t left = 0;
+    if (!read_observation(&observation, options->source, text)) {
+        count_observation(0);
+        return;
+    }
+    uint32_t answer = ptpm_clock_observe(&clock_held, &observation.clock, observation.ports, observation.port_count, &left);
+    count_observation(answer == PTPM_OBSERVED);
+    if (answer != PTPM_OBSERVED) say_at_times("%s: nothing is observed: %s", options->source, answer_name(answer));
+    else if (options->is_told) print_line("observed");
+    tell_left(left);
+}
+
+void stop_clock(void) { ptpm_clock_stop(&clock_held); }

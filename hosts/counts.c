@@ -1,0 +1,38 @@
+#define _GNU_SOURCE
+#include "counts.h"
+#include "limits.h"
+#include "output.h"
+
+enum { ANSWERS = 128 };
+
+static unsigned long answers[ANSWERS], dropped, observed, not_observed;
+
+void count_answer(uint32_t answer) {
+    if (answer < ANSWERS) answers[answer]++;
+}
+
+void count_dropped(unsigned long messages) { dropped += messages; }
+
+void count_observation(int is_observed) {
+    if (is_observed) observed++;
+    else not_observed++;
+}
+
+static void print_count(const char *what, unsigned long count) {
+    if (count > 0) print_line("%s: %lu", what, count);
+}
+
+void print_counts(void) {
+    const struct kept_back *kept_back = told_kept_back();
+    for (int i = 0; i < ANSWERS; i++) {
+        if (answers[i] > 0) print_line("answer %d: %lu", i, answers[i]);
+    }
+    print_count("dropped", dropped);
+    print_count("not on the link", kept_back->strangers);
+    print_count("not passed on again", kept_back->again);
+    print_count("not passed on over the rate", kept_back->over_rate);
+    print_count("not answered over the rate", kept_back->unanswered);
+    print_count("observed", observed);
+    print_count("not observed", not_observed);
+    print_count("lines not printed", lines_lost());
+}

@@ -1,0 +1,17 @@
+/* What ptpm-clock counts from its start on, and prints at its end and when it is asked. */
+#ifndef COUNTS_H
+#define COUNTS_H
+
+#include <stdint.h>
+
+void count_answer(uint32_t answer);
+
+/* Messages that no socket took. */
+void count_dropped(unsigned long messages);
+
+void count_observation(int is_observed);
+
+/* A line for each count that is not 0. */
+void print_counts(void);
+
+#endif

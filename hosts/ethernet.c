@@ -1,0 +1,91 @@
+#define _GNU_SOURCE
+#include "ethernet.h"
+#include <arpa/inet.h>
+#include <errno.h>
+#include <linux/filter.h>
+#include <linux/if_packet.h>
+#include <net/if.h>
+#include <string.h>
+#include <sys/ioctl.h>
+#include <sys/socket.h>
+#include <unistd.h>
+
+enum { PTP = 0x88f7, TAG = 0x8100, SERVICE_TAG = 0x88a8, TAG_SIZE = 4, TYPE = 12, MANAGEMENT = 0xd };
+
+static const uint8_t group_station[STATION] = { 0x01, 0x1b, 0x19, 0x00, 0x00, 0x00 };
+
+/* Of frames with this Ethertype, behind one tag or none, those whose messageType is 0xD. */
+static const struct sock_filter wanted[] = {
+    BPF_STMT(BPF_LD | BPF_H | BPF_ABS, TYPE),
+    BPF_JUMP(BPF_JMP | BPF_JEQ | BPF_K, PTP, 6, 0),
+    BPF_JUMP(BPF_JMP | BPF_JEQ | BPF_K, TAG, 1, 0),
+    BPF_JUMP(BPF_JMP | BPF_JEQ | BPF_K, SERVICE_TAG, 0, 7),
+    BPF_STMT(BPF_LD | BPF_H | BPF_ABS, TYPE + TAG_SIZE),
+    BPF_JUMP(BPF_JMP | BPF_JEQ | BPF_K, PTP, 0, 5),
+    BPF_STMT(BPF_LD | BPF_B | BPF_ABS, ETHERNET_HEAD + TAG_SIZE),
+    BPF_JUMP(BPF_JMP | BPF_JA, 1, 0, 0),
+    BPF_STMT(BPF_LD | BPF_B | BPF_ABS, ETHERNET_HEAD),
+    BPF_STMT(BPF_ALU | BPF_AND | BPF_K, 0x0f),
+    BPF_JUMP(BPF_JMP | BPF_JEQ | BPF_K, MANAGEMENT, 1, 0),
+    BPF_STMT(BPF_RET | BPF_K, 0),
+    BPF_STMT(BPF_RET | BPF_K, 65535),
+};
+
+static int is_set(int at, int level, int option, const void *value, size_t size, const char **what, const char *name) {
+    *what = name;
+    return setsockopt(at, level, option, value, (socklen_t)size) == 0;
+}
+
+static int has_station(int at, unsigned index, uint8_t own[STATION]) {
+    struct ifreq request = { 0 };
+    if (if_indextoname(index, request.ifr_name) == NULL || ioctl(at, SIOCGIFHWADDR, &request)) return 0;
+    memcpy(own, request.ifr_hwaddr.sa_data, STATION);
+    return 1;
+}
+
+/* The socket hears nothing until it is bound, and by then it has its filter. */
+static int is_opened(int at, const char *interface, uint8_t own[STATION], const char **what) {
+    int one = 1;
+    unsigned index = if_nametoindex(interface);
+    struct sock_fprog filter = { .len = sizeof wanted / sizeof *wanted, .filter = (struct sock_filter *)wanted };
+    struct sockaddr_ll place = { .sll_family = AF_PACKET, .sll_protocol = htons(PTP), .sll_ifindex = (int)index };
+    struct packet_mreq join = { .mr_ifindex = (int)index, .mr_type = PACKET_MR_MULTICAST, .mr_alen = STATION };
+    memcpy(join.mr_address, group_station, STATION);
+    *what = interface;
+    if (index == 0 || !has_station(at, index, own)
+        || !is_set(at, SOL_SOCKET, SO_ATTACH_FILTER, &filter, sizeof filter, what, "SO_ATTACH_FILTER")
+        || !is_set(at, SOL_PACKET, PACKET_IGNORE_OUTGOING, &one, sizeof one, what, "PACKET_IGNORE_OUTGOING")
+        || !is_set(at, SOL_PACKET, PACKET_ADD_MEMBERSHIP, &join, sizeof join, what, "PACKET_ADD_MEMBERSHIP")) return 0;
+    *what = "Ethertype 0x88F7";
+    return bind(at, (struct sockaddr *)&place, sizeof place) == 0;
+}
+
+int open_ethernet(const char *interface, uint8_t own[STATION], const char **what) {
+    *what = "a socket of Ethernet";
+    int at = socket(AF_PACKET, SOCK_RAW | SOCK_CLOEXEC, 0);
+    if (at < 0 || is_opened(at, interface, own, what)) return at;
+    int failure = errno;
+    close(at);
+    errno = failure;
+    return -1;
+}
+
+static unsigned type_at(const uint8_t *frame, size_t place) { return (unsigned)frame[place] << 8 | frame[place + 1]; }
+
+int is_to_station(const uint8_t *frame, const uint8_t own[STATION]) { return memcmp(frame, own, STATION) == 0; }
+
+const uint8_t *station_of(const uint8_t *frame) { return frame + STATION; }
+
+size_t message_in(const uint8_t *frame, size_t size, const uint8_t own[STATION]) {
+    size_t place = TYPE;
+    if (size < ETHERNET_HEAD || (!is_to_station(frame, own) && memcmp(frame, group_station, STATION) != 0)) return 0;
+    while (place + 2 + TAG_SIZE <= size && (type_at(frame, place) == TAG || type_at(frame, place) == SERVICE_TAG)) place += TAG_SIZE;
+    return type_at(frame, place) == PTP ? place + 2 : 0;
+}
+
+void write_head(uint8_t head[ETHERNET_HEAD], const uint8_t *to, const uint8_t own[STATION]) {
+    memcpy(head, to != NULL ? to : group_station, STATION);
+    memcpy(head + STATION, own, STATION);
+    head[TYPE] = PTP >> 8;
+    head[TYPE + 1] = PTP & 0xff;
+}

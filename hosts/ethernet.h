@@ -1,0 +1,29 @@
+/* Management messages in frames of Ethernet (IEEE 1588-2019, annex E): Ethertype 0x88F7, to the group 01-1B-19-00-00-00. */
+#ifndef ETHERNET_H
+#define ETHERNET_H
+
+#include <stddef.h>
+#include <stdint.h>
+
+/* What stands before the message in a frame that is sent, and how many octets such a frame has at least. */
+enum { STATION = 6, ETHERNET_HEAD = 14, ETHERNET_LEAST = 60 };
+
+/* A socket of an interface, at which frames with management messages alone come in, of the group and of the interface's own
+   address. It hears nothing of what this host sends. own gets the interface's address. -1 where it can't be made: errno says why,
+   and *what at which step. */
+int open_ethernet(const char *interface, uint8_t own[STATION], const char **what);
+
+/* Where the message begins in a frame, behind the tags of a VLAN; 0 where the frame has none for the group or this address. The
+   frame may be padded behind the message. */
+size_t message_in(const uint8_t *frame, size_t size, const uint8_t own[STATION]);
+
+/* Whether a frame is to this address alone. */
+int is_to_station(const uint8_t *frame, const uint8_t own[STATION]);
+
+/* Who sent a frame. */
+const uint8_t *station_of(const uint8_t *frame);
+
+/* Writes the head of a frame to a station, or to the group where there is none. */
+void write_head(uint8_t head[ETHERNET_HEAD], const uint8_t *to, const uint8_t own[STATION]);
+
+#endif

@@ -1,0 +1,78 @@
+/* flood INTERFACE IDENTITY RATE SECONDS
+   For trials: asks a clock for PRIORITY1 so many times a second, over UDP and IPv4, one GET after another at even times, and prints
+   how many were answered, and in how many microseconds the middle one and 99 of a hundred were. */
+#define _GNU_SOURCE
+#include "common.h"
+#include "identity.h"
+#include <stdio.h>
+#include <stdlib.h>
+#include <string.h>
+#include <time.h>
+
+enum { NUMBERS = 65536, MESSAGE = 54, TARGET = 34, NUMBER = 30, MOST_TIME = 1000000 };
+
+const char program[] = "flood";
+
+/* A GET of PRIORITY1 by 0a0b0c0d0e0f1011/1 to every port (IEEE 1588-2019, 13.3 and 15.4). */
+static uint8_t request[MESSAGE] = {
+    0x0d, 0x02, 0, MESSAGE, [20] = 0x0a, 0x0b, 0x0c, 0x0d, 0x0e, 0x0f, 0x10, 0x11, 0, 1, [32] = 4, 0x7f,
+    [42] = 0xff, 0xff, 1, 1, 0, 0, 0, 1, 0, 2, 0x20, 0x05,
+};
+static long sent_at[NUMBERS];                   /* nanoseconds; 0: answered, or not asked */
+static unsigned long answered, times[MOST_TIME + 1];         /* how many answers took so many microseconds */
+
+_Noreturn void usage(void) {
+    fputs("flood INTERFACE IDENTITY RATE SECONDS\n", stderr);
+    exit(2);
+}
+
+static long nanoseconds(void) {
+    struct timespec now;
+    clock_gettime(CLOCK_MONOTONIC, &now);
+    return now.tv_sec * 1000000000 + now.tv_nsec;
+}
+
+static void take_answer(int at) {
+    uint8_t octets[2048];
+    ssize_t size = recv(at, octets, sizeof octets, MSG_DONTWAIT);
+    if (size < MESSAGE || memcmp(octets + 20, request + TARGET, 8) != 0) return;
+    long *asked = &sent_at[octets[NUMBER] << 8 | octets[NUMBER + 1]];
+    if (*asked == 0) return;
+    long took = (nanoseconds() - *asked) / 1000;
+    times[took < MOST_TIME ? took : MOST_TIME]++;
+    answered++;
+    *asked = 0;
+}
+
+/* In how many microseconds so many of a hundred were answered. */
+static long part(unsigned long percent) {
+    unsigned long count = 0;
+    long time = 0;
+    while (time < MOST_TIME && (count += times[time]) * 100 < answered * percent) time++;
+    return time;
+}
+
+int main(int argc, char **argv) {
+    const char *what;
+    struct sockaddr_storage to;
+    if (argc != 5 || identity_at(argv[2], request + TARGET) == NULL) usage();
+    long rate = decimal(argv[3], 1000000), seconds = decimal(argv[4], 1000), sent = 0;
+    if (rate < 1 || seconds < 1) usage();
+    int at = open_udp(argv[1], 0, &what), room = 1 << 24;
+    if (at < 0) give_up(what);
+    setsockopt(at, SOL_SOCKET, SO_RCVBUFFORCE, &room, sizeof room);
+    socklen_t size = group(&to, 0);
+    long begin = nanoseconds(), end = begin + seconds * 1000000000;
+    for (long now; (now = nanoseconds()) < end + 200000000;) {
+        if (now < end && now >= begin + sent * 1000000000 / rate) {
+            uint16_t number = (uint16_t)sent++;
+            request[NUMBER] = (uint8_t)(number >> 8);
+            request[NUMBER + 1] = (uint8_t)number;
+            sent_at[number] = now;
+            sendto(at, request, sizeof request, 0, (struct sockaddr *)&to, size);
+        }
+        take_answer(at);
+    }
+    printf("sent %ld answered %lu median %ld p99 %ld\n", sent, answered, part(50), part(99));
+    return 0;
+}

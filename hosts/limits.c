@@ -1,0 +1,81 @@
+#define _GNU_SOURCE
+#include "limits.h"
+#include "bucket.h"
+#include "common.h"
+#include "links.h"
+#include "passed_on.h"
+#include <string.h>
+#include <sys/random.h>
+
+/* Octets of a management message (IEEE 1588-2019, 13.3 and 15.4). */
+enum { SOURCE_CLOCK = 20, SOURCE_PORT = 28, STARTING_HOPS = 44, HOPS = 45, LEAST_MESSAGE = 54 };
+
+static struct limits limits;
+static struct kept_back kept_back;
+static struct passed_on passed_on;
+static struct bucket copies[PORTS], answers[PORTS];
+
+void start_limits(const struct limits *given) {
+    limits = *given;
+    if (getrandom(&passed_on.seed, sizeof passed_on.seed, 0) < 0) give_up("getrandom");
+    for (int i = 0; i < PORTS; i++) copies[i] = answers[i] = full_bucket(limits.rate, milliseconds());
+}
+
+int is_heard(const struct heard *heard, const struct port *port) {
+    if (limits.is_any_source || transport == ETHERNET || is_on_link(port->index, &heard->sender.any)) return 1;
+    kept_back.strangers++;
+    return 0;
+}
+
+void lower_hops(struct heard *heard) {
+    if (heard->size < LEAST_MESSAGE || heard->octets[HOPS] <= limits.hops) return;
+    uint8_t less = (uint8_t)(heard->octets[HOPS] - limits.hops), starting = heard->octets[STARTING_HOPS];
+    heard->octets[HOPS] = (uint8_t)limits.hops;
+    heard->octets[STARTING_HOPS] = starting > less ? (uint8_t)(starting - less) : 0;
+}
+
+static int is_of_manager(const struct heard *heard) {
+    const uint8_t *source = heard->octets + SOURCE_CLOCK, *port = heard->octets + SOURCE_PORT;
+    for (size_t i = 0; i < limits.manager_count; i++) {
+        const struct ptpm_manager_settings *manager = &limits.managers[i];
+        if (memcmp(manager->clock, source, 8) == 0 && manager->port == (port[0] << 8 | port[1])) return 1;
+    }
+    return 0;
+}
+
+/* Whether a message is to be passed on at all. It is asked once of each, since it is noted. */
+static int goes_on(const struct heard *heard, const struct port *port, long now) {
+    if (!limits.is_passed_on || limits.hops == 0 || (port == NULL && !limits.is_passed_on_from_host)) return 0;
+    if (is_first(&passed_on, heard->octets, now)) return 1;
+    kept_back.again++;
+    return 0;
+}
+
+/* Answers to programs of this host, and to managers, are not counted. */
+static int is_answered(const struct heard *heard, const struct port *port, uint16_t ingress, uint32_t answer, long now) {
+    if (port == NULL || answer != PTPM_ANSWERED_UNNUMBERED || is_of_manager(heard)) return 1;
+    if (take_token(&answers[ingress - 1], now)) return 1;
+    kept_back.unanswered++;
+    return 0;
+}
+
+size_t keep_back(const struct heard *heard, const struct port *port, uint16_t ingress, uint32_t answer,
+                 const struct ptpm_sent *sent, size_t count, const struct ptpm_sent *kept[PTPM_MOST_SENT]) {
+    size_t left = 0;
+    int is_asked = 0, is_going_on = 0;
+    long now = count > 0 ? milliseconds() : 0;
+    for (size_t i = 0; i < count; i++) {
+        if (sent[i].port == ingress) {
+            if (is_answered(heard, port, ingress, answer, now)) kept[left++] = &sent[i];
+            continue;
+        }
+        if (!is_asked) is_going_on = goes_on(heard, port, now);
+        is_asked = 1;
+        if (!is_going_on) continue;
+        if (take_token(&copies[sent[i].port - 1], now)) kept[left++] = &sent[i];
+        else kept_back.over_rate++;
+    }
+    return left;
+}
+
+const struct kept_back *told_kept_back(void) { return &kept_back; }

@@ -1,0 +1,40 @@
+/* What ptpm-clock keeps from the network of what its agent would send, so that no message goes round for good and no stranger has
+   much sent by little: how far messages are passed on, which of them, and how many a second. */
+#ifndef LIMITS_H
+#define LIMITS_H
+
+#include "ports.h"
+#include "ptpm.h"
+#include "rounds.h"
+
+struct limits {
+    long hops;                          /* by how many clocks a message is passed on at most, this one included */
+    long rate;                          /* how many messages a port passes on a second, and how many answers strangers get there */
+    int is_passed_on;                   /* messages are passed on between the ports */
+    int is_passed_on_from_host;         /* and those of programs of this host */
+    int is_any_source;                  /* also from addresses that are not on the link */
+    const struct ptpm_manager_settings *managers;
+    size_t manager_count;
+};
+
+/* What was kept back since the start. */
+struct kept_back { unsigned long strangers, again, over_rate, unanswered; };
+
+void start_limits(const struct limits *given);
+
+/* Whether a datagram from a port is heard at all: it comes from an address on the link, or any may. */
+int is_heard(const struct heard *heard, const struct port *port);
+
+/* Lowers boundaryHops (octet 45) to the most that there may be, and startingBoundaryHops (octet 44) by as much: so an answer has as
+   many hops as it would have (15.4.1), and what is passed on has fewer. */
+void lower_hops(struct heard *heard);
+
+/* Which of the messages that the agent made of a datagram are to go out: those at `ingress` answer it, and the others are it,
+   passed on. Keeps them in their order at the head of the places, and says how many there are. port is NULL for a datagram of a
+   program of this host. */
+size_t keep_back(const struct heard *heard, const struct port *port, uint16_t ingress, uint32_t answer,
+                 const struct ptpm_sent *sent, size_t count, const struct ptpm_sent *kept[PTPM_MOST_SENT]);
+
+const struct kept_back *told_kept_back(void);
+
+#endif

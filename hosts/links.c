@@ -1,0 +1,131 @@
+#define _GNU_SOURCE
+#include "links.h"
+#include "common.h"
+#include <errno.h>
+#include <ifaddrs.h>
+#include <linux/netlink.h>
+#include <linux/rtnetlink.h>
+#include <net/if.h>
+#include <netinet/in.h>
+#include <stdio.h>
+#include <string.h>
+#include <unistd.h>
+
+enum { MOST_NETWORKS = 1024, TOLD = 16384 };
+
+/* The addresses whose first bits are those of one address of an interface. */
+struct network { unsigned index; sa_family_t family; uint8_t address[16], mask[16]; };
+
+static struct network networks[MOST_NETWORKS];
+static size_t network_count;
+static int at, is_stale = 1;
+
+int open_links(void) {
+    struct sockaddr_nl groups = { .nl_family = AF_NETLINK, .nl_groups = RTMGRP_LINK | RTMGRP_IPV4_IFADDR | RTMGRP_IPV6_IFADDR };
+    at = socket(AF_NETLINK, SOCK_RAW | SOCK_CLOEXEC | SOCK_NONBLOCK, NETLINK_ROUTE);
+    if (at < 0 || bind(at, (struct sockaddr *)&groups, sizeof groups)) give_up("what the kernel tells of interfaces");
+    return at;
+}
+
+/* The MTU that the kernel tells of an interface; 0 where it tells none. */
+static unsigned mtu_of(const struct nlmsghdr *message) {
+    unsigned mtu = 0;
+    const char *first = (const char *)message, *end = first + message->nlmsg_len;
+    const char *next = first + NLMSG_LENGTH(sizeof(struct ifinfomsg));
+    while (next + sizeof(struct rtattr) <= end) {
+        const struct rtattr *attribute = (const void *)next;
+        if (attribute->rta_len < sizeof *attribute) break;
+        int is_mtu = attribute->rta_type == IFLA_MTU && next + RTA_LENGTH(sizeof mtu) <= end;
+        if (is_mtu) memcpy(&mtu, next + RTA_LENGTH(0), sizeof mtu);
+        next += RTA_ALIGN(attribute->rta_len);
+    }
+    return mtu;
+}
+
+static void take_message(const struct nlmsghdr *message, link_taker *take) {
+    const struct ifinfomsg *link = NLMSG_DATA(message);
+    int is_gone = message->nlmsg_type == RTM_DELLINK;
+    is_stale = 1;
+    if (!is_gone && message->nlmsg_type != RTM_NEWLINK) return;
+    if (message->nlmsg_len < NLMSG_LENGTH(sizeof *link) || link->ifi_family != AF_UNSPEC) return;    /* as a bridge tells of its ports */
+    take((unsigned)link->ifi_index, is_gone ? LINK_GONE : LINK_CHANGED, mtu_of(message));
+}
+
+static void take_messages(const char *told, size_t size, link_taker *take) {
+    for (size_t place = 0; place + sizeof(struct nlmsghdr) <= size;) {
+        const struct nlmsghdr *message = (const void *)(told + place);
+        if (message->nlmsg_len < sizeof *message || message->nlmsg_len > size - place) return;
+        take_message(message, take);
+        place += NLMSG_ALIGN(message->nlmsg_len);
+    }
+}
+
+void read_links(link_taker *take) {
+    static _Alignas(struct nlmsghdr) char told[TOLD];
+    for (;;) {
+        ssize_t size = recv(at, told, sizeof told, MSG_DONTWAIT);
+        if (size > 0) {
+            take_messages(told, (size_t)size, take);
+        } else if (size < 0 && errno == ENOBUFS) {
+            is_stale = 1;
+            take(0, LINK_CHANGED, 0);
+        } else {
+            return;
+        }
+    }
+}
+
+/* Where the octets of an address stand, and how many there are; none of another family. */
+static const uint8_t *octets_of(const struct sockaddr *address, size_t *size) {
+    *size = 4;
+    if (address->sa_family == AF_INET) return (const uint8_t *)&((const struct sockaddr_in *)address)->sin_addr;
+    *size = address->sa_family == AF_INET6 ? 16 : 0;
+    return (const uint8_t *)&((const struct sockaddr_in6 *)address)->sin6_addr;
+}
+
+static void add_network(const struct ifaddrs *one) {
+    size_t size, mask_size;
+    char name[IF_NAMESIZE];
+    if (one->ifa_addr == NULL || one->ifa_netmask == NULL || network_count == MOST_NETWORKS) return;
+    int is_pair = (one->ifa_flags & IFF_POINTOPOINT) && one->ifa_dstaddr != NULL;       /* whose other end is meant */
+    const uint8_t *address = octets_of(is_pair ? one->ifa_dstaddr : one->ifa_addr, &size);
+    const uint8_t *mask = octets_of(one->ifa_netmask, &mask_size);
+    if (size == 0 || mask_size != size) return;
+    snprintf(name, sizeof name, "%s", one->ifa_name);
+    name[strcspn(name, ":")] = '\0';                    /* behind which an address of IPv4 may have a label */
+    struct network *network = &networks[network_count];
+    network->index = if_nametoindex(name);
+    network->family = one->ifa_addr->sa_family;
+    memcpy(network->address, address, size);
+    memcpy(network->mask, mask, size);
+    if (network->index != 0) network_count++;
+}
+
+/* Where the kernel can't be asked, what it told before stays. */
+static void read_networks(void) {
+    struct ifaddrs *all;
+    is_stale = 0;
+    if (getifaddrs(&all) != 0) return;
+    network_count = 0;
+    for (const struct ifaddrs *one = all; one != NULL; one = one->ifa_next) add_network(one);
+    freeifaddrs(all);
+}
+
+static int is_in(const struct network *network, const uint8_t *address, size_t size) {
+    for (size_t i = 0; i < size; i++) {
+        if ((network->address[i] ^ address[i]) & network->mask[i]) return 0;
+    }
+    return 1;
+}
+
+int is_on_link(unsigned index, const struct sockaddr *address) {
+    size_t size;
+    const uint8_t *octets = octets_of(address, &size);
+    if (size == 16 && octets[0] == 0xfe && (octets[1] & 0xc0) == 0x80) return 1;
+    if (is_stale) read_networks();
+    for (size_t i = 0; i < network_count; i++) {
+        const struct network *network = &networks[i];
+        if (network->index == index && network->family == address->sa_family && is_in(network, octets, size)) return 1;
+    }
+    return 0;
+}

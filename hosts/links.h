@@ -1,0 +1,23 @@
+/* What the kernel tells of this host's interfaces (rtnetlink): that one went, came or has another MTU, and which addresses are on
+   its link. */
+#ifndef LINKS_H
+#define LINKS_H
+
+#include <sys/socket.h>
+
+/* What became of the interface of an index, and the MTU that it has; 0 where it isn't told. */
+enum link_event { LINK_GONE, LINK_CHANGED };
+typedef void link_taker(unsigned index, enum link_event event, unsigned mtu);
+
+/* What is to be polled. Ends the program with status 2 where the kernel tells nothing. */
+int open_links(void);
+
+/* Reads what the kernel has told by now, and hands on each event of an interface. Where it told more than was kept, each interface
+   may have changed: index 0. */
+void read_links(link_taker *take);
+
+/* Whether an address of IPv4 or IPv6 belongs to a network at the interface: that of one of the interface's own addresses, or of
+   IPv6 the addresses of a link. */
+int is_on_link(unsigned index, const struct sockaddr *address);
+
+#endif

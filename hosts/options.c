@@ -1,0 +1,194 @@
+#define _GNU_SOURCE
+#include "options.h"
+#include "common.h"
+#include "identity.h"
+#include "output.h"
+#include <getopt.h>
+#include <grp.h>
+#include <net/if.h>
+#include <pwd.h>
+#include <stdarg.h>
+#include <stdio.h>
+#include <stdlib.h>
+#include <string.h>
+
+enum { SECOND = 1000, HOPS_AT_FIRST = 8, RATE_AT_FIRST = 1000, MOST_RATE = 1000000, MODE_AT_FIRST = 0660 };
+
+/* Options without a letter of their own. */
+enum { VERSION = 256, HOPS, RATE, NO_FORWARD, ANY_SOURCE, USER, UNIX_GROUP, UNIX_MODE, NO_FILTER };
+
+static const struct option names[] = {
+    { "ipv6", no_argument, NULL, '6' }, { "ethernet", no_argument, NULL, '2' }, { "hops", required_argument, NULL, HOPS },
+    { "rate", required_argument, NULL, RATE }, { "no-forward", no_argument, NULL, NO_FORWARD },
+    { "any-source", no_argument, NULL, ANY_SOURCE }, { "user", required_argument, NULL, USER },
+    { "unix-group", required_argument, NULL, UNIX_GROUP }, { "unix-mode", required_argument, NULL, UNIX_MODE },
+    { "no-filter", no_argument, NULL, NO_FILTER }, { "help", no_argument, NULL, 'h' }, { "version", no_argument, NULL, VERSION },
+    { NULL, 0, NULL, 0 },
+};
+
+static const char help[] =
+    "ptpm-clock [OPTION].. IDENTITY INTERFACE..\n"
+    "ptpm-clock [OPTION].. -u PATH IDENTITY [INTERFACE..]\n"
+    "\n"
+    "Answers PTP management messages as a clock does, over UDP or Ethernet at its interfaces and at a Unix socket.\n"
+    "\n"
+    "  IDENTITY            clockIdentity of the clock: aabbccfffeddee01, or aabbcc.fffe.ddee01\n"
+    "  INTERFACE           its ports 1, 2 and on, eight at most; none with -u alone\n"
+    "  -6, --ipv6          IPv6 in place of IPv4\n"
+    "  -2, --ethernet      IEEE 802.3 in place of IPv4\n"
+    "  -m MANAGER          IDENTITY/PORT of a manager with every right, sixteen at most\n"
+    "  -d DOMAIN           domainNumber, 0 where it is not given\n"
+    "\n"
+    "  -u PATH             a Unix socket for programs of this host, which counts as port 1\n"
+    "  --unix-group NAME   whose group it gets\n"
+    "  --unix-mode MODE    its mode, 660 where it is not given\n"
+    "  -f                  what comes in there for other clocks is passed on at the other ports\n"
+    "\n"
+    "  --hops N            by how many clocks a message is passed on at most, this one included (8)\n"
+    "  --no-forward        nothing is passed on between the ports\n"
+    "  --rate N            how many messages a port passes on a second, and how many answers it has for others than\n"
+    "                      managers (1000)\n"
+    "  --any-source        also what comes from addresses that are not on the link is heard\n"
+    "\n"
+    "  -o FILE             what the clock observes, as a servo would: a file, which is read at the start and whenever it is\n"
+    "                      written, or a pipe, with lines as: offset_from_master 98304, or: port 1 state 9\n"
+    "  -n SECONDS          it ends by itself then\n"
+    "  -v                  a line for each datagram, and one for what it changed\n"
+    "  --user NAME         whom it is to be once its sockets are open\n"
+    "  --no-filter         it may call all of the system, as where a debugger looks on\n"
+    "  --help              this text\n"
+    "  --version           the version\n"
+    "\n"
+    "SIGTERM ends it; at its end, and at SIGUSR1, it prints how often each answer was given.\n"
+    "Exit status: 0 ended in order; 1 the clock does not start; 2 it was called wrongly, or a socket or file can't be opened.\n";
+
+_Noreturn void usage(void) {
+    fputs("ptpm-clock: see ptpm-clock --help\n", stderr);
+    exit(2);
+}
+
+__attribute__((format(printf, 1, 2))) _Noreturn static void refuse(const char *format, ...) {
+    va_list values;
+    fputs("ptpm-clock: ", stderr);
+    va_start(values, format);
+    vfprintf(stderr, format, values);
+    va_end(values);
+    fputs("; see ptpm-clock --help\n", stderr);
+    exit(2);
+}
+
+/* The number that an option takes. */
+static long number(const char *option, long least, long most) {
+    long found = decimal(optarg, most);
+    if (found < least) refuse("%s %s: it takes a number from %ld to %ld", option, optarg, least, most);
+    return found;
+}
+
+/* Three octal digits, as 660. */
+static mode_t mode(void) {
+    char *end;
+    long found = strtol(optarg, &end, 8);
+    if (strlen(optarg) != 3 || *end != '\0' || found < 0) refuse("--unix-mode %s: it takes three octal digits, as 660", optarg);
+    return (mode_t)found;
+}
+
+static gid_t group_named(void) {
+    const struct group *found = getgrnam(optarg);
+    if (found == NULL) refuse("--unix-group %s: there is no such group", optarg);
+    return found->gr_gid;
+}
+
+static void take_user(struct privileges *privileges) {
+    const struct passwd *found = getpwnam(optarg);
+    if (found == NULL) refuse("--user %s: there is no such user", optarg);
+    privileges->user_name = optarg;
+    privileges->user = found->pw_uid;
+    privileges->group = found->pw_gid;
+}
+
+/* IDENTITY/PORT, with every right. */
+static struct ptpm_manager_settings read_manager(const char *text) {
+    struct ptpm_manager_settings manager = { .rights = PTPM_CLOCK_SET | PTPM_PORT_SET | PTPM_PORT_COMMAND };
+    const char *rest = identity_at(text, manager.clock);
+    long port = rest == NULL ? -1 : port_behind(rest, 65535);
+    if (port < 0) refuse("-m %s: it takes aabbccfffeddee01/1 or aabbcc.fffe.ddee01-1", text);
+    manager.port = (uint16_t)port;
+    return manager;
+}
+
+/* Options of what the host is to do. */
+static void take_limit(struct options *options, int option) {
+    switch (option) {
+    case HOPS: options->limits.hops = number("--hops", 0, 255); break;
+    case RATE: options->limits.rate = number("--rate", 1, MOST_RATE); break;
+    case NO_FORWARD: options->limits.is_passed_on = 0; break;
+    case ANY_SOURCE: options->limits.is_any_source = 1; break;
+    case USER: take_user(&options->privileges); break;
+    case UNIX_GROUP: options->meeting.group = group_named(); break;
+    case UNIX_MODE: options->meeting.mode = mode(); break;
+    case NO_FILTER: options->privileges.is_unfiltered = 1; break;
+    default: usage();
+    }
+}
+
+static void take_option(struct options *options, int option) {
+    switch (option) {
+    case '2': options->transport = ETHERNET; break;
+    case '6': options->transport = UDP_IPV6; break;
+    case 'f': options->limits.is_passed_on_from_host = 1; break;
+    case 'v': options->is_told = 1; break;
+    case 'u': options->meeting.path = optarg; break;
+    case 'o': options->source = optarg; break;
+    case 'd': options->settings.domain = (uint8_t)number("-d", 0, 255); break;
+    case 'n': options->end = milliseconds() + number("-n", 0, 1000000) * SECOND; break;
+    case 'm':
+        if (options->manager_count <= MANAGERS) options->managers[options->manager_count++] = read_manager(optarg);
+        break;
+    case 'h': exit(fputs(help, stdout) < 0 || fflush(stdout) != 0);
+    case VERSION: exit(puts("ptpm-clock " PTPM_VERSION) < 0 || fflush(stdout) != 0);
+    default: take_limit(options, option);
+    }
+}
+
+/* Two ports at one interface would pass on to its link what comes from there. It may be named by another of its names. */
+static void refuse_twice(char *const *given, size_t count) {
+    for (size_t i = 1; i < count; i++) {
+        unsigned index = if_nametoindex(given[i]);
+        for (size_t k = 0; k < i; k++) {
+            if (strcmp(given[i], given[k]) == 0) refuse("%s: the interface is named twice", given[i]);
+            if (index == 0 || index != if_nametoindex(given[k])) continue;
+            refuse("%s: the interface is named twice, as %s", given[i], given[k]);
+        }
+    }
+}
+
+static void judge(const struct options *options, int has_two_ways) {
+    if (options->interface_count > PORTS) refuse("it takes eight interfaces at most");
+    if (options->interface_count == 0 && options->meeting.path == NULL) {
+        refuse("an interface is missing, or a Unix socket: -u PATH");
+    }
+    if (has_two_ways) refuse("-2 and -6 do not stand together");
+    refuse_twice(options->interfaces, options->interface_count);
+}
+
+void read_options(struct options *options, int argc, char **argv) {
+    int has_two = 0, has_six = 0;
+    ptpm_clock_defaults(&options->settings);
+    options->limits = (struct limits){ .hops = HOPS_AT_FIRST, .rate = RATE_AT_FIRST, .is_passed_on = 1 };
+    options->meeting = (struct meeting){ .mode = MODE_AT_FIRST, .group = (gid_t)-1 };
+    for (int option; (option = getopt_long(argc, argv, "26fu:m:d:o:n:vh", names, NULL)) != -1;) {
+        has_two |= option == '2';
+        has_six |= option == '6';
+        take_option(options, option);
+    }
+    if (optind == argc) refuse("the clock's identity is missing");
+    const char *rest = identity_at(argv[optind], options->settings.identity);
+    if (rest == NULL || *rest != '\0') {
+        refuse("%s: it takes a clockIdentity, as aabbccfffeddee01 or aabbcc.fffe.ddee01", argv[optind]);
+    }
+    options->interfaces = argv + optind + 1;
+    options->interface_count = (size_t)(argc - optind - 1);
+    options->limits.managers = options->managers;
+    options->limits.manager_count = options->manager_count;
+    judge(options, has_two && has_six);
+}

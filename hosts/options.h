@@ -1,0 +1,31 @@
+/* The command line of ptpm-clock. */
+#ifndef OPTIONS_H
+#define OPTIONS_H
+
+#include "limits.h"
+#include "peers.h"
+#include "ports.h"
+#include "privileges.h"
+#include "ptpm.h"
+
+enum { MANAGERS = 16 };
+
+struct options {
+    struct ptpm_clock_settings settings;
+    struct ptpm_manager_settings managers[MANAGERS + 1];
+    size_t manager_count;
+    char **interfaces;
+    size_t interface_count;
+    enum transport transport;
+    struct meeting meeting;             /* without a path: no Unix socket */
+    struct limits limits;
+    struct privileges privileges;
+    const char *source;                 /* what the clock observes: a file, a pipe, or NULL */
+    int is_told;                        /* a line for each datagram */
+    long end;                           /* when it ends by itself, in milliseconds; 0 where it doesn't */
+};
+
+/* Reads it whole, or ends the program: with status 2 where something is wrong, which is said. */
+void read_options(struct options *options, int argc, char **argv);
+
+#endif

@@ -1,0 +1,143 @@
+#define _GNU_SOURCE
+#include "output.h"
+#include "bucket.h"
+#include "common.h"
+#include <errno.h>
+#include <pthread.h>
+#include <stdarg.h>
+#include <stdio.h>
+#include <string.h>
+#include <time.h>
+#include <unistd.h>
+
+enum { ROOM = 262144, LINE = 2048, TIMES_A_SECOND = 10 };
+
+/* The lines that wait for one stream, the oldest at `first`. */
+struct stream {
+    int file, is_started, is_ended;
+    size_t first, size;
+    pthread_t thread;
+    unsigned long lost;
+    pthread_mutex_t lock;
+    pthread_cond_t has_more, is_empty;
+    char *octets;
+};
+
+static char output[ROOM], notices[ROOM];
+
+#define STREAM(number, room) { .file = number, .octets = room, .lock = PTHREAD_MUTEX_INITIALIZER, .has_more = PTHREAD_COND_INITIALIZER, \
+                         .is_empty = PTHREAD_COND_INITIALIZER }
+
+static struct stream standard_output = STREAM(STDOUT_FILENO, output);
+static struct stream standard_error = STREAM(STDERR_FILENO, notices);
+
+/* Writes what waits, until the end. What can't be written, as where nobody reads any more, is let go. */
+static void *write_all(void *given) {
+    struct stream *stream = given;
+    pthread_mutex_lock(&stream->lock);
+    for (;;) {
+        while (stream->size == 0 && !stream->is_ended) pthread_cond_wait(&stream->has_more, &stream->lock);
+        if (stream->size == 0) break;
+        size_t size = stream->size < ROOM - stream->first ? stream->size : ROOM - stream->first;
+        pthread_mutex_unlock(&stream->lock);
+        ssize_t count = write(stream->file, stream->octets + stream->first, size);
+        int is_again = count < 0 && (errno == EAGAIN || errno == EINTR);
+        if (is_again) nanosleep(&(struct timespec){ .tv_nsec = 10000000 }, NULL);      /* another program made it non-blocking */
+        pthread_mutex_lock(&stream->lock);
+        if (count < 0 && !is_again) count = (ssize_t)size;
+        if (count > 0) stream->first = (stream->first + (size_t)count) % ROOM;
+        if (count > 0) stream->size -= (size_t)count;
+        if (stream->size == 0) pthread_cond_signal(&stream->is_empty);
+    }
+    pthread_mutex_unlock(&stream->lock);
+    return NULL;
+}
+
+static void start_stream(struct stream *stream) {
+    errno = pthread_create(&stream->thread, NULL, write_all, stream);
+    if (errno != 0) give_up("a thread that writes");
+    stream->is_started = 1;
+}
+
+void start_output(void) {
+    start_stream(&standard_output);
+    start_stream(&standard_error);
+}
+
+/* A line whole, or not at all. */
+static void queue(struct stream *stream, const char *line, size_t size) {
+    if (!stream->is_started) {
+        while (size > 0 && write(stream->file, line, size) < 0 && errno == EINTR) continue;
+        return;
+    }
+    pthread_mutex_lock(&stream->lock);
+    if (size > ROOM - stream->size) {
+        stream->lost++;
+    } else {
+        for (size_t i = 0; i < size; i++) stream->octets[(stream->first + stream->size + i) % ROOM] = line[i];
+        stream->size += size;
+        pthread_cond_signal(&stream->has_more);
+    }
+    pthread_mutex_unlock(&stream->lock);
+}
+
+static void print(struct stream *stream, const char *lead, const char *format, va_list values) {
+    char line[LINE + 1];
+    size_t size = (size_t)snprintf(line, LINE, "%s", lead);
+    int more = vsnprintf(line + size, LINE - size, format, values);
+    if (more > 0) size += (size_t)more < LINE - size ? (size_t)more : LINE - size - 1;
+    line[size++] = '\n';
+    queue(stream, line, size);
+}
+
+void print_line(const char *format, ...) {
+    va_list values;
+    va_start(values, format);
+    print(&standard_output, "", format, values);
+    va_end(values);
+}
+
+void say(const char *format, ...) {
+    va_list values;
+    va_start(values, format);
+    print(&standard_error, "ptpm-clock: ", format, values);
+    va_end(values);
+}
+
+void say_at_times(const char *format, ...) {
+    static struct bucket times;
+    static unsigned long beyond;
+    va_list values;
+    if (times.rate == 0) times = full_bucket(TIMES_A_SECOND, milliseconds());
+    if (!take_token(&times, milliseconds())) {
+        beyond++;
+        return;
+    }
+    if (beyond > 0) say("%lu more lines were not printed: there are ten a second", beyond);
+    beyond = 0;
+    va_start(values, format);
+    print(&standard_error, "ptpm-clock: ", format, values);
+    va_end(values);
+}
+
+unsigned long lines_lost(void) { return standard_output.lost + standard_error.lost; }
+
+/* A thread that waits for a reader is left behind. */
+static void end_stream(struct stream *stream, const struct timespec *end) {
+    if (!stream->is_started) return;
+    pthread_mutex_lock(&stream->lock);
+    while (stream->size > 0 && pthread_cond_timedwait(&stream->is_empty, &stream->lock, end) == 0) continue;
+    int is_written = stream->size == 0;
+    stream->is_ended = 1;
+    pthread_cond_signal(&stream->has_more);
+    pthread_mutex_unlock(&stream->lock);
+    if (is_written) pthread_join(stream->thread, NULL);
+}
+
+void end_output(void) {
+    struct timespec end;
+    clock_gettime(CLOCK_REALTIME, &end);        /* the clock of pthread_cond_timedwait */
+    end.tv_sec++;
+    end_stream(&standard_output, &end);
+    end_stream(&standard_error, &end);
+}

@@ -1,0 +1,24 @@
+/* What ptpm-clock prints: lines on standard output, and on standard error behind the program's name. Once it has started a thread
+   each writes them, so that a reader that stands still stops nothing else: what there is no room for is counted, and not printed. */
+#ifndef OUTPUT_H
+#define OUTPUT_H
+
+/* From now on lines are written by threads. No thread has more rights than the program has by then. */
+void start_output(void);
+
+/* A line on standard output. */
+__attribute__((format(printf, 1, 2))) void print_line(const char *format, ...);
+
+/* A line on standard error, behind the program's name. */
+__attribute__((format(printf, 1, 2))) void say(const char *format, ...);
+
+/* Says what is wrong with something that may be wrong again and again: ten lines a second, and how many there were beyond. */
+__attribute__((format(printf, 1, 2))) void say_at_times(const char *format, ...);
+
+/* How many lines found no room. */
+unsigned long lines_lost(void);
+
+/* Waits for who reads them, a second at most. */
+void end_output(void);
+
+#endif

@@ -1,0 +1,106 @@
+#define _GNU_SOURCE
+#include "peers.h"
+#include "common.h"
+#include <limits.h>
+#include <linux/sockios.h>
+#include <string.h>
+#include <sys/ioctl.h>
+#include <unistd.h>
+
+enum {
+    ROOM = 1 << 20,             /* octets of what nobody has read yet, at one socket */
+    SHARE = 32768,              /* and how many of them one peer may add */
+    UNCHECKED = 8,              /* messages behind which it is seen how much was read */
+};
+
+/* A socket to send from, and the peer that has it. */
+struct way_back {
+    int socket;
+    union sender peer;
+    socklen_t size;             /* of the peer's address; 0 where nobody has it */
+    int left_by_others;         /* octets that peers before did not read */
+    int unchecked;
+    unsigned long used;
+};
+
+static struct way_back ways[WAYS_BACK];
+static unsigned long turn;
+static int meeting_socket = -1;
+
+/* A socket with the name of the path, which stands there for a moment only: then another does. */
+static int open_named(const struct meeting *meeting) {
+    int room = ROOM, at = bind_unix(meeting->path, meeting->mode);
+    if (unlink(meeting->path)) give_up(meeting->path);
+    if (setsockopt(at, SOL_SOCKET, SO_SNDBUFFORCE, &room, sizeof room)) setsockopt(at, SOL_SOCKET, SO_SNDBUF, &room, sizeof room);
+    return at;
+}
+
+int open_peers(const struct meeting *meeting) {
+    remove_left_over(meeting->path);
+    for (int i = 0; i < WAYS_BACK; i++) ways[i].socket = open_named(meeting);
+    meeting_socket = open_unix_as(meeting->path, meeting->mode);
+    if (meeting->group != (gid_t)-1 && lchown(meeting->path, (uid_t)-1, meeting->group)) give_up(meeting->path);
+    return meeting_socket;
+}
+
+int way_back_socket(size_t place) { return ways[place].socket; }
+
+/* How many octets nobody has read yet of what a socket sent, with what the kernel keeps beside them. */
+static int unread(const struct way_back *way) {
+    int octets = 0;
+    return ioctl(way->socket, SIOCOUTQ, &octets) == 0 ? octets : 0;
+}
+
+static int has(const struct way_back *way, const struct heard *heard) {
+    return way->size == heard->sender_size && memcmp(&way->peer, &heard->sender, way->size) == 0;
+}
+
+/* The socket that a new peer gets: one that nobody has, or from which all is read and which was used longest ago, or from which
+   least is unread. */
+static struct way_back *free_way(void) {
+    struct way_back *found = &ways[0];
+    int least = INT_MAX;
+    for (int i = 0; i < WAYS_BACK; i++) {
+        int octets = ways[i].size == 0 ? -1 : unread(&ways[i]);
+        if (octets < least || (octets == least && ways[i].used < found->used)) {
+            least = octets;
+            found = &ways[i];
+        }
+    }
+    found->left_by_others = least > 0 ? least : 0;
+    return found;
+}
+
+static struct way_back *way_to(const struct heard *heard) {
+    static struct way_back *latest = ways;
+    for (int i = 0; i < WAYS_BACK && !has(latest, heard); i++) latest = &ways[i];
+    if (!has(latest, heard)) {
+        latest = free_way();
+        latest->peer = heard->sender;
+        latest->size = heard->sender_size;
+        latest->unchecked = 0;
+    }
+    latest->used = ++turn;
+    return latest;
+}
+
+/* Whether a peer has read so much that it may have one more message. */
+static int has_room(struct way_back *way) {
+    if (++way->unchecked <= UNCHECKED) return 1;
+    int octets = unread(way);
+    if (octets <= way->left_by_others) way->unchecked = 1;
+    return octets < way->left_by_others + SHARE;
+}
+
+int answer_peer(const struct ptpm_sent *message, const struct heard *answered) {
+    if (answered->sender_size <= sizeof(sa_family_t)) return 0;         /* it has no path */
+    struct way_back *way = way_to(answered);
+    return has_room(way)
+           && sendto(way->socket, message->octets, message->size, MSG_DONTWAIT, &answered->sender.any, answered->sender_size) >= 0;
+}
+
+void close_peers(void) {
+    if (meeting_socket < 0) return;
+    close(meeting_socket);
+    for (int i = 0; i < WAYS_BACK; i++) close(ways[i].socket);
+}

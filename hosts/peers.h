@@ -1,0 +1,26 @@
+/* The Unix socket of ptpm-clock, and the programs of this host that ask there, its peers. What a peer does not read stays in the
+   socket that it was sent from: so each peer has a socket of its own, and little room there. */
+#ifndef PEERS_H
+#define PEERS_H
+
+#include "rounds.h"
+
+/* Where the socket is to be, with which mode, and whose group it gets: -1 leaves it the program's. */
+struct meeting { const char *path; mode_t mode; gid_t group; };
+
+enum { WAYS_BACK = 64 };
+
+/* What is to be polled. It comes in place of one that a program left there, and goes when this program ends. Ends the program with
+   status 2 where it can't be had. */
+int open_peers(const struct meeting *meeting);
+
+/* One of the sockets that peers are answered from. Who found it at the path while the others were made may have sent something
+   there. */
+int way_back_socket(size_t place);
+
+/* Sends a message to who sent what it answers; whether it was taken. All that is sent comes from the path of the Unix socket. */
+int answer_peer(const struct ptpm_sent *message, const struct heard *answered);
+
+void close_peers(void);
+
+#endif

@@ -1,0 +1,140 @@
+#define _GNU_SOURCE
+#include "ports.h"
+#include "common.h"
+#include "links.h"
+#include "output.h"
+#include <errno.h>
+#include <net/if.h>
+#include <netinet/in.h>
+#include <stdlib.h>
+#include <string.h>
+#include <sys/ioctl.h>
+#include <unistd.h>
+
+enum { SECOND = 1000 };
+
+struct port ports[PORTS];
+size_t port_count;
+enum transport transport;
+
+static int is_hurried;          /* the kernel told of a change */
+
+/* With UDP the kernel is to tell of each datagram where it was sent to. */
+static int open_socket(struct port *port, const char **what) {
+    int one = 1;
+    if (transport == ETHERNET) return open_ethernet(port->name, port->station, what);
+    int at = open_udp(port->name, transport == UDP_IPV6, what);
+    if (at >= 0 && transport == UDP_IPV4) setsockopt(at, IPPROTO_IP, IP_PKTINFO, &one, sizeof one);
+    if (at >= 0 && transport == UDP_IPV6) setsockopt(at, IPPROTO_IPV6, IPV6_RECVPKTINFO, &one, sizeof one);
+    return at;
+}
+
+/* The MTU of the interface as its port is opened: a leave and a join that nobody needs may cost messages where a switch listens. */
+static unsigned mtu_at(int at, unsigned index) {
+    struct ifreq request = { 0 };
+    if (if_indextoname(index, request.ifr_name) == NULL || ioctl(at, SIOCGIFMTU, &request)) return 0;
+    return (unsigned)request.ifr_mtu;
+}
+
+/* What a program needs that may not open a port. */
+static const char *needed(void) {
+    if (errno != EACCES && errno != EPERM) return "";
+    return transport == ETHERNET ? ": it takes root, or the capability CAP_NET_RAW"
+                                 : ": it takes root, or the capability CAP_NET_BIND_SERVICE";
+}
+
+void open_port(const char *interface) {
+    struct port *port = &ports[port_count++];
+    const char *what;
+    port->name = interface;
+    port->index = if_nametoindex(interface);
+    port->socket = open_socket(port, &what);
+    if (port->socket < 0) {
+        say("%s: %s%s", what, strerror(errno), needed());
+        exit(2);
+    }
+    port->openings = 1;
+    port->mtu = mtu_at(port->socket, port->index);
+}
+
+/* Two ports at one interface would pass on to its link what comes from there. */
+static const struct port *other_at(unsigned index, const struct port *port) {
+    for (size_t i = 0; i < port_count; i++) {
+        if (&ports[i] != port && ports[i].index == index) return &ports[i];
+    }
+    return NULL;
+}
+
+static void close_port(struct port *port) {
+    if (port->socket >= 0) close(port->socket);
+    port->socket = -1;
+    port->index = 0;
+    port->is_due = 0;
+}
+
+/* An interface that was gone, or another one, has the name by now. */
+static void open_other(struct port *port, unsigned index) {
+    const char *what = "it is an interface of another port";
+    const struct port *other = other_at(index, port);
+    int at = other == NULL ? open_socket(port, &what) : -1;
+    if (at >= 0) {
+        say("%s: the interface was made anew", port->name);
+        close_port(port);
+        port->socket = at;
+        port->index = index;
+        port->openings++;
+        port->mtu = mtu_at(at, index);
+        port->refused = 0;
+    } else if (port->refused != index) {
+        const char *why = other == NULL ? strerror(errno) : "";
+        say("%s: the interface was made anew: %s%s%s", port->name, what, other == NULL ? ": " : "", why);
+        port->refused = index;
+    }
+}
+
+/* Its interface is the same, but may have lost its memberships. */
+static void join_port(struct port *port) {
+    if (transport == ETHERNET || join_again(port->socket, port->index, transport == UDP_IPV6)) {
+        if (port->refused != 0) say("%s: the interface is heard again", port->name);
+        port->is_due = 0;
+        port->refused = 0;
+    } else if (port->refused != port->index) {
+        say("%s: nothing is heard at the interface: %s", port->name, strerror(errno));
+        port->refused = port->index;
+    }
+}
+
+static void renew(struct port *port) {
+    char name[IF_NAMESIZE];
+    unsigned index = if_nametoindex(port->name);
+    if (index == 0 && port->index != 0 && if_indextoname(port->index, name) == NULL) close_port(port);
+    if (index != 0 && index != port->index) open_other(port, index);
+    else if (port->is_due) join_port(port);
+}
+
+void renew_ports(long now) {
+    static long next;
+    if (!is_hurried && now < next) return;
+    is_hurried = 0;
+    next = now + SECOND;
+    for (size_t i = 0; i < port_count; i++) renew(&ports[i]);
+}
+
+/* Where the kernel told more than was kept, index 0, each port may have changed. */
+static void take_link(unsigned index, enum link_event event, unsigned mtu) {
+    for (size_t i = 0; i < port_count; i++) {
+        struct port *port = &ports[i];
+        if (port->socket < 0) is_hurried = 1;           /* it may be this one that has its name */
+        if (port->socket < 0 || (index != 0 && port->index != index)) continue;
+        if (event == LINK_GONE) close_port(port);
+        else if (mtu == 0 || mtu != port->mtu) port->is_due = 1;
+        port->mtu = mtu;
+        is_hurried = 1;
+    }
+}
+
+void hear_of_links(void) { read_links(take_link); }
+
+void close_ports(void) {
+    for (size_t i = 0; i < port_count; i++) close_port(&ports[i]);
+}

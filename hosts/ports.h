@@ -1,0 +1,41 @@
+/* The ports of ptpm-clock at this host's interfaces: a socket each, which stays with its interface's name. */
+#ifndef PORTS_H
+#define PORTS_H
+
+#include "ethernet.h"
+#include <stddef.h>
+#include <stdint.h>
+
+enum { PORTS = 8 };
+
+/* How messages go over the interfaces (IEEE 1588-2019, annexes C, D and E). */
+enum transport { UDP_IPV4, UDP_IPV6, ETHERNET };
+
+/* A port of the clock. While its interface is gone it has no socket, -1, and index 0. */
+struct port {
+    const char *name;
+    int socket;
+    unsigned index;             /* the kernel's number of the interface */
+    uint8_t station[STATION];   /* its address on Ethernet */
+    unsigned mtu, refused;      /* as the kernel told last; the index at which it could not be opened */
+    int is_due;                 /* it may not be in its group any more */
+    unsigned long openings;     /* how many sockets it had */
+};
+
+extern struct port ports[PORTS];
+extern size_t port_count;
+extern enum transport transport;
+
+/* Opens the next port. Where it can't be opened the program ends with status 2. */
+void open_port(const char *interface);
+
+/* Sees once a second, and when the kernel tells of a change, which interface has the name of each port, and opens a port anew
+   where it is another one. What can't be opened is said once, and tried again each second. */
+void renew_ports(long now);
+
+/* Takes what the kernel has told of interfaces. */
+void hear_of_links(void);
+
+void close_ports(void);
+
+#endif

@@ -1,0 +1,25 @@
+/* What ptpm-clock keeps of the rights that it was started with. */
+#ifndef PRIVILEGES_H
+#define PRIVILEGES_H
+
+#include <sys/types.h>
+
+struct privileges {
+    const char *user_name;      /* whom the program is to be, or NULL: it stays who it is */
+    uid_t user;
+    gid_t group;
+    int is_unfiltered;          /* it may call all of the system */
+};
+
+/* What it takes to open a port's socket once more, where its interface is made anew. */
+enum needs { NEEDS_NOTHING, NEEDS_LOW_PORT, NEEDS_FRAMES };
+
+/* Lets go of every capability but the one that is needed, for good, and becomes the user. Ends the program with status 2 where that
+   can't be done. Comes before any thread. */
+void let_go_of_rights(const struct privileges *privileges, enum needs needs);
+
+/* From now on all calls of the system fail but those that the program makes; nothing where the kernel has no filters. Comes before
+   any thread. */
+void filter_calls(const struct privileges *privileges);
+
+#endif

@@ -1,0 +1,244 @@
+#define _GNU_SOURCE
+#include "rounds.h"
+#include "common.h"
+#include <arpa/inet.h>
+#include <errno.h>
+#include <linux/udp.h>
+#include <string.h>
+
+enum { PLACES = ROUND + PTPM_MOST_SENT, PARTS = 3, LEAST_JOINED = 8, MOST_JOINED = 64, MOST_OCTETS = 60000 };
+
+/* What the kernel tells of, or is told for, a datagram's addresses. */
+struct control { _Alignas(struct cmsghdr) char octets[CMSG_SPACE(sizeof(struct in6_pktinfo))]; };
+
+/* A message that is to go out. */
+struct outgoing { const struct ptpm_sent *message; const struct heard *answered; };
+
+static struct ptpm_sent sent[PLACES];
+static struct outgoing waiting[PLACES];
+static size_t used, waiting_count;
+static unsigned long not_taken;
+
+static void take_control(struct heard *heard, struct msghdr *head) {
+    for (struct cmsghdr *one = CMSG_FIRSTHDR(head); one != NULL; one = CMSG_NXTHDR(head, one)) {
+        if (one->cmsg_level == IPPROTO_IP && one->cmsg_type == IP_PKTINFO) {
+            memcpy(&heard->own_four, CMSG_DATA(one), sizeof heard->own_four);
+            heard->is_unicast = heard->own_four.ipi_addr.s_addr == heard->own_four.ipi_spec_dst.s_addr;
+        } else if (one->cmsg_level == IPPROTO_IPV6 && one->cmsg_type == IPV6_PKTINFO) {
+            memcpy(&heard->own_six, CMSG_DATA(one), sizeof heard->own_six);
+            heard->is_unicast = !IN6_IS_ADDR_MULTICAST(&heard->own_six.ipi6_addr);
+        }
+    }
+}
+
+/* Finds the message of a frame; whether there is one. */
+static int take_frame(struct heard *heard, const struct port *port) {
+    size_t place = message_in(heard->octets, heard->size, port->station);
+    if (place == 0) return 0;
+    heard->station = station_of(heard->octets);
+    heard->is_unicast = is_to_station(heard->octets, port->station);
+    heard->octets += place;
+    heard->size -= place;
+    heard->whole -= place;
+    return 1;
+}
+
+static int take_heard(struct heard *heard, const struct port *port, struct mmsghdr *message) {
+    heard->whole = message->msg_len;
+    heard->size = heard->whole < MOST_HEARD ? heard->whole : MOST_HEARD;
+    heard->sender_size = message->msg_hdr.msg_namelen;
+    if (heard->sender_size > sizeof heard->sender.peer) heard->sender_size = sizeof heard->sender.peer;     /* a path has no end */
+    heard->station = NULL;
+    heard->is_unicast = port == NULL;
+    if (port == NULL) return 1;
+    if (transport == ETHERNET) return take_frame(heard, port);
+    take_control(heard, &message->msg_hdr);
+    return 1;
+}
+
+size_t hear_round(const struct port *port, int at, struct heard heard[ROUND]) {
+    static uint8_t octets[ROUND][MOST_HEARD];
+    static struct control controls[ROUND];
+    static struct mmsghdr messages[ROUND];
+    static struct iovec parts[ROUND];
+    static int used_before = ROUND, wanted = 1;
+    for (int i = 0; i < used_before; i++) {
+        parts[i] = (struct iovec){ octets[i], MOST_HEARD };
+        messages[i].msg_hdr = (struct msghdr){
+            .msg_name = &heard[i].sender, .msg_namelen = sizeof heard[i].sender, .msg_iov = &parts[i], .msg_iovlen = 1,
+            .msg_control = &controls[i], .msg_controllen = sizeof controls[i],
+        };
+    }
+    int found = recvmmsg(at, messages, (unsigned)wanted, MSG_DONTWAIT | MSG_TRUNC, NULL);
+    used_before = found > 0 ? found : 0;
+    wanted = found < wanted ? 1 : wanted < ROUND ? 2 * wanted : ROUND;      /* to look in vain costs as much as to receive */
+    size_t count = 0;
+    for (int i = 0; i < found; i++) {
+        heard[i].octets = octets[i];
+        if (!take_heard(&heard[i], port, &messages[i])) continue;
+        if (count != (size_t)i) heard[count] = heard[i];
+        count++;
+    }
+    return count;
+}
+
+struct ptpm_sent *places_to_send(size_t *room) {
+    if (PLACES - used < PTPM_MOST_SENT) not_taken += send_round();
+    *room = PLACES - used;
+    return sent + used;
+}
+
+void send_later(const struct ptpm_sent *message, const struct heard *answered) {
+    waiting[waiting_count++] = (struct outgoing){ message, answered };
+}
+
+void use_places(size_t count) { used += count; }
+
+static void put_control(struct cmsghdr *at, int level, int type, const void *value, size_t size) {
+    at->cmsg_len = CMSG_LEN(size);
+    at->cmsg_level = level;
+    at->cmsg_type = type;
+    memcpy(CMSG_DATA(at), value, size);
+}
+
+/* The address that a datagram goes to, and, where it answers one that came to this host alone, the address that it comes from. */
+static void address_datagram(struct msghdr *head, const struct heard *answered, union sender *to, struct control *control) {
+    head->msg_name = to;
+    if (answered == NULL) {
+        head->msg_namelen = group(&to->room, transport == UDP_IPV6);
+        return;
+    }
+    *to = answered->sender;
+    head->msg_namelen = answered->sender_size;
+    head->msg_control = control;
+    head->msg_controllen = transport == UDP_IPV6 ? CMSG_SPACE(sizeof(struct in6_pktinfo)) : CMSG_SPACE(sizeof(struct in_pktinfo));
+    struct cmsghdr *own = CMSG_FIRSTHDR(head);
+    if (transport == UDP_IPV6) {
+        to->six.sin6_port = htons(GENERAL_PORT);
+        put_control(own, IPPROTO_IPV6, IPV6_PKTINFO, &answered->own_six, sizeof answered->own_six);
+    } else {
+        struct in_pktinfo from = { .ipi_spec_dst = answered->own_four.ipi_addr };
+        to->four.sin_port = htons(GENERAL_PORT);
+        put_control(own, IPPROTO_IP, IP_PKTINFO, &from, sizeof from);
+    }
+}
+
+/* What goes out at one port: messages for sendmmsg, each of one datagram or of several of one size that the kernel takes apart. */
+struct batch {
+    struct mmsghdr messages[PLACES];
+    unsigned sizes[PLACES];                 /* how many datagrams a message has */
+    struct iovec parts[PLACES * PARTS];
+    union sender to[PLACES];
+    struct control controls[PLACES];
+    uint8_t heads[PLACES][ETHERNET_HEAD];
+    size_t count, part_count;
+};
+
+/* The kernel may not take datagrams together, as where an interface can't send them so. */
+static int is_joining = 1;
+
+/* A frame of Ethernet has at least 60 octets. */
+static void add_frame(struct batch *batch, const struct port *port, const struct outgoing *out) {
+    static uint8_t zeros[ETHERNET_LEAST];
+    struct iovec *parts = &batch->parts[batch->part_count];
+    uint8_t *head = batch->heads[batch->count];
+    size_t size = ETHERNET_HEAD + out->message->size;
+    write_head(head, out->answered == NULL ? NULL : out->answered->station, port->station);
+    parts[0] = (struct iovec){ head, ETHERNET_HEAD };
+    parts[1] = (struct iovec){ (void *)out->message->octets, out->message->size };
+    parts[2] = (struct iovec){ zeros, size < ETHERNET_LEAST ? ETHERNET_LEAST - size : 0 };
+    batch->messages[batch->count].msg_hdr = (struct msghdr){ .msg_iov = parts, .msg_iovlen = PARTS };
+    batch->sizes[batch->count++] = 1;
+    batch->part_count += PARTS;
+}
+
+static void add_datagram(struct batch *batch, const struct outgoing *out) {
+    struct iovec *part = &batch->parts[batch->part_count++];
+    struct msghdr *head = &batch->messages[batch->count].msg_hdr;
+    *part = (struct iovec){ (void *)out->message->octets, out->message->size };
+    *head = (struct msghdr){ .msg_iov = part, .msg_iovlen = 1 };
+    address_datagram(head, out->answered, &batch->to[batch->count], &batch->controls[batch->count]);
+    batch->sizes[batch->count++] = 1;
+}
+
+/* Whether a datagram may go out together with the one before it: both go to the group, and have one size. */
+static int goes_with(const struct outgoing *one, const struct outgoing *other) {
+    return one->answered == NULL && other->answered == NULL && one->message->size == other->message->size;
+}
+
+/* So many datagrams of one size to the group as one message, whose parts the kernel sends one by one (UDP_SEGMENT). */
+static void add_joined(struct batch *batch, const struct outgoing *const *outs, unsigned count) {
+    struct control *control = &batch->controls[batch->count];
+    uint16_t size = outs[0]->message->size;
+    add_datagram(batch, outs[0]);
+    struct msghdr *head = &batch->messages[batch->count - 1].msg_hdr;
+    for (unsigned i = 1; i < count; i++) {
+        batch->parts[batch->part_count++] = (struct iovec){ (void *)outs[i]->message->octets, size };
+    }
+    head->msg_iovlen = count;
+    head->msg_control = control;
+    head->msg_controllen = CMSG_SPACE(sizeof size);
+    put_control(CMSG_FIRSTHDR(head), IPPROTO_UDP, UDP_SEGMENT, &size, sizeof size);
+    batch->sizes[batch->count - 1] = count;
+}
+
+/* The messages of a port, in the order in which they were made. */
+static void fill_batch(struct batch *batch, const struct port *port, const struct outgoing *const *outs, size_t count) {
+    batch->count = batch->part_count = 0;
+    for (size_t i = 0; i < count;) {
+        unsigned run = 1, most = MOST_OCTETS / (outs[i]->message->size + 1u) + 1u;
+        if (most > MOST_JOINED) most = MOST_JOINED;
+        while (run < most && i + run < count && goes_with(outs[i], outs[i + run])) run++;
+        if (transport == ETHERNET) add_frame(batch, port, outs[i]);
+        else if (run >= LEAST_JOINED && is_joining) add_joined(batch, &outs[i], run);
+        else add_datagram(batch, outs[i]);
+        i += batch->sizes[batch->count - 1];
+    }
+}
+
+/* One that the kernel does not take apart goes out in its parts; how many were not taken. */
+static unsigned long send_apart(int at, const struct msghdr *head) {
+    unsigned long lost = 0;
+    is_joining = 0;
+    for (size_t i = 0; i < head->msg_iovlen; i++) {
+        const struct iovec *part = &head->msg_iov[i];
+        lost += sendto(at, part->iov_base, part->iov_len, MSG_DONTWAIT, head->msg_name, head->msg_namelen) < 0;
+    }
+    return lost;
+}
+
+/* Sends all; how many datagrams were not taken. */
+static unsigned long send_batch(int at, struct batch *batch) {
+    unsigned long lost = 0;
+    for (size_t done = 0; done < batch->count;) {
+        int taken = sendmmsg(at, batch->messages + done, (unsigned)(batch->count - done), MSG_DONTWAIT);
+        if (taken > 0) {
+            done += (size_t)taken;
+            continue;
+        }
+        int is_refused = batch->sizes[done] > 1 && (errno == EINVAL || errno == EIO || errno == EOPNOTSUPP);
+        lost += is_refused ? send_apart(at, &batch->messages[done].msg_hdr) : batch->sizes[done];
+        done++;
+    }
+    return lost;
+}
+
+static unsigned long send_at(size_t place) {
+    static struct batch batch;
+    const struct outgoing *outs[PLACES];
+    size_t count = 0;
+    for (size_t i = 0; i < waiting_count; i++) {
+        if (waiting[i].message->port == place + 1) outs[count++] = &waiting[i];
+    }
+    if (ports[place].socket < 0) return count;
+    fill_batch(&batch, &ports[place], outs, count);
+    return send_batch(ports[place].socket, &batch);
+}
+
+unsigned long send_round(void) {
+    unsigned long lost = not_taken;
+    for (size_t place = 0; place < port_count && waiting_count > 0; place++) lost += send_at(place);
+    not_taken = 0;
+    used = waiting_count = 0;
+    return lost;
+}

@@ -1,0 +1,53 @@
+/* Datagrams in rounds: what has come in at a socket by now, up to 64 at once, and what goes out behind a round. Nothing waits for a
+   round to be full. */
+#ifndef ROUNDS_H
+#define ROUNDS_H
+
+#include "ports.h"
+#include "ptpm.h"
+#include <netinet/in.h>
+#include <stddef.h>
+#include <sys/socket.h>
+#include <sys/un.h>
+
+enum { ROUND = 64, MOST_HEARD = 2048 };
+
+/* Who sent a datagram. */
+union sender {
+    struct sockaddr any;
+    struct sockaddr_in four;
+    struct sockaddr_in6 six;
+    struct sockaddr_un peer;            /* a program of this host, whose path may be 108 octets without an end */
+    struct sockaddr_storage room;
+};
+
+/* A datagram. Octets behind the first 2,048 belong to no message, and are not kept. */
+struct heard {
+    uint8_t *octets;
+    size_t size, whole;                 /* the octets that are kept, and all that came in */
+    union sender sender;
+    socklen_t sender_size;
+    const uint8_t *station;             /* who sent it over Ethernet */
+    int is_unicast;                     /* it was sent to this host alone, and so is what is answered */
+    struct in_pktinfo own_four;         /* the address that it was sent to */
+    struct in6_pktinfo own_six;
+};
+
+/* Takes what has come in at a port, or, where there is none, at the Unix socket; how many datagrams. They stay until the next
+   round. */
+size_t hear_round(const struct port *port, int at, struct heard heard[ROUND]);
+
+/* The place of the next messages that are to go out, and how many there are. */
+struct ptpm_sent *places_to_send(size_t *room);
+
+/* A message that stands in the next place, or behind others, is to go out at its port: to who sent what is answered, where that
+   came by unicast, or to the group. */
+void send_later(const struct ptpm_sent *message, const struct heard *answered);
+
+/* The first `count` places are used. */
+void use_places(size_t count);
+
+/* Sends what is to go out; how many messages were not taken. What a socket doesn't take at once is dropped. */
+unsigned long send_round(void);
+
+#endif

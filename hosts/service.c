@@ -1,0 +1,47 @@
+#define _GNU_SOURCE
+#include "service.h"
+#include "common.h"
+#include <limits.h>
+#include <stddef.h>
+#include <stdlib.h>
+#include <string.h>
+#include <sys/socket.h>
+#include <sys/un.h>
+#include <unistd.h>
+
+static struct sockaddr_un told = { .sun_family = AF_UNIX };
+static socklen_t size;
+static int at = -1;
+static long every, next;        /* milliseconds; 0: nobody watches */
+
+/* A path, or a name behind @ that stands in no folder. */
+void open_service(void) {
+    const char *name = getenv("NOTIFY_SOCKET"), *watched = getenv("WATCHDOG_USEC"), *process = getenv("WATCHDOG_PID");
+    if (name == NULL || (*name != '/' && *name != '@') || strlen(name) >= sizeof told.sun_path) return;
+    strcpy(told.sun_path, name);
+    size = (socklen_t)(offsetof(struct sockaddr_un, sun_path) + strlen(name) + (*name == '/'));
+    if (*name == '@') told.sun_path[0] = '\0';
+    at = socket(AF_UNIX, SOCK_DGRAM | SOCK_CLOEXEC, 0);
+    long time = watched == NULL ? -1 : decimal(watched, LONG_MAX / 10 - 1);
+    if (time > 0 && (process == NULL || decimal(process, INT_MAX) == getpid())) every = time / 2000 > 0 ? time / 2000 : 1;
+}
+
+static void say_state(const char *state) {
+    if (at >= 0) sendto(at, state, strlen(state), MSG_DONTWAIT | MSG_NOSIGNAL, (const struct sockaddr *)&told, size);
+}
+
+void tell_ready(void) { say_state("READY=1"); }
+
+void tell_stopping(void) { say_state("STOPPING=1"); }
+
+void tell_alive(long now) {
+    if (every == 0 || now < next) return;
+    next = now + every;
+    say_state("WATCHDOG=1");
+}
+
+long until_alive(long now, long most) {
+    long left = next - now;
+    if (every == 0 || left > most) return most;
+    return left > 0 ? left : 0;
+}

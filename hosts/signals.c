@@ -1,0 +1,27 @@
+#include "signals.h"
+#include "common.h"
+#include <signal.h>
+#include <sys/signalfd.h>
+#include <unistd.h>
+
+int open_signals(void) {
+    static const int ends[] = { SIGHUP, SIGINT, SIGTERM };
+    struct sigaction before;
+    sigset_t held;
+    signal(SIGPIPE, SIG_IGN);
+    sigemptyset(&held);
+    sigaddset(&held, SIGUSR1);
+    for (size_t i = 0; i < sizeof ends / sizeof *ends; i++) {
+        if (sigaction(ends[i], NULL, &before) == 0 && before.sa_handler != SIG_IGN) sigaddset(&held, ends[i]);
+    }
+    sigprocmask(SIG_BLOCK, &held, NULL);
+    int signals = signalfd(-1, &held, SFD_NONBLOCK | SFD_CLOEXEC);
+    if (signals < 0) give_up("signalfd");
+    return signals;
+}
+
+enum asked read_signal(int signals) {
+    struct signalfd_siginfo signal_read;
+    if (read(signals, &signal_read, sizeof signal_read) != (ssize_t)sizeof signal_read) return NOTHING_ASKED;
+    return signal_read.ssi_signo == SIGUSR1 ? COUNTS_ASKED : END_ASKED;
+}

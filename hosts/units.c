@@ -1,0 +1,120 @@
+/* Tests of what the hosts decide without a socket: token buckets, messages that were passed on, and messages in frames. Prints what
+   does not hold, and `units: N passed, M failed`. */
+#include "bucket.h"
+#include "checking.h"
+#include "ethernet.h"
+#include "passed_on.h"
+#include <string.h>
+
+enum { NOW = 5000, MESSAGE = 54 };
+
+/* How many tokens there are at a time, taken one after another. */
+static long taken(struct bucket *bucket, long now) {
+    long count = 0;
+    while (take_token(bucket, now)) count++;
+    return count;
+}
+
+static void buckets(void) {
+    struct bucket bucket = full_bucket(1000, NOW);
+    check(taken(&bucket, NOW) == 1000, "a second's tokens at once");
+    check(taken(&bucket, NOW + 1) == 1, "one more a millisecond later");
+    check(taken(&bucket, NOW + 11) == 10, "ten more ten milliseconds later");
+    check(taken(&bucket, NOW + 100000) == 1000, "no more than a second's after a pause");
+    bucket = full_bucket(1, NOW);
+    check(taken(&bucket, NOW) == 1 && taken(&bucket, NOW + 999) == 0 && taken(&bucket, NOW + 1000) == 1, "one a second");
+    bucket = full_bucket(1000000, NOW);
+    check(taken(&bucket, NOW) == 1000000 && taken(&bucket, NOW + 5) == 5000, "a million a second");
+    bucket = full_bucket(3, NOW);
+    long count = 0;
+    for (long now = NOW; now < NOW + 10000; now++) count += taken(&bucket, now);
+    check(count == 3 + 29, "three a second, and no fraction is lost: the last token is whole at ten seconds");
+}
+
+/* Fields of a GET of PRIORITY1 that tell one message from another, and the octets at which they stand (13.3, 15.4). */
+static void passing_on(void) {
+    static struct passed_on table;
+    static const struct { int octet; const char *name; } fields[] = {
+        { 20, "sourcePortIdentity" }, { 29, "sourcePortIdentity" }, { 30, "sequenceId" }, { 31, "sequenceId" },
+        { 34, "targetPortIdentity" }, { 43, "targetPortIdentity" }, { 46, "actionField" }, { 52, "managementId" },
+        { 53, "managementId" },
+    };
+    static const int others[] = { 2, 6, 8, 32, 33, 44, 45, 47 };
+    uint8_t message[MESSAGE + 4] = { 0x0d, 0x12, 0, MESSAGE };
+    message[49] = 1;
+    check(is_first(&table, message, NOW), "a message that was not passed on");
+    check(!is_first(&table, message, NOW) && !is_first(&table, message, NOW + 999), "the same in the second behind it");
+    for (size_t i = 0; i < sizeof fields / sizeof *fields; i++) {
+        message[fields[i].octet] ^= 1;
+        check(is_first(&table, message, NOW) && !is_first(&table, message, NOW), fields[i].name);
+        message[fields[i].octet] ^= 1;
+    }
+    for (size_t i = 0; i < sizeof others / sizeof *others; i++) {
+        message[others[i]] ^= 1;
+        check(!is_first(&table, message, NOW), "an octet that tells no message from another");
+        message[others[i]] ^= 1;
+    }
+    check(is_first(&table, message, NOW + 1000) && !is_first(&table, message, NOW + 1999), "a second later it is passed on again");
+    message[55] = 7;
+    message[49] = 2;                            /* an error status, whose id stands behind the error */
+    check(is_first(&table, message, NOW) && !is_first(&table, message, NOW), "an error status");
+    message[54] ^= 1;
+    check(is_first(&table, message, NOW), "an error status of another id");
+    message[53] ^= 1;
+    check(!is_first(&table, message, NOW), "another error of the same id");
+}
+
+/* The table keeps a second's messages at the rates that there are, and passes on none that it can't note. */
+static void many_messages(void) {
+    static struct passed_on table = { .seed = 1588 };
+    uint8_t message[MESSAGE] = { 0x0d, 0x12, 0, MESSAGE };
+    unsigned first = 0, again = 0, late = 0;
+    for (unsigned i = 0; i < 2000; i++) {
+        message[30] = (uint8_t)(i >> 8);
+        message[31] = (uint8_t)i;
+        first += (unsigned)is_first(&table, message, NOW);
+    }
+    for (unsigned i = 0; i < 2000; i++) {
+        message[30] = (uint8_t)(i >> 8);
+        message[31] = (uint8_t)i;
+        again += (unsigned)is_first(&table, message, NOW + 500);
+    }
+    check(first >= 1990 && again == 0, "2,000 messages in a second, and each again");
+    for (unsigned i = 0; i < 60000; i++) {
+        message[30] = (uint8_t)(i >> 8);
+        message[31] = (uint8_t)i;
+        message[20] = 1;
+        late += (unsigned)is_first(&table, message, NOW + 600);
+    }
+    check(late + first <= PASSED_ON_PLACES, "no more messages than there are places");
+}
+
+static void frames(void) {
+    static const uint8_t own[STATION] = { 2, 0, 0, 0, 0, 9 }, peer[STATION] = { 2, 0, 0, 0, 0, 7 };
+    static const uint8_t head[] = { 0x01, 0x1b, 0x19, 0, 0, 0, 2, 0, 0, 0, 0, 9, 0x88, 0xf7 };
+    uint8_t written[ETHERNET_HEAD], frame[ETHERNET_LEAST] = { 0x01, 0x1b, 0x19, 0, 0, 0, 2, 0, 0, 0, 0, 7, 0x88, 0xf7 };
+    write_head(written, NULL, own);
+    check(memcmp(written, head, sizeof head) == 0, "the head of a frame to the group");
+    write_head(written, peer, own);
+    check(memcmp(written, peer, STATION) == 0 && memcmp(written + STATION, own, STATION) == 0, "of one to a station");
+    check(message_in(frame, sizeof frame, own) == 14 && memcmp(station_of(frame), peer, STATION) == 0, "a message to the group");
+    check(!is_to_station(frame, own) && message_in(frame, 13, own) == 0, "a frame without a whole head");
+    memcpy(frame, peer, STATION);
+    check(message_in(frame, sizeof frame, own) == 0, "a frame to another station");
+    memcpy(frame, own, STATION);
+    check(message_in(frame, sizeof frame, own) == 14 && is_to_station(frame, own), "a frame to this one");
+    memcpy(frame + 12, (const uint8_t[]){ 0x81, 0, 0xa0, 0, 0x88, 0xf7 }, 6);
+    check(message_in(frame, sizeof frame, own) == 18, "a frame with a tag");
+    memcpy(frame + 12, (const uint8_t[]){ 0x88, 0xa8, 0, 5, 0x81, 0, 0, 7, 0x88, 0xf7 }, 10);
+    check(message_in(frame, sizeof frame, own) == 22 && message_in(frame, 20, own) == 0, "a frame with two tags");
+    memcpy(frame + 12, (const uint8_t[]){ 0x08, 0x00 }, 2);
+    check(message_in(frame, sizeof frame, own) == 0, "a frame of another Ethertype");
+}
+
+int main(void) {
+    buckets();
+    passing_on();
+    many_messages();
+    frames();
+    return told("units");
+}
