@@ -39,7 +39,7 @@ static const char text[] =
     "                          file in $XDG_STATE_HOME/ptpm, /var/lib/ptpm or ~/.local/state/ptpm\n"
     "                          does, for a set and a command over UDP and for what is asked with -m,\n"
     "                          but for no survey\n"
-    "  -w, --wait MILLIS       how long it waits where there is no such file yet, in milliseconds (3000)\n"
+    "  -w, --wait MILLIS       how long it waits where there is no such file, in milliseconds (3000)\n"
     "  -a, --attempts N        how often a request is sent at most, 1 to 255 (30)\n"
     "  -t, --timeout MILLIS    how long each answer is waited for, in milliseconds (200)\n"
     "  -n, --times N           makes the request so many times, for trials (1)\n"
