@@ -56,7 +56,7 @@ static const char help[] =
     "  -v                  a line for each datagram, and one for what it changed\n"
     "  --user NAME         whom it is to be once its sockets are open\n"
     "  --no-filter         it may call all of the system, as where a debugger looks on\n"
-    "  --help              this text\n"
+    "  -h, --help          this text\n"
     "  --version           the version\n"
     "\n"
     "SIGTERM ends it; at its end, and at SIGUSR1, it prints how often each answer was given.\n"
