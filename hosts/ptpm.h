@@ -219,7 +219,8 @@ enum {
     PTPM_CHANGED_STATE = PTPM_CHANGED_PORT_STATE, PTPM_CHANGED_LOG_MIN_DELAY_REQ = PTPM_CHANGED_PORT_LOG_MIN_DELAY_REQ,
     PTPM_CHANGED_PEER_DELAY = PTPM_CHANGED_PORT_PEER_DELAY, PTPM_CHANGED_LOG_ANNOUNCE = PTPM_CHANGED_PORT_LOG_ANNOUNCE,
     PTPM_CHANGED_RECEIPT_TIMEOUT = PTPM_CHANGED_PORT_RECEIPT_TIMEOUT, PTPM_CHANGED_LOG_SYNC = PTPM_CHANGED_PORT_LOG_SYNC,
-    PTPM_CHANGED_DELAY_MECHANISM = PTPM_CHANGED_PORT_DELAY_MECHANISM, PTPM_CHANGED_LOG_MIN_PDELAY = PTPM_CHANGED_PORT_LOG_MIN_PDELAY
+    PTPM_CHANGED_DELAY_MECHANISM = PTPM_CHANGED_PORT_DELAY_MECHANISM,
+    PTPM_CHANGED_LOG_MIN_PDELAY = PTPM_CHANGED_PORT_LOG_MIN_PDELAY
 };
 
 /* A session of a manager, about 1,600 octets behind one pointer. All zeros hold no session. */
@@ -263,8 +264,8 @@ struct ptpm_source {
     uint16_t port;
 };
 
-/* No flag of the compiler lays a struct out otherwise than the library has it; where one does, an array of a negative size has the
-   name of the struct. C99 has no static assertion. */
+/* No flag of the compiler may lay a struct out otherwise than the library has it: where one does, the compiler refuses an array
+   with the name of the struct, since its size is negative. C99 has no static assertion. */
 #define PTPM_HAS_SIZE(name, size) typedef char name##_is_laid_out_otherwise[sizeof(struct name) == (size) ? 1 : -1]
 PTPM_HAS_SIZE(ptpm_clock, 16);
 PTPM_HAS_SIZE(ptpm_clock_settings, 216);
@@ -291,10 +292,10 @@ enum { PTPM_MOST_ANSWERS = 512 };
 /* What calls answer. 0 says that the call was done. 1 to 31 say what became of a datagram or of a request. From 32 on a call was
    refused (ptpm_is_refusal): 32 to 47 by any call, 48 to 63 by a start, from 64 on since a member is out of its range.
 
-   Each kind of call has a type for its answers, so a compiler that knows -Wenum-compare says where an answer is compared with a
-   name that the call never answers. Names that calls of several kinds answer are plain numbers, and compare with each type. In the
-   types they have the kind in front, as PTPM_HANDLE_NO_CLOCK for PTPM_NO_CLOCK, so that -Wswitch and debuggers know them.
-   A uint32_t holds any answer. */
+   Each kind of call has a type for its answers. With -Wenum-compare gcc, g++ and clang++ warn where an answer is compared with a
+   name of another kind's. A name that several kinds of calls answer is a plain number, and compares with each type. Each type has
+   it again with the kind in front, as PTPM_HANDLE_NO_CLOCK for PTPM_NO_CLOCK, so that -Wswitch and debuggers know it. A uint32_t
+   holds any answer. */
 
 /* A datagram is of another domain. */
 #define PTPM_OTHER_DOMAIN 1
@@ -336,8 +337,8 @@ enum { PTPM_MOST_ANSWERS = 512 };
 #endif
 
 /* The three starts. A session is refused by PTPM_MANAGER_IS_EVERY, PTPM_TARGET_IS_EVERY, PTPM_SAME_CLOCK, PTPM_NO_PORTS,
-   PTPM_TOO_MANY_PORTS or PTPM_NO_MEMORY, in this order. A survey is refused by the first or the last of these. A clock is refused by
-   all others, and by the last three of these. */
+   PTPM_TOO_MANY_PORTS or PTPM_NO_MEMORY, in this order. A survey is refused by the first or the last of these. A clock is refused
+   by all others, and by the last three of these. */
 __extension__ enum PTPM_FOUR_OCTETS(ptpm_started) {
     PTPM_STARTED = 0,
     PTPM_START_NO_MEMORY = PTPM_NO_MEMORY,
@@ -527,8 +528,8 @@ PTPM_IS_WIDE(ptpm_told);
    Takes:   the answer of any call that answers a type above. */
 static inline bool ptpm_is_refusal(uint32_t answer) { return answer >= 32; }
 
-/* Each call below says what it takes, what it answers, what of the host's memory it writes beside its handle, what it asks of malloc,
-   and what the caller then owes. What is not said, there is none of. */
+/* Each call below says what it takes, what it answers, what of the host's memory it writes beside its handle, what memory it asks
+   of malloc, and what the caller then owes. Where a line is missing, there is none of it. */
 
 /* Makes the settings of a clock of identity 0 in domain 0 that is its own grandmaster, with this profile's defaults.
    Writes:  all of *settings.
@@ -568,8 +569,8 @@ enum ptpm_handled ptpm_clock_handle_changed(struct ptpm_clock *clock, uint16_t p
 /* Moves what the host observes of its clock and of its ports, and nothing else. Judges the data sets as they would be afterwards.
    Takes:   port_count places, of which the first is of port 1: as many as the clock has ports, or fewer, or none.
    Answers: PTPM_OBSERVED; or why not, and then nothing changes.
-   Writes:  *left: the disabled ports at which a state was observed, and which stay disabled. 1 is port 1, 2 is port 2, 4 is port 3,
-            and so on, summed up; 0 where the call is refused.
+   Writes:  *left: the disabled ports at which a state was observed, and which stay disabled. 1 is port 1, 2 is port 2, 4 is
+            port 3, and so on, summed up; 0 where the call is refused.
    Owed:    the host stops these ports. */
 enum ptpm_observed ptpm_clock_observe(struct ptpm_clock *clock, const struct ptpm_observed_clock *observed,
                                       const struct ptpm_observed_port *ports, size_t port_count, uint8_t *left);
@@ -658,8 +659,8 @@ enum ptpm_survey_received ptpm_survey_receive(struct ptpm_survey *survey, const 
 size_t ptpm_survey_count(struct ptpm_survey *survey);
 
 /* Tells what an answer says, and who gave it.
-   Takes:   its place, counted from 0 in the order in which the answers came; and room octets, as many as the dataField has or more:
-            1,418 do for each.
+   Takes:   its place, counted from 0 in the order in which the answers came; and room octets, as many as the dataField has or
+            more: 1,418 do for each.
    Answers: PTPM_VALUE, PTPM_DONE or PTPM_REFUSED; or why nothing is told.
    Writes:  *size, and so many octets from octets on: the dataField, behind PTPM_VALUE. *size is 0 behind every other answer.
             *error: the managementErrorId behind PTPM_REFUSED, and 0 behind every other answer.
@@ -684,7 +685,7 @@ uint32_t ptpm_id_named(const char *name, size_t size);
    Writes:  so many octets from text on: the name, with no zero behind it. */
 size_t ptpm_id_name(uint16_t id, char *text, size_t room);
 
-/* Gives the name of the number that a call answered, as NO_ROOM for PTPM_NO_ROOM. 0 has none: it says of each call that it is done.
+/* Gives the name of the number that a call answered, as NO_ROOM for PTPM_NO_ROOM. 0 has none, since each call answers it.
    Takes:   the number; and room octets, for which PTPM_MOST_NAME is enough.
    Answers: how many octets the name has; 0 where the number has none, or room is too small for the whole name.
    Writes:  so many octets from text on: the name, with no zero behind it. */
