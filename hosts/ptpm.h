@@ -289,8 +289,9 @@ enum { PTPM_MOST_SENT = 15, PTPM_MOST_READ = 130, PTPM_MOST_OCTETS = 1472 };
 /* A survey keeps the answers of at most so many ports. */
 enum { PTPM_MOST_ANSWERS = 512 };
 
-/* What calls answer. 0 says that the call was done. 1 to 31 say what became of a datagram or of a request. From 32 on a call was
-   refused (ptpm_is_refusal): 32 to 47 by any call, 48 to 63 by a start, from 64 on since a member is out of its range.
+/* What calls answer. 0 says that the call was done. 1 to 31 say what became of a datagram or of a request. From 32 on the call was
+   refused (ptpm_is_refusal): 48 to 63 say why nothing starts, or an observation is refused, and from 64 on a member is out of its
+   range.
 
    Each kind of call has a type for its answers. With -Wenum-compare gcc, g++ and clang++ warn where an answer is compared with a
    name of another kind's. A name that several kinds of calls answer is a plain number, and compares with each type. Each type has
@@ -300,7 +301,7 @@ enum { PTPM_MOST_ANSWERS = 512 };
 /* A datagram is of another domain. */
 #define PTPM_OTHER_DOMAIN 1
 
-/* Why a session or a survey ignores a datagram, beside that and what follows. */
+/* Why a session or a survey ignores a datagram; another domain, and what is no management message, too. */
 #define PTPM_NOT_A_REPLY 10
 #define PTPM_OTHER_TARGET 11
 #define PTPM_OTHER_NUMBER 14
@@ -508,6 +509,7 @@ __extension__ enum PTPM_FOUR_OCTETS(ptpm_told) {
     PTPM_REPORT_NO_SURVEY = PTPM_NO_SURVEY
 };
 
+/* As -fshort-enums alone would have it otherwise. */
 #define PTPM_IS_WIDE(name) typedef char name##_has_not_four_octets[sizeof(enum name) == 4 ? 1 : -1]
 PTPM_IS_WIDE(ptpm_started);
 PTPM_IS_WIDE(ptpm_handled);
@@ -523,9 +525,9 @@ PTPM_IS_WIDE(ptpm_told);
 #undef PTPM_IS_WIDE
 #undef PTPM_FOUR_OCTETS
 
-/* Whether a call that answered so was refused, and did nothing; a refused start leaves nothing in the handle. PTPM_REFUSED is no
-   refusal of the call: the clock that was asked refused its request.
-   Takes:   the answer of any call that answers a type above. */
+/* Tells whether a call that answered so was refused. It then changed nothing, but that a start leaves nothing in its handle.
+   PTPM_REFUSED is no such answer: the call told that the clock which was asked refused the request.
+   Takes:   what a call with one of these types answered. */
 static inline bool ptpm_is_refusal(uint32_t answer) { return answer >= 32; }
 
 /* Each call below says what it takes, what it answers, what of the host's memory it writes beside its handle, what memory it asks
