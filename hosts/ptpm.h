@@ -330,7 +330,8 @@ enum { PTPM_MOST_ANSWERS = 512 };
 #define PTPM_BAD_LEAP59 88              /* both leaps */
 #define PTPM_BAD_STATE 94
 
-/* A type of answers has the four octets of the library's answers, in C++ and with -fshort-enums too. */
+/* A type of answers has the four octets of the library's answers, also where -fshort-enums would give it one. In C clang takes the
+   form of C++ behind __extension__. */
 #if defined(__cplusplus) || defined(__clang__)
 #define PTPM_FOUR_OCTETS(name) name : uint32_t
 #else
@@ -509,7 +510,7 @@ __extension__ enum PTPM_FOUR_OCTETS(ptpm_told) {
     PTPM_REPORT_NO_SURVEY = PTPM_NO_SURVEY
 };
 
-/* As -fshort-enums alone would have it otherwise. */
+/* So the header refuses a compiler that takes no such word. */
 #define PTPM_IS_WIDE(name) typedef char name##_has_not_four_octets[sizeof(enum name) == 4 ? 1 : -1]
 PTPM_IS_WIDE(ptpm_started);
 PTPM_IS_WIDE(ptpm_handled);
