@@ -101,12 +101,15 @@ def runs_beside_each_other():
 
 
 def clocks_that_are_not_there():
-    """Twenty runs of one manager at a peer that answers nothing. Each has its socket beside the peer's while it has its turn."""
-    deaf, number, most = Peer("socket"), os.path.join(work, "number"), 0
-    runs = [start("manage", "-m", MANAGER + "/1", "-w", "0", "-u", path, "-t", "10", "-a", "1", "-k", number, "set", "PRIORITY1",
-                  "100", "--target", ME, stdout=subprocess.DEVNULL, stderr=subprocess.DEVNULL) for _ in range(20)]
-    while any(one.poll() is None for one in runs):
+    """Twenty runs of one manager, some while others end, at a peer that answers nothing. Each has its socket beside the peer's while
+    it has its turn."""
+    deaf, number, runs, most = Peer("socket"), os.path.join(work, "number"), [], 0
+    while len(runs) < 20 or any(one.poll() is None for one in runs):
+        if len(runs) < 20:
+            runs.append(start("manage", "-m", MANAGER + "/1", "-w", "0", "-u", path, "-t", "10", "-a", "1", "-k", number, "set",
+                              "PRIORITY1", "100", "--target", ME, stdout=subprocess.DEVNULL, stderr=subprocess.DEVNULL))
         most = max(most, sum(name.startswith("socket.") for name in os.listdir(work)))
+        time.sleep(0.02)
     check("a run without an answer has its turn alone", most == 1)
     check("it leaves no file of numbers, and no lock", os.listdir(work) == ["socket"])
     deaf.close()
