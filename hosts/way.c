@@ -18,7 +18,7 @@
 static struct sockaddr_storage clock_address;
 static socklen_t clock_size;
 static int at;
-static const char *name, *interface;    /* of the way in a notice; of a way over UDP */
+static const char *name, *interface;    /* of the way in a notice; of a way over UDP or Ethernet */
 static int is_six, is_ethernet;
 static uint8_t station[STATION];        /* the interface's address on Ethernet */
 
