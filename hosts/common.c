@@ -151,6 +151,11 @@ int open_udp(const char *interface, int is_six, const char **what) {
     return -1;
 }
 
+const char *right_needed(int is_ethernet) {
+    if (errno != EACCES && errno != EPERM) return "";
+    return is_ethernet ? ": it takes root, or the capability CAP_NET_RAW" : ": it takes root, or the capability CAP_NET_BIND_SERVICE";
+}
+
 int join_again(int at, unsigned interface, int is_six) {
     struct sockaddr_storage to;
     group(&to, is_six);

@@ -44,6 +44,9 @@ long milliseconds(void);
    of what this host sends. -1 where it can't be made: errno says why, and *what at which step. */
 int open_udp(const char *interface, int is_six, const char **what);
 
+/* Behind the text of errno, which right it takes to open such a socket, or one of Ethernet; nothing where errno is of no right. */
+const char *right_needed(int is_ethernet);
+
 /* The address of that group, and its size. */
 socklen_t group(struct sockaddr_storage *to, int is_six);
 
