@@ -64,7 +64,9 @@ int bind_unix(const char *path, mode_t mode);
    removed. One a program. */
 int open_unix_as(const char *path, mode_t mode);
 
-/* The same with mode 660, at a path that ends in a dot and the number of this process. Those of processes that are gone go. */
+/* The same with mode 660, at a path that ends in a dot and the number of this process. Those of processes that are gone go. It is
+   of the group of the socket at the path without these, where this program may give it that: so a clock of that group, which is
+   another user, can answer there. */
 int open_unix(const char *path);
 
 #endif

@@ -188,6 +188,10 @@ void read_options(struct options *options, int argc, char **argv) {
     }
     options->interfaces = argv + optind + 1;
     options->interface_count = (size_t)(argc - optind - 1);
+    if (options->privileges.user_name != NULL && options->meeting.group == (gid_t)-1) {
+        options->meeting.group = options->privileges.group;
+    }
+    options->privileges.socket_group = options->meeting.group;
     options->limits.managers = options->managers;
     options->limits.manager_count = options->manager_count;
     judge(options, has_two && has_six);
