@@ -232,23 +232,23 @@ int open_unix_as(const char *path, mode_t mode) {
     return at;
 }
 
-/* What is made from now on is of the group of the file at a path, where the program may do that. */
-static void take_group_of(const char *path) {
+/* Whether what is made from now on is of the group of the file at a path, which is as the program may. */
+static int takes_group_of(const char *path) {
     struct stat found;
-    int failure = stat(path, &found) == 0 && setegid(found.st_gid) != 0 ? errno : 0;
-    if (failure != 0 && failure != EPERM) give_up(path);
+    return stat(path, &found) == 0 && setegid(found.st_gid) == 0;
 }
 
 int open_unix(const char *path) {
     char base[sizeof own_path.sun_path];
     gid_t before = getegid();
+    int has_its_group = 0;
     const char *dot = strrchr(path, '.');
     if (dot != NULL && strlen(path) < sizeof base) {
         snprintf(base, sizeof base, "%.*s", (int)(dot - path), path);
         remove_beside(base);
-        take_group_of(base);
+        has_its_group = takes_group_of(base);
     }
     int at = open_unix_as(path, 0660);
-    if (setegid(before)) give_up(path);
+    if (has_its_group && setegid(before)) give_up(path);
     return at;
 }

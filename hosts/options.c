@@ -40,7 +40,7 @@ static const char help[] =
     "  -d DOMAIN           domainNumber, 0 where it is not given\n"
     "\n"
     "  -u PATH             a Unix socket for programs of this host, which counts as port 1\n"
-    "  --unix-group NAME   whose group it gets\n"
+    "  --unix-group NAME   the group that it gets, in which this program then is\n"
     "  --unix-mode MODE    its mode, 660 where it is not given\n"
     "  -f                  what comes in there for other clocks is passed on at the other ports\n"
     "\n"
