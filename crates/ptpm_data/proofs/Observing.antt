@@ -1,7 +1,6 @@
 -- The ports of an observation, one after another, and what an observation keeps.
-use Rattle.std.proofs.Common.{arith, ◌≡◌, ◌∙◌, ap, refl, sym, ℕ, zero, suc, ◌+◌, ◌<◌, ◌≤◌, Bool, true, false, ◌||◌, nat_lt, List, [], ◌∷◌, ◌++◌, append-nil, take, take_all, length, get_or, set, add-one, None}
-use Rattle.std.specs.List.{refill}
-use Rattle.std.proofs.lemmas.List.{drop_all}
+use Rattle.std.proofs.Common.{arith, ◌≡◌, ◌∙◌, ap, refl, sym, ℕ, zero, suc, ◌+◌, ◌<◌, ◌≤◌, Bool, true, false, ◌||◌, nat_lt, List, [], ◌∷◌, ◌++◌, take, length, get_or, set, add-one, None}
+use Rattle.std.proofs.Math.Bool.{or_assoc}
 use Rattle.std.proofs.lemmas.Bool.{not-false}
 use Rattle.std.proofs.lemmas.Bool.Decides.{nat_tests}
 use Rattle.ptpm_data.specs.declared.data_sets.PortDataSet.{PortDataSet}
@@ -10,10 +9,6 @@ use Rattle.ptpm_data.specs.declared.observation.ClockObservation.{ClockObservati
 use Rattle.ptpm_data.specs.Members.{DataSetsValue, IsConsistent, is_grandmaster}
 use Rattle.ptpm_data.specs.Observation.{accepted_observation, default_after, disables, disables_one, is_left_disabled, left_disabled, observation_refusal, parent_after, port_after, ports_after}
 use Rattle.ptpm_data.proofs.StartLemmas.{passes, precedence_sound}
-
-or_after : (a b c : Bool) → (a || (b || c)) ≡ ((a || b) || c)
-or_after true b c = refl
-or_after false b c = refl
 
 module _ (o : PortObservation) (p : PortDataSet) where
   disables_next : (os : List PortObservation) (ports : List PortDataSet) (i : ℕ)
@@ -26,7 +21,7 @@ module _ (o : PortObservation) (p : PortDataSet) where
   disables_next (x ∷ os) [] i a b = absurd (omega arith)
   disables_next (x ∷ os) (y ∷ ports) zero a b = grind arith
   disables_next (x ∷ os) (y ∷ ports) (suc i) a b =
-      rw (disables_next os ports i (omega arith) (omega arith)) (or_after (disables x y) _ _)
+      rw (disables_next os ports i (omega arith) (omega arith)) (sym (or_assoc (disables x y) _ _))
 
   pub disables_more : (os : List PortObservation) (ports : List PortDataSet) (i : ℕ)
       → i < length os
@@ -101,10 +96,6 @@ unfolding ports_after
 ports_after-length [] ports = refl
 ports_after-length (o ∷ os) [] = refl
 ports_after-length (o ∷ os) (p ∷ ports) = ap (λ (n : ℕ). suc n) (ports_after-length os ports)
-
--- a list that was written over as a whole
-pub refilled : {X : Type 0} (xs ws : List X) → length ws ≡ length xs → refill (length xs) xs ws ≡ ws
-refilled xs ws e = grind (arith, drop_all, append-nil, take_all)
 
 -- ---- what follows where an observation is accepted
 

@@ -7,10 +7,10 @@ use Rattle.std.specs.Option.{option_or}
 use Rattle.ptpm_data.specs.declared.start.StartError.{StartError}
 use Rattle.ptpm_data.specs.declared.start.PortStart.{PortStart}
 use Rattle.ptpm_data.specs.declared.data_sets.PortDataSet.{PortDataSet}
-use Rattle.ptpm_data.specs.Start.{port_data_set, port_fault, ports_fault, port_start_of, unless, count_fault, clock_fault, grandmaster_fault}
+use Rattle.ptpm_data.specs.Start.{port_data_set, port_fault, ports_fault, port_start_of, start_of, started, unless, count_fault, clock_fault, grandmaster_fault}
 use Rattle.ptpm_data.specs.ManagementId.{set_of}
 use Rattle.ptpm_data.specs.Ranges.{is_description}
-use Rattle.ptpm_data.specs.Members.{is_grandmaster, is_same_precedence}
+use Rattle.ptpm_data.specs.Members.{DataSetsValue, is_grandmaster, is_same_precedence}
 use Rattle.ptpm_data.specs.declared.data_sets.ClockPrecedence.{ClockPrecedence}
 use Rattle.ptpm_data.specs.declared.data_sets.DefaultDataSet.{DefaultDataSet}
 use Rattle.ptpm_data.specs.declared.data_sets.ParentDataSet.{ParentDataSet}
@@ -75,6 +75,13 @@ pub handed_on : {A E : Type 0} (r : Result A E) (e : E) (P : A → Type 0) (Q : 
     → MatchResult r P Q
 handed_on (Ok a) e P Q h q = absurd h
 handed_on (Err x) e P Q h q = subst Q (sym h) q
+
+-- the data sets of a clock that starts
+pub started_by : (c : ClockStart) (ports : List PortStart) (sets : DataSetsValue)
+    → Ok sets ≡ start_of c ports
+    → sets ≡ started c ports
+unfolding start_of
+started_by c ports sets h = (unless_ok _ _ _ (sym h)).1
 
 -- ---- what follows where there is no fault
 

@@ -10,6 +10,7 @@ use crate::data_sets::{
 use crate::description::Description;
 use crate::management_id::{Layout, set_of};
 use crate::members::Member;
+use crate::observation::grandmaster_differs;
 use crate::port_state::{DelayMechanism, PortState};
 use arrayvec::ArrayVec;
 use ptpm_codec::{ClockIdentity, PortIdentity};
@@ -324,7 +325,7 @@ fn count_ports(count: usize) -> Result<(), StartError>
 fn judge_grandmaster(default: &DefaultDataSet, parent: &ParentDataSet) -> Result<(), StartError>
     ensures { result ≡ unless (grandmaster_fault default.now parent.now) tt }
 {
-    if parent.grandmaster == default.identity && parent.precedence != default.precedence {
+    if grandmaster_differs(default, parent) {
         Err(StartError::GrandmasterDiffers)
     } else {
         Ok(())
