@@ -21,7 +21,8 @@ int main(void) {
     memcpy(settings.identity, identity, sizeof identity);
     ptpm_port_defaults(&port);
     if (ptpm_clock_start(&clock, &settings, &port, 1, &manager, 1) != PTPM_STARTED) return 1;
-    ptpm_clock_handle(&clock, 1, datagram, sizeof datagram, sent, PTPM_MOST_SENT, &count);
+    enum ptpm_handled answer = ptpm_clock_handle(&clock, 1, datagram, sizeof datagram, sent, PTPM_MOST_SENT, &count);
+    if (ptpm_is_refusal(answer)) return 1;                      /* a mistake of this host */
     for (size_t i = 0; i < count; i++) {
         printf("%u ", (unsigned)sent[i].port);
         for (size_t k = 0; k < sent[i].size; k++) printf("%02x", sent[i].octets[k]);

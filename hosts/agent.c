@@ -21,7 +21,8 @@ void start_clock(const struct options *given) {
     size_t count = clock_ports();
     options = given;
     for (size_t i = 0; i < count; i++) ptpm_port_defaults(&settings[i]);
-    uint32_t answer = ptpm_clock_start(&clock_held, &options->settings, settings, count, options->managers, options->manager_count);
+    enum ptpm_started answer = ptpm_clock_start(&clock_held, &options->settings, settings, count, options->managers,
+                                                options->manager_count);
     if (answer == PTPM_STARTED) return;
     say("it does not start: %s", answer_name(answer));
     exit(1);
@@ -29,10 +30,10 @@ void start_clock(const struct options *given) {
 
 /* The portState that a GET of PORT_DATA_SET tells. */
 static const char *state_of(size_t port) {
-    enum { PORT_DATA_SET = 0x2004, PORT_STATE = 10 };
+    enum { PORT_STATE = 10 };
     uint8_t octets[PTPM_MOST_READ];
     size_t size;
-    if (ptpm_clock_read(&clock_held, PORT_DATA_SET, (uint16_t)port, octets, sizeof octets, &size) != PTPM_READ) return "?";
+    if (ptpm_clock_read(&clock_held, PTPM_ID_PORT_DATA_SET, (uint16_t)port, octets, sizeof octets, &size) != PTPM_READ) return "?";
     const char *name = state_name(octets[PORT_STATE]);
     return name != NULL ? name : "?";
 }
@@ -91,7 +92,8 @@ static void take_turn(struct heard *heard, const struct port *port) {
     if (port != NULL && !is_heard(heard, port)) return;
     lower_hops(heard);
     struct ptpm_sent *places = places_to_send(&room);
-    uint32_t answer = ptpm_clock_handle_changed(&clock_held, ingress, heard->octets, heard->size, places, room, &count, &changed);
+    enum ptpm_handled answer = ptpm_clock_handle_changed(&clock_held, ingress, heard->octets, heard->size, places, room, &count,
+                                                         &changed);
     count_answer(answer);
     size_t left = keep_back(heard, port, ingress, answer, places, count, kept);
     unsigned long lost = 0;
@@ -126,7 +128,8 @@ void observe(char *text) {
         count_observation(0);
         return;
     }
-    uint32_t answer = ptpm_clock_observe(&clock_held, &observation.clock, observation.ports, observation.port_count, &left);
+    enum ptpm_observed answer = ptpm_clock_observe(&clock_held, &observation.clock, observation.ports, observation.port_count,
+                                                   &left);
     count_observation(answer == PTPM_OBSERVED);
     if (answer != PTPM_OBSERVED) say_at_times("%s: nothing is observed: %s", options->source, answer_name(answer));
     else if (options->is_told) print_line("observed");

@@ -6,7 +6,7 @@
 #include <stdio.h>
 
 /* What an answer tells; its dataField is the head of `octets`. */
-struct answer { uint32_t told; uint16_t error; size_t size; uint8_t octets[PTPM_MOST_OCTETS]; };
+struct answer { enum ptpm_told told; uint16_t error; size_t size; uint8_t octets[PTPM_MOST_OCTETS]; };
 
 /* What the answer to the session's latest request tells. */
 void take_report(struct ptpm_session *session, struct answer *answer);

@@ -97,7 +97,7 @@ static int taken_in_time(long wait, long *lost) {
     long end = milliseconds() + wait;
     size_t size;
     for (const uint8_t *datagram; (datagram = hear(&size, end)) != NULL;) {
-        uint32_t became = ptpm_survey_receive(&survey, datagram, size);
+        enum ptpm_survey_received became = ptpm_survey_receive(&survey, datagram, size);
         taken += became == PTPM_TAKEN;
         *lost += became == PTPM_FULL || became == PTPM_NO_MEMORY;
     }

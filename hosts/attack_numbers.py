@@ -100,6 +100,21 @@ def runs_beside_each_other():
     clock.close()
 
 
+def clocks_that_are_not_there():
+    """Twenty runs of one manager, some while others end, at a peer that answers nothing. Each has its socket beside the peer's while
+    it has its turn."""
+    deaf, number, runs, most = Peer("socket"), os.path.join(work, "number"), [], 0
+    while len(runs) < 20 or any(one.poll() is None for one in runs):
+        if len(runs) < 20:
+            runs.append(start("manage", "-m", MANAGER + "/1", "-w", "0", "-u", path, "-t", "10", "-a", "1", "-k", number, "set",
+                              "PRIORITY1", "100", "--target", ME, stdout=subprocess.DEVNULL, stderr=subprocess.DEVNULL))
+        most = max(most, sum(name.startswith("socket.") for name in os.listdir(work)))
+        time.sleep(0.02)
+    check("a run without an answer has its turn alone", most == 1)
+    check("it leaves no file of numbers, and no lock", os.listdir(work) == ["socket"])
+    deaf.close()
+
+
 def losses_of_power():
     """The new number is on the disk before it stands in place of the old one, and the folder after that."""
     if shutil.which("strace") is None:
@@ -245,12 +260,18 @@ def users():
     os.mkdir(home)
     os.chown(home, 65534, 65534)
     program = shutil.copy(PROGRAM, folder)
-    done = subprocess.run([program, "-i", "attack0", "-m", MANAGER + "/1", "--target", ME, "set", "PRIORITY1", "100"], user=65534,
-                          group=65534, extra_groups=[], env={"HOME": home}, stderr=subprocess.PIPE, text=True)
-    check("UDP port 320 says what it takes", done.returncode == 2 and done.stderr == "ptpm-manage: nothing was sent: UDP port 320: "
-          "Permission denied: that takes root, or the capabilities CAP_NET_BIND_SERVICE and CAP_NET_RAW\n")
+
+    def run_by_user(*words):
+        return subprocess.run([program, "-i", "attack0", "-m", MANAGER + "/1", "--target", ME, *words, "set", "PRIORITY1", "100"],
+                              user=65534, group=65534, extra_groups=[], env={"HOME": home}, stderr=subprocess.PIPE, text=True)
+    done, over_ethernet = run_by_user(), run_by_user("-2")
+    said = "ptpm-manage: nothing was sent: "
+    check("UDP port 320 says what it takes", done.returncode == 2 and done.stderr == said + "UDP port 320: Permission denied: it takes "
+          "root, or the capability CAP_NET_BIND_SERVICE\n")
     state = os.path.join(home, ".local", "state", "ptpm")
-    check("the numbers of a user stand below his folder", os.listdir(state) == [f"{MANAGER}-1.{ME}.lock"])
+    check("the numbers of a user stand below his folder, and no lock where nothing was sent", os.listdir(state) == [])
+    check("Ethernet says what it takes", over_ethernet.returncode == 2 and over_ethernet.stderr == said + "a socket of Ethernet: "
+          "Operation not permitted: it takes root, or the capability CAP_NET_RAW\n")
     shutil.rmtree(folder)
 
 
@@ -318,5 +339,5 @@ def places_without_room():
     two.clock.end()
 
 
-ATTACKS = [number_files, runs_at_once, runs_beside_each_other, losses_of_power, damages, old_files, latest_numbers, kills,
-           places_without_room, users]
+ATTACKS = [number_files, runs_at_once, runs_beside_each_other, clocks_that_are_not_there, losses_of_power, damages, old_files,
+           latest_numbers, kills, places_without_room, users]

@@ -151,6 +151,11 @@ int open_udp(const char *interface, int is_six, const char **what) {
     return -1;
 }
 
+const char *right_needed(int is_ethernet) {
+    if (errno != EACCES && errno != EPERM) return "";
+    return is_ethernet ? ": it takes root, or the capability CAP_NET_RAW" : ": it takes root, or the capability CAP_NET_BIND_SERVICE";
+}
+
 int join_again(int at, unsigned interface, int is_six) {
     struct sockaddr_storage to;
     group(&to, is_six);
@@ -227,12 +232,23 @@ int open_unix_as(const char *path, mode_t mode) {
     return at;
 }
 
+/* Whether what is made from now on is of the group of the file at a path, which is as the program may. */
+static int takes_group_of(const char *path) {
+    struct stat found;
+    return stat(path, &found) == 0 && setegid(found.st_gid) == 0;
+}
+
 int open_unix(const char *path) {
     char base[sizeof own_path.sun_path];
+    gid_t before = getegid();
+    int has_its_group = 0;
     const char *dot = strrchr(path, '.');
     if (dot != NULL && strlen(path) < sizeof base) {
         snprintf(base, sizeof base, "%.*s", (int)(dot - path), path);
         remove_beside(base);
+        has_its_group = takes_group_of(base);
     }
-    return open_unix_as(path, 0660);
+    int at = open_unix_as(path, 0660);
+    if (has_its_group && setegid(before)) give_up(path);
+    return at;
 }

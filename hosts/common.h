@@ -44,6 +44,9 @@ long milliseconds(void);
    of what this host sends. -1 where it can't be made: errno says why, and *what at which step. */
 int open_udp(const char *interface, int is_six, const char **what);
 
+/* Behind the text of errno, which right it takes to open such a socket, or one of Ethernet; nothing where errno is of no right. */
+const char *right_needed(int is_ethernet);
+
 /* The address of that group, and its size. */
 socklen_t group(struct sockaddr_storage *to, int is_six);
 
@@ -61,7 +64,9 @@ int bind_unix(const char *path, mode_t mode);
    removed. One a program. */
 int open_unix_as(const char *path, mode_t mode);
 
-/* The same with mode 660, at a path that ends in a dot and the number of this process. Those of processes that are gone go. */
+/* The same with mode 660, at a path that ends in a dot and the number of this process. Those of processes that are gone go. It is
+   of the group of the socket at the path without these, where this program may give it that: so a clock of that group, which is
+   another user, can answer there. */
 int open_unix(const char *path);
 
 #endif

@@ -1,6 +1,6 @@
 #define _GNU_SOURCE
 #include "counts.h"
-#include "limits.h"
+#include "network_limits.h"
 #include "output.h"
 
 enum { ANSWERS = 128 };

@@ -89,3 +89,11 @@ void write_head(uint8_t head[ETHERNET_HEAD], const uint8_t *to, const uint8_t ow
     head[TYPE] = PTP >> 8;
     head[TYPE + 1] = PTP & 0xff;
 }
+
+void join_frame(struct iovec parts[FRAME_PARTS], uint8_t head[ETHERNET_HEAD], const uint8_t *message, size_t size) {
+    static uint8_t zeros[ETHERNET_LEAST];
+    size_t whole = ETHERNET_HEAD + size;
+    parts[0] = (struct iovec){ head, ETHERNET_HEAD };
+    parts[1] = (struct iovec){ (void *)message, size };
+    parts[2] = (struct iovec){ zeros, whole < ETHERNET_LEAST ? ETHERNET_LEAST - whole : 0 };
+}

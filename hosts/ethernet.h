@@ -4,9 +4,10 @@
 
 #include <stddef.h>
 #include <stdint.h>
+#include <sys/uio.h>
 
-/* What stands before the message in a frame that is sent, and how many octets such a frame has at least. */
-enum { STATION = 6, ETHERNET_HEAD = 14, ETHERNET_LEAST = 60 };
+/* What stands before the message in a frame that is sent, how many octets that frame has at least, and how many parts. */
+enum { STATION = 6, ETHERNET_HEAD = 14, ETHERNET_LEAST = 60, FRAME_PARTS = 3 };
 
 /* A socket of an interface, at which frames with management messages alone come in, of the group and of the interface's own
    address. It hears nothing of what this host sends. own gets the interface's address. -1 where it can't be made: errno says why,
@@ -25,5 +26,8 @@ const uint8_t *station_of(const uint8_t *frame);
 
 /* Writes the head of a frame to a station, or to the group where there is none. */
 void write_head(uint8_t head[ETHERNET_HEAD], const uint8_t *to, const uint8_t own[STATION]);
+
+/* The parts of a frame: a head, a message, and zeros behind it where the frame would be too short. */
+void join_frame(struct iovec parts[FRAME_PARTS], uint8_t head[ETHERNET_HEAD], const uint8_t *message, size_t size);
 
 #endif

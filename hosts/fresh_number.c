@@ -13,9 +13,9 @@
 
 /* What is asked: DEFAULT_DATA_SET, and for an id of a port PORT_DATA_SET, since some clocks answer alone where the port is named. A
    GET with as many octets as the data set has is taken by each clock, also by one that looks at how many they are. */
-enum { DEFAULT_DATA_SET = 0x2000, PORT_DATA_SET = 0x2004, MOST_FIELD = 26 };
+enum { MOST_FIELD = 26 };
 struct question { uint16_t id; size_t size; };
-static const struct question of_clock = { DEFAULT_DATA_SET, 20 }, of_port = { PORT_DATA_SET, MOST_FIELD };
+static const struct question of_clock = { PTPM_ID_DEFAULT_DATA_SET, 20 }, of_port = { PTPM_ID_PORT_DATA_SET, MOST_FIELD };
 
 /* Of four numbers so far apart at least one is new, whatever the latest of this manager is. */
 enum { APART = 16384, NUMBERS = 4 };

@@ -4,6 +4,7 @@
    failed`; its status is 1 where one failed. */
 #include "checking.h"
 #include "ptpm.h"
+#include <ctype.h>
 #include <stdio.h>
 #include <stdlib.h>
 #include <string.h>
@@ -326,13 +327,13 @@ static void changes(void) {
           PTPM_CHANGED_UTC_OFFSET | PTPM_CHANGED_LEAP61 | PTPM_CHANGED_UTC_VALID, { 0 } },
         { "0911", ME "ffff", "0001" "0006" "2011" "1921" "0200", PTPM_SET,
           PTPM_CHANGED_LEAP61 | PTPM_CHANGED_LEAP59 | PTPM_CHANGED_UTC_VALID, { 0 } },
-        { "0922", ME "ffff", "0001" "0004" "200b" "fe00", PTPM_SET, 0, { PTPM_CHANGED_LOG_SYNC, PTPM_CHANGED_LOG_SYNC } },
-        { "0922", ME "0001", "0001" "0004" "2009" "0100", PTPM_SET, 0, { PTPM_CHANGED_LOG_ANNOUNCE, 0 } },
-        { "0922", ME "0002", "0001" "0004" "200a" "0500", PTPM_SET, 0, { 0, PTPM_CHANGED_RECEIPT_TIMEOUT } },
-        { "0922", ME "0001", "0001" "0004" "6000" "0100", PTPM_SET, 0, { PTPM_CHANGED_DELAY_MECHANISM, 0 } },
-        { "0922", ME "0002", "0001" "0004" "6001" "0500", PTPM_SET, 0, { 0, PTPM_CHANGED_LOG_MIN_PDELAY } },
-        { "0933", ME "0002", "0001" "0002" "200e", PTPM_COMMAND, 0, { 0, PTPM_CHANGED_STATE } },
-        { "0933", ME "0002", "0001" "0002" "200d", PTPM_COMMAND, 0, { 0, PTPM_CHANGED_STATE } },
+        { "0922", ME "ffff", "0001" "0004" "200b" "fe00", PTPM_SET, 0, { PTPM_CHANGED_PORT_LOG_SYNC, PTPM_CHANGED_PORT_LOG_SYNC } },
+        { "0922", ME "0001", "0001" "0004" "2009" "0100", PTPM_SET, 0, { PTPM_CHANGED_PORT_LOG_ANNOUNCE, 0 } },
+        { "0922", ME "0002", "0001" "0004" "200a" "0500", PTPM_SET, 0, { 0, PTPM_CHANGED_PORT_RECEIPT_TIMEOUT } },
+        { "0922", ME "0001", "0001" "0004" "6000" "0100", PTPM_SET, 0, { PTPM_CHANGED_PORT_DELAY_MECHANISM, 0 } },
+        { "0922", ME "0002", "0001" "0004" "6001" "0500", PTPM_SET, 0, { 0, PTPM_CHANGED_PORT_LOG_MIN_PDELAY } },
+        { "0933", ME "0002", "0001" "0002" "200e", PTPM_COMMAND, 0, { 0, PTPM_CHANGED_PORT_STATE } },
+        { "0933", ME "0002", "0001" "0002" "200d", PTPM_COMMAND, 0, { 0, PTPM_CHANGED_PORT_STATE } },
         { "0911", ME "ffff", "0001" "0004" "2007" "2b00", PTPM_SET, PTPM_CHANGED_DOMAIN, { 0 } },
     };
     struct ptpm_clock_settings s = own_values();
@@ -362,7 +363,8 @@ static void changed_members(void) {
     MEMBER(GRANDMASTER_PRIORITY2) MEMBER(GRANDMASTER) MEMBER(UTC_OFFSET) MEMBER(LEAP61) MEMBER(LEAP59) MEMBER(UTC_VALID)
     MEMBER(PTP_TIMESCALE) MEMBER(TIME_TRACEABLE) MEMBER(FREQUENCY_TRACEABLE) MEMBER(TIME_SOURCE)
 #undef MEMBER
-#define MEMBER(name) check(PTPM_CHANGED_##name == 1 << (PTPM_BAD_##name - PTPM_BAD_STATE), "PTPM_CHANGED_" #name);
+#define MEMBER(name) check(PTPM_CHANGED_PORT_##name == 1 << (PTPM_BAD_##name - PTPM_BAD_STATE), "PTPM_CHANGED_PORT_" #name); \
+        check(PTPM_CHANGED_##name == PTPM_CHANGED_PORT_##name, "PTPM_CHANGED_" #name);
     MEMBER(STATE) MEMBER(LOG_MIN_DELAY_REQ) MEMBER(PEER_DELAY) MEMBER(LOG_ANNOUNCE) MEMBER(RECEIPT_TIMEOUT) MEMBER(LOG_SYNC)
     MEMBER(DELAY_MECHANISM) MEMBER(LOG_MIN_PDELAY)
 #undef MEMBER
@@ -428,40 +430,75 @@ static void surveys(void) {
           "the port that gave it");
 }
 
-/* Each constant of an answer has its own name, and no other number below 200 has one. */
-static void answer_names(void) {
-#define ANSWER(name) { PTPM_##name, #name }
-    static const struct { uint32_t number; const char *name; } answers[] = {
-        ANSWER(AGAIN), ANSWER(FULL), ANSWER(DONE), ANSWER(REFUSED), ANSWER(OTHER_DOMAIN), ANSWER(OWN_MESSAGE),
-        ANSWER(NOT_ADDRESSED), ANSWER(NOT_A_REQUEST), ANSWER(ANSWERED_NEW), ANSWER(ANSWERED_REPEAT), ANSWER(DROPPED_OLD),
-        ANSWER(DROPPED_CONFLICT), ANSWER(ANSWERED_UNNUMBERED), ANSWER(NOT_A_REPLY), ANSWER(OTHER_TARGET),
-        ANSWER(OTHER_SOURCE), ANSWER(NOTHING_ASKED), ANSWER(OTHER_NUMBER), ANSWER(OTHER_CONTENT), ANSWER(TOO_SHORT),
-        ANSWER(NOT_MANAGEMENT), ANSWER(BAD_VERSION), ANSWER(BAD_LENGTH), ANSWER(BAD_ACTION), ANSWER(BAD_TLV_TYPE),
-        ANSWER(BAD_TLV_LENGTH), ANSWER(BAD_TEXT), ANSWER(NO_CLOCK), ANSWER(NO_PORT), ANSWER(NO_ROOM), ANSWER(NO_MEMORY),
-        ANSWER(NOT_READABLE), ANSWER(NO_SESSION), ANSWER(BUSY), ANSWER(NEEDS_PORT), ANSWER(NOT_PERMITTED),
-        ANSWER(BAD_VALUE), ANSWER(COUNT_AT_MAXIMUM), ANSWER(IDLE), ANSWER(GAVE_UP), ANSWER(NO_REPORT), ANSWER(NO_SURVEY),
-        ANSWER(NO_PORTS), ANSWER(TOO_MANY_PORTS), ANSWER(GRANDMASTER_DIFFERS), ANSWER(TOO_MANY_MANAGERS),
-        ANSWER(MANAGER_TWICE), ANSWER(MANAGER_IS_EVERY), ANSWER(TARGET_IS_EVERY), ANSWER(SAME_CLOCK), ANSWER(BAD_IDENTITY),
-        ANSWER(BAD_DOMAIN), ANSWER(BAD_USER_DESCRIPTION), ANSWER(BAD_TWO_STEP), ANSWER(BAD_PRIORITY1),
-        ANSWER(BAD_CLOCK_CLASS), ANSWER(BAD_CLOCK_ACCURACY), ANSWER(BAD_VARIANCE), ANSWER(BAD_PRIORITY2),
-        ANSWER(BAD_STEPS_REMOVED), ANSWER(BAD_OFFSET_FROM_MASTER), ANSWER(BAD_MEAN_PATH_DELAY), ANSWER(BAD_PARENT_PORT),
-        ANSWER(BAD_PARENT_STATS), ANSWER(BAD_OBSERVED_VARIANCE), ANSWER(BAD_OBSERVED_RATE),
-        ANSWER(BAD_GRANDMASTER_PRIORITY1), ANSWER(BAD_GRANDMASTER_CLASS), ANSWER(BAD_GRANDMASTER_ACCURACY),
-        ANSWER(BAD_GRANDMASTER_VARIANCE), ANSWER(BAD_GRANDMASTER_PRIORITY2), ANSWER(BAD_GRANDMASTER),
-        ANSWER(BAD_UTC_OFFSET), ANSWER(BAD_LEAP61), ANSWER(BAD_LEAP59), ANSWER(BAD_UTC_VALID), ANSWER(BAD_PTP_TIMESCALE),
-        ANSWER(BAD_TIME_TRACEABLE), ANSWER(BAD_FREQUENCY_TRACEABLE), ANSWER(BAD_TIME_SOURCE), ANSWER(BAD_STATE),
-        ANSWER(BAD_LOG_MIN_DELAY_REQ), ANSWER(BAD_PEER_DELAY), ANSWER(BAD_LOG_ANNOUNCE), ANSWER(BAD_RECEIPT_TIMEOUT),
-        ANSWER(BAD_LOG_SYNC), ANSWER(BAD_DELAY_MECHANISM), ANSWER(BAD_LOG_MIN_PDELAY),
-    };
-#undef ANSWER
-    size_t named = 0, all = sizeof answers / sizeof *answers;
+static int has_name(uint32_t number, const char *name) {
     char text[PTPM_MOST_NAME];
-    for (size_t i = 0; i < all; i++) {
-        size_t size = ptpm_answer_name(answers[i].number, text, sizeof text);
-        check(size == strlen(answers[i].name) && memcmp(text, answers[i].name, size) == 0, answers[i].name);
-    }
+    size_t size = ptpm_answer_name(number, text, sizeof text);
+    return size == strlen(name) && memcmp(text, name, size) == 0;
+}
+
+struct answer { uint32_t number; const char *name; };
+#define ANSWER(name) { PTPM_##name, #name }
+
+/* What became of a datagram or of a request; none is a refusal of a call. */
+static const struct answer outcomes[] = {
+    ANSWER(OTHER_DOMAIN), ANSWER(OWN_MESSAGE), ANSWER(NOT_ADDRESSED), ANSWER(NOT_A_REQUEST), ANSWER(ANSWERED_NEW),
+    ANSWER(ANSWERED_REPEAT), ANSWER(DROPPED_OLD), ANSWER(DROPPED_CONFLICT), ANSWER(ANSWERED_UNNUMBERED), ANSWER(NOT_A_REPLY),
+    ANSWER(OTHER_TARGET), ANSWER(OTHER_SOURCE), ANSWER(NOTHING_ASKED), ANSWER(OTHER_NUMBER), ANSWER(OTHER_CONTENT),
+    ANSWER(TOO_SHORT), ANSWER(NOT_MANAGEMENT), ANSWER(BAD_VERSION), ANSWER(BAD_LENGTH), ANSWER(BAD_ACTION), ANSWER(BAD_TLV_TYPE),
+    ANSWER(BAD_TLV_LENGTH), ANSWER(BAD_TEXT), ANSWER(DONE), ANSWER(REFUSED), ANSWER(AGAIN), ANSWER(FULL),
+};
+
+/* Why a call was refused. */
+static const struct answer refused[] = {
+    ANSWER(NO_CLOCK), ANSWER(NO_PORT), ANSWER(NO_ROOM), ANSWER(NO_MEMORY), ANSWER(NOT_READABLE), ANSWER(NO_SESSION), ANSWER(BUSY),
+    ANSWER(NEEDS_PORT), ANSWER(NOT_PERMITTED), ANSWER(BAD_VALUE), ANSWER(COUNT_AT_MAXIMUM), ANSWER(IDLE), ANSWER(GAVE_UP),
+    ANSWER(NO_REPORT), ANSWER(NO_SURVEY), ANSWER(NO_PORTS), ANSWER(TOO_MANY_PORTS), ANSWER(GRANDMASTER_DIFFERS),
+    ANSWER(TOO_MANY_MANAGERS), ANSWER(MANAGER_TWICE), ANSWER(MANAGER_IS_EVERY), ANSWER(TARGET_IS_EVERY), ANSWER(SAME_CLOCK),
+    ANSWER(BAD_IDENTITY), ANSWER(BAD_DOMAIN), ANSWER(BAD_USER_DESCRIPTION), ANSWER(BAD_TWO_STEP), ANSWER(BAD_PRIORITY1),
+    ANSWER(BAD_CLOCK_CLASS), ANSWER(BAD_CLOCK_ACCURACY), ANSWER(BAD_VARIANCE), ANSWER(BAD_PRIORITY2), ANSWER(BAD_STEPS_REMOVED),
+    ANSWER(BAD_OFFSET_FROM_MASTER), ANSWER(BAD_MEAN_PATH_DELAY), ANSWER(BAD_PARENT_PORT), ANSWER(BAD_PARENT_STATS),
+    ANSWER(BAD_OBSERVED_VARIANCE), ANSWER(BAD_OBSERVED_RATE), ANSWER(BAD_GRANDMASTER_PRIORITY1), ANSWER(BAD_GRANDMASTER_CLASS),
+    ANSWER(BAD_GRANDMASTER_ACCURACY), ANSWER(BAD_GRANDMASTER_VARIANCE), ANSWER(BAD_GRANDMASTER_PRIORITY2),
+    ANSWER(BAD_GRANDMASTER), ANSWER(BAD_UTC_OFFSET), ANSWER(BAD_LEAP61), ANSWER(BAD_LEAP59), ANSWER(BAD_UTC_VALID),
+    ANSWER(BAD_PTP_TIMESCALE), ANSWER(BAD_TIME_TRACEABLE), ANSWER(BAD_FREQUENCY_TRACEABLE), ANSWER(BAD_TIME_SOURCE),
+    ANSWER(BAD_STATE), ANSWER(BAD_LOG_MIN_DELAY_REQ), ANSWER(BAD_PEER_DELAY), ANSWER(BAD_LOG_ANNOUNCE),
+    ANSWER(BAD_RECEIPT_TIMEOUT), ANSWER(BAD_LOG_SYNC), ANSWER(BAD_DELAY_MECHANISM), ANSWER(BAD_LOG_MIN_PDELAY),
+};
+#undef ANSWER
+
+/* Each constant of an answer has its own name, and no other number below 200 has one; and which are refusals. */
+static void answer_names(void) {
+    size_t named = 0, outcome_count = sizeof outcomes / sizeof *outcomes, refused_count = sizeof refused / sizeof *refused;
+    char text[PTPM_MOST_NAME];
+    for (size_t i = 0; i < outcome_count; i++)
+        check(has_name(outcomes[i].number, outcomes[i].name) && !ptpm_is_refusal(outcomes[i].number), outcomes[i].name);
+    for (size_t i = 0; i < refused_count; i++)
+        check(has_name(refused[i].number, refused[i].name) && ptpm_is_refusal(refused[i].number), refused[i].name);
     for (uint32_t number = 0; number < 200; number++) named += ptpm_answer_name(number, text, sizeof text) > 0;
-    check(named == all, "a number that is no answer has no name");
+    check(named == outcome_count + refused_count, "a number that is no answer has no name");
+    check(!ptpm_is_refusal(PTPM_STARTED), "PTPM_STARTED is no refusal");
+}
+
+/* The names that the answers of several kinds of calls have in the type of each kind. */
+static void names_in_types(void) {
+#define OF(kind, name) check(has_name(PTPM_##kind##_##name, #name), "PTPM_" #kind "_" #name);
+#define NO_MESSAGE(kind) OF(kind, OTHER_DOMAIN) OF(kind, TOO_SHORT) OF(kind, NOT_MANAGEMENT) OF(kind, BAD_VERSION) \
+        OF(kind, BAD_LENGTH) OF(kind, BAD_ACTION) OF(kind, BAD_TLV_TYPE) OF(kind, BAD_TLV_LENGTH) OF(kind, BAD_TEXT)
+#define IGNORED(kind) OF(kind, NOT_A_REPLY) OF(kind, OTHER_TARGET) OF(kind, OTHER_NUMBER) OF(kind, OTHER_CONTENT)
+    OF(START, NO_MEMORY) OF(START, GRANDMASTER_DIFFERS) OF(START, BAD_CLOCK_ACCURACY) OF(START, BAD_LEAP59) OF(START, BAD_STATE)
+    NO_MESSAGE(HANDLE) OF(HANDLE, NO_CLOCK) OF(HANDLE, NO_PORT) OF(HANDLE, NO_ROOM)
+    OF(OBSERVE, NO_CLOCK) OF(OBSERVE, NO_PORT) OF(OBSERVE, GRANDMASTER_DIFFERS) OF(OBSERVE, BAD_CLOCK_ACCURACY)
+    OF(OBSERVE, BAD_LEAP59) OF(OBSERVE, BAD_STATE)
+    OF(READ, NO_CLOCK) OF(READ, NO_PORT) OF(READ, NO_ROOM)
+    OF(BEGIN, NO_MEMORY) OF(BEGIN, NO_SESSION)
+    OF(SEND, NO_ROOM) OF(SEND, NO_SESSION) OF(SEND, IDLE) OF(SEND, NO_SURVEY)
+    OF(RESUME, NO_SESSION) OF(RESUME, IDLE) OF(RETUNE, NO_SESSION)
+    NO_MESSAGE(SESSION) IGNORED(SESSION) OF(SESSION, NO_MEMORY) OF(SESSION, NO_SESSION)
+    NO_MESSAGE(SURVEY) IGNORED(SURVEY) OF(SURVEY, NO_MEMORY) OF(SURVEY, NO_SURVEY)
+    OF(REPORT, NO_ROOM) OF(REPORT, NO_SESSION) OF(REPORT, NO_SURVEY)
+#undef IGNORED
+#undef NO_MESSAGE
+#undef OF
 }
 
 /* Each managementErrorId of table 109 has its name, and no other number has one. */
@@ -481,24 +518,33 @@ static void error_names(void) {
     check(named == all, "a number that the standard names no error has no name");
 }
 
-/* Each id by its name in either case, and its name in capitals; and what is no name, or has no room. */
+/* Each id of table 59 that this profile has: its number, its name in either case, and its name in capitals. No other number has one. */
 static void id_names(void) {
-    static const struct { uint16_t id; const char *name, *small; } ids[] = {
-        { 0x0000, "NULL_PTP_MANAGEMENT", "null_ptp_management" }, { 0x2005, "PRIORITY1", "Priority1" },
-        { 0x2003, "TIME_PROPERTIES_DATA_SET", "time_properties_data_set" }, { 0x2011, "UTC_PROPERTIES", "utc_Properties" },
-        { 0x6001, "LOG_MIN_PDELAY_REQ_INTERVAL", "log_min_pdelay_req_interval" },
+#define ID(number, name) { number, PTPM_ID_##name, #name }
+    static const struct { uint16_t number; uint32_t id; const char *name; } ids[] = {
+        ID(0x0000, NULL_PTP_MANAGEMENT), ID(0x0002, USER_DESCRIPTION), ID(0x2000, DEFAULT_DATA_SET), ID(0x2001, CURRENT_DATA_SET),
+        ID(0x2002, PARENT_DATA_SET), ID(0x2003, TIME_PROPERTIES_DATA_SET), ID(0x2004, PORT_DATA_SET), ID(0x2005, PRIORITY1),
+        ID(0x2006, PRIORITY2), ID(0x2007, DOMAIN), ID(0x2008, SLAVE_ONLY), ID(0x2009, LOG_ANNOUNCE_INTERVAL),
+        ID(0x200a, ANNOUNCE_RECEIPT_TIMEOUT), ID(0x200b, LOG_SYNC_INTERVAL), ID(0x200c, VERSION_NUMBER), ID(0x200d, ENABLE_PORT),
+        ID(0x200e, DISABLE_PORT), ID(0x2010, CLOCK_ACCURACY), ID(0x2011, UTC_PROPERTIES), ID(0x6000, DELAY_MECHANISM),
+        ID(0x6001, LOG_MIN_PDELAY_REQ_INTERVAL),
     };
-    char text[PTPM_MOST_NAME + 1];
-    for (size_t i = 0; i < sizeof ids / sizeof *ids; i++) {
+#undef ID
+    char text[PTPM_MOST_NAME + 1], small[PTPM_MOST_NAME + 1];
+    size_t named = 0, all = sizeof ids / sizeof *ids;
+    for (size_t i = 0; i < all; i++) {
         size_t size = strlen(ids[i].name);
+        for (size_t k = 0; k < size; k++) small[k] = (char)tolower((unsigned char)ids[i].name[k]);
         memset(text, '.', sizeof text);
-        check(ptpm_id_named(ids[i].name, size) == ids[i].id && ptpm_id_named(ids[i].small, size) == ids[i].id, ids[i].small);
-        check(ptpm_id_name(ids[i].id, text, size) == size && memcmp(text, ids[i].name, size) == 0 && text[size] == '.', ids[i].name);
-        check(ptpm_id_name(ids[i].id, text, size - 1) == 0, "a name without room");
+        check(ids[i].id == ids[i].number && ptpm_id_named(ids[i].name, size) == ids[i].id && ptpm_id_named(small, size) == ids[i].id
+              && ptpm_id_name(ids[i].number, text, size) == size && memcmp(text, ids[i].name, size) == 0 && text[size] == '.',
+              ids[i].name);
+        check(ptpm_id_name(ids[i].number, text, size - 1) == 0, "a name without room");
     }
+    for (uint32_t number = 0; number <= 0xffff; number++) named += ptpm_id_name((uint16_t)number, text, sizeof text) > 0;
+    check(named == all, "a number that is no id has no name");
     check(ptpm_id_named("PRIORITY", 8) == PTPM_NO_ID && ptpm_id_named("PRIORITY1", 8) == PTPM_NO_ID
           && ptpm_id_named("", 0) == PTPM_NO_ID && ptpm_id_named("0x2005", 6) == PTPM_NO_ID, "what is no name");
-    check(ptpm_id_name(0x2fff, text, sizeof text) == 0, "an id without a name");
 }
 
 int main(void) {
@@ -516,6 +562,7 @@ int main(void) {
     sessions();
     surveys();
     answer_names();
+    names_in_types();
     error_names();
     id_names();
     ptpm_clock_stop(&clock_held);

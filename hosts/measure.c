@@ -10,7 +10,10 @@
 #include <string.h>
 
 enum { HEAD = 54, MOST = 56, TWO = 2, EIGHT = 8, SIXTEEN = 16 };
-enum { GET = 0, SET = 1, PRIORITY1 = 0x2005, PORT_DATA_SET = 0x2004, LOG_ANNOUNCE_INTERVAL = 0x2009 };
+enum {
+    GET = PTPM_GET, SET = PTPM_SET, PRIORITY1 = PTPM_ID_PRIORITY1, PORT_DATA_SET = PTPM_ID_PORT_DATA_SET,
+    LOG_ANNOUNCE_INTERVAL = PTPM_ID_LOG_ANNOUNCE_INTERVAL
+};
 enum who { MANAGER, STRANGER };
 enum whom { CLOCK, ANOTHER, EVERY };
 
@@ -80,11 +83,11 @@ static bool start(const struct list *list, struct ptpm_clock *clock) {
 }
 
 /* The datagram again and again, in two places that take turns. The answer to the last one. */
-static uint32_t repeat(struct ptpm_clock *clock, const struct list *list, unsigned long count, size_t *messages) {
+static enum ptpm_handled repeat(struct ptpm_clock *clock, const struct list *list, unsigned long count, size_t *messages) {
     static uint8_t places[2][MOST];
     size_t size = request(list, places[0]);
     uint16_t number = 7;
-    uint32_t answer = ptpm_clock_handle(clock, 1, places[0], size, sent, PTPM_MOST_SENT, messages);
+    enum ptpm_handled answer = ptpm_clock_handle(clock, 1, places[0], size, sent, PTPM_MOST_SENT, messages);
     memcpy(places[1], places[0], MOST);
     for (unsigned long i = 0; i < count; i++) {
         uint8_t *octets = places[i % 2];
@@ -99,9 +102,8 @@ static uint32_t repeat(struct ptpm_clock *clock, const struct list *list, unsign
 static int measure(const struct list *list, unsigned long count) {
     struct ptpm_clock clock = { 0 };
     size_t messages = 0, octets = 0;
-    uint32_t answer;
     if (!start(list, &clock)) return 1;
-    answer = repeat(&clock, list, count, &messages);
+    enum ptpm_handled answer = repeat(&clock, list, count, &messages);
     for (size_t i = 0; i < messages; i++) octets += sent[i].size;
     printf("%s %u %zu %zu\n", list->name, answer, messages, octets);
     ptpm_clock_stop(&clock);

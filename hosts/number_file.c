@@ -19,7 +19,7 @@ enum { OWNER = 2 * IDENTITY_TEXT + 8, LINE = DIGITS + OWNER + 2, NONE_KEPT = -1 
 /* The file: its path as it was named, its name in its folder, and what stands there. */
 static const char *path;
 static int path_is_named;
-static char name[NAME], new_name[NAME];
+static char name[NAME], new_name[NAME], lock_name[NAME];
 static int folder = -1;
 static char owner[OWNER];               /* the session's: a blank, the manager, a blank, and the clock */
 static long kept = NONE_KEPT;           /* the number that the file has in the form of today */
@@ -50,6 +50,7 @@ static void open_folder(void) {
     }
     strcpy(name, last);
     strcpy(stpcpy(new_name, name), ".new");
+    strcpy(stpcpy(lock_name, name), ".lock");
     int failure = size > 0 && mkdir(text, 0755) ? errno : 0;    /* where it is missing; what stands above it is not made */
     folder = open(text, O_RDONLY | O_DIRECTORY | O_CLOEXEC);
     if (folder < 0 && errno == ENOENT && failure != 0) errno = failure;
@@ -75,22 +76,44 @@ _Noreturn static void refuse_turn(int lock) {
     refuse("nothing was sent: %s: another run, process %ld, has held it for %ld s", path, (long)other.l_pid, held_for(lock));
 }
 
-/* The lock goes when the program ends. Its time is that of this turn. */
-static void take_turn(void) {
-    char lock_name[NAME];
+/* The file of the lock, with the lock on it, until a time. Another run that had it may have removed it meanwhile. */
+static int lock_until(long end) {
     struct flock whole = { .l_type = F_WRLCK, .l_whence = SEEK_SET };
-    strcpy(stpcpy(lock_name, name), ".lock");
     int at = openat(folder, lock_name, O_RDWR | O_CREAT | O_NOFOLLOW | O_NONBLOCK | O_CLOEXEC, 0660);
     if (at < 0) refuse_place();
-    for (long end = milliseconds() + TURN; fcntl(at, F_SETLK, &whole);) {
+    while (fcntl(at, F_SETLK, &whole)) {
         if (errno != EAGAIN && errno != EACCES) refuse_place();
         if (stopped) end_by_signal();
         if (milliseconds() >= end) refuse_turn(at);
         show_progress("another run has held %s for %ld s", path, held_for(at));
         wait_for(NULL, 0, TRY_AGAIN);
     }
+    return at;
+}
+
+static int stands_there(int lock) {
+    struct stat own, found;
+    return fstat(lock, &own) == 0 && fstatat(folder, lock_name, &found, AT_SYMLINK_NOFOLLOW) == 0 && own.st_dev == found.st_dev
+           && own.st_ino == found.st_ino;
+}
+
+/* Where no number is kept, as of a clock that is not there, no lock stays beside it. */
+static void leave_nothing(void) {
+    if (faccessat(folder, name, F_OK, AT_SYMLINK_NOFOLLOW) && errno == ENOENT) unlinkat(folder, lock_name, 0);
+}
+
+/* The lock goes when the program ends. Its time is that of this turn. */
+static void take_turn(void) {
+    long end = milliseconds() + TURN;
+    int at = lock_until(end);
+    while (!stands_there(at)) {
+        if (milliseconds() >= end) refuse_turn(at);
+        close(at);
+        at = lock_until(end);
+    }
     clear_progress();
     futimens(at, NULL);
+    if (atexit(leave_nothing)) refuse_place();
 }
 
 static void write_owner(const struct ptpm_session_settings *settings) {

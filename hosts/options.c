@@ -40,7 +40,7 @@ static const char help[] =
     "  -d DOMAIN           domainNumber, 0 where it is not given\n"
     "\n"
     "  -u PATH             a Unix socket for programs of this host, which counts as port 1\n"
-    "  --unix-group NAME   whose group it gets\n"
+    "  --unix-group NAME   the group that it gets, in which this program then is\n"
     "  --unix-mode MODE    its mode, 660 where it is not given\n"
     "  -f                  what comes in there for other clocks is passed on at the other ports\n"
     "\n"
@@ -56,7 +56,7 @@ static const char help[] =
     "  -v                  a line for each datagram, and one for what it changed\n"
     "  --user NAME         whom it is to be once its sockets are open\n"
     "  --no-filter         it may call all of the system, as where a debugger looks on\n"
-    "  --help              this text\n"
+    "  -h, --help          this text\n"
     "  --version           the version\n"
     "\n"
     "SIGTERM ends it; at its end, and at SIGUSR1, it prints how often each answer was given.\n"
@@ -188,6 +188,10 @@ void read_options(struct options *options, int argc, char **argv) {
     }
     options->interfaces = argv + optind + 1;
     options->interface_count = (size_t)(argc - optind - 1);
+    if (options->privileges.user_name != NULL && options->meeting.group == (gid_t)-1) {
+        options->meeting.group = options->privileges.group;
+    }
+    options->privileges.socket_group = options->meeting.group;
     options->limits.managers = options->managers;
     options->limits.manager_count = options->manager_count;
     judge(options, has_two && has_six);

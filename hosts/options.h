@@ -2,7 +2,7 @@
 #ifndef OPTIONS_H
 #define OPTIONS_H
 
-#include "limits.h"
+#include "network_limits.h"
 #include "peers.h"
 #include "ports.h"
 #include "privileges.h"

@@ -36,13 +36,6 @@ static unsigned mtu_at(int at, unsigned index) {
     return (unsigned)request.ifr_mtu;
 }
 
-/* What a program needs that may not open a port. */
-static const char *needed(void) {
-    if (errno != EACCES && errno != EPERM) return "";
-    return transport == ETHERNET ? ": it takes root, or the capability CAP_NET_RAW"
-                                 : ": it takes root, or the capability CAP_NET_BIND_SERVICE";
-}
-
 void open_port(const char *interface) {
     struct port *port = &ports[port_count++];
     const char *what;
@@ -50,7 +43,7 @@ void open_port(const char *interface) {
     port->index = if_nametoindex(interface);
     port->socket = open_socket(port, &what);
     if (port->socket < 0) {
-        say("%s: %s%s", what, strerror(errno), needed());
+        say("%s: %s%s", what, strerror(errno), right_needed(transport == ETHERNET));
         exit(2);
     }
     port->openings = 1;

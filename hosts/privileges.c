@@ -4,6 +4,7 @@
 #include <asm/ioctls.h>
 #include <errno.h>
 #include <grp.h>
+#include <limits.h>
 #include <linux/audit.h>
 #include <linux/capability.h>
 #include <linux/filter.h>
@@ -33,10 +34,23 @@ static void let_go_of_bounds(uint32_t kept) {
     }
 }
 
+/* Who asks at the Unix socket has a socket of its group, and others can't answer there. Without CAP_SETGID the program is in the
+   groups that it was started with. */
+static void join(gid_t group) {
+    static gid_t groups[NGROUPS_MAX + 1];
+    int count = group == (gid_t)-1 ? -1 : getgroups(NGROUPS_MAX, groups);
+    if (count < 0) return;
+    groups[count] = group;
+    if (setgroups((size_t)count + 1, groups) && errno != EPERM) give_up("setgroups");
+}
+
 static void become(const struct privileges *privileges) {
-    if (privileges->user_name == NULL) return;
-    if (initgroups(privileges->user_name, privileges->group) || setresgid(privileges->group, privileges->group, privileges->group)
-        || setresuid(privileges->user, privileges->user, privileges->user)) give_up(privileges->user_name);
+    const char *name = privileges->user_name;
+    if (name != NULL && initgroups(name, privileges->group)) give_up(name);
+    join(privileges->socket_group);
+    if (name == NULL) return;
+    if (setresgid(privileges->group, privileges->group, privileges->group)
+        || setresuid(privileges->user, privileges->user, privileges->user)) give_up(name);
 }
 
 void let_go_of_rights(const struct privileges *privileges, enum needs needs) {

@@ -8,6 +8,7 @@ struct privileges {
     const char *user_name;      /* whom the program is to be, or NULL: it stays who it is */
     uid_t user;
     gid_t group;
+    gid_t socket_group;         /* that of the Unix socket, in which it is then too; -1 where none was given */
     int is_unfiltered;          /* it may call all of the system */
 };
 

@@ -2,7 +2,7 @@
    management message that comes in at its ports. And a session of a manager: one request at a time to one clock; such an
    agent carries it out once, however often it is sent. And a survey: one GET to every clock, and the first answer of each
    port. The library opens no socket, reads no clock and starts no thread. Link libptpm.a alone, which calls malloc, realloc
-   and free of the host. This file is C11, and C++17.
+   and free of the host. This file is C99, C11, C17 and C++17, of gcc or clang.
 
    What is proved of a call is proved of callers that keep to this:
 
@@ -19,18 +19,19 @@
      ptpm_clock_handle_changed 2,100, ptpm_survey_send 1,900, ptpm_clock_handle and ptpm_clock_observe 1,000, every other call 500;
      and beyond that what malloc, realloc, free, memcpy, memmove and memset of the host take. No call calls itself.
 
-   Where several refusals hold, a call answers the first. Want of memory can come in place of it in ptpm_clock_start alone; every
-   other call asks for memory where nothing else refuses. */
+   Every call writes to its handle, a call that only reads too, so no handle is const. Where several refusals hold, a call answers
+   the first. Want of memory can come in place of it in ptpm_clock_start alone; every other call asks for memory where nothing
+   else refuses. */
 #ifndef PTPM_H
 #define PTPM_H
 
-#include <assert.h>
 #include <stdbool.h>
 #include <stddef.h>
 #include <stdint.h>
 
-static_assert(sizeof(void *) == 8 && __BYTE_ORDER__ == __ORDER_LITTLE_ENDIAN__,
-              "ptpm is built for 64-bit little-endian processors alone");
+#if __SIZEOF_POINTER__ != 8 || __BYTE_ORDER__ != __ORDER_LITTLE_ENDIAN__
+#error "ptpm is built for 64-bit little-endian processors alone"
+#endif
 
 #ifdef __cplusplus
 extern "C" {
@@ -40,6 +41,17 @@ extern "C" {
    part, 100 times the second, and the third. */
 #define PTPM_VERSION "0.1.0"
 #define PTPM_VERSION_NUMBER 100
+
+/* The managementIds of this profile (15.5.2.3, table 59). ptpm_id_named and ptpm_id_name give them by their names. */
+enum {
+    PTPM_ID_NULL_PTP_MANAGEMENT = 0x0000, PTPM_ID_USER_DESCRIPTION = 0x0002, PTPM_ID_DEFAULT_DATA_SET = 0x2000,
+    PTPM_ID_CURRENT_DATA_SET = 0x2001, PTPM_ID_PARENT_DATA_SET = 0x2002, PTPM_ID_TIME_PROPERTIES_DATA_SET = 0x2003,
+    PTPM_ID_PORT_DATA_SET = 0x2004, PTPM_ID_PRIORITY1 = 0x2005, PTPM_ID_PRIORITY2 = 0x2006, PTPM_ID_DOMAIN = 0x2007,
+    PTPM_ID_SLAVE_ONLY = 0x2008, PTPM_ID_LOG_ANNOUNCE_INTERVAL = 0x2009, PTPM_ID_ANNOUNCE_RECEIPT_TIMEOUT = 0x200a,
+    PTPM_ID_LOG_SYNC_INTERVAL = 0x200b, PTPM_ID_VERSION_NUMBER = 0x200c, PTPM_ID_ENABLE_PORT = 0x200d,
+    PTPM_ID_DISABLE_PORT = 0x200e, PTPM_ID_CLOCK_ACCURACY = 0x2010, PTPM_ID_UTC_PROPERTIES = 0x2011,
+    PTPM_ID_DELAY_MECHANISM = 0x6000, PTPM_ID_LOG_MIN_PDELAY_REQ_INTERVAL = 0x6001
+};
 
 /* A clock, about 34,600 octets behind one pointer. All zeros hold no clock: struct ptpm_clock clock = { 0 }; */
 struct ptpm_clock { void *at; bool live; };
@@ -181,10 +193,10 @@ struct ptpm_sent {
 /* Which members have another value behind a datagram than before it: of the clock, and of port 1, port 2 and so on. */
 struct ptpm_changed {
     uint32_t clock;                     /* PTPM_CHANGED_IDENTITY to PTPM_CHANGED_TIME_SOURCE, summed up */
-    uint8_t ports[8];                   /* PTPM_CHANGED_STATE to PTPM_CHANGED_LOG_MIN_PDELAY, summed up */
+    uint8_t ports[8];                   /* PTPM_CHANGED_PORT_STATE to PTPM_CHANGED_PORT_LOG_MIN_PDELAY, summed up */
 };
 
-/* Members of a clock, and those of a port, in the order of PTPM_BAD_IDENTITY to PTPM_BAD_LOG_MIN_PDELAY. */
+/* Members of a clock, in the order of PTPM_BAD_IDENTITY to PTPM_BAD_TIME_SOURCE. */
 enum {
     PTPM_CHANGED_IDENTITY = 1 << 0, PTPM_CHANGED_DOMAIN = 1 << 1, PTPM_CHANGED_USER_DESCRIPTION = 1 << 2,
     PTPM_CHANGED_TWO_STEP = 1 << 3, PTPM_CHANGED_PRIORITY1 = 1 << 4, PTPM_CHANGED_CLOCK_CLASS = 1 << 5,
@@ -198,10 +210,17 @@ enum {
     PTPM_CHANGED_LEAP59 = 1 << 24, PTPM_CHANGED_UTC_VALID = 1 << 25, PTPM_CHANGED_PTP_TIMESCALE = 1 << 26,
     PTPM_CHANGED_TIME_TRACEABLE = 1 << 27, PTPM_CHANGED_FREQUENCY_TRACEABLE = 1 << 28, PTPM_CHANGED_TIME_SOURCE = 1 << 29
 };
+
+/* Members of a port, in the order of PTPM_BAD_STATE to PTPM_BAD_LOG_MIN_PDELAY; and the names that these had before. */
 enum {
-    PTPM_CHANGED_STATE = 1 << 0, PTPM_CHANGED_LOG_MIN_DELAY_REQ = 1 << 1, PTPM_CHANGED_PEER_DELAY = 1 << 2,
-    PTPM_CHANGED_LOG_ANNOUNCE = 1 << 3, PTPM_CHANGED_RECEIPT_TIMEOUT = 1 << 4, PTPM_CHANGED_LOG_SYNC = 1 << 5,
-    PTPM_CHANGED_DELAY_MECHANISM = 1 << 6, PTPM_CHANGED_LOG_MIN_PDELAY = 1 << 7
+    PTPM_CHANGED_PORT_STATE = 1 << 0, PTPM_CHANGED_PORT_LOG_MIN_DELAY_REQ = 1 << 1, PTPM_CHANGED_PORT_PEER_DELAY = 1 << 2,
+    PTPM_CHANGED_PORT_LOG_ANNOUNCE = 1 << 3, PTPM_CHANGED_PORT_RECEIPT_TIMEOUT = 1 << 4, PTPM_CHANGED_PORT_LOG_SYNC = 1 << 5,
+    PTPM_CHANGED_PORT_DELAY_MECHANISM = 1 << 6, PTPM_CHANGED_PORT_LOG_MIN_PDELAY = 1 << 7,
+    PTPM_CHANGED_STATE = PTPM_CHANGED_PORT_STATE, PTPM_CHANGED_LOG_MIN_DELAY_REQ = PTPM_CHANGED_PORT_LOG_MIN_DELAY_REQ,
+    PTPM_CHANGED_PEER_DELAY = PTPM_CHANGED_PORT_PEER_DELAY, PTPM_CHANGED_LOG_ANNOUNCE = PTPM_CHANGED_PORT_LOG_ANNOUNCE,
+    PTPM_CHANGED_RECEIPT_TIMEOUT = PTPM_CHANGED_PORT_RECEIPT_TIMEOUT, PTPM_CHANGED_LOG_SYNC = PTPM_CHANGED_PORT_LOG_SYNC,
+    PTPM_CHANGED_DELAY_MECHANISM = PTPM_CHANGED_PORT_DELAY_MECHANISM,
+    PTPM_CHANGED_LOG_MIN_PDELAY = PTPM_CHANGED_PORT_LOG_MIN_PDELAY
 };
 
 /* A session of a manager, about 1,600 octets behind one pointer. All zeros hold no session. */
@@ -245,15 +264,23 @@ struct ptpm_source {
     uint16_t port;
 };
 
-static_assert(sizeof(void *) != 8
-              || (sizeof(struct ptpm_clock) == 16 && sizeof(struct ptpm_clock_settings) == 216
-               && sizeof(struct ptpm_port_settings) == 16 && sizeof(struct ptpm_observed_clock) == 88
-               && sizeof(struct ptpm_observed_port) == 16 && sizeof(struct ptpm_manager_settings) == 12
-               && sizeof(struct ptpm_sent) == 1476 && sizeof(struct ptpm_changed) == 12
-               && sizeof(struct ptpm_session) == 16
-               && sizeof(struct ptpm_session_settings) == 26 && sizeof(struct ptpm_survey) == 16
-               && sizeof(struct ptpm_survey_settings) == 16 && sizeof(struct ptpm_source) == 10),
-              "ptpm is built for structs that no flag of the compiler has laid out otherwise");
+/* No flag of the compiler may lay a struct out otherwise than the library has it: where one does, the compiler refuses an array
+   with the name of the struct, since its size is negative. C99 has no static assertion. */
+#define PTPM_HAS_SIZE(name, size) typedef char name##_is_laid_out_otherwise[sizeof(struct name) == (size) ? 1 : -1]
+PTPM_HAS_SIZE(ptpm_clock, 16);
+PTPM_HAS_SIZE(ptpm_clock_settings, 216);
+PTPM_HAS_SIZE(ptpm_port_settings, 16);
+PTPM_HAS_SIZE(ptpm_observed_clock, 88);
+PTPM_HAS_SIZE(ptpm_observed_port, 16);
+PTPM_HAS_SIZE(ptpm_manager_settings, 12);
+PTPM_HAS_SIZE(ptpm_sent, 1476);
+PTPM_HAS_SIZE(ptpm_changed, 12);
+PTPM_HAS_SIZE(ptpm_session, 16);
+PTPM_HAS_SIZE(ptpm_session_settings, 26);
+PTPM_HAS_SIZE(ptpm_survey, 16);
+PTPM_HAS_SIZE(ptpm_survey_settings, 16);
+PTPM_HAS_SIZE(ptpm_source, 10);
+#undef PTPM_HAS_SIZE
 
 /* A clock sends at most so many messages for a datagram, and a dataField of its own has at most so many octets; a message
    has at most so many, its dataField included. */
@@ -262,177 +289,416 @@ enum { PTPM_MOST_SENT = 15, PTPM_MOST_READ = 130, PTPM_MOST_OCTETS = 1472 };
 /* A survey keeps the answers of at most so many ports. */
 enum { PTPM_MOST_ANSWERS = 512 };
 
-/* What a call answers. */
-enum {
-    PTPM_STARTED = 0, PTPM_READ = 0, PTPM_OBSERVED = 0, PTPM_BEGUN = 0, PTPM_SENT = 0, PTPM_RESUMED = 0, PTPM_RETUNED = 0,
-    /* what became of a datagram at a session: it answers the request, or it is ignored, as below */
-    PTPM_ANSWERED = 0,
-    /* what became of a datagram at a survey: it is the first answer of its port, a further one, or the first of one port too
-       many; or it is ignored, as at a session */
-    PTPM_TAKEN = 0, PTPM_AGAIN = 27, PTPM_FULL = 28,
-    /* what the answer tells: a dataField, that a COMMAND was carried out, or a managementErrorId */
-    PTPM_VALUE = 0, PTPM_DONE = 25, PTPM_REFUSED = 26,
-    /* what became of a datagram */
-    PTPM_OTHER_DOMAIN = 1, PTPM_OWN_MESSAGE, PTPM_NOT_ADDRESSED, PTPM_NOT_A_REQUEST, PTPM_ANSWERED_NEW,
-    PTPM_ANSWERED_REPEAT, PTPM_DROPPED_OLD, PTPM_DROPPED_CONFLICT, PTPM_ANSWERED_UNNUMBERED,
-    /* why a session or a survey ignores it; PTPM_OTHER_DOMAIN too */
-    PTPM_NOT_A_REPLY, PTPM_OTHER_TARGET, PTPM_OTHER_SOURCE, PTPM_NOTHING_ASKED, PTPM_OTHER_NUMBER, PTPM_OTHER_CONTENT,
-    /* why it holds no management message */
-    PTPM_TOO_SHORT = 16, PTPM_NOT_MANAGEMENT, PTPM_BAD_VERSION, PTPM_BAD_LENGTH, PTPM_BAD_ACTION, PTPM_BAD_TLV_TYPE,
-    PTPM_BAD_TLV_LENGTH, PTPM_BAD_TEXT,
-    /* why nothing changed */
-    PTPM_NO_CLOCK = 32,                 /* the handle holds none */
-    PTPM_NO_PORT,                       /* the clock lacks the port */
-    /* room for fewer than PTPM_MOST_SENT messages (the two calls that handle a datagram); for fewer octets than PTPM_MOST_READ
-       (ptpm_clock_read), than PTPM_MOST_OCTETS (ptpm_session_send, ptpm_survey_send), or than the dataField that is told has
-       (ptpm_session_report, ptpm_survey_answer) */
-    PTPM_NO_ROOM,
-    PTPM_NO_MEMORY,                     /* in ptpm_clock_start it can come in place of the refusal that holds first */
-    PTPM_NOT_READABLE,                  /* the id is not in the table, or permits no GET */
-    PTPM_NO_SESSION,                    /* the handle holds none */
-    PTPM_BUSY,                          /* a request is not answered yet */
-    PTPM_NEEDS_PORT,                    /* the id is of a port, and no port of the clock is named */
-    PTPM_NOT_PERMITTED,                 /* the action is none of the three */
-    PTPM_BAD_VALUE,                     /* the dataField has an odd number of octets, or over 1,418 */
-    PTPM_COUNT_AT_MAXIMUM,              /* the session has begun 1,000,000 requests */
-    PTPM_IDLE,                          /* no request is unanswered */
-    PTPM_GAVE_UP,                       /* no attempts are left */
-    PTPM_NO_REPORT,                     /* no request was begun, or the latest is not answered; the survey has no such answer */
-    PTPM_NO_SURVEY,                     /* the handle holds none */
-    /* why a clock does not start, the first that holds, or PTPM_NO_MEMORY; an observation is refused by PTPM_NO_PORT, by
-       PTPM_BAD_CLOCK_ACCURACY, PTPM_BAD_LEAP59 or PTPM_BAD_STATE, or by PTPM_GRANDMASTER_DIFFERS, the first that holds */
-    PTPM_NO_PORTS = 48, PTPM_TOO_MANY_PORTS, PTPM_GRANDMASTER_DIFFERS, PTPM_TOO_MANY_MANAGERS, PTPM_MANAGER_TWICE,
-    /* why a session does not start, the first that holds; PTPM_NO_PORTS and PTPM_TOO_MANY_PORTS too, behind these. A survey: the
-       first of these alone. PTPM_NO_MEMORY where none of them holds */
-    PTPM_MANAGER_IS_EVERY, PTPM_TARGET_IS_EVERY, PTPM_SAME_CLOCK,
-    /* a member is out of its range */
-    PTPM_BAD_IDENTITY = 64, PTPM_BAD_DOMAIN, PTPM_BAD_USER_DESCRIPTION, PTPM_BAD_TWO_STEP, PTPM_BAD_PRIORITY1,
-    PTPM_BAD_CLOCK_CLASS, PTPM_BAD_CLOCK_ACCURACY, PTPM_BAD_VARIANCE, PTPM_BAD_PRIORITY2, PTPM_BAD_STEPS_REMOVED,
-    PTPM_BAD_OFFSET_FROM_MASTER, PTPM_BAD_MEAN_PATH_DELAY, PTPM_BAD_PARENT_PORT, PTPM_BAD_PARENT_STATS,
-    PTPM_BAD_OBSERVED_VARIANCE, PTPM_BAD_OBSERVED_RATE, PTPM_BAD_GRANDMASTER_PRIORITY1, PTPM_BAD_GRANDMASTER_CLASS,
-    PTPM_BAD_GRANDMASTER_ACCURACY, PTPM_BAD_GRANDMASTER_VARIANCE, PTPM_BAD_GRANDMASTER_PRIORITY2,
-    PTPM_BAD_GRANDMASTER, PTPM_BAD_UTC_OFFSET, PTPM_BAD_LEAP61, PTPM_BAD_LEAP59, PTPM_BAD_UTC_VALID,
-    PTPM_BAD_PTP_TIMESCALE, PTPM_BAD_TIME_TRACEABLE, PTPM_BAD_FREQUENCY_TRACEABLE, PTPM_BAD_TIME_SOURCE,
-    PTPM_BAD_STATE, PTPM_BAD_LOG_MIN_DELAY_REQ, PTPM_BAD_PEER_DELAY, PTPM_BAD_LOG_ANNOUNCE, PTPM_BAD_RECEIPT_TIMEOUT,
-    PTPM_BAD_LOG_SYNC, PTPM_BAD_DELAY_MECHANISM, PTPM_BAD_LOG_MIN_PDELAY
+/* What calls answer. 0 says that the call was done. 1 to 31 say what became of a datagram or of a request. From 32 on the call was
+   refused (ptpm_is_refusal): 48 to 63 say why nothing starts, or an observation is refused, and from 64 on a member is out of its
+   range.
+
+   Each kind of call has a type for its answers. With -Wenum-compare gcc, g++ and clang++ warn where an answer is compared with a
+   name of another kind's. A name that several kinds of calls answer is a plain number, and compares with each type. Each type has
+   it again with the kind in front, as PTPM_HANDLE_NO_CLOCK for PTPM_NO_CLOCK, so that -Wswitch and debuggers know it. A uint32_t
+   holds any answer. */
+
+/* A datagram is of another domain. */
+#define PTPM_OTHER_DOMAIN 1
+
+/* Why a session or a survey ignores a datagram; another domain, and what is no management message, too. */
+#define PTPM_NOT_A_REPLY 10
+#define PTPM_OTHER_TARGET 11
+#define PTPM_OTHER_NUMBER 14
+#define PTPM_OTHER_CONTENT 15
+
+/* Why a datagram holds no management message. */
+#define PTPM_TOO_SHORT 16
+#define PTPM_NOT_MANAGEMENT 17
+#define PTPM_BAD_VERSION 18
+#define PTPM_BAD_LENGTH 19
+#define PTPM_BAD_ACTION 20
+#define PTPM_BAD_TLV_TYPE 21
+#define PTPM_BAD_TLV_LENGTH 22
+#define PTPM_BAD_TEXT 23
+
+/* Why nothing changed. */
+#define PTPM_NO_CLOCK 32                /* the handle holds none */
+#define PTPM_NO_PORT 33                 /* the clock lacks the port */
+#define PTPM_NO_ROOM 34                 /* the host gives too few places, or too few octets */
+#define PTPM_NO_MEMORY 35
+#define PTPM_NO_SESSION 37              /* the handle holds none */
+#define PTPM_IDLE 43                    /* no request is unanswered */
+#define PTPM_NO_SURVEY 46               /* the handle holds none */
+#define PTPM_GRANDMASTER_DIFFERS 50     /* a clock is its own grandmaster, with another priority or quality */
+#define PTPM_BAD_CLOCK_ACCURACY 70
+#define PTPM_BAD_LEAP59 88              /* both leaps */
+#define PTPM_BAD_STATE 94
+
+/* A type of answers has the four octets of the library's answers, also where -fshort-enums would give it one. In C clang takes the
+   form of C++ behind __extension__. */
+#if defined(__cplusplus) || defined(__clang__)
+#define PTPM_FOUR_OCTETS(name) name : uint32_t
+#else
+#define PTPM_FOUR_OCTETS(name) __attribute__((__mode__(__SI__))) name
+#endif
+
+/* The three starts. A session is refused by PTPM_MANAGER_IS_EVERY, PTPM_TARGET_IS_EVERY, PTPM_SAME_CLOCK, PTPM_NO_PORTS,
+   PTPM_TOO_MANY_PORTS or PTPM_NO_MEMORY, in this order. A survey is refused by the first or the last of these. A clock is refused
+   by all others, and by the last three of these. */
+__extension__ enum PTPM_FOUR_OCTETS(ptpm_started) {
+    PTPM_STARTED = 0,
+    PTPM_START_NO_MEMORY = PTPM_NO_MEMORY,
+    PTPM_NO_PORTS = 48,
+    PTPM_TOO_MANY_PORTS = 49,           /* over eight */
+    PTPM_START_GRANDMASTER_DIFFERS = PTPM_GRANDMASTER_DIFFERS,
+    PTPM_TOO_MANY_MANAGERS = 51,        /* over sixteen */
+    PTPM_MANAGER_TWICE = 52,
+    PTPM_MANAGER_IS_EVERY = 53,         /* its identity is all ones */
+    PTPM_TARGET_IS_EVERY = 54,          /* the managed clock's is */
+    PTPM_SAME_CLOCK = 55,               /* the managed clock has the manager's identity */
+    PTPM_BAD_IDENTITY = 64,             /* a member is out of its range, here and below */
+    PTPM_BAD_USER_DESCRIPTION = 66,
+    PTPM_START_BAD_CLOCK_ACCURACY = PTPM_BAD_CLOCK_ACCURACY,
+    PTPM_START_BAD_LEAP59 = PTPM_BAD_LEAP59,
+    PTPM_START_BAD_STATE = PTPM_BAD_STATE,
+    PTPM_BAD_LOG_ANNOUNCE = 97,
+    PTPM_BAD_RECEIPT_TIMEOUT = 98,
+    PTPM_BAD_LOG_SYNC = 99,
+    PTPM_BAD_DELAY_MECHANISM = 100,
+    PTPM_BAD_LOG_MIN_PDELAY = 101
 };
 
-/* Writes all settings over: a clock of identity 0 in domain 0 that is its own grandmaster, with this profile's defaults. */
+/* The members that are never out of range, since every value of their types is one of theirs. No call answers these names;
+   ptpm_answer_name knows them. */
+enum {
+    PTPM_BAD_DOMAIN = 65, PTPM_BAD_TWO_STEP = 67, PTPM_BAD_PRIORITY1, PTPM_BAD_CLOCK_CLASS, PTPM_BAD_VARIANCE = 71,
+    PTPM_BAD_PRIORITY2, PTPM_BAD_STEPS_REMOVED, PTPM_BAD_OFFSET_FROM_MASTER, PTPM_BAD_MEAN_PATH_DELAY, PTPM_BAD_PARENT_PORT,
+    PTPM_BAD_PARENT_STATS, PTPM_BAD_OBSERVED_VARIANCE, PTPM_BAD_OBSERVED_RATE, PTPM_BAD_GRANDMASTER_PRIORITY1,
+    PTPM_BAD_GRANDMASTER_CLASS, PTPM_BAD_GRANDMASTER_ACCURACY, PTPM_BAD_GRANDMASTER_VARIANCE, PTPM_BAD_GRANDMASTER_PRIORITY2,
+    PTPM_BAD_GRANDMASTER, PTPM_BAD_UTC_OFFSET, PTPM_BAD_LEAP61, PTPM_BAD_UTC_VALID = 89, PTPM_BAD_PTP_TIMESCALE,
+    PTPM_BAD_TIME_TRACEABLE, PTPM_BAD_FREQUENCY_TRACEABLE, PTPM_BAD_TIME_SOURCE, PTPM_BAD_LOG_MIN_DELAY_REQ = 95,
+    PTPM_BAD_PEER_DELAY
+};
+
+/* ptpm_clock_handle and ptpm_clock_handle_changed. */
+__extension__ enum PTPM_FOUR_OCTETS(ptpm_handled) {
+    PTPM_HANDLE_OTHER_DOMAIN = PTPM_OTHER_DOMAIN,
+    PTPM_OWN_MESSAGE = 2,               /* the clock sent it */
+    PTPM_NOT_ADDRESSED = 3,             /* it is for other clocks */
+    PTPM_NOT_A_REQUEST = 4,             /* it is an answer */
+    PTPM_ANSWERED_NEW = 5,              /* a new request of a manager */
+    PTPM_ANSWERED_REPEAT = 6,           /* the latest request of a manager again */
+    PTPM_DROPPED_OLD = 7,               /* a manager's request behind its latest */
+    PTPM_DROPPED_CONFLICT = 8,          /* another request under the number of its latest */
+    PTPM_ANSWERED_UNNUMBERED = 9,       /* a request of anybody else, or to every clock */
+    PTPM_HANDLE_TOO_SHORT = PTPM_TOO_SHORT,
+    PTPM_HANDLE_NOT_MANAGEMENT = PTPM_NOT_MANAGEMENT,
+    PTPM_HANDLE_BAD_VERSION = PTPM_BAD_VERSION,
+    PTPM_HANDLE_BAD_LENGTH = PTPM_BAD_LENGTH,
+    PTPM_HANDLE_BAD_ACTION = PTPM_BAD_ACTION,
+    PTPM_HANDLE_BAD_TLV_TYPE = PTPM_BAD_TLV_TYPE,
+    PTPM_HANDLE_BAD_TLV_LENGTH = PTPM_BAD_TLV_LENGTH,
+    PTPM_HANDLE_BAD_TEXT = PTPM_BAD_TEXT,
+    PTPM_HANDLE_NO_CLOCK = PTPM_NO_CLOCK,
+    PTPM_HANDLE_NO_PORT = PTPM_NO_PORT,
+    PTPM_HANDLE_NO_ROOM = PTPM_NO_ROOM  /* for fewer than PTPM_MOST_SENT messages */
+};
+
+/* ptpm_clock_observe. */
+__extension__ enum PTPM_FOUR_OCTETS(ptpm_observed) {
+    PTPM_OBSERVED = 0,
+    PTPM_OBSERVE_NO_CLOCK = PTPM_NO_CLOCK,
+    PTPM_OBSERVE_NO_PORT = PTPM_NO_PORT,
+    PTPM_OBSERVE_GRANDMASTER_DIFFERS = PTPM_GRANDMASTER_DIFFERS,
+    PTPM_OBSERVE_BAD_CLOCK_ACCURACY = PTPM_BAD_CLOCK_ACCURACY,
+    PTPM_OBSERVE_BAD_LEAP59 = PTPM_BAD_LEAP59,
+    PTPM_OBSERVE_BAD_STATE = PTPM_BAD_STATE
+};
+
+/* ptpm_clock_read. */
+__extension__ enum PTPM_FOUR_OCTETS(ptpm_read) {
+    PTPM_READ = 0,
+    PTPM_READ_NO_CLOCK = PTPM_NO_CLOCK,
+    PTPM_READ_NO_PORT = PTPM_NO_PORT,
+    PTPM_READ_NO_ROOM = PTPM_NO_ROOM,   /* for fewer than PTPM_MOST_READ octets */
+    PTPM_NOT_READABLE = 36              /* the id is not in the table, or permits no GET */
+};
+
+/* ptpm_session_begin. */
+__extension__ enum PTPM_FOUR_OCTETS(ptpm_begun) {
+    PTPM_BEGUN = 0,
+    PTPM_BEGIN_NO_MEMORY = PTPM_NO_MEMORY,
+    PTPM_BEGIN_NO_SESSION = PTPM_NO_SESSION,
+    PTPM_BUSY = 38,                     /* a request is not answered yet */
+    PTPM_NEEDS_PORT = 39,               /* the id is of a port, and no port of the clock is named */
+    PTPM_NOT_PERMITTED = 40,            /* the action is none of the three */
+    PTPM_BAD_VALUE = 41,                /* the dataField has an odd number of octets, or over 1,418 */
+    PTPM_COUNT_AT_MAXIMUM = 42          /* the session has begun 1,000,000 requests */
+};
+
+/* ptpm_session_send and ptpm_survey_send, which is neither idle nor gives up. */
+__extension__ enum PTPM_FOUR_OCTETS(ptpm_sending) {
+    PTPM_SENT = 0,
+    PTPM_SEND_NO_ROOM = PTPM_NO_ROOM,   /* for fewer than PTPM_MOST_OCTETS octets */
+    PTPM_SEND_NO_SESSION = PTPM_NO_SESSION,
+    PTPM_SEND_IDLE = PTPM_IDLE,
+    PTPM_GAVE_UP = 44,                  /* no attempts are left */
+    PTPM_SEND_NO_SURVEY = PTPM_NO_SURVEY
+};
+
+/* ptpm_session_resume. */
+__extension__ enum PTPM_FOUR_OCTETS(ptpm_resumed) {
+    PTPM_RESUMED = 0,
+    PTPM_RESUME_NO_SESSION = PTPM_NO_SESSION,
+    PTPM_RESUME_IDLE = PTPM_IDLE
+};
+
+/* ptpm_session_retune. */
+__extension__ enum PTPM_FOUR_OCTETS(ptpm_retuned) {
+    PTPM_RETUNED = 0,
+    PTPM_RETUNE_NO_SESSION = PTPM_NO_SESSION
+};
+
+/* ptpm_session_receive. */
+__extension__ enum PTPM_FOUR_OCTETS(ptpm_session_received) {
+    PTPM_ANSWERED = 0,                  /* it answers the unanswered request */
+    PTPM_SESSION_OTHER_DOMAIN = PTPM_OTHER_DOMAIN,
+    PTPM_SESSION_NOT_A_REPLY = PTPM_NOT_A_REPLY,
+    PTPM_SESSION_OTHER_TARGET = PTPM_OTHER_TARGET,
+    PTPM_OTHER_SOURCE = 12,
+    PTPM_NOTHING_ASKED = 13,
+    PTPM_SESSION_OTHER_NUMBER = PTPM_OTHER_NUMBER,
+    PTPM_SESSION_OTHER_CONTENT = PTPM_OTHER_CONTENT,
+    PTPM_SESSION_TOO_SHORT = PTPM_TOO_SHORT,
+    PTPM_SESSION_NOT_MANAGEMENT = PTPM_NOT_MANAGEMENT,
+    PTPM_SESSION_BAD_VERSION = PTPM_BAD_VERSION,
+    PTPM_SESSION_BAD_LENGTH = PTPM_BAD_LENGTH,
+    PTPM_SESSION_BAD_ACTION = PTPM_BAD_ACTION,
+    PTPM_SESSION_BAD_TLV_TYPE = PTPM_BAD_TLV_TYPE,
+    PTPM_SESSION_BAD_TLV_LENGTH = PTPM_BAD_TLV_LENGTH,
+    PTPM_SESSION_BAD_TEXT = PTPM_BAD_TEXT,
+    PTPM_SESSION_NO_MEMORY = PTPM_NO_MEMORY,
+    PTPM_SESSION_NO_SESSION = PTPM_NO_SESSION
+};
+
+/* ptpm_survey_receive. */
+__extension__ enum PTPM_FOUR_OCTETS(ptpm_survey_received) {
+    PTPM_TAKEN = 0,                     /* it is the first answer of its port */
+    PTPM_SURVEY_OTHER_DOMAIN = PTPM_OTHER_DOMAIN,
+    PTPM_SURVEY_NOT_A_REPLY = PTPM_NOT_A_REPLY,
+    PTPM_SURVEY_OTHER_TARGET = PTPM_OTHER_TARGET,
+    PTPM_SURVEY_OTHER_NUMBER = PTPM_OTHER_NUMBER,
+    PTPM_SURVEY_OTHER_CONTENT = PTPM_OTHER_CONTENT,
+    PTPM_SURVEY_TOO_SHORT = PTPM_TOO_SHORT,
+    PTPM_SURVEY_NOT_MANAGEMENT = PTPM_NOT_MANAGEMENT,
+    PTPM_SURVEY_BAD_VERSION = PTPM_BAD_VERSION,
+    PTPM_SURVEY_BAD_LENGTH = PTPM_BAD_LENGTH,
+    PTPM_SURVEY_BAD_ACTION = PTPM_BAD_ACTION,
+    PTPM_SURVEY_BAD_TLV_TYPE = PTPM_BAD_TLV_TYPE,
+    PTPM_SURVEY_BAD_TLV_LENGTH = PTPM_BAD_TLV_LENGTH,
+    PTPM_SURVEY_BAD_TEXT = PTPM_BAD_TEXT,
+    PTPM_AGAIN = 27,                    /* it is a further answer of its port */
+    PTPM_FULL = 28,                     /* it is the first answer of one port too many */
+    PTPM_SURVEY_NO_MEMORY = PTPM_NO_MEMORY,
+    PTPM_SURVEY_NO_SURVEY = PTPM_NO_SURVEY
+};
+
+/* ptpm_session_report and ptpm_survey_answer. */
+__extension__ enum PTPM_FOUR_OCTETS(ptpm_told) {
+    PTPM_VALUE = 0,                     /* the clock told a dataField */
+    PTPM_DONE = 25,                     /* it carried a COMMAND out */
+    PTPM_REFUSED = 26,                  /* it told a managementErrorId */
+    PTPM_REPORT_NO_ROOM = PTPM_NO_ROOM, /* for fewer octets than the dataField has */
+    PTPM_REPORT_NO_SESSION = PTPM_NO_SESSION,
+    PTPM_NO_REPORT = 45,                /* no request was begun, or the latest is not answered; the survey has no such answer */
+    PTPM_REPORT_NO_SURVEY = PTPM_NO_SURVEY
+};
+
+/* So the header refuses a compiler that takes no such word. */
+#define PTPM_IS_WIDE(name) typedef char name##_has_not_four_octets[sizeof(enum name) == 4 ? 1 : -1]
+PTPM_IS_WIDE(ptpm_started);
+PTPM_IS_WIDE(ptpm_handled);
+PTPM_IS_WIDE(ptpm_observed);
+PTPM_IS_WIDE(ptpm_read);
+PTPM_IS_WIDE(ptpm_begun);
+PTPM_IS_WIDE(ptpm_sending);
+PTPM_IS_WIDE(ptpm_resumed);
+PTPM_IS_WIDE(ptpm_retuned);
+PTPM_IS_WIDE(ptpm_session_received);
+PTPM_IS_WIDE(ptpm_survey_received);
+PTPM_IS_WIDE(ptpm_told);
+#undef PTPM_IS_WIDE
+#undef PTPM_FOUR_OCTETS
+
+/* Tells whether a call that answered so was refused. It then changed nothing, but that a start leaves nothing in its handle.
+   PTPM_REFUSED is no such answer: the call told that the clock which was asked refused the request.
+   Takes:   what a call with one of these types answered. */
+static inline bool ptpm_is_refusal(uint32_t answer) { return answer >= 32; }
+
+/* Each call below says what it takes, what it answers, what of the host's memory it writes beside its handle, what memory it asks
+   of malloc, and what the caller then owes. Where a line is missing, there is none of it. */
+
+/* Makes the settings of a clock of identity 0 in domain 0 that is its own grandmaster, with this profile's defaults.
+   Writes:  all of *settings.
+   Owed:    the caller writes the identity, and what else its clock has, over them. */
 void ptpm_clock_defaults(struct ptpm_clock_settings *settings);
 
-/* Writes all settings over: a port that is MASTER, with this profile's defaults. */
+/* Makes the settings of a port that is MASTER, with this profile's defaults.
+   Writes:  all of *settings. */
 void ptpm_port_defaults(struct ptpm_port_settings *settings);
 
-/* Starts a clock in place of the one that the handle holds, which is freed first: PTPM_STARTED, or why not, and then the
-   handle holds none. One to eight ports, at most sixteen managers. */
-uint32_t ptpm_clock_start(struct ptpm_clock *clock, const struct ptpm_clock_settings *settings,
-                          const struct ptpm_port_settings *ports, size_t port_count,
-                          const struct ptpm_manager_settings *managers, size_t manager_count);
+/* Starts a clock in place of what the handle holds, which is freed first.
+   Takes:   one to eight ports, of which the first is port 1, and at most sixteen managers.
+   Answers: PTPM_STARTED; or why not, and then the handle holds nothing.
+   Memory:  the clock, until it is stopped, and a copy of ports and managers until the call returns.
+   Owed:    the caller stops the clock. */
+enum ptpm_started ptpm_clock_start(struct ptpm_clock *clock, const struct ptpm_clock_settings *settings,
+                                   const struct ptpm_port_settings *ports, size_t port_count,
+                                   const struct ptpm_manager_settings *managers, size_t manager_count);
 
-/* What becomes of a datagram that came in at a port, counted from 1. The first *count places of sent then hold what is to
-   be sent, in this order; room is how many places there are, PTPM_MOST_SENT or more. Takes no memory. */
-uint32_t ptpm_clock_handle(struct ptpm_clock *clock, uint16_t port, const uint8_t *datagram, size_t size,
-                           struct ptpm_sent *sent, size_t room, size_t *count);
+/* Judges a datagram that came in at a port, carries its request out, and makes what is to be sent.
+   Takes:   the port, counted from 1; size octets; and room places, PTPM_MOST_SENT or more.
+   Answers: what became of the datagram; or why it was not judged, and then *count is 0.
+   Writes:  *count, and the first *count places of sent: of each its port, its size, and so many octets.
+   Owed:    the caller sends these messages in their order, whatever is answered, each at its port. */
+enum ptpm_handled ptpm_clock_handle(struct ptpm_clock *clock, uint16_t port, const uint8_t *datagram, size_t size,
+                                    struct ptpm_sent *sent, size_t room, size_t *count);
 
-/* Does what ptpm_clock_handle does, and tells what the datagram changed: the members whose value is another behind the call
-   than before it, and no others. None (all zeros) whatever is answered but PTPM_ANSWERED_NEW, and behind a GET or a request that
-   was refused. The new values are read by ptpm_clock_read. Takes no memory. */
-uint32_t ptpm_clock_handle_changed(struct ptpm_clock *clock, uint16_t port, const uint8_t *datagram, size_t size,
-                                   struct ptpm_sent *sent, size_t room, size_t *count, struct ptpm_changed *changed);
+/* Does what ptpm_clock_handle does, and tells what the datagram changed.
+   Takes:   what ptpm_clock_handle takes.
+   Answers: what ptpm_clock_handle answers.
+   Writes:  what ptpm_clock_handle writes, and *changed: the members that have another value behind the call than before it. They
+            are none (all zeros) whatever is answered but PTPM_ANSWERED_NEW, and behind a GET or a request that was refused.
+   Owed:    what ptpm_clock_handle leaves owed; and the device acts on each change. ptpm_clock_read reads the new values. */
+enum ptpm_handled ptpm_clock_handle_changed(struct ptpm_clock *clock, uint16_t port, const uint8_t *datagram, size_t size,
+                                            struct ptpm_sent *sent, size_t room, size_t *count, struct ptpm_changed *changed);
 
-/* Moves what the host observes of its clock and of its ports, the first of which is port 1, and nothing else: PTPM_OBSERVED, or
-   why not, and then nothing changes. There may be fewer places than ports, and none; more are PTPM_NO_PORT. What is judged is
-   how the data sets would be afterwards. *left gets the disabled ports at which a state was observed, and which stay disabled:
-   1 for port 1, 2 for port 2, 4 for port 3, and so on, summed up; the host stops them. Takes no memory. */
-uint32_t ptpm_clock_observe(struct ptpm_clock *clock, const struct ptpm_observed_clock *observed,
-                            const struct ptpm_observed_port *ports, size_t port_count, uint8_t *left);
+/* Moves what the host observes of its clock and of its ports, and nothing else. Judges the data sets as they would be afterwards.
+   Takes:   port_count places, of which the first is of port 1: as many as the clock has ports, or fewer, or none.
+   Answers: PTPM_OBSERVED; or why not, and then nothing changes.
+   Writes:  *left: the disabled ports at which a state was observed, and which stay disabled. 1 is port 1, 2 is port 2, 4 is
+            port 3, and so on, summed up; 0 where the call is refused.
+   Owed:    the host stops these ports. */
+enum ptpm_observed ptpm_clock_observe(struct ptpm_clock *clock, const struct ptpm_observed_clock *observed,
+                                      const struct ptpm_observed_port *ports, size_t port_count, uint8_t *left);
 
-/* Leaves what a GET of this managementId is answered at the head of octets, *size octets: PTPM_READ, or why not; room is how
-   many octets there are, PTPM_MOST_READ or more. The port matters for an id of a port alone. Takes no memory. */
-uint32_t ptpm_clock_read(struct ptpm_clock *clock, uint16_t id, uint16_t port, uint8_t *octets, size_t room, size_t *size);
+/* Reads what a GET of a managementId is answered.
+   Takes:   the id; a port of the clock, which matters for an id of a port alone; and room octets, PTPM_MOST_READ or more.
+   Answers: PTPM_READ, or why not.
+   Writes:  *size, and so many octets from octets on: the dataField. *size is 0 where the call is refused. */
+enum ptpm_read ptpm_clock_read(struct ptpm_clock *clock, uint16_t id, uint16_t port, uint8_t *octets, size_t room, size_t *size);
 
-/* Ends the clock that the handle holds, if it holds one; the handle then holds none. */
+/* Ends what the handle holds, if it holds anything. The handle then holds nothing, and may be started again. */
 void ptpm_clock_stop(struct ptpm_clock *clock);
 
-/* Starts a session in place of the one that the handle holds, which is freed first: PTPM_STARTED, or why not, and then the
-   handle holds none. */
-uint32_t ptpm_session_start(struct ptpm_session *session, const struct ptpm_session_settings *settings);
+/* Starts a session in place of what the handle holds, which is freed first.
+   Answers: PTPM_STARTED; or why not, and then the handle holds nothing.
+   Memory:  the session, until it is stopped.
+   Owed:    the caller stops the session. */
+enum ptpm_started ptpm_session_start(struct ptpm_session *session, const struct ptpm_session_settings *settings);
 
-/* Begins a request: PTPM_BEGUN, or why not, and then nothing changes. The port matters for an id of a port alone; octets is
-   the dataField. The answer to an earlier request is let go. */
-uint32_t ptpm_session_begin(struct ptpm_session *session, uint8_t action, uint16_t id, uint16_t port, const uint8_t *octets,
-                            size_t size);
+/* Begins a request, and lets the answer to the one before go.
+   Takes:   PTPM_GET, PTPM_SET or PTPM_COMMAND; the id; a port of the managed clock, which matters for an id of a port alone; and
+            the dataField, of size octets.
+   Answers: PTPM_BEGUN; or why not, and then nothing changes.
+   Memory:  a copy of the dataField, until the request is answered.
+   Owed:    the caller sends the request, and keeps the number of the next where a restart finds it. */
+enum ptpm_begun ptpm_session_begin(struct ptpm_session *session, uint8_t action, uint16_t id, uint16_t port,
+                                   const uint8_t *octets, size_t size);
 
-/* Leaves the unanswered request at the head of octets, *size octets, and uses one of its attempts: PTPM_SENT, or why not;
-   room is how many octets there are, PTPM_MOST_OCTETS or more. It has the same octets each time, until the session is
-   retuned. Takes no memory. */
-uint32_t ptpm_session_send(struct ptpm_session *session, uint8_t *octets, size_t room, size_t *size);
+/* Makes the message of the unanswered request, and uses one of its attempts. The message has the same octets each time, until
+   the session is retuned.
+   Takes:   room octets, PTPM_MOST_OCTETS or more.
+   Answers: PTPM_SENT; or why not, and then no attempt is used.
+   Writes:  *size, and so many octets from octets on: the message. *size is 0 where the call is refused.
+   Owed:    the caller sends the message, and hands in what comes in. */
+enum ptpm_sending ptpm_session_send(struct ptpm_session *session, uint8_t *octets, size_t room, size_t *size);
 
-/* Gives the unanswered request so many attempts, whatever was left: PTPM_RESUMED, PTPM_IDLE or PTPM_NO_SESSION. Takes no
-   memory. */
-uint32_t ptpm_session_resume(struct ptpm_session *session, uint8_t attempts);
+/* Gives the unanswered request so many attempts, whatever was left.
+   Answers: PTPM_RESUMED; or why not, and then nothing changes. */
+enum ptpm_resumed ptpm_session_resume(struct ptpm_session *session, uint8_t attempts);
 
-/* From now on requests are sent, and replies expected, in this domain, the unanswered one among them: PTPM_RETUNED or
-   PTPM_NO_SESSION. Takes no memory. */
-uint32_t ptpm_session_retune(struct ptpm_session *session, uint8_t domain);
+/* Has requests sent, and replies expected, in this domain from now on, the unanswered request among them.
+   Answers: PTPM_RETUNED, or why not. */
+enum ptpm_retuned ptpm_session_retune(struct ptpm_session *session, uint8_t domain);
 
-/* What the session makes of a datagram: PTPM_ANSWERED where it answers the unanswered request, after which the next one can
-   be begun; or why it is ignored; or PTPM_NO_MEMORY or PTPM_NO_SESSION. But for PTPM_ANSWERED nothing changes. */
-uint32_t ptpm_session_receive(struct ptpm_session *session, const uint8_t *datagram, size_t size);
+/* Judges a datagram that came in. Where it answers the unanswered request, the next one can be begun.
+   Takes:   size octets.
+   Answers: PTPM_ANSWERED; or why the datagram is ignored or not judged, and then nothing changes.
+   Memory:  a copy of the dataField of the answer, until the next request is begun. */
+enum ptpm_session_received ptpm_session_receive(struct ptpm_session *session, const uint8_t *datagram, size_t size);
 
-/* How many requests were begun; 0 where the handle holds no session. */
+/* Counts the requests that were begun.
+   Answers: how many they are; 0 where the handle holds no session. */
 uint64_t ptpm_session_issued(struct ptpm_session *session);
 
-/* What the answer to the latest request tells: PTPM_VALUE, with the dataField at the head of octets, *size octets; PTPM_DONE;
-   PTPM_REFUSED, with the managementErrorId in *error; or why nothing is told. room is how many octets there are, as many as
-   the dataField has or more: 1,418 do for each. Takes no memory. */
-uint32_t ptpm_session_report(struct ptpm_session *session, uint8_t *octets, size_t room, size_t *size, uint16_t *error);
+/* Tells what the answer to the latest request says.
+   Takes:   room octets, as many as the dataField has or more: 1,418 do for each.
+   Answers: PTPM_VALUE, PTPM_DONE or PTPM_REFUSED; or why nothing is told.
+   Writes:  *size, and so many octets from octets on: the dataField, behind PTPM_VALUE. *size is 0 behind every other answer.
+            *error: the managementErrorId behind PTPM_REFUSED, and 0 behind every other answer. */
+enum ptpm_told ptpm_session_report(struct ptpm_session *session, uint8_t *octets, size_t room, size_t *size, uint16_t *error);
 
-/* Ends the session that the handle holds, if it holds one; the handle then holds none. */
+/* Ends what the handle holds, if it holds anything. The handle then holds nothing, and may be started again. */
 void ptpm_session_stop(struct ptpm_session *session);
 
-/* Starts a survey without answers in place of the one that the handle holds, which is freed first: PTPM_STARTED, or why not,
-   and then the handle holds none. */
-uint32_t ptpm_survey_start(struct ptpm_survey *survey, const struct ptpm_survey_settings *settings);
+/* Starts a survey without answers in place of what the handle holds, which is freed first.
+   Answers: PTPM_STARTED; or why not, and then the handle holds nothing.
+   Memory:  the survey, until it is stopped.
+   Owed:    the caller stops the survey. */
+enum ptpm_started ptpm_survey_start(struct ptpm_survey *survey, const struct ptpm_survey_settings *settings);
 
-/* Leaves the GET at the head of octets, *size octets, the same each time: PTPM_SENT, or why not; room is how many octets there
-   are, PTPM_MOST_OCTETS or more. Takes no memory. */
-uint32_t ptpm_survey_send(struct ptpm_survey *survey, uint8_t *octets, size_t room, size_t *size);
+/* Makes the message of the GET, the same each time.
+   Takes:   room octets, PTPM_MOST_OCTETS or more.
+   Answers: PTPM_SENT, or why not.
+   Writes:  *size, and so many octets from octets on: the message. *size is 0 where the call is refused.
+   Owed:    the caller sends the message, and hands in what comes in. */
+enum ptpm_sending ptpm_survey_send(struct ptpm_survey *survey, uint8_t *octets, size_t room, size_t *size);
 
-/* What the survey makes of a datagram: PTPM_TAKEN where it is the first answer of its port, which is kept; PTPM_AGAIN and the
-   first stays; PTPM_FULL; why it is ignored; or PTPM_NO_MEMORY or PTPM_NO_SURVEY. But for PTPM_TAKEN nothing changes. */
-uint32_t ptpm_survey_receive(struct ptpm_survey *survey, const uint8_t *datagram, size_t size);
+/* Judges a datagram that came in, and keeps it where it is the first answer of its port.
+   Takes:   size octets.
+   Answers: PTPM_TAKEN; or PTPM_AGAIN, PTPM_FULL, or why the datagram is ignored or not judged, and then nothing changes.
+   Memory:  the answer that is kept, until the survey is stopped. */
+enum ptpm_survey_received ptpm_survey_receive(struct ptpm_survey *survey, const uint8_t *datagram, size_t size);
 
-/* How many answers are kept; 0 where the handle holds no survey. Takes no memory. */
+/* Counts the answers that are kept.
+   Answers: how many they are; 0 where the handle holds no survey. */
 size_t ptpm_survey_count(struct ptpm_survey *survey);
 
-/* What the answer at a place tells, counted from 0 in the order in which they came: PTPM_VALUE, with the dataField at the head
-   of octets, *size octets; or PTPM_REFUSED, with the managementErrorId in *error; *source is then the port that gave it. Or
-   why nothing is told, and then *source stays as it was. room is how many octets there are, as many as the dataField has or
-   more: 1,418 do for each. Takes no memory. */
-uint32_t ptpm_survey_answer(struct ptpm_survey *survey, size_t place, struct ptpm_source *source, uint8_t *octets, size_t room,
-                            size_t *size, uint16_t *error);
+/* Tells what an answer says, and who gave it.
+   Takes:   its place, counted from 0 in the order in which the answers came; and room octets, as many as the dataField has or
+            more: 1,418 do for each.
+   Answers: PTPM_VALUE, PTPM_DONE or PTPM_REFUSED; or why nothing is told.
+   Writes:  *size, and so many octets from octets on: the dataField, behind PTPM_VALUE. *size is 0 behind every other answer.
+            *error: the managementErrorId behind PTPM_REFUSED, and 0 behind every other answer.
+            *source: the port that gave the answer. It stays as it was where nothing is told. */
+enum ptpm_told ptpm_survey_answer(struct ptpm_survey *survey, size_t place, struct ptpm_source *source, uint8_t *octets,
+                                  size_t room, size_t *size, uint16_t *error);
 
-/* Ends the survey that the handle holds, if it holds one; the handle then holds none. */
+/* Ends what the handle holds, if it holds anything. The handle then holds nothing, and may be started again. */
 void ptpm_survey_stop(struct ptpm_survey *survey);
 
 /* The number that ptpm_id_named answers where no id has the name, and how many octets a name has at most. */
 enum { PTPM_NO_ID = 65536, PTPM_MOST_NAME = 27 };
 
-/* The managementId of a name in ASCII, of size octets and in either case, as PRIORITY1 or priority1 (IEEE 1588-2019, 15.5.2.3);
-   PTPM_NO_ID where no id of this profile has it. Takes no memory, as none of these four calls does, and no handle. */
+/* Finds the managementId of a name, as PRIORITY1 or priority1 (15.5.2.3).
+   Takes:   the name in ASCII, of size octets and in either case, without a zero behind it.
+   Answers: the id, which fits a uint16_t; or PTPM_NO_ID where no id of this profile has the name. */
 uint32_t ptpm_id_named(const char *name, size_t size);
 
-/* Leaves the standard's name of a managementId at the head of text, with no zero behind it, and answers how many octets it has:
-   0 where this profile lacks the id, or room is too small for the whole name. PTPM_MOST_NAME octets are enough. */
+/* Gives the standard's name of a managementId.
+   Takes:   the id; and room octets, for which PTPM_MOST_NAME is enough.
+   Answers: how many octets the name has; 0 where this profile lacks the id, or room is too small for the whole name.
+   Writes:  so many octets from text on: the name, with no zero behind it. */
 size_t ptpm_id_name(uint16_t id, char *text, size_t room);
 
-/* Leaves the name of the number that a call answered, as PTPM_NO_ROOM without PTPM_, in the same way. 0 has none: it says of
-   each call that it was done. */
+/* Gives the name of the number that a call answered, as NO_ROOM for PTPM_NO_ROOM. 0 has none, since each call answers it.
+   Takes:   the number; and room octets, for which PTPM_MOST_NAME is enough.
+   Answers: how many octets the name has; 0 where the number has none, or room is too small for the whole name.
+   Writes:  so many octets from text on: the name, with no zero behind it. */
 size_t ptpm_answer_name(uint32_t number, char *text, size_t room);
 
-/* Leaves the standard's name of a managementErrorId (15.5.4.3, table 109), as WRONG_VALUE for 4, in the same way. A number that
-   the table reserves, or leaves to an implementation, has none. */
+/* Gives the standard's name of a managementErrorId (15.5.4.3, table 109), as WRONG_VALUE for 4.
+   Takes:   the number; and room octets, for which PTPM_MOST_NAME is enough.
+   Answers: how many octets the name has; 0 where the table reserves the number or leaves it to an implementation, or room is too
+            small for the whole name.
+   Writes:  so many octets from text on: the name, with no zero behind it. */
 size_t ptpm_error_name(uint16_t error, char *text, size_t room);
 
 #ifdef __cplusplus

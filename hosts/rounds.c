@@ -6,7 +6,7 @@
 #include <linux/udp.h>
 #include <string.h>
 
-enum { PLACES = ROUND + PTPM_MOST_SENT, PARTS = 3, LEAST_JOINED = 8, MOST_JOINED = 64, MOST_OCTETS = 60000 };
+enum { PLACES = ROUND + PTPM_MOST_SENT, LEAST_JOINED = 8, MOST_JOINED = 64, MOST_OCTETS = 60000 };
 
 /* What the kernel tells of, or is told for, a datagram's addresses. */
 struct control { _Alignas(struct cmsghdr) char octets[CMSG_SPACE(sizeof(struct in6_pktinfo))]; };
@@ -127,7 +127,7 @@ static void address_datagram(struct msghdr *head, const struct heard *answered, 
 struct batch {
     struct mmsghdr messages[PLACES];
     unsigned sizes[PLACES];                 /* how many datagrams a message has */
-    struct iovec parts[PLACES * PARTS];
+    struct iovec parts[PLACES * FRAME_PARTS];
     union sender to[PLACES];
     struct control controls[PLACES];
     uint8_t heads[PLACES][ETHERNET_HEAD];
@@ -137,19 +137,14 @@ struct batch {
 /* The kernel may not take datagrams together, as where an interface can't send them so. */
 static int is_joining = 1;
 
-/* A frame of Ethernet has at least 60 octets. */
 static void add_frame(struct batch *batch, const struct port *port, const struct outgoing *out) {
-    static uint8_t zeros[ETHERNET_LEAST];
     struct iovec *parts = &batch->parts[batch->part_count];
     uint8_t *head = batch->heads[batch->count];
-    size_t size = ETHERNET_HEAD + out->message->size;
     write_head(head, out->answered == NULL ? NULL : out->answered->station, port->station);
-    parts[0] = (struct iovec){ head, ETHERNET_HEAD };
-    parts[1] = (struct iovec){ (void *)out->message->octets, out->message->size };
-    parts[2] = (struct iovec){ zeros, size < ETHERNET_LEAST ? ETHERNET_LEAST - size : 0 };
-    batch->messages[batch->count].msg_hdr = (struct msghdr){ .msg_iov = parts, .msg_iovlen = PARTS };
+    join_frame(parts, head, out->message->octets, out->message->size);
+    batch->messages[batch->count].msg_hdr = (struct msghdr){ .msg_iov = parts, .msg_iovlen = FRAME_PARTS };
     batch->sizes[batch->count++] = 1;
-    batch->part_count += PARTS;
+    batch->part_count += FRAME_PARTS;
 }
 
 static void add_datagram(struct batch *batch, const struct outgoing *out) {

@@ -39,7 +39,7 @@ static void use_clock(struct ptpm_clock *clock, const uint8_t *request) {
     expect(ptpm_clock_handle(clock, 1, request, GET_SIZE, sent, PTPM_MOST_SENT, &count), PTPM_ANSWERED_NEW, "clock_handle");
     expect(ptpm_clock_handle(clock, 1, request, GET_SIZE, sent, PTPM_MOST_SENT, &count), PTPM_ANSWERED_REPEAT, "clock_handle");
     expect(ptpm_clock_handle(clock, 1, request, GET_SIZE - 1, sent, PTPM_MOST_SENT, &count), PTPM_TOO_SHORT, "clock_handle");
-    expect(ptpm_clock_read(clock, 0x2000, 0, field, sizeof field, &size), PTPM_READ, "clock_read");
+    expect(ptpm_clock_read(clock, PTPM_ID_DEFAULT_DATA_SET, 0, field, sizeof field, &size), PTPM_READ, "clock_read");
 }
 
 static void clocks(struct ptpm_clock *clock, const uint8_t *request) {
@@ -68,14 +68,15 @@ static void use_session(struct ptpm_session *session) {
     uint8_t octets[PTPM_MOST_OCTETS];
     size_t size;
     uint16_t error;
-    expect(ptpm_session_begin(session, PTPM_GET, 0x2005, 0, text, 0), PTPM_BEGUN, "session_begin");
+    expect(ptpm_session_begin(session, PTPM_GET, PTPM_ID_PRIORITY1, 0, text, 0), PTPM_BEGUN, "session_begin");
     expect(ptpm_session_send(session, octets, sizeof octets, &size), PTPM_SENT, "session_send");
     size = answer_of(7, 0x01, octets);
     expect(ptpm_session_receive(session, octets, size), PTPM_ANSWERED, "session_receive");
     expect(ptpm_session_receive(session, octets, size), PTPM_NOTHING_ASKED, "session_receive");
     expect(ptpm_session_report(session, octets, sizeof octets, &size, &error), PTPM_VALUE, "session_report");
-    expect(ptpm_session_begin(session, PTPM_SET, 0x0002, 0, text, 3), PTPM_BAD_VALUE, "session_begin that is refused");
-    expect(ptpm_session_begin(session, PTPM_SET, 0x0002, 0, text, sizeof text), PTPM_BEGUN, "session_begin");
+    expect(ptpm_session_begin(session, PTPM_SET, PTPM_ID_USER_DESCRIPTION, 0, text, 3), PTPM_BAD_VALUE,
+           "session_begin that is refused");
+    expect(ptpm_session_begin(session, PTPM_SET, PTPM_ID_USER_DESCRIPTION, 0, text, sizeof text), PTPM_BEGUN, "session_begin");
     expect(ptpm_session_send(session, octets, sizeof octets, &size), PTPM_SENT, "session_send");
     expect(ptpm_session_resume(session, 1), PTPM_RESUMED, "session_resume");
     expect(ptpm_session_retune(session, 1), PTPM_RETUNED, "session_retune");
@@ -113,7 +114,7 @@ static void use_survey(struct ptpm_survey *survey) {
 }
 
 static void surveys(struct ptpm_survey *survey) {
-    struct ptpm_survey_settings settings = { .port = 1, .number = 7, .id = 0x2005, .hops = 1 };
+    struct ptpm_survey_settings settings = { .port = 1, .number = 7, .id = PTPM_ID_PRIORITY1, .hops = 1 };
     memcpy(settings.clock, manager, 8);
     expect(ptpm_survey_start(survey, &settings), PTPM_STARTED, "survey_start");
     use_survey(survey);

@@ -12,12 +12,13 @@
 #include <strings.h>
 
 /* Options without a letter of their own, and a word that is none: getopt's for a string that begins with a hyphen. */
-enum { WORD = 1, UDP = 256, IPV6, TEXT, VERSION };
+enum { WORD = 1, UDP = 256, TEXT, VERSION };
 
 enum { MOST_WORDS = 3, MOST_FIELD = 1418, NOT_NAMED = -1 };
 
 static const struct option options[] = {
-    { "interface", required_argument, NULL, 'i' }, { "udp", required_argument, NULL, UDP }, { "ipv6", no_argument, NULL, IPV6 },
+    { "interface", required_argument, NULL, 'i' }, { "udp", required_argument, NULL, UDP }, { "ipv6", no_argument, NULL, '6' },
+    { "ethernet", no_argument, NULL, '2' },
     { "unix", required_argument, NULL, 'u' }, { "target", required_argument, NULL, 'T' }, { "to", required_argument, NULL, 'T' },
     { "port", required_argument, NULL, 'p' }, { "domain", required_argument, NULL, 'd' }, { "hops", required_argument, NULL, 'b' },
     { "manager", required_argument, NULL, 'm' }, { "numbers", required_argument, NULL, 'k' },
@@ -62,7 +63,8 @@ static void take_option(struct task *task, struct words *words, int option, cons
     switch (option) {
     case 'i': task->interface = value; break;
     case UDP: task->address = value; break;
-    case IPV6: task->is_six = 1; break;
+    case '6': task->is_six = 1; break;
+    case '2': task->is_ethernet = 1; break;
     case 'u': task->path = value; break;
     case 'T': read_target(task, words, value); break;
     case 'p': words->port = number("port", value, 0, 65535); break;
@@ -88,16 +90,19 @@ static void take_word(struct words *words, const char *word) {
     words->at[words->count++] = word;
 }
 
-/* A value below 0 is a word, and no option. */
-static int is_negative(const char *word) { return word[0] == '-' && word[1] >= '0' && word[1] <= '9'; }
+/* Behind `set ID` stands its value, which may be below 0: it is no option there. */
+static int is_value(const struct words *words, const char *word) {
+    if (words->count != 2 || strcasecmp(words->at[0], "set") != 0) return 0;
+    return word[0] == '-' && word[1] >= '0' && word[1] <= '9';
+}
 
 static void read_words(struct task *task, struct words *words, int argc, char **argv) {
     for (;;) {
-        if (optind < argc && is_negative(argv[optind])) {
+        if (optind < argc && is_value(words, argv[optind])) {
             take_word(words, argv[optind++]);
             continue;
         }
-        int option = getopt_long(argc, argv, "-i:u:T:p:d:b:m:k:w:a:t:n:xqh", options, NULL);
+        int option = getopt_long(argc, argv, "-26i:u:T:p:d:b:m:k:w:a:t:n:xqh", options, NULL);
         if (option == -1) break;
         if (option == WORD) take_word(words, optarg);
         else take_option(task, words, option, optarg);
@@ -156,9 +161,10 @@ static void judge(const struct task *task, const struct words *words) {
     if (task->path == NULL && task->interface == NULL && task->address == NULL) {
         refuse("the way to the clock is missing: --interface NAME, --udp ADDRESS or --unix PATH");
     }
-    if (task->path != NULL && (task->interface != NULL || task->address != NULL || task->is_six)) {
-        refuse("--unix stands without --interface, --udp and --ipv6");
+    if (task->path != NULL && (task->interface != NULL || task->address != NULL || task->is_six || task->is_ethernet)) {
+        refuse("--unix stands without --interface, --udp, --ipv6 and --ethernet");
     }
+    if (task->is_ethernet && (task->address != NULL || task->is_six)) refuse("--ethernet stands without --udp and --ipv6");
     if (task->is_survey && words->has_target) refuse("survey asks every clock: it takes no --target");
     if (!task->is_survey && !words->has_target) refuse("--target is missing: the clock that is asked; survey asks every clock");
     if (words->port >= 0 && words->target_port >= 0 && words->port != words->target_port) {

@@ -16,7 +16,7 @@ struct task {
     int has_manager;                            /* whether settings name the manager */
     int is_numbered;                            /* by a manager who is the same in each run: a file keeps his numbers */
     const char *interface, *address, *path;     /* the way: an interface, an address or both, or a Unix socket */
-    int is_six;                                 /* IPv6 */
+    int is_six, is_ethernet;                    /* at an interface IPv6, or IEEE 802.3, in place of IPv4 */
     const char *numbers;                        /* the file of the next request's number, or NULL */
     long wait;                                  /* how long a session waits that has no such file yet, in milliseconds */
     long milliseconds;                          /* how long an answer is waited for */

@@ -109,6 +109,11 @@ static void frames(void) {
     check(message_in(frame, sizeof frame, own) == 22 && message_in(frame, 20, own) == 0, "a frame with two tags");
     memcpy(frame + 12, (const uint8_t[]){ 0x08, 0x00 }, 2);
     check(message_in(frame, sizeof frame, own) == 0, "a frame of another Ethertype");
+    struct iovec parts[FRAME_PARTS];
+    join_frame(parts, written, frame, 45);
+    check(parts[0].iov_len == 14 && parts[1].iov_len == 45 && parts[2].iov_len == 1, "a frame has 60 octets at least");
+    join_frame(parts, written, frame, 46);
+    check(parts[1].iov_base == frame && parts[1].iov_len == 46 && parts[2].iov_len == 0, "and no octet behind a message that is longer");
 }
 
 int main(void) {

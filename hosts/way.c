@@ -1,6 +1,7 @@
 #define _GNU_SOURCE
 #include "way.h"
 #include "common.h"
+#include "ethernet.h"
 #include "notices.h"
 #include "reading.h"
 #include <arpa/inet.h>
@@ -17,8 +18,9 @@
 static struct sockaddr_storage clock_address;
 static socklen_t clock_size;
 static int at;
-static const char *name, *interface;    /* of the way in a notice; of a way over UDP */
-static int is_six;
+static const char *name, *interface;    /* of the way in a notice; of a way over UDP or Ethernet */
+static int is_six, is_ethernet;
+static uint8_t station[STATION];        /* the interface's address on Ethernet */
 
 enum { MOST_DATAGRAM = 65536 };
 
@@ -78,13 +80,18 @@ static void write_own_identity(uint8_t identity[8]) {
     memcpy(identity, (const uint8_t[]){ a[0], a[1], a[2], 0xff, 0xfe, a[3], a[4], a[5] }, 8);
 }
 
-static void find_udp(struct task *task) {
+static void find_udp(const struct task *task) {
     is_six = task->is_six;
     if (task->address != NULL) read_address(task->address);
+    else clock_size = group(&clock_address, is_six);
+}
+
+static void find_at_interface(struct task *task) {
+    is_ethernet = task->is_ethernet;
+    if (!is_ethernet) find_udp(task);
     interface = task->interface != NULL ? task->interface : interface_to(task->address);
     name = task->address != NULL ? task->address : interface;
     if (if_nametoindex(interface) == 0) refuse("nothing was sent: %s: %s", interface, strerror(errno));
-    if (task->address == NULL) clock_size = group(&clock_address, is_six);
     if (!task->has_manager) write_own_identity(task->settings.clock);
 }
 
@@ -99,17 +106,15 @@ static void find_unix(const struct task *task) {
 
 void find_way(struct task *task) {
     if (task->path != NULL) find_unix(task);
-    else find_udp(task);
+    else find_at_interface(task);
     int is_nobodys = !task->is_numbered && (task->path != NULL || !task->is_survey);
     if (!task->has_manager && is_nobodys) task->settings.port = port_of_nobody(task->settings.port);
 }
 
 static void open_at_interface(void) {
     const char *what;
-    at = open_udp(interface, is_six, &what);
-    if (at >= 0) return;
-    refuse("nothing was sent: %s: %s%s", what, strerror(errno), errno != EACCES && errno != EPERM ? ""
-           : ": that takes root, or the capabilities CAP_NET_BIND_SERVICE and CAP_NET_RAW");
+    at = is_ethernet ? open_ethernet(interface, station, &what) : open_udp(interface, is_six, &what);
+    if (at < 0) refuse("nothing was sent: %s: %s%s", what, strerror(errno), right_needed(is_ethernet));
 }
 
 static void open_beside(const char *path) {
@@ -124,8 +129,21 @@ void open_way(const struct task *task) {
     else open_at_interface();
 }
 
+static ssize_t send_frame(const uint8_t *octets, size_t size) {
+    uint8_t head[ETHERNET_HEAD];
+    struct iovec parts[FRAME_PARTS];
+    const struct msghdr frame = { .msg_iov = parts, .msg_iovlen = FRAME_PARTS };
+    write_head(head, NULL, station);
+    join_frame(parts, head, octets, size);
+    return sendmsg(at, &frame, MSG_DONTWAIT);
+}
+
+static ssize_t send_datagram(const uint8_t *octets, size_t size) {
+    return sendto(at, octets, size, MSG_DONTWAIT, (struct sockaddr *)&clock_address, clock_size);
+}
+
 enum sending send_out(const uint8_t *octets, size_t size) {
-    if (sendto(at, octets, size, MSG_DONTWAIT, (struct sockaddr *)&clock_address, clock_size) >= 0) return OUT;
+    if ((is_ethernet ? send_frame(octets, size) : send_datagram(octets, size)) >= 0) return OUT;
     return errno == EAGAIN || errno == EWOULDBLOCK || errno == ENOBUFS ? NO_ROOM : NO_WAY;
 }
 
@@ -136,8 +154,10 @@ const uint8_t *hear(size_t *size, long end) {
         if (wait_for(&waits, 1, left) <= 0) continue;
         ssize_t found = recv(at, datagram, sizeof datagram, MSG_DONTWAIT);
         if (found < 0) continue;
-        *size = (size_t)found;
-        return datagram;
+        size_t place = is_ethernet ? message_in(datagram, (size_t)found, station) : 0;
+        if (is_ethernet && place == 0) continue;
+        *size = (size_t)found - place;
+        return datagram + place;
     }
     return NULL;
 }

@@ -1,4 +1,4 @@
-/* The way to the clocks that are asked: a socket, and where messages go from it. */
+/* The way to the clocks that are asked, over UDP, over Ethernet or at a Unix socket: a socket, and where messages go from it. */
 #ifndef WAY_H
 #define WAY_H
 
@@ -7,8 +7,8 @@
 #include <stdint.h>
 
 /* Finds the way that the task names, and where the task names no manager, makes the way's own the manager of its settings: over
-   UDP the interface's hardware address with ff and fe in its middle, at a Unix socket clock 0, as pmc; at port 1, or where no
-   numbers are kept at a port of this process. Ends the program with status 2 where there is no way. */
+   UDP and Ethernet the interface's hardware address with ff and fe in its middle, at a Unix socket clock 0, as pmc; at port 1, or
+   where no numbers are kept at a port of this process. Ends the program with status 2 where there is no way. */
 void find_way(struct task *task);
 
 /* Opens it. Ends the program with status 2 where it can't be opened. */
@@ -23,8 +23,8 @@ enum sending { OUT, NO_ROOM, NO_WAY, NONE_LEFT };
 /* Hands a message to the socket, and waits for no room there. Where it answers NO_WAY errno says why. */
 enum sending send_out(const uint8_t *octets, size_t size);
 
-/* The next datagram that comes in before a time, which stands until the next call; NULL where none does, or a signal asks the
-   program to end. */
+/* The next message that comes in before a time, which stands until the next call; octets may stand behind it. NULL where none does,
+   or a signal asks the program to end. */
 const uint8_t *hear(size_t *size, long end);
 
 #endif

@@ -3,7 +3,7 @@
 
 # The options that the words given have in their help.
 _ptpm_options() {
-    "$@" --help 2>&1 < /dev/null | grep -oE -- '(^|[][ ,|])--?[a-zA-Z0-9][a-z0-9-]*' | grep -oE -- '--?[a-zA-Z0-9].*' | sort -u
+    "$@" --help 2>&1 < /dev/null | grep -oE -- '(^|[] ,|])\[?--?[a-zA-Z0-9][a-z0-9-]*' | grep -oE -- '--?[a-zA-Z0-9].*' | sort -u
 }
 
 # Whether in the help of the program $1 the option $2 has a word in capitals behind it: then what stands at the cursor is that.

@@ -1,5 +1,5 @@
 #define _GNU_SOURCE
-#include "limits.h"
+#include "network_limits.h"
 #include "bucket.h"
 #include "common.h"
 #include "links.h"

@@ -1,7 +1,7 @@
 /* What ptpm-clock keeps from the network of what its agent would send, so that no message goes round for good and no stranger has
    much sent by little: how far messages are passed on, which of them, and how many a second. */
-#ifndef LIMITS_H
-#define LIMITS_H
+#ifndef NETWORK_LIMITS_H
+#define NETWORK_LIMITS_H
 
 #include "ports.h"
 #include "ptpm.h"
