@@ -40,7 +40,8 @@ pub fn id_table_law()
     ensures ids { map (λ e. e.id) id_table ≡ MANAGEMENT_IDS }
 {}
 
-/// A clock has one to eight ports, identities of eight octets, and a text of at most 128 octets of UTF-8. Where it is its own
+/// A clock has one to eight ports, identities of eight octets, its own not all ones, and a text of at most 128 octets of UTF-8.
+/// Its accuracy, and what a SET can change at each port, is in its range, and not both leaps are announced. Where it is its own
 /// grandmaster, its parent data set shows its own priorities and quality.
 pub fn data_sets_law(sets: &DataSets)
     ensures consistent { IsConsistent sets.now }
@@ -138,6 +139,9 @@ pub fn change_law()
     ensures sized { (q : RequestValue) (rights : Rights) (d : DataSetsValue)
         → IsSized d
         → IsSized (changed_by q rights d) }
+    ensures consistent { (q : RequestValue) (rights : Rights) (d : DataSetsValue)
+        → IsConsistent d
+        → IsConsistent (changed_by q rights d) }
     ensures get { (q : RequestValue) (rights : Rights) (d : DataSetsValue)
         → q.action ≡ Get
         → changed_by q rights d ≡ d }
@@ -205,6 +209,9 @@ pub fn observation_law()
         → IsSizedObservation o
         → IsSized d
         → IsSized (observed o ports d) }
+    ensures consistent { (o : ClockObservation) (ports : List PortObservation) (d : DataSetsValue)
+        → IsConsistent d
+        → IsConsistent (observed o ports d) }
 {}
 
 /// A grandmaster that is observed has identities of eight octets.
