@@ -19,3 +19,6 @@ pub mod Observing
 pub mod Observed
 pub mod Differing
 pub mod Consistency
+pub mod RestoringLaws
+pub mod ImageLemmas
+pub mod OneImage

@@ -23,3 +23,5 @@ pub mod SetLaws
 pub mod Observation
 pub mod ObservationLaws
 pub mod Changed
+pub mod Image
+pub mod ImageReading

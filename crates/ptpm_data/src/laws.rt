@@ -71,7 +71,7 @@ pub fn plain_map_law(a: &DataSets, b: &DataSets)
 }
 
 /// An identity has eight octets.
-fn identity_law(identity: &ClockIdentity)
+pub(crate) fn identity_law(identity: &ClockIdentity)
     ensures { length identity.now.0 ≡ 8 }
 {
     let octets: &[u8] = &identity.0;
@@ -79,7 +79,7 @@ fn identity_law(identity: &ClockIdentity)
 }
 
 /// A portIdentity has eight octets and a number of sixteen bits.
-fn port_identity_law(identity: &PortIdentity)
+pub(crate) fn port_identity_law(identity: &PortIdentity)
     ensures clock { length identity.now.clock.0 ≡ 8 }
     ensures port { identity.now.port < 2 ^ 16 }
 {
