@@ -20,5 +20,6 @@ pub mod Observed
 pub mod Differing
 pub mod Consistency
 pub mod RestoringLaws
+pub mod ObservingBack
 pub mod ImageLemmas
 pub mod OneImage

@@ -18,6 +18,7 @@ ghost use Rattle.ptpm_data.specs.MemberMap.{Place, plain, value_of};
 ghost use Rattle.ptpm_data.specs.Members.{DataSetsValue, IsConsistent};
 ghost use Rattle.ptpm_codec.specs.Message.{reply_action};
 ghost use Rattle.ptpm_data.specs.Observation.{is_disabled, observation_refusal, observed};
+ghost use Rattle.ptpm_data.specs.ObservationBack.{Observation, observed_again, observed_each};
 ghost use Rattle.ptpm_data.specs.ObservationLaws.{IsSizedObservation, observed_value};
 ghost use Rattle.ptpm_data.specs.Replies.{read_reply_to, reply_to};
 ghost use Rattle.ptpm_data.specs.Reply.{Answer, Refused, Value};
@@ -212,6 +213,14 @@ pub fn observation_law()
     ensures consistent { (o : ClockObservation) (ports : List PortObservation) (d : DataSetsValue)
         → IsConsistent d
         → IsConsistent (observed o ports d) }
+{}
+
+/// Whatever was observed since, in however many observations, the observation of all members that data sets have brings them
+/// back: a disabled port stayed disabled, and every member that no host observes stayed as it was.
+pub fn observation_back_law()
+    ensures { (observations : List Observation) (d : DataSetsValue)
+        → IsConsistent d
+        → observed_again d (observed_each observations d) ≡ d }
 {}
 
 /// A grandmaster that is observed has identities of eight octets.

@@ -41,8 +41,8 @@ pub use data_sets::{
 pub use image::DATA_SETS_OCTETS;
 pub use image_laws::{fits_law, image_law};
 pub use laws::{
-    change_law, data_sets_law, grandmaster_law, id_table_law, member_map_law, observation_law,
-    plain_map_law, read_reply_law, reply_law, set_law, sized_observation_law,
+    change_law, data_sets_law, grandmaster_law, id_table_law, member_map_law, observation_back_law,
+    observation_law, plain_map_law, read_reply_law, reply_law, set_law, sized_observation_law,
 };
 pub use management_id::{Layout, MANAGEMENT_IDS, Row, Scope, by_id as row, by_name};
 pub use members::Member;
