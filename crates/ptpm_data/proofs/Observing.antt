@@ -1,13 +1,17 @@
 -- The ports of an observation, one after another, and what an observation keeps.
-use Rattle.std.proofs.Common.{arith, ◌≡◌, ◌∙◌, ap, refl, sym, ℕ, zero, suc, ◌+◌, ◌<◌, ◌≤◌, Bool, true, false, ◌||◌, nat_lt, List, [], ◌∷◌, ◌++◌, take, length, get_or, set, add-one, None}
+use Rattle.std.proofs.Common.{arith, ◌≡◌, ◌∙◌, ap, refl, sym, ℕ, zero, suc, ◌+◌, ◌<◌, ◌≤◌, Bool, true, false, ◌&&◌, ◌||◌, nat_lt, List, [], ◌∷◌, ◌++◌, append-nil, take, take_all, length, get_or, set, add-one, None}
 use Rattle.std.proofs.Math.Bool.{or_assoc}
+use Rattle.std.specs.List.{refill}
+use Rattle.std.proofs.lemmas.List.{drop_all}
 use Rattle.std.proofs.lemmas.Bool.{not-false}
 use Rattle.std.proofs.lemmas.Bool.Decides.{nat_tests}
 use Rattle.ptpm_data.specs.declared.data_sets.PortDataSet.{PortDataSet}
 use Rattle.ptpm_data.specs.declared.observation.PortObservation.{PortObservation}
 use Rattle.ptpm_data.specs.declared.observation.ClockObservation.{ClockObservation}
 use Rattle.ptpm_data.specs.Members.{DataSetsValue, IsConsistent, is_grandmaster}
-use Rattle.ptpm_data.specs.Observation.{accepted_observation, default_after, disables, disables_one, is_left_disabled, left_disabled, observation_refusal, parent_after, port_after, ports_after}
+use Rattle.ptpm_data.specs.Observation.{accepted_observation, default_after, disables, disables_one, is_left_disabled, left_disabled, observation_refusal, parent_after, port_after, ports_after, time_after}
+use Rattle.ptpm_data.specs.Ranges.{is_clock_accuracy}
+use Rattle.ptpm_data.proofs.Ranging.{ports_observed}
 use Rattle.ptpm_data.proofs.StartLemmas.{passes, precedence_sound}
 
 module _ (o : PortObservation) (p : PortDataSet) where
@@ -113,5 +117,22 @@ module _ (o : ClockObservation) (ports : List PortObservation) (d : DataSetsValu
   unfolding observation_refusal
   own_precedence own = grind (arith, precedence_sound, not-false, passes)
 
+  in_range : is_clock_accuracy (default_after o d.default).precedence.accuracy ≡ true
+  unfolding observation_refusal
+  in_range = grind (arith, nat_lt, passes, not-false)
+
+  no_leaps : ((time_after o d.time).leap61 && (time_after o d.time).leap59) ≡ false
+  unfolding observation_refusal
+  no_leaps = grind (arith, nat_lt, passes)
+
   pub consistent : IsConsistent d → IsConsistent (accepted_observation o ports d)
-  consistent before = grind (arith, ports_after-length, own_precedence)
+  consistent before = record {
+    some_port = grind (arith, ports_after-length);
+    at_most_eight = grind (arith, ports_after-length);
+    identity = before.identity;
+    description = before.description;
+    accuracy = in_range;
+    leaps = no_leaps;
+    ports = ports_observed ports d.ports before.ports;
+    grandmaster = own_precedence;
+  }

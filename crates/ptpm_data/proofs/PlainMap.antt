@@ -11,7 +11,7 @@ use Rattle.ptpm_data.proofs.MapLemmas.{map_decides}
 
 -- ---- two lists of the same size in front
 
-same_front : (xs ys us vs : List ℕ)
+pub same_front : (xs ys us vs : List ℕ)
     → length xs ≡ length ys
     → xs ++ us ≡ ys ++ vs
     → (xs ≡ ys) × (us ≡ vs)

@@ -19,7 +19,7 @@ use Rattle.ptpm_data.specs.declared.data_sets.PortDataSet.{PortDataSet}
 use Rattle.ptpm_data.specs.Members.{DataSetsValue}
 use Rattle.ptpm_data.specs.Observation.{grandmaster_differs}
 use Rattle.ptpm_data.specs.PortState.{state_of, mechanism_of}
-use Rattle.ptpm_data.specs.Ranges.{is_description, is_clock_accuracy, is_announce_interval, is_receipt_timeout, is_sync_interval, is_pdelay_interval}
+use Rattle.ptpm_data.specs.Ranges.{all_ones, is_description, is_clock_accuracy, is_announce_interval, is_receipt_timeout, is_sync_interval, is_pdelay_interval}
 
 -- ---- defaults
 
@@ -143,9 +143,6 @@ started c ports = record {
   time = time_data_set c;
   ports = map port_data_set ports;
 }
-
-abbrev pub all_ones : List ℕ
-all_ones = 255 ∷ 255 ∷ 255 ∷ 255 ∷ 255 ∷ 255 ∷ 255 ∷ 255 ∷ []
 
 -- ---- faults: of each list the answer is the first whose test holds
 

@@ -294,6 +294,18 @@ impl PortStart {
     }
 }
 
+impl Default for PortStart {
+    ghost use Rattle.std.specs.Prelude.{◌≡◌};
+    ghost use Rattle.ptpm_data.specs.Start.{default_port};
+
+    /// That of `new`.
+    fn default() -> PortStart
+        ensures { result ≡ default_port }
+    {
+        PortStart::new()
+    }
+}
+
 /// The data sets of ports that start, or the first fault.
 fn port_data_sets(ports: &[PortStart]) -> Result<ArrayVec<PortDataSet, 8>, StartError>
     requires { length ports.now ≤ 8 }
