@@ -1,7 +1,7 @@
 -- At-most-once execution: what a turn does with a copy of a request is what the history says.
 use Rattle.std.proofs.lemmas.Grind.{common_steps}
 use Rattle.std.proofs.Common.{arith, ◌≡◌, ℕ, ◌<◌, ◌≤◌, ◌==◌, List, [], ◌∷◌, Option, Some, None, Ok, Bool, true, false, length, refl, sym, ◌∙◌, ap, subst, ⊎_elim}
-use Rattle.std.proofs.lemmas.Bool.{cases_Bool, cases_eq, cases_order, and_left, and_right, or_left, or_right, or_from, ne_eqb, le-ltb, cond-false, true≢false, false≢true}
+use Rattle.std.proofs.lemmas.Bool.{cases_eq, cases_order, and_left, and_right, ne_eqb, or_cases, le-ltb, cond-false, true≢false, false≢true}
 use Rattle.std.specs.FinMap.{get, get-empty}
 use Rattle.ptpm_codec.specs.declared.identity.PortIdentity.{PortIdentity}
 use Rattle.ptpm_codec.specs.declared.message.Message.{Message}
@@ -18,13 +18,13 @@ use Rattle.ptpm_table.proofs.SerialLaws.{order_of-same, order_of-newer, order_of
 use Rattle.ptpm_agent.specs.declared.verdict.Verdict.{Verdict}
 use Rattle.ptpm_agent.specs.declared.verdict.Verdict.TheVariants as verdicts
 use Rattle.ptpm_agent.specs.Addressing.{request_of}
-use Rattle.ptpm_agent.specs.Turn.{Clock, State, Turned, is_repeat, judged, look, next_by, reply_by, turn, turn_by, verdict_at}
+use Rattle.ptpm_agent.specs.Turn.{Clock, State, Turned, is_repeat, judged, next_by, reply_by, turn, turn_by, verdict_at}
 use Rattle.ptpm_agent.specs.Once.{Delivery, RequestCopy, History, after_copy, applied_once, initial_history, copy_from, copy_of, due_reply, greatest, is_copy, joins, kept_for}
 use Rattle.ptpm_agent.specs.Window.{IsInTime, IsNumbered}
 use Rattle.ptpm_agent.specs.Laws.{IsKept, IsLatest, StandsAt, due_messages, initial_clock_state}
 use Rattle.ptpm_agent.proofs.Entries.{StandsAt-joined, accepted_at}
 use Rattle.ptpm_agent.proofs.Numbers.{serial_of-number_of}
-use Rattle.ptpm_agent.proofs.Turns.{CopyParts, copy_parts, forwarded-copy, judged-elsewhere, judged-numbered, look-copy, next_by-no_copy, turn-message, turn-next}
+use Rattle.ptpm_agent.proofs.Turns.{CopyParts, copy_parts, forwarded-copy, judged-copy, next_by-no_copy, turn-message, turn-next}
 
 -- ---- the copy of a delivery
 
@@ -232,20 +232,14 @@ goes_copy : (first : PortIdentity → ℕ) (c : Clock) (s : State) (h : History)
 goes_copy first c s h x v at y time =
     let parts : CopyParts c (length s.sets.ports) v = grind arith in
     let home : v.domain == s.sets.default.domain ≡ v.domain == h.sets.default.domain = grind arith in
-    let looked : is_repeat (look c s v) ≡ is_repeat (look_at (get s.entries v.source) v.number (request_of v)) = ap is_repeat (look-copy c s v parts) in
-    ⊎_elim
-    (λ (d : v.domain == h.sets.default.domain ≡ true).
-    goes_at first c s h x v _ _ (judged-numbered c s v parts (or_left (v.domain == s.sets.default.domain) (is_repeat (look c s v)) (home ∙ d)))
-    (goes_at_home first c s h x v (get s.entries v.source) at time d refl (at.entries v.source)))
-    (λ (d : v.domain == h.sets.default.domain ≡ false). ⊎_elim
+    judged-copy (λ w. Goes first c s h x v w) c s v (look_at (get s.entries v.source) v.number (request_of v)) parts refl
+    (λ numbered. ⊎_elim
+    (λ (d : v.domain == s.sets.default.domain ≡ true).
+    goes_at_home first c s h x v (get s.entries v.source) at time (sym home ∙ d) refl (at.entries v.source))
     (λ (r : is_repeat (look_at (get s.entries v.source) v.number (request_of v)) ≡ true).
-    goes_at first c s h x v _ _ (judged-numbered c s v parts (or_right (v.domain == s.sets.default.domain) (is_repeat (look c s v)) (looked ∙ r)))
-    (goes_repeat first c s h x v (get s.entries v.source) at time r refl (at.entries v.source)))
-    (λ (r : is_repeat (look_at (get s.entries v.source) v.number (request_of v)) ≡ false).
-    goes_at first c s h x v _ _ (judged-elsewhere c s v parts (or_from (v.domain == s.sets.default.domain) (is_repeat (look c s v)) (home ∙ d) (looked ∙ r)))
-    (goes_elsewhere first c s h x v at time d r))
-    (cases_Bool (is_repeat (look_at (get s.entries v.source) v.number (request_of v)))))
-    (cases_Bool (v.domain == h.sets.default.domain))
+    goes_repeat first c s h x v (get s.entries v.source) at time r refl (at.entries v.source))
+    (or_cases (v.domain == s.sets.default.domain) _ numbered))
+    (λ d r. goes_elsewhere first c s h x v at time (sym home ∙ d) r)
 
 -- ---- one delivery
 

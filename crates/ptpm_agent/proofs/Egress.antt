@@ -1,8 +1,10 @@
 -- The copies for the egress ports, port by port.
-use Rattle.std.proofs.lemmas.Grind.{common_steps}
 use Rattle.std.proofs.Common.{arith, ◌≡◌, ℕ, ◌<◌, ◌≤◌, ◌+◌, ◌-◌, ◌==◌, ◌&&◌, not, zero, suc, List, [], ◌∷◌, ◌++◌, length, map, cond, Bool, true, false, refl, sym, ◌∙◌, ap, subst, ⊎_elim}
 use Rattle.std.proofs.lemmas.Bool.{cases_Bool, cases_eq, and_left, eq-eqb}
-use Rattle.std.proofs.lemmas.List.{append-nil}
+use Rattle.std.proofs.lemmas.List.{append-nil, length-map, map-append}
+use Rattle.std.proofs.lemmas.List.Elements.{filter-append}
+use Rattle.std.proofs.lemmas.List.Filters.{length-filter_both}
+use Rattle.std.proofs.lemmas.List.FromFn.{length-range_with_len}
 use Rattle.std.specs.List.{filter, range_with_len}
 use Rattle.ptpm_data.specs.Members.{DataSetsValue, may_forward}
 use Rattle.ptpm_agent.specs.Forwarding.{egress_ports, with_less_hop}
@@ -27,7 +29,7 @@ unfolding copies_up_to
 copies_up_to-all ingress d datagram = refl
 
 -- one number more
-range_with_len-suc : (a n : ℕ) → range_with_len a (suc n) ≡ range_with_len a n ++ (a + n) ∷ []
+pub range_with_len-suc : (a n : ℕ) → range_with_len a (suc n) ≡ range_with_len a n ++ (a + n) ∷ []
 range_with_len-suc a zero = let here : a ≡ a + 0 = omega arith in ap (λ k. k ∷ []) here
 range_with_len-suc a (suc n) =
     let there : a + 1 + n ≡ a + suc n = omega arith in
@@ -35,8 +37,7 @@ range_with_len-suc a (suc n) =
 
 filter-last : (t : ℕ → Bool) (f : ℕ → ℕ × List ℕ) (xs : List ℕ) (x : ℕ)
     → map f (filter t (xs ++ x ∷ [])) ≡ map f (filter t xs) ++ cond (t x) (f x ∷ []) []
-filter-last t f [] x = grind arith
-filter-last t f (z ∷ zs) x = grind (arith, common_steps)
+filter-last t f xs x = rw (filter-append t xs (x ∷ []), map-append f (filter t xs)) (grind arith)
 
 copies_up_to-more : (ingress : ℕ) (d : DataSetsValue) (datagram : List ℕ) (port : ℕ)
     → 1 ≤ port
@@ -67,14 +68,8 @@ copies_up_to-skip ingress d datagram port some n = grind (arith, copies_up_to-mo
 
 -- ---- how many there are
 
-length-copies : (f : ℕ → ℕ × List ℕ) (xs : List ℕ) → length (map f xs) ≡ length xs
-length-copies f [] = refl
-length-copies f (x ∷ xs) = ap suc (length-copies f xs)
-
 length-filter_range : (t : ℕ → Bool) (a n : ℕ) → length (filter t (range_with_len a n)) ≤ n
-length-filter_range t a zero = omega arith
-length-filter_range t a (suc n) =
-    let rest : length (filter t (range_with_len (a + 1) n)) ≤ n = length-filter_range t (a + 1) n in grind arith
+length-filter_range t a n = omega (arith, length-filter_both t (λ k. not (t k)) (λ k. refl) (range_with_len a n), length-range_with_len a n)
 
 -- one less where a number of the range does not pass
 length-filter_range_but_one : (t : ℕ → Bool) (a n i : ℕ)
@@ -98,7 +93,7 @@ length-filter_range_but_one t a (suc n) i low high f = ⊎_elim
 pub length-copies_up_to : (ingress : ℕ) (d : DataSetsValue) (datagram : List ℕ) (n : ℕ)
     → length (copies_up_to ingress d datagram n) ≤ n
 unfolding copies_up_to
-length-copies_up_to ingress d datagram n = grind (arith, length-copies, length-filter_range)
+length-copies_up_to ingress d datagram n = grind (arith, length-map, length-filter_range)
 
 -- nothing goes out at the ingress port
 pub length-copies_up_to_but_one : (ingress : ℕ) (d : DataSetsValue) (datagram : List ℕ) (n : ℕ)
@@ -108,6 +103,6 @@ pub length-copies_up_to_but_one : (ingress : ℕ) (d : DataSetsValue) (datagram 
 unfolding copies_up_to
 length-copies_up_to_but_one ingress d datagram n low high =
     let inside : ingress < 1 + n = omega (arith, high) in
-    subst (λ k. k + 1 ≤ n) (sym (length-copies (λ port. (port, with_less_hop datagram)) (filter (λ port. passes ingress d port) (range_with_len 1 n))))
+    subst (λ k. k + 1 ≤ n) (sym (length-map (filter (λ port. passes ingress d port) (range_with_len 1 n)) (λ port. (port, with_less_hop datagram))))
     (length-filter_range_but_one (λ port. passes ingress d port) 1 n ingress low inside
     (and_left (not (ingress == ingress)) (may_forward ingress d) (ap not (eq-eqb ingress ingress refl))))

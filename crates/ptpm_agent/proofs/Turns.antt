@@ -1,6 +1,6 @@
 -- What a turn does with a message, by what the message is to the clock.
 use Rattle.std.proofs.Common.{arith, ◌≡◌, ℕ, ◌==◌, ◌||◌, not, List, [], length, Option, Some, Result, Ok, Err, OnErr, map, ◌++◌, Bool, true, false, refl, sym, ◌∙◌, ap, subst}
-use Rattle.std.proofs.lemmas.Bool.{and_parts, and_from, or_left, or_right, not-true, cond-true, cond-false, false≢true}
+use Rattle.std.proofs.lemmas.Bool.{and_parts, and_from, cases_Bool, or_left, or_parts, or_right, not-true, cond-true, cond-false, false≢true}
 use Rattle.std.specs.FinMap.{get}
 use Rattle.ptpm_codec.specs.declared.error.DecodeError.{DecodeError}
 use Rattle.ptpm_codec.specs.declared.identity.ClockIdentity.{ClockIdentity}
@@ -8,6 +8,7 @@ use Rattle.ptpm_codec.specs.declared.message.Message.{Message}
 use Rattle.ptpm_codec.specs.Identity.{every_clock, same_clock}
 use Rattle.ptpm_codec.specs.Reading.{message_of, reading}
 use Rattle.ptpm_data.specs.Members.{DataSetsValue}
+use Rattle.ptpm_table.specs.declared.reply_table.Look.{Look}
 use Rattle.ptpm_table.specs.Entries.{Entry, is_known}
 use Rattle.ptpm_table.specs.Numbering.{look_at}
 use Rattle.ptpm_table.specs.Rendering.{rendered}
@@ -128,7 +129,7 @@ addressed : (c : Clock) (d : DataSetsValue) (v : Message)
     → is_addressed c d v ≡ true
 addressed c d v p = and_from _ _ (or_left _ (same_clock v.target.clock every_clock) p.target) p.port
 
-pub look-copy : (c : Clock) (s : State) (v : Message)
+look-copy : (c : Clock) (s : State) (v : Message)
     → CopyParts c (length s.sets.ports) v
     → look c s v ≡ look_at (get s.entries v.source) v.number (request_of v)
 look-copy c s v p = cond-true _ _ _ (and_from _ _ p.known p.target)
@@ -139,17 +140,26 @@ in_domain-copy : (c : Clock) (s : State) (v : Message)
 in_domain-copy c s v p = grind arith
 
 -- in the clock's domain, or a repeat: as the number says
-pub judged-numbered : (c : Clock) (s : State) (v : Message)
+judged-numbered : (c : Clock) (s : State) (v : Message)
     → CopyParts c (length s.sets.ports) v
     → (v.domain == s.sets.default.domain || is_repeat (look c s v)) ≡ true
     → judged c s v ≡ verdict_at (look_at (get s.entries v.source) v.number (request_of v))
 judged-numbered c s v p d = grind (arith, judged-request)
 
-pub judged-elsewhere : (c : Clock) (s : State) (v : Message)
+judged-elsewhere : (c : Clock) (s : State) (v : Message)
     → CopyParts c (length s.sets.ports) v
     → (v.domain == s.sets.default.domain || is_repeat (look c s v)) ≡ false
     → judged c s v ≡ verdicts.OtherDomain
 judged-elsewhere c s v p d = judged-foreign c s v (in_domain-copy c s v p ∙ d)
+
+-- the verdict on a copy, by what the entry of its source tells: in the clock's domain or of a repeat, or elsewhere of none
+pub judged-copy : (P : Verdict → Type 0) (c : Clock) (s : State) (v : Message) (l : Look)
+    → CopyParts c (length s.sets.ports) v
+    → look_at (get s.entries v.source) v.number (request_of v) ≡ l
+    → ((v.domain == s.sets.default.domain || is_repeat l) ≡ true → P (verdict_at l))
+    → (v.domain == s.sets.default.domain ≡ false → is_repeat l ≡ false → P verdicts.OtherDomain)
+    → P (judged c s v)
+judged-copy P c s v l p e numbered elsewhere = grind (arith, look-copy, judged-numbered, judged-elsewhere, or_parts, cases_Bool)
 
 pub forwarded-copy : (c : Clock) (ingress : ℕ) (d : DataSetsValue) (datagram : List ℕ) (v : Message)
     → message_of datagram ≡ Some v

@@ -33,7 +33,7 @@ suits_from e q rights none = grind (arith, first_of-none, not-false)
 
 -- ---- the number of ports
 
-length-named_changed : (port : ℕ) (change : PortDataSet → PortDataSet) (ports : List PortDataSet)
+pub length-named_changed : (port : ℕ) (change : PortDataSet → PortDataSet) (ports : List PortDataSet)
     → length (named_changed port change ports) ≡ length ports
 unfolding named_changed
 length-named_changed port change ports = simp (length-map, length-enumerate_from)

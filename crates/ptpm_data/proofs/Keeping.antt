@@ -94,7 +94,7 @@ module _ (P : DataSetsValue → Type 0) (q : RequestValue) (rights : Rights) (d 
   changed None before after = before
   changed (Some e) before after = unless e (row_refusal e q rights) refl before after
 
-  changed_by-all : P d
+  pub changed_by-all : P d
       → ((e : RowValue) → Suits e.layout q → P (applied e.layout q q.action d))
       → P (changed_by q rights d)
   unfolding changed_by

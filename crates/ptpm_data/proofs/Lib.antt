@@ -4,6 +4,7 @@ pub mod Carrying
 pub mod Answering
 pub mod NameLemmas
 pub mod StartLemmas
+pub mod Ranging
 pub mod FieldSizes
 pub mod ReplyLemmas
 pub mod Keeping
@@ -17,3 +18,8 @@ pub mod MapLemmas
 pub mod Observing
 pub mod Observed
 pub mod Differing
+pub mod Consistency
+pub mod RestoringLaws
+pub mod ObservingBack
+pub mod ImageLemmas
+pub mod OneImage

@@ -141,7 +141,7 @@ place_told m (o ∷ os) (p ∷ ports) (suc i) = place_told m os ports i
 
 -- ---- which ports are disabled
 
-state_stays : (b : Bool) (x : Option PortState) (s : PortState)
+pub state_stays : (b : Bool) (x : Option PortState) (s : PortState)
     → is_disabled s ≡ b
     → (is_disabled_state x && not b) ≡ false
     → is_disabled (state_after b x s) ≡ is_disabled s
@@ -172,7 +172,7 @@ module _ (P : DataSetsValue → Type 0) (o : ClockObservation) (ports : List Por
   either None is before moved = moved is
   either (Some e) is before moved = before
 
-  observed-all : P d
+  pub observed-all : P d
       → (observation_refusal o ports d ≡ None → P (accepted_observation o ports d))
       → P (observed o ports d)
   unfolding observed

@@ -1,5 +1,6 @@
 -- The ports of an observation, one after another, and what an observation keeps.
-use Rattle.std.proofs.Common.{arith, ◌≡◌, ◌∙◌, ap, refl, sym, ℕ, zero, suc, ◌+◌, ◌<◌, ◌≤◌, Bool, true, false, ◌||◌, nat_lt, List, [], ◌∷◌, ◌++◌, append-nil, take, take_all, length, get_or, set, add-one, None}
+use Rattle.std.proofs.Common.{arith, ◌≡◌, ◌∙◌, ap, refl, sym, ℕ, zero, suc, ◌+◌, ◌<◌, ◌≤◌, Bool, true, false, ◌&&◌, ◌||◌, nat_lt, List, [], ◌∷◌, ◌++◌, append-nil, take, take_all, length, get_or, set, add-one, None}
+use Rattle.std.proofs.Math.Bool.{or_assoc}
 use Rattle.std.specs.List.{refill}
 use Rattle.std.proofs.lemmas.List.{drop_all}
 use Rattle.std.proofs.lemmas.Bool.{not-false}
@@ -8,12 +9,10 @@ use Rattle.ptpm_data.specs.declared.data_sets.PortDataSet.{PortDataSet}
 use Rattle.ptpm_data.specs.declared.observation.PortObservation.{PortObservation}
 use Rattle.ptpm_data.specs.declared.observation.ClockObservation.{ClockObservation}
 use Rattle.ptpm_data.specs.Members.{DataSetsValue, IsConsistent, is_grandmaster}
-use Rattle.ptpm_data.specs.Observation.{accepted_observation, default_after, disables, disables_one, is_left_disabled, left_disabled, observation_refusal, parent_after, port_after, ports_after}
+use Rattle.ptpm_data.specs.Observation.{accepted_observation, default_after, disables, disables_one, is_left_disabled, left_disabled, observation_refusal, parent_after, port_after, ports_after, time_after}
+use Rattle.ptpm_data.specs.Ranges.{is_clock_accuracy}
+use Rattle.ptpm_data.proofs.Ranging.{ports_observed}
 use Rattle.ptpm_data.proofs.StartLemmas.{passes, precedence_sound}
-
-or_after : (a b c : Bool) → (a || (b || c)) ≡ ((a || b) || c)
-or_after true b c = refl
-or_after false b c = refl
 
 module _ (o : PortObservation) (p : PortDataSet) where
   disables_next : (os : List PortObservation) (ports : List PortDataSet) (i : ℕ)
@@ -26,7 +25,7 @@ module _ (o : PortObservation) (p : PortDataSet) where
   disables_next (x ∷ os) [] i a b = absurd (omega arith)
   disables_next (x ∷ os) (y ∷ ports) zero a b = grind arith
   disables_next (x ∷ os) (y ∷ ports) (suc i) a b =
-      rw (disables_next os ports i (omega arith) (omega arith)) (or_after (disables x y) _ _)
+      rw (disables_next os ports i (omega arith) (omega arith)) (sym (or_assoc (disables x y) _ _))
 
   pub disables_more : (os : List PortObservation) (ports : List PortDataSet) (i : ℕ)
       → i < length os
@@ -102,10 +101,6 @@ ports_after-length [] ports = refl
 ports_after-length (o ∷ os) [] = refl
 ports_after-length (o ∷ os) (p ∷ ports) = ap (λ (n : ℕ). suc n) (ports_after-length os ports)
 
--- a list that was written over as a whole
-pub refilled : {X : Type 0} (xs ws : List X) → length ws ≡ length xs → refill (length xs) xs ws ≡ ws
-refilled xs ws e = grind (arith, drop_all, append-nil, take_all)
-
 -- ---- what follows where an observation is accepted
 
 module _ (o : ClockObservation) (ports : List PortObservation) (d : DataSetsValue) (accepted : observation_refusal o ports d ≡ None) where
@@ -122,5 +117,22 @@ module _ (o : ClockObservation) (ports : List PortObservation) (d : DataSetsValu
   unfolding observation_refusal
   own_precedence own = grind (arith, precedence_sound, not-false, passes)
 
+  in_range : is_clock_accuracy (default_after o d.default).precedence.accuracy ≡ true
+  unfolding observation_refusal
+  in_range = grind (arith, nat_lt, passes, not-false)
+
+  no_leaps : ((time_after o d.time).leap61 && (time_after o d.time).leap59) ≡ false
+  unfolding observation_refusal
+  no_leaps = grind (arith, nat_lt, passes)
+
   pub consistent : IsConsistent d → IsConsistent (accepted_observation o ports d)
-  consistent before = grind (arith, ports_after-length, own_precedence)
+  consistent before = record {
+    some_port = grind (arith, ports_after-length);
+    at_most_eight = grind (arith, ports_after-length);
+    identity = before.identity;
+    description = before.description;
+    accuracy = in_range;
+    leaps = no_leaps;
+    ports = ports_observed ports d.ports before.ports;
+    grandmaster = own_precedence;
+  }

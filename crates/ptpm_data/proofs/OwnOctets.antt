@@ -49,12 +49,10 @@ named_at port change k (suc i) (p ∷ ps) =
     let same : k + suc i ≡ k + 1 + i = omega arith in
     rw same (named_at port change (k + 1) i ps)
 
-some_at : (ports : List PortDataSet) (i : ℕ)
-    → i < length ports
-    → (p : PortDataSet) × (slice_get ports i ≡ Some p)
+pub some_at : {X : Type 0} (xs : List X) (i : ℕ) → i < length xs → (x : X) × (slice_get xs i ≡ Some x)
 some_at [] i below = absurd (omega arith)
-some_at (p ∷ ps) zero below = (p, refl)
-some_at (p ∷ ps) (suc i) below = some_at ps i (omega arith)
+some_at (x ∷ xs) zero below = (x, refl)
+some_at (x ∷ xs) (suc i) below = some_at xs i (omega arith)
 
 -- one of so many ports that the SET is for
 pub record IsShown (port n count : ℕ) : Type 0 where

@@ -1,6 +1,7 @@
 -- Data sets are no more than a map to whole numbers and lists of octets.
-use Rattle.std.proofs.Common.{arith, ◌≡◌, refl, ℕ, ◌^◌, ◌<◌, Bool, true, false, List, [], ◌∷◌, ◌++◌, length, Option, Some, None, option_and_then}
+use Rattle.std.proofs.Common.{arith, ◌≡◌, refl, ℕ, ◌^◌, ◌<◌, Bool, true, false, List, ◌++◌, length, take, drop, sym, ◌∙◌, Option, Some, None, option_and_then}
 use Rattle.std.specs.Option.{option_map}
+use Rattle.std.proofs.Math.Seq.{drop-append_seam, take-append_seam}
 use Rattle.ptpm_data.specs.declared.members.Member.{Member}
 use Rattle.ptpm_data.specs.declared.members.Member.TheVariants as members
 use Rattle.ptpm_data.specs.declared.data_sets.PortDataSet.{PortDataSet}
@@ -10,19 +11,14 @@ use Rattle.ptpm_data.proofs.MapLemmas.{map_decides}
 
 -- ---- two lists of the same size in front
 
-same_front : (xs ys us vs : List ℕ)
+pub same_front : (xs ys us vs : List ℕ)
     → length xs ≡ length ys
     → xs ++ us ≡ ys ++ vs
     → (xs ≡ ys) × (us ≡ vs)
-same_front [] [] us vs size e = (refl, e)
-same_front [] (y ∷ ys) us vs size e = absurd (omega arith)
-same_front (x ∷ xs) [] us vs size e = absurd (omega arith)
-same_front (x ∷ xs) (y ∷ ys) us vs size e =
-    let both : x ∷ (xs ++ us) ≡ y ∷ (ys ++ vs) = e in
-    let first : x ≡ y = cc in
-    let rest : xs ++ us ≡ ys ++ vs = cc in
-    let parts = same_front xs ys us vs (omega arith) rest in
-    (λ i. first i ∷ parts.0 i, parts.1)
+same_front xs ys us vs size e = (
+  sym (take-append_seam xs us) ∙ (λ i. take (size i) (e i)) ∙ take-append_seam ys vs,
+  sym (drop-append_seam xs us) ∙ (λ i. drop (size i) (e i)) ∙ drop-append_seam ys vs,
+)
 
 -- ---- values that are no portIdentity
 

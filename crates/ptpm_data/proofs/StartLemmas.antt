@@ -1,16 +1,16 @@
 -- The ports of a start, one after another.
 use Rattle.std.proofs.lemmas.Grind.{common_steps}
-use Rattle.std.proofs.Common.{arith, ◌≡◌, nat_lt, nat_le, Bool, true, false, if◌then◌else◌, bytes_eq, ℕ, ◌+◌, ◌<◌, ◌≤◌, List, [], ◌∷◌, ◌++◌, Option, Some, None, Result, Ok, Err, map, take, drop, length, get_or, drop-cons, add-one, refl, ap, sym, subst, IsErrAnd, MatchResult, ◌∙◌}
+use Rattle.std.proofs.Common.{arith, ◌≡◌, nat_lt, nat_le, Bool, true, false, ◌&&◌, if◌then◌else◌, bytes_eq, ℕ, ◌+◌, ◌<◌, ◌≤◌, List, [], ◌∷◌, ◌++◌, Option, Some, None, Result, Ok, Err, map, take, drop, length, get_or, drop-cons, add-one, refl, ap, sym, subst, IsErrAnd, MatchResult, ◌∙◌}
 use Rattle.std.proofs.Math.ListN.{drop_of_length-le}
 use Rattle.std.proofs.lemmas.List.{take_more, map-append}
 use Rattle.std.specs.Option.{option_or}
 use Rattle.ptpm_data.specs.declared.start.StartError.{StartError}
 use Rattle.ptpm_data.specs.declared.start.PortStart.{PortStart}
 use Rattle.ptpm_data.specs.declared.data_sets.PortDataSet.{PortDataSet}
-use Rattle.ptpm_data.specs.Start.{port_data_set, port_fault, ports_fault, port_start_of, unless, count_fault, clock_fault, grandmaster_fault}
+use Rattle.ptpm_data.specs.Start.{port_data_set, port_fault, ports_fault, port_start_of, start_of, started, unless, count_fault, clock_fault, grandmaster_fault}
 use Rattle.ptpm_data.specs.ManagementId.{set_of}
-use Rattle.ptpm_data.specs.Ranges.{is_description}
-use Rattle.ptpm_data.specs.Members.{is_grandmaster, is_same_precedence}
+use Rattle.ptpm_data.specs.Ranges.{all_ones, is_clock_accuracy, is_description}
+use Rattle.ptpm_data.specs.Members.{DataSetsValue, is_grandmaster, is_same_precedence}
 use Rattle.ptpm_data.specs.declared.data_sets.ClockPrecedence.{ClockPrecedence}
 use Rattle.ptpm_data.specs.declared.data_sets.DefaultDataSet.{DefaultDataSet}
 use Rattle.ptpm_data.specs.declared.data_sets.ParentDataSet.{ParentDataSet}
@@ -76,6 +76,13 @@ pub handed_on : {A E : Type 0} (r : Result A E) (e : E) (P : A → Type 0) (Q : 
 handed_on (Ok a) e P Q h q = absurd h
 handed_on (Err x) e P Q h q = subst Q (sym h) q
 
+-- the data sets of a clock that starts
+pub started_by : (c : ClockStart) (ports : List PortStart) (sets : DataSetsValue)
+    → Ok sets ≡ start_of c ports
+    → sets ≡ started c ports
+unfolding start_of
+started_by c ports sets h = (unless_ok _ _ _ (sym h)).1
+
 -- ---- what follows where there is no fault
 
 pub passes : {E : Type 0} (b : Bool) (e : E) (o : Option E)
@@ -93,6 +100,18 @@ pub description_sound : (c : ClockStart)
     → is_description c.user_description.items ≡ true
 unfolding clock_fault
 description_sound c h = grind (arith, passes, bytes_eq, not-false)
+
+pub identity_sound : (c : ClockStart) → clock_fault c ≡ None → bytes_eq c.identity.0 all_ones ≡ false
+unfolding clock_fault
+identity_sound c h = (passes _ _ _ h).0
+
+pub accuracy_sound : (c : ClockStart) → clock_fault c ≡ None → is_clock_accuracy c.clock_accuracy ≡ true
+unfolding clock_fault
+accuracy_sound c h = grind (arith, passes, bytes_eq, not-false)
+
+pub leaps_sound : (c : ClockStart) → clock_fault c ≡ None → (c.leap61 && c.leap59) ≡ false
+unfolding clock_fault
+leaps_sound c h = grind (arith, passes, bytes_eq)
 
 pub description_small : (text : List ℕ) → is_description text ≡ true → length text ≤ 128
 unfolding is_description set_of

@@ -23,3 +23,6 @@ pub mod SetLaws
 pub mod Observation
 pub mod ObservationLaws
 pub mod Changed
+pub mod ObservationBack
+pub mod Image
+pub mod ImageReading

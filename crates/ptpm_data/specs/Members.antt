@@ -1,5 +1,6 @@
 -- The data sets of a clock: one value for each member, and for each port from 1 on (IEEE 1588-2019, clause 8).
 use Rattle.std.specs.Prelude.{◌≡◌, ℕ, ◌≤◌, ◌-◌, ◌==◌, nat_le, Bool, true, false, ◌&&◌, if◌then◌else◌, List, length, slice_get, Option, Some, None, bytes_eq}
+use Rattle.std.specs.List.{All}
 use Rattle.ptpm_data.specs.declared.data_sets.ClockPrecedence.{ClockPrecedence}
 use Rattle.ptpm_data.specs.declared.data_sets.DefaultDataSet.{DefaultDataSet}
 use Rattle.ptpm_data.specs.declared.data_sets.CurrentDataSet.{CurrentDataSet}
@@ -7,7 +8,7 @@ use Rattle.ptpm_data.specs.declared.data_sets.ParentDataSet.{ParentDataSet}
 use Rattle.ptpm_data.specs.declared.data_sets.TimePropertiesDataSet.{TimePropertiesDataSet}
 use Rattle.ptpm_data.specs.declared.data_sets.PortDataSet.{PortDataSet}
 use Rattle.ptpm_data.specs.declared.data_sets.DataSets.TheInside.{Inside}
-use Rattle.ptpm_data.specs.Ranges.{is_description}
+use Rattle.ptpm_data.specs.Ranges.{all_ones, is_announce_interval, is_clock_accuracy, is_description, is_pdelay_interval, is_receipt_timeout, is_sync_interval}
 use Rattle.ptpm_data.specs.PortState.{is_forwarding}
 
 -- port n is at place n - 1
@@ -67,12 +68,23 @@ is_same_precedence a b =
 
 -- ---- what is true of the data sets of every clock
 
--- A clock has one to eight ports. One that is its own grandmaster shows its own priorities and quality in its parent data
--- set (9.3.5, table 30).
+-- the members of a port that a SET can change are in their ranges
+pub record IsPortInRange (p : PortDataSet) : Type 0 where
+  pub log_announce : is_announce_interval p.log_announce ≡ true
+  pub receipt_timeout : is_receipt_timeout p.receipt_timeout ≡ true
+  pub log_sync : is_sync_interval p.log_sync ≡ true
+  pub log_min_pdelay : is_pdelay_interval p.log_min_pdelay ≡ true
+
+-- A clock has one to eight ports, an identity that is not all ones, and its members, and those of its ports, in their ranges.
+-- One that is its own grandmaster shows its own priorities and quality in its parent data set (9.3.5, table 30).
 pub record IsConsistent (d : DataSetsValue) : Type 0 where
   pub some_port : 1 ≤ length d.ports
   pub at_most_eight : length d.ports ≤ 8
+  pub identity : bytes_eq d.default.identity.0 all_ones ≡ false
   pub description : is_description d.description ≡ true
+  pub accuracy : is_clock_accuracy d.default.precedence.accuracy ≡ true
+  pub leaps : (d.time.leap61 && d.time.leap59) ≡ false
+  pub ports : All IsPortInRange d.ports
   pub grandmaster : is_own_grandmaster d ≡ true → d.parent.precedence ≡ d.default.precedence
 
 abbrev pub IsConsistentInside : Inside → Type 0

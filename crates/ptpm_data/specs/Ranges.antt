@@ -1,5 +1,5 @@
 -- The ranges of members, which a start and a SET keep to: those of the table.
-use Rattle.std.specs.Prelude.{ℕ, ℤ, pos, neg_ℤ, Bool, false, true, ◌&&◌, ◌||◌, ◌==◌, nat_le, int_le, List, length, is_some}
+use Rattle.std.specs.Prelude.{ℕ, ℤ, pos, neg_ℤ, Bool, false, true, ◌&&◌, ◌||◌, ◌==◌, nat_le, int_le, List, [], ◌∷◌, length, is_some}
 use Rattle.std.specs.Str.{is_utf8}
 use Rattle.ptpm_data.specs.declared.management_id.Layout.TheVariants as layouts
 use Rattle.ptpm_data.specs.ManagementId.{SetField, TextUpTo, AnyOctet, from◌to◌, either◌to◌or◌, minus◌to◌, MechanismNumber, set_of}
@@ -26,6 +26,10 @@ allows_integer (minus low to high) n = int_le (neg_ℤ (pos low)) n && int_le n 
 allows_integer _ n = false
 
 -- ---- the ranges
+
+-- no clock's identity
+abbrev pub all_ones : List ℕ
+all_ones = 255 ∷ 255 ∷ 255 ∷ 255 ∷ 255 ∷ 255 ∷ 255 ∷ 255 ∷ []
 
 -- userDescription
 unfoldable pub is_description : List ℕ → Bool

@@ -16,9 +16,10 @@ use Rattle.ptpm_data.specs.declared.data_sets.CurrentDataSet.{CurrentDataSet}
 use Rattle.ptpm_data.specs.declared.data_sets.ParentDataSet.{ParentDataSet}
 use Rattle.ptpm_data.specs.declared.data_sets.TimePropertiesDataSet.{TimePropertiesDataSet}
 use Rattle.ptpm_data.specs.declared.data_sets.PortDataSet.{PortDataSet}
-use Rattle.ptpm_data.specs.Members.{DataSetsValue, is_grandmaster, is_same_precedence}
+use Rattle.ptpm_data.specs.Members.{DataSetsValue}
+use Rattle.ptpm_data.specs.Observation.{grandmaster_differs}
 use Rattle.ptpm_data.specs.PortState.{state_of, mechanism_of}
-use Rattle.ptpm_data.specs.Ranges.{is_description, is_clock_accuracy, is_announce_interval, is_receipt_timeout, is_sync_interval, is_pdelay_interval}
+use Rattle.ptpm_data.specs.Ranges.{all_ones, is_description, is_clock_accuracy, is_announce_interval, is_receipt_timeout, is_sync_interval, is_pdelay_interval}
 
 -- ---- defaults
 
@@ -143,9 +144,6 @@ started c ports = record {
   ports = map port_data_set ports;
 }
 
-abbrev pub all_ones : List ℕ
-all_ones = 255 ∷ 255 ∷ 255 ∷ 255 ∷ 255 ∷ 255 ∷ 255 ∷ 255 ∷ []
-
 -- ---- faults: of each list the answer is the first whose test holds
 
 -- of the number of ports
@@ -180,7 +178,7 @@ ports_fault (p ∷ ps) = option_or (port_fault p) (ports_fault ps)
 -- of a clock that is its own grandmaster: a priority or quality of the grandmaster is not its own
 unfoldable pub grandmaster_fault : DefaultDataSet → ParentDataSet → Option StartError
 grandmaster_fault default parent = first_of (
-    (is_grandmaster default parent && not (is_same_precedence parent.precedence default.precedence), GrandmasterDiffers) ∷ [])
+    (grandmaster_differs default parent, GrandmasterDiffers) ∷ [])
 
 -- in this order
 abbrev pub start_fault : ClockStart → List PortStart → Option StartError

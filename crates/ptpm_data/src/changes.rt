@@ -2,7 +2,8 @@
 
 ghost use Rattle.std.specs.Prelude.{◌≡◌, true, length};
 ghost use Rattle.ptpm_data.specs.Changes.{IsTargetOf, named_changed, with_utc_properties};
-ghost use Rattle.ptpm_data.specs.PortChange.{port_after};
+ghost use Rattle.ptpm_data.specs.PortChange.{is_change_in_range, port_after};
+ghost use Rattle.ptpm_data.specs.PrecedenceChange.{is_precedence_in_range};
 ghost use Rattle.ptpm_data.specs.Ranges.{is_description};
 
 use crate::data_sets::{DataSets, PortDataSet, TimePropertiesDataSet};
@@ -118,6 +119,7 @@ impl DataSets {
 
     /// In a clock that is its own grandmaster the grandmaster's member changes with its own (9.3.5, table 30).
     fn change_precedence(&mut self, change: PrecedenceChange)
+        requires { is_precedence_in_range change ≡ true }
         ensures { self.new ≡ with_precedence self.old change }
     {
         if self.parent.grandmaster == self.default.identity {
@@ -127,7 +129,8 @@ impl DataSets {
     }
 
     fn change_ports(&mut self, port: u16, change: PortChange)
-        requires { IsTargetPort port self.old }
+        requires port { IsTargetPort port self.old }
+        requires range { is_change_in_range change ≡ true }
         ensures { self.new ≡ with_ports port self.old change }
     {
         change_named(self.ports.as_mut_slice(), port, change);

@@ -147,9 +147,13 @@ fn put_default_data_set(buffer: &mut Value, set: &DefaultDataSet, number_of_port
 }
 
 #[tactic(auto, unfolding(crate::specs::DataField::current_data_field))]
-fn put_current_data_set(buffer: &mut Value, set: &CurrentDataSet)
-    requires { array_vec_len buffer.old + 18 ≤ 130 }
-    ensures { buffer.new.items ≡ buffer.old.items ++ current_data_field set.now }
+pub(crate) fn put_current_data_set<const N: usize>(
+    buffer: &mut ArrayVec<u8, N>,
+    set: &CurrentDataSet,
+)
+    requires { array_vec_len buffer.old + 18 ≤ N }
+    ensures items { buffer.new.items ≡ buffer.old.items ++ current_data_field set.now }
+    ensures len { array_vec_len buffer.new ≡ array_vec_len buffer.old + 18 }
 {
     put_u16(buffer, set.steps_removed);
     put_i64(buffer, set.offset_from_master);
@@ -196,8 +200,11 @@ fn put_utc_properties(buffer: &mut Value, set: &TimePropertiesDataSet)
 }
 
 #[tactic(auto, unfolding(crate::specs::DataField::precedence_octets))]
-fn put_precedence(buffer: &mut Value, precedence: &ClockPrecedence)
-    requires { array_vec_len buffer.old + 6 ≤ 130 }
+pub(crate) fn put_precedence<const N: usize>(
+    buffer: &mut ArrayVec<u8, N>,
+    precedence: &ClockPrecedence,
+)
+    requires { array_vec_len buffer.old + 6 ≤ N }
     ensures items { buffer.new.items ≡ buffer.old.items ++ precedence_octets precedence.now }
     ensures len { array_vec_len buffer.new ≡ array_vec_len buffer.old + 6 }
 {
@@ -263,15 +270,15 @@ fn put_octet(buffer: &mut Value, octet: u8)
 }
 
 #[tactic(auto, unfolding(crate::specs::DataField::i8_octet))]
-fn i8_octet(number: i8) -> u8
+pub(crate) fn i8_octet(number: i8) -> u8
     ensures { result ≡ i8_octet number }
 {
     number.cast_unsigned()
 }
 
 #[tactic(auto, unfolding(crate::specs::DataField::i16_octets))]
-fn put_i16(buffer: &mut Value, number: i16)
-    requires { array_vec_len buffer.old + 2 ≤ 130 }
+pub(crate) fn put_i16<const N: usize>(buffer: &mut ArrayVec<u8, N>, number: i16)
+    requires { array_vec_len buffer.old + 2 ≤ N }
     ensures items { buffer.new.items ≡ buffer.old.items ++ i16_octets number }
     ensures len { array_vec_len buffer.new ≡ array_vec_len buffer.old + 2 }
 {
@@ -279,8 +286,8 @@ fn put_i16(buffer: &mut Value, number: i16)
 }
 
 #[tactic(auto, unfolding(crate::specs::DataField::i32_octets))]
-fn put_i32(buffer: &mut Value, number: i32)
-    requires { array_vec_len buffer.old + 4 ≤ 130 }
+pub(crate) fn put_i32<const N: usize>(buffer: &mut ArrayVec<u8, N>, number: i32)
+    requires { array_vec_len buffer.old + 4 ≤ N }
     ensures items { buffer.new.items ≡ buffer.old.items ++ i32_octets number }
     ensures len { array_vec_len buffer.new ≡ array_vec_len buffer.old + 4 }
 {
@@ -290,7 +297,7 @@ fn put_i32(buffer: &mut Value, number: i32)
 }
 
 #[tactic(auto, unfolding(crate::specs::DataField::i64_octets))]
-fn put_i64<const N: usize>(buffer: &mut ArrayVec<u8, N>, number: i64)
+pub(crate) fn put_i64<const N: usize>(buffer: &mut ArrayVec<u8, N>, number: i64)
     requires { array_vec_len buffer.old + 8 ≤ N }
     ensures items { buffer.new.items ≡ buffer.old.items ++ i64_octets number }
     ensures len { array_vec_len buffer.new ≡ array_vec_len buffer.old + 8 }

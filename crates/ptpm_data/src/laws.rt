@@ -18,6 +18,7 @@ ghost use Rattle.ptpm_data.specs.MemberMap.{Place, plain, value_of};
 ghost use Rattle.ptpm_data.specs.Members.{DataSetsValue, IsConsistent};
 ghost use Rattle.ptpm_codec.specs.Message.{reply_action};
 ghost use Rattle.ptpm_data.specs.Observation.{is_disabled, observation_refusal, observed};
+ghost use Rattle.ptpm_data.specs.ObservationBack.{Observation, observed_again, observed_each};
 ghost use Rattle.ptpm_data.specs.ObservationLaws.{IsSizedObservation, observed_value};
 ghost use Rattle.ptpm_data.specs.Replies.{read_reply_to, reply_to};
 ghost use Rattle.ptpm_data.specs.Reply.{Answer, Refused, Value};
@@ -40,7 +41,8 @@ pub fn id_table_law()
     ensures ids { map (λ e. e.id) id_table ≡ MANAGEMENT_IDS }
 {}
 
-/// A clock has one to eight ports, identities of eight octets, and a text of at most 128 octets of UTF-8. Where it is its own
+/// A clock has one to eight ports, identities of eight octets, its own not all ones, and a text of at most 128 octets of UTF-8.
+/// Its accuracy, and what a SET can change at each port, is in its range, and not both leaps are announced. Where it is its own
 /// grandmaster, its parent data set shows its own priorities and quality.
 pub fn data_sets_law(sets: &DataSets)
     ensures consistent { IsConsistent sets.now }
@@ -70,7 +72,7 @@ pub fn plain_map_law(a: &DataSets, b: &DataSets)
 }
 
 /// An identity has eight octets.
-fn identity_law(identity: &ClockIdentity)
+pub(crate) fn identity_law(identity: &ClockIdentity)
     ensures { length identity.now.0 ≡ 8 }
 {
     let octets: &[u8] = &identity.0;
@@ -78,7 +80,7 @@ fn identity_law(identity: &ClockIdentity)
 }
 
 /// A portIdentity has eight octets and a number of sixteen bits.
-fn port_identity_law(identity: &PortIdentity)
+pub(crate) fn port_identity_law(identity: &PortIdentity)
     ensures clock { length identity.now.clock.0 ≡ 8 }
     ensures port { identity.now.port < 2 ^ 16 }
 {
@@ -138,6 +140,9 @@ pub fn change_law()
     ensures sized { (q : RequestValue) (rights : Rights) (d : DataSetsValue)
         → IsSized d
         → IsSized (changed_by q rights d) }
+    ensures consistent { (q : RequestValue) (rights : Rights) (d : DataSetsValue)
+        → IsConsistent d
+        → IsConsistent (changed_by q rights d) }
     ensures get { (q : RequestValue) (rights : Rights) (d : DataSetsValue)
         → q.action ≡ Get
         → changed_by q rights d ≡ d }
@@ -205,6 +210,17 @@ pub fn observation_law()
         → IsSizedObservation o
         → IsSized d
         → IsSized (observed o ports d) }
+    ensures consistent { (o : ClockObservation) (ports : List PortObservation) (d : DataSetsValue)
+        → IsConsistent d
+        → IsConsistent (observed o ports d) }
+{}
+
+/// Whatever was observed since, in however many observations, the observation of all members that data sets have brings them
+/// back: a disabled port stayed disabled, and every member that no host observes stayed as it was.
+pub fn observation_back_law()
+    ensures { (observations : List Observation) (d : DataSetsValue)
+        → IsConsistent d
+        → observed_again d (observed_each observations d) ≡ d }
 {}
 
 /// A grandmaster that is observed has identities of eight octets.

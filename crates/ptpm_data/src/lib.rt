@@ -10,10 +10,13 @@ mod data_field;
 mod data_sets;
 mod deciding;
 mod description;
+mod image;
+mod image_laws;
 mod laws;
 mod management_id;
 mod members;
 mod observation;
+mod places;
 mod port_change;
 mod port_state;
 mod precedence_change;
@@ -23,6 +26,7 @@ mod refusals;
 mod replies;
 mod reply;
 mod request;
+mod restoring;
 mod rights;
 mod set_field;
 mod start;
@@ -34,9 +38,11 @@ pub use data_sets::{
     ClockPrecedence, CurrentDataSet, DataSets, DefaultDataSet, ParentDataSet, PortDataSet,
     TimePropertiesDataSet,
 };
+pub use image::DATA_SETS_OCTETS;
+pub use image_laws::{fits_law, image_law};
 pub use laws::{
-    change_law, data_sets_law, grandmaster_law, id_table_law, member_map_law, observation_law,
-    plain_map_law, read_reply_law, reply_law, set_law, sized_observation_law,
+    change_law, data_sets_law, grandmaster_law, id_table_law, member_map_law, observation_back_law,
+    observation_law, plain_map_law, read_reply_law, reply_law, set_law, sized_observation_law,
 };
 pub use management_id::{Layout, MANAGEMENT_IDS, Row, Scope, by_id as row, by_name};
 pub use members::Member;

@@ -312,8 +312,8 @@ fn move_ports(observed: &[PortObservation], ports: &mut [PortDataSet])
     }
 }
 
-/// Whether a clock would be its own grandmaster with priorities or a quality that are not its own.
-fn grandmaster_differs(default: &DefaultDataSet, parent: &ParentDataSet) -> bool
+/// Whether a clock would be its own grandmaster with priorities or a quality that are not its own (9.3.5).
+pub(crate) fn grandmaster_differs(default: &DefaultDataSet, parent: &ParentDataSet) -> bool
     ensures { result ≡ grandmaster_differs default.now parent.now }
 {
     parent.grandmaster == default.identity && parent.precedence != default.precedence

@@ -10,6 +10,7 @@ use crate::data_sets::{
 use crate::description::Description;
 use crate::management_id::{Layout, set_of};
 use crate::members::Member;
+use crate::observation::grandmaster_differs;
 use crate::port_state::{DelayMechanism, PortState};
 use arrayvec::ArrayVec;
 use ptpm_codec::{ClockIdentity, PortIdentity};
@@ -293,6 +294,18 @@ impl PortStart {
     }
 }
 
+impl Default for PortStart {
+    ghost use Rattle.std.specs.Prelude.{◌≡◌};
+    ghost use Rattle.ptpm_data.specs.Start.{default_port};
+
+    /// That of `new`.
+    fn default() -> PortStart
+        ensures { result ≡ default_port }
+    {
+        PortStart::new()
+    }
+}
+
 /// The data sets of ports that start, or the first fault.
 fn port_data_sets(ports: &[PortStart]) -> Result<ArrayVec<PortDataSet, 8>, StartError>
     requires { length ports.now ≤ 8 }
@@ -324,7 +337,7 @@ fn count_ports(count: usize) -> Result<(), StartError>
 fn judge_grandmaster(default: &DefaultDataSet, parent: &ParentDataSet) -> Result<(), StartError>
     ensures { result ≡ unless (grandmaster_fault default.now parent.now) tt }
 {
-    if parent.grandmaster == default.identity && parent.precedence != default.precedence {
+    if grandmaster_differs(default, parent) {
         Err(StartError::GrandmasterDiffers)
     } else {
         Ok(())

@@ -1,5 +1,6 @@
 //! The clocks of the tests.
 
+mod image;
 mod management_id;
 mod observation;
 mod requests;

@@ -5,15 +5,9 @@ use Rattle.ptpm_codec.specs.Identity.{every_port}
 use Rattle.ptpm_codec.specs.Message.{is_data_field, is_reply}
 use Rattle.ptpm_codec.proofs.MessageLaws.{is_data_field-IsDataField}
 use Rattle.ptpm_data.specs.ManagementId.{is_of_port}
+use Rattle.ptpm_data.proofs.StartLemmas.{passes}
 use Rattle.ptpm_manager.specs.declared.ask.Ask.{Ask}
 use Rattle.ptpm_manager.specs.Ask.{IsRequestTo, ask_refusal, named_port, names_port, request_of, target_port}
-
--- a test that lets pass is false
-passes : {A : Type 0} (t : Bool) (e : A) (o : Option A)
-    → cond t (Some e) o ≡ None
-    → (t ≡ false) × (o ≡ None)
-passes true e o h = cc
-passes false e o h = (refl, h)
 
 -- where the first of two tests holds and they do not both, the second's opposite does
 other-true : (p q : Bool) → (p && not q) ≡ false → p ≡ true → q ≡ true

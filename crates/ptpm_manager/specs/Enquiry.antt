@@ -1,15 +1,15 @@
 -- What a survey asks: one GET of every clock and every port (IEEE 1588-2019, 15.3.1), and which messages answer it.
-use Rattle.std.specs.Prelude.{◌==◌, ◌&&◌, not, [], ◌∷◌, Option}
+use Rattle.std.specs.Prelude.{◌==◌, ◌&&◌, not, [], ◌∷◌, ◌++◌, Option}
 use Rattle.ptpm_codec.specs.declared.message.Action.TheVariants as actions
 use Rattle.ptpm_codec.specs.declared.message.Message.{Message}
 use Rattle.ptpm_codec.specs.declared.message.Body.TheVariants as bodies
-use Rattle.ptpm_codec.specs.Identity.{every_clock, every_port, same_identity}
-use Rattle.ptpm_codec.specs.Message.{action_of, id_of, is_reply}
+use Rattle.ptpm_codec.specs.Identity.{every_clock, every_port}
+use Rattle.ptpm_codec.specs.Message.{action_of, id_of}
 use Rattle.ptpm_manager.specs.declared.enquiry.Enquiry.{Enquiry}
 use Rattle.ptpm_manager.specs.declared.receiving.Reason.{Reason}
 use Rattle.ptpm_manager.specs.declared.receiving.Reason.TheVariants as reasons
 use Rattle.ptpm_codec.specs.Ordered.{first_of}
-use Rattle.ptpm_manager.specs.Receiving.{is_in_domain, is_response}
+use Rattle.ptpm_manager.specs.Receiving.{is_response, no_reply_to}
 
 -- an empty GET to every clock and every port
 abbrev pub survey_message : Enquiry → Message
@@ -26,10 +26,7 @@ survey_message e = record {
 
 -- the reasons to ignore a message that was read, in their order
 unfoldable pub ignored_for : Enquiry → Message → Option Reason
-ignored_for e v = first_of (
-    (not (is_in_domain e.domain v), reasons.OtherDomain)
-    ∷ (not (is_reply (action_of v.body)), reasons.NotAReply)
-    ∷ (not (same_identity v.target e.me), reasons.OtherTarget)
-    ∷ (not (v.number == e.number), reasons.OtherNumber)
+ignored_for e v = first_of (no_reply_to e.me e.domain v
+    ++ (not (v.number == e.number), reasons.OtherNumber)
     ∷ (not (is_response (action_of v.body) && id_of v.body == e.id), reasons.OtherContent)
     ∷ [])

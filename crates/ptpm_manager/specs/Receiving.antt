@@ -1,5 +1,5 @@
 -- What a session makes of a datagram that it hears: the answer to its request, or one that it ignores, and why.
-use Rattle.std.specs.Prelude.{◌≡◌, ℕ, ◌+◌, ◌==◌, ◌||◌, ◌&&◌, Bool, true, false, not, List, [], ◌∷◌, Option, Some, None, Result, Ok, Err}
+use Rattle.std.specs.Prelude.{◌≡◌, ℕ, ◌+◌, ◌==◌, ◌||◌, ◌&&◌, Bool, true, false, not, List, [], ◌∷◌, ◌++◌, Option, Some, None, Result, Ok, Err}
 use Rattle.ptpm_codec.specs.declared.error.DecodeError.{DecodeError}
 use Rattle.ptpm_codec.specs.declared.identity.PortIdentity.{PortIdentity}
 use Rattle.ptpm_codec.specs.declared.message.Action.{Action}
@@ -61,12 +61,17 @@ is_content (Some q) action id = is_answered_by q.action action && q.id == id
 
 -- ---- the reasons to ignore a message that was read, in their order
 
-unfoldable pub reason_of : SessionValue → Message → Option Reason
-reason_of s v = first_of (
-    (not (is_in_domain s.domain v), reasons.OtherDomain)
+-- those of a message that is no reply to this port in this domain, whatever was asked
+abbrev pub no_reply_to : PortIdentity → ℕ → Message → List (Bool × Reason)
+no_reply_to me domain v =
+    (not (is_in_domain domain v), reasons.OtherDomain)
     ∷ (not (is_reply (action_of v.body)), reasons.NotAReply)
-    ∷ (not (same_identity v.target s.setup.me), reasons.OtherTarget)
-    ∷ (not (is_from_target s v.source), reasons.OtherSource)
+    ∷ (not (same_identity v.target me), reasons.OtherTarget)
+    ∷ []
+
+unfoldable pub reason_of : SessionValue → Message → Option Reason
+reason_of s v = first_of (no_reply_to s.setup.me s.domain v
+    ++ (not (is_from_target s v.source), reasons.OtherSource)
     ∷ (not (is_waiting s), reasons.NothingAsked)
     ∷ (not (v.number == number_of s.setup.first s.issued), reasons.OtherNumber)
     ∷ (not (is_content s.unanswered (action_of v.body) (id_of v.body)), reasons.OtherContent)

@@ -5,7 +5,7 @@ ghost use Rattle.ptpm_manager.specs.Answers.{heard};
 ghost use Rattle.ptpm_manager.specs.Enquiry.{ignored_for, survey_message};
 ghost use Rattle.ptpm_manager.specs.Report.{outcome_in};
 
-use crate::receiving::{Reason, is_in_domain};
+use crate::receiving::{Reason, no_reply_to};
 use ptpm_codec::{Action, ClockIdentity, Draft, DraftBody, PortIdentity, View, view};
 
 /// What a survey asks of everyone.
@@ -67,14 +67,8 @@ impl Enquiry {
     fn reason_to_ignore(&self, message: &View<'_>) -> Option<Reason>
         ensures { result ≡ ignored_for self.now message.now }
     {
-        if !is_in_domain(self.domain, message) {
-            return Some(Reason::OtherDomain);
-        }
-        if !message.action().is_reply() {
-            return Some(Reason::NotAReply);
-        }
-        if message.target() != self.me {
-            return Some(Reason::OtherTarget);
+        if let Some(reason) = no_reply_to(&self.me, self.domain, message) {
+            return Some(reason);
         }
         if message.number() != self.number {
             return Some(Reason::OtherNumber);

@@ -1,10 +1,11 @@
 //! What is made of a datagram, and why one is ignored.
 
 ghost use Rattle.std.specs.Prelude.{◌≡◌};
-ghost use Rattle.ptpm_manager.specs.Receiving.{is_answered_by, is_in_domain};
+ghost use Rattle.ptpm_codec.specs.Ordered.{first_of};
+ghost use Rattle.ptpm_manager.specs.Receiving.{is_answered_by, no_reply_to};
 
 use crate::report::Report;
-use ptpm_codec::{Action, DecodeError, View};
+use ptpm_codec::{Action, DecodeError, PortIdentity, View};
 use std::fmt;
 
 /// Why a datagram is ignored, in the order in which the reasons are judged.
@@ -71,11 +72,21 @@ pub enum Surveyed {
     Ignored(Reason),
 }
 
-/// Whether a message is of a domain, under sdoId 0.
-pub(crate) fn is_in_domain(domain: u8, message: &View<'_>) -> bool
-    ensures { result ≡ is_in_domain domain message.now }
+/// Why a message is no reply to this port in this domain, if it is none.
+#[inline(always)]
+pub(crate) fn no_reply_to(me: &PortIdentity, domain: u8, message: &View<'_>) -> Option<Reason>
+    ensures { result ≡ first_of (no_reply_to me.now domain message.now) }
 {
-    message.sdo() == 0 && message.domain() == domain
+    if message.sdo() != 0 || message.domain() != domain {
+        return Some(Reason::OtherDomain);
+    }
+    if !message.action().is_reply() {
+        return Some(Reason::NotAReply);
+    }
+    if message.target() != *me {
+        return Some(Reason::OtherTarget);
+    }
+    None
 }
 
 /// Whether the second action answers the first.

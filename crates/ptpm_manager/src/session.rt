@@ -12,7 +12,7 @@ ghost use Rattle.ptpm_manager.specs.Ask.{IsRequestTo, ask_of, request_of};
 
 use crate::ask::{Ask, Pending, judge};
 use crate::error::{BeginError, SendError};
-use crate::receiving::{Reason, Received, is_in_domain};
+use crate::receiving::{Reason, Received, no_reply_to};
 use crate::report::{Report, outcome_in};
 use crate::setup::Setup;
 use ptpm_codec::{Action, Buffer, ClockIdentity, OutOfMemory, PortIdentity, View, encode, view};
@@ -257,14 +257,8 @@ impl Session {
         ensures waiting { result ≡ None → is_waiting self.now ≡ true }
         ensures begun { result ≡ None → 1 ≤ self.now.issued }
     {
-        if !is_in_domain(self.domain, message) {
-            return Some(Reason::OtherDomain);
-        }
-        if !message.action().is_reply() {
-            return Some(Reason::NotAReply);
-        }
-        if message.target() != self.setup.me {
-            return Some(Reason::OtherTarget);
+        if let Some(reason) = no_reply_to(&self.setup.me, self.domain, message) {
+            return Some(reason);
         }
         let source = message.source();
         if source.clock != self.setup.target || !self.state.is_asked_port(source.port) {

@@ -25,7 +25,7 @@ abbrev pub HasCarried : Network → RunningNetwork → ℕ → List NumberedRequ
 HasCarried N r c rs h = h.network.clock c ≡ after_requests (N.clock c) (r.clock c) rs
 
 -- what holds of all that may happen holds where a reason to refuse it is looked for first
-if_not_refused : (o : Option Refusal) (x : Result Happened Refusal) (P : Happened → Type 0)
+pub if_not_refused : (o : Option Refusal) (x : Result Happened Refusal) (P : Happened → Type 0)
     → IfOk x P
     → IfOk (unless_refused o x) P
 if_not_refused None x P p = p

@@ -1,5 +1,7 @@
 -- What a clock on the way does with a copy of a request, or of the reply: it passes it on, and nothing else changes.
 use Rattle.std.proofs.Math.Nat.{mul-le-mul_left}
+use Rattle.std.proofs.lemmas.List.FromFn.{get_or-range_with_len, length-range_with_len}
+use Rattle.std.proofs.lemmas.Option.{slice_get-get_or}
 use Rattle.ptpm_network.proofs.Common.{by_test, suc, zero, arith, ◌≡◌, ℕ, ◌<◌, ◌≤◌, ◌+◌, ◌-◌, ◌*◌, ◌/◌, ◌==◌, ◌&&◌, ◌||◌, Bool, List, [], ◌∷◌, ◌++◌, Some, None, true, refl, sym, ◌∙◌, ap, subst, ⊎_elim, length, length-append, and_from, and_left, and_parts, and_right, cond-false, cond-true, eq-eqb, eqb-false, eqb-true, false≢true, lt-ltb, ne_eqb, or_cases, or_from, append-nil, slice_get_within, flat_map, map, not, slice_get, AllByRecursion, filter, list_any, range_with_len, ClockIdentity, PortIdentity, Message, every_clock, same_clock, boundary_hops, domain_number, Fits, message_of, DataSetsValue, may_forward, egress_ports, forwarded, with_less_hop, copy_of, is_addressed, is_for_this_clock, is_own, names_port, Clock, AreDataSets, IsOfOrigin, IsReached, delivered_at_clock, delivery, forwarded_frames, made_frames, read_messages, AtPort, AtSession, End, IsNetwork, Network, manager, peers, ports, same_end, Frame, NetworkState, RequestOf, ReplyTo, frames_to, history, LinksHaveAtMost, passed_at_most, get_append, le_trans, filter-few, length-range_with_len, length-map, flat-few, slice_get-map, option_map}
 use Rattle.ptpm_network.proofs.Arriving.{history-elsewhere, history-here}
 use Rattle.ptpm_network.proofs.Exchanging.{clocks_apart, message-domain}
@@ -41,11 +43,8 @@ in_filter-at test (y ∷ xs) (suc i) x e t =
     (λ h. rw h rest)
 
 in_range-at : (a n i : ℕ) → i < n → slice_get (range_with_len a n) i ≡ Some (a + i)
-in_range-at a zero i lt = absurd (omega arith)
-in_range-at a (suc n) zero lt = let q : a ≡ a + 0 = omega arith in ap Some q
-in_range-at a (suc n) (suc i) lt =
-    let q : (a + 1) + i ≡ a + suc i = omega arith in
-    in_range-at (a + 1) n i (omega arith) ∙ ap Some q
+in_range-at a n i lt =
+    slice_get-get_or (range_with_len a n) i 0 (omega (arith, length-range_with_len a n)) ∙ ap Some (get_or-range_with_len a n i 0 lt)
 
 pub in_range : (n p : ℕ) → 1 ≤ p → p ≤ n → IsIn (range_with_len 1 n) p
 in_range n p low high =

@@ -36,16 +36,13 @@ message-domain v d e = grind (arith, message_size, message_of-some, message_of-s
 pub clocks_apart : (a b : ClockIdentity) → (a ≡ b → ⊥) → same_clock a b ≡ false
 clocks_apart a b ne = false_from_ne_true (same_clock a b) (λ y. ne (same_clock-true a b y))
 
-pub clocks_same : (a b : ClockIdentity) → a ≡ b → same_clock a b ≡ true
-clocks_same a b e = subst (λ (x : ClockIdentity). same_clock a x ≡ true) e (same_clock-refl a)
-
 -- ---- a copy of a session's request at its target
 
 request-is_copy : (N : Network) (s k domain hops : ℕ) (q : RequestValue)
     → IsNetwork N → s < N.sessions → IsAsked (ports N (N.session s).target) q
     → is_copy (N.clock (N.session s).target) (ports N (N.session s).target)
     (request_at N s k domain hops q) ≡ true
-request-is_copy N s k domain hops q n place asked = grind (arith, request_at, clocks_apart, clocks_same, and_from, or_right, le-leb, or_left, eq-eqb)
+request-is_copy N s k domain hops q n place asked = grind (arith, request_at, clocks_apart, same_clock-refl, and_from, or_right, le-leb, or_left, eq-eqb)
 
 -- ---- a reply is due to it
 
@@ -168,9 +165,10 @@ replied N w s port f n r place i end origin heard =
     let due = due-to N w s f.octets x r place of heard in
     let m = reply-message N w s port f x due.0 n r place (subst (HasEnd N) end i.end) origin i.origin of refl says.message.fits.number is due.1 in
     let u : Message = reply_message (N.clock c).identity x.heard (due.0).action (due.0).id x.ingress m.answer in
+    let here : same_clock (N.session s).setup.target (N.clock c).identity ≡ true = grind (arith, session.target, same_clock-refl) in
     record {
       reply = canonical u;
-      frames = ap (λ fs. w.frames ++ fs) (made-reply N w s port f x v due.0 origin says.message.read (clocks_same (N.session s).setup.target (N.clock c).identity session.target) is due.1 refl m);
+      frames = ap (λ fs. w.frames ++ fs) (made-reply N w s port f x v due.0 origin says.message.read here is due.1 refl m);
       domain = grind (arith, said-domain);
       hops = said-hops u ((N.session s).setup.hops - boundary_hops f.octets) m.valid m.fits (ap (λ k. (N.session s).setup.hops - k) (message-hops v f.octets says.message.read));
     }

@@ -1,5 +1,6 @@
 -- What holds of each element of a list, and functions of places that change at one.
 use Rattle.std.proofs.Common.{suc, zero, ◌≡◌, ℕ, ◌*◌, ◌<◌, ◌≤◌, ◌==◌, not, List, [], ◌∷◌, ◌++◌, Some, Bool, true, false, refl, sym, subst, length, length-append, arith, slice_get, map, filter}
+use Rattle.std.proofs.lemmas.List.Filters.{length-filter_both}
 use Rattle.std.proofs.lemmas.Bool.{cond-true, cond-false, eqb-false, eqb-true, true≢false, ne_eqb}
 use Rattle.std.specs.Prelude.{flat_map}
 use Rattle.std.specs.List.{AllByRecursion, list_any}
@@ -97,9 +98,7 @@ flipped a b n = ne_eqb b a (λ (e : b ≡ a). eqb-false a b n (sym e))
 -- ---- how many there are
 
 pub filter-few : {X : Type 0} (test : X → Bool) (xs : List X) → length (filter test xs) ≤ length xs
-filter-few test [] = omega arith
-filter-few test (x ∷ xs) =
-    let rest : length (filter test xs) ≤ length xs = filter-few test xs in grind arith
+filter-few test xs = omega (arith, length-filter_both test (λ x. not (test x)) (λ x. refl) xs)
 
 -- one less at least, where one is left out
 pub filter-fewer : {X : Type 0} (test : X → Bool) (xs : List X)

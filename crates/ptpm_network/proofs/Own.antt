@@ -1,11 +1,10 @@
 -- What a session has and what its target keeps of it, where its own messages came in time.
-use Rattle.ptpm_network.proofs.Common.{Bool, inr, true≢false, ◌⊎◌, arith, ◌≡◌, ℕ, ◌+◌, ◌-◌, ◌<◌, ◌≤◌, List, [], ◌∷◌, length, Option, Some, None, true, false, refl, sym, ◌∙◌, ap, subst, ⊎_elim, and_from, cond-true, eq-eqb, or_left, or_right, or_from, same_Some, slice_get, PortIdentity, Message, same_identity, message_of, reading-message_of, RequestValue, Entry, look_at, look_by, same_request, InWindow, reply_messages, Accepted, greatest, kept_reply, heard_of, request_of, Clock, State, turn, turn-message, judged, is_repeat, verdict_at, Verdict, reply_by, same_identity-refl, number_of, Answers, HasOneAnswer, IsInStep, SessionState}
+use Rattle.ptpm_network.proofs.Common.{Bool, inr, true≢false, ◌⊎◌, arith, ◌≡◌, ℕ, ◌+◌, ◌-◌, ◌<◌, ◌≤◌, List, [], ◌∷◌, length, Option, Some, None, true, false, refl, sym, ◌∙◌, ap, subst, ⊎_elim, and_from, cond-true, eq-eqb, same_Some, slice_get, PortIdentity, Message, same_identity, message_of, reading-message_of, RequestValue, Entry, look_at, look_by, same_request, InWindow, reply_messages, Accepted, greatest, kept_reply, heard_of, request_of, Clock, State, turn, turn-message, judged, Verdict, reply_by, same_identity-refl, number_of, Answers, HasOneAnswer, IsInStep, SessionState}
 use Rattle.std.specs.FinMap.{get}
 use Rattle.std.proofs.lemmas.Bool.{cases_order}
 use Rattle.std.proofs.Math.Nat.{ne_of_gt, ne_of_lt}
 use Rattle.ptpm_table.specs.declared.serial.Serial.{Serial}
 use Rattle.ptpm_table.specs.declared.serial.Serial.TheVariants.{Newer, Older, Same}
-use Rattle.ptpm_table.specs.declared.reply_table.Look.{Look}
 use Rattle.ptpm_table.specs.declared.reply_table.Look.TheVariants as looks
 use Rattle.ptpm_table.specs.Serial.{order_of}
 use Rattle.ptpm_table.proofs.SerialLaws.{order_of-same, order_of-newer, order_of-older}
@@ -14,7 +13,7 @@ use Rattle.ptpm_agent.specs.declared.verdict.Verdict.TheVariants as verdicts
 use Rattle.ptpm_agent.specs.Turn.{new_reply, next_by}
 use Rattle.ptpm_agent.proofs.Entries.{accepted_at, accepted_entry, accepted_kept}
 use Rattle.ptpm_agent.proofs.Numbers.{serial_of-number_of}
-use Rattle.ptpm_agent.proofs.Turns.{CopyParts, judged-elsewhere, judged-numbered, look-copy}
+use Rattle.ptpm_agent.proofs.Turns.{CopyParts, judged-copy}
 use Rattle.ptpm_network.specs.ByManager.{with_carried}
 use Rattle.ptpm_network.proofs.Arriving.{StaysOrGains}
 use Rattle.ptpm_network.proofs.DueReplies.{same_request-refl}
@@ -37,15 +36,6 @@ IsLastOf m first accepted (Some e) = IsLast m first accepted e
 abbrev asks_same : Option Entry → RequestValue → Bool
 asks_same None q = false
 asks_same (Some e) q = same_request e.request q
-
--- ---- the verdict on a copy
-
--- by what the entry tells: in the clock's domain, elsewhere where it is a repeat, or elsewhere where it is none
-judged-copy : (P : Verdict → Type 0) (c : Clock) (s : State) (v : Message) (l : Look)
-    → CopyParts c (length s.sets.ports) v → look_at (get s.entries v.source) v.number (request_of v) ≡ l
-    → P (verdict_at l) → (is_repeat l ≡ false → P verdicts.OtherDomain)
-    → P (judged c s v)
-judged-copy P c s v l p e home away = grind (arith, look-copy, judged-numbered, or_left, or_right, judged-elsewhere, or_from)
 
 -- ---- what a verdict does with a message
 
@@ -146,8 +136,8 @@ module _ (first p : ℕ) (c : Clock) (s : State) (port : ℕ) (octets : List ℕ
       ∙ ap (λ (x : Option Entry). look_by Same (asks_same x (request_of v))) is
       ∙ ap (λ b. look_by Same b) (ap (λ (q : RequestValue). same_request q (request_of v)) request ∙ same_request-refl (request_of v)) in
       judged-copy (λ w. Does c s port octets v w → Turns) c s v looks.Repeat o.parts repeat
-      (λ d. grind (arith, own-still, accepted_at))
-      (λ n. absurd (true≢false n))
+      (λ _ d. grind (arith, own-still, accepted_at))
+      (λ _ n. absurd (true≢false n))
       (does c s port octets v read)
 
   own-turns : Turns
@@ -160,12 +150,12 @@ module _ (first p : ℕ) (c : Clock) (s : State) (port : ℕ) (octets : List ℕ
       (λ (below : k < g).
       let other : k ≡ g → ⊥ = ne_of_lt below in
       judged-copy (λ w. Does c s port octets v w → Turns) c s v looks.Old o.parts (looked Older (order_of-older g k below))
-      (λ d. grind (arith, own-still))
-      (λ n d. grind (arith, own-still)) fits)
+      (λ _ d. grind (arith, own-still))
+      (λ _ n d. grind (arith, own-still)) fits)
       (λ (above : g < k).
       judged-copy (λ w. Does c s port octets v w → Turns) c s v looks.New o.parts (looked Newer (order_of-newer g k above))
-      (λ d. own-new above d)
-      (λ n d. grind (arith, own-still, ne_of_gt)) fits))
+      (λ _ d. own-new above d)
+      (λ _ n d. grind (arith, own-still, ne_of_gt)) fits))
       (cases_order k g)
 
 pub turns_own : (m : PortIdentity) (first p : ℕ) (c : Clock) (s : State) (port : ℕ) (octets : List ℕ) (v : Message) (k : ℕ)

@@ -1,5 +1,6 @@
 -- What an event that is not refused tells.
-use Rattle.ptpm_network.proofs.Common.{by_test, suc, zero, arith, ◌≡◌, ℕ, ◌<◌, ◌≤◌, ◌-◌, ◌^◌, List, [], ◌∷◌, Option, Some, None, true, false, refl, sym, ◌∙◌, ap, length, cond-false, true≢false, nat_lt, option_map, is_some, slice_get, first_of-none, option_or-none, Ask, ask_refusal, SessionValue, begin_refusal, is_waiting, IsAsked, SessionState, is_idle, session_value, SessionStart, eqb-false}
+use Rattle.ptpm_network.proofs.Common.{by_test, arith, ◌≡◌, ℕ, ◌<◌, ◌≤◌, ◌-◌, ◌^◌, Option, Some, None, true, false, refl, sym, ◌∙◌, ap, length, cond-false, true≢false, nat_lt, option_map, is_some, first_of-none, option_or-none, Ask, ask_refusal, SessionValue, begin_refusal, is_waiting, IsAsked, SessionState, is_idle, session_value, SessionStart, eqb-false}
+use Rattle.ptpm_data.proofs.OwnOctets.{some_at}
 use Rattle.ptpm_manager.specs.Ask.{request_of}
 use Rattle.ptpm_manager.proofs.AskLaws.{request_of-permitted}
 
@@ -22,18 +23,11 @@ pub begin-not_refused : (s : SessionValue) (a : Ask)
 unfolding begin_refusal
 begin-not_refused s a e = grind (arith, nat_lt, option_or-none, first_of-none)
 
-pub get-below : {X : Type 0} (xs : List X) (i : ℕ)
-    → i < length xs
-    → (x : X) × (slice_get xs i ≡ Some x)
-get-below [] i h = absurd (omega arith)
-get-below (x ∷ xs) zero h = (x, refl)
-get-below (x ∷ xs) (suc i) h = get-below xs i (omega arith)
-
 -- a session that does not wait has each request reported
 pub idle-not_waiting : (start : SessionStart) (s : SessionState)
     → length s.reports ≤ length s.begun → is_waiting (session_value start s) ≡ false
     → is_idle s ≡ true
 idle-not_waiting start s le w = by_test (is_idle s)
     (λ y. y)
-    (λ n. let last = get-below s.begun (length s.begun - 1) (omega (arith, le, eqb-false (length s.reports) (length s.begun) n)) in
+    (λ n. let last = some_at s.begun (length s.begun - 1) (omega (arith, le, eqb-false (length s.reports) (length s.begun) n)) in
     absurd (true≢false (sym (ap is_some (cond-false _ _ _ n ∙ last.1)) ∙ w)))

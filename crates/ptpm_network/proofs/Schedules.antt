@@ -1,5 +1,5 @@
 -- Worked schedules: what the machine makes of them.
-use Rattle.ptpm_network.proofs.Common.{by_test, ◌≡◌, ℕ, List, [], ◌∷◌, Option, Some, None, refl, true, false, map, replicate, arith, ◌<◌, ◌||◌, sym, ◌∙◌, ap, ◌++◌, ◌==◌, slice_set, if◌then◌else◌, or_left, true≢false, ClockIdentity, PortIdentity, same_identity, number_at, port_identity_at, octet, port_identity_octets, tlv_octets, body_at, message_of, frame_refusal, tlv_refusal, text_refusal, row_of, set_of, clock_field_of, row_refusal, is_set_length, is_set_value, answer, reply_of, reply_to, read_reply_to, changed_by, set_members, forwarded, same_identity-refl, same_identity-true, is_known, Accepted, rendered, Ask, ask_refusal, target_port, begin_refusal, send_refusal, IsNetwork, End, AtPort, AtSession, Network, SessionStart, Frame, NetworkState, Origin, RequestOf, ReplyTo, initial_state, history, is_late_at, Event, Begin, Send, Resume, Retune, Deliver, Stranger, Refusal, NoSuchName, NoSuchFrame, Forged, BeginRefused, SendRefused, refusal, happens, run}
+use Rattle.ptpm_network.proofs.Common.{by_test, ◌≡◌, ℕ, List, [], ◌∷◌, Option, Some, None, refl, true, false, map, replicate, arith, ◌||◌, sym, ◌∙◌, ap, ◌++◌, ◌==◌, slice_set, if◌then◌else◌, or_left, true≢false, ClockIdentity, PortIdentity, same_identity, number_at, port_identity_at, octet, port_identity_octets, tlv_octets, body_at, message_of, frame_refusal, tlv_refusal, text_refusal, row_of, set_of, clock_field_of, row_refusal, is_set_length, is_set_value, answer, reply_of, reply_to, read_reply_to, changed_by, set_members, forwarded, same_identity-refl, same_identity-true, is_known, Accepted, rendered, Ask, ask_refusal, target_port, begin_refusal, send_refusal, IsNetwork, End, AtPort, AtSession, Network, SessionStart, Frame, NetworkState, Origin, RequestOf, ReplyTo, initial_state, history, is_late_at, Event, Begin, Send, Resume, Retune, Deliver, Stranger, Refusal, NoSuchName, NoSuchFrame, Forged, BeginRefused, SendRefused, refusal, happens, run}
 use Rattle.ptpm_codec.specs.declared.message.Action.TheVariants as actions
 use Rattle.ptpm_data.specs.Start.{default_clock, default_port, started}
 use Rattle.ptpm_data.specs.Rights.{all_rights}
@@ -94,16 +94,13 @@ first_script-reports = refl
 abbrev first_octet : ClockIdentity → ℕ
 first_octet c = octet 0 c.0
 
-apart : (a b : ℕ) → a < b → a ≡ b → ⊥
-apart a b l e = omega arith
-
 one_known : (m : PortIdentity) → is_known m (manager_m ∷ []) ≡ true → manager_m ≡ m
 one_known m y = by_test (same_identity m manager_m)
     (λ h. sym (same_identity-true m manager_m h))
     (λ n. absurd (true≢false (sym y ∙ ap (λ b. b || false) n)))
 
 pub one_clock-IsNetwork : IsNetwork one_clock
-one_clock-IsNetwork = grind (arith, apart, or_left, same_identity-refl, one_known)
+one_clock-IsNetwork = grind (arith, or_left, same_identity-refl, one_known)
 
 -- ---- refused events
 

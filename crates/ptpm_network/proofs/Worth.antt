@@ -1,9 +1,9 @@
 -- What a report is worth: its request was carried out exactly once, and the report tells the answer of that moment.
 use Rattle.ptpm_network.proofs.Common.{by_test, suc, zero, arith, ◌≡◌, ℕ, ◌<◌, ◌≤◌, ◌+◌, ◌-◌, ◌==◌, ◌&&◌, max, Bool, List, [], ◌∷◌, ◌++◌, Some, None, refl, sym, ◌∙◌, ap, subst, ⊎_elim, ◌⊎◌, inl, inr, length, length-append, append_assoc, and_parts, and_left, and_right, eqb-true, ltb-true, ne_eqb, cond-true, cond-false, lt-ltb, append-nil, is_some, not, slice_get, AllByRecursion, find, PortIdentity, same_identity, first_of, DataSetsValue, Answer, RequestValue, same_identity-true, Accepted, History, RequestCopy, accepted_from, after_copy, applied_once, initial_history, greatest, joins, kept_reply, Clock, Ask, Report, begin_refusal, Begin, BeginRefused, Event, IsInRange, NoSuchName, no_session, refusal, IsReached, WasAccepted, run, IsNetwork, Network, manager, NetworkState, SessionState, accepted_at_target, copies_at, initial_state, history, issued, outcomes_kept, reports_by, reports_of, unanswered, IsWorth, WasCarriedOut, entries_of, all_weaker}
 use Rattle.std.proofs.Math.Nat.{ne_of_lt}
+use Rattle.ptpm_data.proofs.OwnOctets.{some_at}
 use Rattle.ptpm_manager.specs.declared.error.BeginError.TheVariants as begins
 use Rattle.ptpm_network.proofs.Accepting.{report_of}
-use Rattle.ptpm_network.proofs.Refusals.{get-below}
 use Rattle.ptpm_network.proofs.Schedule.{reached}
 
 -- ---- no request is carried out twice
@@ -203,7 +203,7 @@ pub unanswered-some : (s : SessionState)
     → length s.reports < length s.begun
     → (q : RequestValue) × (unanswered s ≡ Some q)
 unanswered-some s lt =
-    let last = get-below s.begun (length s.begun - 1) (omega arith) in grind (arith, cond-false, ne_eqb, ne_of_lt)
+    let last = some_at s.begun (length s.begun - 1) (omega arith) in grind (arith, cond-false, ne_eqb, ne_of_lt)
 
 pub begins-busy : (N : Network) (w : NetworkState) (s : ℕ) (a : Ask)
     → s < N.sessions → length (w.session s).reports < issued w s

@@ -77,9 +77,6 @@ same_bytes xs ys h = (bytes_eq-Decides xs ys).0 h
 bytes_same : (xs ys : List ℕ) → xs ≡ ys → bytes_eq xs ys ≡ true
 bytes_same xs ys h = (bytes_eq-Decides xs ys).1 h
 
-same_clocks : (a b : ClockIdentity) → a ≡ b → same_clock a b ≡ true
-same_clocks a b h = subst (λ c. same_clock a c ≡ true) h (same_clock-refl a)
-
 same_identities : (a b : PortIdentity) → a ≡ b → same_identity a b ≡ true
 same_identities a b h = grind (arith, and_from, same_clock-refl, Decides-eqb)
 
@@ -87,7 +84,7 @@ same_identities a b h = grind (arith, and_from, same_clock-refl, Decides-eqb)
 
 clock_is_one : (text : List ℕ) (c : ClockIdentity) → clock_identity text ≡ Some c → c ≢ every_clock
 unfolding clock_identity
-clock_is_one text c h every = grind (arith, opt_inv, else_some, both_ways, same_clocks)
+clock_is_one text c h every = grind (arith, opt_inv, else_some, both_ways, same_clock-refl)
 
 pub clock_part : (a : Option ClockIdentity) (b : Option ℕ) (p : PortIdentity)
     → port_of a b ≡ Some p
@@ -226,7 +223,7 @@ is_session f n p w one i s t at h =
       no_clock = all_made clock_of (λ y. s.identity.clock ≢ y.start.identity) f.clocks n.clocks p.clocks (λ j d y dj made same.
           let fails = (or_parts _ _ (none_at (is_clock s) f.clocks j d (w.no_clock i s at) dj)).1 in
           let own = ap (λ v. v.start.identity) (clock_made d y made).0 in
-          let holds = same_clocks d.start.identity s.identity.clock (own ∙ sym same) in
+          let holds : same_clock d.start.identity s.identity.clock ≡ true = grind (arith, same_clock-refl) in
           both_ways _ fails holds);
       target = omega arith;
     })
@@ -357,7 +354,7 @@ is_accepted f n p w one =
           (λ x z u v hx hz e. grind (arith, clock_made, or_left, bytes_same))
           f.clocks n.clocks p.clocks w.clocks;
       clock_identities = made_apart clock_of same_name_or_clock (λ y. y.start.identity)
-          (λ x z u v hx hz e. grind (arith, clock_made, or_right, same_clocks))
+          (λ x z u v hx hz e. grind (arith, clock_made, or_right, same_clock-refl))
           f.clocks n.clocks p.clocks w.clocks;
       session_names = made_apart (session_of f.clocks) same_name_or_identity (λ t. t.name)
           (λ x z u v hx hz e. grind (arith, session_made, or_left, bytes_same))

@@ -2,7 +2,7 @@
 use Rattle.std.proofs.Common.{◌≡◌, ℕ, zero, suc, ◌+◌, Bool, true, false, cond, List, [], ◌∷◌, ◌++◌, length, Option, Some, None, Result, Ok, Err, refl, ap, sym, subst, ◌∙◌, arith, ◌≤◌, ◌⊎◌, inl, inr}
 use Rattle.std.specs.Prelude.{slice_get, flat_map}
 use Rattle.std.specs.List.{AllByRecursion, list_any, position_from, count_by}
-use Rattle.std.proofs.lemmas.Bool.{or_parts}
+use Rattle.std.proofs.lemmas.Bool.{false≢true, or_parts}
 use Rattle.std.proofs.lemmas.List.Recursion.{is_count_by}
 use Rattle.std.proofs.lemmas.Map.Keys.{any_passes_from_place}
 use Rattle.ptpm_script.specs.declared.net_error.NetError.{NetError}
@@ -138,16 +138,13 @@ tally q (x ∷ xs) = cond (q x) (1 + tally q xs) (tally q xs)
 tally_is : {A : Type 0} (q : A → Bool) (xs : List A) → tally q xs ≡ count_by q xs
 tally_is q xs = is_count_by (tally q) q refl (λ _ _. refl) xs
 
-not_both : false ≡ true → ⊥
-not_both h = cc
-
 counted : (a b : Bool) (n k : ℕ)
     → (b ≡ true → a ≡ true)
     → k ≤ n
     → cond b (1 + k) k ≤ cond a (1 + n) n
 counted true true n k h le = omega arith
 counted true false n k h le = omega arith
-counted false true n k h le = absurd (not_both (h refl))
+counted false true n k h le = absurd (false≢true (h refl))
 counted false false n k h le = le
 
 made_tally : {A B : Type 0} (make : A → Result B NetError) (p : A → Bool) (q : B → Bool)

@@ -1,5 +1,6 @@
 -- What is made of each element of a list, element by element; the place of the first element that passes a test.
-use Rattle.std.proofs.Common.{◌≡◌, ℕ, ◌+◌, ◌<◌, ◌≤◌, nat_lt, ◌||◌, Bool, true, false, List, [], ◌∷◌, ◌++◌, length, drop, get_or, Result, Ok, Err, refl, append_assoc, arith}
+use Rattle.std.proofs.Common.{◌≡◌, ℕ, ◌+◌, ◌<◌, ◌≤◌, nat_lt, false, List, [], ◌∷◌, ◌++◌, length, drop, get_or, Result, Ok, Err, append_assoc, arith}
+use Rattle.std.proofs.lemmas.Bool.{or_parts}
 use Rattle.std.proofs.lemmas.List.{drop_more}
 use Rattle.ptpm_script.specs.declared.net_error.NetError.{NetError}
 use Rattle.std.proofs.lemmas.Bool.Decides.{nat_tests}
@@ -32,14 +33,10 @@ stops make done xs i x e below h = grind (arith, drop_more)
 pub not_more : (most n : ℕ) → nat_lt most n ≡ false → n ≤ most
 not_more most n h = grind (arith, nat_tests)
 
-or_first : (a b : Bool) → (a || b) ≡ false → a ≡ false
-or_first true b h = cc
-or_first false b h = refl
-
 pub few_clocks : (f : FileValue) → has_too_many f ≡ false → length f.clocks ≤ 64
 unfolding has_too_many
-few_clocks f h = not_more 64 _ (or_first _ _ (or_first _ _ (or_first _ _ (or_first _ _ h))))
+few_clocks f h = grind (arith, not_more, or_parts)
 
 pub few_sessions : (f : FileValue) → has_too_many f ≡ false → length f.sessions ≤ 256
 unfolding has_too_many
-few_sessions f h = grind (arith, not_more, or_first)
+few_sessions f h = grind (arith, not_more, or_parts)

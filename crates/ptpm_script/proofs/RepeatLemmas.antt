@@ -1,14 +1,11 @@
 -- Elements that are like a later one, in two lists one after the other.
 use Rattle.std.proofs.Common.{◌≡◌, ◌-◌, ◌≤◌, length, take, drop, get_or, arith, Bool, true, false, ◌||◌, List, [], ◌∷◌, ◌++◌, refl, sym, ◌∙◌}
 use Rattle.std.specs.List.{list_any}
+use Rattle.std.proofs.Math.Bool.{or_assoc}
 use Rattle.std.proofs.lemmas.List.Folds.{list_any-append}
 use Rattle.std.proofs.lemmas.List.{take_rest}
 use Rattle.ptpm_script.specs.declared.link_entries.EndEntry.{EndEntry}
 use Rattle.ptpm_script.specs.NetworkText.{all_ends, has_like, has_early_like, same_end}
-
-or_assoc : (a b c : Bool) → (a || b) || c ≡ a || (b || c)
-or_assoc true b c = refl
-or_assoc false b c = refl
 
 pub has_like-append : {A : Type 0} (is_like : A → A → Bool) (xs ys : List A)
     → has_like is_like (xs ++ ys) ≡ has_early_like is_like xs ys || has_like is_like ys

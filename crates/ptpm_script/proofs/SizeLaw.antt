@@ -1,9 +1,10 @@
 -- The network of every text that is one: its identities have eight octets, its portNumbers 16 bits, and its data sets their
 -- sizes.
-use Rattle.std.proofs.Common.{◌≡◌, ℕ, if◌then◌else◌, Bool, true, false, List, length, Option, Some, None, Ok, refl, ap, subst, arith}
+use Rattle.std.proofs.Common.{◌≡◌, ℕ, List, length, Option, Some, Ok, ap, subst, arith}
 use Rattle.std.specs.Prelude.{slice_get, codes}
 use Rattle.std.proofs.lemmas.List.{length-map}
 use Rattle.std.proofs.lemmas.Bool.Decides.{nat_tests}
+use Rattle.std.proofs.lemmas.Option.{cond_some}
 use Rattle.hex.proofs.HexLemmas.{decode_pairs-ok, decode_sized-ok}
 use Rattle.toml.specs.Data.{Data, Members}
 use Rattle.ptpm_codec.specs.declared.identity.ClockIdentity.{ClockIdentity}
@@ -24,12 +25,6 @@ use Rattle.ptpm_script.specs.Values.{clock_at, port_at, text_at}
 use Rattle.ptpm_script.proofs.NetworkLemmas.{all_made, and_then_ok, given_ok}
 use Rattle.ptpm_script.proofs.NetworkLaw.{Placed, clock_made, clock_part, else_ok, else_some, entry_at, identity_part, is_placed, opt_inv, session_made, starts_well, then_ok}
 
-then_some : {A : Type 0} (b : Bool) (x y : A)
-    → (if b then Some x else None) ≡ Some y
-    → (b ≡ true) × (x ≡ y)
-then_some true x y h = (refl, cc)
-then_some false x y h = cc
-
 -- ---- identities
 
 clock_size : (text : List ℕ) (c : ClockIdentity) → clock_identity text ≡ Some c → length c.0 ≡ 8
@@ -38,7 +33,7 @@ clock_size text c h = grind (arith, opt_inv, else_some, decode_sized-ok, decode_
 
 port_size : (text : List ℕ) (p : PortIdentity) → port_identity text ≡ Some p → PortIdentityFits p
 unfolding port_identity
-port_size text p h = grind (arith, opt_inv, clock_size, clock_part, then_some, nat_tests)
+port_size text p h = grind (arith, opt_inv, clock_size, clock_part, cond_some, nat_tests)
 
 -- ---- clocks of a file
 
@@ -102,7 +97,7 @@ AreEntriesSized f =
 file_parts : (v : Option ℕ) (c : Option (List ClockEntryValue)) (s : Option (List SessionEntry))
     (l : Option (List (List EndEntry))) (f : FileValue)
     → file_with v c s l ≡ Some f → (c ≡ Some f.clocks) × (s ≡ Some f.sessions)
-file_parts (Some v) (Some c) (Some s) (Some l) f h = let q = (then_some _ _ f h).1 in (ap (λ g. Some g.clocks) q, ap (λ g. Some g.sessions) q)
+file_parts (Some v) (Some c) (Some s) (Some l) f h = let q = (cond_some _ _ f h).1 in (ap (λ g. Some g.clocks) q, ap (λ g. Some g.sessions) q)
 file_parts _ _ _ _ f h = cc
 
 entries_size : (ms : Members) (f : FileValue) → file_of ms ≡ Some f → AreEntriesSized f

@@ -1,9 +1,9 @@
 -- A text cut at its first space.
-use Rattle.std.proofs.Common.{◌≡◌, ◌≢◌, ℕ, suc, zero, ◌<◌, ◌≤◌, ◌+◌, ◌==◌, true, false, not, Bool, List, [], ◌∷◌, ◌++◌, Some, None, length, get_or, take, drop, refl, sym, ap, subst, ◌∙◌, arith}
+use Rattle.std.proofs.Common.{◌≡◌, ◌≢◌, ℕ, suc, zero, ◌<◌, ◌≤◌, ◌+◌, ◌==◌, false, not, Bool, List, [], ◌∷◌, ◌++◌, Some, None, length, get_or, take, drop, refl, sym, ap, subst, ◌∙◌, arith}
 use Rattle.std.specs.List.{position}
 use Rattle.std.specs.Str.{IsCharBoundary, IsUtf8}
 use Rattle.std.proofs.Math.ListN.{drop_of_length-le}
-use Rattle.std.proofs.lemmas.Bool.{cases_Bool, cond-true, eq-eqb, eqb-true, true≢false}
+use Rattle.std.proofs.lemmas.Bool.{cases_Bool, cond-true, eq-eqb, eqb-true, not-false, true≢false}
 use Rattle.std.proofs.lemmas.Bool.Decides.{nat_tests}
 use Rattle.std.proofs.lemmas.List.{drop_more, get_or-take, length-take, take-append-drop}
 use Rattle.std.proofs.lemmas.List.Quantifiers.{position-Some}
@@ -101,11 +101,7 @@ pub position_none : (p : ℕ → Bool) (xs : List ℕ) (i : ℕ)
 position_none p xs i none inside = grind (arith, fails_before_first, prefix_len-le-length, cond-true, nat_tests, cases_Bool)
 
 is_space : (octet : ℕ) → not (octet == space) ≡ false → octet ≡ space
-is_space octet h = eqb-true octet space (is_true (octet == space) h)
-  where
-    is_true : (b : Bool) → not b ≡ false → b ≡ true
-    is_true true e = refl
-    is_true false e = absurd (cc)
+is_space octet h = eqb-true octet space (not-false _ h)
 
 is_no_space : (octet : ℕ) → (octet == space) ≡ false → octet ≢ space
 is_no_space octet h e = true≢false (sym (eq-eqb octet space e) ∙ h)

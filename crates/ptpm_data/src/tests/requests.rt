@@ -15,7 +15,7 @@ const EVERY: u16 = PortIdentity::EVERY_PORT;
 
 /// A request, its dataField in hexadecimal digits, and the reply to it as `shown` writes it.
 #[derive(Clone, Copy)]
-struct Step<'a> {
+pub(super) struct Step<'a> {
     action: Action,
     id: u16,
     port: u16,
@@ -33,7 +33,7 @@ fn get<'a>(id: u16, port: u16, reply: &'a str) -> Step<'a> {
     }
 }
 
-fn set<'a>(id: u16, port: u16, octets: &'a str, reply: &'a str) -> Step<'a> {
+pub(super) fn set<'a>(id: u16, port: u16, octets: &'a str, reply: &'a str) -> Step<'a> {
     Step {
         action: Action::Set,
         id,
@@ -43,7 +43,7 @@ fn set<'a>(id: u16, port: u16, octets: &'a str, reply: &'a str) -> Step<'a> {
     }
 }
 
-fn command<'a>(id: u16, port: u16, reply: &'a str) -> Step<'a> {
+pub(super) fn command<'a>(id: u16, port: u16, reply: &'a str) -> Step<'a> {
     Step {
         action: Action::Command,
         id,
@@ -71,7 +71,7 @@ fn octet_of(pair: &[u8]) -> Option<u8> {
 }
 
 /// The octets that digits spell. A misspelt one ends the test.
-fn octets(rt: &impl Abort, text: &str) -> ArrayVec<u8, 200> {
+pub(super) fn octets(rt: &impl Abort, text: &str) -> ArrayVec<u8, 200> {
     let mut octets = ArrayVec::new();
     for pair in text.as_bytes().chunks(2) {
         match octet_of(pair) {
@@ -137,7 +137,7 @@ fn ask(rt: &impl Abort, sets: &mut DataSets, rights: Rights, step: &Step<'_>) ->
 }
 
 /// Takes the steps one after another, with these rights.
-fn run(rt: &impl Abort, sets: &mut DataSets, rights: Rights, steps: &[Step<'_>]) {
+pub(super) fn run(rt: &impl Abort, sets: &mut DataSets, rights: Rights, steps: &[Step<'_>]) {
     for step in steps {
         let reply = ask(rt, sets, rights, step);
         let action = if step.action == Action::Command {
@@ -157,7 +157,7 @@ fn run(rt: &impl Abort, sets: &mut DataSets, rights: Rights, steps: &[Step<'_>])
 }
 
 /// K, with two ports of the defaults.
-fn fresh(rt: &impl Abort) -> DataSets {
+pub(super) fn fresh(rt: &impl Abort) -> DataSets {
     DataSets::new(
         &ClockStart::new(K, 0),
         &[PortStart::new(), PortStart::new()],

@@ -1,6 +1,7 @@
 use Rattle.std.proofs.Common.{arith}
+use Rattle.ptpm_codec.proofs.BufferLaws.{refilled}
 use Rattle.ptpm_data.proofs.StartLemmas.{unless_ok}
-use Rattle.ptpm_data.proofs.Observing.{consistent, has_places, ports_after-length, refilled}
+use Rattle.ptpm_data.proofs.Observing.{consistent, has_places, ports_after-length}
 use Rattle.ptpm_data.proofs.data_sets.DataSets.observe.Goals as goal
 
 pub left_disabled-left-requires-clause-fit : goal.left_disabled-left-requires-clause-fit

@@ -1,0 +1,129 @@
+-- The start that gives each member of consistent data sets its value has no fault, and starts with these data sets.
+use Rattle.std.proofs.Common.{arith, ◌≡◌, ◌∙◌, ap, refl, ℕ, ◌≤◌, nat_lt, Bool, true, false, List, [], ◌∷◌, length, map, Option, Some, None, Ok, unwrap_or}
+use Rattle.std.specs.List.{All}
+use Rattle.std.proofs.lemmas.Bool.{and_from, eq-eqb}
+use Rattle.std.proofs.lemmas.Bool.Decides.{nat_tests}
+use Rattle.std.proofs.lemmas.List.{length-map}
+use Rattle.std.proofs.lemmas.List.Elements.{All-head, All-tail}
+use Rattle.ptpm_data.specs.declared.data_sets.ClockPrecedence.{ClockPrecedence}
+use Rattle.ptpm_data.specs.declared.data_sets.DefaultDataSet.{DefaultDataSet}
+use Rattle.ptpm_data.specs.declared.data_sets.ParentDataSet.{ParentDataSet}
+use Rattle.ptpm_data.specs.declared.data_sets.PortDataSet.{PortDataSet}
+use Rattle.ptpm_data.specs.declared.port_state.PortState.{PortState}
+use Rattle.ptpm_data.specs.declared.port_state.PortState.TheVariants as states
+use Rattle.ptpm_data.specs.declared.port_state.DelayMechanism.{DelayMechanism}
+use Rattle.ptpm_data.specs.declared.port_state.DelayMechanism.TheVariants as mechanisms
+use Rattle.ptpm_data.specs.declared.start.ClockStart.{ClockStart}
+use Rattle.ptpm_data.specs.declared.start.PortStart.{PortStart}
+use Rattle.ptpm_data.specs.Image.{DataSetsFit}
+use Rattle.ptpm_data.specs.ImageReading.{IsSplit, clock_read, port_start, start_of_sets}
+use Rattle.ptpm_data.specs.Members.{DataSetsValue, IsConsistent, IsPortInRange, is_grandmaster, is_same_precedence}
+use Rattle.ptpm_data.specs.PortState.{mechanism_number, mechanism_of, state_number, state_of}
+use Rattle.ptpm_data.specs.Start.{clock_fault, count_fault, grandmaster_fault, port_data_set, port_fault, ports_fault, start_of}
+use Rattle.ptpm_data.proofs.ImageLemmas.{clock_back}
+use Rattle.ptpm_data.proofs.StartLemmas.{description_small}
+
+-- ---- states and mechanisms by their numbers
+
+state_back : (s : PortState) → state_of (state_number s) ≡ Some s
+state_back states.Initializing = refl
+state_back states.Faulty = refl
+state_back states.Disabled = refl
+state_back states.Listening = refl
+state_back states.PreMaster = refl
+state_back states.Master = refl
+state_back states.Passive = refl
+state_back states.Uncalibrated = refl
+state_back states.Slave = refl
+
+mechanism_back : (m : DelayMechanism) → mechanism_of (mechanism_number m) ≡ Some m
+mechanism_back mechanisms.EndToEnd = refl
+mechanism_back mechanisms.PeerToPeer = refl
+mechanism_back mechanisms.NoMechanism = refl
+
+-- ---- ports
+
+port_restarts : (p : PortDataSet) → port_data_set (port_start p) ≡ p
+port_restarts p =
+    let state = ap (λ (o : Option PortState). unwrap_or o states.Initializing) (state_back p.state) in
+    let mechanism = ap (λ (o : Option DelayMechanism). unwrap_or o mechanisms.NoMechanism) (mechanism_back p.delay_mechanism) in
+    λ i. record p { state = state i; delay_mechanism = mechanism i }
+
+pub ports_restart : (ports : List PortDataSet) → map port_data_set (map port_start ports) ≡ ports
+ports_restart [] = refl
+ports_restart (p ∷ ports) = let here = port_restarts p in let rest = ports_restart ports in λ i. here i ∷ rest i
+
+port_faultless : (p : PortDataSet) → IsPortInRange p → port_fault (port_start p) ≡ None
+unfolding port_fault
+port_faultless p range =
+    rw (state_back p.state, range.log_announce, range.receipt_timeout, range.log_sync, mechanism_back p.delay_mechanism, range.log_min_pdelay) refl
+
+ports_faultless : (ports : List PortDataSet) → All IsPortInRange ports → ports_fault (map port_start ports) ≡ None
+unfolding ports_fault
+ports_faultless [] ranges = refl
+ports_faultless (p ∷ ports) ranges =
+    rw (port_faultless p (All-head IsPortInRange p ports ranges)) (ports_faultless ports (All-tail IsPortInRange p ports ranges))
+
+-- ---- the clock
+
+count_faultless : (n : ℕ) → 1 ≤ n → n ≤ 8 → count_fault n ≡ None
+unfolding count_fault
+count_faultless n some few = grind (arith, nat_lt, nat_tests)
+
+clock_faultless : (d : DataSetsValue) → IsConsistent d → clock_fault (start_of_sets d) ≡ None
+unfolding clock_fault
+clock_faultless d c = rw (c.identity, c.description, c.accuracy, c.leaps) refl
+
+pub precedence_same : (p : ClockPrecedence) → is_same_precedence p p ≡ true
+precedence_same p = grind (arith, and_from, eq-eqb)
+
+grandmaster_by : (b : Bool) (default : DefaultDataSet) (parent : ParentDataSet)
+    → is_grandmaster default parent ≡ b
+    → (is_grandmaster default parent ≡ true → parent.precedence ≡ default.precedence)
+    → grandmaster_fault default parent ≡ None
+unfolding grandmaster_fault
+grandmaster_by false default parent is own = rw is refl
+grandmaster_by true default parent is own =
+    let same : is_same_precedence parent.precedence default.precedence ≡ true =
+    ap (λ (p : ClockPrecedence). is_same_precedence p default.precedence) (own is) ∙ precedence_same default.precedence in
+    rw (is, same) refl
+
+grandmaster_faultless : (default : DefaultDataSet) (parent : ParentDataSet)
+    → (is_grandmaster default parent ≡ true → parent.precedence ≡ default.precedence)
+    → grandmaster_fault default parent ≡ None
+grandmaster_faultless default parent own = grandmaster_by (is_grandmaster default parent) default parent refl own
+
+-- ---- the whole
+
+pub restarts : (d : DataSetsValue) → IsConsistent d → start_of (start_of_sets d) (map port_start d.ports) ≡ Ok d
+unfolding start_of
+restarts d c =
+    let size : length (map port_start d.ports) ≡ length d.ports = length-map d.ports port_start in
+    let count : count_fault (length (map port_start d.ports)) ≡ None = ap count_fault size ∙ count_faultless _ c.some_port c.at_most_eight in
+    let clock = clock_faultless d c in
+    let ports = ports_faultless d.ports c.ports in
+    let grandmaster = grandmaster_faultless d.default d.parent c.grandmaster in
+    let again = ports_restart d.ports in
+    rw (count, clock, ports, grandmaster) (λ i. Ok (record d { ports = again i }))
+
+-- ---- what is read of an image
+
+pub text_small : (d : DataSetsValue) (octets text ports : List ℕ)
+    → IsConsistent d
+    → IsSplit d octets text ports
+    → length text ≤ 129
+text_small d octets text ports c split =
+    let small = description_small d.description c.description in
+    let size = ap length split.description in omega arith
+
+pub reads_back : (d : DataSetsValue) (octets text ports : List ℕ) (start : ClockStart) (starts : List PortStart)
+    → IsConsistent d
+    → DataSetsFit d
+    → IsSplit d octets text ports
+    → Some start ≡ Some (clock_read octets text)
+    → starts ≡ map port_start d.ports
+    → start_of start starts ≡ Ok d
+reads_back d octets text ports start starts c fits split made by_port =
+    let read : start ≡ clock_read octets text = cc in
+    let clock : start ≡ start_of_sets d = read ∙ (λ i. clock_read (split.clock i) (split.description i)) ∙ clock_back d d.description fits in
+    (λ i. start_of (clock i) (by_port i)) ∙ restarts d c

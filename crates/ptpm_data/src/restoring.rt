@@ -1,0 +1,243 @@
+//! Data sets back from their image (this project's profile).
+
+ghost use Rattle.std.specs.Prelude.{◌≡◌, ◌≤◌, ◌*◌, ◌∷◌, ◌++◌, ℕ, List, length, map, IfSome, IsSomeAnd, Some};
+ghost use Rattle.std.specs.List.{All};
+ghost use Rattle.ptpm_data.specs.declared.data_sets.PortDataSet.{PortDataSet};
+ghost use Rattle.ptpm_data.specs.Image.{BeginsWithImage, DataSetsFit, PortFits, data_sets_octets, ports_image};
+ghost use Rattle.ptpm_data.specs.ImageReading.{IsSplit, clock_read, clock_start, current_read, default_read, parent_read, port_read, port_start, time_read};
+ghost use Rattle.ptpm_data.specs.Members.{DataSetsValue, IsConsistent};
+
+use crate::data_sets::{
+    CurrentDataSet, DataSets, DefaultDataSet, ParentDataSet, TimePropertiesDataSet,
+};
+use crate::places::{
+    clock_identity_at, flag_at, i8_at, i16_at, i32_at, i64_at, precedence_at, u16_at,
+};
+use crate::start::{ClockStart, PortStart};
+use arrayvec::ArrayVec;
+use ptpm_codec::{PortIdentity, put};
+
+/// How many octets an image has of the clock, before its text.
+const CLOCK_OCTETS: usize = 74;
+
+/// How many it has of each port.
+const PORT_OCTETS: usize = 15;
+
+impl DataSets {
+    /// The data sets whose image stands in front; octets behind it are not looked at. `None` where no image stands there: the
+    /// octets end within it, a value is one that no start takes, or a flag is neither 0 nor 1. Takes no memory.
+    pub fn restored(octets: &[u8]) -> Option<DataSets>
+        ensures image { IfSome result (λ d. BeginsWithImage d octets.now) }
+        ensures found { (d : DataSetsValue) → IsConsistent d → DataSetsFit d → BeginsWithImage d octets.now
+            → result ≡ Some d }
+    {
+        let sets = read_image(octets)?;
+        if octets.starts_with(sets.image().as_slice()) {
+            Some(sets)
+        } else {
+            None
+        }
+    }
+}
+
+/// The data sets of an image that stands in front; where none stands there, any or none.
+fn read_image(octets: &[u8]) -> Option<DataSets>
+    ensures { (d : DataSetsValue) (rest : List ℕ) → IsConsistent d → DataSetsFit d
+        → octets.now ≡ data_sets_octets d ++ rest
+        → result ≡ Some d }
+{
+    let (clock, text, ports) = split_image(octets)?;
+    let start = read_clock(clock, text)?;
+    let ports = read_ports(ports)?;
+    DataSets::new(&start, ports.as_slice()).ok()
+}
+
+/// An image that stands in front, cut into its octets of the clock, its text and its octets of the ports.
+fn split_image(octets: &[u8]) -> Option<(&[u8], &[u8], &[u8])>
+    ensures parts { (d : DataSetsValue) (rest : List ℕ) → DataSetsFit d
+        → octets.now ≡ data_sets_octets d ++ rest
+        → IsSomeAnd result (λ p. IsSplit d p.0.now p.1.now p.2.now) }
+    ensures size { IfSome result (λ p. length p.0.now ≡ 74) }
+{
+    if octets.len() < CLOCK_OCTETS {
+        return None;
+    }
+    let (clock, octets) = octets.split_at(CLOCK_OCTETS);
+    let (text, octets) = split_counted(octets, 1)?;
+    let (ports, _) = split_counted(octets, PORT_OCTETS)?;
+    Some((clock, text, ports))
+}
+
+/// As many pieces of so many octets as the first octet says, and what stands behind them.
+fn split_counted(octets: &[u8], size: usize) -> Option<(&[u8], &[u8])>
+    requires { size ≤ 15 }
+    ensures { (count : ℕ) (pieces rest : List ℕ) → length pieces ≡ count * size
+        → octets.now ≡ count ∷ (pieces ++ rest)
+        → IsSomeAnd result (λ p. (p.0.now ≡ pieces) × (p.1.now ≡ rest)) }
+{
+    let (count, octets) = octets.split_first()?;
+    octets.split_at_checked(*count as usize * size)
+}
+
+/// The start values of an image's 74 octets of the clock, with this text; none where the text is too long for a start.
+#[tactic(auto, unfolding(crate::specs::ImageReading::clock_read))]
+fn read_clock(octets: &[u8], text: &[u8]) -> Option<ClockStart>
+    requires { length octets.now ≡ 74 }
+    ensures { length text.now ≤ 129 → result ≡ Some (clock_read octets.now text.now) }
+{
+    if 129 < text.len() {
+        return None;
+    }
+    let mut user_description = ArrayVec::new();
+    put(&mut user_description, text);
+    let (default, octets) = octets.split_at(16);
+    let (current, octets) = octets.split_at(18);
+    let (parent, time) = octets.split_at(31);
+    Some(clock_start(
+        &read_default_data_set(default),
+        user_description,
+        &read_current_data_set(current),
+        &read_parent_data_set(parent),
+        &read_time_properties_data_set(time),
+    ))
+}
+
+/// The start that gives each member of these data sets its value.
+fn clock_start(
+    default: &DefaultDataSet,
+    user_description: ArrayVec<u8, 129>,
+    current: &CurrentDataSet,
+    parent: &ParentDataSet,
+    time: &TimePropertiesDataSet,
+) -> ClockStart
+    ensures { result
+        ≡ clock_start default.now user_description.items current.now parent.now time.now }
+{
+    ClockStart {
+        identity: default.identity,
+        domain: default.domain,
+        user_description,
+        two_step: default.two_step,
+        priority1: default.precedence.priority1,
+        clock_class: default.precedence.class,
+        clock_accuracy: default.precedence.accuracy,
+        variance: default.precedence.variance,
+        priority2: default.precedence.priority2,
+        steps_removed: current.steps_removed,
+        offset_from_master: current.offset_from_master,
+        mean_path_delay: current.mean_path_delay,
+        parent_port: Some(parent.parent_port),
+        parent_stats: parent.parent_stats,
+        observed_variance: parent.observed_variance,
+        observed_rate: parent.observed_rate,
+        grandmaster_priority1: Some(parent.precedence.priority1),
+        grandmaster_class: Some(parent.precedence.class),
+        grandmaster_accuracy: Some(parent.precedence.accuracy),
+        grandmaster_variance: Some(parent.precedence.variance),
+        grandmaster_priority2: Some(parent.precedence.priority2),
+        grandmaster: Some(parent.grandmaster),
+        utc_offset: time.utc_offset,
+        leap61: time.leap61,
+        leap59: time.leap59,
+        utc_valid: time.utc_valid,
+        ptp_timescale: time.ptp_timescale,
+        time_traceable: time.time_traceable,
+        frequency_traceable: time.frequency_traceable,
+        time_source: time.time_source,
+    }
+}
+
+#[tactic(auto, unfolding(crate::specs::ImageReading::default_read))]
+fn read_default_data_set(octets: &[u8]) -> DefaultDataSet
+    requires { length octets.now ≡ 16 }
+    ensures { result ≡ default_read octets.now }
+{
+    DefaultDataSet {
+        identity: clock_identity_at(octets, 0),
+        domain: octets[8],
+        two_step: flag_at(octets, 9),
+        precedence: precedence_at(octets, 10),
+    }
+}
+
+#[tactic(auto, unfolding(crate::specs::ImageReading::current_read))]
+fn read_current_data_set(octets: &[u8]) -> CurrentDataSet
+    requires { length octets.now ≡ 18 }
+    ensures { result ≡ current_read octets.now }
+{
+    CurrentDataSet {
+        steps_removed: u16_at(octets, 0),
+        offset_from_master: i64_at(octets, 2),
+        mean_path_delay: i64_at(octets, 10),
+    }
+}
+
+#[tactic(auto, unfolding(crate::specs::ImageReading::parent_read, ptpm_codec::specs::Layout::port_identity_at, crate::specs::ImageReading::clock_identity_at))]
+fn read_parent_data_set(octets: &[u8]) -> ParentDataSet
+    requires { length octets.now ≡ 31 }
+    ensures { result ≡ parent_read octets.now }
+{
+    ParentDataSet {
+        parent_port: PortIdentity {
+            clock: clock_identity_at(octets, 0),
+            port: u16_at(octets, 8),
+        },
+        parent_stats: flag_at(octets, 10),
+        observed_variance: u16_at(octets, 11),
+        observed_rate: i32_at(octets, 13),
+        grandmaster: clock_identity_at(octets, 23),
+        precedence: precedence_at(octets, 17),
+    }
+}
+
+#[tactic(auto, unfolding(crate::specs::ImageReading::time_read))]
+fn read_time_properties_data_set(octets: &[u8]) -> TimePropertiesDataSet
+    requires { length octets.now ≡ 9 }
+    ensures { result ≡ time_read octets.now }
+{
+    TimePropertiesDataSet {
+        utc_offset: i16_at(octets, 0),
+        leap61: flag_at(octets, 2),
+        leap59: flag_at(octets, 3),
+        utc_valid: flag_at(octets, 4),
+        ptp_timescale: flag_at(octets, 5),
+        time_traceable: flag_at(octets, 6),
+        frequency_traceable: flag_at(octets, 7),
+        time_source: octets[8],
+    }
+}
+
+/// The start values of an image's octets of the ports; none where there are more than eight ports.
+fn read_ports(octets: &[u8]) -> Option<ArrayVec<PortStart, 8>>
+    ensures { (ports : List PortDataSet) → length ports ≤ 8 → All PortFits ports
+        → octets.now ≡ ports_image ports
+        → IsSomeAnd result (λ starts. starts.items ≡ map port_start ports) }
+{
+    let count = octets.len() / PORT_OCTETS;
+    if 8 < count {
+        return None;
+    }
+    let mut starts = ArrayVec::new();
+    for place in 0..count {
+        let first = PORT_OCTETS * place;
+        starts.push(read_port(&octets[first..first + PORT_OCTETS]));
+    }
+    Some(starts)
+}
+
+#[tactic(auto, unfolding(crate::specs::ImageReading::port_read))]
+fn read_port(octets: &[u8]) -> PortStart
+    requires { length octets.now ≡ 15 }
+    ensures { result ≡ port_read octets.now }
+{
+    PortStart {
+        state: octets[0],
+        log_min_delay_req: i8_at(octets, 1),
+        peer_delay: i64_at(octets, 2),
+        log_announce: i8_at(octets, 10),
+        receipt_timeout: octets[11],
+        log_sync: i8_at(octets, 12),
+        delay_mechanism: octets[13],
+        log_min_pdelay: i8_at(octets, 14),
+    }
+}
