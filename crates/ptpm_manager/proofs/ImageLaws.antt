@@ -1,5 +1,5 @@
 -- The image of a session gives back what is saved of it.
-use Rattle.std.proofs.Common.{arith, ◌≡◌, ◌∙◌, ap, refl, sym, ℕ, zero, suc, ◌+◌, ◌^◌, ◌<◌, ◌≤◌, ◌==◌, nat_le, nat_lt, Bool, true, false, ◌&&◌, ◌||◌, not, List, [], ◌∷◌, ◌++◌, length, bytes_eq, Option, Some, None}
+use Rattle.std.proofs.Common.{arith, ◌≡◌, ◌∙◌, ap, refl, sym, ℕ, ◌^◌, ◌<◌, ◌≤◌, ◌==◌, nat_le, Bool, true, false, ◌||◌, List, [], ◌∷◌, length, bytes_eq, Option, Some, None}
 use Rattle.std.specs.Cmp.Lexicographic.{nat_list_eq_equiv}
 use Rattle.std.proofs.lemmas.Bool.{and_from, or_right, eq-eqb, le-leb, le-ltb, cond-true, cond-false}
 use Rattle.byteorder.specs.Endian.{big_bytes, big_number}
@@ -9,17 +9,16 @@ use Rattle.ptpm_codec.specs.declared.identity.PortIdentity.{PortIdentity}
 use Rattle.ptpm_codec.specs.declared.message.Action.{Action}
 use Rattle.ptpm_codec.specs.declared.message.Action.TheVariants as actions
 use Rattle.ptpm_codec.specs.Canonical.{port_identity_octets}
-use Rattle.ptpm_codec.specs.Identity.{every_port}
 use Rattle.ptpm_codec.specs.Layout.{number_at, octet, port_identity_at}
 use Rattle.ptpm_codec.specs.Message.{IsDataField, action_code, is_data_field, is_reply}
 use Rattle.ptpm_data.specs.ManagementId.{is_of_port}
 use Rattle.ptpm_data.specs.Request.{RequestValue}
 use Rattle.ptpm_manager.specs.declared.setup.Setup.{Setup}
-use Rattle.ptpm_manager.specs.Ask.{IsRequestTo, is_request_to, is_target_of, names_port}
+use Rattle.ptpm_manager.specs.Ask.{IsRequestTo, is_target_of}
 use Rattle.ptpm_manager.specs.Image.{SessionFits, SetupFits, UnansweredFits, body_image, image_head, image_of, request_image, session_image, setup_image, unanswered_image}
 use Rattle.ptpm_manager.specs.ImageReading.{clock_identity_at, count_at, request_action, request_at, session_at, setup_at}
 use Rattle.ptpm_manager.specs.Restoring.{head_refusal, is_consistent, is_image, is_long, is_unanswered_at, restore_refusal}
-use Rattle.ptpm_manager.specs.Session.{IsConsistent, IsUnanswered, IsUnansweredAt, SessionValue, anew, count_limit}
+use Rattle.ptpm_manager.specs.Session.{IsConsistent, IsUnansweredAt, SessionValue, anew, count_limit}
 use Rattle.ptpm_manager.specs.Setup.{IsSetup, is_setup, is_setup_of}
 
 -- ---- numbers and actions
