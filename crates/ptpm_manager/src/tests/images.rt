@@ -171,10 +171,13 @@ fn clocks_of_an_image(rt: HostRuntime) {
     };
     for (me, target) in [(everyone, CLOCK), (MANAGER, ones), (mine, CLOCK)] {
         let mut image = edited(&FRESH[..12], &[]);
-        let _ = image.try_extend_from_slice(&me.clock.0);
+        let manager = me.clock.0;
+        let _ = image.try_extend_from_slice(&manager);
         let _ = image.try_extend_from_slice(&[0, 1]);
-        let _ = image.try_extend_from_slice(&target.0);
-        let _ = image.try_extend_from_slice(&FRESH[30..]);
+        let clock = target.0;
+        let _ = image.try_extend_from_slice(&clock);
+        let (_, rest) = FRESH.split_at(30);
+        let _ = image.try_extend_from_slice(rest);
         let restored = Session::restored(rt.alloc(), image.as_slice(), me, target, 2, 7);
         assert!(rt; matches!(restored, Err(RestoreError::Damaged)));
     }
