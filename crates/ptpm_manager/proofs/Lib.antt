@@ -1,3 +1,4 @@
 pub mod AskLaws
 pub mod AnswerLaws
 pub mod RequestLaws
+pub mod ImageLaws

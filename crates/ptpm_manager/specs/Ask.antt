@@ -1,5 +1,5 @@
 -- What is asked of a session, and the request that it makes of it.
-use Rattle.std.specs.Prelude.{◌≡◌, ◌≤◌, ℕ, ◌&&◌, Bool, true, false, not, nat_le, List, [], ◌∷◌, Option, Some, None, if◌then◌else◌}
+use Rattle.std.specs.Prelude.{◌≡◌, ◌≤◌, ℕ, ◌&&◌, ◌==◌, Bool, true, false, not, nat_le, List, [], ◌∷◌, Option, Some, None, if◌then◌else◌}
 use Rattle.ptpm_codec.specs.declared.message.Action.{Action}
 use Rattle.ptpm_codec.specs.Identity.{every_port}
 use Rattle.ptpm_codec.specs.Message.{is_reply, is_data_field, IsDataField, IsRequestAction}
@@ -44,6 +44,13 @@ pub record IsRequestTo (ports : ℕ) (q : RequestValue) : Type 0 where
   pub octets : IsDataField q.octets
   pub port : is_of_port q.id ≡ true → (1 ≤ q.port) × (q.port ≤ ports)
   pub every : is_of_port q.id ≡ false → q.port ≡ every_port
+
+-- the same as a test
+abbrev pub is_target_of : ℕ → ℕ → ℕ → Bool
+is_target_of ports id port = if is_of_port id then names_port ports (Some port) else port == every_port
+
+abbrev pub is_request_to : ℕ → RequestValue → Bool
+is_request_to ports q = not (is_reply q.action) && is_data_field q.octets && is_target_of ports q.id q.port
 
 -- why an ask by itself is refused, at a clock of this many ports
 unfoldable pub ask_refusal : ℕ → Ask → Option BeginError

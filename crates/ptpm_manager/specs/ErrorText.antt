@@ -3,6 +3,8 @@ use Rattle.std.specs.Prelude.{ℕ, List, ◌++◌, codes}
 use Rattle.ptpm_codec.specs.ErrorText.{refusal_text}
 use Rattle.ptpm_manager.specs.declared.error.BeginError.{BeginError}
 use Rattle.ptpm_manager.specs.declared.error.BeginError.TheVariants as begins
+use Rattle.ptpm_manager.specs.declared.error.RestoreError.{RestoreError}
+use Rattle.ptpm_manager.specs.declared.error.RestoreError.TheVariants as restores
 use Rattle.ptpm_manager.specs.declared.error.SendError.{SendError}
 use Rattle.ptpm_manager.specs.declared.error.SendError.TheVariants as sends
 use Rattle.ptpm_manager.specs.declared.receiving.Reason.{Reason}
@@ -19,6 +21,14 @@ begin_error_text begins.OutOfMemory = codes "OutOfMemory"
 abbrev pub send_error_text : SendError → List ℕ
 send_error_text sends.Idle = codes "Idle"
 send_error_text sends.GaveUp = codes "GaveUp"
+
+abbrev pub restore_error_text : RestoreError → List ℕ
+restore_error_text restores.NotAnImage = codes "NotAnImage"
+restore_error_text restores.OtherVersion = codes "OtherVersion"
+restore_error_text restores.OtherKind = codes "OtherKind"
+restore_error_text restores.Damaged = codes "Damaged"
+restore_error_text restores.OtherSession = codes "OtherSession"
+restore_error_text restores.OutOfMemory = codes "OutOfMemory"
 
 -- behind Malformed stands the name of its cause
 abbrev pub reason_text : Reason → List ℕ

@@ -3,6 +3,10 @@ pub mod Report
 pub mod Receiving
 pub mod Setup
 pub mod Session
+pub mod Image
+pub mod ImageReading
+pub mod Restoring
+pub mod Saved
 pub mod Enquiry
 pub mod Answers
 pub mod Survey

@@ -5,7 +5,6 @@ use Rattle.std.specs.Option.{option_or}
 use Rattle.ptpm_codec.specs.declared.message.Message.{Message}
 use Rattle.ptpm_data.specs.Request.{RequestValue}
 use Rattle.ptpm_manager.specs.declared.ask.Ask.{Ask}
-use Rattle.ptpm_manager.specs.declared.ask.Pending.{Pending}
 use Rattle.ptpm_manager.specs.declared.error.BeginError.{BeginError}
 use Rattle.ptpm_manager.specs.declared.error.BeginError.TheVariants as begins
 use Rattle.ptpm_manager.specs.declared.error.SendError.{SendError}
@@ -16,7 +15,7 @@ use Rattle.ptpm_manager.specs.declared.session.State.TheVariants.{Idle, Waiting}
 use Rattle.ptpm_manager.specs.declared.session.Session.TheInside.{Inside}
 use Rattle.ptpm_manager.specs.Ask.{IsRequestTo, ask_refusal, pending_request}
 use Rattle.ptpm_codec.specs.Ordered.{first_of}
-use Rattle.ptpm_manager.specs.Setup.{request_message}
+use Rattle.ptpm_manager.specs.Setup.{IsSetup, request_message}
 
 -- how many requests a session begins at most
 abbrev pub count_limit : ℕ
@@ -47,26 +46,33 @@ session_value s = record {
   attempts_left = s.attempts_left;
 }
 
--- the request that is kept is the last of those begun
-pub record IsPending (ports issued : ℕ) (pending : Pending) : Type 0 where
+-- the request that is not answered is the last of those begun
+pub record IsUnanswered (ports issued : ℕ) (q : RequestValue) : Type 0 where
   pub counted : 1 ≤ issued
-  pub request : IsRequestTo ports (pending_request pending)
+  pub request : IsRequestTo ports q
 
-abbrev pub IsStateAt : ℕ → ℕ → State → Type 0
-IsStateAt ports issued Idle = Unit {0}
-IsStateAt ports issued (Waiting pending) = IsPending ports issued pending
+abbrev pub IsUnansweredAt : ℕ → ℕ → Option RequestValue → Type 0
+IsUnansweredAt ports issued None = Unit {0}
+IsUnansweredAt ports issued (Some q) = IsUnanswered ports issued q
 
--- what holds of the fields of every session
-pub record IsSession (s : Inside) : Type 0 where
+-- what holds of every session
+pub record IsConsistent (s : SessionValue) : Type 0 where
+  pub setup : IsSetup s.setup
   pub limit : s.issued ≤ count_limit
-  pub state_at : IsStateAt s.setup.ports s.issued s.state
+  pub unanswered_at : IsUnansweredAt s.setup.ports s.issued s.unanswered
+
+abbrev pub IsSession : Inside → Type 0
+IsSession s = IsConsistent (session_value s)
 
 abbrev pub is_waiting : SessionValue → Bool
 is_waiting s = is_some s.unanswered
 
--- how many requests were answered
+-- how many of the requests that were begun are answered
+abbrev pub answered_of : ℕ → Option RequestValue → ℕ
+answered_of issued unanswered = if is_some unanswered then issued - 1 else issued
+
 abbrev pub answered_count : SessionValue → ℕ
-answered_count s = if is_waiting s then s.issued - 1 else s.issued
+answered_count s = answered_of s.issued s.unanswered
 
 -- the unanswered request, as it is sent
 abbrev pub due_message : SessionValue → Option Message
@@ -85,6 +91,10 @@ sent s = record s { attempts_left = s.attempts_left - 1 }
 
 abbrev pub resumed : SessionValue → ℕ → SessionValue
 resumed s attempts = record s { attempts_left = attempts }
+
+-- with all attempts before it
+abbrev pub anew : SessionValue → SessionValue
+anew s = resumed s s.setup.attempts
 
 abbrev pub retuned : SessionValue → ℕ → SessionValue
 retuned s domain = record s { domain = domain }

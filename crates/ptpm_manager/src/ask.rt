@@ -1,15 +1,15 @@
 //! What is asked of a session.
 
-ghost use Rattle.std.specs.Prelude.{◌≡◌, ◌≢◌, None, Some, IfErr, IfOk, MatchResult};
+ghost use Rattle.std.specs.Prelude.{◌≡◌, ◌≢◌, ◌↔◌, None, Some, IfErr, IfOk, IsTrue, MatchResult};
 ghost use Rattle.ptpm_data.specs.ManagementId.{is_of_port};
 ghost use Rattle.ptpm_manager.specs.declared.error.BeginError.{BeginError};
-ghost use Rattle.ptpm_manager.specs.Ask.{ask_of, ask_refusal, names_port, pending_request, request_of, target_port};
+ghost use Rattle.ptpm_manager.specs.Ask.{IsRequestTo, ask_of, ask_refusal, is_request_to, is_target_of, names_port, pending_request, request_of, target_port};
 ghost use Rattle.ptpm_manager.specs.Receiving.{is_content};
 
 use crate::error::BeginError;
 use crate::receiving::is_answered_by;
 use ptpm_codec::{Action, Octets, OutOfMemory, PortIdentity, is_data_field};
-use ptpm_data::{Scope, row};
+use ptpm_data::{Request, Scope, row};
 use std::alloc::Global;
 
 /// A request that is to be made of a clock.
@@ -82,11 +82,55 @@ impl Pending {
         })
     }
 
+    /// The same request with octets of its own.
+    pub(crate) fn copy_of(alloc: Global, request: &Request<'_>) -> Result<Pending, OutOfMemory>
+        ensures { IfOk result (λ p. pending_request p ≡ request.now) }
+    {
+        Ok(Pending {
+            action: request.action,
+            id: request.id,
+            port: request.port,
+            octets: Octets::copy_of(alloc, request.octets)?,
+        })
+    }
+
+    /// The same request, its octets lent.
+    pub(crate) fn request(&self) -> Request<'_>
+        ensures { result ≡ pending_request self.now }
+    {
+        Request {
+            action: self.action,
+            id: self.id,
+            port: self.port,
+            octets: self.octets.as_slice(),
+        }
+    }
+
     /// Whether a reply of this action and id is the answer.
     pub(crate) fn is_answered_by(&self, action: Action, id: u16) -> bool
         ensures { result ≡ is_content (Some (pending_request self.now)) action id }
     {
         is_answered_by(self.action, action) && self.id == id
+    }
+}
+
+/// Whether a session makes this request of a clock with so many ports.
+pub(crate) fn is_request_to(ports: u16, request: &Request<'_>) -> bool
+    ensures exact { result ≡ is_request_to ports request.now }
+    ensures meaning { IsTrue result ↔ IsRequestTo ports request.now }
+{
+    !request.action.is_reply()
+        && is_data_field(request.octets)
+        && is_target_of(ports, request.id, request.port)
+}
+
+fn is_target_of(ports: u16, id: u16, port: u16) -> bool
+    ensures { result ≡ is_target_of ports id port }
+{
+    if is_of_port(id) {
+        names_port(ports, Some(port))
+    } else {
+        port == PortIdentity::EVERY_PORT
     }
 }
 

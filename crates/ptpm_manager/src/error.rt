@@ -62,3 +62,39 @@ impl fmt::Display for SendError {
         })
     }
 }
+
+/// Why octets restore no session, in the order in which the reasons are judged.
+#[derive(Clone, Copy, Debug, PartialEq, Eq, Error)]
+pub enum RestoreError {
+    /// There are under 12 octets, or the first four are not `ptpm`.
+    NotAnImage,
+    /// It is an image in another version.
+    OtherVersion,
+    /// It is an image of something else than a session.
+    OtherKind,
+    /// It is no image of a session: octets are missing, further ones follow, or one has a value that no image has there.
+    Damaged,
+    /// It is of another manager or clock, of a clock with another number of ports, or of another first number.
+    OtherSession,
+    /// Memory for the dataField was refused.
+    OutOfMemory,
+}
+
+/// The name, as `NotAnImage`.
+impl fmt::Display for RestoreError {
+    ghost use Rattle.std.specs.Prelude.{Some};
+    ghost use Rattle.ptpm_manager.specs.ErrorText.{restore_error_text};
+
+    ghost output = { λ e. Some (restore_error_text e) };
+
+    fn fmt<W: fmt::Write>(&self, f: &mut fmt::Formatter<W>) -> fmt::Result {
+        f.write_str(match self {
+            RestoreError::NotAnImage => "NotAnImage",
+            RestoreError::OtherVersion => "OtherVersion",
+            RestoreError::OtherKind => "OtherKind",
+            RestoreError::Damaged => "Damaged",
+            RestoreError::OtherSession => "OtherSession",
+            RestoreError::OutOfMemory => "OutOfMemory",
+        })
+    }
+}

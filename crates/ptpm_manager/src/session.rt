@@ -14,8 +14,10 @@ use crate::ask::{Ask, Pending, judge};
 use crate::error::{BeginError, SendError};
 use crate::receiving::{Reason, Received, no_reply_to};
 use crate::report::{Report, outcome_in};
+use crate::saved::Saved;
 use crate::setup::Setup;
 use ptpm_codec::{Action, Buffer, ClockIdentity, OutOfMemory, PortIdentity, View, encode, view};
+use ptpm_data::Request;
 use std::alloc::Global;
 use std::marker::Model;
 
@@ -54,7 +56,7 @@ impl Model for Session {
 
 impl Session {
     ghost use Rattle.ptpm_manager.specs.Receiving.{IsCounted, NeedsMemory, left_by, reason_of, received_of};
-    ghost use Rattle.ptpm_manager.specs.Session.{answered_count, begin_refusal, begun, count_limit, due_message, fresh, is_waiting, resumed, retuned, send_refusal, sent};
+    ghost use Rattle.ptpm_manager.specs.Session.{IsConsistent, anew, answered_count, begin_refusal, begun, count_limit, due_message, fresh, is_waiting, resumed, retuned, send_refusal, sent};
     ghost use Rattle.ptpm_manager.specs.Setup.{AreTwoClocks};
 
     /// A session of `me` that has begun nothing, with a target of one to eight ports, in a domain. Neither clock is all ones,
@@ -250,6 +252,34 @@ impl Session {
         }))
     }
 
+    /// What is saved of the session.
+    pub(crate) fn saved(&self) -> Saved<'_>
+        ensures saved { result ≡ anew self.now }
+        ensures consistent { IsConsistent self.now }
+    {
+        Saved {
+            setup: self.setup,
+            domain: self.domain,
+            issued: self.issued,
+            unanswered: self.state.unanswered(),
+        }
+    }
+
+    /// The session that was saved. Memory is asked for the dataField of its request alone.
+    pub(crate) fn of_saved(alloc: Global, saved: &Saved<'_>) -> Result<Session, OutOfMemory>
+        requires { IsConsistent saved.now }
+        ensures { IfOk result (λ s. s ≡ saved.now) }
+    {
+        Ok(Session {
+            alloc,
+            setup: saved.setup,
+            domain: saved.domain,
+            issued: saved.issued,
+            state: State::of_saved(alloc, &saved.unanswered)?,
+            attempts_left: saved.setup.attempts,
+        })
+    }
+
     /// Why a message is ignored, if it is.
     #[tactic(auto, unfolding(crate::specs::Receiving::reason_of))]
     fn reason_to_ignore(&self, message: &View<'_>) -> Option<Reason>
@@ -280,6 +310,26 @@ impl Session {
 impl State {
     ghost use Rattle.ptpm_manager.specs.Receiving.{is_from_asked_port};
     ghost use Rattle.ptpm_manager.specs.Session.{unanswered_of};
+
+    /// The request that is not answered, its octets lent.
+    fn unanswered(&self) -> Option<Request<'_>>
+        ensures { result ≡ unanswered_of self.now }
+    {
+        match self {
+            State::Idle => None,
+            State::Waiting(pending) => Some(pending.request()),
+        }
+    }
+
+    /// The state in which this request is not answered.
+    fn of_saved(alloc: Global, unanswered: &Option<Request<'_>>) -> Result<State, OutOfMemory>
+        ensures { IfOk result (λ state. unanswered_of state ≡ unanswered.now) }
+    {
+        match unanswered {
+            None => Ok(State::Idle),
+            Some(request) => Ok(State::Waiting(Pending::copy_of(alloc, request)?)),
+        }
+    }
 
     /// Whether an answer may come from a port of the clock.
     fn is_asked_port(&self, port: u16) -> bool

@@ -1,9 +1,9 @@
 //! What a session is set up with, and the numbers and messages of its requests.
 
-ghost use Rattle.std.specs.Prelude.{◌≡◌, ◌≤◌};
+ghost use Rattle.std.specs.Prelude.{◌≡◌, ◌≤◌, ◌↔◌, IsTrue};
 ghost use Rattle.ptpm_manager.specs.Ask.{pending_request};
 ghost use Rattle.ptpm_codec.specs.SequenceNumber.{number_of};
-ghost use Rattle.ptpm_manager.specs.Setup.{request_message};
+ghost use Rattle.ptpm_manager.specs.Setup.{IsSetup, is_setup, is_setup_of, request_message};
 
 use crate::ask::Pending;
 use ptpm_codec::{ClockIdentity, Draft, DraftBody, PortIdentity};
@@ -26,6 +26,31 @@ pub(crate) struct Setup {
 }
 
 impl Setup {
+    /// Whether a session can be set up so.
+    pub(crate) fn is_setup(&self) -> bool
+        ensures exact { result ≡ is_setup self.now }
+        ensures meaning { IsTrue result ↔ IsSetup self.now }
+    {
+        self.me.clock != ClockIdentity::EVERY
+            && self.target != ClockIdentity::EVERY
+            && self.me.clock != self.target
+            && 1 <= self.ports
+            && self.ports <= 8
+    }
+
+    /// Whether it is that of this manager with this clock of so many ports, whose first request has this number.
+    pub(crate) fn is_of(
+        &self,
+        me: PortIdentity,
+        target: ClockIdentity,
+        ports: u16,
+        first: u16,
+    ) -> bool
+        ensures { result ≡ is_setup_of me target ports first self.now }
+    {
+        self.me == me && self.target == target && self.ports == ports && self.first == first
+    }
+
     /// The sequence number of the k-th request, counted from 1.
     pub(crate) fn number(&self, k: u64) -> u16
         requires one { 1 ≤ k }

@@ -1,5 +1,6 @@
 //! What is asked and answered in the tests, as octets from outside.
 
+mod images;
 mod memory;
 mod sessions;
 mod surveys;

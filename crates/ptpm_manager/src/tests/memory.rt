@@ -2,8 +2,8 @@
 //! then answers as it would have.
 
 use super::{
-    PORT, REFUSAL, REPLY, ask_of, begins_get, edited, holds, is_answered, is_begun, is_report,
-    is_sent, is_surveyed, port_survey, session_from,
+    CLOCK, MANAGER, PORT, REFUSAL, REPLY, ask_of, begins_get, edited, holds, is_answered, is_begun,
+    is_report, is_sent, is_surveyed, port_survey, session_from,
 };
 use crate::*;
 use ptpm_codec::{Action, Buffer, OutOfMemory};
@@ -52,6 +52,39 @@ fn survey_receive_succeeds_with_ample_memory(rt: HostRuntime) {
     assert!(rt; is_surveyed(&mut survey, refusal.as_slice(), Surveyed::Taken));
     assert!(rt; holds(&survey, 0, 1, PORT));
     assert!(rt; holds_refusal(&survey, 2, 4));
+}
+
+/// The image of a session whose SET of PRIORITY1 is not answered.
+const SET_IMAGE: &[u8; 62] = b"ptpm\x02\x01\x00\x00\x00\x00\x00\x32\
+    \x00\x11\x22\x33\x44\x55\x66\x77\x00\x01\xaa\xbb\xcc\xff\xfe\xdd\xee\x01\
+    \x02\x00\x07\x01\x02\x00\x00\x00\x00\x00\x00\x00\x00\x01\x00\x00\x00\x00\
+    \x00\x00\x00\x00\x01\x01\x20\x05\xff\xff\x00\x02\x64\x00";
+
+fn restored(alloc: Global) -> Result<Session, RestoreError> {
+    Session::restored(alloc, SET_IMAGE, MANAGER, CLOCK, 2, 7)
+}
+
+/// Whether what was restored sends the request that was not answered.
+fn sends_set(restored: Result<Session, RestoreError>) -> bool {
+    match restored {
+        Ok(mut session) => is_sent(&mut session, SET),
+        Err(_) => false,
+    }
+}
+
+#[test]
+fn restored_succeeds_with_ample_memory(rt: HostRuntime) {
+    assert!(rt; sends_set(restored(rt.alloc())));
+}
+
+/// A want of memory is told last, and the same octets restore the session once there is some.
+#[test]
+fn restored_after_refused_memory(rt: HostRuntime) {
+    let session = match restored(rt.alloc()) {
+        Err(RestoreError::OutOfMemory) => restored(rt.alloc()),
+        session => session,
+    };
+    assert!(rt; sends_set(session));
 }
 
 /// Whether the session has begun nothing, and sends nothing.

@@ -9,8 +9,9 @@ pub invariant_of-self : goal.invariant_of-self
 invariant_of-self c =
     let asked = request_of-permitted c.self.inside.setup.ports (ask_of c.args.action c.args.id c.args.port c.args.octets.now) c.in_ok-judge.ensures.refusal in
     record {
+      setup = c.self.invariant.setup;
       limit = omega arith;
-      state_at = record {
+      unanswered_at = record {
         counted = omega arith;
         request = subst (λ (q : RequestValue). IsRequestTo c.self.inside.setup.ports q) (sym c.in-Ok.ensures) asked;
       };
