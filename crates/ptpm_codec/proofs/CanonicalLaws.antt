@@ -7,7 +7,7 @@ use Rattle.ptpm_codec.specs.declared.message.Message.{Message}
 use Rattle.ptpm_codec.specs.declared.message.Body.{Body}
 use Rattle.ptpm_codec.specs.declared.message.Body.TheVariants as bodies
 use Rattle.ptpm_codec.specs.Layout as layout
-use Rattle.ptpm_codec.specs.Layout.{number_at, port_identity_at, message_octets}
+use Rattle.ptpm_codec.specs.Layout.{number_at, clock_identity_at, port_identity_at, message_octets}
 use Rattle.ptpm_codec.specs.Message.{action_code, action_of, IsValid, IsValidBody, Fits, BodyFits, PortIdentityFits}
 use Rattle.ptpm_codec.specs.Spelling.{Spells, SpellsBody, SpellsText}
 use Rattle.ptpm_codec.specs.PtpText.{ptp_text_octets}
@@ -17,7 +17,7 @@ use Rattle.ptpm_codec.proofs.PtpTextLaws.{ptp_text_size}
 -- ---- clock identities, octet by octet
 
 -- what holds of any eight octets holds of a list of that length
-by_eight : (P : List ℕ → Type 0)
+pub by_eight : (P : List ℕ → Type 0)
     → ((a b c d e f g h : ℕ) → P (a ∷ b ∷ c ∷ d ∷ e ∷ f ∷ g ∷ h ∷ []))
     → (xs : List ℕ)
     → length xs ≡ 8
@@ -87,7 +87,7 @@ header_of_octets : (v : Message) (size : ℕ) (following : List ℕ)
     → let w = with_clocks v (a ∷ b ∷ c ∷ d ∷ e ∷ f ∷ g ∷ h ∷ [])
     (a' ∷ b' ∷ c' ∷ d' ∷ e' ∷ f' ∷ g' ∷ h' ∷ []) in
     HasHeader w size following (header_octets w size ++ following)
-unfolding number_at port_identity_at port_identity_octets
+unfolding number_at port_identity_at clock_identity_at port_identity_octets
 header_of_octets v size following small fits low a b c d e f g h a' b' c' d' e' f' g' h' = grind arith
 
 has_header : (v : Message) (size : ℕ) (following : List ℕ)

@@ -6,7 +6,7 @@ use Rattle.ptpm_codec.specs.declared.message.Body.{Body}
 use Rattle.ptpm_codec.specs.declared.message.Body.TheVariants as bodies
 use Rattle.ptpm_codec.specs.declared.message.Message.{Message}
 use Rattle.ptpm_codec.specs.Layout as layout
-use Rattle.ptpm_codec.specs.Layout.{octet, number_at, port_identity_at, message_octets}
+use Rattle.ptpm_codec.specs.Layout.{octet, number_at, clock_identity_at, port_identity_at, message_octets}
 use Rattle.ptpm_codec.specs.Message.{Fits}
 use Rattle.ptpm_codec.specs.Spelling.{Spells, SpellsBody, SpellsManagement}
 use Rattle.ptpm_codec.specs.Canonical.{canonical, port_identity_octets}
@@ -83,7 +83,7 @@ number_at-set place i n m p q = grind (arith, get_or-set_other, number_at-octets
 port_identity_at-set : (place k n : ℕ) (m : List ℕ)
     → 10 ≤ k
     → port_identity_at place (slice_set m (place + k) n) ≡ port_identity_at place m
-unfolding port_identity_at
+unfolding port_identity_at clock_identity_at
 port_identity_at-set place k n m behind = grind (arith, drop-set-add, take-set-le, number_at-set)
 
 pub set_hops-source : (m : List ℕ) (n : ℕ)

@@ -1,6 +1,7 @@
 -- Where the fields of a management message stand, each place stated once (IEEE 1588-2019, 13.3, 15.4 and 15.5).
 use Rattle.std.specs.Prelude.{ℕ, ◌+◌, ◌*◌, ◌/◌, ◌%◌, List, take, drop, slice_index}
 use Rattle.byteorder.specs.Endian.{big_number}
+use Rattle.ptpm_codec.specs.declared.identity.ClockIdentity.{ClockIdentity}
 use Rattle.ptpm_codec.specs.declared.identity.PortIdentity.{PortIdentity}
 
 abbrev pub octet : ℕ → List ℕ → ℕ
@@ -10,9 +11,13 @@ octet place m = slice_index m place
 unfoldable pub number_at : ℕ → List ℕ → ℕ
 number_at place m = big_number 2 (drop place m)
 
+-- the clockIdentity in the eight octets from a place
+unfoldable pub clock_identity_at : ℕ → List ℕ → ClockIdentity
+clock_identity_at place m = record { 0 = take 8 (drop place m) }
+
 -- a PortIdentity (5.3.5): a clockIdentity of eight octets, then a portNumber of two
 unfoldable pub port_identity_at : ℕ → List ℕ → PortIdentity
-port_identity_at place m = record { clock = record { 0 = take 8 (drop place m) }; port = number_at (place + 8) m }
+port_identity_at place m = record { clock = clock_identity_at place m; port = number_at (place + 8) m }
 
 -- ---- the common header, octets 0 to 33 (13.3)
 

@@ -27,7 +27,7 @@ pub use hops::{less_hop, less_hop_in, message_size};
 pub use identity::{ClockIdentity, PortIdentity};
 pub use message::{Action, Body, Message};
 pub use octets::Octets;
-pub use places::source_port_identity;
+pub use places::{clock_identity_at, port_identity_at, source_port_identity, u16_at};
 pub use ptp_text::{is_ptp_text, overwrite_ptp_text, text_of_ptp_text};
 pub use tlv::TlvKind;
 pub use viewing::View;

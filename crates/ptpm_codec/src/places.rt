@@ -3,7 +3,7 @@
 ghost use Rattle.std.specs.Prelude.{◌≡◌, ◌+◌, ◌<◌, ◌≤◌, ◌^◌, if◌then◌else◌, length, nat_le, None, Some};
 ghost use Rattle.byteorder.specs.Endian.{big_bytes};
 ghost use Rattle.ptpm_codec.specs.Envelope.{written};
-ghost use Rattle.ptpm_codec.specs.Layout.{number_at, port_identity_at, source_port_identity};
+ghost use Rattle.ptpm_codec.specs.Layout.{clock_identity_at, number_at, port_identity_at, source_port_identity};
 ghost use Rattle.ptpm_codec.specs.Message.{PortIdentityFits};
 
 use crate::identity::{ClockIdentity, PortIdentity};
@@ -11,23 +11,32 @@ use byteorder::{BigEndian, ByteOrder};
 
 /// The number in the two octets from a place.
 #[tactic(auto, unfolding(crate::specs::Layout::number_at))]
-pub(crate) fn u16_at(octets: &[u8], place: usize) -> u16
+pub fn u16_at(octets: &[u8], place: usize) -> u16
     requires { place + 2 ≤ length octets.now }
     ensures { result ≡ number_at place octets.now }
 {
     BigEndian::read_u16(&octets[place..])
 }
 
-/// The identity in the ten octets from a place.
-#[tactic(auto, unfolding(crate::specs::Layout::port_identity_at))]
-pub(crate) fn identity_at(octets: &[u8], place: usize) -> PortIdentity
-    requires { place + 10 ≤ length octets.now }
-    ensures { result ≡ port_identity_at place octets.now }
+/// The clockIdentity in the eight octets from a place.
+#[tactic(auto, unfolding(crate::specs::Layout::clock_identity_at))]
+pub fn clock_identity_at(octets: &[u8], place: usize) -> ClockIdentity
+    requires { place + 8 ≤ length octets.now }
+    ensures { result ≡ clock_identity_at place octets.now }
 {
     let mut clock = [0; 8];
     clock.copy_from_slice(&octets[place..place + 8]);
+    ClockIdentity(clock)
+}
+
+/// The PortIdentity (5.3.5) in the ten octets from a place.
+#[tactic(auto, unfolding(crate::specs::Layout::port_identity_at))]
+pub fn port_identity_at(octets: &[u8], place: usize) -> PortIdentity
+    requires { place + 10 ≤ length octets.now }
+    ensures { result ≡ port_identity_at place octets.now }
+{
     PortIdentity {
-        clock: ClockIdentity(clock),
+        clock: clock_identity_at(octets, place),
         port: u16_at(octets, place + 8),
     }
 }
@@ -41,7 +50,7 @@ pub fn source_port_identity(octets: &[u8]) -> Option<PortIdentity>
     if octets.len() < 30 {
         return None;
     }
-    Some(identity_at(octets, 20))
+    Some(port_identity_at(octets, 20))
 }
 
 /// Writes an identity over the ten octets from a place on.

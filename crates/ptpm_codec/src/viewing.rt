@@ -11,7 +11,7 @@ use crate::error::OutOfMemory;
 use crate::identity::PortIdentity;
 use crate::message::{Action, Body, Message};
 use crate::octets::Octets;
-use crate::places::{identity_at, u16_at};
+use crate::places::{port_identity_at, u16_at};
 use crate::ptp_text::text_of_ptp_text;
 use crate::tlv::TlvKind;
 use std::alloc::Global;
@@ -56,7 +56,7 @@ impl<'a> View<'a> {
     pub fn source(&self) -> PortIdentity
         ensures { result ≡ self.now.source }
     {
-        identity_at(self.message, 20)
+        port_identity_at(self.message, 20)
     }
 
     /// sequenceId.
@@ -70,7 +70,7 @@ impl<'a> View<'a> {
     pub fn target(&self) -> PortIdentity
         ensures { result ≡ self.now.target }
     {
-        identity_at(self.message, 34)
+        port_identity_at(self.message, 34)
     }
 
     /// startingBoundaryHops.

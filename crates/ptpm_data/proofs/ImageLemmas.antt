@@ -10,7 +10,8 @@ use Rattle.std.proofs.lemmas.List.Elements.{All-get_or}
 use Rattle.byteorder.specs.Endian.{big_bytes, big_number}
 use Rattle.byteorder.specs.Numbers.{big_number-reads_back}
 use Rattle.ptpm_codec.specs.Canonical.{port_identity_octets}
-use Rattle.ptpm_codec.specs.Layout.{number_at, port_identity_at}
+use Rattle.ptpm_codec.specs.Layout.{clock_identity_at, number_at, port_identity_at}
+use Rattle.ptpm_codec.proofs.CanonicalLaws.{by_eight}
 use Rattle.ptpm_data.specs.declared.data_sets.CurrentDataSet.{CurrentDataSet}
 use Rattle.ptpm_data.specs.declared.data_sets.DefaultDataSet.{DefaultDataSet}
 use Rattle.ptpm_data.specs.declared.data_sets.ParentDataSet.{ParentDataSet}
@@ -19,7 +20,7 @@ use Rattle.ptpm_data.specs.declared.data_sets.TimePropertiesDataSet.{TimePropert
 use Rattle.ptpm_data.specs.declared.start.PortStart.{PortStart}
 use Rattle.ptpm_data.specs.DataField.{current_data_field, i16_octets, i32_octets, i64_octets, i8_octet, precedence_octets}
 use Rattle.ptpm_data.specs.Image.{CurrentFits, DefaultFits, DataSetsFit, ParentFits, PortFits, TimeFits, clock_image, data_sets_octets, default_image, parent_image, port_image, ports_image, settings_image, time_image}
-use Rattle.ptpm_data.specs.ImageReading.{clock_identity_at, clock_read, current_read, default_read, flag_at, i16_at, i32_at, i64_at, i8_at, parent_read, port_read, port_start, precedence_at, clock_start, time_read}
+use Rattle.ptpm_data.specs.ImageReading.{clock_read, current_read, default_read, flag_at, i16_at, i32_at, i64_at, i8_at, parent_read, port_read, port_start, precedence_at, clock_start, time_read}
 use Rattle.ptpm_data.specs.Members.{DataSetsValue}
 
 -- ---- numbers
@@ -56,22 +57,6 @@ flag_back true = refl
 flag_back false = refl
 
 -- ---- identities, octet by octet
-
-by_eight : (P : List ℕ → Type 0)
-    → ((a b c d e f g h : ℕ) → P (a ∷ b ∷ c ∷ d ∷ e ∷ f ∷ g ∷ h ∷ []))
-    → (xs : List ℕ)
-    → length xs ≡ 8
-    → P xs
-by_eight P each [] n = absurd (omega arith)
-by_eight P each (a ∷ []) n = absurd (omega arith)
-by_eight P each (a ∷ b ∷ []) n = absurd (omega arith)
-by_eight P each (a ∷ b ∷ c ∷ []) n = absurd (omega arith)
-by_eight P each (a ∷ b ∷ c ∷ d ∷ []) n = absurd (omega arith)
-by_eight P each (a ∷ b ∷ c ∷ d ∷ e ∷ []) n = absurd (omega arith)
-by_eight P each (a ∷ b ∷ c ∷ d ∷ e ∷ f ∷ []) n = absurd (omega arith)
-by_eight P each (a ∷ b ∷ c ∷ d ∷ e ∷ f ∷ g ∷ []) n = absurd (omega arith)
-by_eight P each (a ∷ b ∷ c ∷ d ∷ e ∷ f ∷ g ∷ h ∷ []) n = each a b c d e f g h
-by_eight P each (a ∷ b ∷ c ∷ d ∷ e ∷ f ∷ g ∷ h ∷ i ∷ rest) n = absurd (omega arith)
 
 -- ---- a data set
 

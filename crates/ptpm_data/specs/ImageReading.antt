@@ -2,8 +2,7 @@
 use Rattle.std.specs.Prelude.{◌≡◌, ℕ, ◌+◌, Bool, not, ◌==◌, List, take, drop, ℤ, Some}
 use Rattle.std.specs.Int.{cast_signed, w8, w16, w32, w64}
 use Rattle.byteorder.specs.Endian.{big_number}
-use Rattle.ptpm_codec.specs.declared.identity.ClockIdentity.{ClockIdentity}
-use Rattle.ptpm_codec.specs.Layout.{number_at, octet, port_identity_at}
+use Rattle.ptpm_codec.specs.Layout.{clock_identity_at, number_at, octet, port_identity_at}
 use Rattle.ptpm_data.specs.declared.data_sets.ClockPrecedence.{ClockPrecedence}
 use Rattle.ptpm_data.specs.declared.data_sets.CurrentDataSet.{CurrentDataSet}
 use Rattle.ptpm_data.specs.declared.data_sets.DefaultDataSet.{DefaultDataSet}
@@ -16,7 +15,7 @@ use Rattle.ptpm_data.specs.Image.{clock_image, ports_image}
 use Rattle.ptpm_data.specs.Members.{DataSetsValue}
 use Rattle.ptpm_data.specs.PortState.{mechanism_number, state_number}
 
--- ---- from a place on: a flag, a signed number, an identity, a precedence
+-- ---- from a place on: a flag, a signed number, a precedence
 
 -- an octet other than 0 and 1 is read as true; no image has one
 unfoldable pub flag_at : ℕ → List ℕ → Bool
@@ -33,9 +32,6 @@ i32_at place octets = cast_signed w32 (big_number 4 (drop place octets))
 
 unfoldable pub i64_at : ℕ → List ℕ → ℤ
 i64_at place octets = cast_signed w64 (big_number 8 (drop place octets))
-
-unfoldable pub clock_identity_at : ℕ → List ℕ → ClockIdentity
-clock_identity_at place octets = record { 0 = take 8 (drop place octets) }
 
 unfoldable pub precedence_at : ℕ → List ℕ → ClockPrecedence
 precedence_at place octets = record {

@@ -1,12 +1,11 @@
-//! Flags, numbers and identities at their places in an image.
+//! Flags, signed numbers and precedences at their places in an image.
 
 ghost use Rattle.std.specs.Prelude.{◌≡◌, ◌<◌, ◌≤◌, ◌+◌, length};
-ghost use Rattle.ptpm_codec.specs.Layout.{number_at};
-ghost use Rattle.ptpm_data.specs.ImageReading.{clock_identity_at, flag_at, i16_at, i32_at, i64_at, i8_at, precedence_at};
+ghost use Rattle.ptpm_data.specs.ImageReading.{flag_at, i16_at, i32_at, i64_at, i8_at, precedence_at};
 
 use crate::data_sets::ClockPrecedence;
 use byteorder::{BigEndian, ByteOrder};
-use ptpm_codec::ClockIdentity;
+use ptpm_codec::u16_at;
 
 #[tactic(auto, unfolding(crate::specs::ImageReading::precedence_at))]
 pub(crate) fn precedence_at(octets: &[u8], place: usize) -> ClockPrecedence
@@ -22,16 +21,6 @@ pub(crate) fn precedence_at(octets: &[u8], place: usize) -> ClockPrecedence
     }
 }
 
-#[tactic(auto, unfolding(crate::specs::ImageReading::clock_identity_at))]
-pub(crate) fn clock_identity_at(octets: &[u8], place: usize) -> ClockIdentity
-    requires { place + 8 ≤ length octets.now }
-    ensures { result ≡ clock_identity_at place octets.now }
-{
-    let mut clock = [0; 8];
-    clock.copy_from_slice(&octets[place..place + 8]);
-    ClockIdentity(clock)
-}
-
 /// A flag; an octet other than 0 and 1 is taken for true here.
 #[tactic(auto, unfolding(crate::specs::ImageReading::flag_at))]
 pub(crate) fn flag_at(octets: &[u8], place: usize) -> bool
@@ -39,14 +28,6 @@ pub(crate) fn flag_at(octets: &[u8], place: usize) -> bool
     ensures { result ≡ flag_at place octets.now }
 {
     octets[place] != 0
-}
-
-#[tactic(auto, unfolding(ptpm_codec::specs::Layout::number_at))]
-pub(crate) fn u16_at(octets: &[u8], place: usize) -> u16
-    requires { place + 2 ≤ length octets.now }
-    ensures { result ≡ number_at place octets.now }
-{
-    BigEndian::read_u16(&octets[place..])
 }
 
 #[tactic(auto, unfolding(crate::specs::ImageReading::i8_at))]

@@ -10,12 +10,10 @@ ghost use Rattle.ptpm_data.specs.Members.{DataSetsValue, IsConsistent};
 use crate::data_sets::{
     CurrentDataSet, DataSets, DefaultDataSet, ParentDataSet, TimePropertiesDataSet,
 };
-use crate::places::{
-    clock_identity_at, flag_at, i8_at, i16_at, i32_at, i64_at, precedence_at, u16_at,
-};
+use crate::places::{flag_at, i8_at, i16_at, i32_at, i64_at, precedence_at};
 use crate::start::{ClockStart, PortStart};
 use arrayvec::ArrayVec;
-use ptpm_codec::{PortIdentity, put};
+use ptpm_codec::{clock_identity_at, port_identity_at, put, u16_at};
 
 /// How many octets an image has of the clock, before its text.
 const CLOCK_OCTETS: usize = 74;
@@ -172,16 +170,13 @@ fn read_current_data_set(octets: &[u8]) -> CurrentDataSet
     }
 }
 
-#[tactic(auto, unfolding(crate::specs::ImageReading::parent_read, ptpm_codec::specs::Layout::port_identity_at, crate::specs::ImageReading::clock_identity_at))]
+#[tactic(auto, unfolding(crate::specs::ImageReading::parent_read))]
 fn read_parent_data_set(octets: &[u8]) -> ParentDataSet
     requires { length octets.now ≡ 31 }
     ensures { result ≡ parent_read octets.now }
 {
     ParentDataSet {
-        parent_port: PortIdentity {
-            clock: clock_identity_at(octets, 0),
-            port: u16_at(octets, 8),
-        },
+        parent_port: port_identity_at(octets, 0),
         parent_stats: flag_at(octets, 10),
         observed_variance: u16_at(octets, 11),
         observed_rate: i32_at(octets, 13),

@@ -9,14 +9,15 @@ use Rattle.ptpm_codec.specs.declared.identity.PortIdentity.{PortIdentity}
 use Rattle.ptpm_codec.specs.declared.message.Action.{Action}
 use Rattle.ptpm_codec.specs.declared.message.Action.TheVariants as actions
 use Rattle.ptpm_codec.specs.Canonical.{port_identity_octets}
-use Rattle.ptpm_codec.specs.Layout.{number_at, octet, port_identity_at}
+use Rattle.ptpm_codec.specs.Layout.{clock_identity_at, number_at, octet, port_identity_at}
 use Rattle.ptpm_codec.specs.Message.{IsDataField, action_code, is_data_field, is_reply}
+use Rattle.ptpm_codec.proofs.CanonicalLaws.{by_eight}
 use Rattle.ptpm_data.specs.ManagementId.{is_of_port}
 use Rattle.ptpm_data.specs.Request.{RequestValue}
 use Rattle.ptpm_manager.specs.declared.setup.Setup.{Setup}
 use Rattle.ptpm_manager.specs.Ask.{IsRequestTo, is_target_of}
 use Rattle.ptpm_manager.specs.Image.{SessionFits, SetupFits, UnansweredFits, body_image, image_head, image_of, request_image, session_image, setup_image, unanswered_image}
-use Rattle.ptpm_manager.specs.ImageReading.{clock_identity_at, count_at, request_action, request_at, session_at, setup_at}
+use Rattle.ptpm_manager.specs.ImageReading.{count_at, request_action, request_at, session_at, setup_at}
 use Rattle.ptpm_manager.specs.Restoring.{head_refusal, is_consistent, is_image, is_long, is_unanswered_at, restore_refusal}
 use Rattle.ptpm_manager.specs.Session.{IsConsistent, IsUnansweredAt, SessionValue, anew, count_limit}
 use Rattle.ptpm_manager.specs.Setup.{IsSetup, is_setup, is_setup_of}
@@ -45,22 +46,6 @@ port_by ports q true few request is = let port = request.port is in omega arith
 port_by ports q false few request is = let port = request.every is in omega arith
 
 -- ---- identities, octet by octet
-
-by_eight : (P : List ℕ → Type 0)
-    → ((a b c d e f g h : ℕ) → P (a ∷ b ∷ c ∷ d ∷ e ∷ f ∷ g ∷ h ∷ []))
-    → (xs : List ℕ)
-    → length xs ≡ 8
-    → P xs
-by_eight P each [] n = absurd (omega arith)
-by_eight P each (a ∷ []) n = absurd (omega arith)
-by_eight P each (a ∷ b ∷ []) n = absurd (omega arith)
-by_eight P each (a ∷ b ∷ c ∷ []) n = absurd (omega arith)
-by_eight P each (a ∷ b ∷ c ∷ d ∷ []) n = absurd (omega arith)
-by_eight P each (a ∷ b ∷ c ∷ d ∷ e ∷ []) n = absurd (omega arith)
-by_eight P each (a ∷ b ∷ c ∷ d ∷ e ∷ f ∷ []) n = absurd (omega arith)
-by_eight P each (a ∷ b ∷ c ∷ d ∷ e ∷ f ∷ g ∷ []) n = absurd (omega arith)
-by_eight P each (a ∷ b ∷ c ∷ d ∷ e ∷ f ∷ g ∷ h ∷ []) n = each a b c d e f g h
-by_eight P each (a ∷ b ∷ c ∷ d ∷ e ∷ f ∷ g ∷ h ∷ i ∷ rest) n = absurd (omega arith)
 
 -- a setup with other identities
 abbrev with_identities : Setup → List ℕ → List ℕ → Setup

@@ -1,18 +1,14 @@
 -- What stands at the places of a session's image: the values that the octets give there, whether they are an image or not.
-use Rattle.std.specs.Prelude.{ℕ, ◌==◌, if◌then◌else◌, List, take, drop, Option, Some, None}
+use Rattle.std.specs.Prelude.{ℕ, ◌==◌, if◌then◌else◌, List, drop, Option, Some, None}
 use Rattle.byteorder.specs.Endian.{big_number}
-use Rattle.ptpm_codec.specs.declared.identity.ClockIdentity.{ClockIdentity}
 use Rattle.ptpm_codec.specs.declared.message.Action.{Action}
 use Rattle.ptpm_codec.specs.declared.message.Action.TheVariants as actions
-use Rattle.ptpm_codec.specs.Layout.{number_at, octet, port_identity_at}
+use Rattle.ptpm_codec.specs.Layout.{clock_identity_at, number_at, octet, port_identity_at}
 use Rattle.ptpm_data.specs.Request.{RequestValue}
 use Rattle.ptpm_manager.specs.declared.setup.Setup.{Setup}
 use Rattle.ptpm_manager.specs.Session.{SessionValue}
 
--- ---- from a place on: an identity, and a number of eight octets
-
-unfoldable pub clock_identity_at : ℕ → List ℕ → ClockIdentity
-clock_identity_at place octets = record { 0 = take 8 (drop place octets) }
+-- ---- a number of eight octets from a place on
 
 unfoldable pub count_at : ℕ → List ℕ → ℕ
 count_at place octets = big_number 8 (drop place octets)

@@ -10,11 +10,11 @@ ghost use Rattle.ptpm_manager.specs.Setup.{is_setup_of};
 
 use crate::error::RestoreError;
 use crate::image::{IMAGE_HEAD_OCTETS, IMAGE_VERSION, MARK, SESSION_KIND};
-use crate::places::{clock_identity_at, port_identity_at, u16_at, u64_at};
+use crate::places::u64_at;
 use crate::saved::Saved;
 use crate::session::Session;
 use crate::setup::Setup;
-use ptpm_codec::{Action, ClockIdentity, PortIdentity};
+use ptpm_codec::{Action, ClockIdentity, PortIdentity, clock_identity_at, port_identity_at, u16_at};
 use ptpm_data::Request;
 use std::alloc::Global;
 
