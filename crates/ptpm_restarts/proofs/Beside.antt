@@ -1,9 +1,9 @@
 -- What a network that never crashes is beside one that does, where the changes of these clocks and sessions that are not saved will be lost.
-use Rattle.ptpm_network.proofs.Common.{by_test, arith, ◌≡◌, ℕ, ◌&&◌, ◌==◌, ◌⊎◌, inl, inr, Bool, true, false, List, ◌++◌, map, refl, sym, ◌∙◌, ap, subst, eqb-true, eq-eqb, State, with_place, Held, RunningNetwork, at_place, at_places, with_place-other, with_place-same}
+use Rattle.ptpm_network.proofs.Common.{by_test, arith, ◌≡◌, ℕ, ◌&&◌, ◌==◌, ◌⊎◌, inl, inr, Bool, true, false, List, ◌++◌, map, refl, sym, ◌∙◌, ap, subst, eqb-true, eq-eqb, true≢false, State, with_place, Held, RunningNetwork, at_place, at_places, with_place-other, with_place-same}
 use Rattle.ptpm_restarts.specs.Restarting.{RestartingNetwork, SessionLog, log_of, running, sent_or_waiting, turned, with_log}
 use Rattle.ptpm_restarts.specs.Incidents.{crashes_clock, saves_clock}
 use Rattle.ptpm_restarts.specs.Storage.{Stored, restored, saved}
-use Rattle.ptpm_restarts.proofs.Settled.{IsAct, IsSettled, settled-restored, settled-saved}
+use Rattle.ptpm_restarts.proofs.Settled.{IsAct, IsSettled, front-false, front-true, not_both, settled-restored, settled-saved}
 use Rattle.ptpm_restarts.proofs.Sent.{AreSent, sent-both, sent-crashed, sent-saved, wait-going, wait-lost}
 
 pub record IsBeside (lost_clocks lost_sessions : ℕ → Bool) (k : RestartingNetwork) (r : RunningNetwork) : Type 0 where
@@ -37,7 +37,7 @@ module _ (lc ls : ℕ → Bool) (k : RestartingNetwork) (r : RunningNetwork) whe
   goes-on c x next made true u n h settled = record {
     clocks = λ d. at_places (λ i y a. IsSettled (lc i) y a) k.clock r.clock c x next d settled (h.clocks d);
     sessions = h.sessions;
-    frames = wait-going lc k.frames k.waiting r.frames c made (grind arith) h.frames;
+    frames = wait-going lc k.frames k.waiting r.frames c made (front-false (lc c) n) h.frames;
   }
   goes-on c x next made false u n h settled = record {
     clocks = λ d. at_places (λ i y a. IsSettled (lc i) y a) k.clock r.clock c x next d settled (h.clocks d);
@@ -52,9 +52,9 @@ module _ (lc ls : ℕ → Bool) (k : RestartingNetwork) (r : RunningNetwork) whe
   stays-so c x made true u y h settled = record {
     clocks = λ d. at_place (λ i z. IsSettled (lc i) z (r.clock i)) k.clock c x d settled (h.clocks d);
     sessions = h.sessions;
-    frames = wait-lost lc k.frames k.waiting r.frames c made (grind arith) h.frames;
+    frames = wait-lost lc k.frames k.waiting r.frames c made (front-true (lc c) y) h.frames;
   }
-  stays-so c x made false u y h settled = absurd (grind arith)
+  stays-so c x made false u y h settled = absurd (true≢false (sym y ∙ not_both (lc c) false refl))
 
   pub turned-beside : (c : ℕ) (x : Stored State) (next : State) (made : List Held)
       → IsBeside lc ls k r → IsAct (lc c) (k.clock c) (r.clock c) x next

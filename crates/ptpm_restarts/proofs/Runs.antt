@@ -5,7 +5,7 @@ use Rattle.ptpm_network.specs.Events.{refusal}
 use Rattle.ptpm_network.proofs.Promise.{stands-event, stands-first, stands-judged}
 use Rattle.ptpm_network.proofs.Schedule.{reached}
 use Rattle.ptpm_network.proofs.Taking.{run-append}
-use Rattle.ptpm_restarts.specs.AsIfNever.{AreSomeOf, AreTimely, End, IsAsIfNever, IsPossible, IsPromisedRestarting, IsSame, IsTimely, Skip, Take, is_late_in, never_crashed}
+use Rattle.ptpm_restarts.specs.AsIfNever.{AreSomeOf, AreTimely, Ended, IsAsIfNever, IsPossible, IsPromisedRestarting, IsSame, IsTimely, Skip, Take, is_late_in, never_crashed}
 use Rattle.ptpm_restarts.specs.Incidents.{CrashClock, CrashSession, Happens, Incident, SaveClock, SaveSession, after_incidents, happens, incident, refused, unless}
 use Rattle.ptpm_restarts.specs.Restarting.{RestartingNetwork, SessionLog, held_frames, initial_restarting, log_of, running, sent_or_waiting}
 use Rattle.ptpm_restarts.specs.Storage.{Stored}
@@ -147,6 +147,18 @@ step-unless : (lc ls : ℕ → Bool) (N : Network) (past : List Event) (k : Rest
 step-unless lc ls N past k r e None h is go = go is
 step-unless lc ls N past k r e (Some reason) h is go = Stays h
 
+-- by one event, and whatever comes behind it
+went-by : (N : Network) (past : List Event) (k : RestartingNetwork) (r : RunningNetwork) (e : Event) (is : List Incident)
+    → StandsAfter N past r → IsTimely N k (Happens e) → AreWorth N (run N (initial_state N) past) (incident N k (Happens e))
+    → ((p : List Event) (x : RunningNetwork) → StandsAfter N p x → IsBeside (clocks_lost is) (sessions_lost is) (incident N k (Happens e)) x
+    → AreWorth N (run N (initial_state N) p) (incident N k (Happens e)) → Goes-on N p x (incident N k (Happens e)) is)
+    → Step N past r k.frames (clocks_lost is) (sessions_lost is) e (incident N k (Happens e))
+    → Goes-on N past r k (Happens e ∷ is)
+went-by N past k r e is at timely worth behind (Stays stays) = went-nothing N past k r (Happens e) is timely (behind past r at stays worth)
+went-by N past k r e is at timely worth behind (Goes f next ok range late same stay goes) =
+    went-event N past k r e f next is at timely ok same stay
+    (behind (past ++ f ∷ []) next.network (stands-event N past r f next at range ok late) goes (worth-later N past f r (incident N k (Happens e)) at range worth))
+
 pub went : (N : Network) (past : List Event) (k : RestartingNetwork) (r : RunningNetwork) (is : List Incident)
     → StandsAfter N past r → IsBeside (clocks_lost is) (sessions_lost is) k r → AreSound N k → AreWorth N (run N (initial_state N) past) k
     → AllByRecursion IsPossible is → AreTimely N k is
@@ -156,7 +168,7 @@ went N past k r [] at h sound worth possible timely = (
   record {
     none_refused = refl;
     stands = subst (λ (es : List Event). StandsAfter N es r) (sym (append-nil past)) at;
-    some = End;
+    some = Ended;
     here = λ n x e. e;
     there = λ n x e. e;
     beside = h;
@@ -165,19 +177,10 @@ went N past k r [] at h sound worth possible timely = (
   },
 )
 went N past k r (Happens e ∷ is) at h sound worth possible timely =
-    let lc = clocks_lost is in
-    let ls = sessions_lost is in
-    let sound' = incident-sound N k sound (Happens e) timely.0 in
-    let worth' = worth-incident lc ls N past k r h sound at worth (Happens e) timely.0 in
-    by_step (step-unless lc ls N past k r e (refused N k e) h refl (λ none. event-step lc ls N past k r h sound at e possible.0 (timely.0 none) none))
-  where
-    by_step : Step N past r k.frames (clocks_lost is) (sessions_lost is) e (incident N k (Happens e)) → Goes-on N past r k (Happens e ∷ is)
-    by_step (Stays stays) = went-nothing N past k r (Happens e) is timely.0
-        (went N past (incident N k (Happens e)) r is at stays (incident-sound N k sound (Happens e) timely.0)
-        (worth-incident (clocks_lost is) (sessions_lost is) N past k r h sound at worth (Happens e) timely.0) possible.1 timely.1)
-    by_step (Goes f next ok range late same stay goes) = went-event N past k r e f next is at timely.0 ok same stay
-        (went N (past ++ f ∷ []) (incident N k (Happens e)) next.network is (stands-event N past r f next at range ok late) goes (incident-sound N k sound (Happens e) timely.0)
-        (worth-later N past f r (incident N k (Happens e)) at range (worth-incident (clocks_lost is) (sessions_lost is) N past k r h sound at worth (Happens e) timely.0)) possible.1 timely.1)
+    went-by N past k r e is at timely.0 (worth-incident (clocks_lost is) (sessions_lost is) N past k r h sound at worth (Happens e) timely.0)
+    (λ p x there beside worth'. went N p (incident N k (Happens e)) x is there beside (incident-sound N k sound (Happens e) timely.0) worth' possible.1 timely.1)
+    (step-unless (clocks_lost is) (sessions_lost is) N past k r e (refused N k e) h refl
+    (λ none. event-step (clocks_lost is) (sessions_lost is) N past k r h sound at e possible.0 (timely.0 none) none))
 went N past k r (SaveClock c ∷ is) at h sound worth possible timely =
     went-nothing N past k r (SaveClock c) is tt (went N past (incident N k (SaveClock c)) r is at (clock-saved (clocks_lost is) (sessions_lost is) k r c h) (incident-sound N k sound (SaveClock c) tt) worth possible.1 timely.1)
 went N past k r (SaveSession s ∷ is) at h sound worth possible timely =

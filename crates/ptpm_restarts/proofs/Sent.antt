@@ -7,7 +7,7 @@ use Rattle.std.proofs.lemmas.List.Elements.{Contains-append_left, Contains-appen
 use Rattle.ptpm_restarts.specs.Restarting.{waiting_at, waiting_elsewhere}
 
 -- how many of these wait at clocks whose changes will not be lost
-pub going : (ℕ → Bool) → List (ℕ × Held) → ℕ
+abbrev pub going : (ℕ → Bool) → List (ℕ × Held) → ℕ
 going lost [] = 0
 going lost (w ∷ ws) = (if lost w.0 then 0 else 1) + going lost ws
 
@@ -22,7 +22,7 @@ pub record AreSent (lost : ℕ → Bool) (here : List Held) (waiting : List (ℕ
 -- all of a list are among those of a longer one
 all-among : {A : Type 0} (xs ys : List A) → ((x : A) → Contains xs x → Contains ys x) → AllByRecursion (Contains ys) xs
 all-among [] ys among = tt
-all-among (x ∷ xs) ys among = (among x (Contains-push [] x), all-among xs ys (λ y has. among y (Contains-append_right (x ∷ []) xs y has)))
+all-among (x ∷ xs) ys among = (among x (Contains-append_left (x ∷ []) xs x (Contains-push [] x)), all-among xs ys (λ y has. among y (Contains-append_right (x ∷ []) xs y has)))
 
 pub all-appended : {A : Type 0} (xs ys : List A) → AllByRecursion (Contains (xs ++ ys)) ys
 all-appended xs ys = all-among ys (xs ++ ys) (Contains-append_right xs ys)
@@ -66,20 +66,17 @@ all-elsewhere P Q c (w ∷ ws) f all = by_test (w.0 == c)
     (λ n. rw n (f w n all.0, all-elsewhere P Q c ws f all.1))
 
 going-append : (lost : ℕ → Bool) (xs ys : List (ℕ × Held)) → going lost (xs ++ ys) ≡ going lost xs + going lost ys
-unfolding going
 going-append lost [] ys = refl
 going-append lost (w ∷ ws) ys = omega (arith, going-append lost ws ys)
 
 going-made : (lost : ℕ → Bool) (c : ℕ) (made : List Held) → going lost (map (λ h. (c, h)) made) ≡ (if lost c then 0 else length made)
-unfolding going
 going-made lost c [] = by_test (lost c) (λ y. sym (cond-true _ _ _ y)) (λ n. sym (cond-false _ _ _ n))
 going-made lost c (h ∷ made) = by_test (lost c)
-    (λ y. grind (arith, cond-true, going-made))
-    (λ n. grind (arith, cond-false, going-made))
+    (λ y. let rest : going lost (map (λ m. (c, m)) made) ≡ 0 = going-made lost c made ∙ cond-true _ _ _ y in rw y (omega (arith, rest)))
+    (λ n. let rest : going lost (map (λ m. (c, m)) made) ≡ length made = going-made lost c made ∙ cond-false _ _ _ n in rw n (omega (arith, rest)))
 
 going-saved : (lost : ℕ → Bool) (c : ℕ) (ws : List (ℕ × Held))
     → going (with_place lost c false) ws ≤ length (waiting_at c ws) + going lost (waiting_elsewhere c ws)
-unfolding going
 going-saved lost c [] = omega arith
 going-saved lost c (w ∷ ws) = by_test (w.0 == c)
     (λ y. rw y (omega (arith, going-saved lost c ws)))
@@ -87,14 +84,12 @@ going-saved lost c (w ∷ ws) = by_test (w.0 == c)
 
 going-crashed : (lost : ℕ → Bool) (c : ℕ) (ws : List (ℕ × Held))
     → going (with_place lost c true) ws ≤ going lost (waiting_elsewhere c ws)
-unfolding going
 going-crashed lost c [] = omega arith
 going-crashed lost c (w ∷ ws) = by_test (w.0 == c)
     (λ y. rw y (going-crashed lost c ws))
     (λ n. rw n (omega (arith, going-crashed lost c ws)))
 
 pub going-all : (lost : ℕ → Bool) (ws : List (ℕ × Held)) → going lost ws ≤ length ws
-unfolding going
 going-all lost [] = omega arith
 going-all lost (w ∷ ws) = by_test (lost w.0) (λ y. rw y (omega (arith, going-all lost ws))) (λ n. rw n (omega (arith, going-all lost ws)))
 

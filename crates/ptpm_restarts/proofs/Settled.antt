@@ -16,6 +16,22 @@ pub record IsAct {A : Type 0} (lost : Bool) (x : Stored A) (a : A) (x' : Stored 
   pub stays : lost && x'.is_unsaved ≡ true → IsSettled lost x' a
   pub goes : lost && x'.is_unsaved ≡ false → (a ≡ x.live) × IsSettled lost x' y
 
+-- ---- tests
+
+pub front-true : (a : Bool) → a && true ≡ true → a ≡ true
+front-true true e = refl
+front-true false e = e
+
+pub front-false : (a : Bool) → a && true ≡ false → a ≡ false
+front-false true e = e
+front-false false e = refl
+
+pub not_both : (a b : Bool) → b ≡ false → a && b ≡ false
+not_both true b e = e
+not_both false b e = refl
+
+-- ---- acts
+
 pub settled-as : {A : Type 0} (lost : Bool) (a b : A) → b ≡ a → IsSettled lost (saved_as a) b
 settled-as true a b e = record { at = e; clean = λ u. refl }
 settled-as false a b e = record { at = e; clean = λ u. refl }

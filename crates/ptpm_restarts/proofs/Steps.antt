@@ -21,18 +21,19 @@ use Rattle.ptpm_restarts.specs.Incidents.{comes_in, delivered, happens, no_room_
 use Rattle.ptpm_restarts.specs.Restarting.{RestartingNetwork, SessionLog, begins, held_frames, log_of, log_told, log_with, notes, running, sends, takes_turn, turned, with_log}
 use Rattle.ptpm_restarts.specs.Restarting as restarting
 use Rattle.ptpm_restarts.specs.Storage.{Stored, changed, noted}
-use Rattle.ptpm_restarts.proofs.Beside.{IsBeside, log-stays, turned-beside}
+use Rattle.ptpm_restarts.proofs.Beside.{IsBeside, after_clock, log-stays, turned-beside}
 use Rattle.ptpm_restarts.proofs.Sound.{IsSound}
 use Rattle.ptpm_restarts.proofs.Sent.{AreSent, all_contains, going, going-all, sent-both}
-use Rattle.ptpm_restarts.proofs.Settled.{IsAct, IsSettled, changed-act, noted-act, settled-live, turn-act, turn-next}
+use Rattle.ptpm_restarts.proofs.Settled.{IsAct, IsSettled, changed-act, not_both, noted-act, settled-live, turn-act, turn-next}
 use Rattle.ptpm_restarts.proofs.Worth.{delivers-to}
 
 -- ---- frames by their numbers
 
 pub numbered : {A : Type 0} (xs : List A) (x : A) → Contains xs x → (m : ℕ) × (frame_at xs m ≡ Some x)
 numbered xs x (i, below, is) =
-    let one : i + 1 - 1 ≡ i = omega arith in
-    (i + 1, grind (arith, cond-false, slice_get-get_or))
+    let some : i + 1 == 0 ≡ false = grind arith in
+    let same : i + 1 - 1 ≡ i = omega arith in
+    (i + 1, cond-false _ _ _ some ∙ ap (slice_get xs) same ∙ slice_get-get_or xs i x below ∙ ap (λ y. Some y) is)
 
 pub contains-at : {A : Type 0} (xs : List A) (i : ℕ) (x : A) → slice_get xs i ≡ Some x → Contains xs x
 contains-at xs i x at = subst (Contains xs) (get_or_from_slice_get xs i x x at) (Contains-get_or xs i x (slice_get_within xs i x at))
@@ -99,10 +100,6 @@ record IsFrameOf (w : NetworkState) (m : ℕ) (x : Held) : Type 0 where
 pub some-of : (o : Option Frame) (x : Held) → option_map held o ≡ Some x → (f : Frame) × (o ≡ Some f) × (held f ≡ x)
 some-of None x e = absurd (cc)
 some-of (Some f) x e = (f, refl, same_Some (held f) x e)
-
-not_both : (a b : Bool) → b ≡ false → a && b ≡ false
-not_both true b e = e
-not_both false b e = refl
 
 module _ (lc ls : ℕ → Bool) (N : Network) (past : List Event) (k : RestartingNetwork) (r : RunningNetwork) (h : IsBeside lc ls k r) (order : (s : ℕ) → IsSound (N.session s).setup (k.told s) (k.session s)) (at : StandsAfter N past r) where
   abbrev state : NetworkState
@@ -250,14 +247,24 @@ module _ (lc ls : ℕ → Bool) (N : Network) (past : List Event) (k : Restartin
 
   -- ---- a frame comes in
 
+  takes-on : (c port : ℕ) (f : Frame) (e g : Event) (next : State) (made : List Held) (k' : RestartingNetwork)
+      → next ≡ (turn (N.clock c) (k.clock c).live port f.octets).next → made ≡ map held (turn_frames N (k.clock c).live c port f)
+      → network_event N r g ≡ Ok (running_network.takes_turn N r c port f) → IsInRange g → is_late_delivery state g ≡ false → IsSame k.frames r.frames e g
+      → IsBeside lc ls k' r ⊎ ((r.clock c ≡ (k.clock c).live) × IsBeside lc ls k' (after_clock lc ls k r c next made))
+      → Goal e k'
+  takes-on c port f e g next made k' n m ok range late same (inl stays) = Stays stays
+  takes-on c port f e g next made k' n m ok range late same (inr (live, goes)) =
+      let as_live : IsBeside lc ls k' (after_clock lc ls k r c (turn (N.clock c) (k.clock c).live port f.octets).next (map held (turn_frames N (k.clock c).live c port f))) =
+      subst (λ (fs : List Held). IsBeside lc ls k' (after_clock lc ls k r c (turn (N.clock c) (k.clock c).live port f.octets).next fs)) m
+      (subst (λ (s : State). IsBeside lc ls k' (after_clock lc ls k r c s made)) n goes) in
+      Goes g (running_network.takes_turn N r c port f) ok range late same (stay-append r.frames _)
+      (subst (λ (s : State). IsBeside lc ls k' (after_clock lc ls k r c (turn (N.clock c) s port f.octets).next (map held (turn_frames N s c port f)))) (sym live) as_live)
+
   takes : (c port : ℕ) (f : Frame) (e g : Event)
       → network_event N r g ≡ Ok (running_network.takes_turn N r c port f) → IsInRange g → is_late_delivery state g ≡ false → IsSame k.frames r.frames e g
       → Goal e (takes_turn N k c port f)
-  takes c port f e g ok range late same = ⊎_elim
-      (λ stays. Stays stays)
-      (λ goes. Goes g (running_network.takes_turn N r c port f) ok range late same (stay-append r.frames _)
-      (subst (λ (s : State). IsBeside lc ls (takes_turn N k c port f)
-      (record r { clock = with_place r.clock c (turn (N.clock c) s port f.octets).next; frames = r.frames ++ map held (turn_frames N s c port f) })) (sym goes.0) goes.1))
+  takes c port f e g ok range late same =
+      takes-on c port f e g (turn (N.clock c) (k.clock c).live port f.octets).next (map held (turn_frames N (k.clock c).live c port f)) (takes_turn N k c port f) refl refl ok range late same
       (turned-beside lc ls k r c _ _ _ h
       (turn-act (turn (N.clock c) (k.clock c).live port f.octets).verdict (lc c) (k.clock c) (r.clock c) (turn (N.clock c) (k.clock c).live port f.octets).next (h.clocks c)
       (turn-next (N.clock c) (k.clock c).live port f.octets)))

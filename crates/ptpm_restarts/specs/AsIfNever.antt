@@ -56,7 +56,7 @@ IsSame here there (Deliver n) (Deliver m) = (h : Held) × (frame_at here n ≡ S
 IsSame here there e f = e ≡ f
 
 pub data AreSomeOf (here there : List Held) : List Event → List Incident → Type 0 where
-  End : AreSomeOf here there [] []
+  Ended : AreSomeOf here there [] []
   Skip : (i : Incident) (es : List Event) (is : List Incident) → AreSomeOf here there es is → AreSomeOf here there es (i ∷ is)
   Take : (e f : Event) (es : List Event) (is : List Incident) → IsSame here there e f → AreSomeOf here there es is
       → AreSomeOf here there (f ∷ es) (Happens e ∷ is)
