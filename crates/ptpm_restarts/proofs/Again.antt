@@ -1,5 +1,5 @@
 -- A request that was under way when its session or others crashed is answered along a way by sending it again.
-use Rattle.ptpm_network.proofs.Common.{by_test, arith, ◌≡◌, ℕ, ◌+◌, ◌<◌, ◌≤◌, ◌==◌, Bool, true, false, List, [], ◌∷◌, ◌++◌, map, length, length-append, length-map, append-nil, Option, Some, None, option_map, option_or, refl, sym, ◌∙◌, ap, subst, ⊎_elim, eqb-true, eq-eqb, true≢false, cond-true, option_or-none, is_some, result_err, slice_get-map, slice_get_within, slice_get, all_weaker, all_append, AllByRecursion, Contains, PortIdentity, State, StandsAt, SessionValue, Report, is_waiting, send_refusal, Event, Deliver, Send, SendRefused, no_session, Refusal, IsInRange, frame_at, frames_limit, no_room, refusal, step, step_by, run, is_late_delivery, is_late_at, sends_in, unanswered, at_place, happens, is_late_frame, initial_state, End, AtPort, AtSession, IsNetwork, Network, Held, Happened, RunningNetwork, held, network_event, reaches, StandsAfter, AreFirsts, Stands, Frame, Neither, Origin, ReplyTo, RequestOf, NetworkState, history, is_idle, is_late, issued, session_value, IsFrame, IsOfOrigin, IsReached, ComeIn, ComesIn, handed_in, Hop, IsAnswerable, IsWay, LinksHaveAtMost, made_each_way, with_place-other, with_place-same}
+use Rattle.ptpm_network.proofs.Common.{by_test, arith, ◌≡◌, ℕ, ◌+◌, ◌<◌, ◌≤◌, ◌==◌, Bool, true, false, List, [], ◌∷◌, ◌++◌, map, length, length-append, length-map, append-nil, Option, Some, None, option_map, option_or, refl, sym, ◌∙◌, ap, subst, ⊎_elim, eqb-true, eq-eqb, true≢false, cond-true, option_or-none, is_some, Ok, result_err, slice_get-map, slice_get_within, slice_get, all_weaker, all_append, AllByRecursion, Contains, PortIdentity, State, StandsAt, SessionValue, Report, is_waiting, send_refusal, Event, Deliver, Send, SendRefused, no_session, Refusal, IsInRange, frame_at, frames_limit, no_room, refusal, step, step_by, run, is_late_delivery, is_late_at, sends_in, unanswered, at_place, happens, is_late_frame, initial_state, End, AtPort, AtSession, IsNetwork, Network, Held, Happened, RunningNetwork, held, network_event, reaches, StandsAfter, AreFirsts, Stands, Frame, Neither, Origin, ReplyTo, RequestOf, NetworkState, history, is_idle, is_late, issued, session_value, IsFrame, IsOfOrigin, IsReached, ComeIn, ComesIn, handed_in, Hop, IsAnswerable, IsWay, LinksHaveAtMost, made_each_way, with_place-other, with_place-same}
 use Rattle.std.proofs.Common.{get_or}
 use Rattle.std.proofs.lemmas.Option.{slice_get-get_or, get_or_from_slice_get}
 use Rattle.std.proofs.lemmas.List.Elements.{Contains-append_cases, Contains-get_or, Contains-push_cases}

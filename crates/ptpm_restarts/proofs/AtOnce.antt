@@ -70,11 +70,11 @@ module _ (N : Network) (k : RestartingNetwork) (calm : k.waiting ≡ []) where
 
 at-own : (c : ℕ) (made : List Held) → waiting_at c (map (λ m. (c, m)) made) ≡ made
 at-own c [] = refl
-at-own c (m ∷ made) = grind (arith, eq-eqb, at-own)
+at-own c (m ∷ made) = rw (eq-eqb c c refl) (ap (λ (fs : List Held). m ∷ fs) (at-own c made))
 
 elsewhere-own : (c : ℕ) (made : List Held) → waiting_elsewhere c (map (λ m. (c, m)) made) ≡ []
 elsewhere-own c [] = refl
-elsewhere-own c (m ∷ made) = grind (arith, eq-eqb, elsewhere-own)
+elsewhere-own c (m ∷ made) = rw (eq-eqb c c refl) (elsewhere-own c made)
 
 verdict-live : (v : Verdict) (x : Stored State) (next : State) → NextIs v x.live next → (after_verdict v x next).live ≡ next
 verdict-live verdicts.AnsweredNew x next e = refl
@@ -84,14 +84,14 @@ verdict-live _ x next e = sym e
 saved-live : {A : Type 0} (f : ℕ → Stored A) (i : ℕ) (x : Stored A) (a : A) (j : ℕ)
     → x.live ≡ a
     → (with_place (with_place f i x) i (saved (with_place f i x i)) j).live ≡ with_place (λ l. (f l).live) i a j
-saved-live f i x a j e = by_test (j == i)
+saved-live {A = A} f i x a j e = by_test (j == i)
     (λ y. ap (λ (z : Stored A). z.live) (with_place-same (with_place f i x) i (saved (with_place f i x i)) j y) ∙ ap (λ (z : Stored A). z.live) (here f i x) ∙ e ∙ sym (with_place-same (λ l. (f l).live) i a j y))
     (λ n. ap (λ (z : Stored A). z.live) (with_place-other (with_place f i x) i (saved (with_place f i x i)) j n ∙ with_place-other f i x j n) ∙ sym (with_place-other (λ l. (f l).live) i a j n))
 
 saved-closed : {A : Type 0} (f : ℕ → Stored A) (i : ℕ) (x : Stored A) (j : ℕ)
     → ((l : ℕ) → (f l).is_unsaved ≡ false)
     → (with_place (with_place f i x) i (saved (with_place f i x i)) j).is_unsaved ≡ false
-saved-closed f i x j all = by_test (j == i)
+saved-closed {A = A} f i x j all = by_test (j == i)
     (λ y. ap (λ (z : Stored A). z.is_unsaved) (with_place-same (with_place f i x) i (saved (with_place f i x i)) j y))
     (λ n. ap (λ (z : Stored A). z.is_unsaved) (with_place-other (with_place f i x) i (saved (with_place f i x i)) j n ∙ with_place-other f i x j n) ∙ all j)
 
@@ -107,15 +107,16 @@ module _ (N : Network) (k : RestartingNetwork) (calm : k.waiting ≡ []) where
       → Is k (saves_clock (sent_or_waiting b (record k { clock = with_place k.clock c x }) c made) c)
       (record (running k) { clock = with_place (λ d. (k.clock d).live) c next; frames = k.frames ++ made })
   turned-once true c x next made e =
+      let end : RestartingNetwork = saves_clock (sent_or_waiting true (record k { clock = with_place k.clock c x }) c made) c in
       let waits : k.waiting ++ map (λ m. (c, m)) made ≡ map (λ m. (c, m)) made = ap (λ (ws : List (ℕ × Held)). ws ++ map (λ m. (c, m)) made) calm in
       record {
-        running = same-running _ _ (λ d. saved-live k.clock c x next d e) (λ s. refl)
+        running = same-running end _ (λ d. saved-live k.clock c x next d e) (λ s. refl)
             (ap (λ (ws : List (ℕ × Held)). k.frames ++ waiting_at c ws) waits ∙ ap (λ (fs : List Held). k.frames ++ fs) (at-own c made));
         waiting = ap (waiting_elsewhere c) waits ∙ elsewhere-own c made;
         closed = λ all s. all s;
       }
   turned-once false c x next made e = record {
-    running = same-running _ _ (λ d. saved-live k.clock c x next d e) (λ s. refl)
+    running = same-running (saves_clock (sent_or_waiting false (record k { clock = with_place k.clock c x }) c made) c) _ (λ d. saved-live k.clock c x next d e) (λ s. refl)
         (ap (λ (ws : List (ℕ × Held)). (k.frames ++ made) ++ waiting_at c ws) calm ∙ append-nil (k.frames ++ made));
     waiting = ap (waiting_elsewhere c) calm;
     closed = λ all s. all s;
@@ -129,7 +130,7 @@ module _ (N : Network) (k : RestartingNetwork) (calm : k.waiting ≡ []) where
       → ((c : ℕ) → (k.clock c).live ≡ r.clock c) → ((t : ℕ) → with_place (λ l. (k.session l).live) s y t ≡ log_of r t) → k.frames ≡ r.frames
       → Is k (incident N (record (with_log k s (changed (k.session s) y)) { told = told }) (SaveSession s)) r
   changes-once s y told r clocks sessions frames = record {
-    running = same-running _ r clocks (λ t. saved-live k.session s (changed (k.session s) y) y t refl ∙ sessions t) frames;
+    running = same-running (incident N (record (with_log k s (changed (k.session s) y)) { told = told }) (SaveSession s)) r clocks (λ t. saved-live k.session s (changed (k.session s) y) y t refl ∙ sessions t) frames;
     waiting = calm;
     closed = λ all t. saved-closed k.session s (changed (k.session s) y) t all;
   }
@@ -139,7 +140,7 @@ module _ (N : Network) (k : RestartingNetwork) (calm : k.waiting ≡ []) where
       → ((c : ℕ) → (k.clock c).live ≡ r.clock c) → ((t : ℕ) → with_place (λ l. (k.session l).live) s y t ≡ log_of r t) → frames ≡ r.frames
       → Is k (record (with_log k s (noted (k.session s) y)) { frames = frames }) r
   notes-once s y frames r clocks sessions same = record {
-    running = same-running _ r clocks (λ t. noted-live t ∙ sessions t) same;
+    running = same-running (record (with_log k s (noted (k.session s) y)) { frames = frames }) r clocks (λ t. noted-live t ∙ sessions t) same;
     waiting = calm;
     closed = λ all t. at_place (λ l (z : Stored SessionLog). z.is_unsaved ≡ false) k.session s (noted (k.session s) y) t (all s) (all t);
   }
@@ -160,7 +161,7 @@ module _ (N : Network) (k : RestartingNetwork) (calm : k.waiting ≡ []) where
   hears-once : (s : ℕ) (y : Received) → Is k (incident N (restarting.hears k s y) (SaveSession s)) (hears (running k) s y)
   hears-once s (received.Answered report) = changes-once s (log_told (k.session s).live report) _ _ (λ c. refl) (log-heard s report) refl
   hears-once s (received.Ignored reason) = record {
-    running = same-running _ _ (λ c. refl) (λ t. at_place (λ l (z : Stored SessionLog). z.live ≡ (k.session l).live) k.session s (saved (k.session s)) t refl refl) refl;
+    running = same-running (incident N k (SaveSession s)) (running k) (λ c. refl) (λ t. at_place (λ l (z : Stored SessionLog). z.live ≡ (k.session l).live) k.session s (saved (k.session s)) t refl refl) refl;
     waiting = calm;
     closed = λ all t. at_place (λ l (z : Stored SessionLog). z.is_unsaved ≡ false) k.session s (saved (k.session s)) t refl (all t);
   }
@@ -180,8 +181,8 @@ cleared : (o : Option Refusal) (x : Result Happened Refusal) (h : Happened) → 
 cleared None x h e = e
 cleared (Some reason) x h e = absurd (cc)
 
-network-of : (g h : Happened) → Ok g ≡ Ok h → g.network ≡ h.network
-network-of g h e = let same : g ≡ h = cc in ap (λ (x : Happened). x.network) same
+network-of : (x : Result Happened Refusal) (g h : Happened) → x ≡ Ok g → x ≡ Ok h → g.network ≡ h.network
+network-of x g h e f = let same : g ≡ h = cc in ap (λ (y : Happened). y.network) same
 
 pub unless-none : (o : Option Refusal) (k next : RestartingNetwork) → o ≡ None → unless o k next ≡ next
 unless-none None k next e = refl
@@ -196,24 +197,24 @@ module _ (N : Network) (k : RestartingNetwork) (calm : IsCalm k) where
       → Is k (after_incidents N (delivered N k q) (save_of_frame q)) h.network
   frame-once None h e = absurd (cc)
   frame-once (Some x) h e =
-      subst (Is k _) (network-of _ h (cleared (no_room k.frames) _ h e)) (comes-once N k calm.waiting x x.end)
+      subst (Is k _) (network-of _ _ h refl (cleared (no_room k.frames) _ h e)) (comes-once N k calm.waiting x x.end)
 
   once : (e : Event) (h : Happened) → network_event N (running k) e ≡ Ok h → Once e h
   unfolding network_event
   once (Begin s a) h e =
-      subst (Is k _) (network-of _ h (cleared (option_map BeginRefused (begin_refusal (k.session s).live.session a)) _ h (cleared (no_session N s) _ h e)))
+      subst (Is k _) (network-of _ _ h refl (cleared (option_map BeginRefused (begin_refusal (k.session s).live.session a)) _ h (cleared (no_session N s) _ h e)))
       (changes-once N k calm.waiting s _ k.told _ (λ c. refl) (log-other N k calm.waiting s _) refl)
   once (Send s) h e =
-      subst (Is k _) (network-of _ h (cleared (option_map SendRefused (send_refusal (k.session s).live.session)) _ h (cleared (no_room k.frames) _ h (cleared (no_session N s) _ h e))))
+      subst (Is k _) (network-of _ _ h refl (cleared (option_map SendRefused (send_refusal (k.session s).live.session)) _ h (cleared (no_room k.frames) _ h (cleared (no_session N s) _ h e))))
       (sends-once N k calm.waiting s (k.session s).is_unsaved (calm.sessions s))
   once (Resume s attempts) h e =
-      subst (Is k _) (network-of _ h (cleared (nothing_to_resume (k.session s).live.session) _ h (cleared (no_session N s) _ h e)))
+      subst (Is k _) (network-of _ _ h refl (cleared (nothing_to_resume (k.session s).live.session) _ h (cleared (no_session N s) _ h e)))
       (notes-once N k calm.waiting s _ k.frames _ (λ c. refl) (log-other N k calm.waiting s _) refl)
   once (Retune s domain) h e =
-      subst (Is k _) (network-of _ h (cleared (no_session N s) _ h e)) (notes-once N k calm.waiting s _ k.frames _ (λ c. refl) (log-other N k calm.waiting s _) refl)
+      subst (Is k _) (network-of _ _ h refl (cleared (no_session N s) _ h e)) (notes-once N k calm.waiting s _ k.frames _ (λ c. refl) (log-other N k calm.waiting s _) refl)
   once (Deliver n) h e = frame-once (frame_at k.frames n) h e
   once (Stranger c port datagram) h e =
-      subst (Is k _) (network-of _ h (cleared (no_room k.frames) _ h (cleared (forged N datagram) _ h (cleared (no_port N c port) _ h e))))
+      subst (Is k _) (network-of _ _ h refl (cleared (no_room k.frames) _ h (cleared (forged N datagram) _ h (cleared (no_port N c port) _ h e))))
       (takes-once N k calm.waiting c port (strange_frame c port datagram))
 
   pub saved-at-once : (e : Event) (h : Happened)
@@ -227,6 +228,10 @@ module _ (N : Network) (k : RestartingNetwork) (calm : IsCalm k) where
 
 -- ---- a session that is started again
 
+not-refused : (o : Option Refusal) (x : Result Happened Refusal) → o ≡ None → result_err (unless_refused o x) ≡ result_err x
+not-refused None x e = refl
+not-refused (Some reason) x e = absurd (cc)
+
 -- it is in this domain
 pub starts-in : (N : Network) (k : RestartingNetwork) (s domain : ℕ)
     → s < N.sessions
@@ -235,7 +240,7 @@ pub starts-in : (N : Network) (k : RestartingNetwork) (s domain : ℕ)
 unfolding network_event
 starts-in N k s domain place =
     let one : RestartingNetwork = with_log k s (restored (k.session s)) in
-    let none : refused N one (Retune s domain) ≡ None = no-more _ ∙ ap (λ (o : Option Refusal). result_err (unless_refused o _)) (session-named N s place) in
+    let none : refused N one (Retune s domain) ≡ None = no-more (result_err (network_event N (running one) (Retune s domain))) ∙ not-refused (no_session N s) _ (session-named N s place) in
     ap (λ (j : RestartingNetwork). j.session s) (unless-none (refused N one (Retune s domain)) one _ none) ∙ here one.session s _
     ∙ ap (λ (x : Stored SessionLog). noted x (record (x.live) { session = retuned x.live.session domain })) (here k.session s (restored (k.session s)))
 
@@ -250,7 +255,7 @@ starts-with N k s domain attempts place waits =
     let is = starts-in N k s domain place in
     let due : nothing_to_resume (two.session s).live.session ≡ None =
     ap (λ (x : Stored SessionLog). nothing_to_resume x.live.session) is ∙ ap (λ (b : Bool). first_of ((not b, SendRefused send_errors.Idle) ∷ [])) waits in
-    let none : refused N two (Resume s attempts) ≡ None = no-more _ ∙ ap (λ (o : Option Refusal). result_err (unless_refused o _)) (session-named N s place)
-    ∙ ap (λ (o : Option Refusal). result_err (unless_refused o _)) due in
+    let none : refused N two (Resume s attempts) ≡ None = no-more (result_err (network_event N (running two) (Resume s attempts)))
+    ∙ not-refused (no_session N s) _ (session-named N s place) ∙ not-refused (nothing_to_resume (two.session s).live.session) _ due in
     ap (λ (j : RestartingNetwork). j.session s) (unless-none (refused N two (Resume s attempts)) two _ none) ∙ here two.session s _
     ∙ ap (λ (x : Stored SessionLog). noted x (record (x.live) { session = resumed x.live.session attempts })) is

@@ -13,7 +13,7 @@ use Rattle.ptpm_restarts.proofs.Beside.{IsBeside, clock-crashed, clock-saved, se
 use Rattle.ptpm_restarts.proofs.Sent.{all-held, all_contains}
 use Rattle.ptpm_restarts.proofs.Settled.{settled-as}
 use Rattle.ptpm_restarts.proofs.Shapes.{AreSound, ByShape, by-shape, incident-sound, incident-stay}
-use Rattle.ptpm_restarts.proofs.Steps.{Goes, Stay, Stays, Step, among, end-of, event-step, heard-live, in_time-there, numbered, room-there}
+use Rattle.ptpm_restarts.proofs.Steps.{Goes, Stay, Stays, Step, among, event-step, heard-live, in_time-there, numbered, room-there}
 use Rattle.ptpm_restarts.proofs.Worth.{worth-heard, worth-step}
 
 -- ---- all that was told
@@ -79,7 +79,7 @@ sessions_lost (CrashSession s ∷ is) = with_place (sessions_lost is) s true
 sessions_lost (_ ∷ is) = sessions_lost is
 
 -- this network has gone on by these events while that one came to its end
-record Went (N : Network) (past : List Event) (r : RunningNetwork) (k : RestartingNetwork) (is : List Incident) (events : List Event) (network : RunningNetwork) : Type 0 where
+pub record Went (N : Network) (past : List Event) (r : RunningNetwork) (k : RestartingNetwork) (is : List Incident) (events : List Event) (network : RunningNetwork) : Type 0 where
   pub none_refused : taken N (run N (initial_state N) past) events ≡ events
   pub stands : StandsAfter N (past ++ events) network
   pub some : AreSomeOf (after_incidents N k is).frames network.frames events is

@@ -66,7 +66,7 @@ all-elsewhere P Q c (w ∷ ws) f all = by_test (w.0 == c)
     (λ n. rw n (f w n all.0, all-elsewhere P Q c ws f all.1))
 
 going-append : (lost : ℕ → Bool) (xs ys : List (ℕ × Held)) → going lost (xs ++ ys) ≡ going lost xs + going lost ys
-going-append lost [] ys = refl
+going-append lost [] ys = omega arith
 going-append lost (w ∷ ws) ys = omega (arith, going-append lost ws ys)
 
 going-made : (lost : ℕ → Bool) (c : ℕ) (made : List Held) → going lost (map (λ h. (c, h)) made) ≡ (if lost c then 0 else length made)
@@ -86,7 +86,7 @@ going-crashed : (lost : ℕ → Bool) (c : ℕ) (ws : List (ℕ × Held))
     → going (with_place lost c true) ws ≤ going lost (waiting_elsewhere c ws)
 going-crashed lost c [] = omega arith
 going-crashed lost c (w ∷ ws) = by_test (w.0 == c)
-    (λ y. rw y (going-crashed lost c ws))
+    (λ y. rw y (omega (arith, going-crashed lost c ws)))
     (λ n. rw n (omega (arith, going-crashed lost c ws)))
 
 pub going-all : (lost : ℕ → Bool) (ws : List (ℕ × Held)) → going lost ws ≤ length ws

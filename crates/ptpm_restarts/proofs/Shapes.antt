@@ -6,7 +6,7 @@ use Rattle.ptpm_manager.specs.declared.receiving.Received.TheVariants as receive
 use Rattle.ptpm_restarts.specs.AsIfNever.{IsTimely, is_late_event, is_late_held, is_late_in}
 use Rattle.ptpm_restarts.specs.Incidents.{CrashClock, CrashSession, Happens, Incident, SaveClock, SaveSession, comes_in, delivered, happens, incident, no_room_for, refused, unless}
 use Rattle.ptpm_restarts.specs.Restarting as restarting
-use Rattle.ptpm_restarts.specs.Restarting.{RestartingNetwork, held_frames, sent_or_waiting, with_log}
+use Rattle.ptpm_restarts.specs.Restarting.{RestartingNetwork, SessionLog, held_frames, sent_or_waiting, with_log}
 use Rattle.ptpm_restarts.specs.Storage.{Stored, changed, restored, saved}
 use Rattle.ptpm_restarts.proofs.Sound.{IsSound, sound-begun, sound-noted, sound-restored, sound-saved, sound-told}
 use Rattle.ptpm_restarts.proofs.Steps.{Stay, stay-append}

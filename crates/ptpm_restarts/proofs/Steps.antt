@@ -1,5 +1,5 @@
 -- What a network that never crashes does while one event happens here: nothing, or the same event.
-use Rattle.ptpm_network.proofs.Common.{by_test, arith, ◌≡◌, ℕ, ◌+◌, ◌-◌, ◌<◌, ◌≤◌, ◌==◌, ◌&&◌, Bool, true, false, nat_lt, List, [], ◌∷◌, ◌++◌, map, length, length-append, length-map, Option, Some, None, option_map, option_or, refl, sym, ◌∙◌, ap, subst, ⊎_elim, inl, inr, eqb-true, ltb-true, ltb-false, cond-true, cond-false, true≢false, first_of, first_of-none, option_or-none, slice_get_within, slice_get, Contains, Ok, Err, Result, result_err, State, SessionValue, Report, begin_refusal, begun, resumed, retuned, send_refusal, sent, due_message, received_of, Event, Begin, Send, Resume, Retune, Deliver, Stranger, Refusal, BeginRefused, FramesAtMaximum, IsInRange, SendRefused, forged, frame_at, frames_limit, no_frame, no_port, no_room, no_session, is_late_delivery, is_late_frame, run, initial_state, strange_frame, with_place, End, AtPort, AtSession, HasEnd, Network, IsNetwork, peers, Held, Happened, RunningNetwork, after_turn, delivers, held, hears, network_event, nothing_to_resume, reaches, seen, sends_in, sent_posted, turn_frames, unless_refused, with_session_value, StandsAfter, Stands, Frame, Neither, Origin, ReplyTo, RequestOf, is_late, is_late_at, NetworkState, issued, IsOfOrigin, IsReached, get_append, at_places, with_place-same, with_place-other, same_Some, and_parts, reading, number_of, Message, answered, turn, Verdict, Clock}
+use Rattle.ptpm_network.proofs.Common.{by_test, arith, ◌≡◌, ℕ, ◌+◌, ◌-◌, ◌<◌, ◌≤◌, ◌==◌, ◌&&◌, ◌⊎◌, Bool, true, false, nat_lt, List, [], ◌∷◌, ◌++◌, map, length, length-append, length-map, Option, Some, None, option_map, option_or, refl, sym, ◌∙◌, ap, subst, ⊎_elim, inl, inr, eqb-true, ltb-true, ltb-false, cond-true, cond-false, true≢false, first_of, first_of-none, option_or-none, slice_get_within, slice_get, Contains, Ok, Err, Result, result_err, State, SessionValue, Report, begin_refusal, begun, resumed, retuned, send_refusal, sent, due_message, received_of, Event, Begin, Send, Resume, Retune, Deliver, Stranger, Refusal, BeginRefused, FramesAtMaximum, IsInRange, SendRefused, forged, frame_at, frames_limit, no_frame, no_port, no_room, no_session, is_late_delivery, is_late_frame, run, initial_state, strange_frame, with_place, End, AtPort, AtSession, HasEnd, Network, IsNetwork, peers, Held, Happened, RunningNetwork, after_turn, delivers, held, hears, network_event, nothing_to_resume, reaches, seen, sends_in, sent_posted, turn_frames, unless_refused, with_session_value, StandsAfter, Stands, Frame, Neither, Origin, ReplyTo, RequestOf, is_late, is_late_at, NetworkState, issued, IsOfOrigin, IsReached, get_append, at_places, with_place-same, with_place-other, same_Some, and_parts, reading, number_of, Message, answered, turn, Verdict, Clock}
 use Rattle.std.proofs.lemmas.Option.{slice_get-get_or, get_or_from_slice_get}
 use Rattle.std.proofs.lemmas.List.Elements.{Contains-get_or}
 use Rattle.ptpm_manager.specs.Ask as ask
@@ -130,7 +130,7 @@ module _ (lc ls : ℕ → Bool) (N : Network) (past : List Event) (k : Restartin
       let f = frame-of m x is in
       subst (λ (y : Held). IsOfOrigin N state y.octets y.origin) f.is (frame_at-is N state m f.frame known f.at).origin
 
-  end-of : (m : ℕ) (x : Held) → frame_at r.frames m ≡ Some x → HasEnd N x.end
+  pub end-of : (m : ℕ) (x : Held) → frame_at r.frames m ≡ Some x → HasEnd N x.end
   end-of m x is =
       let f = frame-of m x is in
       subst (λ (y : Held). HasEnd N y.end) f.is (frame_at-is N state m f.frame known f.at).end

@@ -1,5 +1,5 @@
 -- What a report is worth at one moment it is worth ever after, and what a session takes for its answer is worth that already.
-use Rattle.ptpm_network.proofs.Common.{by_test, arith, ◌≡◌, ℕ, ◌<◌, ◌≤◌, ◌==◌, ◌&&◌, ◌++◌, List, [], ◌∷◌, Option, Some, None, false, refl, sym, ◌∙◌, ap, subst, ⊎_elim, inl, inr, length, append-nil, append_assoc, cond-true, cond-false, eqb-true, eq-eqb, slice_get, option_map, option_or, PortIdentity, same_identity, RequestValue, DataSetsValue, Clock, Accepted, RequestCopy, Delivery, applied_once, copies, initial_history, Event, Refusal, Begin, Send, Resume, Retune, Deliver, Stranger, IsInRange, refusal, no_room, frame_at, IsReached, Ok, Result, Report, received_of, arrives, delivered, delivered_at_clock, delivery, is_late_delivery, reported, run, step, strange_frame, with_frames, with_place, with_session, AtPort, AtSession, End, HasEnd, IsNetwork, Network, manager, ports, Held, Happened, RunningNetwork, held, hears, delivers, network_event, reaches, unless_refused, StandsAfter, Stands, Frame, NetworkState, SessionState, accepted_at_target, copies_at, initial_state, IsWorth, WasCarriedOut, entries_of, get_append, get_last, with_place-same}
+use Rattle.ptpm_network.proofs.Common.{by_test, arith, ◌≡◌, ℕ, ◌<◌, ◌≤◌, ◌==◌, ◌&&◌, ◌++◌, List, [], ◌∷◌, Option, Some, None, false, refl, sym, ◌∙◌, ap, subst, ⊎_elim, inl, inr, length, append-nil, append_assoc, cond-true, cond-false, eqb-true, eq-eqb, slice_get, option_map, option_or, PortIdentity, same_identity, RequestValue, DataSetsValue, Clock, Accepted, RequestCopy, Delivery, applied_once, copies, initial_history, Event, Refusal, Begin, Send, Resume, Retune, Deliver, Stranger, IsInRange, refusal, no_room, frame_at, IsReached, Ok, Result, Report, received_of, arrives, delivered, delivered_at_clock, delivery, is_late_delivery, reported, run, step, strange_frame, with_frames, with_place, with_session, AtPort, AtSession, End, HasEnd, IsNetwork, Network, manager, ports, Held, Happened, RunningNetwork, held, hears, delivers, network_event, reaches, unless_refused, StandsAfter, Stands, Frame, NetworkState, SessionState, accepted_at_target, copies_at, initial_state, IsWorth, WasCarriedOut, entries_of, get_append, get_last, same_Some, with_place-same}
 use Rattle.std.proofs.lemmas.List.Elements.{filter_map-append}
 use Rattle.ptpm_manager.specs.declared.receiving.Received.{Received}
 use Rattle.ptpm_manager.specs.declared.receiving.Received.TheVariants as received
@@ -115,6 +115,10 @@ module _ (N : Network) (w : NetworkState) (n : IsNetwork N) (known : IsReached N
 
 -- ---- what a session takes for its answer
 
+-- no end is at a port and at a session
+apart : (c port s : ℕ) → AtPort c port ≡ AtSession s → ⊥
+apart c port s e = cc
+
 pub delivers-to : (N : Network) (r : RunningNetwork) (m : ℕ) (x : Held) (e : End)
     → frame_at r.frames m ≡ Some x → x.end ≡ e → no_room r.frames ≡ None
     → network_event N r (Deliver m) ≡ Ok (reaches N r x e)
@@ -149,7 +153,7 @@ module _ (N : Network) (past : List Event) (r : RunningNetwork) (s m : ℕ) (x :
       clash : (f : Frame) → frame_at state.frames m ≡ Some f → (c port : ℕ) → f.end ≡ AtPort c port → ⊥
       clash f there c port f_end =
           let one : Some (held f) ≡ Some x = ap (λ (o : Option Frame). option_map held o) (sym there) ∙ same-frame in
-          cc
+          apart c port s (sym f_end ∙ ap (λ (y : Held). y.end) (same_Some (held f) x one) ∙ end)
 
   pub worth-heard : no_room r.frames ≡ None
       → is_late_delivery state (Deliver m) ≡ false → received_of (r.session s) x.octets ≡ received.Answered report
