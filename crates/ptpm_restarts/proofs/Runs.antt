@@ -126,18 +126,18 @@ went-event N past k r e f h is at timely ok same stay (events, w) =
     let rest : taken N (step N u f) events ≡ events = subst (λ (v : NetworkState). taken N v events ≡ events) (run-append N (initial_state N) past (f ∷ [])) w.none_refused in (
       f ∷ events,
       subst (Went N past r k (Happens e ∷ is) (f ∷ events)) (sym on)
-      (record {
-        none_refused = cond-true _ _ _ (ap is_none none) ∙ ap (λ (es : List Event). f ∷ es) rest;
-        stands = subst (λ (es : List Event). StandsAfter N es (network_run N h.network events)) (append_assoc past (f ∷ []) events) w.stands;
-        some = Take e f events is
-            (same-later k.frames r.frames (after_incidents N (incident N k (Happens e)) is).frames (network_run N h.network events).frames e f
-            (λ n x p. w.here n x (incident-stay N k (Happens e) timely n x p)) (λ n x p. w.there n x (stay n x p)) same) w.some;
-        here = λ n x p. w.here n x (incident-stay N k (Happens e) timely n x p);
-        there = λ n x p. w.there n x (stay n x p);
-        beside = w.beside;
-        sound = w.sound;
-        worth = subst (λ (es : List Event). AreWorth N (run N (initial_state N) es) (after_incidents N (incident N k (Happens e)) is)) (append_assoc past (f ∷ []) events) w.worth;
-      }),
+          (record {
+            none_refused = cond-true _ _ _ (ap is_none none) ∙ ap (λ (es : List Event). f ∷ es) rest;
+            stands = subst (λ (es : List Event). StandsAfter N es (network_run N h.network events)) (append_assoc past (f ∷ []) events) w.stands;
+            some = Take e f events is
+                (same-later k.frames r.frames (after_incidents N (incident N k (Happens e)) is).frames (network_run N h.network events).frames e f
+                (λ n x p. w.here n x (incident-stay N k (Happens e) timely n x p)) (λ n x p. w.there n x (stay n x p)) same) w.some;
+            here = λ n x p. w.here n x (incident-stay N k (Happens e) timely n x p);
+            there = λ n x p. w.there n x (stay n x p);
+            beside = w.beside;
+            sound = w.sound;
+            worth = subst (λ (es : List Event). AreWorth N (run N (initial_state N) es) (after_incidents N (incident N k (Happens e)) is)) (append_assoc past (f ∷ []) events) w.worth;
+          }),
     )
 
 step-unless : (lc ls : ℕ → Bool) (N : Network) (past : List Event) (k : RestartingNetwork) (r : RunningNetwork) (e : Event) (o : Option Refusal)
