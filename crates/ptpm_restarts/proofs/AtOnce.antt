@@ -84,16 +84,12 @@ verdict-live _ x next e = sym e
 saved-live : {A : Type 0} (f : ℕ → Stored A) (i : ℕ) (x : Stored A) (a : A) (j : ℕ)
     → x.live ≡ a
     → (with_place (with_place f i x) i (saved (with_place f i x i)) j).live ≡ with_place (λ l. (f l).live) i a j
-saved-live {A = A} f i x a j e = by_test (j == i)
-    (λ y. ap (λ (z : Stored A). z.live) (with_place-same (with_place f i x) i (saved (with_place f i x i)) j y) ∙ ap (λ (z : Stored A). z.live) (here f i x) ∙ e ∙ sym (with_place-same (λ l. (f l).live) i a j y))
-    (λ n. ap (λ (z : Stored A). z.live) (with_place-other (with_place f i x) i (saved (with_place f i x i)) j n ∙ with_place-other f i x j n) ∙ sym (with_place-other (λ l. (f l).live) i a j n))
+saved-live f i x a j e = grind (arith, eqb-true, eq-eqb)
 
 saved-closed : {A : Type 0} (f : ℕ → Stored A) (i : ℕ) (x : Stored A) (j : ℕ)
     → ((l : ℕ) → (f l).is_unsaved ≡ false)
     → (with_place (with_place f i x) i (saved (with_place f i x i)) j).is_unsaved ≡ false
-saved-closed {A = A} f i x j all = by_test (j == i)
-    (λ y. ap (λ (z : Stored A). z.is_unsaved) (with_place-same (with_place f i x) i (saved (with_place f i x i)) j y))
-    (λ n. ap (λ (z : Stored A). z.is_unsaved) (with_place-other (with_place f i x) i (saved (with_place f i x i)) j n ∙ with_place-other f i x j n) ∙ all j)
+saved-closed f i x j all = grind (arith, eqb-true, eq-eqb)
 
 -- it runs as this network, no frame waits, and where no session had a change that was unsaved none has
 pub record Is (k next : RestartingNetwork) (r : RunningNetwork) : Type 0 where

@@ -18,11 +18,7 @@ here f i a = with_place-same f i a i (eq-eqb i i refl)
 settled-other : {A : Type 0} (lost : ℕ → Bool) (i : ℕ) (b : Bool) (f : ℕ → Stored A) (x : Stored A) (g : ℕ → A) (j : ℕ)
     → IsSettled (lost i) x (g i) → IsSettled (with_place lost i b j) (f j) (g j)
     → IsSettled (lost j) (with_place f i x j) (g j)
-settled-other lost i b f x g j new old = by_test (j == i)
-    (λ y. let same : j ≡ i = eqb-true j i y in
-    subst (λ z. IsSettled (lost j) z (g j)) (sym (with_place-same f i x j y)) (subst (λ z. IsSettled (lost z) x (g z)) (sym same) new))
-    (λ n. subst (λ z. IsSettled (lost j) z (g j)) (sym (with_place-other f i x j n))
-    (subst (λ z. IsSettled z (f j) (g j)) (with_place-other lost i b j n) old))
+settled-other lost i b f x g j new old = grind (arith, eqb-true)
 
 module _ (lc ls : ℕ → Bool) (k : RestartingNetwork) (r : RunningNetwork) where
   -- ---- a clock's turn

@@ -70,10 +70,8 @@ going-append lost [] ys = omega arith
 going-append lost (w ∷ ws) ys = omega (arith, going-append lost ws ys)
 
 going-made : (lost : ℕ → Bool) (c : ℕ) (made : List Held) → going lost (map (λ h. (c, h)) made) ≡ (if lost c then 0 else length made)
-going-made lost c [] = by_test (lost c) (λ y. sym (cond-true _ _ _ y)) (λ n. sym (cond-false _ _ _ n))
-going-made lost c (h ∷ made) = by_test (lost c)
-    (λ y. let rest : going lost (map (λ m. (c, m)) made) ≡ 0 = going-made lost c made ∙ cond-true _ _ _ y in rw y (omega (arith, rest)))
-    (λ n. let rest : going lost (map (λ m. (c, m)) made) ≡ length made = going-made lost c made ∙ cond-false _ _ _ n in rw n (omega (arith, rest)))
+going-made lost c [] = grind (arith, cond-true, cond-false)
+going-made lost c (h ∷ made) = let rest = going-made lost c made in grind (arith, cond-true, cond-false)
 
 going-saved : (lost : ℕ → Bool) (c : ℕ) (ws : List (ℕ × Held))
     → going (with_place lost c false) ws ≤ length (waiting_at c ws) + going lost (waiting_elsewhere c ws)
@@ -91,7 +89,7 @@ going-crashed lost c (w ∷ ws) = by_test (w.0 == c)
 
 pub going-all : (lost : ℕ → Bool) (ws : List (ℕ × Held)) → going lost ws ≤ length ws
 going-all lost [] = omega arith
-going-all lost (w ∷ ws) = by_test (lost w.0) (λ y. rw y (omega (arith, going-all lost ws))) (λ n. rw n (omega (arith, going-all lost ws)))
+going-all lost (w ∷ ws) = let rest = going-all lost ws in grind (arith, cond-true, cond-false)
 
 -- ---- what is made, saved and lost
 

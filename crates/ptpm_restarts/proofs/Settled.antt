@@ -33,8 +33,8 @@ not_both false b e = refl
 -- ---- acts
 
 pub settled-as : {A : Type 0} (lost : Bool) (a b : A) → b ≡ a → IsSettled lost (saved_as a) b
-settled-as true a b e = record { at = e; clean = λ u. refl }
-settled-as false a b e = record { at = e; clean = λ u. refl }
+settled-as true a b e = grind arith
+settled-as false a b e = grind arith
 
 pub settled-live : {A : Type 0} (lost : Bool) (x : Stored A) (a : A)
     → IsSettled lost x a → lost && x.is_unsaved ≡ false
@@ -49,27 +49,24 @@ pub settled-restored : {A : Type 0} (lost : Bool) (x : Stored A) (a : A) → IsS
 settled-restored lost x a h = settled-as lost x.stored a h.at
 
 pub changed-act : {A : Type 0} (lost : Bool) (x : Stored A) (a y : A) → IsSettled lost x a → IsAct lost x a (changed x y) y
-changed-act true x a y h = record { stays = λ u. record { at = h.at; clean = λ n. absurd (true≢false n) }; goes = λ n. absurd (true≢false n) }
-changed-act false x a y h = record { stays = λ u. absurd (true≢false (sym u)); goes = λ n. (h.at, record { at = refl; clean = λ m. absurd (true≢false m) }) }
+changed-act true x a y h = grind arith
+changed-act false x a y h = grind arith
 
 noted-by : {A : Type 0} (lost unsaved : Bool) (live stored a y : A)
     → IsSettled lost (record { live = live; stored = stored; is_unsaved = unsaved }) a
     → IsAct lost (record { live = live; stored = stored; is_unsaved = unsaved }) a
     (noted (record { live = live; stored = stored; is_unsaved = unsaved }) y) y
-noted-by true true live stored a y h = record { stays = λ u. record { at = h.at; clean = λ n. absurd (true≢false n) }; goes = λ n. absurd (true≢false n) }
-noted-by true false live stored a y h = record { stays = λ u. absurd (true≢false (sym u)); goes = λ n. (h.at ∙ h.clean refl, record { at = refl; clean = λ m. refl }) }
-noted-by false true live stored a y h = record { stays = λ u. absurd (true≢false (sym u)); goes = λ n. (h.at, record { at = refl; clean = λ m. absurd (true≢false m) }) }
-noted-by false false live stored a y h = record { stays = λ u. absurd (true≢false (sym u)); goes = λ n. (h.at, record { at = refl; clean = λ m. refl }) }
+noted-by true true live stored a y h = grind arith
+noted-by true false live stored a y h = grind arith
+noted-by false true live stored a y h = grind arith
+noted-by false false live stored a y h = grind arith
 
 pub noted-act : {A : Type 0} (lost : Bool) (x : Stored A) (a y : A) → IsSettled lost x a → IsAct lost x a (noted x y) y
 noted-act lost x a y h = noted-by lost x.is_unsaved x.live x.stored a y h
 
 -- a turn that is not the first answer to a request leaves the clock as it is
 kept-act : (lost : Bool) (x : Stored State) (a next : State) → IsSettled lost x a → next ≡ x.live → IsAct lost x a x next
-kept-act lost x a next h e = record {
-  stays = λ u. h;
-  goes = λ n. let live = settled-live lost x a h n in (live, subst (IsSettled lost x) (live ∙ sym e) h);
-}
+kept-act lost x a next h e = grind (arith, settled-live)
 
 abbrev pub NextIs : Verdict → State → State → Type 0
 NextIs verdicts.AnsweredNew live next = Unit {0}

@@ -30,10 +30,7 @@ use Rattle.ptpm_restarts.proofs.Worth.{delivers-to}
 -- ---- frames by their numbers
 
 pub numbered : {A : Type 0} (xs : List A) (x : A) → Contains xs x → (m : ℕ) × (frame_at xs m ≡ Some x)
-numbered xs x (i, below, is) =
-    let some : i + 1 == 0 ≡ false = grind arith in
-    let same : i + 1 - 1 ≡ i = omega arith in
-    (i + 1, cond-false _ _ _ some ∙ ap (slice_get xs) same ∙ slice_get-get_or xs i x below ∙ ap (λ y. Some y) is)
+numbered xs x (i, below, is) = let same : i + 1 - 1 ≡ i = omega arith in (i + 1, grind (arith, slice_get-get_or))
 
 pub contains-at : {A : Type 0} (xs : List A) (i : ℕ) (x : A) → slice_get xs i ≡ Some x → Contains xs x
 contains-at xs i x at = subst (Contains xs) (get_or_from_slice_get xs i x x at) (Contains-get_or xs i x (slice_get_within xs i x at))
@@ -48,9 +45,7 @@ abbrev pub Stay : List Held → List Held → Type 0
 Stay xs ys = (n : ℕ) (x : Held) → frame_at xs n ≡ Some x → frame_at ys n ≡ Some x
 
 pub stay-append : (xs ys : List Held) → Stay xs (xs ++ ys)
-stay-append xs ys n x e = by_test (n == 0)
-    (λ y. absurd (cc (sym (cond-true _ _ _ y) ∙ e)))
-    (λ o. cond-false _ _ _ o ∙ get_append xs ys (n - 1) x (sym (cond-false _ _ _ o) ∙ e))
+stay-append xs ys n x e = grind (arith, cond-true, cond-false, get_append)
 
 -- ---- reasons to refuse, one after another
 
@@ -65,22 +60,18 @@ passes None x e = refl
 passes (Some reason) x e = absurd (cc)
 
 fewer : (xs ys : List Held) → length xs ≤ length ys → no_room ys ≡ None → no_room xs ≡ None
-fewer xs ys le e = by_test (nat_lt frames_limit (length xs))
-    (λ y. absurd (omega (arith, ltb-true frames_limit (length xs) y, ltb-false frames_limit (length ys) (first_of-none (nat_lt frames_limit (length ys)) FramesAtMaximum [] e).0, le)))
-    (λ n. ap (λ (t : Bool). first_of ((t, FramesAtMaximum) ∷ [])) n)
+fewer xs ys le e = grind (arith, ltb-true, ltb-false, first_of-none)
 
 -- ---- in time
 
 settled-issued : (lost : Bool) (x : Stored SessionLog) (a : SessionLog)
     → IsSettled lost x a → x.stored.session.issued ≤ x.live.session.issued
     → a.session.issued ≤ x.live.session.issued
-settled-issued true x a h le = subst (λ (l : SessionLog). l.session.issued ≤ x.live.session.issued) (sym h.at) le
-settled-issued false x a h le = subst (λ (l : SessionLog). l.session.issued ≤ x.live.session.issued) (sym h.at) (omega arith)
+settled-issued true x a h le = grind arith
+settled-issued false x a h le = grind arith
 
 late-fewer : (j few many : ℕ) → few ≤ many → is_late_at j many ≡ false → is_late_at j few ≡ false
-late-fewer j few many le n = by_test (nat_lt (j + 32768) few)
-    (λ y. absurd (omega (arith, ltb-true (j + 32768) few y, ltb-false (j + 32768) many n, le)))
-    (λ o. o)
+late-fewer j few many le n = grind (arith, ltb-true, ltb-false)
 
 -- ---- one event
 
@@ -209,11 +200,7 @@ module _ (lc ls : ℕ → Bool) (N : Network) (past : List Event) (k : Restartin
   log-other : (s : ℕ) (v : SessionValue) (t : ℕ)
       → log_of r s ≡ (k.session s).live
       → log_of (record r { session = with_place r.session s v; reports = r.reports }) t ≡ with_place (log_of r) s (log_with k s v) t
-  log-other s v t same = by_test (t == s)
-      (λ y. let one : t ≡ s = eqb-true t s y in
-      let reports : r.reports t ≡ (k.session s).live.reports = ap r.reports one ∙ ap (λ (l : SessionLog). l.reports) same in
-      (λ i. record { session = with_place-same r.session s v t y i; reports = reports i }) ∙ sym (with_place-same (log_of r) s (log_with k s v) t y))
-      (λ n. (λ i. record { session = with_place-other r.session s v t n i; reports = r.reports t }) ∙ sym (with_place-other (log_of r) s (log_with k s v) t n))
+  log-other s v t same = grind (arith, eqb-true)
 
   acts : (e : Event) (s : ℕ) (v : SessionValue) (x : Stored SessionLog)
       → IsAct (ls s) (k.session s) (log_of r s) x (log_with k s v)
@@ -272,11 +259,7 @@ module _ (lc ls : ℕ → Bool) (N : Network) (past : List Event) (k : Restartin
   log-heard : (s : ℕ) (report : Report) (t : ℕ)
       → log_of r s ≡ (k.session s).live
       → log_of (hears r s (received.Answered report)) t ≡ with_place (log_of r) s (log_told (k.session s).live report) t
-  log-heard s report t same = by_test (t == s)
-      (λ y. (λ i. record { session = with_place-same r.session s (answered (r.session s)) t y i; reports = with_place-same r.reports s (r.reports s ++ report ∷ []) t y i })
-      ∙ ap (λ (l : SessionLog). log_told l report) same ∙ sym (with_place-same (log_of r) s (log_told (k.session s).live report) t y))
-      (λ n. (λ i. record { session = with_place-other r.session s (answered (r.session s)) t n i; reports = with_place-other r.reports s (r.reports s ++ report ∷ []) t n i })
-      ∙ sym (with_place-other (log_of r) s (log_told (k.session s).live report) t n))
+  log-heard s report t same = grind (arith, eqb-true)
 
   hears-as : (n m s : ℕ) (x : Held) (y : Received)
       → frame_at k.frames n ≡ Some x → frame_at r.frames m ≡ Some x → x.end ≡ AtSession s

@@ -29,14 +29,7 @@ once-more m k begun new old e gains few h = ⊎_elim
 carried-more : (c : Clock) (start : DataSetsValue) (xs ys : List RequestCopy) (e : Accepted)
     → WasCarriedOut c start xs e
     → WasCarriedOut c start (xs ++ ys) e
-carried-more c start xs ys e was = record {
-  before = was.before;
-  copy = was.copy;
-  later = was.later ++ ys;
-  came_in = ap (λ (zs : List RequestCopy). zs ++ ys) was.came_in ∙ append_assoc was.before (was.copy ∷ was.later) ys;
-  joined = was.joined;
-  is = was.is;
-}
+carried-more c start xs ys e was = grind (arith, append_assoc)
 
 module _ (N : Network) (w u : NetworkState) (s : ℕ) (x : Report) where
   worth-from : ((i : ℕ) (q : RequestValue) → slice_get (w.session s).begun i ≡ Some q → slice_get (u.session s).begun i ≡ Some q)
