@@ -101,7 +101,7 @@ ports_after-length [] ports = refl
 ports_after-length (o ∷ os) [] = refl
 ports_after-length (o ∷ os) (p ∷ ports) = ap (λ (n : ℕ). suc n) (ports_after-length os ports)
 
--- ---- what follows where an observation is accepted
+-- ---- what follows if an observation is accepted
 
 module _ (o : ClockObservation) (ports : List PortObservation) (d : DataSetsValue) (accepted : observation_refusal o ports d ≡ None) where
   pub has_places : length ports ≤ length d.ports
