@@ -1,4 +1,4 @@
--- What a sender has sent, which is no promise: each answer is a message more where they go.
+-- What a sender has sent, which is no promise: each answer is one message more in their place.
 use Rattle.std.specs.Prelude.{All, ◌≤◌, ◌<◌, ◌^◌, ◌≡◌, ℕ, ◌+◌, Bool, List, [], ◌∷◌, ◌++◌, None, is_some, length, map, unwrap_or}
 use Rattle.ptpm_codec.specs.declared.identity.ClockIdentity.{ClockIdentity}
 use Rattle.ptpm_codec.specs.declared.message.Action.{Action}
@@ -61,7 +61,7 @@ abbrev pub all_octets : List (List ℕ) → List ℕ
 all_octets [] = []
 all_octets (m ∷ ms) = m ++ all_octets ms
 
--- messages of so many octets at most as those of a reply
+-- messages of at most as many octets as those of a reply
 abbrev pub AreSmall : List (List ℕ) → Type 0
 AreSmall [] = Unit {0}
 AreSmall (m ∷ ms) = (length m ≤ 184) × AreSmall ms

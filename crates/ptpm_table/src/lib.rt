@@ -1,4 +1,4 @@
-//! Request numbers, kept replies, and replies as messages: what at-most-once execution stands on.
+//! Request numbers, kept replies, and replies as messages: what at-most-once execution is built on.
 #![tactic(auto)]
 
 mod error;

@@ -19,7 +19,7 @@ use ptpm_codec::{Action, ClockIdentity, DATA_FIELD_OCTETS, PortIdentity, overwri
 use ptpm_data::{Reply, Request, Rights};
 use std::marker::Model;
 
-/// A manager's rights, and its latest accepted request, where one is kept. In it and in `Kept` the large members stand
+/// A manager's rights, and its latest accepted request, if one is kept. In it and in `Kept` the large members come
 /// first, so that no octet between two members belongs to neither: an empty table is then cleared in one piece.
 #[derive(Drop)]
 pub(crate) struct Slot {
@@ -87,7 +87,7 @@ impl Model for Kept {
 }
 
 impl Kept {
-    /// What stands in a slot that was not used yet.
+    /// The content of a slot that was not used yet.
     pub(crate) fn nothing(clock: &ClockIdentity, manager: &PortIdentity) -> Kept
         ensures clock { result.clock ≡ clock.now }
         ensures manager { result.manager ≡ manager.now }
@@ -134,7 +134,7 @@ impl Kept {
         }
     }
 
-    /// Keeps another request, with its number and reply, in place of this one. The reply's messages are encoded right here.
+    /// Keeps another request, with its number and reply, in place of this one. The reply's messages are encoded in place.
     pub(crate) fn replace(&mut self, number: u16, request: &Request<'_>, reply: &Reply)
         requires action { IsRequestAction request.now.action }
         requires octets { IsDataField request.now.octets }
@@ -215,7 +215,7 @@ impl Kept {
     }
 }
 
-/// Keeps a dataField in place of another. Most have none, as a GET's.
+/// Keeps a dataField in place of another. Most are empty, such as a GET's.
 #[inline(always)]
 fn keep_octets(kept: &mut ArrayVec<u8, DATA_FIELD_OCTETS>, octets: &[u8])
     requires { IsDataField octets.now }

@@ -24,7 +24,7 @@ use arrayvec::ArrayVec;
 use ptpm_codec::{ClockIdentity, OutOfMemory, PortIdentity};
 use ptpm_data::{Reply, Request, Rights};
 
-/// The latest accepted requests in so many slots inside the value, one for each manager. A clock has sixteen managers at
+/// The latest accepted requests, in this many slots inside the value, one for each manager. A clock has sixteen managers at
 /// most (this project's profile), so slots past the sixteenth stay empty. A slot has 2,136 octets, and the table 16 besides.
 /// Replies are kept as octets: `keep_sent` copies the messages as they were sent, and `keep` encodes them. `resend` copies them
 /// and writes over what depends on the copy that is answered. It takes no memory, and `keep` is never refused.
@@ -60,8 +60,8 @@ impl SlotTable<MANAGERS> {
 }
 
 impl<const SLOTS: usize> SlotTable<SLOTS> {
-    /// A table without entries, of this clock and these managers. `TooMany` where they are more than the slots, or more than
-    /// sixteen however many slots there are; then `Twice` where an identity stands twice. Takes no memory: the table has 16
+    /// A table without entries, of this clock and these managers. `TooMany` if they are more than the slots, or more than
+    /// sixteen however many slots there are; then `Twice` if an identity is listed twice. Takes no memory: the table has 16
     /// octets, and 2,136 for each slot, used or not.
     pub fn of_size(
         clock: ClockIdentity,
@@ -95,7 +95,7 @@ impl<const SLOTS: usize> SlotTable<SLOTS> {
         }
     }
 
-    /// Gives a table without managers these, where it stands: whom `of_size` would take, so at most as many as slots, sixteen
+    /// Gives a table without managers these, in place. `of_size` would take them: at most as many as slots, sixteen
     /// at most, and each identity once.
     pub fn admit(&mut self, managers: &[(PortIdentity, Rights)])
         requires none { (⟦<SlotTable<SLOTS> as ReplyTable>⟧.owner self.old).managers ≡ [] }

@@ -398,7 +398,7 @@ fn longest_user_description<T: ReplyTable>(rt: &impl Abort, table: &mut T) {
     }
 }
 
-/// What cannot be refused stands in place of what was kept.
+/// What cannot be refused takes the place of what was kept.
 #[tactic(auto, unfolding(ptpm_data::specs::ManagementId::row_of))]
 fn replaced_reply<T: SureTable>(rt: &impl Abort, table: &mut T) {
     accept_get(rt, table, 7);
@@ -455,7 +455,7 @@ fn refused_memory_changes_nothing(rt: HostRuntime) -> Result<(), TableError> {
     Ok(())
 }
 
-/// Keeps a new request, and where memory is refused does it once more.
+/// Keeps a new request, and if memory is refused does it once more.
 fn keep_twice_at_most<T: ReplyTable>(
     rt: &impl Abort,
     table: &mut T,
@@ -549,7 +549,7 @@ fn is_hex(octets: &[u8], digits: &[u8]) -> bool {
     matches!(rest_after(octets, digits), Some([]))
 }
 
-/// What follows the octets of these digits, where octets begin with them.
+/// What follows the octets of these digits, if octets begin with them.
 fn rest_after<'a>(octets: &'a [u8], digits: &[u8]) -> Option<&'a [u8]> {
     match (octets, digits) {
         (rest, []) => Some(rest),
