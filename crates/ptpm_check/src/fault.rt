@@ -83,7 +83,7 @@ pub enum Need {
     AtMost(usize),
     /// As many ends as a link has.
     Ends(usize),
-    /// At most the first number of sessions with this target; there are as many as the second.
+    /// How many sessions have this target, and how many may at most.
     Managers(usize, usize),
     /// A port of a clock that has this many.
     PortUpTo(u16),
