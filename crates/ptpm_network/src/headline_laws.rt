@@ -22,8 +22,8 @@ ghost use Rattle.ptpm_network.specs.State.{Frame, NetworkState, history};
 
 /// The headline. However a network loses, repeats, reorders or duplicates messages, if none arrives after more than 32,768 later
 /// requests of its manager, each clock's data sets are those after its managers' delivered requests, each applied once in order
-/// of first acceptance. Repeats of the latest get the one reply kept, older ones none. Each manager reports those replies.
-/// Strangers and refused SETs change no data set.
+/// of first acceptance. Then repeats of the latest get the one reply kept, older ones none; each manager reports those replies;
+/// strangers and refused SETs change no data set.
 pub fn headline()
     ensures { (N : Network) (events : List Event) (r : RunningNetwork) →
         StandsAfter N events r → Headline N (state_after N events) r }
