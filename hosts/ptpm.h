@@ -283,8 +283,8 @@ PTPM_HAS_SIZE(ptpm_source, 10);
 #undef PTPM_HAS_SIZE
 
 /* The most messages that a clock sends for a datagram. The most octets of a dataField of its own. The most octets of a message, its
-   dataField included. */
-enum { PTPM_MOST_SENT = 15, PTPM_MOST_READ = 130, PTPM_MOST_OCTETS = 1472 };
+   dataField included, and of a session's image. */
+enum { PTPM_MOST_SENT = 15, PTPM_MOST_READ = 130, PTPM_MOST_OCTETS = 1472, PTPM_SESSION_IMAGE_OCTETS = 1478 };
 
 /* The most ports whose answers a survey keeps. */
 enum { PTPM_MOST_ANSWERS = 512 };
@@ -510,6 +510,24 @@ __extension__ enum PTPM_FOUR_OCTETS(ptpm_told) {
     PTPM_REPORT_NO_SURVEY = PTPM_NO_SURVEY
 };
 
+/* ptpm_session_image. */
+__extension__ enum PTPM_FOUR_OCTETS(ptpm_saved) {
+    PTPM_SAVED = 0,
+    PTPM_SAVE_NO_ROOM = PTPM_NO_ROOM,   /* for fewer octets than the image has */
+    PTPM_SAVE_NO_SESSION = PTPM_NO_SESSION
+};
+
+/* ptpm_session_restore. */
+__extension__ enum PTPM_FOUR_OCTETS(ptpm_restored) {
+    PTPM_RESTORED = 0,
+    PTPM_RESTORE_NO_MEMORY = PTPM_NO_MEMORY,
+    PTPM_NOT_AN_IMAGE = 56,             /* under 12 octets, or the first four are not "ptpm" */
+    PTPM_OTHER_VERSION = 57,            /* an image of another version */
+    PTPM_OTHER_KIND = 58,               /* an image, but not of a session */
+    PTPM_DAMAGED = 59,                  /* octets are missing, further ones follow, or one has a value that no image has */
+    PTPM_OTHER_SESSION = 60             /* another manager or clock, another number of ports, or another first number */
+};
+
 /* So the header refuses a compiler that takes no such word. */
 #define PTPM_IS_WIDE(name) typedef char name##_has_not_four_octets[sizeof(enum name) == 4 ? 1 : -1]
 PTPM_IS_WIDE(ptpm_started);
@@ -523,6 +541,8 @@ PTPM_IS_WIDE(ptpm_retuned);
 PTPM_IS_WIDE(ptpm_session_received);
 PTPM_IS_WIDE(ptpm_survey_received);
 PTPM_IS_WIDE(ptpm_told);
+PTPM_IS_WIDE(ptpm_saved);
+PTPM_IS_WIDE(ptpm_restored);
 #undef PTPM_IS_WIDE
 #undef PTPM_FOUR_OCTETS
 
@@ -623,6 +643,24 @@ enum ptpm_retuned ptpm_session_retune(struct ptpm_session *session, uint8_t doma
    Answers: PTPM_ANSWERED; or why the datagram is ignored or not judged, and then nothing changes.
    Memory:  a copy of the dataField of the answer, until the next request is begun. */
 enum ptpm_session_received ptpm_session_receive(struct ptpm_session *session, const uint8_t *datagram, size_t size);
+
+/* Makes the session's image: what a host saves before it sends a request, and after it has reported an answer. From it a
+   session goes on after a restart. How many attempts are left, and the answer to the latest request, are not in it.
+   Takes:   room octets; PTPM_SESSION_IMAGE_OCTETS are enough for every session.
+   Answers: PTPM_SAVED, or why not.
+   Writes:  *size, and that number of octets from octets on: the image. If the call is refused, *size is 0 and no octet is written. */
+enum ptpm_saved ptpm_session_image(struct ptpm_session *session, uint8_t *octets, size_t room, size_t *size);
+
+/* Puts the session of an image in the handle, in place of what it holds, which is then freed. A request that was not answered
+   goes on, with all its attempts: send it again.
+   Takes:   size octets, and the settings of the session. Its manager, managed clock, number of ports and first number must be
+            those of the image. Domain, hops and attempts are those of the image.
+   Answers: PTPM_RESTORED; or why not, and then the handle holds what it held. A restore that is refused is no reason to start
+            the session anew. The clock would then take its requests for old ones, or for others.
+   Memory:  the session, until it is stopped, and a copy of the dataField of its request.
+   Owed:    the caller stops the session. */
+enum ptpm_restored ptpm_session_restore(struct ptpm_session *session, const struct ptpm_session_settings *settings,
+                                        const uint8_t *image, size_t size);
 
 /* Counts the requests that were begun.
    Answers: how many they are; 0 if the handle holds no session. */

@@ -27,6 +27,7 @@ mod handle;
 mod keeping;
 mod kept;
 mod names;
+mod saving;
 mod session;
 mod survey;
 

@@ -4,17 +4,15 @@ ghost use Rattle.std.specs.Prelude.{◌≡◌, ◌<◌, ◌+◌, ℕ, IfErr, IfO
 ghost use Rattle.std.specs.Option.{option_or};
 ghost use Rattle.std.specs.Result.{result_err};
 ghost use Rattle.ptpm_check.specs.Faults.{refusal_of};
+ghost use Rattle.ptpm_findings.specs.Check.{IsCounted, events_fault};
 ghost use Rattle.ptpm_script.specs.NetworkText.{network_of};
 ghost use Rattle.ptpm_world.specs.declared.script_error.ScriptError.TheVariants.{BadNetwork};
-ghost use Rattle.ptpm_world.specs.Check.{IsCounted, events_fault};
-ghost use Rattle.ptpm_world.specs.Lines.{left_in, whole_lines};
+ghost use Rattle.ptpm_world.specs.Lines.{latest_line, left_in, line_count, whole_lines};
 ghost use Rattle.ptpm_world.specs.Script.{event_of, scripted, scripted_from};
 ghost use Rattle.ptpm_world.specs.ScriptError.{ReadsWhole, is_of_reading, is_outside, text_fault};
 
-use crate::lines::Lines;
-use crate::script::{is_skipped, read_text};
-use crate::script_error::ScriptError;
 use ptpm_check::{Document, event_fault};
+use ptpm_world::{Lines, ScriptError, is_skipped, read_text};
 use std::alloc::Global;
 use std::io::{Read, Write};
 
@@ -71,7 +69,7 @@ fn check_lines<R: Read + Drop, W: Write>(
     ensures first { IfOk result
         (λ found.
         IfSome (left_in R.remaining script.old)
-        (λ octets. found.first ≡ result_err (scripted_from (script.old.count + 1) octets).end)) }
+        (λ octets. found.first ≡ result_err (scripted_from (line_count script.old + 1) octets).end)) }
     ensures counted { IfOk result IsCounted }
     ensures outside { IfErr result (λ e. is_outside e ≡ true) }
 {
@@ -126,7 +124,7 @@ fn check_events<R: Read + Drop, W: Write>(
         (λ octets.
         findings.new.first
         ≡ option_or findings.old.first
-        (events_fault (script.old.count + 1) 1 (whole_lines octets)))) }
+        (events_fault (line_count script.old + 1) 1 (whole_lines octets)))) }
     ensures counted { IsCounted findings.old → OnOk result (IsCounted findings.new) }
     ensures outside { IfErr result (λ e. is_outside e ≡ true) }
 {
@@ -144,18 +142,18 @@ fn read_next<R: Read + Drop, W: Write>(
     findings: &mut Findings,
     out: &mut W,
 ) -> Result<bool, ScriptError>
-    ensures count { result ≡ Ok true → script.new.count ≡ script.old.count + 1 }
+    ensures count { result ≡ Ok true → line_count script.new ≡ line_count script.old + 1 }
     ensures same { result ≡ Ok true → findings.new.first ≡ findings.old.first }
     ensures line { result ≡ Ok true
-        → ReadsWhole (script.old.count + 1) (left_in R.remaining script.old) true
-        script.new.line.items (left_in R.remaining script.new) }
+        → ReadsWhole (line_count script.old + 1) (left_in R.remaining script.old) true
+        (latest_line script.new) (left_in R.remaining script.new) }
     ensures end { result ≡ Ok false
         → IfSome (left_in R.remaining script.old)
         (λ octets.
         (place : ℕ)
         → findings.new.first
         ≡ option_or findings.old.first
-        (events_fault (script.old.count + 1) place (whole_lines octets))) }
+        (events_fault (line_count script.old + 1) place (whole_lines octets))) }
     ensures counted { IsCounted findings.old → OnOk result (IsCounted findings.new) }
     ensures outside { IfErr result (λ e. is_outside e ≡ true) }
 {
@@ -179,8 +177,8 @@ fn check_event<R: Read + Drop, W: Write>(
     ensures first { OnOk result
         (findings.new.first
         ≡ option_or findings.old.first
-        (option_or (text_fault script.now.count script.now.line.items)
-        (result_err (event_of number script.now.line.items)))) }
+        (option_or (text_fault (line_count script.now) (latest_line script.now))
+        (result_err (event_of number (latest_line script.now))))) }
     ensures counted { IsCounted findings.old → OnOk result (IsCounted findings.new) }
     ensures outside { IfErr result (λ e. is_outside e ≡ true) }
 {
