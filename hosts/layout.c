@@ -1,7 +1,7 @@
-/* layout: whether ptpm.h has its members where the library has them. Each member of each struct gets a value of its own, and
+/* layout: whether ptpm.h has its members in the library's places. Each member of each struct gets a value of its own, and
    what the library then says must have that value at the place that the standard gives it (IEEE 1588-2019, clauses 13.3, 15.4
    and 15.5). And each constant of an answer must have its name, and ids and errors theirs. Prints what does not hold and `layout: N passed, M
-   failed`; its status is 1 where one failed. */
+   failed`; its status is 1 if one failed. */
 #include "checking.h"
 #include "ptpm.h"
 #include <ctype.h>
@@ -32,7 +32,7 @@ static int is_text(const uint8_t *octets, size_t size, const char *text) {
     return octets_of(text, wanted) == size && memcmp(octets, wanted, size) == 0;
 }
 
-/* A message with one TLV: the octets of 13.3 and 15.4, and behind them the TLV's. */
+/* A message with one TLV: the octets of 13.3 and 15.4, and after them the TLV's. */
 static const char *message(unsigned domain, const char *source, unsigned number, const char *target, unsigned hops, unsigned action,
                            const char *tlv) {
     static char text[512];
@@ -299,7 +299,7 @@ static void managers(void) {
           "the port of a manager");
 }
 
-/* The longest message fills its place, and its size counts no octet behind the place. */
+/* The longest message fills its place, and its size counts no octet past the place. */
 static void longest(void) {
     uint8_t octets[PTPM_MOST_OCTETS];
     struct ptpm_clock_settings s = own_values();
@@ -353,7 +353,7 @@ static void changes(void) {
     }
 }
 
-/* Each constant of a changed member stands where the fault of its member does. */
+/* Each constant of a changed member is in the place of its member's fault. */
 static void changed_members(void) {
 #define MEMBER(name) check(PTPM_CHANGED_##name == 1 << (PTPM_BAD_##name - PTPM_BAD_IDENTITY), "PTPM_CHANGED_" #name);
     MEMBER(IDENTITY) MEMBER(DOMAIN) MEMBER(USER_DESCRIPTION) MEMBER(TWO_STEP) MEMBER(PRIORITY1) MEMBER(CLOCK_CLASS)
