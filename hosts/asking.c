@@ -13,7 +13,7 @@
 #include <string.h>
 
 enum { NOT_SUPPORTED = 6 };         /* a managementErrorId (15.5.4.3) */
-enum { QUIET = 2, QUIET_AT_FIRST = 5 };     /* so often nothing new ends a survey: where somebody answered, and where nobody did */
+enum { QUIET = 2, QUIET_AT_FIRST = 5 };     /* rounds without a new answer that end a survey; QUIET_AT_FIRST if nobody answered */
 
 static struct ptpm_session session;
 static struct ptpm_survey survey;
@@ -37,7 +37,7 @@ static int not_asked(uint32_t refusal) {
 }
 
 /* Counts a message that went out; whether going on has a sense. Where there is no way, and it didn't go out before, it has none,
-   and that is told. */
+   and that is said. */
 static int is_going_on(enum sending sending, long *sent) {
     if (sending == OUT) {
         ++*sent;

@@ -8,15 +8,15 @@
 enum status { ANSWERED = 0, REFUSED = 1, NOT_ASKED = 2, NOT_ANSWERED = 3, NOT_WRITTEN = 4, BY_SIGNAL = 128 };
 
 /* Whether the library would take the task's request, without a word of it on the network: ANSWERED, or the program's status, and
-   then why not is told. */
+   then why not is said. */
 int judge_request(const struct task *task);
 
-/* Makes the task's request so many times as it says, one behind the other, each sent until it is answered or its attempts are
-   used, and prints what each answer tells; the program's status. */
+/* Makes the task's request as many times as it says, one after the other, each sent until it is answered or its attempts are
+   used, and prints what each answer says; the program's status. */
 int ask_clock(const struct task *task);
 
-/* Asks every clock and every port until two times bring no new answer, or the attempts are used, and prints what each answer
-   tells behind the port that gave it; the program's status. */
+/* Asks every clock and every port until two rounds bring no new answer, or the attempts are used, and prints what each answer
+   says after the port that gave it; the program's status. */
 int ask_every_clock(const struct task *task);
 
 #endif

@@ -11,7 +11,7 @@
    but belongs to what makes a repeat: so it is answered where its number is new, and else not at all. Then the task begins
    at the number behind it, which is new too. Where no file kept a number (`is_kept` is 0), the task begins at a drawn number, or up
    to three times 16384 ahead of it; it waits before as long as the task says, since copies of what an earlier session sent may be on
-   their way, and the step ahead may make them new. ANSWERED, or the program's status, which is told then. */
+   their way, and the step ahead may make them new. ANSWERED, or the program's status, which is said then. */
 int find_number(struct task *task, int is_kept);
 
 #endif

@@ -1,7 +1,7 @@
-/* layout: whether ptpm.h has its members where the library has them. Each member of each struct gets a value of its own, and
+/* layout: whether ptpm.h has its members in the library's places. Each member of each struct gets a value of its own, and
    what the library then says must have that value at the place that the standard gives it (IEEE 1588-2019, clauses 13.3, 15.4
    and 15.5). And each constant of an answer must have its name, and ids and errors theirs. Prints what does not hold and `layout: N passed, M
-   failed`; its status is 1 where one failed. */
+   failed`; its status is 1 if one failed. */
 #include "checking.h"
 #include "ptpm.h"
 #include <ctype.h>
@@ -32,7 +32,7 @@ static int is_text(const uint8_t *octets, size_t size, const char *text) {
     return octets_of(text, wanted) == size && memcmp(octets, wanted, size) == 0;
 }
 
-/* A message with one TLV: the octets of 13.3 and 15.4, and behind them the TLV's. */
+/* A message with one TLV: the octets of 13.3 and 15.4, and after them the TLV's. */
 static const char *message(unsigned domain, const char *source, unsigned number, const char *target, unsigned hops, unsigned action,
                            const char *tlv) {
     static char text[512];
@@ -299,7 +299,7 @@ static void managers(void) {
           "the port of a manager");
 }
 
-/* The longest message fills its place, and its size counts no octet behind the place. */
+/* The longest message fills its place, and its size counts no octet past the place. */
 static void longest(void) {
     uint8_t octets[PTPM_MOST_OCTETS];
     struct ptpm_clock_settings s = own_values();
@@ -353,7 +353,7 @@ static void changes(void) {
     }
 }
 
-/* Each constant of a changed member stands where the fault of its member does. */
+/* Each constant of a changed member is in the place of its member's fault. */
 static void changed_members(void) {
 #define MEMBER(name) check(PTPM_CHANGED_##name == 1 << (PTPM_BAD_##name - PTPM_BAD_IDENTITY), "PTPM_CHANGED_" #name);
     MEMBER(IDENTITY) MEMBER(DOMAIN) MEMBER(USER_DESCRIPTION) MEMBER(TWO_STEP) MEMBER(PRIORITY1) MEMBER(CLOCK_CLASS)
@@ -410,6 +410,41 @@ static void sessions(void) {
           && ptpm_session_report(&session, octets, sizeof octets, &size, &error) == PTPM_REFUSED && error == 0x0004,
           "a refusal that is told");
     check(ptpm_session_issued(&session) == 2, "how many requests were begun");
+}
+
+/* A session whose GET is not answered, as its image has it, and the session back from the image. */
+static void images(void) {
+    struct ptpm_session_settings s = session_values();
+    struct ptpm_session saved = { 0 };
+    uint8_t image[PTPM_SESSION_IMAGE_OCTETS], octets[PTPM_MOST_OCTETS], none = 0;
+    size_t size = 0, length = 0;
+    check(ptpm_session_image(&saved, image, sizeof image, &size) == PTPM_SAVE_NO_SESSION && size == 0, "no session, no image");
+    check(ptpm_session_start(&saved, &s) == PTPM_STARTED
+          && ptpm_session_begin(&saved, PTPM_GET, 0x200b, 7, &none, 0) == PTPM_BEGUN, "a session that is saved");
+    check(ptpm_session_image(&saved, image, 59, &size) == PTPM_SAVE_NO_ROOM && size == 0, "an image that lacks room");
+    check(ptpm_session_image(&saved, image, sizeof image, &size) == PTPM_SAVED
+          && is_text(image, size, "7074706d" "02" "01" "0000" "00000030" MANAGER "0a11" OTHER "07" "3344" "09" "03" "2b"
+                     "0000000000000001" "0000000000000000" "01" "00" "200b" "0007" "0000"),
+          "the image of a session");
+    ptpm_session_stop(&saved);
+    check(ptpm_session_restore(&saved, &s, image, 11) == PTPM_NOT_AN_IMAGE, "PTPM_NOT_AN_IMAGE");
+    check(ptpm_session_restore(&saved, &s, image, size - 1) == PTPM_DAMAGED, "PTPM_DAMAGED");
+    image[4] = 1;
+    check(ptpm_session_restore(&saved, &s, image, size) == PTPM_OTHER_KIND, "PTPM_OTHER_KIND");
+    image[4] = 2;
+    image[5] = 2;
+    check(ptpm_session_restore(&saved, &s, image, size) == PTPM_OTHER_VERSION, "PTPM_OTHER_VERSION");
+    image[5] = 1;
+    s.first++;
+    check(ptpm_session_restore(&saved, &s, image, size) == PTPM_OTHER_SESSION, "PTPM_OTHER_SESSION");
+    s.first--;
+    check(ptpm_session_issued(&saved) == 0, "a restore that is refused leaves the handle");
+    s.domain = s.hops = s.attempts = 0;
+    check(ptpm_session_restore(&saved, &s, image, size) == PTPM_RESTORED && ptpm_session_issued(&saved) == 1
+          && ptpm_session_send(&saved, octets, sizeof octets, &length) == PTPM_SENT
+          && is_text(octets, length, message(0x2b, MANAGER "0a11", 0x3344, OTHER "0007", 0x0909, PTPM_GET, "0001" "0002" "200b")),
+          "the request of a session that is restored");
+    ptpm_session_stop(&saved);
 }
 
 static void surveys(void) {
@@ -560,6 +595,7 @@ int main(void) {
     changes();
     changed_members();
     sessions();
+    images();
     surveys();
     answer_names();
     names_in_types();

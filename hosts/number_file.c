@@ -16,14 +16,14 @@
 enum { NAME = 256, DIGITS = 5, TURN = 60000, TRY_AGAIN = 10 };     /* the times in milliseconds */
 enum { OWNER = 2 * IDENTITY_TEXT + 8, LINE = DIGITS + OWNER + 2, NONE_KEPT = -1 };
 
-/* The file: its path as it was named, its name in its folder, and what stands there. */
+/* The file: its path as it was named, its name in its folder, and what is there. */
 static const char *path;
 static int path_is_named;
 static char name[NAME], new_name[NAME], lock_name[NAME];
 static int folder = -1;
 static char owner[OWNER];               /* the session's: a blank, the manager, a blank, and the clock */
 static long kept = NONE_KEPT;           /* the number that the file has in the form of today */
-static struct stat before;              /* of the file that is replaced; st_nlink is 0 where there is none */
+static struct stat before;              /* of the file that is replaced; st_nlink is 0 if there is none */
 
 const char *numbers_path(void) { return path; }
 
@@ -51,7 +51,7 @@ static void open_folder(void) {
     strcpy(name, last);
     strcpy(stpcpy(new_name, name), ".new");
     strcpy(stpcpy(lock_name, name), ".lock");
-    int failure = size > 0 && mkdir(text, 0755) ? errno : 0;    /* where it is missing; what stands above it is not made */
+    int failure = size > 0 && mkdir(text, 0755) ? errno : 0;    /* if it is missing; what is above it is not made */
     folder = open(text, O_RDONLY | O_DIRECTORY | O_CLOEXEC);
     if (folder < 0 && errno == ENOENT && failure != 0) errno = failure;
     if (folder < 0) refuse_place();
@@ -162,7 +162,7 @@ static int is_whole(int at, const char *text, size_t size) {
     return written == (ssize_t)size;
 }
 
-/* Writes the file that is to stand in place of the old one; whether it could. */
+/* Writes the file that is to replace the old one; whether it could. */
 static int writes_new(uint16_t number) {
     char text[LINE + 1];
     int size = snprintf(text, sizeof text, "%u%s\n", number, owner);

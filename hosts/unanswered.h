@@ -1,4 +1,4 @@
-/* What can be said where no answer came. */
+/* What can be said if no answer came. */
 #ifndef UNANSWERED_H
 #define UNANSWERED_H
 
@@ -8,8 +8,8 @@
    is. */
 enum asked { REQUEST, NUMBER, FIRST_NUMBER };
 
-/* Says what is known of it, where so many messages went out: of these nobody knows whether they came in. Where a clock may have
-   dropped them it is read by nobody, and what it has is told. The program's status. */
+/* Says what is known of it, after this many messages went out: of these nobody knows whether they came in. If a clock may have
+   dropped them it is read by nobody, and what it has is said. The program's status. */
 int no_answer(const struct task *task, enum asked asked, long sent);
 
 #endif

@@ -48,14 +48,14 @@ impl<T: ReplyTable + Drop> Agent<T> {
         Agent { sets, table }
     }
 
-    /// The data sets as they stand.
+    /// The data sets as they are.
     pub fn sets(&self) -> &DataSets
         ensures { result.now ≡ self.now.sets }
     {
         &self.sets
     }
 
-    /// The reply table as it stands.
+    /// The reply table as it is.
     pub fn table(&self) -> &T
         ensures { result.now ≡ self.now.table }
     {
@@ -64,7 +64,7 @@ impl<T: ReplyTable + Drop> Agent<T> {
 
     /// What becomes of a datagram that comes in at a port of the clock: one turn. The outbox then holds what is to be sent
     /// and nothing else: the copies that are passed on, then the replies. Memory is asked for by the table's `keep` alone,
-    /// where the verdict is `AnsweredNew`; where it is refused, nothing has changed, the outbox neither, and the datagram
+    /// if the verdict is `AnsweredNew`. If it is refused, nothing has changed, nor has the outbox, and the datagram
     /// counts as not delivered.
     pub fn try_handle(
         &mut self,
@@ -109,9 +109,9 @@ impl<T: ReplyTable + Drop> Agent<T> {
         Ok(verdict)
     }
 
-    /// Takes what the clock's host observed. The data sets move as `DataSets::observe` has them, and what is kept of each manager
+    /// Takes what the clock's host observed. The data sets change as `DataSets::observe` says. What is kept of each manager
     /// stays: so each request is carried out once all the same, and a copy of the latest gets the reply that was kept. The
-    /// answer tells the ports that are DISABLED and were left so. Takes no memory.
+    /// answer reports the ports that are DISABLED and were left so. Takes no memory.
     ///
     /// Refused with the first `ObservationError` that holds, judged on the data sets as they would be; then nothing changes.
     pub fn observe(
@@ -130,7 +130,7 @@ impl<T: ReplyTable + Drop> Agent<T> {
         self.sets.observe(clock, ports)
     }
 
-    /// The verdict on a message, and the rights of its source where it is a new request.
+    /// The verdict on a message, and the rights of its source if it is a new request.
     #[tactic(auto, unfolding(crate::specs::Turn::judged))]
     fn judge(&self, message: &View<'_>) -> (Verdict, Rights)
         ensures verdict { result.0 ≡ judged
@@ -313,7 +313,7 @@ impl<T: ReplyTable + Drop> Agent<T> {
 const _: () = prove!(size_of::<Agent<SlotTable<1>>>() == 2_592);
 
 impl<const SLOTS: usize> Agent<SlotTable<SLOTS>> {
-    /// A clock that has heard nothing yet and has no managers. It is never inlined: whoever keeps it has it made where it is
+    /// A clock that has heard nothing yet and has no managers. It is never inlined: it is made in the place where it is
     /// kept, cleared once and not moved.
     #[inline(never)]
     pub fn without_managers(sets: DataSets) -> Agent<SlotTable<SLOTS>>
@@ -354,7 +354,7 @@ impl<T: SureTable + Drop> Agent<T> {
         self.handle_into(ingress, datagram, out)
     }
 
-    /// What `handle` does, with each message made right where it goes. Nothing was sent there before; at most fifteen messages are.
+    /// Like `handle`, but writes each message directly to `out`, which must be empty; at most fifteen.
     #[inline(always)]
     pub fn handle_into<O: Outgoing>(
         &mut self,
@@ -384,10 +384,10 @@ impl<T: SureTable + Drop> Agent<T> {
     }
 
     /// Handles the datagrams of a list in their order, each as it comes in at its port. The outbox then holds what is sent for
-    /// the last of them, and nothing else. So a running agent keeps over every list what it keeps in one call: where it stands
-    /// at a history, as it does at first, and the copies among the datagrams keep to the window, it stands at the history in
-    /// which each accepted request is applied once more, in order of first acceptance; and the last datagram, where it is a
-    /// copy, is sent the reply that is due to it.
+    /// the last of them, and nothing else. So a running agent keeps over every list what it keeps in one call. Let it be
+    /// at a history, as it is at first, and let the copies among the datagrams keep to the window. Then it is at the history
+    /// in which each accepted request is applied once more, in order of first acceptance. The last datagram, if it is a copy,
+    /// is sent the reply that is due to it.
     pub fn handle_each(&mut self, datagrams: &[(u16, Octets)], out: &mut Outbox)
         requires ports { All (λ x. HasPort x.0 self.old.sets) datagrams.now }
         ensures turned { state_of T.entries self.new ≡ after_each

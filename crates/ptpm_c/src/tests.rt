@@ -2,6 +2,7 @@
 
 use crate::handle::Handle;
 use crate::names::*;
+use crate::saving::*;
 use crate::session::*;
 use crate::survey::*;
 use crate::*;
@@ -59,7 +60,7 @@ const LONGEST_HEAD: &[u8; 54] = b"\x0d\x12\x05\xc0\x00\x00\
     \xaa\xbb\xcc\xff\xfe\xdd\xee\x02\xff\xff\x02\x01\x01\x00\
     \x00\x01\x05\x8c\x00\x02";
 
-/// The size of a message that fills its place counts no octet behind the place.
+/// The size of a message that fills its place counts no octet past the place.
 #[test]
 fn the_longest_message_passed_on(rt: HostRuntime) {
     let alloc = rt.alloc();
@@ -94,7 +95,7 @@ const GET_CURRENT: &[u8; 54] = b"\x0d\x12\x00\x36\x00\x00\
 const CURRENT: &[u8; 18] = b"\x00\x01\xff\xff\xff\xff\xff\xfe\x80\x00\
     \x00\x00\x00\x00\x00\xfa\x00\x00";
 
-/// An empty handle, what a GET reads behind an observation, a port that a manager disabled, and refusals, which change nothing.
+/// An empty handle, what a GET reads after an observation, a port that a manager disabled, and refusals, which change nothing.
 #[test]
 fn a_clock_that_is_observed(rt: HostRuntime) {
     let alloc = rt.alloc();
@@ -203,6 +204,55 @@ fn a_session_from_start_to_stop(rt: HostRuntime) {
     ptpm_session_stop(rt.alloc(), &mut handle);
     let answer = ptpm_session_receive(rt.alloc(), &mut handle, REPLY);
     assert!(rt; answer == 37);
+}
+
+/// The image of a session whose GET of PRIORITY1, its first request, is not answered. A second program made it.
+const WAITING: &[u8; 60] = b"ptpm\x02\x01\x00\x00\x00\x00\x00\x30\
+    \x00\x11\x22\x33\x44\x55\x66\x77\x00\x01\xaa\xbb\xcc\xff\xfe\xdd\xee\x01\
+    \x02\x00\x07\x01\x02\x00\x00\x00\x00\x00\x00\x00\x00\x01\x00\x00\x00\x00\
+    \x00\x00\x00\x00\x01\x00\x20\x05\xff\xff\x00\x00";
+
+/// A session is saved before it sends. After a restart it sends the same request, and takes the answer to it.
+#[test]
+fn a_session_from_its_image(rt: HostRuntime) {
+    let alloc = rt.alloc();
+    let settings = SessionSettings {
+        port: 1,
+        target_ports: 2,
+        first: 7,
+        clock: [0x00, 0x11, 0x22, 0x33, 0x44, 0x55, 0x66, 0x77],
+        target: [0xaa, 0xbb, 0xcc, 0xff, 0xfe, 0xdd, 0xee, 0x01],
+        domain: 0,
+        hops: 1,
+        attempts: 2,
+    };
+    let other = SessionSettings {
+        first: 8,
+        ..settings
+    };
+    let mut handle = Handle::empty();
+    let mut octets = [0; 1478];
+    let mut size = 1;
+    let answer = ptpm_session_image(alloc, &mut handle, &mut octets, &mut size);
+    assert!(rt; answer == 37 && size == 0);
+    assert!(rt; ptpm_session_start(alloc, &mut handle, &settings) == 0);
+    assert!(rt; ptpm_session_begin(alloc, &mut handle, 0, 0x2005, 0, &[]) == 0);
+    let answer = ptpm_session_image(alloc, &mut handle, &mut octets[..59], &mut size);
+    assert!(rt; answer == 34 && size == 0 && octets[0] == 0);
+    let answer = ptpm_session_image(alloc, &mut handle, &mut octets, &mut size);
+    assert!(rt; answer == 0 && size == 60);
+    assert!(rt; octets[..60] == WAITING[..]);
+    ptpm_session_stop(alloc, &mut handle);
+    assert!(rt; ptpm_session_restore(alloc, &mut handle, &settings, &WAITING[..11]) == 56);
+    assert!(rt; ptpm_session_restore(alloc, &mut handle, &settings, &WAITING[..59]) == 59);
+    assert!(rt; ptpm_session_restore(alloc, &mut handle, &other, WAITING) == 60);
+    assert!(rt; ptpm_session_send(alloc, &mut handle, &mut octets, &mut size) == 37);
+    assert!(rt; ptpm_session_restore(alloc, &mut handle, &settings, WAITING) == 0);
+    assert!(rt; ptpm_session_restore(alloc, &mut handle, &other, WAITING) == 60);
+    assert!(rt; ptpm_session_send(alloc, &mut handle, &mut octets, &mut size) == 0);
+    assert!(rt; size == 54 && octets.starts_with(REQUEST.as_slice()));
+    assert!(rt; ptpm_session_receive(alloc, &mut handle, REPLY) == 0);
+    ptpm_session_stop(alloc, &mut handle);
 }
 
 /// GET PRIORITY1, number 7, of the manager to every clock, at every port.

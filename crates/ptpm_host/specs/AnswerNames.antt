@@ -33,7 +33,9 @@ refusal_names =
     ∷ (40, codes "NOT_PERMITTED") ∷ (41, codes "BAD_VALUE") ∷ (42, codes "COUNT_AT_MAXIMUM") ∷ (43, codes "IDLE")
     ∷ (44, codes "GAVE_UP") ∷ (45, codes "NO_REPORT") ∷ (46, codes "NO_SURVEY") ∷ (48, codes "NO_PORTS")
     ∷ (49, codes "TOO_MANY_PORTS") ∷ (50, codes "GRANDMASTER_DIFFERS") ∷ (51, codes "TOO_MANY_MANAGERS")
-    ∷ (52, codes "MANAGER_TWICE") ∷ (53, codes "MANAGER_IS_EVERY") ∷ (54, codes "TARGET_IS_EVERY") ∷ (55, codes "SAME_CLOCK") ∷ []
+    ∷ (52, codes "MANAGER_TWICE") ∷ (53, codes "MANAGER_IS_EVERY") ∷ (54, codes "TARGET_IS_EVERY") ∷ (55, codes "SAME_CLOCK")
+    ∷ (56, codes "NOT_AN_IMAGE") ∷ (57, codes "OTHER_VERSION") ∷ (58, codes "OTHER_KIND") ∷ (59, codes "DAMAGED")
+    ∷ (60, codes "OTHER_SESSION") ∷ []
 
 -- which member of a clock is out of its range
 abbrev pub clock_member_names : List (ℕ × List ℕ)
@@ -75,7 +77,7 @@ abbrev pub words_in_capitals : List ℕ → List ℕ
 words_in_capitals [] = []
 words_in_capitals (c ∷ cs) = c ∷ flat_map letters cs
 
--- why a datagram holds no management message; want of memory, which no call tells so, has no name
+-- why a datagram holds no management message; want of memory, which no call reports so, has no name
 abbrev pub cause_word : DecodeError → Option (List ℕ)
 cause_word causes.OutOfMemory = None
 cause_word cause = Some (words_in_capitals (refusal_text cause))

@@ -1,10 +1,12 @@
 -- What the settings of a host describe: a session that has begun nothing. And why they describe none.
-use Rattle.std.specs.Prelude.{nat_lt, [], ◌∷◌, Option}
+use Rattle.std.specs.Prelude.{ℕ, nat_lt, List, [], ◌∷◌, Option}
 use Rattle.ptpm_codec.specs.declared.identity.ClockIdentity.{ClockIdentity}
 use Rattle.ptpm_codec.specs.declared.identity.PortIdentity.{PortIdentity}
 use Rattle.ptpm_codec.specs.Identity.{every_clock, same_clock}
 use Rattle.ptpm_codec.specs.Ordered.{first_of}
+use Rattle.ptpm_manager.specs.declared.error.RestoreError.{RestoreError}
 use Rattle.ptpm_manager.specs.declared.setup.Setup.{Setup}
+use Rattle.ptpm_manager.specs.Restoring.{restore_refusal}
 use Rattle.ptpm_manager.specs.Session.{SessionValue, fresh}
 use Rattle.ptpm_host.specs.declared.refusal.SessionRefusal.{SessionRefusal}
 use Rattle.ptpm_host.specs.declared.refusal.SessionRefusal.TheVariants as refusals
@@ -39,3 +41,7 @@ session_refusal s = first_of (
     ∷ (nat_lt s.target_ports 1, refusals.NoPorts)
     ∷ (nat_lt 8 s.target_ports, refusals.TooManyPorts)
     ∷ [])
+
+-- why an image is none of the session that the settings describe
+abbrev pub settings_refusal : SessionSettings → List ℕ → Option RestoreError
+settings_refusal s image = restore_refusal (manager_port s) (target_clock s) s.target_ports s.first image

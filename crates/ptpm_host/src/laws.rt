@@ -10,16 +10,17 @@ ghost use Rattle.ptpm_data.specs.declared.start.StartError.TheVariants.{BadValue
 ghost use Rattle.ptpm_data.specs.MemberNames.{member_name};
 ghost use Rattle.ptpm_manager.specs.declared.error.BeginError.{BeginError};
 ghost use Rattle.ptpm_manager.specs.declared.error.BeginError.TheVariants.{OutOfMemory};
+ghost use Rattle.ptpm_manager.specs.declared.error.RestoreError.{RestoreError};
 ghost use Rattle.ptpm_manager.specs.declared.error.SendError.{SendError};
 ghost use Rattle.ptpm_manager.specs.declared.receiving.Reason.{Reason};
-ghost use Rattle.ptpm_manager.specs.ErrorText.{begin_error_text, send_error_text};
+ghost use Rattle.ptpm_manager.specs.ErrorText.{begin_error_text, restore_error_text, send_error_text};
 ghost use Rattle.ptpm_host.specs.AnswerNames.{answer_name, reason_word, verdict_word, words_in_capitals};
 ghost use Rattle.ptpm_host.specs.ErrorNames.{error_name};
 ghost use Rattle.ptpm_host.specs.Names.{capitals, id_name};
-ghost use Rattle.ptpm_host.specs.Numbers.{begin_number, reason_number, resume_number, values_number, verdict_number};
+ghost use Rattle.ptpm_host.specs.Numbers.{begin_number, reason_number, restore_number, resume_number, values_number, verdict_number};
 
-/// The number of a verdict, of a reason and of a refusal has its name, in words of capitals as `ANSWERED_NEW` for `AnsweredNew`;
-/// a malformed datagram the name of its cause. The number of a member has its name behind `BAD_`. A managementErrorId that a
+/// The number of a verdict, of a reason and of a refusal has its name, in words of capitals: `ANSWERED_NEW` for `AnsweredNew`;
+/// a malformed datagram the name of its cause. The number of a member has its name after `BAD_`. A managementErrorId that a
 /// message can name has the name that it is written by. A name of an id, of an answer or of an error has at most 27 octets.
 pub fn names_law()
     ensures verdict { (v : Verdict) → answer_name (verdict_number v) ≡ verdict_word v }
@@ -29,6 +30,9 @@ pub fn names_law()
         → answer_name (begin_number e) ≡ Some (words_in_capitals (begin_error_text e)) }
     ensures send { (e : SendError)
         → answer_name (resume_number e) ≡ Some (words_in_capitals (send_error_text e)) }
+    ensures restore { (e : RestoreError)
+        → e ≢ RestoreError.OutOfMemory
+        → answer_name (restore_number e) ≡ Some (words_in_capitals (restore_error_text e)) }
     ensures member { (m : Member)
         → answer_name (values_number (BadValue m))
         ≡ Some (codes "BAD_" ++ capitals (member_name m)) }

@@ -29,9 +29,9 @@ pub use id_names::{NO_ID, id_name, id_named};
 pub use laws::names_law;
 pub use names::hand_out_name;
 pub use numbers::{
-    NO_CLOCK, NO_MEMORY, NO_SESSION, NO_SURVEY, begin_number, handle_number, heard_number,
-    observe_number, read_number, report_number, resume_number, send_number, session_number,
-    start_number, surveyed_number, told_number, verdict_number,
+    NO_CLOCK, NO_MEMORY, NO_ROOM, NO_SESSION, NO_SURVEY, begin_number, handle_number, heard_number,
+    observe_number, read_number, report_number, restore_number, resume_number, send_number,
+    session_number, start_number, surveyed_number, told_number, verdict_number,
 };
 pub use observing::{ObservedClock, ObservedPort, left_number};
 pub use refusal::{

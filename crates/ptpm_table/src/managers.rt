@@ -11,7 +11,7 @@ use ptpm_data::Rights;
 /// How many managers a clock has at most, and so a reply table, however many slots it has.
 pub(crate) const MANAGERS: usize = 16;
 
-/// Why no table of so many slots is made for these managers.
+/// Why no table of this many slots is made for these managers.
 pub(crate) fn refusal(managers: &[(PortIdentity, Rights)], slots: usize) -> Option<TableError>
     ensures refusal { result ≡ slots_refusal slots (identities managers.now) }
     ensures few { result ≡ None → length managers.now ≤ most_managers slots }

@@ -1,6 +1,6 @@
 use Rattle.std.proofs.Common.{[]}
 use Rattle.ptpm_schedule.specs.Going.{Goes}
-use Rattle.ptpm_schedule.proofs.traffic.Traffic.finish.Given as goal
+use Rattle.ptpm_schedule.proofs.traffic.Traffic.go_on_until.Given as goal
 
 -- the network went on so far
 abbrev pub invariant-loop : goal.invariant-loop

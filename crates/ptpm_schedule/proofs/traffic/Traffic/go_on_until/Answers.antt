@@ -1,6 +1,6 @@
 use Rattle.std.proofs.Common.{[]}
 use Rattle.ptpm_schedule.proofs.Going.{goes_both, stands_still, stopped_then, went_err}
-use Rattle.ptpm_schedule.proofs.traffic.Traffic.finish.Goals as goal
+use Rattle.ptpm_schedule.proofs.traffic.Traffic.go_on_until.Goals as goal
 
 pub loop-init : goal.loop-init
 loop-init g c = stands_still c.args.world.now (g.W.Write.contents c.args.out.now) c.args.self.now.lines

@@ -4,24 +4,22 @@ ghost use Rattle.std.specs.Prelude.{◌≡◌, ◌<◌, ◌+◌, ℕ, IfErr, IfO
 ghost use Rattle.std.specs.Option.{option_or};
 ghost use Rattle.std.specs.Result.{result_err};
 ghost use Rattle.ptpm_check.specs.Faults.{refusal_of};
+ghost use Rattle.ptpm_findings.specs.Check.{IsCounted, events_fault};
 ghost use Rattle.ptpm_script.specs.NetworkText.{network_of};
 ghost use Rattle.ptpm_world.specs.declared.script_error.ScriptError.TheVariants.{BadNetwork};
-ghost use Rattle.ptpm_world.specs.Check.{IsCounted, events_fault};
-ghost use Rattle.ptpm_world.specs.Lines.{left_in, whole_lines};
+ghost use Rattle.ptpm_world.specs.Lines.{latest_line, left_in, line_count, whole_lines};
 ghost use Rattle.ptpm_world.specs.Script.{event_of, scripted, scripted_from};
 ghost use Rattle.ptpm_world.specs.ScriptError.{ReadsWhole, is_of_reading, is_outside, text_fault};
 
-use crate::lines::Lines;
-use crate::script::{is_skipped, read_text};
-use crate::script_error::ScriptError;
 use ptpm_check::{Document, event_fault};
+use ptpm_world::{Lines, ScriptError, is_skipped, read_text};
 use std::alloc::Global;
 use std::io::{Read, Write};
 
 /// What was found in a script.
 #[derive(Clone, Copy, Debug, PartialEq, Eq)]
 pub struct Findings {
-    /// The first fault, as `run_script` names it; `None` where there is none.
+    /// The first fault, as `run_script` names it; `None` if there is none.
     pub first: Option<ScriptError>,
     /// How many faults were written.
     pub count: usize,
@@ -30,8 +28,8 @@ pub struct Findings {
 /// Reads a network file, or a script, and writes each of its faults on a line of its own. No event happens. The first fault is the
 /// one that `run_script` answers for the same octets.
 ///
-/// An error says nothing of the script: reading or writing failed, or memory was refused. Behind a line that is too long, and
-/// behind one of the network file that is not UTF-8, nothing is read.
+/// An error says nothing of the script: reading or writing failed, or memory was refused. After a line that is too long, and
+/// after one of the network file that is not UTF-8, nothing is read.
 #[inline(never)]
 pub fn check_script<R: Read + Drop, W: Write>(
     alloc: Global,
@@ -51,7 +49,7 @@ pub fn check_script<R: Read + Drop, W: Write>(
 }
 
 impl Findings {
-    /// Counts so many faults, of which this is the first.
+    /// Counts this many faults; this is the first.
     fn note(&mut self, fault: ScriptError, count: usize)
         requires { 0 < count }
         ensures first { self.new.first ≡ option_or self.old.first (Some fault) }
@@ -62,7 +60,7 @@ impl Findings {
     }
 }
 
-/// Writes the faults of all lines: of the network file, and of the events behind it.
+/// Writes the faults of all lines: of the network file, and of the events after it.
 fn check_lines<R: Read + Drop, W: Write>(
     alloc: Global,
     script: &mut Lines<R>,
@@ -71,7 +69,7 @@ fn check_lines<R: Read + Drop, W: Write>(
     ensures first { IfOk result
         (λ found.
         IfSome (left_in R.remaining script.old)
-        (λ octets. found.first ≡ result_err (scripted_from (script.old.count + 1) octets).end)) }
+        (λ octets. found.first ≡ result_err (scripted_from (line_count script.old + 1) octets).end)) }
     ensures counted { IfOk result IsCounted }
     ensures outside { IfErr result (λ e. is_outside e ≡ true) }
 {
@@ -126,7 +124,7 @@ fn check_events<R: Read + Drop, W: Write>(
         (λ octets.
         findings.new.first
         ≡ option_or findings.old.first
-        (events_fault (script.old.count + 1) 1 (whole_lines octets)))) }
+        (events_fault (line_count script.old + 1) 1 (whole_lines octets)))) }
     ensures counted { IsCounted findings.old → OnOk result (IsCounted findings.new) }
     ensures outside { IfErr result (λ e. is_outside e ≡ true) }
 {
@@ -138,24 +136,24 @@ fn check_events<R: Read + Drop, W: Write>(
     Ok(())
 }
 
-/// Reads the next line; false where there are no more, or none that may be read, which is written.
+/// Reads the next line; false if there are no more, or none that may be read, which is written.
 fn read_next<R: Read + Drop, W: Write>(
     script: &mut Lines<R>,
     findings: &mut Findings,
     out: &mut W,
 ) -> Result<bool, ScriptError>
-    ensures count { result ≡ Ok true → script.new.count ≡ script.old.count + 1 }
+    ensures count { result ≡ Ok true → line_count script.new ≡ line_count script.old + 1 }
     ensures same { result ≡ Ok true → findings.new.first ≡ findings.old.first }
     ensures line { result ≡ Ok true
-        → ReadsWhole (script.old.count + 1) (left_in R.remaining script.old) true
-        script.new.line.items (left_in R.remaining script.new) }
+        → ReadsWhole (line_count script.old + 1) (left_in R.remaining script.old) true
+        (latest_line script.new) (left_in R.remaining script.new) }
     ensures end { result ≡ Ok false
         → IfSome (left_in R.remaining script.old)
         (λ octets.
         (place : ℕ)
         → findings.new.first
         ≡ option_or findings.old.first
-        (events_fault (script.old.count + 1) place (whole_lines octets))) }
+        (events_fault (line_count script.old + 1) place (whole_lines octets))) }
     ensures counted { IsCounted findings.old → OnOk result (IsCounted findings.new) }
     ensures outside { IfErr result (λ e. is_outside e ≡ true) }
 {
@@ -179,8 +177,8 @@ fn check_event<R: Read + Drop, W: Write>(
     ensures first { OnOk result
         (findings.new.first
         ≡ option_or findings.old.first
-        (option_or (text_fault script.now.count script.now.line.items)
-        (result_err (event_of number script.now.line.items)))) }
+        (option_or (text_fault (line_count script.now) (latest_line script.now))
+        (result_err (event_of number (latest_line script.now))))) }
     ensures counted { IsCounted findings.old → OnOk result (IsCounted findings.new) }
     ensures outside { IfErr result (λ e. is_outside e ≡ true) }
 {
