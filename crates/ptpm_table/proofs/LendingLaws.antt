@@ -1,15 +1,16 @@
 -- The next entry of a table, and what holds of the entries that it can have.
-use Rattle.std.proofs.Common.{suc, zero, arith, ◌≡◌, ℕ, ◌+◌, ◌<◌, ◌≤◌, ◌^◌, Bool, true, false, refl, sym, ◌∙◌, ap, subst, ⊎_elim, List, [], ◌∷◌, ◌++◌, length, get_or, set, map, Option, Some, None, All, unwrap_or, slice_get}
+use Rattle.std.proofs.Common.{suc, zero, arith, cond, ◌≡◌, ℕ, ◌+◌, ◌<◌, ◌≤◌, ◌^◌, Bool, true, false, refl, sym, ◌∙◌, ap, subst, ⊎_elim, List, [], ◌∷◌, ◌++◌, length, get_or, set, map, Option, Some, None, All, unwrap_or, slice_get}
 use Rattle.std.proofs.lemmas.Bool.{cases_Bool, cases_lt, or_parts, cond-true, cond-false, false≢true}
 use Rattle.std.proofs.lemmas.Option.{get_or_from_slice_get, slice_get_read, slice_get_within}
 use Rattle.std.specs.Ordering.{is_lt}
 use Rattle.std.specs.declared.cmp.Ordering.{Ordering}
 use Rattle.std.proofs.lemmas.List.Folds.{find_at}
+use Rattle.std.proofs.lemmas.List.Recursion.{is_count_by}
 use Rattle.std.proofs.lemmas.List.Elements.{All-cons, All-nil, All-push, All-set}
 use Rattle.std.proofs.lemmas.Cmp.{tied_itself}
-use Rattle.std.specs.Prelude.{◌↔◌, IfSome, IsTrue, MatchOption, ⊤, is_some}
+use Rattle.std.specs.Prelude.{◌↔◌, IfSome, IsTrue, MatchOption, ⊤, count_by, is_some}
 use Rattle.std.specs.List.{position_or_len}
-use Rattle.std.specs.FinMap.{get, from_entries}
+use Rattle.std.specs.FinMap.{get, from_entries, insert, len, len-empty, len-insert}
 use Rattle.std.specs.declared.cmp.Ordering.TheVariants.{Equal, Greater, Less}
 use Rattle.ptpm_codec.specs.declared.error.ErrorId.{ErrorId}
 use Rattle.ptpm_codec.specs.declared.error.ErrorId.TheVariants as errors
@@ -31,7 +32,8 @@ use Rattle.ptpm_table.specs.Rendering.{answer_body}
 use Rattle.ptpm_table.specs.Slots.{AreKeepable, IsSooner, IsUsedAfter, configured, entry_in, slot_of, used}
 use Rattle.ptpm_table.specs.declared.slot.Slot.{Slot}
 use Rattle.ptpm_table.proofs.Identities.{identities_total, same_identity-comm, same_identity-refl}
-use Rattle.ptpm_table.proofs.Slots.{found_manager, get_used, known_slot}
+use Rattle.ptpm_table.proofs.Maps.{get_entry}
+use Rattle.ptpm_table.proofs.Slots.{found_manager, get_used, known_slot, none_used}
 
 -- ---- the first slot
 
@@ -310,3 +312,45 @@ sent_fits clock heard q of_port messages r sent = record {
   count = subst (λ b. FitsCount b (length r.answers)) sent.port_is sent.count;
   answers = subst (λ b. All (FitsAnswer b q.action) r.answers) sent.port_is sent.answers;
 }
+
+-- ---- counted
+
+one_more : (b : Bool) (e : PortIdentity × Entry) (es : List (PortIdentity × Entry))
+    → length (cond b (e ∷ es) es) ≡ cond b (1 + length es) (length es)
+one_more true e es = omega arith
+one_more false e es = refl
+
+used_length : (ss : List Slot) → length (used ss) ≡ count_by (λ s. s.taken) ss
+used_length ss =
+    is_count_by (λ xs. length (used xs)) (λ s. s.taken) refl (λ s xs. one_more s.taken (s.kept.manager, s.kept.entry) (used xs)) ss
+
+-- there are as many entries as slots in use
+len_used : (ss : List Slot)
+    → has_twice (identities (configured ss)) ≡ false
+    → len (from_entries {R = identity_cmp} (used ss)) ≡ length (used ss)
+len_used [] distinct = len-empty identity_cmp Entry
+len_used (s ∷ ss) distinct =
+    let parts = or_parts (is_known s.kept.manager (identities (configured ss))) (has_twice (identities (configured ss))) distinct in
+    let rest : len (from_entries {R = identity_cmp} (used ss)) ≡ length (used ss) = len_used ss parts.1 in
+    let free : is_some (get (from_entries {R = identity_cmp} (used ss)) s.kept.manager) ≡ false =
+    ap is_some (get_entry (used ss) s.kept.manager ∙ none_used s.kept.manager ss parts.0) in
+    ⊎_elim
+    (λ (t : s.taken ≡ true).
+    ap (λ b. len (from_entries {R = identity_cmp} (cond b ((s.kept.manager, s.kept.entry) ∷ used ss) (used ss)))) t
+    ∙ len-insert identities_total (from_entries (used ss)) s.kept.manager s.kept.entry
+    ∙ (λ i. cond (free i) (rest i) (rest i + 1))
+    ∙ next (length (used ss))
+    ∙ sym (ap (λ b. length (cond b ((s.kept.manager, s.kept.entry) ∷ used ss) (used ss))) t))
+    (λ (f : s.taken ≡ false).
+    ap (λ b. len (from_entries {R = identity_cmp} (cond b ((s.kept.manager, s.kept.entry) ∷ used ss) (used ss)))) f
+    ∙ rest
+    ∙ sym (ap (λ b. length (cond b ((s.kept.manager, s.kept.entry) ∷ used ss) (used ss))) f))
+    (cases_Bool s.taken)
+  where
+    next : (n : ℕ) → n + 1 ≡ suc n
+    next n = omega arith
+
+pub used_count : (ss : List Slot)
+    → has_twice (identities (configured ss)) ≡ false
+    → len (from_entries {R = identity_cmp} (used ss)) ≡ count_by (λ s. s.taken) ss
+used_count ss distinct = len_used ss distinct ∙ used_length ss

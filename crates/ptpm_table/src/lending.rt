@@ -13,9 +13,15 @@ use std::marker::Model;
 
 /// A table that lends what it keeps, as for an image of it. No octet is copied, and no memory is taken.
 pub trait LendingTable: ReplyTable {
-    ghost use Rattle.std.specs.Prelude.{IfSome, IsTrue, MatchOption};
+    ghost use Rattle.std.specs.Prelude.{◌≤◌, IfSome, IsTrue, MatchOption};
+    ghost use Rattle.std.specs.FinMap as fin;
     ghost use Rattle.ptpm_table.specs.Entries.{is_known};
     ghost use Rattle.ptpm_table.specs.Lending.{EntryFits, HasNoneAfter, IsKeepable, IsNext};
+
+    /// How many managers have an entry.
+    fn entry_count(&self) -> usize
+        ensures count { result ≡ fin.len (Self.entries self.now) }
+        ensures few { result ≤ 16 };
 
     /// The entry of the first manager after this one that has an entry, by the order of identities; without one to come
     /// after, of the first of all. `None` where no further manager has one. So a loop from `None` on, and from each manager

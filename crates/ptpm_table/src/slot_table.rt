@@ -1,6 +1,6 @@
 //! A reply table in fixed slots.
 
-ghost use Rattle.std.specs.Prelude.{◌≡◌, ◌↔◌, ◌≤◌, ◌<◌, ◌+◌, ◌++◌, ℕ, [], false, MatchOption, slice_get, IfOk, IfSome, IsOk, IsTrue, OnErr, OnOk, All, MatchResult, None, Some, is_some, length, position};
+ghost use Rattle.std.specs.Prelude.{◌≡◌, ◌↔◌, ◌≤◌, ◌<◌, ◌+◌, ◌++◌, ℕ, [], false, MatchOption, count_by, slice_get, IfOk, IfSome, IsOk, IsTrue, OnErr, OnOk, All, MatchResult, None, Some, is_some, length, position};
 ghost use Rattle.std.specs.FinMap as fin;
 ghost use Rattle.std.specs.Option.{option_copied};
 ghost use Rattle.ptpm_codec.specs.declared.identity.ClockIdentity.{ClockIdentity};
@@ -37,6 +37,7 @@ pub struct SlotTable<const SLOTS: usize> {
     slots: ArrayVec<Slot, SLOTS>,
     ghost distinct: { has_twice (identities (configured slots.items)) ≡ false },
     ghost own: { All (λ c. c ≡ clock) (clocks slots.items) },
+    ghost few: { length slots.items ≤ 16 },
     ghost keepable: { AreKeepable slots.items } by { AreKeepable-prop slots.items },
 }
 
@@ -300,9 +301,28 @@ impl<const SLOTS: usize> ReplyTable for SlotTable<SLOTS> {
 }
 
 impl<const SLOTS: usize> LendingTable for SlotTable<SLOTS> {
+    fn entry_count(&self) -> usize {
+        count_used(self.slots.as_slice())
+    }
+
     fn next_entry(&self, after: Option<PortIdentity>) -> Option<LentEntry<'_>> {
         next_slot(self.slots.as_slice(), after).map(|slot| slot.kept.entry())
     }
+}
+
+/// How many slots are in use.
+fn count_used(slots: &[Slot]) -> usize
+    requires { has_twice (identities (configured slots.now)) ≡ false }
+    ensures count { result ≡ fin.len (fin.from_entries {R = identity_cmp} (used slots.now)) }
+    ensures few { result ≤ length slots.now }
+{
+    count_taken(slots)
+}
+
+fn count_taken(slots: &[Slot]) -> usize
+    ensures { result ≡ count_by (λ s. s.taken) slots.now }
+{
+    slots.iter().filter(|slot| slot.taken).count()
 }
 
 /// The slot of the first manager after this one whose slot is in use.
