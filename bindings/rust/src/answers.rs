@@ -4,7 +4,8 @@ use crate::names;
 use crate::sys;
 use core::fmt;
 
-macro_rules! answers {
+/// An enum of numbers that the library answers.
+macro_rules! numbered {
     ($(#[$about:meta])* $name:ident { $($(#[$what:meta])* $variant:ident = $number:ident,)* }) => {
         $(#[$about])*
         #[derive(Clone, Copy, Debug, PartialEq, Eq, Hash)]
@@ -45,6 +46,34 @@ macro_rules! answers {
     };
 }
 
+/// The same, and behind them why a datagram holds no management message, which each of the three calls answers.
+macro_rules! answers {
+    ($(#[$about:meta])* $name:ident { $($answers:tt)* }) => {
+        numbered! {
+            $(#[$about])*
+            $name {
+                $($answers)*
+                /// It is shorter than a management message, and no such message, as all that follow here are none.
+                TooShort = PTPM_TOO_SHORT,
+                /// It is of another messageType.
+                NotManagement = PTPM_NOT_MANAGEMENT,
+                /// It is of another versionPTP.
+                BadVersion = PTPM_BAD_VERSION,
+                /// Its messageLength is under 54, over the datagram's size, or over 1,472.
+                BadLength = PTPM_BAD_LENGTH,
+                /// Its actionField is reserved.
+                BadAction = PTPM_BAD_ACTION,
+                /// Its tlvType is neither MANAGEMENT nor `MANAGEMENT_ERROR_STATUS`, or the latter in a request.
+                BadTlvType = PTPM_BAD_TLV_TYPE,
+                /// Its lengthField is odd, too small, or does not fit messageLength.
+                BadTlvLength = PTPM_BAD_TLV_LENGTH,
+                /// Its displayData has another size than its text.
+                BadText = PTPM_BAD_TEXT,
+            }
+        }
+    };
+}
+
 answers! {
     /// What became of a datagram that a clock was handed (`enum ptpm_handled`).
     Handled {
@@ -66,22 +95,6 @@ answers! {
         DroppedConflict = PTPM_DROPPED_CONFLICT,
         /// A request of anybody else, or to every clock.
         AnsweredUnnumbered = PTPM_ANSWERED_UNNUMBERED,
-        /// It is too short for a management message of this profile, as all that follow here are no such message.
-        TooShort = PTPM_TOO_SHORT,
-        /// It is of another messageType.
-        NotManagement = PTPM_NOT_MANAGEMENT,
-        /// It is of another versionPTP.
-        BadVersion = PTPM_BAD_VERSION,
-        /// Its messageLength is under 54, over its own or over 1,472 octets.
-        BadLength = PTPM_BAD_LENGTH,
-        /// Its actionField is reserved.
-        BadAction = PTPM_BAD_ACTION,
-        /// Its tlvType is neither MANAGEMENT nor `MANAGEMENT_ERROR_STATUS`, or the latter in a request.
-        BadTlvType = PTPM_BAD_TLV_TYPE,
-        /// Its lengthField is odd, too small, or does not fit messageLength.
-        BadTlvLength = PTPM_BAD_TLV_LENGTH,
-        /// Its displayData has another size than its text.
-        BadText = PTPM_BAD_TEXT,
     }
 }
 
@@ -104,22 +117,6 @@ answers! {
         OtherNumber = PTPM_OTHER_NUMBER,
         /// Its number is the request's, and what it answers is not.
         OtherContent = PTPM_OTHER_CONTENT,
-        /// It is too short for a management message of this profile, as all that follow here are no such message.
-        TooShort = PTPM_TOO_SHORT,
-        /// It is of another messageType.
-        NotManagement = PTPM_NOT_MANAGEMENT,
-        /// It is of another versionPTP.
-        BadVersion = PTPM_BAD_VERSION,
-        /// Its messageLength is under 54, over its own or over 1,472 octets.
-        BadLength = PTPM_BAD_LENGTH,
-        /// Its actionField is reserved.
-        BadAction = PTPM_BAD_ACTION,
-        /// Its tlvType is neither MANAGEMENT nor `MANAGEMENT_ERROR_STATUS`, or the latter in a request.
-        BadTlvType = PTPM_BAD_TLV_TYPE,
-        /// Its lengthField is odd, too small, or does not fit messageLength.
-        BadTlvLength = PTPM_BAD_TLV_LENGTH,
-        /// Its displayData has another size than its text.
-        BadText = PTPM_BAD_TEXT,
     }
 }
 
@@ -142,21 +139,5 @@ answers! {
         OtherNumber = PTPM_OTHER_NUMBER,
         /// Its number is the survey's, and what it answers is not.
         OtherContent = PTPM_OTHER_CONTENT,
-        /// It is too short for a management message of this profile, as all that follow here are no such message.
-        TooShort = PTPM_TOO_SHORT,
-        /// It is of another messageType.
-        NotManagement = PTPM_NOT_MANAGEMENT,
-        /// It is of another versionPTP.
-        BadVersion = PTPM_BAD_VERSION,
-        /// Its messageLength is under 54, over its own or over 1,472 octets.
-        BadLength = PTPM_BAD_LENGTH,
-        /// Its actionField is reserved.
-        BadAction = PTPM_BAD_ACTION,
-        /// Its tlvType is neither MANAGEMENT nor `MANAGEMENT_ERROR_STATUS`, or the latter in a request.
-        BadTlvType = PTPM_BAD_TLV_TYPE,
-        /// Its lengthField is odd, too small, or does not fit messageLength.
-        BadTlvLength = PTPM_BAD_TLV_LENGTH,
-        /// Its displayData has another size than its text.
-        BadText = PTPM_BAD_TEXT,
     }
 }
