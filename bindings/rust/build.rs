@@ -1,6 +1,6 @@
-//! The library that the crate links. Where PTPM_LIB_DIR names a folder, it is the `libptpm.a` there, as `make -C hosts install` puts
+//! The library that the crate links. If PTPM_LIB_DIR names a folder, it is the `libptpm.a` there, as `make -C hosts install` puts
 //! it. Else it is put together from the assembly in `dist/` of this repository, by the C compiler of the target: `CC` with the
-//! target's name behind it (`CC_aarch64_unknown_linux_gnu`), `CC`, or the usual one.
+//! target's name after it (`CC_aarch64_unknown_linux_gnu`), `CC`, or the usual one.
 
 use std::env;
 use std::path::{Path, PathBuf};
@@ -17,7 +17,7 @@ fn main() {
     println!("cargo:rustc-link-lib=static=ptpm");
 }
 
-/// Makes `libptpm.a` of the assembly for the target. The folder where it stands.
+/// Makes `libptpm.a` of the assembly for the target. The folder that it is in.
 fn assembled() -> PathBuf {
     let top = Path::new(&variable("CARGO_MANIFEST_DIR")).join("../..");
     let folder = PathBuf::from(variable("OUT_DIR"));

@@ -1,4 +1,5 @@
-"""PTP management (IEEE 1588-2019, clause 15) over the shared library libptpm: an agent of one clock, a manager's session, and a survey.
+"""PTP management (IEEE 1588-2019, clause 15) over the shared library libptpm: an agent of one clock, a manager's session, and a
+survey.
 
 What does a ptp4l of this machine say?
 
@@ -8,8 +9,8 @@ What does a ptp4l of this machine say?
         for report in ptpm.survey(way, "DEFAULT_DATA_SET"):
             print(report.source, report.members["priority1"])
 
-The calls take no thread and no socket of their own. They are not made from a signal handler that comes in while one is made, nor in a
-forked child of a process with threads.
+The calls take no thread and no socket of their own. They are not made from a signal handler that comes in while one is made, nor
+in a forked child of a process with threads.
 """
 
 from ._header import PTPM_VERSION as __version__
@@ -35,5 +36,6 @@ __all__ = [
     "ManagementId", "Manager", "NoAnswer", "NumberFile", "NumberFileError", "ObservedClock", "ObservedGrandmaster", "ObservedPort",
     "PortIdentity", "PortMembers", "PortSettings", "PortState", "Report", "Requests", "Rights", "Session", "SessionAnswer",
     "SessionSettings", "Survey", "SurveyAnswer", "SurveySettings", "Transport", "UdpTransport", "UnixTransport", "__version__",
-    "answer_name", "ask_as_nobody", "data_field", "error_name", "get", "id_name", "id_of", "members", "survey", "time_interval", "usual_path",
+    "answer_name", "ask_as_nobody", "data_field", "error_name", "get", "id_name", "id_of", "members", "survey", "time_interval",
+    "usual_path",
 ]

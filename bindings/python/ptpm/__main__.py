@@ -44,7 +44,7 @@ def _parser() -> argparse.ArgumentParser:
     add = parser.add_argument
     add("verb", choices=["get", "set", "command", "survey"])
     add("id", help="a managementId by its name, or four hexadecimal digits")
-    add("value", nargs="?", help="of set: as the answer prints it, or the dataField in hexadecimal")
+    add("value", nargs="?", help="of set: what the answer prints, or the dataField in hexadecimal")
     add("-i", "--interface", metavar="NAME", help="over UDP port 320 at this interface")
     add("--ipv6", action="store_true", help="with IPv6")
     add("--udp", metavar="ADDRESS", help="over UDP to this address")
@@ -91,7 +91,7 @@ class Task:
         words = self.words
         if text is None:
             if self.action == Action.SET and not takes_no_value(self.id):
-                raise ValueError(f"set {words.id}: it takes a value behind it")
+                raise ValueError(f"set {words.id}: it takes a value after it")
             return b""
         if self.action is None:
             raise ValueError(f"survey {words.id}: it takes no value")
@@ -109,7 +109,7 @@ class Task:
         if words.unix is None and words.interface is None and words.udp is None:
             raise ValueError("the way to the clock is missing: --interface NAME, --udp ADDRESS or --unix PATH")
         if words.unix is not None and (words.interface is not None or words.udp is not None or words.ipv6):
-            raise ValueError("--unix stands without --interface, --udp and --ipv6")
+            raise ValueError("--unix is without --interface, --udp and --ipv6")
         if self.action is None and self.target is not None:
             raise ValueError("survey asks every clock: it takes no --target")
         if self.action is not None and self.target is None:

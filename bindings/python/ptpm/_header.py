@@ -310,7 +310,7 @@ PTPM_REPORT_NO_SESSION = 37
 PTPM_NO_REPORT = 45
 PTPM_REPORT_NO_SURVEY = 46
 
-# What ptpm_id_named answers where no id has the name.
+# What ptpm_id_named answers if no id has the name.
 PTPM_NO_ID = 65536
 
 # The greatest counts and sizes.

@@ -43,8 +43,8 @@ def usual_path(manager: PortIdentityLike, target: IdentityLike) -> str:
 
 
 class NumberFile:
-    """The number of a session's next request; None where nobody knows it. Whoever holds it has its turn: others wait a minute for it.
-    It is held until it is closed, or its `with` ends."""
+    """The number of a session's next request, or None if nobody knows it. Whoever holds the file has its turn: others wait a
+    minute. It is held until it is closed, or its `with` ends."""
 
     def __init__(
         self, manager: PortIdentityLike, target: IdentityLike, path: Union[str, "os.PathLike[str]", None] = None
@@ -57,7 +57,7 @@ class NumberFile:
             self.path = os.path.abspath(os.fspath(path))
         self._folder, self._name = os.path.split(self.path)
         if not os.path.isdir(self._folder):
-            os.mkdir(self._folder, 0o755)  # what stands above it is not made
+            os.mkdir(self._folder, 0o755)  # no folder above it is made
         self._owner = f" {who.clock}/{who.port} {Identity.of(target)}"
         self._before: Optional[os.stat_result] = None
         self._is_kept = False
@@ -124,7 +124,7 @@ class NumberFile:
         try:
             opened = os.open(self.path, os.O_RDONLY | os.O_NOFOLLOW | os.O_NONBLOCK | os.O_CLOEXEC)
         except FileNotFoundError:
-            os.unlink(self._write_new(0))  # where it can't be written nothing is to be sent
+            os.unlink(self._write_new(0))  # if it can't be written, nothing is to be sent
             return None
         except OSError as error:
             if error.errno == errno.ELOOP:
@@ -147,7 +147,7 @@ class NumberFile:
         return int(found[1])
 
     def _write_new(self, number: int) -> str:
-        """Writes the file that is to stand in place of the old one, with its owner, as far as this user may, and its mode."""
+        """Writes the file that is to replace the old one. It has its owner, as far as this user may, and its mode."""
         path = f"{self.path}.new"
         if os.path.lexists(path):
             os.unlink(path)
@@ -187,7 +187,7 @@ class NumberFile:
         self.number, self._is_kept = number, True
 
     def close(self) -> None:
-        """Lets others have their turn. Where no number was kept, as of a clock that is not there, no lock stays beside it."""
+        """Lets others have their turn. If no number was kept, for example of a clock that is not there, no lock stays beside it."""
         if self._lock < 0:
             return
         if not os.path.lexists(self.path) and os.path.lexists(f"{self.path}.lock"):

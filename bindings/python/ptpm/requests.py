@@ -43,8 +43,8 @@ class SessionSettings:
 
 
 class Requests(Handle):
-    """One request at a time to one clock. Whoever uses these calls by themselves sees to the numbers: what is asked under one that was used
-    before is answered by what the clock kept."""
+    """One request at a time to one clock. Whoever uses these calls by themselves sees to the numbers: what is asked under one
+    that was used before is answered by what the clock kept."""
 
     def __init__(self, settings: SessionSettings) -> None:
         super().__init__(header.ptpm_session, library.ptpm_session_stop)
@@ -72,7 +72,7 @@ class Requests(Handle):
         return bytes(room[: size.value])
 
     def receive(self, octets: bytes) -> SessionAnswer:
-        """Judges a datagram that came in. Behind ANSWERED the next request can be begun."""
+        """Judges a datagram that came in. After ANSWERED the next request can be begun."""
         datagram = bytes(octets)
         return SessionAnswer(judged(self._call(library.ptpm_session_receive, datagram, len(datagram))))
 
@@ -84,7 +84,7 @@ class Requests(Handle):
         return told(self._call(library.ptpm_session_report, *words), self._begun, bytes(room[: size.value]), error.value)
 
     def resume(self, attempts: int) -> None:
-        """Gives the unanswered request so many attempts, whatever was left."""
+        """Gives the unanswered request this many attempts, whatever was left."""
         if not 0 <= attempts <= 255:
             raise OverflowError(f"attempts are 0 to 255, not {attempts}")
         done(self._call(library.ptpm_session_resume, attempts))

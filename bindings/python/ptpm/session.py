@@ -66,8 +66,8 @@ class Session(Requests):
         *,
         timeout: float = 0.2,
     ) -> Report:
-        """Asks until it is answered; `timeout` is how long each answer is waited for, in seconds. `value` is a dataField, or the value
-        of an id's one member. Where no answer came, NoAnswer says whether the request itself was sent; if it was, `go_on` asks
+        """Asks until it is answered; `timeout` is how long each answer is waited for, in seconds. `value` is a dataField, or the
+        value of an id's one member. If no answer came, NoAnswer says whether the request itself was sent; if it was, `go_on` asks
         the same again."""
         number = id_of(named)
         data = data_field(number, value)

@@ -137,7 +137,8 @@ class Asking(Folder):
 
     def test_the_command_line(self) -> None:
         def run(*words: str) -> "tuple[int, str]":
-            ran = subprocess.run([sys.executable, "-m", "ptpm", "-u", self.path, *words], capture_output=True, text=True, check=False)
+            command = [sys.executable, "-m", "ptpm", "-u", self.path, *words]
+            ran = subprocess.run(command, capture_output=True, text=True, check=False)
             return ran.returncode, ran.stdout
 
         self.assertEqual(run("get", "PRIORITY1", "--target", CLOCK), (0, "priority1 128\n"))

@@ -1,5 +1,5 @@
-"""What the binding does beyond the library: it lays settings and observations out, takes octets and numbers, and names answers. Expected
-octets are those of IEEE 1588-2019, clauses 13.3, 15.4 and 15.5."""
+"""What the binding does beyond the library: it lays settings and observations out, takes octets and numbers, and names answers.
+Expected octets are those of IEEE 1588-2019, clauses 13.3, 15.4 and 15.5."""
 
 from __future__ import annotations
 
@@ -16,8 +16,8 @@ PLACES = dict(
     priority2=0x46, steps_removed=0x4142, offset_from_master=0x0102030405060708, mean_path_delay=0x1112131415161718,
     parent_port="b0b1b2b3b4b5b6b7/29042", parent_stats=True, observed_variance=0x5152, observed_rate=0x21222324,
     grandmaster="c0c1c2c3c4c5c6c7", grandmaster_priority1=0x53, grandmaster_class=0x54, grandmaster_accuracy=0x23,
-    grandmaster_variance=0x6162, grandmaster_priority2=0x56, utc_offset=0x1920, leap61=True, utc_valid=True, frequency_traceable=True,
-    time_source=0x90,
+    grandmaster_variance=0x6162, grandmaster_priority2=0x56, utc_offset=0x1920, leap61=True, utc_valid=True,
+    frequency_traceable=True, time_source=0x90,
 )
 PORT = ptpm.PortSettings(0x0A0B0C0D0E0F1A1B, ptpm.PortState.PRE_MASTER, -11, 3, 7, -6, ptpm.DelayMechanism.P2P, 4)
 
@@ -61,9 +61,9 @@ class Clocks(unittest.TestCase):
     def test_observations_have_their_places(self) -> None:
         grandmaster = ptpm.ObservedGrandmaster("c0c1c2c3c4c5c6c7", 0x53, 6, 0x21, 0x6162, 0x56, "b0b1b2b3b4b5b6b7-29042")
         observed = ptpm.ObservedClock(
-            steps_removed=2, offset_from_master=-2, mean_path_delay=ptpm.time_interval(1), parent_stats=True, observed_variance=0x5152,
-            observed_rate=0x21222324, grandmaster=grandmaster, utc_offset=37, leap59=True, ptp_timescale=True, time_traceable=True,
-            time_source=0x20,
+            steps_removed=2, offset_from_master=-2, mean_path_delay=ptpm.time_interval(1), parent_stats=True,
+            observed_variance=0x5152, observed_rate=0x21222324, grandmaster=grandmaster, utc_offset=37, leap59=True,
+            ptp_timescale=True, time_traceable=True, time_source=0x20,
         )
         with clock() as told:
             self.assertEqual(told.observe(observed), set())
@@ -152,7 +152,8 @@ class Managers(unittest.TestCase):
 
 class Texts(unittest.TestCase):
     def test_texts_that_are_no_identity_are_refused(self) -> None:
-        for text in ("", CLOCK[:-1], f"{CLOCK}1", "aabbcc.fffeddee01", "aabb.ccfffe.ddee01", "aabbcc.fffe.ddee0x", "aabbccfffeddee\u0661\u0662"):
+        pointed = ("aabbcc.fffeddee01", "aabb.ccfffe.ddee01", "aabbcc.fffe.ddee0x")
+        for text in ("", CLOCK[:-1], f"{CLOCK}1", "aabbccfffeddee\u0661\u0662", *pointed):
             self.assertRaises(ValueError, ptpm.Identity.of, text)
         for text in (CLOCK, f"{CLOCK}/", f"{CLOCK}/+1", f"{CLOCK}/65536", f"{CLOCK}/1/1"):
             self.assertRaises(ValueError, ptpm.PortIdentity.of, text)

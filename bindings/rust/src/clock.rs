@@ -13,14 +13,14 @@ use core::fmt;
 use core::mem::MaybeUninit;
 use core::ptr::null_mut;
 
-/// A dataField that a clock reads has at most so many octets.
+/// The most octets of a dataField that a clock reads.
 pub const MOST_READ: usize = sys::PTPM_MOST_READ;
 
 /// More ports than a clock has.
 const MORE_PORTS: usize = 9;
 
 /// The data sets of a clock, and what becomes of each management message that comes in at its ports. It has about 34,600 octets on
-/// the heap, and is stopped where it is dropped.
+/// the heap, and is stopped when it is dropped.
 pub struct Clock {
     handle: sys::ptpm_clock,
 }
@@ -63,7 +63,7 @@ impl Ports {
 }
 
 impl Clock {
-    /// Starts a clock with one to eight ports, of which the first is port 1, and at most sixteen managers.
+    /// Starts a clock with one to eight ports and at most sixteen managers. The first port is port 1.
     ///
     /// # Errors
     ///
@@ -101,13 +101,13 @@ impl Clock {
         let number = judged(unsafe {
             sys::ptpm_clock_handle(&mut self.handle, port, datagram.as_ptr(), datagram.len(), sent, room, count.as_mut_ptr())
         })?;
-        // SAFETY: the call has written the count, and so many places.
+        // SAFETY: the call has written the count, and as many places.
         let messages = unsafe { outbox.messages(count.assume_init()) };
         Ok(Turn { number, messages })
     }
 
-    /// Does what [`Clock::handle`] does, and tells which members of the data sets have another value then. They are none but behind
-    /// [`Handled::AnsweredNew`].
+    /// Does what [`Clock::handle`] does, and reports which members of the data sets have another value then. There are some only
+    /// after [`Handled::AnsweredNew`].
     ///
     /// # Errors
     ///
@@ -129,7 +129,7 @@ impl Clock {
             let (count, changed) = (count.as_mut_ptr(), changed.as_mut_ptr());
             sys::ptpm_clock_handle_changed(&mut self.handle, port, octets, size, sent, room, count, changed)
         })?;
-        // SAFETY: the call has written the count, so many places, and what changed.
+        // SAFETY: the call has written the count, as many places, and what changed.
         let (messages, changed) = unsafe { (outbox.messages(count.assume_init()), changed.assume_init()) };
         Ok((Turn { number, messages }, changed.into()))
     }

@@ -6,8 +6,8 @@ use core::fmt;
 
 macro_rules! errors {
     ($($(#[$what:meta])* $variant:ident = $number:ident, $text:literal;)*) => {
-        /// Why a call was refused: it changed nothing. It is written as the header names it, with some words behind: `NO_PORT: the
-        /// clock lacks the port`.
+        /// Why a call was refused: it changed nothing. It is written as the header names it, with some words after it: `NO_PORT:
+        /// the clock lacks the port`.
         #[derive(Clone, Copy, Debug, PartialEq, Eq, Hash)]
         #[non_exhaustive]
         #[repr(u32)]

@@ -19,9 +19,9 @@ pub enum Action {
     Command = sys::PTPM_COMMAND,
 }
 
-/// One manager, the clock that it manages, and how its requests are numbered and sent. A clock takes a request for new where its
+/// One manager, the clock that it manages, and how its requests are numbered and sent. A clock takes a request for new if its
 /// number is up to 32,767 ahead of the latest that it took from this manager: a manager that starts again goes on from the number
-/// behind the last that it began.
+/// after the last that it began.
 #[derive(Clone, Copy, Debug, PartialEq, Eq)]
 pub struct SessionSettings {
     /// The manager; its clock is not all ones.
@@ -110,7 +110,7 @@ impl Session {
     }
 
     /// Begins a request, and lets the answer to the one before go. The port matters for an id of a port alone. The caller keeps the
-    /// number of the next request where a restart finds it: the first one and [`Session::issued`], added up.
+    /// number of the next request for a restart: the first one and [`Session::issued`], added up.
     ///
     /// # Errors
     ///
@@ -133,7 +133,7 @@ impl Session {
         Ok(&room[..size])
     }
 
-    /// Gives the unanswered request so many attempts, whatever was left.
+    /// Gives the unanswered request this many attempts, whatever was left.
     ///
     /// # Errors
     ///
@@ -149,7 +149,7 @@ impl Session {
         done(unsafe { sys::ptpm_session_retune(&mut self.handle, domain) })
     }
 
-    /// Judges a datagram that came in. Behind [`Received::Answered`] the next request can be begun.
+    /// Judges a datagram that came in. After [`Received::Answered`] the next request can be begun.
     ///
     /// # Errors
     ///
@@ -165,7 +165,7 @@ impl Session {
         unsafe { sys::ptpm_session_issued(&mut self.handle) }
     }
 
-    /// Tells what the answer to the latest request says; a dataField in the room that it is given, for which
+    /// Reports what the answer to the latest request says; a dataField in the room that it is given, for which
     /// [`MOST_DATA`](crate::MOST_DATA) octets do.
     ///
     /// # Errors

@@ -87,7 +87,7 @@ impl Survey {
         Ok(&room[..size])
     }
 
-    /// Judges a datagram that came in, and keeps it where it is the first answer of its port.
+    /// Judges a datagram that came in, and keeps it if it is the first answer of its port.
     ///
     /// # Errors
     ///
@@ -103,8 +103,8 @@ impl Survey {
         unsafe { sys::ptpm_survey_count(&mut self.handle) }
     }
 
-    /// Tells what an answer says, and who gave it; a dataField in the room that it is given, for which [`MOST_DATA`] octets do. The
-    /// answers are counted from 0, in the order in which they came.
+    /// Reports what an answer says, and who gave it; a dataField in the room that it is given, for which [`MOST_DATA`] octets do.
+    /// The answers are counted from 0, in the order in which they came.
     ///
     /// # Errors
     ///
@@ -137,7 +137,7 @@ impl fmt::Debug for Survey {
     }
 }
 
-/// The answers of a survey, one behind the other.
+/// The answers of a survey, one after the other.
 #[derive(Debug)]
 pub struct Answers<'a> {
     survey: &'a mut Survey,

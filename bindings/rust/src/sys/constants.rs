@@ -285,7 +285,7 @@ pub const PTPM_REPORT_NO_SESSION: u32 = 37;
 pub const PTPM_NO_REPORT: u32 = 45;
 pub const PTPM_REPORT_NO_SURVEY: u32 = 46;
 
-// What `ptpm_id_named` answers where no id has the name.
+// What `ptpm_id_named` answers if no id has the name.
 pub const PTPM_NO_ID: u32 = 65536;
 
 // The greatest counts and sizes.
