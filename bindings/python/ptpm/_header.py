@@ -116,6 +116,7 @@ PTPM_COMMAND = 3
 PTPM_MOST_SENT = 15
 PTPM_MOST_READ = 130
 PTPM_MOST_OCTETS = 1472
+PTPM_SESSION_IMAGE_OCTETS = 1478
 PTPM_MOST_ANSWERS = 512
 
 # Answers that several kinds of calls give.
@@ -309,6 +310,20 @@ PTPM_REPORT_NO_ROOM = 34
 PTPM_REPORT_NO_SESSION = 37
 PTPM_NO_REPORT = 45
 PTPM_REPORT_NO_SURVEY = 46
+
+# enum ptpm_saved.
+PTPM_SAVED = 0
+PTPM_SAVE_NO_ROOM = 34
+PTPM_SAVE_NO_SESSION = 37
+
+# enum ptpm_restored.
+PTPM_RESTORED = 0
+PTPM_RESTORE_NO_MEMORY = 35
+PTPM_NOT_AN_IMAGE = 104
+PTPM_OTHER_VERSION = 105
+PTPM_OTHER_KIND = 106
+PTPM_DAMAGED = 107
+PTPM_OTHER_SESSION = 110
 
 # What ptpm_id_named answers if no id has the name.
 PTPM_NO_ID = 65536
@@ -535,6 +550,8 @@ CALLS: Dict[str, Tuple[Any, List[Any]]] = {
     "ptpm_session_resume": (c_uint32, [POINTER(ptpm_session), c_uint8]),
     "ptpm_session_retune": (c_uint32, [POINTER(ptpm_session), c_uint8]),
     "ptpm_session_receive": (c_uint32, [POINTER(ptpm_session), c_char_p, c_size_t]),
+    "ptpm_session_image": (c_uint32, [POINTER(ptpm_session), POINTER(c_uint8), c_size_t, POINTER(c_size_t)]),
+    "ptpm_session_restore": (c_uint32, [POINTER(ptpm_session), POINTER(ptpm_session_settings), c_char_p, c_size_t]),
     "ptpm_session_issued": (c_uint64, [POINTER(ptpm_session)]),
     "ptpm_session_report": (c_uint32, [POINTER(ptpm_session), POINTER(c_uint8), c_size_t, POINTER(c_size_t), POINTER(c_uint16)]),
     "ptpm_session_stop": (None, [POINTER(ptpm_session)]),

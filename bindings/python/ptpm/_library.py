@@ -28,9 +28,9 @@ def _load() -> ctypes.CDLL:
     except OSError as error:
         raise ImportError(f"{error}: the environment's PTPM_LIBRARY names libptpm.so.0 if the loader does not find it") from error
     for name, (answer, taken) in header.CALLS.items():
-        call = getattr(library, name)
-        call.restype = answer
-        call.argtypes = taken
+        call = getattr(library, name, None)  # an older library lacks some: only they are missing then
+        if call is not None:
+            call.restype, call.argtypes = answer, taken
     return library
 
 

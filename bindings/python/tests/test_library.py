@@ -8,6 +8,7 @@ import unittest
 
 import ptpm
 from ptpm import ClockMembers, HandleAnswer, PortMembers, SessionAnswer, SurveyAnswer
+from ptpm._library import library
 
 from . import CLOCK, MANAGER
 
@@ -138,6 +139,20 @@ class Managers(unittest.TestCase):
             [(_, octets)] = asked.handle(1, session.send()).messages
             session.receive(octets)
             self.assertEqual(str(session.report()), "done")
+
+    @unittest.skipUnless(hasattr(library, "ptpm_session_image"), "the library makes no images")
+    def test_a_request_goes_on_from_an_image(self) -> None:
+        settings = ptpm.SessionSettings(MANAGER, CLOCK, 7)
+        with clock() as asked, ptpm.Session(settings) as session, ptpm.Session(settings) as restored:
+            session.begin(ptpm.Action.SET, "PRIORITY1", b"\x64\0")
+            image = session.image()
+            self.assertRaisesRegex(ptpm.Error, "DAMAGED", restored.restore, image[:-1])
+            self.assertRaisesRegex(ptpm.Error, "NOT_AN_IMAGE", restored.restore, b"")
+            restored.restore(image)
+            self.assertEqual((restored.is_busy(), restored.send()), (True, session.send()))
+            [(_, octets)] = asked.handle(1, restored.send()).messages
+            restored.receive(octets)
+            self.assertEqual(restored.report().members, {"priority1": 100})
 
     def test_a_survey_keeps_first_answers(self) -> None:
         with clock() as asked, ptpm.Survey(ptpm.SurveySettings("0a0b0c0d0e0f1011/9", 3, "PORT_DATA_SET")) as survey:

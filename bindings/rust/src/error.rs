@@ -79,6 +79,11 @@ errors! {
     BadLogSync = PTPM_BAD_LOG_SYNC, "a logSyncInterval is -8 to 1";
     BadDelayMechanism = PTPM_BAD_DELAY_MECHANISM, "a delayMechanism is 1, 2 or 0xFE";
     BadLogMinPdelay = PTPM_BAD_LOG_MIN_PDELAY, "a logMinPdelayReqInterval is -8 to 5";
+    NotAnImage = PTPM_NOT_AN_IMAGE, "the octets are no image";
+    OtherVersion = PTPM_OTHER_VERSION, "the image is of another version";
+    OtherKind = PTPM_OTHER_KIND, "the image is not of a session";
+    Damaged = PTPM_DAMAGED, "the image is damaged";
+    OtherSession = PTPM_OTHER_SESSION, "the image is of another manager, clock, number of ports or first number";
 }
 
 /// The number of a call that was done is 0, and every other one an error.

@@ -71,6 +71,6 @@ pub use identity::{Identity, NoIdentity, PortIdentity};
 pub use observation::{ObservedClock, ObservedGrandmaster, ObservedPort};
 pub use outbox::{Messages, Outbox};
 pub use report::{Answer, Report, MOST_DATA, MOST_OCTETS};
-pub use session::{Action, Session, SessionSettings};
+pub use session::{Action, Session, SessionSettings, SESSION_IMAGE_OCTETS};
 pub use settings::{ClockSettings, DelayMechanism, Manager, PortSettings, PortState, Rights, TimeInterval};
 pub use survey::{Answers, Survey, SurveySettings};

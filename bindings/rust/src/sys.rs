@@ -22,6 +22,8 @@ pub type ptpm_retuned = u32;
 pub type ptpm_session_received = u32;
 pub type ptpm_survey_received = u32;
 pub type ptpm_told = u32;
+pub type ptpm_saved = u32;
+pub type ptpm_restored = u32;
 
 #[repr(C)]
 pub struct ptpm_clock {
@@ -269,6 +271,13 @@ extern "C" {
     pub fn ptpm_session_resume(session: *mut ptpm_session, attempts: u8) -> ptpm_resumed;
     pub fn ptpm_session_retune(session: *mut ptpm_session, domain: u8) -> ptpm_retuned;
     pub fn ptpm_session_receive(session: *mut ptpm_session, datagram: *const u8, size: usize) -> ptpm_session_received;
+    pub fn ptpm_session_image(session: *mut ptpm_session, octets: *mut u8, room: usize, size: *mut usize) -> ptpm_saved;
+    pub fn ptpm_session_restore(
+        session: *mut ptpm_session,
+        settings: *const ptpm_session_settings,
+        image: *const u8,
+        size: usize,
+    ) -> ptpm_restored;
     pub fn ptpm_session_issued(session: *mut ptpm_session) -> u64;
     pub fn ptpm_session_report(
         session: *mut ptpm_session,

@@ -91,6 +91,7 @@ pub const PTPM_COMMAND: u8 = 3;
 pub const PTPM_MOST_SENT: usize = 15;
 pub const PTPM_MOST_READ: usize = 130;
 pub const PTPM_MOST_OCTETS: usize = 1472;
+pub const PTPM_SESSION_IMAGE_OCTETS: usize = 1478;
 pub const PTPM_MOST_ANSWERS: usize = 512;
 
 // Answers that several kinds of calls give.
@@ -284,6 +285,20 @@ pub const PTPM_REPORT_NO_ROOM: u32 = 34;
 pub const PTPM_REPORT_NO_SESSION: u32 = 37;
 pub const PTPM_NO_REPORT: u32 = 45;
 pub const PTPM_REPORT_NO_SURVEY: u32 = 46;
+
+// `enum ptpm_saved`.
+pub const PTPM_SAVED: u32 = 0;
+pub const PTPM_SAVE_NO_ROOM: u32 = 34;
+pub const PTPM_SAVE_NO_SESSION: u32 = 37;
+
+// `enum ptpm_restored`.
+pub const PTPM_RESTORED: u32 = 0;
+pub const PTPM_RESTORE_NO_MEMORY: u32 = 35;
+pub const PTPM_NOT_AN_IMAGE: u32 = 104;
+pub const PTPM_OTHER_VERSION: u32 = 105;
+pub const PTPM_OTHER_KIND: u32 = 106;
+pub const PTPM_DAMAGED: u32 = 107;
+pub const PTPM_OTHER_SESSION: u32 = 110;
 
 // What `ptpm_id_named` answers if no id has the name.
 pub const PTPM_NO_ID: u32 = 65536;
