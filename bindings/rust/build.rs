@@ -9,12 +9,19 @@ use std::process::Command;
 fn main() {
     println!("cargo:rerun-if-env-changed=PTPM_LIB_DIR");
     let folder = match env::var_os("PTPM_LIB_DIR") {
-        Some(folder) => PathBuf::from(folder),
+        Some(folder) => named(PathBuf::from(folder)),
         None => assembled(),
     };
-    println!("cargo:rerun-if-changed={}", folder.join("libptpm.a").display());
     println!("cargo:rustc-link-search=native={}", folder.display());
     println!("cargo:rustc-link-lib=static=ptpm");
+}
+
+/// The folder of a library that is there. A later one in its place is linked anew.
+fn named(folder: PathBuf) -> PathBuf {
+    let library = folder.join("libptpm.a");
+    assert!(library.exists(), "PTPM_LIB_DIR: there is no {}", library.display());
+    println!("cargo:rerun-if-changed={}", library.display());
+    folder
 }
 
 /// Makes `libptpm.a` of the assembly for the target. The folder that it is in.
