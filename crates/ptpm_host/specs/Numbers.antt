@@ -111,6 +111,10 @@ no_session = 37
 abbrev pub no_survey : ℕ
 no_survey = 46
 
+-- a struct of the host has another size than the library's
+abbrev pub other_sizes : ℕ
+other_sizes = 47
+
 abbrev pub handle_number : HandleRefusal → ℕ
 handle_number handles.NoPort = 33
 handle_number handles.NoRoom = 34
@@ -202,6 +206,7 @@ managers_number tables.OutOfMemory = no_memory
 abbrev pub start_number : StartRefusal → ℕ
 start_number (refusals.Values fault) = values_number fault
 start_number (refusals.Managers fault) = managers_number fault
+start_number refusals.IdentityIsZero = 56
 start_number refusals.OutOfMemory = no_memory
 
 abbrev pub session_number : SessionRefusal → ℕ
@@ -210,3 +215,4 @@ session_number sessions.TooManyPorts = 49
 session_number sessions.ManagerIsEvery = 53
 session_number sessions.TargetIsEvery = 54
 session_number sessions.SameClock = 55
+session_number sessions.TargetIsZero = 57
