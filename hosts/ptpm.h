@@ -521,11 +521,11 @@ __extension__ enum PTPM_FOUR_OCTETS(ptpm_saved) {
 __extension__ enum PTPM_FOUR_OCTETS(ptpm_restored) {
     PTPM_RESTORED = 0,
     PTPM_RESTORE_NO_MEMORY = PTPM_NO_MEMORY,
-    PTPM_NOT_AN_IMAGE = 56,             /* under 12 octets, or the first four are not "ptpm" */
-    PTPM_OTHER_VERSION = 57,            /* an image of another version */
-    PTPM_OTHER_KIND = 58,               /* an image, but not of a session */
-    PTPM_DAMAGED = 59,                  /* octets are missing, further ones follow, or one has a value that no image has */
-    PTPM_OTHER_SESSION = 60             /* another manager or clock, another number of ports, or another first number */
+    PTPM_NOT_AN_IMAGE = 104,            /* under 12 octets, or the first four are not "ptpm" */
+    PTPM_OTHER_VERSION = 105,           /* an image of another version */
+    PTPM_OTHER_KIND = 106,              /* an image, but not of a session */
+    PTPM_DAMAGED = 107,                 /* octets are missing, further ones follow, or one has a value that no image has */
+    PTPM_OTHER_SESSION = 110            /* another manager or clock, another number of ports, or another first number */
 };
 
 /* So the header refuses a compiler that takes no such word. */

@@ -243,12 +243,12 @@ fn a_session_from_its_image(rt: HostRuntime) {
     assert!(rt; answer == 0 && size == 60);
     assert!(rt; octets[..60] == WAITING[..]);
     ptpm_session_stop(alloc, &mut handle);
-    assert!(rt; ptpm_session_restore(alloc, &mut handle, &settings, &WAITING[..11]) == 56);
-    assert!(rt; ptpm_session_restore(alloc, &mut handle, &settings, &WAITING[..59]) == 59);
-    assert!(rt; ptpm_session_restore(alloc, &mut handle, &other, WAITING) == 60);
+    assert!(rt; ptpm_session_restore(alloc, &mut handle, &settings, &WAITING[..11]) == 104);
+    assert!(rt; ptpm_session_restore(alloc, &mut handle, &settings, &WAITING[..59]) == 107);
+    assert!(rt; ptpm_session_restore(alloc, &mut handle, &other, WAITING) == 110);
     assert!(rt; ptpm_session_send(alloc, &mut handle, &mut octets, &mut size) == 37);
     assert!(rt; ptpm_session_restore(alloc, &mut handle, &settings, WAITING) == 0);
-    assert!(rt; ptpm_session_restore(alloc, &mut handle, &other, WAITING) == 60);
+    assert!(rt; ptpm_session_restore(alloc, &mut handle, &other, WAITING) == 110);
     assert!(rt; ptpm_session_send(alloc, &mut handle, &mut octets, &mut size) == 0);
     assert!(rt; size == 54 && octets.starts_with(REQUEST.as_slice()));
     assert!(rt; ptpm_session_receive(alloc, &mut handle, REPLY) == 0);

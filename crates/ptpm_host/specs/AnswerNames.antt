@@ -34,8 +34,8 @@ refusal_names =
     ∷ (44, codes "GAVE_UP") ∷ (45, codes "NO_REPORT") ∷ (46, codes "NO_SURVEY") ∷ (48, codes "NO_PORTS")
     ∷ (49, codes "TOO_MANY_PORTS") ∷ (50, codes "GRANDMASTER_DIFFERS") ∷ (51, codes "TOO_MANY_MANAGERS")
     ∷ (52, codes "MANAGER_TWICE") ∷ (53, codes "MANAGER_IS_EVERY") ∷ (54, codes "TARGET_IS_EVERY") ∷ (55, codes "SAME_CLOCK")
-    ∷ (56, codes "NOT_AN_IMAGE") ∷ (57, codes "OTHER_VERSION") ∷ (58, codes "OTHER_KIND") ∷ (59, codes "DAMAGED")
-    ∷ (60, codes "OTHER_SESSION") ∷ []
+    ∷ (104, codes "NOT_AN_IMAGE") ∷ (105, codes "OTHER_VERSION") ∷ (106, codes "OTHER_KIND") ∷ (107, codes "DAMAGED")
+    ∷ (110, codes "OTHER_SESSION") ∷ []
 
 -- which member of a clock is out of its range
 abbrev pub clock_member_names : List (ℕ × List ℕ)

@@ -217,11 +217,11 @@ session_number sessions.ManagerIsEvery = 53
 session_number sessions.TargetIsEvery = 54
 session_number sessions.SameClock = 55
 
--- why a session is not restored, 35 or 56 to 60
+-- why a session is not restored, 35, 104 to 107 or 110
 abbrev pub restore_number : RestoreError → ℕ
 restore_number restores.OutOfMemory = no_memory
-restore_number restores.NotAnImage = 56
-restore_number restores.OtherVersion = 57
-restore_number restores.OtherKind = 58
-restore_number restores.Damaged = 59
-restore_number restores.OtherSession = 60
+restore_number restores.NotAnImage = 104
+restore_number restores.OtherVersion = 105
+restore_number restores.OtherKind = 106
+restore_number restores.Damaged = 107
+restore_number restores.OtherSession = 110

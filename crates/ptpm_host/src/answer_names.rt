@@ -51,7 +51,7 @@ fn datagram_name(number: u32) -> Option<&'static str>
     }
 }
 
-/// Why a call changed nothing, 32 to 60.
+/// Why a call changed nothing, 32 to 55 and 104 to 110.
 #[tactic(auto, unfolding(crate::specs::AnswerNames::name_in))]
 fn refusal_name(number: u32) -> Option<&'static str>
     ensures { option_map (λ name. name.now) result ≡ name_in refusal_names number }
@@ -80,11 +80,11 @@ fn refusal_name(number: u32) -> Option<&'static str>
         53 => Some("MANAGER_IS_EVERY"),
         54 => Some("TARGET_IS_EVERY"),
         55 => Some("SAME_CLOCK"),
-        56 => Some("NOT_AN_IMAGE"),
-        57 => Some("OTHER_VERSION"),
-        58 => Some("OTHER_KIND"),
-        59 => Some("DAMAGED"),
-        60 => Some("OTHER_SESSION"),
+        104 => Some("NOT_AN_IMAGE"),
+        105 => Some("OTHER_VERSION"),
+        106 => Some("OTHER_KIND"),
+        107 => Some("DAMAGED"),
+        110 => Some("OTHER_SESSION"),
         _ => None,
     }
 }
