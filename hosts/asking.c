@@ -27,6 +27,7 @@ static const char *advice(uint32_t refusal) {
     case PTPM_SAME_CLOCK: return ": the manager has the identity of the clock; --manager gives it another";
     case PTPM_MANAGER_IS_EVERY: return ": the manager's identity means every clock; --manager gives it another";
     case PTPM_TARGET_IS_EVERY: return ": --target means every clock; survey asks every clock";
+    case PTPM_TARGET_IS_ZERO: return ": --target is no clock's identity; survey tells those that there are";
     default: return "";
     }
 }

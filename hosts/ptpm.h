@@ -19,9 +19,8 @@
      ptpm_clock_start, 2,100 for ptpm_clock_handle_changed, 1,900 for ptpm_survey_send, 1,000 for ptpm_clock_handle and
      ptpm_clock_observe, and 500 for every other call. Beyond that it has what malloc, realloc, free, memcpy, memmove and memset of the host take. No call calls itself.
 
-   Every call writes to its handle, a call that only reads too, so no handle is const. If several refusals hold, a call answers the
-   first. Want of memory can come in place of it in ptpm_clock_start alone. Every other call asks for memory only if nothing else
-   refuses. */
+   A call that only reads takes a const handle, and leaves it as it is. If several refusals hold, a call answers the first. Want of
+   memory can come in place of it in ptpm_clock_start alone. Every other call asks for memory only if nothing else refuses. */
 #ifndef PTPM_H
 #define PTPM_H
 
@@ -68,7 +67,7 @@ struct ptpm_clock_settings {
     uint16_t grandmaster_variance;
     uint16_t parent_port_number;
     int16_t utc_offset;
-    uint8_t identity[8];                /* not all ones */
+    uint8_t identity[8];                /* neither all ones nor all zeros */
     uint8_t parent_port_clock[8];
     uint8_t grandmaster[8];
     uint8_t domain;
@@ -234,7 +233,7 @@ struct ptpm_session_settings {
     uint16_t target_ports;              /* how many ports the managed clock has, 1 to 8 */
     uint16_t first;                     /* the sequenceId of the first request */
     uint8_t clock[8];                   /* clockIdentity of the manager, not all ones */
-    uint8_t target[8];                  /* clockIdentity of the managed clock, another one, and not all ones */
+    uint8_t target[8];                  /* clockIdentity of the managed clock, another one, and neither all ones nor all zeros */
     uint8_t domain;
     uint8_t hops;                       /* startingBoundaryHops of each request */
     uint8_t attempts;                   /* how often a request may be sent before it is given up */
@@ -325,6 +324,7 @@ enum { PTPM_MOST_ANSWERS = 512 };
 #define PTPM_NO_SESSION 37              /* the handle holds none */
 #define PTPM_IDLE 43                    /* no request is unanswered */
 #define PTPM_NO_SURVEY 46               /* the handle holds none */
+#define PTPM_OTHER_SIZES 47             /* a struct of the caller has another size than the library's */
 #define PTPM_GRANDMASTER_DIFFERS 50     /* a clock is its own grandmaster, with another priority or quality */
 #define PTPM_BAD_CLOCK_ACCURACY 70
 #define PTPM_BAD_LEAP59 88              /* both leaps */
@@ -338,12 +338,14 @@ enum { PTPM_MOST_ANSWERS = 512 };
 #define PTPM_FOUR_OCTETS(name) __attribute__((__mode__(__SI__))) name
 #endif
 
-/* The three starts. A session is refused by PTPM_MANAGER_IS_EVERY, PTPM_TARGET_IS_EVERY, PTPM_SAME_CLOCK, PTPM_NO_PORTS,
-   PTPM_TOO_MANY_PORTS or PTPM_NO_MEMORY, in this order. A survey is refused by the first or the last of these. A clock is refused
-   by all others, and by the last three of these. */
+/* The starts. A session is refused by PTPM_MANAGER_IS_EVERY, PTPM_TARGET_IS_EVERY, PTPM_SAME_CLOCK, PTPM_NO_PORTS,
+   PTPM_TOO_MANY_PORTS, PTPM_TARGET_IS_ZERO or PTPM_NO_MEMORY, in this order. A survey is refused by the first or the last of
+   these. A clock is refused by all others, PTPM_IDENTITY_IS_ZERO last, and by PTPM_NO_PORTS, PTPM_TOO_MANY_PORTS and
+   PTPM_NO_MEMORY. PTPM_OTHER_SIZES comes before all of them, of ptpm_clock_start_sized and its like alone. */
 __extension__ enum PTPM_FOUR_OCTETS(ptpm_started) {
     PTPM_STARTED = 0,
     PTPM_START_NO_MEMORY = PTPM_NO_MEMORY,
+    PTPM_START_OTHER_SIZES = PTPM_OTHER_SIZES,
     PTPM_NO_PORTS = 48,
     PTPM_TOO_MANY_PORTS = 49,           /* over eight */
     PTPM_START_GRANDMASTER_DIFFERS = PTPM_GRANDMASTER_DIFFERS,
@@ -352,6 +354,8 @@ __extension__ enum PTPM_FOUR_OCTETS(ptpm_started) {
     PTPM_MANAGER_IS_EVERY = 53,         /* its identity is all ones */
     PTPM_TARGET_IS_EVERY = 54,          /* the managed clock's is */
     PTPM_SAME_CLOCK = 55,               /* the managed clock has the manager's identity */
+    PTPM_IDENTITY_IS_ZERO = 56,         /* the clock's identity is all zeros */
+    PTPM_TARGET_IS_ZERO = 57,           /* the managed clock's is */
     PTPM_BAD_IDENTITY = 64,             /* a member is out of its range, here and below */
     PTPM_BAD_USER_DESCRIPTION = 66,
     PTPM_START_BAD_CLOCK_ACCURACY = PTPM_BAD_CLOCK_ACCURACY,
@@ -554,9 +558,29 @@ static inline bool ptpm_is_refusal(uint32_t answer) { return answer >= 32; }
 /* Each call below says what it takes, and what it answers. It says what of the host's memory it writes beside its handle, what
    memory it asks of malloc, and what the caller then owes. If a line is missing, there is none of it. */
 
+/* Tells the version of the library that is linked: PTPM_VERSION_NUMBER of its own header.
+   Answers: the number. */
+uint32_t ptpm_version(void);
+
+/* Compares the sizes of a caller's structs with those of the library, so that a header of another version is found.
+   Takes:   count sizes, one for each struct of this file, in its order.
+   Answers: PTPM_STARTED where the library has these structs, of these sizes, and no others; or PTPM_OTHER_SIZES. */
+enum ptpm_started ptpm_sizes_agree(const size_t *sizes, size_t count);
+
+/* Does so for the file that the caller was compiled with. */
+static inline enum ptpm_started ptpm_header_agrees(void) {
+    static const size_t sizes[] = {
+        sizeof(struct ptpm_clock), sizeof(struct ptpm_clock_settings), sizeof(struct ptpm_port_settings),
+        sizeof(struct ptpm_observed_clock), sizeof(struct ptpm_observed_port), sizeof(struct ptpm_manager_settings),
+        sizeof(struct ptpm_sent), sizeof(struct ptpm_changed), sizeof(struct ptpm_session), sizeof(struct ptpm_session_settings),
+        sizeof(struct ptpm_survey), sizeof(struct ptpm_survey_settings), sizeof(struct ptpm_source)
+    };
+    return ptpm_sizes_agree(sizes, sizeof sizes / sizeof *sizes);
+}
+
 /* Makes the settings of a clock of identity 0 in domain 0 that is its own grandmaster, with this profile's defaults.
    Writes:  all of *settings.
-   Owed:    the caller writes the identity, and what else its clock has, over them. */
+   Owed:    the caller writes the identity, and what else its clock has, over them. No clock starts with an identity of zeros. */
 void ptpm_clock_defaults(struct ptpm_clock_settings *settings);
 
 /* Makes the settings of a port that is MASTER, with this profile's defaults.
@@ -571,6 +595,15 @@ void ptpm_port_defaults(struct ptpm_port_settings *settings);
 enum ptpm_started ptpm_clock_start(struct ptpm_clock *clock, const struct ptpm_clock_settings *settings,
                                    const struct ptpm_port_settings *ports, size_t port_count,
                                    const struct ptpm_manager_settings *managers, size_t manager_count);
+
+/* Does what ptpm_clock_start does, where this file is that of the library.
+   Answers: what ptpm_clock_start answers; or PTPM_OTHER_SIZES, and then the handle holds what it held. */
+static inline enum ptpm_started ptpm_clock_start_sized(struct ptpm_clock *clock, const struct ptpm_clock_settings *settings,
+                                                       const struct ptpm_port_settings *ports, size_t port_count,
+                                                       const struct ptpm_manager_settings *managers, size_t manager_count) {
+    enum ptpm_started answer = ptpm_header_agrees();
+    return answer != PTPM_STARTED ? answer : ptpm_clock_start(clock, settings, ports, port_count, managers, manager_count);
+}
 
 /* Judges a datagram that came in at a port, carries its request out, and makes what is to be sent.
    Takes:   the port, counted from 1; size octets; and room places, PTPM_MOST_SENT or more.
@@ -602,7 +635,8 @@ enum ptpm_observed ptpm_clock_observe(struct ptpm_clock *clock, const struct ptp
    Takes:   the id; a port of the clock, which matters for an id of a port alone; and room octets, PTPM_MOST_READ or more.
    Answers: PTPM_READ, or why not.
    Writes:  *size, and as many octets from octets on: the dataField. *size is 0 if the call is refused. */
-enum ptpm_read ptpm_clock_read(struct ptpm_clock *clock, uint16_t id, uint16_t port, uint8_t *octets, size_t room, size_t *size);
+enum ptpm_read ptpm_clock_read(const struct ptpm_clock *clock, uint16_t id, uint16_t port, uint8_t *octets, size_t room,
+                               size_t *size);
 
 /* Ends what the handle holds, if it holds anything. The handle then holds nothing, and may be started again. */
 void ptpm_clock_stop(struct ptpm_clock *clock);
@@ -612,6 +646,14 @@ void ptpm_clock_stop(struct ptpm_clock *clock);
    Memory:  the session, until it is stopped.
    Owed:    the caller stops the session. */
 enum ptpm_started ptpm_session_start(struct ptpm_session *session, const struct ptpm_session_settings *settings);
+
+/* Does what ptpm_session_start does, where this file is that of the library.
+   Answers: what ptpm_session_start answers; or PTPM_OTHER_SIZES, and then the handle holds what it held. */
+static inline enum ptpm_started ptpm_session_start_sized(struct ptpm_session *session,
+                                                         const struct ptpm_session_settings *settings) {
+    enum ptpm_started answer = ptpm_header_agrees();
+    return answer != PTPM_STARTED ? answer : ptpm_session_start(session, settings);
+}
 
 /* Begins a request, and lets the answer to the one before go.
    Takes:   PTPM_GET, PTPM_SET or PTPM_COMMAND; the id; a port of the managed clock; and the dataField, of size octets. The
@@ -649,7 +691,7 @@ enum ptpm_session_received ptpm_session_receive(struct ptpm_session *session, co
    Takes:   room octets; PTPM_SESSION_IMAGE_OCTETS are enough for every session.
    Answers: PTPM_SAVED, or why not.
    Writes:  *size, and that number of octets from octets on: the image. If the call is refused, *size is 0 and no octet is written. */
-enum ptpm_saved ptpm_session_image(struct ptpm_session *session, uint8_t *octets, size_t room, size_t *size);
+enum ptpm_saved ptpm_session_image(const struct ptpm_session *session, uint8_t *octets, size_t room, size_t *size);
 
 /* Puts the session of an image in the handle, in place of what it holds, which is then freed. A request that was not answered
    goes on, with all its attempts: send it again.
@@ -664,14 +706,15 @@ enum ptpm_restored ptpm_session_restore(struct ptpm_session *session, const stru
 
 /* Counts the requests that were begun.
    Answers: how many they are; 0 if the handle holds no session. */
-uint64_t ptpm_session_issued(struct ptpm_session *session);
+uint64_t ptpm_session_issued(const struct ptpm_session *session);
 
 /* Gives what the answer to the latest request says.
    Takes:   room octets, as many as the dataField has or more: 1,418 do for each.
    Answers: PTPM_VALUE, PTPM_DONE or PTPM_REFUSED; or why nothing is given.
    Writes:  *size, and as many octets from octets on: the dataField, after PTPM_VALUE. *size is 0 after every other answer.
             *error: the managementErrorId after PTPM_REFUSED, and 0 after every other answer. */
-enum ptpm_told ptpm_session_report(struct ptpm_session *session, uint8_t *octets, size_t room, size_t *size, uint16_t *error);
+enum ptpm_told ptpm_session_report(const struct ptpm_session *session, uint8_t *octets, size_t room, size_t *size,
+                                   uint16_t *error);
 
 /* Ends what the handle holds, if it holds anything. The handle then holds nothing, and may be started again. */
 void ptpm_session_stop(struct ptpm_session *session);
@@ -682,12 +725,19 @@ void ptpm_session_stop(struct ptpm_session *session);
    Owed:    the caller stops the survey. */
 enum ptpm_started ptpm_survey_start(struct ptpm_survey *survey, const struct ptpm_survey_settings *settings);
 
+/* Does what ptpm_survey_start does, where this file is that of the library.
+   Answers: what ptpm_survey_start answers; or PTPM_OTHER_SIZES, and then the handle holds what it held. */
+static inline enum ptpm_started ptpm_survey_start_sized(struct ptpm_survey *survey, const struct ptpm_survey_settings *settings) {
+    enum ptpm_started answer = ptpm_header_agrees();
+    return answer != PTPM_STARTED ? answer : ptpm_survey_start(survey, settings);
+}
+
 /* Makes the message of the GET, the same each time.
    Takes:   room octets, PTPM_MOST_OCTETS or more.
    Answers: PTPM_SENT, or why not.
    Writes:  *size, and as many octets from octets on: the message. *size is 0 if the call is refused.
    Owed:    the caller sends the message, and hands in what comes in. */
-enum ptpm_sending ptpm_survey_send(struct ptpm_survey *survey, uint8_t *octets, size_t room, size_t *size);
+enum ptpm_sending ptpm_survey_send(const struct ptpm_survey *survey, uint8_t *octets, size_t room, size_t *size);
 
 /* Judges a datagram that came in, and keeps it if it is the first answer of its port.
    Takes:   size octets.
@@ -697,7 +747,7 @@ enum ptpm_survey_received ptpm_survey_receive(struct ptpm_survey *survey, const 
 
 /* Counts the answers that are kept.
    Answers: how many they are; 0 if the handle holds no survey. */
-size_t ptpm_survey_count(struct ptpm_survey *survey);
+size_t ptpm_survey_count(const struct ptpm_survey *survey);
 
 /* Gives what an answer says, and who gave it.
    Takes:   its place, counted from 0 in the order in which the answers came. And room octets, as many as the dataField has or
@@ -706,7 +756,7 @@ size_t ptpm_survey_count(struct ptpm_survey *survey);
    Writes:  *size, and as many octets from octets on: the dataField, after PTPM_VALUE. *size is 0 after every other answer.
             *error: the managementErrorId after PTPM_REFUSED, and 0 after every other answer.
             *source: the port that gave the answer. It stays as it was if nothing is given. */
-enum ptpm_told ptpm_survey_answer(struct ptpm_survey *survey, size_t place, struct ptpm_source *source, uint8_t *octets,
+enum ptpm_told ptpm_survey_answer(const struct ptpm_survey *survey, size_t place, struct ptpm_source *source, uint8_t *octets,
                                   size_t room, size_t *size, uint16_t *error);
 
 /* Ends what the handle holds, if it holds anything. The handle then holds nothing, and may be started again. */
