@@ -20,7 +20,7 @@ from ctypes import (
     c_void_p,
     sizeof,
 )
-from typing import Any, Dict, List, Tuple
+from typing import Any, Dict, List, Tuple, Type
 
 if sizeof(c_void_p) != 8 or sys.byteorder != "little":
     raise ImportError("ptpm is built for 64-bit little-endian processors alone")
@@ -140,6 +140,7 @@ PTPM_NO_MEMORY = 35
 PTPM_NO_SESSION = 37
 PTPM_IDLE = 43
 PTPM_NO_SURVEY = 46
+PTPM_OTHER_SIZES = 47
 PTPM_GRANDMASTER_DIFFERS = 50
 PTPM_BAD_CLOCK_ACCURACY = 70
 PTPM_BAD_LEAP59 = 88
@@ -148,6 +149,7 @@ PTPM_BAD_STATE = 94
 # enum ptpm_started.
 PTPM_STARTED = 0
 PTPM_START_NO_MEMORY = 35
+PTPM_START_OTHER_SIZES = 47
 PTPM_NO_PORTS = 48
 PTPM_TOO_MANY_PORTS = 49
 PTPM_START_GRANDMASTER_DIFFERS = 50
@@ -156,6 +158,8 @@ PTPM_MANAGER_TWICE = 52
 PTPM_MANAGER_IS_EVERY = 53
 PTPM_TARGET_IS_EVERY = 54
 PTPM_SAME_CLOCK = 55
+PTPM_IDENTITY_IS_ZERO = 56
+PTPM_TARGET_IS_ZERO = 57
 PTPM_BAD_IDENTITY = 64
 PTPM_BAD_USER_DESCRIPTION = 66
 PTPM_START_BAD_CLOCK_ACCURACY = 70
@@ -524,6 +528,8 @@ class ptpm_source(Structure):
 
 # What a call answers, and what it takes.
 CALLS: Dict[str, Tuple[Any, List[Any]]] = {
+    "ptpm_version": (c_uint32, []),
+    "ptpm_sizes_agree": (c_uint32, [POINTER(c_size_t), c_size_t]),
     "ptpm_clock_defaults": (None, [POINTER(ptpm_clock_settings)]),
     "ptpm_port_defaults": (None, [POINTER(ptpm_port_settings)]),
     "ptpm_clock_start": (
@@ -569,3 +575,20 @@ CALLS: Dict[str, Tuple[Any, List[Any]]] = {
     "ptpm_answer_name": (c_size_t, [c_uint32, POINTER(c_char), c_size_t]),
     "ptpm_error_name": (c_size_t, [c_uint16, POINTER(c_char), c_size_t]),
 }
+
+# The structs, in the order of the header.
+STRUCTS: List[Type[Structure]] = [
+    ptpm_clock,
+    ptpm_clock_settings,
+    ptpm_port_settings,
+    ptpm_observed_clock,
+    ptpm_observed_port,
+    ptpm_manager_settings,
+    ptpm_sent,
+    ptpm_changed,
+    ptpm_session,
+    ptpm_session_settings,
+    ptpm_survey,
+    ptpm_survey_settings,
+    ptpm_source,
+]

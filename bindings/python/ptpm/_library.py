@@ -31,7 +31,15 @@ def _load() -> ctypes.CDLL:
         call = getattr(library, name, None)  # an older library lacks some: only they are missing then
         if call is not None:
             call.restype, call.argtypes = answer, taken
+    _judge(library)
     return library
+
+
+def _judge(library: ctypes.CDLL) -> None:
+    """Refuses a library of another version, whose structs have other sizes."""
+    sizes = [ctypes.sizeof(struct) for struct in header.STRUCTS]
+    if hasattr(library, "ptpm_sizes_agree") and library.ptpm_sizes_agree((ctypes.c_size_t * len(sizes))(*sizes), len(sizes)) != 0:
+        raise ImportError(f"OTHER_SIZES: {_path()} is of version {library.ptpm_version()}, and this module of {header.PTPM_VERSION}")
 
 
 library = _load()

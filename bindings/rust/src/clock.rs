@@ -25,8 +25,8 @@ pub struct Clock {
     handle: sys::ptpm_clock,
 }
 
-// SAFETY: one thread at a time is in a call with a handle, since each call takes the clock by `&mut`; a handle may be moved, and
-// calls with other handles may run beside it.
+// SAFETY: one thread at a time is in a call with a handle, since the type is not Sync: no other thread has a reference to it. A
+// handle may be moved, and calls with other handles may run beside it.
 unsafe impl Send for Clock {}
 
 /// What became of a datagram, and what is to be sent for it.
@@ -67,9 +67,10 @@ impl Clock {
     ///
     /// # Errors
     ///
-    /// The first reason why it does not start, from [`Error::NoPorts`] to [`Error::ManagerIsEvery`] or of a member that is out of
-    /// its range, or [`Error::NoMemory`].
+    /// The first reason why it does not start. It is [`Error::OtherSizes`], or one from [`Error::NoPorts`] to
+    /// [`Error::ManagerIsEvery`], or a member that is out of its range, or [`Error::NoMemory`].
     pub fn start(settings: &ClockSettings, ports: &[PortSettings], managers: &[Manager]) -> Result<Self, Error> {
+        done(sys::ptpm_header_agrees())?;
         let mut clock = Self { handle: sys::ptpm_clock { at: null_mut(), live: false } };
         let settings = settings.as_in_c();
         // SAFETY: the handle is all zeros before this first call. Settings, ports and managers may be read, and are laid out as the
@@ -160,16 +161,16 @@ impl Clock {
     /// # Errors
     ///
     /// [`Error::NoPort`] or [`Error::NotReadable`].
-    pub fn read<'a>(&mut self, id: ManagementId, port: u16, room: &'a mut [u8; MOST_READ]) -> Result<&'a [u8], Error> {
+    pub fn read<'a>(&self, id: ManagementId, port: u16, room: &'a mut [u8; MOST_READ]) -> Result<&'a [u8], Error> {
         let mut size = 0;
         let (octets, most) = (room.as_mut_ptr(), room.len());
         // SAFETY: the octets and the size may be written; the octets are borrowed mutably, so they lie apart from the rest.
-        done(unsafe { sys::ptpm_clock_read(&mut self.handle, id.0, port, octets, most, &mut size) })?;
+        done(unsafe { sys::ptpm_clock_read(&self.handle, id.0, port, octets, most, &mut size) })?;
         Ok(&room[..size])
     }
 
     /// The clock's identity, out of its DEFAULT_DATA_SET.
-    pub fn identity(&mut self) -> Result<Identity, Error> {
+    pub fn identity(&self) -> Result<Identity, Error> {
         let mut room = [0; MOST_READ];
         let field = self.read(ManagementId::DEFAULT_DATA_SET, 0, &mut room)?;
         let mut identity = Identity::default();

@@ -61,6 +61,7 @@ errors! {
     GaveUp = PTPM_GAVE_UP, "no attempts are left";
     NoReport = PTPM_NO_REPORT, "no request was begun, or the latest is not answered";
     NoSurvey = PTPM_NO_SURVEY, "the handle holds no survey";
+    OtherSizes = PTPM_OTHER_SIZES, "the library that is linked is of another version";
     NoPorts = PTPM_NO_PORTS, "a clock has a port or more";
     TooManyPorts = PTPM_TOO_MANY_PORTS, "a clock has eight ports at most";
     GrandmasterDiffers = PTPM_GRANDMASTER_DIFFERS, "the clock is its own grandmaster, with another priority or quality";
@@ -69,6 +70,8 @@ errors! {
     ManagerIsEvery = PTPM_MANAGER_IS_EVERY, "the manager's identity is all ones, which means every clock";
     TargetIsEvery = PTPM_TARGET_IS_EVERY, "the managed clock's identity is all ones, which means every clock";
     SameClock = PTPM_SAME_CLOCK, "the managed clock has the manager's identity";
+    IdentityIsZero = PTPM_IDENTITY_IS_ZERO, "the clock's identity is all zeros";
+    TargetIsZero = PTPM_TARGET_IS_ZERO, "the managed clock's identity is all zeros";
     BadIdentity = PTPM_BAD_IDENTITY, "the clock's identity is all ones, which means every clock";
     BadUserDescription = PTPM_BAD_USER_DESCRIPTION, "a userDescription is UTF-8, of 128 octets at most";
     BadClockAccuracy = PTPM_BAD_CLOCK_ACCURACY, "a clockAccuracy is 0x17 to 0x31, or 0xFE";

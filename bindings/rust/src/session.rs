@@ -98,8 +98,8 @@ pub struct Session {
     handle: sys::ptpm_session,
 }
 
-// SAFETY: one thread at a time is in a call with a handle, since each call takes the session by `&mut`; a handle may be moved, and
-// calls with other handles may run beside it.
+// SAFETY: one thread at a time is in a call with a handle, since the type is not Sync: no other thread has a reference to it. A
+// handle may be moved, and calls with other handles may run beside it.
 unsafe impl Send for Session {}
 
 impl Session {
@@ -110,6 +110,7 @@ impl Session {
     /// The first of [`Error::ManagerIsEvery`], [`Error::TargetIsEvery`], [`Error::SameClock`], [`Error::NoPorts`],
     /// [`Error::TooManyPorts`] and [`Error::NoMemory`] that holds.
     pub fn start(settings: &SessionSettings) -> Result<Self, Error> {
+        done(sys::ptpm_header_agrees())?;
         let mut session = Self::none();
         let settings = settings.as_in_c();
         // SAFETY: the handle is all zeros before this first call, and the settings may be read.
@@ -126,6 +127,7 @@ impl Session {
     /// [`Error::OtherSession`] and [`Error::NoMemory`] that holds. That is no reason to start the session anew: the clock would
     /// take its requests for old ones, or for others.
     pub fn restore(settings: &SessionSettings, image: &[u8]) -> Result<Self, Error> {
+        done(sys::ptpm_header_agrees())?;
         let mut session = Self::none();
         let settings = settings.as_in_c();
         // SAFETY: the handle is all zeros before this first call. The settings may be read, and so may the octets of the slice.
@@ -140,10 +142,10 @@ impl Session {
 
     /// Makes the session's image in the room that it is given. A host saves it before it sends a request, and after it has reported
     /// an answer. How many attempts are left, and the answer to the latest request, are not in it.
-    pub fn image<'a>(&mut self, room: &'a mut [u8; SESSION_IMAGE_OCTETS]) -> Result<&'a [u8], Error> {
+    pub fn image<'a>(&self, room: &'a mut [u8; SESSION_IMAGE_OCTETS]) -> Result<&'a [u8], Error> {
         let mut size = 0;
         // SAFETY: the octets and the size may be written; the octets are borrowed mutably, so they lie apart from the rest.
-        done(unsafe { sys::ptpm_session_image(&mut self.handle, room.as_mut_ptr(), room.len(), &mut size) })?;
+        done(unsafe { sys::ptpm_session_image(&self.handle, room.as_mut_ptr(), room.len(), &mut size) })?;
         Ok(&room[..size])
     }
 
@@ -198,9 +200,9 @@ impl Session {
     }
 
     /// How many requests were begun.
-    pub fn issued(&mut self) -> u64 {
+    pub fn issued(&self) -> u64 {
         // SAFETY: the handle is live.
-        unsafe { sys::ptpm_session_issued(&mut self.handle) }
+        unsafe { sys::ptpm_session_issued(&self.handle) }
     }
 
     /// Reports what the answer to the latest request says; a dataField in the room that it is given, for which
@@ -209,10 +211,10 @@ impl Session {
     /// # Errors
     ///
     /// [`Error::NoReport`], or [`Error::NoRoom`] for fewer octets than the dataField has.
-    pub fn report<'a>(&mut self, room: &'a mut [u8]) -> Result<Report<'a>, Error> {
+    pub fn report<'a>(&self, room: &'a mut [u8]) -> Result<Report<'a>, Error> {
         told(room, |octets, most, size, error| {
             // SAFETY: octets, size and error may be written, and lie apart: each is borrowed mutably.
-            unsafe { sys::ptpm_session_report(&mut self.handle, octets, most, size, error) }
+            unsafe { sys::ptpm_session_report(&self.handle, octets, most, size, error) }
         })
     }
 }
