@@ -24,6 +24,7 @@ from .members import data_field, members
 from .nobody import ask_as_nobody, get
 from .numbers import NumberFile, NumberFileError, usual_path
 from .observation import ObservedClock, ObservedGrandmaster, ObservedPort
+from .passing import PassedOn, Rate
 from .report import Report
 from .requests import Requests, SessionSettings
 from .session import Session
@@ -33,8 +34,8 @@ from .transport import Transport, UdpTransport, UnixTransport
 
 __all__ = [
     "Action", "Changed", "Clock", "ClockMembers", "ClockSettings", "DelayMechanism", "Error", "HandleAnswer", "Handled", "Identity",
-    "ManagementId", "Manager", "NoAnswer", "NumberFile", "NumberFileError", "ObservedClock", "ObservedGrandmaster", "ObservedPort",
-    "PortIdentity", "PortMembers", "PortSettings", "PortState", "Report", "Requests", "Rights", "Session", "SessionAnswer",
+    "ManagementId", "Manager", "NoAnswer", "NumberFile", "NumberFileError", "ObservedClock", "ObservedGrandmaster", "ObservedPort", "PassedOn",
+    "PortIdentity", "PortMembers", "PortSettings", "PortState", "Rate", "Report", "Requests", "Rights", "Session", "SessionAnswer",
     "SessionSettings", "Survey", "SurveyAnswer", "SurveySettings", "Transport", "UdpTransport", "UnixTransport", "__version__",
     "answer_name", "ask_as_nobody", "data_field", "error_name", "get", "id_name", "id_of", "members", "survey", "time_interval",
     "usual_path",

@@ -526,6 +526,21 @@ class ptpm_source(Structure):
     ]
 
 
+class ptpm_passed_on(Structure):
+    _fields_ = [
+        ("seed", c_uint64),
+        ("places", c_uint64 * 6 * 4096),
+    ]
+
+
+class ptpm_rate(Structure):
+    _fields_ = [
+        ("rate", c_uint64),
+        ("left", c_uint64),
+        ("time", c_uint64),
+    ]
+
+
 # What a call answers, and what it takes.
 CALLS: Dict[str, Tuple[Any, List[Any]]] = {
     "ptpm_version": (c_uint32, []),
@@ -570,6 +585,9 @@ CALLS: Dict[str, Tuple[Any, List[Any]]] = {
         [POINTER(ptpm_survey), c_size_t, POINTER(ptpm_source), POINTER(c_uint8), c_size_t, POINTER(c_size_t), POINTER(c_uint16)],
     ),
     "ptpm_survey_stop": (None, [POINTER(ptpm_survey)]),
+    "ptpm_passed_on_is_first": (c_bool, [POINTER(ptpm_passed_on), c_char_p, c_size_t, c_uint64, c_uint64]),
+    "ptpm_rate_start": (None, [POINTER(ptpm_rate), c_uint64, c_uint64]),
+    "ptpm_rate_take": (c_bool, [POINTER(ptpm_rate), c_uint64]),
     "ptpm_id_named": (c_uint32, [c_char_p, c_size_t]),
     "ptpm_id_name": (c_size_t, [c_uint16, POINTER(c_char), c_size_t]),
     "ptpm_answer_name": (c_size_t, [c_uint32, POINTER(c_char), c_size_t]),
@@ -591,4 +609,6 @@ STRUCTS: List[Type[Structure]] = [
     ptpm_survey,
     ptpm_survey_settings,
     ptpm_source,
+    ptpm_passed_on,
+    ptpm_rate,
 ]

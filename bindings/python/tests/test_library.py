@@ -165,6 +165,19 @@ class Managers(unittest.TestCase):
             self.assertEqual(told, [(f"{CLOCK}/1", ptpm.PortState.MASTER), (f"{CLOCK}/2", ptpm.PortState.MASTER)])
 
 
+@unittest.skipUnless(hasattr(library, "ptpm_rate_take"), "the library has no tables")
+class Passing(unittest.TestCase):
+    def test_a_message_is_passed_on_once_in_its_time(self) -> None:
+        get, table = request(7, "aabbccfffeddee01ffff", 1, 0, "2005"), ptpm.PassedOn(7)
+        self.assertEqual([table.is_first(get, now, 1000) for now in (0, 999, 1000)], [True, False, True])
+        self.assertTrue(table.is_first(request(8, "aabbccfffeddee01ffff", 1, 0, "2005"), 1000, 1000))
+        self.assertFalse(table.is_first(b"", 1000, 1000))
+
+    def test_a_rate_gives_as_many_tokens_as_a_second_brings(self) -> None:
+        rate = ptpm.Rate(3, 0)
+        self.assertEqual([sum(rate.take(now) for _ in range(5)) for now in (0, 1000)], [3, 3])
+
+
 class Texts(unittest.TestCase):
     def test_texts_that_are_no_identity_are_refused(self) -> None:
         pointed = ("aabbcc.fffeddee01", "aabb.ccfffe.ddee01", "aabbcc.fffe.ddee0x")

@@ -212,6 +212,21 @@ pub struct ptpm_source {
     pub port: u16,
 }
 
+#[repr(C)]
+#[derive(Clone, Copy)]
+pub struct ptpm_passed_on {
+    pub seed: u64,
+    pub places: [[u64; 6]; 4096],
+}
+
+#[repr(C)]
+#[derive(Clone, Copy)]
+pub struct ptpm_rate {
+    pub rate: u64,
+    pub left: u64,
+    pub time: u64,
+}
+
 extern "C" {
     pub fn ptpm_version() -> u32;
     pub fn ptpm_sizes_agree(sizes: *const usize, count: usize) -> ptpm_started;
@@ -303,6 +318,9 @@ extern "C" {
         error: *mut u16,
     ) -> ptpm_told;
     pub fn ptpm_survey_stop(survey: *mut ptpm_survey);
+    pub fn ptpm_passed_on_is_first(table: *mut ptpm_passed_on, message: *const u8, size: usize, now: u64, time: u64) -> bool;
+    pub fn ptpm_rate_start(rate: *mut ptpm_rate, tokens: u64, now: u64);
+    pub fn ptpm_rate_take(rate: *mut ptpm_rate, now: u64) -> bool;
     pub fn ptpm_id_named(name: *const c_char, size: usize) -> u32;
     pub fn ptpm_id_name(id: u16, text: *mut c_char, room: usize) -> usize;
     pub fn ptpm_answer_name(number: u32, text: *mut c_char, room: usize) -> usize;
@@ -316,7 +334,7 @@ pub const fn ptpm_is_refusal(answer: u32) -> bool {
 }
 
 /// The sizes of these structs, in their order.
-const SIZES: [usize; 13] = [
+const SIZES: [usize; 15] = [
     size_of::<ptpm_clock>(),
     size_of::<ptpm_clock_settings>(),
     size_of::<ptpm_port_settings>(),
@@ -330,6 +348,8 @@ const SIZES: [usize; 13] = [
     size_of::<ptpm_survey>(),
     size_of::<ptpm_survey_settings>(),
     size_of::<ptpm_source>(),
+    size_of::<ptpm_passed_on>(),
+    size_of::<ptpm_rate>(),
 ];
 
 /// Compares these declarations with the library that is linked.
