@@ -598,11 +598,11 @@ enum ptpm_started ptpm_clock_start(struct ptpm_clock *clock, const struct ptpm_c
 
 /* Does what ptpm_clock_start does, where this file is that of the library.
    Answers: what ptpm_clock_start answers; or PTPM_OTHER_SIZES, and then the handle holds what it held. */
-static inline enum ptpm_started ptpm_clock_start_sized(struct ptpm_clock *clock, const struct ptpm_clock_settings *settings,
-                                                       const struct ptpm_port_settings *ports, size_t port_count,
-                                                       const struct ptpm_manager_settings *managers, size_t manager_count) {
+static inline enum ptpm_started ptpm_clock_start_sized(struct ptpm_clock *handle, const struct ptpm_clock_settings *settings,
+                                                       const struct ptpm_port_settings *of_ports, size_t all_ports,
+                                                       const struct ptpm_manager_settings *of_managers, size_t all_managers) {
     enum ptpm_started answer = ptpm_header_agrees();
-    return answer != PTPM_STARTED ? answer : ptpm_clock_start(clock, settings, ports, port_count, managers, manager_count);
+    return answer != PTPM_STARTED ? answer : ptpm_clock_start(handle, settings, of_ports, all_ports, of_managers, all_managers);
 }
 
 /* Judges a datagram that came in at a port, carries its request out, and makes what is to be sent.
@@ -649,10 +649,10 @@ enum ptpm_started ptpm_session_start(struct ptpm_session *session, const struct 
 
 /* Does what ptpm_session_start does, where this file is that of the library.
    Answers: what ptpm_session_start answers; or PTPM_OTHER_SIZES, and then the handle holds what it held. */
-static inline enum ptpm_started ptpm_session_start_sized(struct ptpm_session *session,
+static inline enum ptpm_started ptpm_session_start_sized(struct ptpm_session *handle,
                                                          const struct ptpm_session_settings *settings) {
     enum ptpm_started answer = ptpm_header_agrees();
-    return answer != PTPM_STARTED ? answer : ptpm_session_start(session, settings);
+    return answer != PTPM_STARTED ? answer : ptpm_session_start(handle, settings);
 }
 
 /* Begins a request, and lets the answer to the one before go.
@@ -727,9 +727,9 @@ enum ptpm_started ptpm_survey_start(struct ptpm_survey *survey, const struct ptp
 
 /* Does what ptpm_survey_start does, where this file is that of the library.
    Answers: what ptpm_survey_start answers; or PTPM_OTHER_SIZES, and then the handle holds what it held. */
-static inline enum ptpm_started ptpm_survey_start_sized(struct ptpm_survey *survey, const struct ptpm_survey_settings *settings) {
+static inline enum ptpm_started ptpm_survey_start_sized(struct ptpm_survey *handle, const struct ptpm_survey_settings *settings) {
     enum ptpm_started answer = ptpm_header_agrees();
-    return answer != PTPM_STARTED ? answer : ptpm_survey_start(survey, settings);
+    return answer != PTPM_STARTED ? answer : ptpm_survey_start(handle, settings);
 }
 
 /* Makes the message of the GET, the same each time.
