@@ -31,7 +31,7 @@ static int ask_in_session(struct session *session, const struct task *task) {
     } else {
         if (kept == UNDER_WAY && task->is_letting_go) let_earlier_go(session, &earlier, task);
         else if (kept == UNDER_WAY) status = finish_earlier(session, &earlier, task);
-        if (status == ANSWERED) tune_session(session, task);
+        if (status == ANSWERED) see_to_hops(session, task);
         if (status == ANSWERED) status = ask_whether_new(session, task);
     }
     return status == ANSWERED ? ask_clock(session, task) : status;

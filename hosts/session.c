@@ -58,10 +58,9 @@ static void start_at_number(struct session *session, const struct task *task, co
     }
 }
 
-/* The request that is under way, as a task of this run: it is sent in this run's way, as often as this run's own. */
+/* The request that is under way, as a task of this run: it is sent in this run's way and domain, as often as this run's own. */
 static void read_earlier(struct task *earlier, const struct task *task, const struct session_image *image) {
     *earlier = *task;
-    earlier->settings.domain = image->domain;
     earlier->action = image->action;
     earlier->id = image->id;
     earlier->port = image->port;
@@ -86,6 +85,7 @@ enum kept open_session(struct session *session, const struct task *task, struct 
     }
     if (answer == PTPM_OTHER_SESSION) refuse_image(&image, &task->settings);
     if (answer != PTPM_RESTORED) refuse_octets(answer);
+    ptpm_session_retune(&session->handle, task->settings.domain);
     if (!image.is_under_way) return AT_REST;
     read_earlier(earlier, task, &image);
     return UNDER_WAY;
@@ -102,10 +102,9 @@ uint16_t latest_number(struct session *session) {
     return (uint16_t)(session->settings.first + ptpm_session_issued(&session->handle) - 1);
 }
 
-/* The hops of its messages a session has from its start. */
-void tune_session(struct session *session, const struct task *task) {
+/* A session has the hops of its messages from its start. */
+void see_to_hops(struct session *session, const struct task *task) {
     if (session->settings.hops != task->settings.hops) start_session(session, task, (uint16_t)(latest_number(session) + 1));
-    else ptpm_session_retune(&session->handle, task->settings.domain);
 }
 
 static uint32_t begin(struct session *session, const struct task *task) {

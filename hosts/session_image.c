@@ -3,8 +3,8 @@
 
 /* Where the members are, from the mark at the head on. Numbers of two octets have the higher one first. */
 enum {
-    MANAGER = 12, MANAGER_PORT = 20, TARGET = 22, PORTS = 30, FIRST = 31, HOPS = 33, DOMAIN = 35, IS_UNDER_WAY = 52, ACTION = 53,
-    ID = 54, PORT = 56, SIZE = 58, OCTETS = 60,
+    MANAGER = 12, MANAGER_PORT = 20, TARGET = 22, PORTS = 30, FIRST = 31, HOPS = 33, IS_UNDER_WAY = 52, ACTION = 53, ID = 54,
+    PORT = 56, SIZE = 58, OCTETS = 60,
 };
 
 static uint16_t number_at(const uint8_t *octets, size_t place) { return (uint16_t)(octets[place] << 8 | octets[place + 1]); }
@@ -28,7 +28,6 @@ struct session_image read_image(const uint8_t *octets, size_t size) {
     image.ports = octets[PORTS];
     image.first = number_at(octets, FIRST);
     image.hops = octets[HOPS];
-    image.domain = octets[DOMAIN];
     if (octets[IS_UNDER_WAY] == 1) read_request(&image, octets, size);
     return image;
 }
