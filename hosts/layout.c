@@ -412,6 +412,41 @@ static void sessions(void) {
     check(ptpm_session_issued(&session) == 2, "how many requests were begun");
 }
 
+/* A session whose GET is not answered, as its image has it, and the session back from the image. */
+static void images(void) {
+    struct ptpm_session_settings s = session_values();
+    struct ptpm_session saved = { 0 };
+    uint8_t image[PTPM_SESSION_IMAGE_OCTETS], octets[PTPM_MOST_OCTETS], none = 0;
+    size_t size = 0, length = 0;
+    check(ptpm_session_image(&saved, image, sizeof image, &size) == PTPM_SAVE_NO_SESSION && size == 0, "no session, no image");
+    check(ptpm_session_start(&saved, &s) == PTPM_STARTED
+          && ptpm_session_begin(&saved, PTPM_GET, 0x200b, 7, &none, 0) == PTPM_BEGUN, "a session that is saved");
+    check(ptpm_session_image(&saved, image, 59, &size) == PTPM_SAVE_NO_ROOM && size == 0, "an image that lacks room");
+    check(ptpm_session_image(&saved, image, sizeof image, &size) == PTPM_SAVED
+          && is_text(image, size, "7074706d" "02" "01" "0000" "00000030" MANAGER "0a11" OTHER "07" "3344" "09" "03" "2b"
+                     "0000000000000001" "0000000000000000" "01" "00" "200b" "0007" "0000"),
+          "the image of a session");
+    ptpm_session_stop(&saved);
+    check(ptpm_session_restore(&saved, &s, image, 11) == PTPM_NOT_AN_IMAGE, "PTPM_NOT_AN_IMAGE");
+    check(ptpm_session_restore(&saved, &s, image, size - 1) == PTPM_DAMAGED, "PTPM_DAMAGED");
+    image[4] = 1;
+    check(ptpm_session_restore(&saved, &s, image, size) == PTPM_OTHER_KIND, "PTPM_OTHER_KIND");
+    image[4] = 2;
+    image[5] = 2;
+    check(ptpm_session_restore(&saved, &s, image, size) == PTPM_OTHER_VERSION, "PTPM_OTHER_VERSION");
+    image[5] = 1;
+    s.first++;
+    check(ptpm_session_restore(&saved, &s, image, size) == PTPM_OTHER_SESSION, "PTPM_OTHER_SESSION");
+    s.first--;
+    check(ptpm_session_issued(&saved) == 0, "a restore that is refused leaves the handle");
+    s.domain = s.hops = s.attempts = 0;
+    check(ptpm_session_restore(&saved, &s, image, size) == PTPM_RESTORED && ptpm_session_issued(&saved) == 1
+          && ptpm_session_send(&saved, octets, sizeof octets, &length) == PTPM_SENT
+          && is_text(octets, length, message(0x2b, MANAGER "0a11", 0x3344, OTHER "0007", 0x0909, PTPM_GET, "0001" "0002" "200b")),
+          "the request of a session that is restored");
+    ptpm_session_stop(&saved);
+}
+
 static void surveys(void) {
     struct ptpm_survey_settings s = { .port = 0x0b22, .number = 0x5566, .id = 0x2006, .domain = 0x2c, .hops = 4 };
     struct ptpm_source source;
@@ -560,6 +595,7 @@ int main(void) {
     changes();
     changed_members();
     sessions();
+    images();
     surveys();
     answer_names();
     names_in_types();

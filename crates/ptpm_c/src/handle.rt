@@ -13,7 +13,7 @@ use ptpm_host::{HostedClock, HostedSession, HostedSurvey};
 use std::alloc::Global;
 use std::mem;
 
-/// `struct ptpm_clock { void *at; bool live; }`, and the same of a session and a survey: where it is all zeros it holds nothing.
+/// `struct ptpm_clock { void *at; bool live; }`, and the same of a session and a survey: if it is all zeros it holds nothing.
 #[repr(C)]
 #[derive(Drop)]
 pub struct Handle {
@@ -61,7 +61,7 @@ impl Handle {
         }
     }
 
-    /// The members that have another value in the clock that it holds than in these data sets; none where it holds no clock.
+    /// The members that have another value in the clock that it holds than in these data sets; none if it holds no clock.
     pub fn changed_since(&mut self, alloc: Global, before: &DataSets) -> ChangedMembers
         ensures changed { (c : HostedClock)
             → clock_held self.old.keeping ≡ Some c

@@ -1,4 +1,4 @@
-//! A box behind a pointer that a host keeps. All that is unsafe stands here.
+//! A box behind a pointer that a host keeps. All that is unsafe is here.
 
 ghost use Rattle.std.specs.Prelude.{◌≡◌, IsTrue, Option, None, Some, is_some};
 ghost use Rattle.ptpm_c.specs.declared.kept.Kept.{Kept};

@@ -96,7 +96,7 @@ pub extern "C" fn ptpm_clock_start(
 }
 
 /// What becomes of a datagram that comes in at a port: the number of the verdict, or of the refusal. The first `count`
-/// places of `sent` get what the clock sends; the places behind them stay as they are, and so does what stands behind each
+/// places of `sent` get what the clock sends; the places after them stay as they are, and so does what follows each
 /// message. Takes no memory.
 #[tactic(auto, using(crate::proofs::Turns::turned_to, ptpm_host::specs::PlacesLaws::kept_by_none))]
 #[unsafe(no_mangle)]
@@ -143,7 +143,7 @@ pub extern "C" fn ptpm_clock_handle(
     number
 }
 
-/// What `ptpm_clock_handle` does, and leaves in `members` those that have another value behind it than before: none but where
+/// What `ptpm_clock_handle` does, and leaves in `members` those that have another value after it than before: none unless
 /// the number is that of AnsweredNew. Takes no memory.
 #[tactic(auto, using(crate::proofs::Turns::turned_still, crate::proofs::Turns::changed_to, crate::proofs::Turns::none_to, ptpm_host::specs::PlacesLaws::kept_by_none))]
 #[unsafe(no_mangle)]
@@ -240,7 +240,7 @@ pub extern "C" fn ptpm_clock_observe(
 }
 
 /// Leaves what a GET of this id is answered at the head of `octets`, `size` octets: 0, or the number of the refusal. What
-/// stands behind them stays. The port matters for an id of a port alone. Takes no memory.
+/// follows them stays. The port matters for an id of a port alone. Takes no memory.
 #[unsafe(no_mangle)]
 pub extern "C" fn ptpm_clock_read(
     alloc: Global,

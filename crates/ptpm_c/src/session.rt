@@ -60,7 +60,7 @@ pub extern "C" fn ptpm_session_start(
     0
 }
 
-/// Begins a request: 0. Where it is refused, by the number of the refusal, nothing changes. Memory is asked for where nothing
+/// Begins a request: 0. If it is refused, by the number of the refusal, nothing changes. Memory is asked for if nothing
 /// else refuses it.
 #[tactic(auto, using(crate::proofs::Numbers::memory_of_refusal))]
 #[unsafe(no_mangle)]
@@ -108,7 +108,7 @@ pub extern "C" fn ptpm_session_begin(
     number
 }
 
-/// Leaves the unanswered request at the head of `octets`, `size` octets: 0, or the number of the refusal. What stands behind
+/// Leaves the unanswered request at the head of `octets`, `size` octets: 0, or the number of the refusal. What follows
 /// them stays. Takes no memory.
 #[unsafe(no_mangle)]
 pub extern "C" fn ptpm_session_send(
@@ -228,7 +228,7 @@ pub extern "C" fn ptpm_session_receive(alloc: Global, handle: &mut Handle, datag
     number
 }
 
-/// How many requests were begun; 0 where the handle holds no session. Takes no memory.
+/// How many requests were begun; 0 if the handle holds no session. Takes no memory.
 #[unsafe(no_mangle)]
 pub extern "C" fn ptpm_session_issued(alloc: Global, handle: &mut Handle) -> u64
     ensures kept { held handle.new.keeping ≡ held handle.old.keeping }
@@ -245,8 +245,8 @@ pub extern "C" fn ptpm_session_issued(alloc: Global, handle: &mut Handle) -> u64
     issued
 }
 
-/// What the answer to the latest request tells, as a number; a dataField is left at the head of `octets`, `size` octets, and
-/// a managementErrorId in `error`. Where none is told, they are 0. What stands behind a dataField stays. Takes no memory.
+/// What the answer to the latest request says, as a number; a dataField is left at the head of `octets`, `size` octets, and
+/// a managementErrorId in `error`. If there is none, they are 0. What follows a dataField stays. Takes no memory.
 #[unsafe(no_mangle)]
 pub extern "C" fn ptpm_session_report(
     alloc: Global,

@@ -58,7 +58,7 @@ pub extern "C" fn ptpm_survey_start(
     0
 }
 
-/// Leaves the GET at the head of `octets`, `size` octets: 0, or the number of the refusal. What stands behind them stays. Takes
+/// Leaves the GET at the head of `octets`, `size` octets: 0, or the number of the refusal. What follows them stays. Takes
 /// no memory.
 #[unsafe(no_mangle)]
 pub extern "C" fn ptpm_survey_send(
@@ -135,7 +135,7 @@ pub extern "C" fn ptpm_survey_receive(alloc: Global, handle: &mut Handle, datagr
     number
 }
 
-/// How many answers are kept; 0 where the handle holds no survey. Takes no memory.
+/// How many answers are kept; 0 if the handle holds no survey. Takes no memory.
 #[unsafe(no_mangle)]
 pub extern "C" fn ptpm_survey_count(alloc: Global, handle: &mut Handle) -> usize
     ensures kept { held handle.new.keeping ≡ held handle.old.keeping }
@@ -152,8 +152,8 @@ pub extern "C" fn ptpm_survey_count(alloc: Global, handle: &mut Handle) -> usize
     count
 }
 
-/// What the answer at a place tells, as a number, counted from 0, and who gave it; a dataField is left at the head of
-/// `octets`, `size` octets, and a managementErrorId in `error`. Where none is told, they are 0. What stands behind a dataField
+/// What the answer at a place says, as a number, counted from 0, and who gave it; a dataField is left at the head of
+/// `octets`, `size` octets, and a managementErrorId in `error`. If there is none, they are 0. What follows a dataField
 /// stays. Takes no memory.
 #[unsafe(no_mangle)]
 pub extern "C" fn ptpm_survey_answer(

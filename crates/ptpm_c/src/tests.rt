@@ -60,7 +60,7 @@ const LONGEST_HEAD: &[u8; 54] = b"\x0d\x12\x05\xc0\x00\x00\
     \xaa\xbb\xcc\xff\xfe\xdd\xee\x02\xff\xff\x02\x01\x01\x00\
     \x00\x01\x05\x8c\x00\x02";
 
-/// The size of a message that fills its place counts no octet behind the place.
+/// The size of a message that fills its place counts no octet past the place.
 #[test]
 fn the_longest_message_passed_on(rt: HostRuntime) {
     let alloc = rt.alloc();
@@ -95,7 +95,7 @@ const GET_CURRENT: &[u8; 54] = b"\x0d\x12\x00\x36\x00\x00\
 const CURRENT: &[u8; 18] = b"\x00\x01\xff\xff\xff\xff\xff\xfe\x80\x00\
     \x00\x00\x00\x00\x00\xfa\x00\x00";
 
-/// An empty handle, what a GET reads behind an observation, a port that a manager disabled, and refusals, which change nothing.
+/// An empty handle, what a GET reads after an observation, a port that a manager disabled, and refusals, which change nothing.
 #[test]
 fn a_clock_that_is_observed(rt: HostRuntime) {
     let alloc = rt.alloc();

@@ -1,10 +1,10 @@
--- A fault at a line of standard input, and what is told of a fault (this project's profile).
+-- A fault at a line of standard input, and what is reported of a fault (this project's profile).
 use Rattle.std.specs.Prelude.{ℕ, Bool, true, false, List, [], ◌∷◌, ◌++◌, codes}
 use Rattle.ptpm_commands.specs.declared.faults.Fault.{Fault}
 use Rattle.ptpm_commands.specs.declared.faults.Fault.TheVariants as faults
 use Rattle.ptpm_commands.specs.declared.faults.LineFault.TheVariants as bad
 
--- the number of the line is told where the line is to blame
+-- the number of the line is reported if the line is to blame
 abbrev pub at_line : ℕ → Fault → Fault
 at_line number faults.BadHex = faults.BadLine number bad.BadHex
 at_line number (faults.Refused error) = faults.BadLine number (bad.Refused error)
@@ -16,6 +16,6 @@ is_of_line (faults.LineTooLong number) = true
 is_of_line (faults.BadLine number why) = true
 is_of_line fault = false
 
--- what standard error is told of a fault with this text
+-- what is written on standard error of a fault with this text
 abbrev pub fault_line : List ℕ → List ℕ
 fault_line text = codes "ptpm: " ++ text ++ 10 ∷ []

@@ -120,7 +120,7 @@ fn answer_datagram<O: Write>(
     Ok(())
 }
 
-/// A line for each message of an outbox; `nothing` where it has none.
+/// A line for each message of an outbox; `nothing` if it has none.
 fn write_messages<O: Write>(outbox: &Outbox, out: &mut O) -> io::Result<()> {
     if outbox.entries().is_empty() {
         writeln!(out, "nothing")?;

@@ -60,7 +60,7 @@ pub enum LineFault {
 }
 
 impl Fault {
-    /// The fault at a line of this number: where the line is to blame, its number is told.
+    /// The fault at a line of this number: if the line is to blame, its number is reported.
     pub(crate) fn at_line(self, number: u64) -> Fault
         ensures { result ≡ at_line number self }
     {
@@ -71,7 +71,7 @@ impl Fault {
         }
     }
 
-    /// Whether a line alone is to blame, so that the lines behind it may be read.
+    /// Whether a line alone is to blame, so that the lines after it may be read.
     pub(crate) fn is_of_line(self) -> bool
         ensures { result ≡ is_of_line self }
     {

@@ -6,7 +6,7 @@ use std::alloc::Global;
 use std::io;
 use std::io::{BufRead, BufReader, Read};
 
-/// A line has at most so many octets before its line feed (this project's profile).
+/// A line has at most this many octets before its line feed (this project's profile).
 const LINE_OCTETS: usize = 4_096;
 
 /// The lines of a reader. At most one is kept, and it is written over by the next.
@@ -27,10 +27,10 @@ impl<R: Read + Drop> Lines<R> {
         })
     }
 
-    /// Reads the next line, which has this number; false where there are no more. The line that was read before is gone.
+    /// Reads the next line, which has this number; false if there are no more. The line that was read before is gone.
     ///
     /// A line ends with a line feed, or with a carriage return and a line feed. The last may lack its end. After LineTooLong
-    /// the line behind the long one is next.
+    /// the line after the long one is next.
     pub(crate) fn read(&mut self, number: u64) -> Result<bool, Fault> {
         self.leave_long_line()?;
         self.line.clear();
@@ -66,7 +66,7 @@ impl<R: Read + Drop> Lines<R> {
         self.reader.buffer().contains(&b'\n')
     }
 
-    /// The datagram of the line that was read last, which has this number; `None` where the line is `nothing`.
+    /// The datagram of the line that was read last, which has this number; `None` if the line is `nothing`.
     pub(crate) fn datagram(&self, alloc: Global, number: u64) -> Result<Option<Vec<u8>>, Fault> {
         let datagram = match std::str::from_utf8(self.line.as_slice()) {
             Ok(line) => datagram_of(alloc, line),

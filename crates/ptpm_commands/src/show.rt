@@ -31,7 +31,7 @@ pub fn show_lines<R: Read + Drop, O: Write>(
     Ok(())
 }
 
-/// The same, but a line that is too long or holds no management message is told on `err`, as the fault that it would be, and
+/// The same, but a line that is too long or holds no management message is reported on `err`, as the fault that it would be, and
 /// passed over. What `err` does changes nothing.
 pub fn show_good_lines<R: Read + Drop, O: Write, E: Write>(
     alloc: Global,
@@ -54,7 +54,7 @@ pub fn show_good_lines<R: Read + Drop, O: Write, E: Write>(
     Ok(())
 }
 
-/// Prints the message of the next line, which has this number; false where there are no more. What is printed is flushed
+/// Prints the message of the next line, which has this number; false if there are no more. What is printed is flushed
 /// before a line that is not at hand.
 fn show_next<R: Read + Drop, O: Write>(
     alloc: Global,
@@ -96,7 +96,7 @@ fn show_header<O: Write>(message: &View<'_>, out: &mut O) -> io::Result<()> {
     writeln!(out, "action {}", message.action())
 }
 
-/// The managementId, whose name is `-` where the table of ids has none, and what follows it in the TLV.
+/// The managementId, whose name is `-` if the table of ids has none, and what follows it in the TLV.
 fn show_body<O: Write>(message: &View<'_>, out: &mut O) -> io::Result<()> {
     let id = message.id();
     let name = row(id).map_or("-", |row| row.name);

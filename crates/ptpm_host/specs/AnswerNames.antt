@@ -77,7 +77,7 @@ abbrev pub words_in_capitals : List ℕ → List ℕ
 words_in_capitals [] = []
 words_in_capitals (c ∷ cs) = c ∷ flat_map letters cs
 
--- why a datagram holds no management message; want of memory, which no call tells so, has no name
+-- why a datagram holds no management message; want of memory, which no call reports so, has no name
 abbrev pub cause_word : DecodeError → Option (List ℕ)
 cause_word causes.OutOfMemory = None
 cause_word cause = Some (words_in_capitals (refusal_text cause))

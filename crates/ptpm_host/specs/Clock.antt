@@ -53,7 +53,7 @@ abbrev pub start_refusal : ClockSettings
 start_refusal clock ports managers =
     refusal_by (start_by clock ports) (table_refusal (identities (settings.configured managers)))
 
--- ---- why a datagram is not handled: the clock has the port or not, and there is room for so many messages
+-- ---- why a datagram is not handled: the clock has the port or not, and there is room for this many messages
 
 abbrev pub handle_refusal : Bool → ℕ → Option HandleRefusal
 handle_refusal has_port room = first_of ((not has_port, NoPort) ∷ (nat_lt room 15, NoRoom) ∷ [])
@@ -68,7 +68,7 @@ message_in s = (s.port, take s.size s.octets)
 abbrev pub IsWhole : Sent → Type 0
 IsWhole s = s.size ≤ 1472
 
--- behind the message that was put into a place stands what stood there
+-- after the message that was put into a place comes what was there
 abbrev pub KeepsBehind : Sent → Sent → Type 0
 KeepsBehind before after = drop after.size after.octets ≡ drop after.size before.octets
 

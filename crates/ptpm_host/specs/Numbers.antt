@@ -1,4 +1,4 @@
--- The numbers that stand for what a call answers, in one table (this project's profile): 0 where it was done, below 32 what
+-- The numbers that stand for what a call answers, in one table (this project's profile): 0 if it was done, below 32 what
 -- became of a datagram or of a request, from 32 on why a call changed nothing.
 use Rattle.std.specs.Prelude.{ℕ, ◌+◌}
 use Rattle.ptpm_codec.specs.declared.error.DecodeError.{DecodeError}
@@ -97,7 +97,7 @@ told_number (told.Refused error) = 26
 
 -- ---- why a call changed nothing
 
--- no clock stands behind a handle
+-- a handle holds no clock
 abbrev pub no_clock : ℕ
 no_clock = 32
 
@@ -109,11 +109,11 @@ no_room = 34
 abbrev pub no_memory : ℕ
 no_memory = 35
 
--- no session stands behind a handle
+-- a handle holds no session
 abbrev pub no_session : ℕ
 no_session = 37
 
--- no survey stands behind a handle
+-- a handle holds no survey
 abbrev pub no_survey : ℕ
 no_survey = 46
 

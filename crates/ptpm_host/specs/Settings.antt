@@ -9,11 +9,11 @@ use Rattle.ptpm_host.specs.declared.settings.ClockSettings.{ClockSettings}
 use Rattle.ptpm_host.specs.declared.settings.ManagerSettings.{ManagerSettings}
 use Rattle.ptpm_host.specs.declared.settings.PortSettings.{PortSettings}
 
--- a flag is set where it is not 0
+-- a flag is set if it is not 0
 abbrev pub is_set : ℕ → Bool
 is_set flag = not (flag == 0)
 
--- a value, where its flag is set
+-- a value, if its flag is set
 abbrev pub given : {A : Type 0} → ℕ → A → Option A
 given flag a = if flag == 0 then None else Some a
 

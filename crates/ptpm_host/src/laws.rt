@@ -19,8 +19,8 @@ ghost use Rattle.ptpm_host.specs.ErrorNames.{error_name};
 ghost use Rattle.ptpm_host.specs.Names.{capitals, id_name};
 ghost use Rattle.ptpm_host.specs.Numbers.{begin_number, reason_number, restore_number, resume_number, values_number, verdict_number};
 
-/// The number of a verdict, of a reason and of a refusal has its name, in words of capitals as `ANSWERED_NEW` for `AnsweredNew`;
-/// a malformed datagram the name of its cause. The number of a member has its name behind `BAD_`. A managementErrorId that a
+/// The number of a verdict, of a reason and of a refusal has its name, in words of capitals: `ANSWERED_NEW` for `AnsweredNew`;
+/// a malformed datagram the name of its cause. The number of a member has its name after `BAD_`. A managementErrorId that a
 /// message can name has the name that it is written by. A name of an id, of an answer or of an error has at most 27 octets.
 pub fn names_law()
     ensures verdict { (v : Verdict) → answer_name (verdict_number v) ≡ verdict_word v }

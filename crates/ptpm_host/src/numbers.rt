@@ -1,4 +1,4 @@
-//! The numbers that stand for what a call answers, in one table: 0 where it was done, 1 to 31 what became of a datagram or of a
+//! The numbers that stand for what a call answers, in one table: 0 if it was done, 1 to 31 what became of a datagram or of a
 //! request, from 32 on why a call changed nothing.
 //!
 //! 1 to 9 are verdicts, 10 to 15 why a session or a survey ignores a datagram, 16 to 24 why it holds no message, 25 and 26 what
@@ -19,7 +19,7 @@ use ptpm_data::{Member, ObservationError, StartError};
 use ptpm_manager::{BeginError, Reason, RestoreError, SendError, Surveyed};
 use ptpm_table::TableError;
 
-/// No clock stands behind a handle.
+/// A handle holds no clock.
 pub const NO_CLOCK: u32 = 32;
 
 /// There is too little room for what is to be left.
@@ -28,13 +28,13 @@ pub const NO_ROOM: u32 = 34;
 /// Memory was refused.
 pub const NO_MEMORY: u32 = 35;
 
-/// No session stands behind a handle.
+/// A handle holds no session.
 pub const NO_SESSION: u32 = 37;
 
-/// No survey stands behind a handle.
+/// A handle holds no survey.
 pub const NO_SURVEY: u32 = 46;
 
-/// What became of a datagram, 1 to 24. A datagram that is no management message is told apart first: the numbers of the other
+/// What became of a datagram, 1 to 24. A datagram that is no management message is recognized first: the numbers of the other
 /// verdicts are in the order of the verdicts, so that LLVM makes no table of them.
 pub fn verdict_number(verdict: Verdict) -> u32
     ensures { result ≡ verdict_number verdict }
@@ -233,7 +233,7 @@ pub fn send_number(refusal: SendRefusal) -> u32
     }
 }
 
-/// Why an answer is not told, 34 or 45.
+/// Why an answer is not given, 34 or 45.
 pub fn report_number(refusal: ReportRefusal) -> u32
     ensures { result ≡ report_number refusal }
 {

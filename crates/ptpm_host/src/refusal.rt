@@ -58,7 +58,7 @@ pub enum SendRefusal {
     Session(SendError),
 }
 
-/// Why an answer is not told, in the order in which the reasons are judged.
+/// Why an answer is not given, in the order in which the reasons are judged.
 #[derive(Clone, Copy, Debug, PartialEq, Eq)]
 pub enum ReportRefusal {
     /// No request was begun, or the latest is not answered; or a survey has no answer at the place.

@@ -142,7 +142,7 @@ impl HostedSession {
     /// Begins a request, with all its attempts before it: 0 GET, 1 SET or 3 COMMAND of a managementId, with this dataField.
     /// The port matters for an id of a port alone. The answer to an earlier request is let go. The first reason that holds
     /// is why it is refused, and then nothing changes. Memory is asked for the request's own copy of the dataField alone,
-    /// and only where nothing else refuses it.
+    /// and only if nothing else refuses it.
     pub fn begin(&mut self, action: u8, id: u16, port: u16, octets: &[u8]) -> Result<(), BeginError>
         ensures begun { OnOk result
             (self.new.session
@@ -164,7 +164,7 @@ impl HostedSession {
     }
 
     /// Leaves the unanswered request at the head of `octets`, uses one of its attempts, and answers how many octets it has.
-    /// Until `retune` they are the same each time. What stands behind them stays. Where it is refused, nothing changes. Takes
+    /// Until `retune` they are the same each time. The octets after them stay. If it is refused, nothing changes. Takes
     /// no memory.
     pub fn send(&mut self, octets: &mut [u8]) -> Result<usize, SendRefusal>
         ensures refusal { MatchResult result
@@ -211,8 +211,8 @@ impl HostedSession {
         self.session.retune(domain);
     }
 
-    /// What the session makes of a datagram: where it answers the unanswered request, that answer is kept, and the next one
-    /// can be begun. Memory is asked for the dataField of a RESPONSE alone; where it is refused, nothing changes.
+    /// What the session makes of a datagram: if it answers the unanswered request, that answer is kept, and the next one
+    /// can be begun. Memory is asked for the dataField of a RESPONSE alone; if it is refused, nothing changes.
     pub fn receive(&mut self, datagram: &[u8]) -> Result<Heard, OutOfMemory>
         ensures heard { IfOk result
             (λ h. h ≡ heard_of (received_of self.old.session datagram.now)) }
@@ -234,8 +234,8 @@ impl HostedSession {
         }
     }
 
-    /// What the answer to the latest request tells; a dataField is left at the head of `octets`, and what stands behind it
-    /// stays. Where it is refused, nothing is written. Takes no memory.
+    /// What the answer to the latest request says; a dataField is left at the head of `octets`, and what follows it
+    /// stays. If it is refused, nothing is written. Takes no memory.
     pub fn report(&self, octets: &mut [u8]) -> Result<Told, ReportRefusal>
         ensures refusal { MatchResult result
             (λ _. report_refusal (length octets.old) self.now.report ≡ None)

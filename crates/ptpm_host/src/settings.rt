@@ -10,8 +10,8 @@ use ptpm_codec::{ClockIdentity, OutOfMemory, PortIdentity};
 use ptpm_data::{ClockStart, PortStart, Rights};
 use std::alloc::Global;
 
-/// The start values of a clock's own members, those with the strictest alignment first. A flag is set where it is not 0.
-/// Behind `has_` stands whether a value is given: where it is not, the clock has its own value, and for `parent_port` its
+/// The start values of a clock's own members, those with the strictest alignment first. A flag is set if it is not 0.
+/// A flag `has_..` says whether a value is given: if it is not, the clock has its own value, and for `parent_port` its
 /// port 0.
 #[repr(C)]
 #[derive(Clone, Copy)]
@@ -257,7 +257,7 @@ impl PortSettings {
     }
 }
 
-/// A value, where it is given.
+/// A value, if it is given.
 pub(crate) fn given<T: Copy>(flag: u8, value: T) -> Option<T>
     ensures { result ≡ given flag value }
 {

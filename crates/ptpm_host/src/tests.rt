@@ -91,7 +91,7 @@ fn settings() -> ClockSettings {
     }
 }
 
-/// The number of the refusal of a start; 0 where there is none.
+/// The number of the refusal of a start; 0 if there is none.
 fn refusal(
     alloc: Global,
     settings: &ClockSettings,
@@ -194,7 +194,7 @@ fn hears(session: &mut HostedSession, datagram: &[u8]) -> u32 {
     }
 }
 
-/// The number of the refusal of a request; 0 where it is begun.
+/// The number of the refusal of a request; 0 if it is begun.
 fn begins(session: &mut HostedSession, action: u8, id: u16, port: u16, octets: &[u8]) -> u32 {
     match session.begin(action, id, port, octets) {
         Ok(()) => 0,
@@ -280,7 +280,7 @@ fn answers_at_a_session(rt: HostRuntime) {
     }
 }
 
-/// The number of the refusal of a session; 0 where it starts.
+/// The number of the refusal of a session; 0 if it starts.
 fn session_refusal(alloc: Global, settings: &SessionSettings) -> u32 {
     match HostedSession::start(alloc, settings) {
         Ok(_) => 0,

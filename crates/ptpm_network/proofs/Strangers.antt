@@ -53,7 +53,7 @@ untaken N v who e none =
           ∙ none_of_range (λ d. same_clock who.clock (N.clock d).identity) N.clocks 0 c parts.0 (omega arith) (omega (arith, there))));
     }
 
--- ---- the source of a message stands within it
+-- ---- the source of a message lies within it
 
 port_identity-take : (n : ℕ) (m : List ℕ)
     → 30 ≤ n

@@ -38,7 +38,7 @@ pub(crate) struct Traffic<'a> {
     network: &'a Network,
     chances: Chances,
     draws: Draws,
-    /// The numbers of the frames that will be delivered; twice where a frame is repeated.
+    /// The numbers of the frames that will be delivered; twice if a frame is repeated.
     under_way: Vec<u32>,
     /// The places of the sessions whose request is not answered and may be sent again.
     waiting: Vec<u16>,
@@ -47,7 +47,7 @@ pub(crate) struct Traffic<'a> {
 }
 
 impl<'a> Traffic<'a> {
-    /// Nothing is under way, and so many lines are printed.
+    /// Nothing is under way, and this many lines are printed.
     pub(crate) fn new(
         alloc: Global,
         network: &'a Network,
@@ -197,7 +197,7 @@ impl<'a> Traffic<'a> {
         Ok(())
     }
 
-    /// Lets the session at a place send. It is refused where there is none.
+    /// Lets the session at a place send. It is refused if there is none.
     fn try_send<W: Write>(
         &mut self,
         world: &mut World,

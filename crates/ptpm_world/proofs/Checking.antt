@@ -1,4 +1,4 @@
--- A script whose events do not happen: its first fault is the one that ends it where they do.
+-- A script whose events do not happen: its first fault is the one that ends it if they do.
 use Rattle.ptpm_world.proofs.Common.{arith, ◌≡◌, ℕ, ◌+◌, List, [], ◌∷◌, false, None, Some, Ok, Err, Result, refl, ap, ◌∙◌, IfSome, Option, option_map, option_or, Network, NetworkValue, RunningNetwork, network_of, result_err, BothKnown, whole_lines, Names, Played, closing, event_of, in_network, is_skipped, line_fault, played, played_by, reading, scripted_from, unless_fault}
 use Rattle.ptpm_check.specs.Faults.{error_of, refusal_of}
 use Rattle.ptpm_script.specs.declared.event.Event.{Event}
@@ -45,7 +45,7 @@ closing_first : (names : Names) (x : Result RunningNetwork ScriptError) → resu
 closing_first names (Ok r) = refl
 closing_first names (Err fault) = refl
 
--- the network file's fault, or that of the lines behind it
+-- the network file's fault, or that of the lines after it
 network_first : (network : Result NetworkValue NetError) (n : ℕ) (ls : List (List ℕ × List ℕ))
     → option_or (option_map BadNetwork (refusal_of network)) (events_fault n 1 ls) ≡ result_err (in_network network n ls).end
 network_first (Ok network) n ls = grind (arith, closing_first, played_first)
@@ -53,7 +53,7 @@ network_first (Err error) n ls = refl
 
 -- ---- lines of events
 
--- those that are left have the fault that all of them have, behind what was found
+-- those that are left have the fault that all of them have, after what was found
 pub record ChecksOn (first found : Option ScriptError) (k n place : ℕ) (a b : Option (List ℕ)) : Type 0 where
   pub each : BothKnown a b (λ xs ys.
       option_or found (events_fault n place (whole_lines ys)) ≡ option_or first (events_fault k 1 (whole_lines xs)))

@@ -1,4 +1,4 @@
--- A world as it starts is one of its network, and stands where the machine starts.
+-- A world as it starts is one of its network, and is where the machine starts.
 use Rattle.ptpm_world.proofs.Common.{suc, zero, arith, ◌≡◌, ◌≢◌, ℕ, ◌+◌, ◌<◌, ◌≤◌, ◌==◌, Bool, true, false, if◌then◌else◌, List, [], ◌∷◌, ◌++◌, Option, Some, None, Result, Ok, refl, ap, sym, ◌∙◌, subst, length, map, get_or, set, slice_get, slice_index_or, All, AllByRecursion, filter, length-map, length_push, length-filter, slice_get_read, PortIdentity, every_clock, same_clock, DataSetsValue, port_data_set, start_fault, start_of, unless, is_known, IsFresh, clock_with, has_twice, identities, StandsAt, initial_clock_state, Stands, RunningNetwork, initial_state, history, NetworkLink, AreDistinct, CanStart, ClockValue, IsAccepted, IsEndOf, IsLinkOf, NetworkValue, clock_value, first_sets, link_value, Frames, RunningClock, RunningSession, World, clock_at, configured, described, described_end, no_clock, session_at, with_rights, AreLinks, IsStoredFrame, IsThere, port_counts, held_in, link_ends, Names, names_of, IsOf, agent_state, reports_of, session_of, state_of, table_entries, AreStartedClocks, AreStartedSessions, IsStartedClock, IsStartedSession}
 use Rattle.std.proofs.lemmas.Bool.{false_from_ne_true}
 use Rattle.ptpm_codec.specs.declared.identity.ClockIdentity.{ClockIdentity}
@@ -81,7 +81,7 @@ pub changed_last : {X : Type 0} (xs ys : List X) (i : ℕ) (x y : X)
     → set ys i y ≡ xs ++ y ∷ []
 changed_last xs ys i x y e at = (λ k. set (e k) (at k) y) ∙ last_put xs x y
 
--- two lists of which the same is seen, place by place
+-- two lists in which the same is seen, place by place
 same_maps : {X Y A : Type 0} (f : X → A) (g : Y → A) (xs : List X) (ys : List Y)
     → length xs ≡ length ys
     → ((i : ℕ) (x : X) (y : Y) → slice_get xs i ≡ Some x → slice_get ys i ≡ Some y → f x ≡ g y)
@@ -203,7 +203,7 @@ abbrev IsFreshTable : ClockIdentity → List (PortIdentity × Rights) → SlotTa
 IsFreshTable clock managers t =
     IsFresh clock managers (clock_with t.clock (slots.configured t.slots.items)) (table_entries t)
 
--- a clock that was put behind the others without managers, and then given these
+-- a clock that was put after the others without managers, and then given these
 pub started_clock : (n : NetworkValue) (c : ℕ) (k : ClockValue)
     (managers : List (PortIdentity × Rights)) (sets : DataSetsValue) (put there x : RunningClock)
     → there ≡ put

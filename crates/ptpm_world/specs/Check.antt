@@ -7,12 +7,12 @@ use Rattle.ptpm_world.specs.ScriptError.{line_fault}
 use Rattle.ptpm_world.specs.declared.check.Findings.{Findings}
 use Rattle.ptpm_world.specs.declared.script_error.ScriptError.{ScriptError}
 
--- no fault is counted exactly where there is none
+-- no fault is counted exactly if there is none
 abbrev pub IsCounted : Findings → Type 0
 IsCounted f = (f.count == 0) ≡ is_none f.first
 
 -- The first fault of lines of events from this one on, by its numbers in all that is read and after the divider: one that a line
--- has by itself, or that it is no event. None where each is an event or is skipped.
+-- has by itself, or that it is no event. None if each is an event or is skipped.
 abbrev pub events_fault : ℕ → ℕ → List (List ℕ × List ℕ) → Option ScriptError
 events_fault number place [] = None
 events_fault number place (line ∷ lines) =

@@ -21,7 +21,7 @@ use std::io::{Read, Write};
 /// What was found in a script.
 #[derive(Clone, Copy, Debug, PartialEq, Eq)]
 pub struct Findings {
-    /// The first fault, as `run_script` names it; `None` where there is none.
+    /// The first fault, as `run_script` names it; `None` if there is none.
     pub first: Option<ScriptError>,
     /// How many faults were written.
     pub count: usize,
@@ -30,8 +30,8 @@ pub struct Findings {
 /// Reads a network file, or a script, and writes each of its faults on a line of its own. No event happens. The first fault is the
 /// one that `run_script` answers for the same octets.
 ///
-/// An error says nothing of the script: reading or writing failed, or memory was refused. Behind a line that is too long, and
-/// behind one of the network file that is not UTF-8, nothing is read.
+/// An error says nothing of the script: reading or writing failed, or memory was refused. After a line that is too long, and
+/// after one of the network file that is not UTF-8, nothing is read.
 #[inline(never)]
 pub fn check_script<R: Read + Drop, W: Write>(
     alloc: Global,
@@ -51,7 +51,7 @@ pub fn check_script<R: Read + Drop, W: Write>(
 }
 
 impl Findings {
-    /// Counts so many faults, of which this is the first.
+    /// Counts this many faults; this is the first.
     fn note(&mut self, fault: ScriptError, count: usize)
         requires { 0 < count }
         ensures first { self.new.first ≡ option_or self.old.first (Some fault) }
@@ -62,7 +62,7 @@ impl Findings {
     }
 }
 
-/// Writes the faults of all lines: of the network file, and of the events behind it.
+/// Writes the faults of all lines: of the network file, and of the events after it.
 fn check_lines<R: Read + Drop, W: Write>(
     alloc: Global,
     script: &mut Lines<R>,
@@ -138,7 +138,7 @@ fn check_events<R: Read + Drop, W: Write>(
     Ok(())
 }
 
-/// Reads the next line; false where there are no more, or none that may be read, which is written.
+/// Reads the next line; false if there are no more, or none that may be read, which is written.
 fn read_next<R: Read + Drop, W: Write>(
     script: &mut Lines<R>,
     findings: &mut Findings,

@@ -13,10 +13,10 @@ use ptpm_codec::OutOfMemory;
 use std::alloc::Global;
 use std::io::{BufRead, BufReader, Read, Write};
 
-/// A script has at most so many lines (this project's profile).
+/// A script has at most this many lines (this project's profile).
 pub const SCRIPT_LINES: u32 = 2_000_000;
 
-/// A line has at most so many octets before its line feed (this project's profile).
+/// A line has at most this many octets before its line feed (this project's profile).
 const LINE_OCTETS: usize = 4_096;
 
 /// A reader, line by line. At most one line's octets are kept, and they are written over by the next.
@@ -51,7 +51,7 @@ impl<R: Read + Drop> Lines<R> {
         })
     }
 
-    /// Reads the next line; false where there are no more. The line that was read before is gone.
+    /// Reads the next line; false if there are no more. The line that was read before is gone.
     ///
     /// A line ends with a line feed, or with a carriage return and a line feed. The last may lack its end, and then a carriage
     /// return stays.
@@ -74,7 +74,7 @@ impl<R: Read + Drop> Lines<R> {
         }
     }
 
-    /// The same; what was written is flushed before, where that line may have to be waited for.
+    /// The same. What was written is flushed before, if that line may have to be waited for.
     pub(crate) fn read_shown<W: Write>(&mut self, out: &mut W) -> Result<bool, ScriptError>
         ensures count { result ≡ Ok true → self.new.count ≡ self.old.count + 1 }
         ensures whole { IfOk result
@@ -96,7 +96,7 @@ impl<R: Read + Drop> Lines<R> {
         }
     }
 
-    /// How many octets stand before the next line feed, where it is at hand and the line may be read.
+    /// How many octets come before the next line feed, if it is at hand and the line may be read.
     fn line_at_hand(&self) -> Option<usize>
         ensures feed { IfSome result
             (λ size. IsFirstByte (is_byte 10) (reader_buffer self.now.reader) (Some size)) }
@@ -109,7 +109,7 @@ impl<R: Read + Drop> Lines<R> {
         }
     }
 
-    /// Takes the next line, which is at hand, with so many octets before its line feed.
+    /// Takes the next line, which is at hand, with this many octets before its line feed.
     fn take_line(&mut self, size: usize) -> Result<bool, ScriptError>
         requires feed { IsFirstByte (is_byte 10) (reader_buffer self.old.reader) (Some size) }
         requires short { size ≤ 4096 }

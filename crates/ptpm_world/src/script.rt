@@ -27,7 +27,7 @@ use ptpm_script::{Event, EventError, NetError, Network, TEXT_OCTETS, read_event}
 use std::alloc::Global;
 use std::io::{Read, Write};
 
-/// The line of a script that stands between the network file and the events.
+/// The line of a script between the network file and the events.
 pub const DIVIDER: &str = "%%";
 
 /// The lines of a script print one text at most.
@@ -42,12 +42,12 @@ pub fn one_trace()
 /// trace: a line for each event, and at the end each session's reports and each clock's data sets. An event that is refused
 /// is a line of the trace too. Without the divider there are no events.
 ///
-/// Where no delivery of the script is late, the headline holds of the network whose reports and data sets are written at the
-/// end, after the script's events: however these lose, repeat, reorder or duplicate messages. And each event's line tells what
-/// the network machine does, with `Answered` exactly where a report is appended (`ShowsNetwork`).
+/// If no delivery of the script is late, the headline holds of the network whose reports and data sets are written at the
+/// end, after the script's events: however these lose, repeat, reorder or duplicate messages. And each event's line says what
+/// the network machine does, with `Answered` exactly if a report is appended (`ShowsNetwork`).
 ///
 /// All lines before the divider are read before the network is judged; each event's line is written before the next is
-/// read, and flushed where that may have to be waited for. Ends for every reader, since lines and their octets are bounded. The
+/// read, and flushed if that may have to be waited for. Ends for every reader, since lines and their octets are bounded. The
 /// world that runs lies in a frame of its own, so that no other subcommand pays for it.
 #[inline(never)]
 pub fn run_script<R: Read + Drop, W: Write>(

@@ -29,7 +29,7 @@ pub struct Script {
 /// An event of a script.
 #[derive(Drop)]
 pub struct EventLine {
-    /// The number of its line, counted from 1 behind the divider.
+    /// The number of its line, counted from 1 after the divider.
     pub number: u32,
     pub event: Event,
 }
@@ -83,7 +83,7 @@ fn read_events<R: Read + Drop>(
     Ok(events)
 }
 
-/// Puts an event behind the others.
+/// Puts an event after the others.
 fn keep_event(events: &mut Vec<EventLine>, event: EventLine) -> Result<(), OutOfMemory>
     ensures { OnOk result (events.new.items ≡ events.old.items ++ event ∷ []) }
 {

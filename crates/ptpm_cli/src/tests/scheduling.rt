@@ -7,7 +7,7 @@ use std::alloc::Global;
 use std::process::Abort;
 use std::test::Fail;
 
-/// With these words the program schedules these events of one clock's manager, writes this script, and tells this.
+/// With these words the program schedules these events of one clock's manager, writes this script, and reports this.
 fn schedules(
     rt: &impl Abort,
     alloc: Global,
