@@ -7,6 +7,9 @@ enum {
     PORT = 56, SIZE = 58, OCTETS = 60,
 };
 
+/* The target of an id of the clock itself is every port (IEEE 1588-2019, 15.4.1). */
+enum { EVERY_PORT = 0xffff };
+
 static uint16_t number_at(const uint8_t *octets, size_t place) { return (uint16_t)(octets[place] << 8 | octets[place + 1]); }
 
 static void read_request(struct session_image *image, const uint8_t *octets, size_t size) {
@@ -14,7 +17,7 @@ static void read_request(struct session_image *image, const uint8_t *octets, siz
     image->is_under_way = 1;
     image->action = octets[ACTION];
     image->id = number_at(octets, ID);
-    image->port = number_at(octets, PORT);
+    image->port = number_at(octets, PORT) == EVERY_PORT ? 0 : number_at(octets, PORT);
     image->size = number_at(octets, SIZE);
     image->octets = octets + OCTETS;
 }

@@ -13,7 +13,7 @@ struct session_image {
     uint8_t hops;
     int is_under_way;                           /* the latest request has no answer yet, and is what follows */
     uint8_t action;
-    uint16_t id, port;
+    uint16_t id, port;                          /* the clock's, of an id of a port; else 0 */
     size_t size;
     const uint8_t *octets;                      /* its dataField */
 };

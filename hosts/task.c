@@ -202,11 +202,13 @@ void read_task(struct task *task, int argc, char **argv) {
 
 const char *task_words(const struct task *task) {
     static char words[64];
+    char number[8];
     const char *action = "", *id = id_name(task->id);
     for (int i = 0; i < ACTIONS; i++) {
         if (actions[i].action == task->action) action = actions[i].name;
     }
-    if (id != NULL) snprintf(words, sizeof words, "%s %s", action, id);
-    else snprintf(words, sizeof words, "%s %04x", action, task->id);
+    snprintf(number, sizeof number, "%04x", task->id);
+    int size = snprintf(words, sizeof words, "%s %s", action, id != NULL ? id : number);
+    if (task->port != 0) snprintf(words + size, sizeof words - (size_t)size, " at port %u", task->port);
     return words;
 }

@@ -28,7 +28,7 @@ struct task {
 /* Reads it from a command line. Ends the program with status 2 where it is none, and with 0 behind --help and --version. */
 void read_task(struct task *task, int argc, char **argv);
 
-/* What is asked, in the words of a command line: `set PRIORITY1`. It is there until the next call. */
+/* What is asked, as `set PRIORITY1` or `command DISABLE_PORT at port 2`. The text is there until the next call. */
 const char *task_words(const struct task *task);
 
 #endif
