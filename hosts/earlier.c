@@ -6,28 +6,36 @@
 #include "unanswered.h"
 #include <stdio.h>
 
-/* What this program asked for itself, whether a number is new, is of no use to anybody. */
-static void tell_answer(struct session *session, const struct task *earlier) {
+static void let_go(struct session *session, const struct task *task) {
+    start_session(session, task, (uint16_t)(latest_number(session) + 1));
+}
+
+static void say_let_go(const struct task *earlier, uint16_t number) {
+    const char *end = earlier->action == PTPM_GET ? "" : ": a get shows whether it was carried out";
+    complain("%s of an earlier run, number %u, is let go%s", task_words(earlier), number, end);
+}
+
+/* Says what came of it, before the session is kept without it. */
+static int say_answer(struct session *session, const struct task *earlier) {
     static struct answer answer;
-    if (is_question(earlier)) return;
     complain("%s of an earlier run, number %u, had no answer yet, and was sent again:", task_words(earlier), latest_number(session));
     take_report(&session->handle, &answer);
     print_answer(stderr, earlier, "ptpm-manage: ", &answer);
+    return ferror(stderr) ? NOT_WRITTEN : ANSWERED;
 }
 
-int finish_earlier(struct session *session, const struct task *earlier, const struct task *task) {
+static int finish(struct session *session, const struct task *earlier) {
     long sent = 0;
-    ptpm_session_resume(&session->handle, task->settings.attempts);
+    ptpm_session_resume(&session->handle, earlier->settings.attempts);
     int status = send_until_answered(session, earlier, &sent);
-    if (status == ANSWERED) tell_answer(session, earlier);
-    if (status != NOT_ANSWERED) return status;
-    int is_own = is_question(earlier);
-    return no_answer(is_own ? task : earlier, is_own ? NUMBER : EARLIER_REQUEST, latest_number(session), sent);
+    if (status == NOT_ANSWERED) return no_answer(earlier, EARLIER_REQUEST, latest_number(session), sent);
+    return status == ANSWERED ? say_answer(session, earlier) : status;
 }
 
-void let_earlier_go(struct session *session, const struct task *earlier, const struct task *task) {
-    uint16_t number = latest_number(session);
-    complain("%s of an earlier run, number %u, is let go%s", task_words(earlier), number,
-             earlier->action == PTPM_GET ? "" : ": a get shows whether it was carried out");
-    start_session(session, task, (uint16_t)(number + 1));
+int settle_earlier(struct session *session, const struct task *earlier, const struct task *task) {
+    int is_own = is_question(earlier);
+    if (!is_own && !task->is_letting_go) return finish(session, earlier);
+    if (!is_own) say_let_go(earlier, latest_number(session));
+    let_go(session, task);
+    return ANSWERED;
 }

@@ -25,12 +25,10 @@ static int ask_in_session(struct session *session, const struct task *task) {
     int status = ANSWERED;
     enum kept kept = open_session(session, task, &earlier);
     open_way(task);
-    if (task->is_letting_go && kept != UNDER_WAY) complain("no request of an earlier run has to be let go");
     if (kept == NO_FILE) {
         status = begin_session(session, task);
     } else {
-        if (kept == UNDER_WAY && task->is_letting_go) let_earlier_go(session, &earlier, task);
-        else if (kept == UNDER_WAY) status = finish_earlier(session, &earlier, task);
+        if (kept == UNDER_WAY) status = settle_earlier(session, &earlier, task);
         if (status == ANSWERED) see_to_hops(session, task);
         if (status == ANSWERED) status = ask_whether_new(session, task);
     }
