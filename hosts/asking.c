@@ -81,7 +81,7 @@ static int carry_out(struct session *session, const struct task *task, long *all
     uint16_t number = latest_number(session);
     int status = send_until_answered(session, task, &sent);
     *all_sent += sent;
-    if (sent == 0) take_back(session, task);
+    if (sent == 0 && status != ANSWERED) take_back(session, task);
     if (status == NOT_ANSWERED) return no_answer(task, REQUEST, number, sent);
     return status == ANSWERED ? print_report(session, task) : status;
 }
