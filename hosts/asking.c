@@ -66,7 +66,8 @@ static int print_report(struct session *session, const struct task *task) {
 
 /* Keeps the session without the latest request: its answer was reported, or nothing was sent of it. */
 static void keep_at_rest(struct session *session) {
-    if (session->is_kept && !save_session(session)) complain("%s: %s: the next run asks this again", session_path(), strerror(errno));
+    if (!session->is_kept || save_session(session)) return;
+    complain("%s: %s: the next run asks this again", session_path(), strerror(errno));
 }
 
 /* Takes a request back of which nothing was sent: its number is that of the next one. */
@@ -99,7 +100,9 @@ int judge_request(const struct task *task) {
 int ask_clock(struct session *session, const struct task *task) {
     int status = ANSWERED;
     long requests = 0, sent = 0;
-    for (; requests < task->times && (status == ANSWERED || status == REFUSED); requests++) status = carry_out(session, task, &sent);
+    for (; requests < task->times && (status == ANSWERED || status == REFUSED); requests++) {
+        status = carry_out(session, task, &sent);
+    }
     if (task->times > 1) printf("requests %ld, datagrams %ld\n", requests, sent);
     if (status == ANSWERED || status == REFUSED) keep_at_rest(session);
     ptpm_session_stop(&session->handle);

@@ -123,9 +123,9 @@ def sessions():
         done = two.is_honest(*words)
         check(f"the session {content.hex()} goes on", done and two.last == 0 and octets("number") == after)
         told = [line for line in two.said.splitlines() if "of an earlier run" in line or "priority2 7" in line]
-        wanted = {77: ["ptpm-manage: set PRIORITY2 of an earlier run, number 101, had no answer yet, and was sent again:",
-                       "ptpm-manage: priority2 77"],
-                  78: ["ptpm-manage: set PRIORITY2 of an earlier run, number 20201, is let go: a get shows whether it was carried out"]}
+        lead = "ptpm-manage: set PRIORITY2 of an earlier run, number "
+        wanted = {77: [lead + "101, had no answer yet, and was sent again:", "ptpm-manage: priority2 77"],
+                  78: [lead + "20201, is let go: a get shows whether it was carried out"]}
         value = content[-2] if len(content) > 53 else 0
         check("what was under way is told", told == wanted.get(value, []))
     number = next_number("number")
@@ -191,8 +191,8 @@ def clocks_that_are_not_there():
 
 
 def losses_of_power():
-    """A session is on the disk before it is in place of the old one, and the folder after that: before a request goes out, and after
-    its answer is reported."""
+    """A session is on the disk before it is in place of the old one, and the folder after that: before a request goes out, and
+    after its answer is reported."""
     if shutil.which("strace") is None:
         print("attack: strace is missing")
         return
@@ -416,5 +416,5 @@ def places_without_room():
     two.clock.end()
 
 
-ATTACKS = [number_files, files_in_the_way, sessions, runs_at_once, runs_beside_each_other, clocks_that_are_not_there, losses_of_power, damages, old_files,
-           latest_numbers, kills, places_without_room, users]
+ATTACKS = [number_files, files_in_the_way, sessions, runs_at_once, runs_beside_each_other, clocks_that_are_not_there,
+           losses_of_power, damages, old_files, latest_numbers, kills, places_without_room, users]

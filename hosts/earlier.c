@@ -18,7 +18,8 @@ static void say_let_go(const struct task *earlier, uint16_t number) {
 /* Says what came of it, before the session is kept without it. */
 static int say_answer(struct session *session, const struct task *earlier) {
     static struct answer answer;
-    complain("%s of an earlier run, number %u, had no answer yet, and was sent again:", task_words(earlier), latest_number(session));
+    uint16_t number = latest_number(session);
+    complain("%s of an earlier run, number %u, had no answer yet, and was sent again:", task_words(earlier), number);
     take_report(&session->handle, &answer);
     print_answer(stderr, earlier, "ptpm-manage: ", &answer);
     return ferror(stderr) ? NOT_WRITTEN : ANSWERED;

@@ -55,8 +55,11 @@ static void advise(const struct task *task) {
 static void tell_rest(const struct task *task, enum asked asked, uint16_t number) {
     const char *words = task_words(task);
     if (!task->is_kept) return;
-    if (asked == REQUEST) complain("the next run sends %s again, under number %u, before its own; --give-up lets it go", words, number);
-    if (asked == EARLIER_REQUEST) complain("%s of an earlier run, number %u, comes before it; --give-up lets it go", words, number);
+    if (asked == REQUEST) {
+        complain("the next run sends %s again, under number %u, before its own; --give-up lets it go", words, number);
+    } else if (asked == EARLIER_REQUEST) {
+        complain("%s of an earlier run, number %u, comes before it; --give-up lets it go", words, number);
+    }
 }
 
 /* What is said of the request at the end of the first line. */
