@@ -137,6 +137,24 @@ def sessions():
     two.clock.end()
 
 
+def reports_that_are_lost():
+    """An answer that can't be printed is none that was reported: the next run prints it."""
+    two = TwoManagers()
+    write_octets("number", image(7, 0))
+    with open("/dev/full", "w") as full:
+        lost = subprocess.run([PROGRAM, "-m", MANAGER + "/1", "-u", path, "-k", two.number, "--target", ME, "set", "PRIORITY2", "70"],
+                              stdout=full, stderr=subprocess.DEVNULL)
+    check("an answer is not printed", lost.returncode == 4 and two.value() == "priority2 70")
+    check("the next run prints it", two.is_honest() and two.last == 0 and "ptpm-manage: priority2 70\n" in two.said)
+    write_octets("number", image(20, 1, set_of(71)))
+    with open("/dev/full", "w") as full:
+        lost = subprocess.run([PROGRAM, "-m", MANAGER + "/1", "-u", path, "-k", two.number, "--target", ME, "get", "DOMAIN"],
+                              stdout=subprocess.PIPE, stderr=full)
+    check("nor is one of an earlier run", (lost.returncode, lost.stdout) == (4, b"") and two.value() == "priority2 71")
+    check("and the next run prints that", two.is_honest() and two.last == 0 and "ptpm-manage: priority2 71\n" in two.said)
+    two.clock.end()
+
+
 def runs_at_once():
     """80 runs of one manager with one file."""
     clock = Clock("-m", MANAGER + "/1", "-u", path, ME)
@@ -416,5 +434,5 @@ def places_without_room():
     two.clock.end()
 
 
-ATTACKS = [number_files, files_in_the_way, sessions, runs_at_once, runs_beside_each_other, clocks_that_are_not_there,
-           losses_of_power, damages, old_files, latest_numbers, kills, places_without_room, users]
+ATTACKS = [number_files, files_in_the_way, sessions, reports_that_are_lost, runs_at_once, runs_beside_each_other,
+           clocks_that_are_not_there, losses_of_power, damages, old_files, latest_numbers, kills, places_without_room, users]
