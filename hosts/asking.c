@@ -13,7 +13,7 @@
 #include <string.h>
 
 enum { NOT_SUPPORTED = 6 };         /* a managementErrorId (15.5.4.3) */
-enum { QUIET = 2, QUIET_AT_FIRST = 5 };     /* so often nothing new ends a survey: where somebody answered, and where nobody did */
+enum { QUIET = 2, QUIET_AT_FIRST = 5 };     /* rounds without a new answer that end a survey; QUIET_AT_FIRST if nobody answered */
 
 static struct ptpm_survey survey;
 static struct answer answer;
@@ -25,6 +25,7 @@ static const char *advice(uint32_t refusal) {
     case PTPM_SAME_CLOCK: return ": the manager has the identity of the clock; --manager gives it another";
     case PTPM_MANAGER_IS_EVERY: return ": the manager's identity means every clock; --manager gives it another";
     case PTPM_TARGET_IS_EVERY: return ": --target means every clock; survey asks every clock";
+    case PTPM_TARGET_IS_ZERO: return ": --target is no clock's identity; survey tells those that there are";
     default: return "";
     }
 }
@@ -35,7 +36,7 @@ static int not_asked(uint32_t refusal) {
 }
 
 /* Counts a message that went out; whether going on has a sense. Where there is no way, and it didn't go out before, it has none,
-   and that is told. */
+   and that is said. */
 static int is_going_on(enum sending sending, long *sent) {
     *sent += sending == OUT;
     if (sending != NO_WAY || *sent > 0) return 1;

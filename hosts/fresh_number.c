@@ -10,14 +10,14 @@
 #include <errno.h>
 #include <string.h>
 
-/* What is asked: DEFAULT_DATA_SET, and for an id of a port PORT_DATA_SET, since some clocks answer alone where the port is named. A
+/* What is asked: DEFAULT_DATA_SET, and for an id of a port PORT_DATA_SET, since some clocks answer only if the port is named. A
    GET with as many octets as the data set has is taken by each clock, also by one that looks at how many they are. */
 enum { OF_CLOCK = 20, OF_PORT = 26 };
 
 /* Of four numbers so far apart at least one is new, whatever the latest of this manager is. */
 enum { APART = 16384, NUMBERS = 4 };
 
-/* So many answers to reads, and none to the question beside them, tell that its number is not new. */
+/* This many answers to reads, and none to the question beside them, show that its number is not new. */
 enum { ENOUGH = 5 };
 
 enum finding { NEW, NOT_NEW, SILENT, NOT_OUT };
@@ -98,7 +98,7 @@ static void wait_for_copies(long wait) {
 }
 
 /* A number of four that is new: *number is the last that was tried. The first is drawn, since an answer to an earlier session, and
-   one to a session of the same manager beside this one, would count as one to this where it has the same number. */
+   one to a session of the same manager beside this one, would count as one to this if it has the same number. */
 static enum finding find_of_four(const struct task *task, uint16_t *number, long *sent) {
     enum finding finding = NOT_NEW;
     uint16_t first = draw_number();

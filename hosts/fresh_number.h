@@ -11,7 +11,7 @@
    makes a repeat: so it is answered if its number is new, and else not at all. Then the number after it is new too. */
 
 /* Asks so in the session, under its next number: the file of it may be an older one or a copy. ANSWERED, or the program's status,
-   which is told then. */
+   which is said then. */
 int ask_whether_new(struct session *session, const struct task *task);
 
 /* Whether a request is such a question. */
@@ -19,7 +19,7 @@ int is_question(const struct task *task);
 
 /* Starts the task's session, of which there is no file, at the number after one that is new: a drawn number, or up to three times
    16384 ahead of it. It waits before as long as the task says, since copies of what an earlier session sent may be on their way, and
-   the step ahead may make them new. ANSWERED, or the program's status, which is told then. */
+   the step ahead may make them new. ANSWERED, or the program's status, which is said then. */
 int begin_session(struct session *session, const struct task *task);
 
 #endif

@@ -31,7 +31,7 @@ static char output[ROOM], notices[ROOM];
 static struct stream standard_output = STREAM(STDOUT_FILENO, output);
 static struct stream standard_error = STREAM(STDERR_FILENO, notices);
 
-/* Writes what waits, until the end. What can't be written, as where nobody reads any more, is let go. */
+/* Writes what waits, until the end. What can't be written, for example if nobody reads any more, is dropped. */
 static void *write_all(void *given) {
     struct stream *stream = given;
     pthread_mutex_lock(&stream->lock);
@@ -122,7 +122,7 @@ void say_at_times(const char *format, ...) {
 
 unsigned long lines_lost(void) { return standard_output.lost + standard_error.lost; }
 
-/* A thread that waits for a reader is left behind. */
+/* A thread that waits for a reader is left waiting. */
 static void end_stream(struct stream *stream, const struct timespec *end) {
     if (!stream->is_started) return;
     pthread_mutex_lock(&stream->lock);

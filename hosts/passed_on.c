@@ -1,7 +1,7 @@
 #include "passed_on.h"
 #include <string.h>
 
-/* Where members stand in a management message (IEEE 1588-2019, 13.3 and 15.4), and how many octets they have. */
+/* Where members are in a management message (IEEE 1588-2019, 13.3 and 15.4), and how many octets they have. */
 enum {
     SOURCE = 20, SOURCE_AND_NUMBER = 12, TARGET = 34, TARGET_SIZE = 10, ACTION = 46, TLV_TYPE = 49, ID = 52, ERROR_STATUS = 2,
     ERROR_SIZE = 2, ID_SIZE = 2,

@@ -45,7 +45,7 @@ static void open_folder(void) {
     strcpy(name, last);
     strcpy(stpcpy(new_name, name), ".new");
     strcpy(stpcpy(lock_name, name), ".lock");
-    int failure = size > 0 && mkdir(text, 0755) ? errno : 0;    /* where it is missing; what stands above it is not made */
+    int failure = size > 0 && mkdir(text, 0755) ? errno : 0;    /* if it is missing; what is above it is not made */
     folder = open(text, O_RDONLY | O_DIRECTORY | O_CLOEXEC);
     if (folder < 0 && errno == ENOENT && failure != 0) errno = failure;
     if (folder < 0) refuse_place();
@@ -123,7 +123,7 @@ static int is_whole(int at, const uint8_t *octets, size_t size) {
     return written == (ssize_t)size;
 }
 
-/* Writes the file that is to stand in place of the old one; whether it could. */
+/* Writes the file that is to replace the old one; whether it could. */
 static int writes_new(const uint8_t *octets, size_t size) {
     unlinkat(folder, new_name, 0);
     int at = openat(folder, new_name, O_WRONLY | O_CREAT | O_EXCL | O_NOFOLLOW | O_CLOEXEC, 0666);

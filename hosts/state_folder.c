@@ -12,7 +12,7 @@
 
 static char path[PATH_MAX];
 
-/* A variable of the environment that names a folder; NULL where it is not set, or is no absolute path. */
+/* A variable of the environment that names a folder; NULL if it is not set, or is no absolute path. */
 static const char *folder_in(const char *variable) {
     const char *folder = getenv(variable);
     return folder != NULL && folder[0] == '/' ? folder : NULL;

@@ -44,7 +44,7 @@ static long number(const char *option, const char *text, long least, long most) 
     return found;
 }
 
-/* The clock that is asked, and the port behind it, if one is named there. */
+/* The clock that is asked, and the port after it, if one is named there. */
 static void read_target(struct task *task, struct words *words, const char *text) {
     const char *rest = identity_at(text, task->settings.target);
     words->has_target = 1;
@@ -93,7 +93,7 @@ static void take_word(struct words *words, const char *word) {
     words->at[words->count++] = word;
 }
 
-/* Behind `set ID` stands its value, which may be below 0: it is no option there. */
+/* After `set ID` comes its value, which may be below 0: it is no option there. */
 static int is_value(const struct words *words, const char *word) {
     if (words->count != 2 || strcasecmp(words->at[0], "set") != 0) return 0;
     return word[0] == '-' && word[1] >= '0' && word[1] <= '9';

@@ -7,9 +7,9 @@
 
 struct task {
     int is_survey;
-    uint8_t action;                             /* PTPM_GET, PTPM_SET or PTPM_COMMAND, where it is no survey */
+    uint8_t action;                             /* PTPM_GET, PTPM_SET or PTPM_COMMAND, if it is no survey */
     uint16_t id;
-    uint16_t port;                              /* the clock's, of an id of a port; 0 where none is named */
+    uint16_t port;                              /* the clock's, of an id of a port; 0 if none is named */
     size_t size;
     uint8_t octets[PTPM_MOST_OCTETS];           /* the dataField */
     struct ptpm_session_settings settings;      /* the number of the first request is 0 until one is drawn */
@@ -25,7 +25,7 @@ struct task {
     int is_in_octets;                           /* answers are printed as octets */
 };
 
-/* Reads it from a command line. Ends the program with status 2 where it is none, and with 0 behind --help and --version. */
+/* Reads it from a command line. Ends the program with status 2 if it is none, and with 0 after --help and --version. */
 void read_task(struct task *task, int argc, char **argv);
 
 /* What is asked, as `set PRIORITY1` or `command DISABLE_PORT at port 2`. The text is there until the next call. */

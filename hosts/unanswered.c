@@ -8,7 +8,7 @@
 #include "session_file.h"
 #include "way.h"
 
-/* Whether nobody is answered where the manager was not; then it is told what the clock has. */
+/* Whether nobody is answered if the manager was not; then what the clock has is said. */
 static int tell_value(const struct task *task) {
     static struct answer answer;
     struct ptpm_session session = { 0 };
@@ -45,7 +45,7 @@ static void tell_reason(const struct task *task, enum asked asked, uint16_t numb
     }
 }
 
-/* What may be wrong where the clock answers nobody. */
+/* What may be wrong if the clock answers nobody. */
 static void advise(const struct task *task) {
     if (task->port > 1) complain("numberPorts of get DEFAULT_DATA_SET tells whether the clock has a port %u", task->port);
     if (task->path == NULL) complain("survey DEFAULT_DATA_SET shows which clocks are in that domain; --domain names another");

@@ -1,4 +1,4 @@
-/* What can be said where no answer came. */
+/* What can be said if no answer came. */
 #ifndef UNANSWERED_H
 #define UNANSWERED_H
 
@@ -8,8 +8,8 @@
    whether the next number of a session is new, or which of a new session's is. */
 enum asked { REQUEST, EARLIER_REQUEST, NUMBER, FIRST_NUMBER };
 
-/* Says what is known of it, of which that many messages went out under the number: of these nobody knows whether they came in. If a
-   clock may have dropped them it is read by nobody, and what it has is told. The program's status. */
+/* Says what is known of it, after this many messages of it went out under the number: of these nobody knows whether they came in. If
+   a clock may have dropped them it is read by nobody, and what it has is said. The program's status. */
 int no_answer(const struct task *task, enum asked asked, uint16_t number, long sent);
 
 #endif

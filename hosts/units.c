@@ -32,7 +32,7 @@ static void buckets(void) {
     check(count == 3 + 29, "three a second, and no fraction is lost: the last token is whole at ten seconds");
 }
 
-/* Fields of a GET of PRIORITY1 that tell one message from another, and the octets at which they stand (13.3, 15.4). */
+/* Fields of a GET of PRIORITY1 that distinguish one message from another, and the octets at which they are (13.3, 15.4). */
 static void passing_on(void) {
     static struct passed_on table;
     static const struct { int octet; const char *name; } fields[] = {
@@ -57,7 +57,7 @@ static void passing_on(void) {
     }
     check(is_first(&table, message, NOW + 1000) && !is_first(&table, message, NOW + 1999), "a second later it is passed on again");
     message[55] = 7;
-    message[49] = 2;                            /* an error status, whose id stands behind the error */
+    message[49] = 2;                            /* an error status, whose id follows the error */
     check(is_first(&table, message, NOW) && !is_first(&table, message, NOW), "an error status");
     message[54] ^= 1;
     check(is_first(&table, message, NOW), "an error status of another id");

@@ -122,6 +122,7 @@ sent_reply shown grown q s t me heard r ingress of_port messages is fits sent po
       ingress = ingress;
       action_is = fits.action;
       id_is = fits.id;
+      port_is = own;
       count = grind arith;
       answers = grind arith;
       fits = all_fit shown grown s t me heard r ingress [] named sent;

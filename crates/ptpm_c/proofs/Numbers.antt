@@ -33,6 +33,7 @@ pub memory_of_start_refusal : (first : Option StartRefusal) (r : StartRefusal) (
     → first ≡ None → number ≡ no_memory
 memory_of_start_refusal first (starts.Values fault) number told numbered none = no_reason first _ (told (λ memory. cc)) none
 memory_of_start_refusal first (starts.Managers fault) number told numbered none = no_reason first _ (told (λ memory. cc)) none
+memory_of_start_refusal first starts.IdentityIsZero number told numbered none = no_reason first _ (told (λ memory. cc)) none
 memory_of_start_refusal first starts.OutOfMemory number told numbered none = numbered
 
 pub memory_of_refusal : (first : Option BeginError) (r : BeginError) (number : ℕ)

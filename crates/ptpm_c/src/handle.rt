@@ -1,10 +1,9 @@
 //! What a host in C keeps of a clock, a session or a survey.
 
-ghost use Rattle.std.specs.Prelude.{◌≡◌, IfNone, IfSome, None, OnSome, Some, is_some};
+ghost use Rattle.std.specs.Prelude.{◌≡◌, IfNone, IfSome, MatchOption, None, OnSome, Some, is_some};
 ghost use Rattle.ptpm_data.specs.Changed.{changed};
 ghost use Rattle.ptpm_host.specs.declared.clock.HostedClock.{HostedClock};
 ghost use Rattle.ptpm_c.specs.declared.kept.Hosted.TheVariants.{Clock, Nothing, Session, Survey};
-ghost use Rattle.ptpm_c.specs.Held.{clock_held, held, session_held, survey_held};
 
 use crate::keeping::Keeping;
 use crate::kept::{Hosted, Kept};
@@ -23,6 +22,10 @@ pub struct Handle {
 }
 
 impl Handle {
+    ghost use Rattle.std.specs.Borrow.{sem};
+    ghost use Rattle.ptpm_c.specs.Held.{clock_held, held, session_held, survey_held};
+    ghost use Rattle.ptpm_c.specs.LendingHandle.{LendsHeld};
+
     /// Holds nothing.
     pub fn empty() -> Handle
         ensures { held result.keeping ≡ Nothing }
@@ -108,6 +111,18 @@ impl Handle {
                 None
             }
         }
+    }
+
+    /// What it holds, where it lies. Whoever only reads it writes nothing to the handle.
+    pub fn kept(&mut self) -> Option<&mut Kept>
+        ensures* writes_back { sem 𝓛 (LendsHeld self.entry result) }
+        ensures value { MatchOption result (held self.old.keeping ≡ Nothing)
+            (λ kept. kept.now.hosted.value ≡ held self.old.keeping) }
+    {
+        if !self.live {
+            return None;
+        }
+        Some(self.keeping.as_kept())
     }
 
     /// Ends what it holds.

@@ -23,6 +23,7 @@ ghost use Rattle.ptpm_c.specs.declared.kept.Hosted.TheVariants.{Nothing};
 ghost use Rattle.ptpm_c.specs.Held.{clock_held, held};
 ghost use Rattle.ptpm_c.specs.Turned.{IsTurnedTo};
 
+mod agreement;
 mod handle;
 mod keeping;
 mod kept;
@@ -243,7 +244,6 @@ pub extern "C" fn ptpm_clock_observe(
 /// follows them stays. The port matters for an id of a port alone. Takes no memory.
 #[unsafe(no_mangle)]
 pub extern "C" fn ptpm_clock_read(
-    alloc: Global,
     handle: &mut Handle,
     id: u16,
     port: u16,
@@ -263,18 +263,19 @@ pub extern "C" fn ptpm_clock_read(
     ensures empty { clock_held handle.old.keeping ≡ None → (result ≡ no_clock) × (size.new ≡ 0) }
 {
     *size = 0;
-    let Some((kept, clock)) = handle.take_clock(alloc) else {
+    let Some(kept) = handle.kept() else {
         return NO_CLOCK;
     };
-    let number = match clock.read(id, port, octets) {
+    let Some(clock) = kept.clock() else {
+        return NO_CLOCK;
+    };
+    match clock.read(id, port, octets) {
         Ok(count) => {
             *size = count;
             0
         }
         Err(refusal) => read_number(refusal),
-    };
-    *handle = Handle::of(kept, Hosted::Clock(clock));
-    number
+    }
 }
 
 /// Ends the clock that a handle holds, if it holds one.

@@ -19,7 +19,6 @@ use std::alloc::Global;
 /// nothing is written. What comes after the image stays. Takes no memory.
 #[unsafe(no_mangle)]
 pub extern "C" fn ptpm_session_image(
-    alloc: Global,
     handle: &mut Handle,
     octets: &mut [u8],
     size: &mut usize,
@@ -39,18 +38,19 @@ pub extern "C" fn ptpm_session_image(
         → (result ≡ no_session) × ((size.new ≡ 0) × (octets.new ≡ octets.old)) }
 {
     *size = 0;
-    let Some((kept, session)) = handle.take_session(alloc) else {
+    let Some(kept) = handle.kept() else {
         return NO_SESSION;
     };
-    let number = match session.image(octets) {
+    let Some(session) = kept.session() else {
+        return NO_SESSION;
+    };
+    match session.image(octets) {
         Some(count) => {
             *size = count;
             0
         }
         None => NO_ROOM,
-    };
-    *handle = Handle::of(kept, Hosted::Session(session));
-    number
+    }
 }
 
 /// Puts the session whose image this is in a handle, in place of what it holds: 0. Manager, managed clock, its number of ports

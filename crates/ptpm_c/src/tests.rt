@@ -1,5 +1,6 @@
 //! The calls of a host in C, one after another.
 
+use crate::agreement::*;
 use crate::handle::Handle;
 use crate::names::*;
 use crate::saving::*;
@@ -156,7 +157,7 @@ fn a_clock_that_is_observed(rt: HostRuntime) {
     let message = &sent[0];
     assert!(rt; count == 1 && message.size == 72);
     assert!(rt; &message.octets[54..72] == CURRENT.as_slice());
-    assert!(rt; ptpm_clock_read(alloc, &mut handle, 0x2004, 2, &mut octets, &mut count) == 0);
+    assert!(rt; ptpm_clock_read(&mut handle, 0x2004, 2, &mut octets, &mut count) == 0);
     assert!(rt; octets[10] == 3);
     ptpm_clock_stop(alloc, &mut handle);
 }
@@ -196,10 +197,10 @@ fn a_session_from_start_to_stop(rt: HostRuntime) {
     assert!(rt; answer == 10);
     let answer = ptpm_session_receive(rt.alloc(), &mut handle, REPLY);
     assert!(rt; answer == 0);
-    let answer = ptpm_session_report(rt.alloc(), &mut handle, &mut octets, &mut size, &mut error);
+    let answer = ptpm_session_report(&mut handle, &mut octets, &mut size, &mut error);
     assert!(rt; answer == 0 && size == 2 && error == 0);
     assert!(rt; octets.starts_with([0x80, 0].as_slice()));
-    let issued = ptpm_session_issued(rt.alloc(), &mut handle);
+    let issued = ptpm_session_issued(&mut handle);
     assert!(rt; issued == 1);
     ptpm_session_stop(rt.alloc(), &mut handle);
     let answer = ptpm_session_receive(rt.alloc(), &mut handle, REPLY);
@@ -233,22 +234,22 @@ fn a_session_from_its_image(rt: HostRuntime) {
     let mut handle = Handle::empty();
     let mut octets = [0; 1478];
     let mut size = 1;
-    let answer = ptpm_session_image(alloc, &mut handle, &mut octets, &mut size);
+    let answer = ptpm_session_image(&mut handle, &mut octets, &mut size);
     assert!(rt; answer == 37 && size == 0);
     assert!(rt; ptpm_session_start(alloc, &mut handle, &settings) == 0);
     assert!(rt; ptpm_session_begin(alloc, &mut handle, 0, 0x2005, 0, &[]) == 0);
-    let answer = ptpm_session_image(alloc, &mut handle, &mut octets[..59], &mut size);
+    let answer = ptpm_session_image(&mut handle, &mut octets[..59], &mut size);
     assert!(rt; answer == 34 && size == 0 && octets[0] == 0);
-    let answer = ptpm_session_image(alloc, &mut handle, &mut octets, &mut size);
+    let answer = ptpm_session_image(&mut handle, &mut octets, &mut size);
     assert!(rt; answer == 0 && size == 60);
     assert!(rt; octets[..60] == WAITING[..]);
     ptpm_session_stop(alloc, &mut handle);
-    assert!(rt; ptpm_session_restore(alloc, &mut handle, &settings, &WAITING[..11]) == 56);
-    assert!(rt; ptpm_session_restore(alloc, &mut handle, &settings, &WAITING[..59]) == 59);
-    assert!(rt; ptpm_session_restore(alloc, &mut handle, &other, WAITING) == 60);
+    assert!(rt; ptpm_session_restore(alloc, &mut handle, &settings, &WAITING[..11]) == 104);
+    assert!(rt; ptpm_session_restore(alloc, &mut handle, &settings, &WAITING[..59]) == 107);
+    assert!(rt; ptpm_session_restore(alloc, &mut handle, &other, WAITING) == 110);
     assert!(rt; ptpm_session_send(alloc, &mut handle, &mut octets, &mut size) == 37);
     assert!(rt; ptpm_session_restore(alloc, &mut handle, &settings, WAITING) == 0);
-    assert!(rt; ptpm_session_restore(alloc, &mut handle, &other, WAITING) == 60);
+    assert!(rt; ptpm_session_restore(alloc, &mut handle, &other, WAITING) == 110);
     assert!(rt; ptpm_session_send(alloc, &mut handle, &mut octets, &mut size) == 0);
     assert!(rt; size == 54 && octets.starts_with(REQUEST.as_slice()));
     assert!(rt; ptpm_session_receive(alloc, &mut handle, REPLY) == 0);
@@ -284,14 +285,13 @@ fn a_survey_from_start_to_stop(rt: HostRuntime) {
     assert!(rt; ptpm_survey_receive(alloc, &mut handle, REPLY) == 46);
     assert!(rt; ptpm_survey_start(alloc, &mut handle, &settings) == 0);
     assert!(rt; ptpm_session_begin(alloc, &mut handle, 0, 0x2005, 0, &[]) == 37);
-    assert!(rt; ptpm_survey_send(alloc, &mut handle, &mut octets, &mut size) == 0);
+    assert!(rt; ptpm_survey_send(&mut handle, &mut octets, &mut size) == 0);
     assert!(rt; size == 54 && octets.starts_with(ENQUIRY.as_slice()));
     assert!(rt; ptpm_survey_receive(alloc, &mut handle, REQUEST) == 10);
     assert!(rt; ptpm_survey_receive(alloc, &mut handle, REPLY) == 0);
     assert!(rt; ptpm_survey_receive(alloc, &mut handle, REPLY) == 27);
-    assert!(rt; ptpm_survey_count(alloc, &mut handle) == 1);
+    assert!(rt; ptpm_survey_count(&mut handle) == 1);
     let answer = ptpm_survey_answer(
-        alloc,
         &mut handle,
         0,
         &mut source,
@@ -304,7 +304,6 @@ fn a_survey_from_start_to_stop(rt: HostRuntime) {
     assert!(rt; source.clock == [0xaa, 0xbb, 0xcc, 0xff, 0xfe, 0xdd, 0xee, 0x01]);
     assert!(rt; source.port == 1);
     let answer = ptpm_survey_answer(
-        alloc,
         &mut handle,
         1,
         &mut source,
@@ -314,7 +313,7 @@ fn a_survey_from_start_to_stop(rt: HostRuntime) {
     );
     assert!(rt; answer == 45 && size == 0);
     ptpm_survey_stop(alloc, &mut handle);
-    assert!(rt; ptpm_survey_count(alloc, &mut handle) == 0);
+    assert!(rt; ptpm_survey_count(&mut handle) == 0);
 }
 
 /// The ids' names are the standard's (15.5.2.3), in either case. Memory is ample, and none is taken.
@@ -431,4 +430,17 @@ fn what_a_datagram_changes(rt: HostRuntime) {
         assert!(rt; changed.ports[0].0 == 0 && changed.ports[1].0 == port);
     }
     ptpm_clock_stop(alloc, &mut handle);
+}
+
+/// The structs of a host on a machine of 64 bits, in the order of the header; sizes of a shorter struct, of one struct fewer, and
+/// of one more.
+#[test]
+fn sizes_of_headers(rt: HostRuntime) {
+    let mut sizes = [16, 216, 16, 88, 16, 12, 1476, 12, 16, 26, 16, 16, 10, 0];
+    assert!(rt; ptpm_version() == 100);
+    assert!(rt; ptpm_sizes_agree(&sizes[..13]) == 0);
+    assert!(rt; ptpm_sizes_agree(&sizes[..12]) == 47);
+    assert!(rt; ptpm_sizes_agree(&sizes) == 47);
+    sizes[1] = 212;
+    assert!(rt; ptpm_sizes_agree(&sizes[..13]) == 47);
 }

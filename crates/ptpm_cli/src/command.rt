@@ -8,8 +8,9 @@ use ptpm_commands::make::{RequestWords, make};
 use ptpm_commands::show::{show, show_good_lines, show_lines};
 use ptpm_commands::{Fault, tell};
 use ptpm_draw::{Chosen, draw};
+use ptpm_findings::check_script;
 use ptpm_schedule::{Chances, schedule};
-use ptpm_world::{ScriptError, check_script, run_script};
+use ptpm_world::{ScriptError, run_script};
 use std::alloc::{AllocError, Global};
 use std::fmt;
 use std::io::{Read, Write};
@@ -289,15 +290,11 @@ fn with_numbers<'a>(alloc: Global, command: Command<'a>) -> Result<Command<'a>, 
 }
 
 fn schedule_command<'a>(alloc: Global) -> Result<Command<'a>, AllocError> {
-    let loss = percent(
-        alloc,
-        "loss",
-        "Of a hundred frames so many are lost, 0 to 100",
-    );
+    let loss = percent(alloc, "loss", "Of a hundred frames N are lost, 0 to 100");
     let repeat = percent(
         alloc,
         "repeat",
-        "Of a hundred frames that arrive so many arrive twice, 0 to 100",
+        "Of a hundred frames that arrive N arrive twice, 0 to 100",
     );
     let seed = option(alloc, "seed", "N", "The same seed draws the same")
         .value_parser(value_parser!(u64))

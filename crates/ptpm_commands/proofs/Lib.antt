@@ -1,3 +1,2 @@
 pub mod FreshClock
 pub mod IdentityTextLemmas
-pub mod TurnLemmas

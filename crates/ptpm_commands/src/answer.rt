@@ -11,7 +11,6 @@ use crate::clock::{admit_manager, fresh_clock};
 use crate::faults::Fault;
 use crate::lines::Lines;
 use ptpm_agent::Agent;
-use ptpm_data::change_law;
 use ptpm_script::Hexadecimal;
 use ptpm_table::{BoundTable, Outbox, ReplyTable};
 use std::alloc::Global;
@@ -113,7 +112,6 @@ fn answer_datagram<O: Write>(
         ≡ (turn (clock_shown clock.old) (state_shown clock.old) 1 datagram.now).next }
     ensures port { HasPort 1 clock.new.sets }
 {
-    change_law();
     let mut outbox = Outbox::new();
     clock.handle(1, datagram, &mut outbox);
     write_messages(&outbox, out)?;

@@ -117,6 +117,10 @@ no_session = 37
 abbrev pub no_survey : ℕ
 no_survey = 46
 
+-- a struct of the host has another size than the library's
+abbrev pub other_sizes : ℕ
+other_sizes = 47
+
 abbrev pub handle_number : HandleRefusal → ℕ
 handle_number handles.NoPort = 33
 handle_number handles.NoRoom = no_room
@@ -208,6 +212,7 @@ managers_number tables.OutOfMemory = no_memory
 abbrev pub start_number : StartRefusal → ℕ
 start_number (refusals.Values fault) = values_number fault
 start_number (refusals.Managers fault) = managers_number fault
+start_number refusals.IdentityIsZero = 56
 start_number refusals.OutOfMemory = no_memory
 
 abbrev pub session_number : SessionRefusal → ℕ
@@ -216,12 +221,13 @@ session_number sessions.TooManyPorts = 49
 session_number sessions.ManagerIsEvery = 53
 session_number sessions.TargetIsEvery = 54
 session_number sessions.SameClock = 55
+session_number sessions.TargetIsZero = 57
 
--- why a session is not restored, 35 or 56 to 60
+-- why a session is not restored, 35, 104 to 107 or 110
 abbrev pub restore_number : RestoreError → ℕ
 restore_number restores.OutOfMemory = no_memory
-restore_number restores.NotAnImage = 56
-restore_number restores.OtherVersion = 57
-restore_number restores.OtherKind = 58
-restore_number restores.Damaged = 59
-restore_number restores.OtherSession = 60
+restore_number restores.NotAnImage = 104
+restore_number restores.OtherVersion = 105
+restore_number restores.OtherKind = 106
+restore_number restores.Damaged = 107
+restore_number restores.OtherSession = 110

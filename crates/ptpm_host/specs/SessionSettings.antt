@@ -8,6 +8,7 @@ use Rattle.ptpm_manager.specs.declared.error.RestoreError.{RestoreError}
 use Rattle.ptpm_manager.specs.declared.setup.Setup.{Setup}
 use Rattle.ptpm_manager.specs.Restoring.{restore_refusal}
 use Rattle.ptpm_manager.specs.Session.{SessionValue, fresh}
+use Rattle.ptpm_host.specs.Settings.{is_zero}
 use Rattle.ptpm_host.specs.declared.refusal.SessionRefusal.{SessionRefusal}
 use Rattle.ptpm_host.specs.declared.refusal.SessionRefusal.TheVariants as refusals
 use Rattle.ptpm_host.specs.declared.session_settings.SessionSettings.{SessionSettings}
@@ -31,8 +32,8 @@ setup_of s = record {
 abbrev pub session_start : SessionSettings → SessionValue
 session_start s = fresh (setup_of s) s.domain
 
--- a manager and its clock are two clocks, neither is the identity that means every clock (15.3.1), and the clock has one to
--- eight ports (this project's profile)
+-- a manager and its clock are two clocks, neither is the identity that means every clock (15.3.1), and the clock has one to eight
+-- ports and another identity than zeros (this project's profile)
 abbrev pub session_refusal : SessionSettings → Option SessionRefusal
 session_refusal s = first_of (
     (same_clock (manager_port s).clock every_clock, refusals.ManagerIsEvery)
@@ -40,6 +41,7 @@ session_refusal s = first_of (
     ∷ (same_clock (manager_port s).clock (target_clock s), refusals.SameClock)
     ∷ (nat_lt s.target_ports 1, refusals.NoPorts)
     ∷ (nat_lt 8 s.target_ports, refusals.TooManyPorts)
+    ∷ (is_zero (target_clock s), refusals.TargetIsZero)
     ∷ [])
 
 -- why an image is none of the session that the settings describe

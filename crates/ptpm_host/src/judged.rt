@@ -6,7 +6,9 @@ ghost use Rattle.ptpm_host.specs.Clock.{start_by, start_refusal};
 ghost use Rattle.ptpm_host.specs.Settings.{configured};
 
 use crate::refusal::StartRefusal;
-use crate::settings::{ClockSettings, ManagerSettings, PortSettings, configured, port_starts};
+use crate::settings::{
+    ClockSettings, ManagerSettings, NO_IDENTITY, PortSettings, configured, port_starts,
+};
 use ptpm_codec::{ClockIdentity, PortIdentity};
 use ptpm_data::{DataSets, Rights};
 use ptpm_table::{PlainTable, TableError};
@@ -48,10 +50,14 @@ impl JudgedStart {
             Err(fault) => return Err(StartRefusal::Values(fault)),
         };
         match judge(alloc, managers.as_slice()) {
-            Ok(()) => Ok(JudgedStart { sets, managers }),
-            Err(TableError::OutOfMemory) => Err(StartRefusal::OutOfMemory),
-            Err(fault) => Err(StartRefusal::Managers(fault)),
+            Ok(()) => {}
+            Err(TableError::OutOfMemory) => return Err(StartRefusal::OutOfMemory),
+            Err(fault) => return Err(StartRefusal::Managers(fault)),
         }
+        if ClockIdentity(settings.identity) == NO_IDENTITY {
+            return Err(StartRefusal::IdentityIsZero);
+        }
+        Ok(JudgedStart { sets, managers })
     }
 }
 

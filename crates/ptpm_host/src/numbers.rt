@@ -2,8 +2,8 @@
 //! request, from 32 on why a call changed nothing.
 //!
 //! 1 to 9 are verdicts, 10 to 15 why a session or a survey ignores a datagram, 16 to 24 why it holds no message, 25 and 26 what
-//! became of a request, 27 and 28 what a survey makes of an answer; 29 to 31 are free. 32 to 46 are refusals of a call, 48 to 55
-//! of a start, 56 to 60 of a restore, and from 64 on the members that may be out of range, in their order.
+//! became of a request, 27 and 28 what a survey makes of an answer; 29 to 31 are free. 32 to 47 are refusals of a call, 48 to 57
+//! of a start, 64 to 101 the members that may be out of range, in their order, and from 104 on refusals of a restore.
 
 ghost use Rattle.std.specs.Prelude.{◌≡◌, ◌≤◌};
 ghost use Rattle.ptpm_host.specs.Numbers.{begin_number, cause_number, handle_number, heard_number, managers_number, member_number, observe_number, read_number, reason_number, report_number, restore_number, resume_number, send_number, session_number, start_number, surveyed_number, told_number, values_number, verdict_number};
@@ -33,6 +33,9 @@ pub const NO_SESSION: u32 = 37;
 
 /// A handle holds no survey.
 pub const NO_SURVEY: u32 = 46;
+
+/// A struct of the host has another size than this library's.
+pub const OTHER_SIZES: u32 = 47;
 
 /// What became of a datagram, 1 to 24. A datagram that is no management message is recognized first: the numbers of the other
 /// verdicts are in the order of the verdicts, so that LLVM makes no table of them.
@@ -163,6 +166,7 @@ pub fn start_number(refusal: StartRefusal) -> u32
     match refusal {
         StartRefusal::Values(fault) => values_number(fault),
         StartRefusal::Managers(fault) => managers_number(fault),
+        StartRefusal::IdentityIsZero => 56,
         StartRefusal::OutOfMemory => NO_MEMORY,
     }
 }
@@ -243,7 +247,7 @@ pub fn report_number(refusal: ReportRefusal) -> u32
     }
 }
 
-/// Why a session does not start, 48, 49 or 53 to 55.
+/// Why a session does not start, 48, 49, 53 to 55 or 57.
 pub fn session_number(refusal: SessionRefusal) -> u32
     ensures number { result ≡ session_number refusal }
     ensures some { 1 ≤ result }
@@ -254,20 +258,21 @@ pub fn session_number(refusal: SessionRefusal) -> u32
         SessionRefusal::ManagerIsEvery => 53,
         SessionRefusal::TargetIsEvery => 54,
         SessionRefusal::SameClock => 55,
+        SessionRefusal::TargetIsZero => 57,
     }
 }
 
-/// Why a session is not restored, 35 or 56 to 60.
+/// Why a session is not restored, 35, 104 to 107 or 110.
 pub fn restore_number(refusal: RestoreError) -> u32
     ensures number { result ≡ restore_number refusal }
     ensures some { 1 ≤ result }
 {
     match refusal {
         RestoreError::OutOfMemory => NO_MEMORY,
-        RestoreError::NotAnImage => 56,
-        RestoreError::OtherVersion => 57,
-        RestoreError::OtherKind => 58,
-        RestoreError::Damaged => 59,
-        RestoreError::OtherSession => 60,
+        RestoreError::NotAnImage => 104,
+        RestoreError::OtherVersion => 105,
+        RestoreError::OtherKind => 106,
+        RestoreError::Damaged => 107,
+        RestoreError::OtherSession => 110,
     }
 }

@@ -11,6 +11,8 @@ pub enum StartRefusal {
     Values(StartError),
     /// These can't be its managers.
     Managers(TableError),
+    /// Its clockIdentity is all zeros.
+    IdentityIsZero,
     OutOfMemory,
 }
 
@@ -47,6 +49,8 @@ pub enum SessionRefusal {
     NoPorts,
     /// It has more than eight.
     TooManyPorts,
+    /// The managed clock's clockIdentity is all zeros.
+    TargetIsZero,
 }
 
 /// Why no request is handed out, in the order in which the reasons are judged; a survey's, for the first alone.

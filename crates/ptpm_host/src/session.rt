@@ -18,6 +18,7 @@ ghost use Rattle.ptpm_host.specs.Told.{told_octets, told_of, told_size};
 
 use crate::refusal::{ReportRefusal, SendRefusal, SessionRefusal};
 use crate::session_settings::SessionSettings;
+use crate::settings::NO_IDENTITY;
 use crate::told::{Told, tell};
 use ptpm_codec::{Action, Buffer, ClockIdentity, MESSAGE_OCTETS, OutOfMemory};
 use ptpm_manager::{BeginError, Reason, Received, Report, RestoreError, SendError, Session};
@@ -67,6 +68,9 @@ impl HostedSession {
         }
         if ports > 8 {
             return Err(SessionRefusal::TooManyPorts);
+        }
+        if target == NO_IDENTITY {
+            return Err(SessionRefusal::TargetIsZero);
         }
         Ok(HostedSession {
             session: Session::new(

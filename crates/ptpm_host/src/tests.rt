@@ -169,6 +169,10 @@ fn start_refusals(rt: HostRuntime) {
     assert!(rt; refusal(alloc, &other_grandmaster, &[port], &[MANAGER; 2]) == 50);
     assert!(rt; refusal(alloc, &settings(), &[port], &[MANAGER; 2]) == 52);
     assert!(rt; refusal(alloc, &settings(), &[port], &[MANAGER; 17]) == 51);
+    let unwritten = ClockSettings::new();
+    assert!(rt; refusal(alloc, &unwritten, &[port], &[MANAGER; 17]) == 51);
+    assert!(rt; refusal(alloc, &unwritten, &[port], &[MANAGER]) == 56);
+    assert!(rt; boxed_refusal(alloc, &unwritten, &[port], &[]) == 56);
 }
 
 /// `tools/refuse_memory` refuses each request for memory in turn: the same call then answers as it would have.
@@ -319,7 +323,12 @@ fn session_refusals(rt: HostRuntime) {
     assert!(rt; session_refusal(alloc, &to_every) == 54);
     assert!(rt; session_refusal(alloc, &to_itself) == 55);
     assert!(rt; session_refusal(alloc, &of_no_port) == 48);
+    let to_zeros = SessionSettings {
+        target: [0; 8],
+        ..SESSION
+    };
     assert!(rt; session_refusal(alloc, &of_nine_ports) == 49);
+    assert!(rt; session_refusal(alloc, &to_zeros) == 57);
     assert!(rt; session_refusal(alloc, &SESSION) == 0);
 }
 

@@ -26,7 +26,7 @@ managers slots = identities (configured slots)
 
 -- ---- looking up
 
-none_used : (q : PortIdentity) (ss : List Slot)
+pub none_used : (q : PortIdentity) (ss : List Slot)
     → is_known q (managers ss) ≡ false
     → lookup (same_identity q) (used ss) ≡ None
 none_used q [] h = refl

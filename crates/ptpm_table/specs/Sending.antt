@@ -6,6 +6,7 @@ use Rattle.ptpm_codec.specs.declared.message.Message.{Message}
 use Rattle.ptpm_codec.specs.Canonical.{canonical}
 use Rattle.ptpm_codec.specs.Envelope.{envelope_of, sent_with}
 use Rattle.ptpm_codec.specs.Message.{Fits, reply_action}
+use Rattle.ptpm_data.specs.ManagementId.{is_of_port}
 use Rattle.ptpm_data.specs.Reply as reply
 use Rattle.ptpm_data.specs.Reply.{Answer, ReplyValue}
 use Rattle.ptpm_table.specs.Rendering.{answer_body, rendered, reply_message}
@@ -46,6 +47,7 @@ pub record IsSentReply (me : ClockIdentity) (heard : Heard) (action : Action) (i
   pub ingress : ℕ
   pub action_is : r.action ≡ reply_action action
   pub id_is : r.id ≡ id
+  pub port_is : of_port ≡ is_of_port id
   pub count : FitsCount of_port (length r.answers)
   pub answers : All (FitsAnswer of_port action) r.answers
   pub fits : All (λ a. Fits (reply_message me heard r.action r.id ingress a)) r.answers

@@ -6,6 +6,7 @@ mod heard;
 mod kept;
 mod kept_messages;
 pub mod laws;
+mod lending;
 mod managers;
 mod outbox;
 mod outgoing;
@@ -19,6 +20,7 @@ mod slot_table;
 
 pub use error::TableError;
 pub use heard::Heard;
+pub use lending::{LendingTable, LentAnswer, LentEntry, LentWhat};
 pub use outbox::Outbox;
 pub use outgoing::Outgoing;
 pub use plain_table::PlainTable;

@@ -5,6 +5,14 @@ use Rattle.std.specs.Str.Lines.{lines}
 use Rattle.std.specs.Io.Buffered.{reader_remaining}
 use Rattle.ptpm_world.specs.declared.lines.Lines.{Lines}
 
+-- how many lines were read
+abbrev pub line_count : {R : Type 0} → Lines R → ℕ
+line_count l = l.count
+
+-- the line that was read last, without its end
+abbrev pub latest_line : {R : Type 0} → Lines R → List ℕ
+latest_line l = l.line.items
+
 -- what a reader has left, if its octets are known
 abbrev pub left_in : {R : Type 0} → (R → Option (List ℕ)) → Lines R → Option (List ℕ)
 left_in remaining l = reader_remaining remaining l.reader

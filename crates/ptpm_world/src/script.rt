@@ -7,7 +7,7 @@ ghost use Rattle.ptpm_script.specs.EventLine.{reading};
 ghost use Rattle.ptpm_script.specs.NetworkText.{network_of};
 ghost use Rattle.ptpm_script.specs.NetworkView.{network_value};
 ghost use Rattle.ptpm_script.specs.Words.{space};
-ghost use Rattle.ptpm_world.specs.Lines.{BothKnown, left_in, whole_lines};
+ghost use Rattle.ptpm_world.specs.Lines.{BothKnown, left_in, line_count, whole_lines};
 ghost use Rattle.ptpm_world.specs.MachineTrace.{ShowsNetwork};
 ghost use Rattle.ptpm_world.specs.Placed.{names_in};
 ghost use Rattle.ptpm_world.specs.Running.{IsOf, running};
@@ -78,14 +78,14 @@ fn read_network<R: Read + Drop>(
         (λ network.
         BothKnown (left_in R.remaining script.old) (left_in R.remaining script.new)
         (λ before after.
-        (scripted_from (script.old.count + 1) before
-        ≡ in_network (Ok (network_value network)) (script.new.count + 1) (whole_lines after))
+        (scripted_from (line_count script.old + 1) before
+        ≡ in_network (Ok (network_value network)) (line_count script.new + 1) (whole_lines after))
         × (network_of (network_text (whole_lines before)) ≡ Ok (network_value network)))) }
     ensures fault { IfErr result
         (λ e.
         is_outside e ≡ false
         → IfSome (left_in R.remaining script.old)
-        (λ octets. scripted_from (script.old.count + 1) octets ≡ ends (Err e))) }
+        (λ octets. scripted_from (line_count script.old + 1) octets ≡ ends (Err e))) }
 {
     let text = read_text(alloc, script)?;
     network_of_text(alloc, text.as_str())
@@ -110,7 +110,7 @@ pub(crate) fn network_of_text(alloc: Global, text: &str) -> Result<Network, Scri
 
 /// The lines up to the divider, each followed by a line feed. Of a text over the limit only so much is kept that it is
 /// still over it.
-pub(crate) fn read_text<R: Read + Drop>(
+pub fn read_text<R: Read + Drop>(
     alloc: Global,
     script: &mut Lines<R>,
 ) -> Result<String, ScriptError>
@@ -120,15 +120,15 @@ pub(crate) fn read_text<R: Read + Drop>(
         (λ before after.
         StandsFor (string_bytes text) (network_text (whole_lines before))
         × ((others : ℕ → List (List ℕ × List ℕ) → Played (List ℕ))
-        → from_file others (script.old.count + 1) (whole_lines before)
-        ≡ others (script.new.count + 1) (whole_lines after)))) }
+        → from_file others (line_count script.old + 1) (whole_lines before)
+        ≡ others (line_count script.new + 1) (whole_lines after)))) }
     ensures fault { IfErr result
         (λ e.
         is_outside e ≡ false
         → IfSome (left_in R.remaining script.old)
         (λ octets.
         (others : ℕ → List (List ℕ × List ℕ) → Played (List ℕ))
-        → from_file others (script.old.count + 1) (whole_lines octets) ≡ ends (Err e))) }
+        → from_file others (line_count script.old + 1) (whole_lines octets) ≡ ends (Err e))) }
     ensures reading { IfErr result (λ e. is_of_reading e ≡ true) }
 {
     let mut text = String::new(alloc);
@@ -175,7 +175,7 @@ fn play<R: Read + Drop, W: Write>(
         → IfSome (left_in R.remaining script.old)
         (λ octets.
         HasPlayed (names_in world.old)
-        (played N (names_in world.old) (running world.old) (script.old.count + 1) 1
+        (played N (names_in world.old) (running world.old) (line_count script.old + 1) 1
         (whole_lines octets)) (running world.new) (W.contents out.old) (W.contents out.new)
         result) }
     ensures names { OnOk result (names_in world.new ≡ names_in world.old) }
@@ -211,7 +211,7 @@ pub(crate) fn event_of(alloc: Global, number: u32, line: &str) -> Result<Event, 
 }
 
 /// Whether a line has no words, or is a comment.
-pub(crate) fn is_skipped(line: &str) -> bool
+pub fn is_skipped(line: &str) -> bool
     ensures { result ≡ is_skipped line.now }
 {
     match first_but_spaces(line) {
