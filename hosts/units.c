@@ -1,9 +1,10 @@
-/* Tests of what the hosts decide without a socket: token buckets, messages that were passed on, and messages in frames. Prints what
-   does not hold, and `units: N passed, M failed`. */
+/* Tests of what the hosts decide without a socket: token buckets, messages that were passed on, messages in frames, and what the image
+   of a session says. Prints what does not hold, and `units: N passed, M failed`. */
 #include "bucket.h"
 #include "checking.h"
 #include "ethernet.h"
 #include "passed_on.h"
+#include "session_image.h"
 #include <string.h>
 
 enum { NOW = 5000, MESSAGE = 54 };
@@ -116,10 +117,35 @@ static void frames(void) {
     check(parts[1].iov_base == frame && parts[1].iov_len == 46 && parts[2].iov_len == 0, "and no octet behind a message that is longer");
 }
 
+/* The session of manager 0011223344556677/1 with clock aabbccfffeddee01 of two ports, from number 7 on: a GET of PRIORITY1 is under
+   way; and with a COMMAND of DISABLE_PORT at port 2 in its place. */
+static void images(void) {
+    uint8_t octets[] = {
+        'p', 't', 'p', 'm', 2, 1, 0, 0, 0, 0, 0, 48, 0x00, 0x11, 0x22, 0x33, 0x44, 0x55, 0x66, 0x77, 0, 1,
+        0xaa, 0xbb, 0xcc, 0xff, 0xfe, 0xdd, 0xee, 0x01, 2, 0, 7, 1, 2, 0, 0, 0, 0, 0, 0, 0, 0, 1, 0, 0, 0, 0, 0, 0, 0, 0,
+        1, 0, 0x20, 0x05, 0xff, 0xff, 0, 0, 0xa5, 0x5a,
+    };
+    size_t size = sizeof octets - 2;
+    struct session_image image = read_image(octets, size);
+    check(memcmp(image.manager, octets + 12, 8) == 0 && memcmp(image.target, octets + 22, 8) == 0, "the clocks of an image");
+    check(image.manager_port == 1 && image.ports == 2 && image.first == 7 && image.hops == 1, "the other members of a session");
+    check(image.is_under_way && image.action == 0 && image.id == 0x2005 && image.size == 0, "what is under way");
+    check(image.port == 0, "an id of the clock names no port");
+    memcpy(octets + 52, (const uint8_t[]){ 1, 3, 0x20, 0x0e, 0, 2, 0, 2 }, 8);
+    image = read_image(octets, sizeof octets);
+    check(image.action == 3 && image.id == 0x200e && image.port == 2, "a COMMAND at a port");
+    check(image.size == 2 && memcmp(image.octets, "\xa5\x5a", 2) == 0, "and its dataField");
+    check(!read_image(octets, size).is_under_way, "a request of which octets are missing is none");
+    octets[52] = 0;
+    check(!read_image(octets, 53).is_under_way && read_image(octets, 53).first == 7, "a session at rest");
+    check(read_image(octets, 52).first == 0, "fewer octets are no session");
+}
+
 int main(void) {
     buckets();
     passing_on();
     many_messages();
     frames();
+    images();
     return told("units");
 }
