@@ -596,7 +596,7 @@ enum ptpm_started ptpm_clock_start(struct ptpm_clock *clock, const struct ptpm_c
                                    const struct ptpm_port_settings *ports, size_t port_count,
                                    const struct ptpm_manager_settings *managers, size_t manager_count);
 
-/* Does what ptpm_clock_start does, where this file is that of the library.
+/* Does what ptpm_clock_start does if this file is that of the library.
    Answers: what ptpm_clock_start answers; or PTPM_OTHER_SIZES, and then the handle holds what it held. */
 static inline enum ptpm_started ptpm_clock_start_sized(struct ptpm_clock *handle, const struct ptpm_clock_settings *settings,
                                                        const struct ptpm_port_settings *of_ports, size_t all_ports,
@@ -647,7 +647,7 @@ void ptpm_clock_stop(struct ptpm_clock *clock);
    Owed:    the caller stops the session. */
 enum ptpm_started ptpm_session_start(struct ptpm_session *session, const struct ptpm_session_settings *settings);
 
-/* Does what ptpm_session_start does, where this file is that of the library.
+/* Does what ptpm_session_start does if this file is that of the library.
    Answers: what ptpm_session_start answers; or PTPM_OTHER_SIZES, and then the handle holds what it held. */
 static inline enum ptpm_started ptpm_session_start_sized(struct ptpm_session *handle,
                                                          const struct ptpm_session_settings *settings) {
@@ -725,7 +725,7 @@ void ptpm_session_stop(struct ptpm_session *session);
    Owed:    the caller stops the survey. */
 enum ptpm_started ptpm_survey_start(struct ptpm_survey *survey, const struct ptpm_survey_settings *settings);
 
-/* Does what ptpm_survey_start does, where this file is that of the library.
+/* Does what ptpm_survey_start does if this file is that of the library.
    Answers: what ptpm_survey_start answers; or PTPM_OTHER_SIZES, and then the handle holds what it held. */
 static inline enum ptpm_started ptpm_survey_start_sized(struct ptpm_survey *handle, const struct ptpm_survey_settings *settings) {
     enum ptpm_started answer = ptpm_header_agrees();
