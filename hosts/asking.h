@@ -2,6 +2,7 @@
 #ifndef ASKING_H
 #define ASKING_H
 
+#include "session.h"
 #include "task.h"
 
 /* The status with which the program ends. */
@@ -11,9 +12,13 @@ enum status { ANSWERED = 0, REFUSED = 1, NOT_ASKED = 2, NOT_ANSWERED = 3, NOT_WR
    then why not is said. */
 int judge_request(const struct task *task);
 
-/* Makes the task's request as many times as it says, one after the other, each sent until it is answered or its attempts are
-   used, and prints what each answer says; the program's status. */
-int ask_clock(const struct task *task);
+/* Sends the session's request, which is the task's, until it is answered, its attempts are used, or a signal comes in; what went out
+   is counted. ANSWERED, NOT_ANSWERED, or NOT_ASKED if there is no way, which is said then. */
+int send_until_answered(struct session *session, const struct task *task, long *sent);
+
+/* Makes the task's request in a session as many times as the task says, one after the other, each sent until it is answered or its
+   attempts are used, and prints what each answer says; the program's status. */
+int ask_clock(struct session *session, const struct task *task);
 
 /* Asks every clock and every port until two rounds bring no new answer, or the attempts are used, and prints what each answer
    says after the port that gave it; the program's status. */

@@ -56,7 +56,7 @@ static uint32_t handle(uint16_t port, const char *text) {
 
 /* The library is of this header's version, and has its structs. */
 static void header(void) {
-    size_t sizes[] = { 16, 216, 16, 88, 16, 12, 1476, 12, 16, 26, 16, 16, 10, 0 }, all = sizeof sizes / sizeof *sizes - 1;
+    size_t sizes[] = { 16, 216, 16, 88, 16, 12, 1476, 12, 16, 26, 16, 16, 10, 196616, 24, 0 }, all = sizeof sizes / sizeof *sizes - 1;
     check(ptpm_version() == PTPM_VERSION_NUMBER, "the version of the library");
     check(ptpm_header_agrees() == PTPM_STARTED && ptpm_sizes_agree(sizes, all) == PTPM_STARTED, "the sizes of the structs");
     check(ptpm_sizes_agree(sizes, all - 1) == PTPM_OTHER_SIZES && ptpm_sizes_agree(sizes, all + 1) == PTPM_OTHER_SIZES,
@@ -487,6 +487,21 @@ static void surveys(void) {
           "the port that gave it");
 }
 
+/* A table of a host, and a bucket. */
+static void tables(void) {
+    static struct ptpm_passed_on table = { .seed = 0x0102030405060708 };
+    struct ptpm_rate rate;
+    uint8_t octets[PTPM_MOST_OCTETS];
+    size_t size = octets_of(message(0x2a, MANAGER "0911", 0x1234, OTHER "ffff", 0x0503, PTPM_GET, "0001" "0002" "2005"), octets);
+    check(ptpm_passed_on_is_first(&table, octets, size, 100, 20) && !ptpm_passed_on_is_first(&table, octets, size, 119, 20)
+          && ptpm_passed_on_is_first(&table, octets, size, 120, 20) && table.seed == 0x0102030405060708, "what was passed on");
+    check(!ptpm_passed_on_is_first(&table, octets, size - 1, 200, 20), "what is no message is not passed on");
+    ptpm_rate_start(&rate, 2, 300);
+    check(rate.rate == 2 && rate.left == 2000 && rate.time == 300, "a full bucket");
+    check(ptpm_rate_take(&rate, 301) && ptpm_rate_take(&rate, 302) && !ptpm_rate_take(&rate, 303), "its tokens");
+    check(rate.rate == 2 && rate.left == 4 && rate.time == 303, "what is left");
+}
+
 static int has_name(uint32_t number, const char *name) {
     char text[PTPM_MOST_NAME];
     size_t size = ptpm_answer_name(number, text, sizeof text);
@@ -621,6 +636,7 @@ int main(void) {
     sessions();
     images();
     surveys();
+    tables();
     answer_names();
     names_in_types();
     error_names();

@@ -1,7 +1,7 @@
 #define _GNU_SOURCE
 #include "output.h"
-#include "bucket.h"
 #include "common.h"
+#include "ptpm.h"
 #include <errno.h>
 #include <pthread.h>
 #include <stdarg.h>
@@ -105,11 +105,12 @@ void say(const char *format, ...) {
 }
 
 void say_at_times(const char *format, ...) {
-    static struct bucket times;
+    static struct ptpm_rate times;
     static unsigned long beyond;
     va_list values;
-    if (times.rate == 0) times = full_bucket(TIMES_A_SECOND, milliseconds());
-    if (!take_token(&times, milliseconds())) {
+    uint64_t now = (uint64_t)milliseconds();
+    if (times.rate == 0) ptpm_rate_start(&times, TIMES_A_SECOND, now);
+    if (!ptpm_rate_take(&times, now)) {
         beyond++;
         return;
     }

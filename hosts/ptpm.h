@@ -10,7 +10,8 @@
    - What a pointer and its size name may be read, and if it is no const may be written. It stays the caller's, and the library
      keeps no pointer to it after the call. What a call may write lies apart from everything else that the call is
      given.
-   - One thread at a time is in a call with a handle. Calls with different handles may run side by side.
+   - One thread at a time is in a call with a handle, a table or a bucket. Calls with different ones may run side by
+     side.
    - A handle is all zeros before its first call. A start frees what the handle holds, and any other octets it takes for something
      to free. There is one live copy of a handle. The host may move it, and reads and writes nothing inside it.
    - malloc, realloc and free come from one allocator. malloc aligns each block to the greatest power of two up to 16 that divides
@@ -263,6 +264,21 @@ struct ptpm_source {
     uint16_t port;
 };
 
+/* Which messages were passed on last, 4,096 at most, about 197,000 octets. All zeros note none. The host then draws a seed, by which
+   nobody else can say where a message is noted, and writes nothing else inside it. */
+struct ptpm_passed_on {
+    uint64_t seed;
+    uint64_t places[4096][6];
+};
+
+/* A bucket of tokens: N a second, and what a second brings at once. ptpm_rate_start makes it, and the host writes nothing inside
+   it. */
+struct ptpm_rate {
+    uint64_t rate;                      /* tokens a second */
+    uint64_t left;                      /* thousandths of a token */
+    uint64_t time;                      /* the latest that it was asked at, in milliseconds */
+};
+
 /* No flag of the compiler may lay a struct out otherwise than the library has it. If one does, the compiler refuses an array with
    the name of the struct, since its size is negative. C99 has no static assertion. */
 #define PTPM_HAS_SIZE(name, size) typedef char name##_is_laid_out_otherwise[sizeof(struct name) == (size) ? 1 : -1]
@@ -279,6 +295,8 @@ PTPM_HAS_SIZE(ptpm_session_settings, 26);
 PTPM_HAS_SIZE(ptpm_survey, 16);
 PTPM_HAS_SIZE(ptpm_survey_settings, 16);
 PTPM_HAS_SIZE(ptpm_source, 10);
+PTPM_HAS_SIZE(ptpm_passed_on, 196616);
+PTPM_HAS_SIZE(ptpm_rate, 24);
 #undef PTPM_HAS_SIZE
 
 /* The most messages that a clock sends for a datagram. The most octets of a dataField of its own. The most octets of a message, its
@@ -573,7 +591,8 @@ static inline enum ptpm_started ptpm_header_agrees(void) {
         sizeof(struct ptpm_clock), sizeof(struct ptpm_clock_settings), sizeof(struct ptpm_port_settings),
         sizeof(struct ptpm_observed_clock), sizeof(struct ptpm_observed_port), sizeof(struct ptpm_manager_settings),
         sizeof(struct ptpm_sent), sizeof(struct ptpm_changed), sizeof(struct ptpm_session), sizeof(struct ptpm_session_settings),
-        sizeof(struct ptpm_survey), sizeof(struct ptpm_survey_settings), sizeof(struct ptpm_source)
+        sizeof(struct ptpm_survey), sizeof(struct ptpm_survey_settings), sizeof(struct ptpm_source), sizeof(struct ptpm_passed_on),
+        sizeof(struct ptpm_rate)
     };
     return ptpm_sizes_agree(sizes, sizeof sizes / sizeof *sizes);
 }
@@ -596,13 +615,13 @@ enum ptpm_started ptpm_clock_start(struct ptpm_clock *clock, const struct ptpm_c
                                    const struct ptpm_port_settings *ports, size_t port_count,
                                    const struct ptpm_manager_settings *managers, size_t manager_count);
 
-/* Does what ptpm_clock_start does, where this file is that of the library.
+/* Does what ptpm_clock_start does if this file is that of the library.
    Answers: what ptpm_clock_start answers; or PTPM_OTHER_SIZES, and then the handle holds what it held. */
-static inline enum ptpm_started ptpm_clock_start_sized(struct ptpm_clock *clock, const struct ptpm_clock_settings *settings,
-                                                       const struct ptpm_port_settings *ports, size_t port_count,
-                                                       const struct ptpm_manager_settings *managers, size_t manager_count) {
+static inline enum ptpm_started ptpm_clock_start_sized(struct ptpm_clock *handle, const struct ptpm_clock_settings *settings,
+                                                       const struct ptpm_port_settings *of_ports, size_t all_ports,
+                                                       const struct ptpm_manager_settings *of_managers, size_t all_managers) {
     enum ptpm_started answer = ptpm_header_agrees();
-    return answer != PTPM_STARTED ? answer : ptpm_clock_start(clock, settings, ports, port_count, managers, manager_count);
+    return answer != PTPM_STARTED ? answer : ptpm_clock_start(handle, settings, of_ports, all_ports, of_managers, all_managers);
 }
 
 /* Judges a datagram that came in at a port, carries its request out, and makes what is to be sent.
@@ -647,12 +666,12 @@ void ptpm_clock_stop(struct ptpm_clock *clock);
    Owed:    the caller stops the session. */
 enum ptpm_started ptpm_session_start(struct ptpm_session *session, const struct ptpm_session_settings *settings);
 
-/* Does what ptpm_session_start does, where this file is that of the library.
+/* Does what ptpm_session_start does if this file is that of the library.
    Answers: what ptpm_session_start answers; or PTPM_OTHER_SIZES, and then the handle holds what it held. */
-static inline enum ptpm_started ptpm_session_start_sized(struct ptpm_session *session,
+static inline enum ptpm_started ptpm_session_start_sized(struct ptpm_session *handle,
                                                          const struct ptpm_session_settings *settings) {
     enum ptpm_started answer = ptpm_header_agrees();
-    return answer != PTPM_STARTED ? answer : ptpm_session_start(session, settings);
+    return answer != PTPM_STARTED ? answer : ptpm_session_start(handle, settings);
 }
 
 /* Begins a request, and lets the answer to the one before go.
@@ -725,11 +744,11 @@ void ptpm_session_stop(struct ptpm_session *session);
    Owed:    the caller stops the survey. */
 enum ptpm_started ptpm_survey_start(struct ptpm_survey *survey, const struct ptpm_survey_settings *settings);
 
-/* Does what ptpm_survey_start does, where this file is that of the library.
+/* Does what ptpm_survey_start does if this file is that of the library.
    Answers: what ptpm_survey_start answers; or PTPM_OTHER_SIZES, and then the handle holds what it held. */
-static inline enum ptpm_started ptpm_survey_start_sized(struct ptpm_survey *survey, const struct ptpm_survey_settings *settings) {
+static inline enum ptpm_started ptpm_survey_start_sized(struct ptpm_survey *handle, const struct ptpm_survey_settings *settings) {
     enum ptpm_started answer = ptpm_header_agrees();
-    return answer != PTPM_STARTED ? answer : ptpm_survey_start(survey, settings);
+    return answer != PTPM_STARTED ? answer : ptpm_survey_start(handle, settings);
 }
 
 /* Makes the message of the GET, the same each time.
@@ -761,6 +780,26 @@ enum ptpm_told ptpm_survey_answer(const struct ptpm_survey *survey, size_t place
 
 /* Ends what the handle holds, if it holds anything. The handle then holds nothing, and may be started again. */
 void ptpm_survey_stop(struct ptpm_survey *survey);
+
+/* Says whether a message is to be passed on, and notes it then. It is if none is noted that has its sourcePortIdentity, sequenceId,
+   targetPortIdentity, actionField and managementId, and there is a place to note it. So a message that comes round is passed on
+   once, and one that keeps coming once in each such time.
+   Takes:   the message, of size octets; a time; and for how long it is noted, in the unit of that time. Both are the host's.
+   Answers: whether it is to be passed on; false too for what is no management message.
+   Writes:  one of the places of *table, if it answers true. */
+bool ptpm_passed_on_is_first(struct ptpm_passed_on *table, const uint8_t *message, size_t size, uint64_t now, uint64_t time);
+
+/* Makes a full bucket of a number of tokens a second.
+   Takes:   how many; those over 1,000,000 do not count. And a time in milliseconds.
+   Writes:  all of *rate. */
+void ptpm_rate_start(struct ptpm_rate *rate, uint64_t tokens, uint64_t now);
+
+/* Takes a token from a bucket, if there is one. In any stretch of time it gives no more of them than a second's, and those that the
+   time has brought.
+   Takes:   a time in milliseconds. One that is before the latest counts as that.
+   Answers: whether there was one.
+   Writes:  *rate. */
+bool ptpm_rate_take(struct ptpm_rate *rate, uint64_t now);
 
 /* The number that ptpm_id_named answers if no id has the name, and how many octets a name has at most. */
 enum { PTPM_NO_ID = 65536, PTPM_MOST_NAME = 27 };

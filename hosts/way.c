@@ -107,7 +107,7 @@ static void find_unix(const struct task *task) {
 void find_way(struct task *task) {
     if (task->path != NULL) find_unix(task);
     else find_at_interface(task);
-    int is_nobodys = !task->is_numbered && (task->path != NULL || !task->is_survey);
+    int is_nobodys = !task->is_kept && (task->path != NULL || !task->is_survey);
     if (!task->has_manager && is_nobodys) task->settings.port = port_of_nobody(task->settings.port);
 }
 

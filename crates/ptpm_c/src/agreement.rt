@@ -7,12 +7,12 @@ ghost use Rattle.ptpm_c.specs.Sizes.{header_sizes};
 use crate::handle::Handle;
 use ptpm_data::ChangedMembers;
 use ptpm_host::{
-    ClockSettings, ManagerSettings, OTHER_SIZES, ObservedClock, ObservedPort, PortSettings, Sent,
-    SessionSettings, Source, SurveySettings, VERSION_NUMBER,
+    ClockSettings, ManagerSettings, OTHER_SIZES, ObservedClock, ObservedPort, PassedOn,
+    PortSettings, Rate, Sent, SessionSettings, Source, SurveySettings, VERSION_NUMBER,
 };
 
 /// The sizes of the structs of the header, in its order.
-const SIZES: [usize; 13] = [
+const SIZES: [usize; 15] = [
     size_of::<Handle>(),
     size_of::<ClockSettings>(),
     size_of::<PortSettings>(),
@@ -26,6 +26,8 @@ const SIZES: [usize; 13] = [
     size_of::<Handle>(),
     size_of::<SurveySettings>(),
     size_of::<Source>(),
+    size_of::<PassedOn>(),
+    size_of::<Rate>(),
 ];
 
 /// The version of this library, as a number.

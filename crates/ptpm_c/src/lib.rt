@@ -28,6 +28,7 @@ mod handle;
 mod keeping;
 mod kept;
 mod names;
+mod network;
 mod saving;
 mod session;
 mod survey;

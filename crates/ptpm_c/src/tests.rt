@@ -436,11 +436,13 @@ fn what_a_datagram_changes(rt: HostRuntime) {
 /// of one more.
 #[test]
 fn sizes_of_headers(rt: HostRuntime) {
-    let mut sizes = [16, 216, 16, 88, 16, 12, 1476, 12, 16, 26, 16, 16, 10, 0];
+    let mut sizes = [
+        16, 216, 16, 88, 16, 12, 1476, 12, 16, 26, 16, 16, 10, 196_616, 24, 0,
+    ];
     assert!(rt; ptpm_version() == 100);
-    assert!(rt; ptpm_sizes_agree(&sizes[..13]) == 0);
-    assert!(rt; ptpm_sizes_agree(&sizes[..12]) == 47);
+    assert!(rt; ptpm_sizes_agree(&sizes[..15]) == 0);
+    assert!(rt; ptpm_sizes_agree(&sizes[..14]) == 47);
     assert!(rt; ptpm_sizes_agree(&sizes) == 47);
     sizes[1] = 212;
-    assert!(rt; ptpm_sizes_agree(&sizes[..13]) == 47);
+    assert!(rt; ptpm_sizes_agree(&sizes[..15]) == 47);
 }

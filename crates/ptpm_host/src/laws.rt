@@ -1,4 +1,4 @@
-//! What holds of names. The law is the contract of a function that does nothing.
+//! What holds of names, of what is passed on, and of rates. Each law is the contract of a function that does nothing.
 
 ghost use Rattle.std.specs.Prelude.{◌≡◌, ◌≢◌, ◌≤◌, ◌++◌, ℕ, List, Some, codes, length};
 ghost use Rattle.ptpm_codec.specs.declared.error.ErrorId.{ErrorId};
@@ -18,6 +18,8 @@ ghost use Rattle.ptpm_host.specs.AnswerNames.{answer_name, reason_word, verdict_
 ghost use Rattle.ptpm_host.specs.ErrorNames.{error_name};
 ghost use Rattle.ptpm_host.specs.Names.{capitals, id_name};
 ghost use Rattle.ptpm_host.specs.Numbers.{begin_number, reason_number, restore_number, resume_number, values_number, verdict_number};
+ghost use Rattle.ptpm_host.specs.PassedOnLaw.{NotTwice};
+ghost use Rattle.ptpm_host.specs.RateLaw.{WithinRate};
 
 /// The number of a verdict, of a reason and of a refusal has its name, in words of capitals: `ANSWERED_NEW` for `AnsweredNew`;
 /// a malformed datagram the name of its cause. The number of a member has its name after `BAD_`. A managementErrorId that a
@@ -45,4 +47,14 @@ pub fn names_law()
     ensures error_size { (number : ℕ) (name : List ℕ)
         → error_name number ≡ Some name
         → length name ≤ 27 }
+{}
+
+/// A message that a table let through is not let through again within its time.
+pub fn passed_on_law()
+    ensures { NotTwice }
+{}
+
+/// A bucket gives no more tokens than a second's, and those that the time has brought.
+pub fn rate_law()
+    ensures { WithinRate }
 {}

@@ -11,7 +11,9 @@ mod laws;
 mod names;
 mod numbers;
 mod observing;
+mod passed_on;
 mod places;
+mod rate;
 mod reading;
 mod refusal;
 mod sent;
@@ -27,7 +29,7 @@ pub use answer_names::answer_name;
 pub use clock::{Handled, HostedClock, MOST_SENT};
 pub use error_names::error_name;
 pub use id_names::{NO_ID, id_name, id_named};
-pub use laws::names_law;
+pub use laws::{names_law, passed_on_law, rate_law};
 pub use names::hand_out_name;
 pub use numbers::{
     NO_CLOCK, NO_MEMORY, NO_ROOM, NO_SESSION, NO_SURVEY, OTHER_SIZES, begin_number, handle_number,
@@ -35,6 +37,8 @@ pub use numbers::{
     send_number, session_number, start_number, surveyed_number, told_number, verdict_number,
 };
 pub use observing::{ObservedClock, ObservedPort, left_number};
+pub use passed_on::{MessageKey, PassedOn, PassedOnPlace};
+pub use rate::Rate;
 pub use refusal::{
     HandleRefusal, ReadRefusal, ReportRefusal, SendRefusal, SessionRefusal, StartRefusal,
 };

@@ -1,8 +1,7 @@
 #define _GNU_SOURCE
-#include "number_file.h"
+#include "session_file.h"
 #include "asking.h"
 #include "common.h"
-#include "identity.h"
 #include "notices.h"
 #include <errno.h>
 #include <fcntl.h>
@@ -13,37 +12,32 @@
 #include <time.h>
 #include <unistd.h>
 
-enum { NAME = 256, DIGITS = 5, TURN = 60000, TRY_AGAIN = 10 };     /* the times in milliseconds */
-enum { OWNER = 2 * IDENTITY_TEXT + 8, LINE = DIGITS + OWNER + 2, NONE_KEPT = -1 };
+enum { NAME = 256, TURN = 60000, TRY_AGAIN = 10 };     /* the times in milliseconds */
 
-/* The file: its path as it was named, its name in its folder, and what is there. */
+/* The file: its path as it was named, and its name in its folder. */
 static const char *path;
 static int path_is_named;
 static char name[NAME], new_name[NAME], lock_name[NAME];
 static int folder = -1;
-static char owner[OWNER];               /* the session's: a blank, the manager, a blank, and the clock */
-static long kept = NONE_KEPT;           /* the number that the file has in the form of today */
 static struct stat before;              /* of the file that is replaced; st_nlink is 0 if there is none */
 
-const char *numbers_path(void) { return path; }
+const char *session_path(void) { return path; }
 
-/* What is in the way of the file. */
-_Noreturn static void refuse_file(const char *why) {
+_Noreturn void refuse_session_file(const char *why) {
     if (path_is_named) refuse("--numbers %s: %s", path, why);
     refuse("nothing was sent: %s: %s", path, why);
 }
 
-/* The place where the file is to be can't be used, as errno says. */
-_Noreturn static void refuse_place(void) {
-    if (path_is_named) refuse_file(strerror(errno));
-    refuse("the request was not sent: %s: %s; --numbers FILE keeps the numbers elsewhere", path, strerror(errno));
+_Noreturn void refuse_place(void) {
+    if (path_is_named) refuse_session_file(strerror(errno));
+    refuse("the request was not sent: %s: %s; --numbers FILE keeps the session elsewhere", path, strerror(errno));
 }
 
 static void open_folder(void) {
     char text[4096] = ".";
     const char *slash = strrchr(path, '/'), *last = slash == NULL ? path : slash + 1;
     size_t size = (size_t)(last - path);
-    if (*last == '\0' || strlen(last) + sizeof ".lock" > NAME || size >= sizeof text) refuse_file("no name of a file");
+    if (*last == '\0' || strlen(last) + sizeof ".lock" > NAME || size >= sizeof text) refuse_session_file("no name of a file");
     if (size > 0) {
         memcpy(text, path, size);
         text[size] = '\0';
@@ -97,7 +91,7 @@ static int stands_there(int lock) {
            && own.st_ino == found.st_ino;
 }
 
-/* Where no number is kept, as of a clock that is not there, no lock stays beside it. */
+/* If no session is kept, as with a clock that is not there, no lock stays either. */
 static void leave_nothing(void) {
     if (faccessat(folder, name, F_OK, AT_SYMLINK_NOFOLLOW) && errno == ENOENT) unlinkat(folder, lock_name, 0);
 }
@@ -116,39 +110,6 @@ static void take_turn(void) {
     if (atexit(leave_nothing)) refuse_place();
 }
 
-static void write_owner(const struct ptpm_session_settings *settings) {
-    char manager[IDENTITY_TEXT], clock[IDENTITY_TEXT];
-    write_identity(manager, settings->clock);
-    write_identity(clock, settings->target);
-    snprintf(owner, sizeof owner, " %s/%u %s", manager, settings->port, clock);
-}
-
-/* Whether a text names a manager and a clock, as this program writes them. */
-static int names_owner(const char *text) {
-    static const char decimals[] = "0123456789", hexadecimals[] = "0123456789abcdef";
-    if (text[0] != ' ' || strspn(text + 1, hexadecimals) != 16 || text[17] != '/') return 0;
-    size_t digits = strspn(text + 18, decimals);
-    const char *clock = text + 18 + digits;
-    return digits > 0 && digits <= DIGITS && clock[0] == ' ' && strspn(clock + 1, hexadecimals) == 16 && clock[17] == '\0';
-}
-
-/* Refuses what is neither a number alone nor this session's number; the number. */
-static uint16_t number_in(char *text) {
-    char digits[DIGITS + 1] = "";
-    size_t size = strspn(text, "0123456789");
-    if (size <= DIGITS) memcpy(digits, text, size);
-    long number = decimal(digits, UINT16_MAX);
-    const char *rest = text + size;
-    if (number < 0 || (*rest != '\0' && !names_owner(rest))) {
-        refuse_file("it holds no number from 0 to 65535, alone or with its manager and its clock; without it a new session begins");
-    }
-    if (*rest != '\0' && strcmp(rest, owner) != 0) {
-        refuse("nothing was asked: OTHER_SESSION: %s has the numbers of manager and clock%s, and not of%s", path, rest, owner);
-    }
-    if (*rest != '\0') kept = number;
-    return (uint16_t)number;
-}
-
 /* Gives the new file the owner of the old one, as far as this user may, and its mode; whether it has that. */
 static int is_like_before(int at) {
     if (before.st_nlink == 0) return 1;
@@ -156,56 +117,63 @@ static int is_like_before(int at) {
     return fchmod(at, before.st_mode & 0777) == 0;
 }
 
-static int is_whole(int at, const char *text, size_t size) {
-    ssize_t written = write(at, text, size);
+static int is_whole(int at, const uint8_t *octets, size_t size) {
+    ssize_t written = write(at, octets, size);
     if (written >= 0 && (size_t)written < size) errno = ENOSPC;
     return written == (ssize_t)size;
 }
 
 /* Writes the file that is to replace the old one; whether it could. */
-static int writes_new(uint16_t number) {
-    char text[LINE + 1];
-    int size = snprintf(text, sizeof text, "%u%s\n", number, owner);
+static int writes_new(const uint8_t *octets, size_t size) {
     unlinkat(folder, new_name, 0);
     int at = openat(folder, new_name, O_WRONLY | O_CREAT | O_EXCL | O_NOFOLLOW | O_CLOEXEC, 0666);
-    return at >= 0 && is_like_before(at) && is_whole(at, text, (size_t)size) && fsync(at) == 0 && close(at) == 0;
+    return at >= 0 && is_like_before(at) && is_whole(at, octets, size) && fsync(at) == 0 && close(at) == 0;
 }
 
-_Noreturn static void refuse_writing(void) {
+static void remove_new(void) {
     int failure = errno;
     unlinkat(folder, new_name, 0);
     errno = failure;
-    refuse_place();
 }
 
-int open_numbers(const char *at_path, int is_named, struct ptpm_session_settings *settings) {
-    char text[LINE + 2];        /* an octet too many, and the end */
+/* Whether there is room for a session. */
+static void see_to_room(void) {
+    static const uint8_t octets[PTPM_SESSION_IMAGE_OCTETS];
+    int is_written = writes_new(octets, sizeof octets);
+    remove_new();
+    if (!is_written) refuse_place();
+}
+
+/* Reads up to so many octets; how many there are. */
+static size_t read_whole(int at, uint8_t *octets, size_t most) {
+    size_t size = 0;
+    for (ssize_t found = 1; found > 0 && size < most; size += (size_t)found) {
+        found = read(at, octets + size, most - size);
+        if (found < 0) refuse_place();
+    }
+    return size;
+}
+
+int open_session_file(const char *at_path, int is_named, uint8_t octets[MOST_IN_FILE], size_t *size) {
     path = at_path;
     path_is_named = is_named;
-    write_owner(settings);
     open_folder();
     take_turn();
     int at = openat(folder, name, O_RDONLY | O_NOFOLLOW | O_NONBLOCK | O_CLOEXEC);
     if (at < 0 && errno == ENOENT) {
-        if (!writes_new(0)) refuse_writing();
-        unlinkat(folder, new_name, 0);
+        see_to_room();
         return 0;
     }
-    if (at < 0 && errno == ELOOP) refuse_file("it is a link");
+    if (at < 0 && errno == ELOOP) refuse_session_file("it is a link");
     if (at < 0 || fstat(at, &before)) refuse_place();
-    if (!S_ISREG(before.st_mode)) refuse_file("it is no file");
-    ssize_t size = read(at, text, sizeof text - 1);
-    if (size < 0) refuse_place();
+    if (!S_ISREG(before.st_mode)) refuse_session_file("it is no file");
+    *size = read_whole(at, octets, MOST_IN_FILE);
     close(at);
-    if (size > 0 && text[size - 1] == '\n') size--;
-    text[size] = '\0';
-    if (strlen(text) != (size_t)size) *text = '\0';     /* an octet of zero is no part of a text */
-    settings->first = number_in(text);
     return 1;
 }
 
-void keep_number(uint16_t number) {
-    if (kept == number) return;
-    if (!writes_new(number) || renameat(folder, new_name, folder, name) || fsync(folder)) refuse_writing();
-    kept = number;
+int write_session_file(const uint8_t *octets, size_t size) {
+    if (writes_new(octets, size) && renameat(folder, new_name, folder, name) == 0 && fsync(folder) == 0) return 1;
+    remove_new();
+    return 0;
 }
