@@ -549,7 +549,14 @@ CALLS: Dict[str, Tuple[Any, List[Any]]] = {
     "ptpm_port_defaults": (None, [POINTER(ptpm_port_settings)]),
     "ptpm_clock_start": (
         c_uint32,
-        [POINTER(ptpm_clock), POINTER(ptpm_clock_settings), POINTER(ptpm_port_settings), c_size_t, POINTER(ptpm_manager_settings), c_size_t],
+        [
+            POINTER(ptpm_clock),
+            POINTER(ptpm_clock_settings),
+            POINTER(ptpm_port_settings),
+            c_size_t,
+            POINTER(ptpm_manager_settings),
+            c_size_t,
+        ],
     ),
     "ptpm_clock_handle": (
         c_uint32,

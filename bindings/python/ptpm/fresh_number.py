@@ -8,7 +8,7 @@ import os
 import time
 from dataclasses import dataclass, replace
 from enum import Enum, auto
-from typing import List, Optional, Tuple
+from typing import Callable, List, Tuple
 
 from . import _header as header
 from .answers import Error
@@ -16,7 +16,6 @@ from .asking import NoAnswer, first_answered, next_message, send_out
 from .identity import PortIdentity
 from .ids import Action
 from .nobody import draw, nobody
-from .numbers import NumberFile
 from .requests import Requests, SessionSettings
 from .transport import Transport
 
@@ -117,15 +116,15 @@ def _of_four(question: Question, way: Transport) -> Tuple[_Finding, int]:
     return finding, number
 
 
-def find(question: Question, way: Transport, numbers: Optional[NumberFile]) -> int:
-    """The number after one that is new: the session's own, or one of four if it has none."""
+def find(question: Question, way: Transport, keep: Callable[[int], None]) -> int:
+    """The number after one that is new: the session's own, or one of four if it has none. The number after the session's own is
+    kept first: that one is then used up."""
     number = question.settings.first
     is_kept = number is not None
     if number is None:
         finding, number = _of_four(question, way)
     else:
-        if numbers is not None:
-            numbers.keep((number + 2) % 65536)
+        keep((number + 1) % 65536)
         finding = _ask_under(number, question, way, _EVERY)
     if finding is _Finding.SILENT:
         raise NoAnswer("no answer, and to no read either: the request itself was not sent", was_sent=False)
@@ -134,6 +133,4 @@ def find(question: Question, way: Transport, numbers: Optional[NumberFile]) -> i
         who = PortIdentity.of(question.settings.manager)
         why = f"the clock answers reads, and drops {what} of manager {who}: the request itself was not sent"
         raise NoAnswer(why, was_sent=False)
-    if numbers is not None:
-        numbers.keep((number + 2) % 65536)
     return (number + 1) % 65536

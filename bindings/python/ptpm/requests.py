@@ -8,11 +8,12 @@ from typing import Optional
 
 from . import _header as header
 from ._library import Handle, library
-from .answers import Error, SessionAnswer, done, judged
+from .answers import SessionAnswer, done, judged
 from .clock import port_number
 from .identity import Identity, IdentityLike, PortIdentity, PortIdentityLike
 from .ids import Action, IdLike, id_of
 from .report import MOST_DATA, Report, told
+from .session_image import is_under_way
 from .settings import write_number, write_octets
 
 
@@ -128,8 +129,4 @@ class Requests(Handle):
 
     def is_busy(self) -> bool:
         """Whether a request is unanswered."""
-        try:
-            self.report()
-        except Error as error:
-            return error.number == header.PTPM_NO_REPORT and self.issued > 0
-        return False
+        return is_under_way(self.image())

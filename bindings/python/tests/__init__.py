@@ -17,7 +17,7 @@ MANAGER = "0011223344556677/1"
 
 
 class Folder(unittest.TestCase):
-    """A test with a folder of its own, which has the numbers of sessions too."""
+    """A test with a folder of its own, which has the files of sessions too."""
 
     def setUp(self) -> None:
         self.folder = tempfile.mkdtemp()
