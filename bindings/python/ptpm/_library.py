@@ -37,9 +37,12 @@ def _load() -> ctypes.CDLL:
 
 def _judge(library: ctypes.CDLL) -> None:
     """Refuses a library of another version, whose structs have other sizes."""
-    sizes = [ctypes.sizeof(struct) for struct in header.STRUCTS]
-    if hasattr(library, "ptpm_sizes_agree") and library.ptpm_sizes_agree((ctypes.c_size_t * len(sizes))(*sizes), len(sizes)) != 0:
-        raise ImportError(f"OTHER_SIZES: {_path()} is of version {library.ptpm_version()}, and this module of {header.PTPM_VERSION}")
+    if not hasattr(library, "ptpm_sizes_agree"):
+        return
+    sizes = (ctypes.c_size_t * len(header.STRUCTS))(*map(ctypes.sizeof, header.STRUCTS))
+    if library.ptpm_sizes_agree(sizes, len(sizes)) != 0:
+        versions = f"version {library.ptpm_version()}, and this module of {header.PTPM_VERSION_NUMBER}"
+        raise ImportError(f"OTHER_SIZES: {_path()} is of {versions}")
 
 
 library = _load()
