@@ -1,6 +1,6 @@
-//! The library that the crate links. Where PTPM_LIB_DIR names a folder, it is the `libptpm.a` there, as `make -C hosts install` puts
+//! The library that the crate links. If PTPM_LIB_DIR names a folder, it is the `libptpm.a` there, as `make -C hosts install` puts
 //! it. Else it is put together from the assembly in `dist/` of this repository, by the C compiler of the target: `CC` with the
-//! target's name behind it (`CC_aarch64_unknown_linux_gnu`), `CC`, or the usual one.
+//! target's name after it (`CC_aarch64_unknown_linux_gnu`), `CC`, or the usual one.
 
 use std::env;
 use std::path::{Path, PathBuf};
@@ -9,15 +9,22 @@ use std::process::Command;
 fn main() {
     println!("cargo:rerun-if-env-changed=PTPM_LIB_DIR");
     let folder = match env::var_os("PTPM_LIB_DIR") {
-        Some(folder) => PathBuf::from(folder),
+        Some(folder) => named(PathBuf::from(folder)),
         None => assembled(),
     };
-    println!("cargo:rerun-if-changed={}", folder.join("libptpm.a").display());
     println!("cargo:rustc-link-search=native={}", folder.display());
     println!("cargo:rustc-link-lib=static=ptpm");
 }
 
-/// Makes `libptpm.a` of the assembly for the target. The folder where it stands.
+/// The folder of a library that is there. A later one in its place is linked anew.
+fn named(folder: PathBuf) -> PathBuf {
+    let library = folder.join("libptpm.a");
+    assert!(library.exists(), "PTPM_LIB_DIR: there is no {}", library.display());
+    println!("cargo:rerun-if-changed={}", library.display());
+    folder
+}
+
+/// Makes `libptpm.a` of the assembly for the target. The folder that it is in.
 fn assembled() -> PathBuf {
     let top = Path::new(&variable("CARGO_MANIFEST_DIR")).join("../..");
     let folder = PathBuf::from(variable("OUT_DIR"));

@@ -1,4 +1,5 @@
-"""PTP management (IEEE 1588-2019, clause 15) over the shared library libptpm: an agent of one clock, a manager's session, and a survey.
+"""PTP management (IEEE 1588-2019, clause 15) over the shared library libptpm: an agent of one clock, a manager's session, and a
+survey.
 
 What does a ptp4l of this machine say?
 
@@ -8,8 +9,8 @@ What does a ptp4l of this machine say?
         for report in ptpm.survey(way, "DEFAULT_DATA_SET"):
             print(report.source, report.members["priority1"])
 
-The calls take no thread and no socket of their own. They are not made from a signal handler that comes in while one is made, nor in a
-forked child of a process with threads.
+The calls take no thread and no socket of their own. They are not made from a signal handler that comes in while one is made, nor
+in a forked child of a process with threads.
 """
 
 from ._header import PTPM_VERSION as __version__
@@ -21,19 +22,21 @@ from .identity import Identity, PortIdentity
 from .ids import Action, ManagementId, error_name, id_name, id_of
 from .members import data_field, members
 from .nobody import ask_as_nobody, get
-from .numbers import NumberFile, NumberFileError, usual_path
 from .observation import ObservedClock, ObservedGrandmaster, ObservedPort
+from .passing import PassedOn, Rate
 from .report import Report
 from .requests import Requests, SessionSettings
 from .session import Session
+from .session_file import SessionFile, SessionFileError, usual_path
 from .settings import ClockSettings, DelayMechanism, Manager, PortSettings, PortState, Rights, time_interval
 from .survey import Survey, SurveySettings, survey
 from .transport import Transport, UdpTransport, UnixTransport
 
 __all__ = [
-    "Action", "Changed", "Clock", "ClockMembers", "ClockSettings", "DelayMechanism", "Error", "HandleAnswer", "Handled", "Identity",
-    "ManagementId", "Manager", "NoAnswer", "NumberFile", "NumberFileError", "ObservedClock", "ObservedGrandmaster", "ObservedPort",
-    "PortIdentity", "PortMembers", "PortSettings", "PortState", "Report", "Requests", "Rights", "Session", "SessionAnswer",
-    "SessionSettings", "Survey", "SurveyAnswer", "SurveySettings", "Transport", "UdpTransport", "UnixTransport", "__version__",
-    "answer_name", "ask_as_nobody", "data_field", "error_name", "get", "id_name", "id_of", "members", "survey", "time_interval", "usual_path",
+    "__version__", "Action", "answer_name", "ask_as_nobody", "Changed", "Clock", "ClockMembers", "ClockSettings", "data_field",
+    "DelayMechanism", "Error", "error_name", "get", "HandleAnswer", "Handled", "id_name", "id_of", "Identity", "ManagementId",
+    "Manager", "members", "NoAnswer", "ObservedClock", "ObservedGrandmaster", "ObservedPort", "PassedOn", "PortIdentity",
+    "PortMembers", "PortSettings", "PortState", "Rate", "Report", "Requests", "Rights", "Session", "SessionAnswer",
+    "SessionFile", "SessionFileError", "SessionSettings", "Survey", "survey", "SurveyAnswer", "SurveySettings", "time_interval",
+    "Transport", "UdpTransport", "UnixTransport", "usual_path",
 ]

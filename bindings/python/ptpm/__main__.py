@@ -13,10 +13,10 @@ from .identity import Identity, PortIdentity
 from .ids import Action, ManagementId, id_of
 from .members import data_field, has_one_member, takes_no_value
 from .nobody import ask_as_nobody
-from .numbers import NumberFile, NumberFileError
 from .report import Report
 from .requests import Requests, SessionSettings
 from .session import Session
+from .session_file import SessionFile, SessionFileError
 from .survey import survey
 from .transport import Transport, UdpTransport, UnixTransport
 
@@ -44,7 +44,7 @@ def _parser() -> argparse.ArgumentParser:
     add = parser.add_argument
     add("verb", choices=["get", "set", "command", "survey"])
     add("id", help="a managementId by its name, or four hexadecimal digits")
-    add("value", nargs="?", help="of set: as the answer prints it, or the dataField in hexadecimal")
+    add("value", nargs="?", help="of set: what the answer prints, or the dataField in hexadecimal")
     add("-i", "--interface", metavar="NAME", help="over UDP port 320 at this interface")
     add("--ipv6", action="store_true", help="with IPv6")
     add("--udp", metavar="ADDRESS", help="over UDP to this address")
@@ -55,6 +55,7 @@ def _parser() -> argparse.ArgumentParser:
     add("-b", "--hops", type=_number(0, 255), default=1, help="boundary clocks that pass the request on")
     add("-m", "--manager", metavar="IDENTITY-PORT", help="the manager's own identity")
     add("-k", "--numbers", metavar="FILE", help="the file of the manager's session with the clock")
+    add("--give-up", action="store_true", help="lets the request of an earlier run go that had no answer")
     add("-w", "--wait", type=_number(0, 100000), default=3000, help="milliseconds before a new session asks")
     add("-a", "--attempts", type=_number(1, 255), default=30)
     add("-t", "--timeout", type=_number(1, 100000), default=200, help="milliseconds for each answer")
@@ -91,7 +92,7 @@ class Task:
         words = self.words
         if text is None:
             if self.action == Action.SET and not takes_no_value(self.id):
-                raise ValueError(f"set {words.id}: it takes a value behind it")
+                raise ValueError(f"set {words.id}: it takes a value after it")
             return b""
         if self.action is None:
             raise ValueError(f"survey {words.id}: it takes no value")
@@ -109,7 +110,7 @@ class Task:
         if words.unix is None and words.interface is None and words.udp is None:
             raise ValueError("the way to the clock is missing: --interface NAME, --udp ADDRESS or --unix PATH")
         if words.unix is not None and (words.interface is not None or words.udp is not None or words.ipv6):
-            raise ValueError("--unix stands without --interface, --udp and --ipv6")
+            raise ValueError("--unix is without --interface, --udp and --ipv6")
         if self.action is None and self.target is not None:
             raise ValueError("survey asks every clock: it takes no --target")
         if self.action is not None and self.target is None:
@@ -127,26 +128,40 @@ class Task:
         by_one_manager = words.manager is not None or words.numbers is not None
         return self.action is not None and (by_one_manager or (words.unix is None and self.action != Action.GET))
 
-    def ask(self) -> List[Report]:
-        """Asks, and answers what was answered."""
+    def ask(self) -> int:
+        """Asks, and prints what was answered; the status."""
         words = self.words
         seconds = words.timeout / 1000
         with self.way() as way:
             asked = {"domain": words.domain, "hops": words.hops, "attempts": words.attempts}
             if self.action is None or self.target is None:
-                return list(survey(way, self.id, manager=words.manager, timeout=seconds, **asked))
+                return _print(list(survey(way, self.id, manager=words.manager, timeout=seconds, **asked)), words.hexadecimal)
             manager = PortIdentity.of(words.manager) if words.manager is not None else PortIdentity(way.identity, 1)
             settings = SessionSettings(manager, self.target, **asked)
             if not self.is_numbered:
-                return [ask_as_nobody(way, settings, self.action, self.id, self.data, self.port, timeout=seconds)]
+                report = ask_as_nobody(way, settings, self.action, self.id, self.data, self.port, timeout=seconds)
+                return _print([report], words.hexadecimal)
             Requests(settings).begin(self.action, self.id, self.data, self.port)  # what is refused makes no file
-            with NumberFile(manager, self.target, words.numbers) as numbers:
-                is_new = numbers.number is None
-                with Session(settings, numbers, wait=words.wait / 1000) as session:
-                    report = session.ask(way, self.action, self.id, self.data, self.port, timeout=seconds)
+            with SessionFile(manager, self.target, words.numbers) as file:
+                is_new = file.octets is None
+                with Session(settings, file, wait=words.wait / 1000) as session:
+                    report = self._ask_in(session, way)
                     if is_new:
-                        _complain(f"{numbers.path} is new: the session begins at number {session.settings.first}")
-            return [report]
+                        _complain(f"{file.path} is new: the session begins at number {session.settings.first}")
+                    return _print([report], words.hexadecimal)  # and then it is kept without the request
+
+    def _ask_in(self, session: Session, way: Transport) -> Report:
+        words = self.words
+        assert self.action is not None
+        if words.give_up and session.is_under_way:
+            session.let_go()
+            _complain("the request of an earlier run is let go: a get shows whether it was carried out")
+        try:
+            return session.ask(way, self.action, self.id, self.data, self.port, timeout=words.timeout / 1000)
+        finally:
+            if session.earlier is not None:
+                _complain("a request of an earlier run had no answer yet, and was sent again:")
+                _complain(session.earlier)
 
 
 def _complain(what: object) -> None:
@@ -162,14 +177,17 @@ def _lines(report: Report, is_hexadecimal: bool) -> List[str]:
     return [lead + line for line in told]
 
 
+class _NotWritten(Exception):
+    """The answer could not be written to standard output. It is not known to be reported then."""
+
+
 def _print(reports: List[Report], is_hexadecimal: bool) -> int:
     try:
         for report in reports:
             print("\n".join(_lines(report, is_hexadecimal)))
         sys.stdout.flush()
     except OSError as error:
-        _complain(f"standard output could not be written: {error}")
-        return NOT_WRITTEN
+        raise _NotWritten(f"standard output could not be written: {error}") from error
     if not reports:
         _complain("no answer")
         return NOT_ANSWERED
@@ -180,8 +198,7 @@ def main(arguments: Optional[List[str]] = None) -> int:
     """Asks what a command line says; its status."""
     words = _parser().parse_intermixed_args(arguments)
     try:
-        task = Task(words)
-        reports = task.ask()
+        return Task(words).ask()
     except NoAnswer as error:
         may_be = error.was_sent and words.verb in ("set", "command")
         _complain(f"{error}{': the request may have been carried out' if may_be else ''}")
@@ -189,10 +206,12 @@ def main(arguments: Optional[List[str]] = None) -> int:
     except Error as error:
         _complain(f"nothing was asked: {error}")
         return NOT_ASKED
-    except (ValueError, OSError, NumberFileError) as error:
+    except _NotWritten as error:
+        _complain(error)
+        return NOT_WRITTEN
+    except (ValueError, OSError, SessionFileError) as error:
         _complain(error)
         return NOT_ASKED
-    return _print(reports, words.hexadecimal)
 
 
 if __name__ == "__main__":

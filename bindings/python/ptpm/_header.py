@@ -20,7 +20,7 @@ from ctypes import (
     c_void_p,
     sizeof,
 )
-from typing import Any, Dict, List, Tuple
+from typing import Any, Dict, List, Tuple, Type
 
 if sizeof(c_void_p) != 8 or sys.byteorder != "little":
     raise ImportError("ptpm is built for 64-bit little-endian processors alone")
@@ -116,6 +116,7 @@ PTPM_COMMAND = 3
 PTPM_MOST_SENT = 15
 PTPM_MOST_READ = 130
 PTPM_MOST_OCTETS = 1472
+PTPM_SESSION_IMAGE_OCTETS = 1478
 PTPM_MOST_ANSWERS = 512
 
 # Answers that several kinds of calls give.
@@ -139,6 +140,7 @@ PTPM_NO_MEMORY = 35
 PTPM_NO_SESSION = 37
 PTPM_IDLE = 43
 PTPM_NO_SURVEY = 46
+PTPM_OTHER_SIZES = 47
 PTPM_GRANDMASTER_DIFFERS = 50
 PTPM_BAD_CLOCK_ACCURACY = 70
 PTPM_BAD_LEAP59 = 88
@@ -147,6 +149,7 @@ PTPM_BAD_STATE = 94
 # enum ptpm_started.
 PTPM_STARTED = 0
 PTPM_START_NO_MEMORY = 35
+PTPM_START_OTHER_SIZES = 47
 PTPM_NO_PORTS = 48
 PTPM_TOO_MANY_PORTS = 49
 PTPM_START_GRANDMASTER_DIFFERS = 50
@@ -155,6 +158,8 @@ PTPM_MANAGER_TWICE = 52
 PTPM_MANAGER_IS_EVERY = 53
 PTPM_TARGET_IS_EVERY = 54
 PTPM_SAME_CLOCK = 55
+PTPM_IDENTITY_IS_ZERO = 56
+PTPM_TARGET_IS_ZERO = 57
 PTPM_BAD_IDENTITY = 64
 PTPM_BAD_USER_DESCRIPTION = 66
 PTPM_START_BAD_CLOCK_ACCURACY = 70
@@ -310,7 +315,21 @@ PTPM_REPORT_NO_SESSION = 37
 PTPM_NO_REPORT = 45
 PTPM_REPORT_NO_SURVEY = 46
 
-# What ptpm_id_named answers where no id has the name.
+# enum ptpm_saved.
+PTPM_SAVED = 0
+PTPM_SAVE_NO_ROOM = 34
+PTPM_SAVE_NO_SESSION = 37
+
+# enum ptpm_restored.
+PTPM_RESTORED = 0
+PTPM_RESTORE_NO_MEMORY = 35
+PTPM_NOT_AN_IMAGE = 104
+PTPM_OTHER_VERSION = 105
+PTPM_OTHER_KIND = 106
+PTPM_DAMAGED = 107
+PTPM_OTHER_SESSION = 110
+
+# What ptpm_id_named answers if no id has the name.
 PTPM_NO_ID = 65536
 
 # The greatest counts and sizes.
@@ -507,13 +526,37 @@ class ptpm_source(Structure):
     ]
 
 
+class ptpm_passed_on(Structure):
+    _fields_ = [
+        ("seed", c_uint64),
+        ("places", c_uint64 * 6 * 4096),
+    ]
+
+
+class ptpm_rate(Structure):
+    _fields_ = [
+        ("rate", c_uint64),
+        ("left", c_uint64),
+        ("time", c_uint64),
+    ]
+
+
 # What a call answers, and what it takes.
 CALLS: Dict[str, Tuple[Any, List[Any]]] = {
+    "ptpm_version": (c_uint32, []),
+    "ptpm_sizes_agree": (c_uint32, [POINTER(c_size_t), c_size_t]),
     "ptpm_clock_defaults": (None, [POINTER(ptpm_clock_settings)]),
     "ptpm_port_defaults": (None, [POINTER(ptpm_port_settings)]),
     "ptpm_clock_start": (
         c_uint32,
-        [POINTER(ptpm_clock), POINTER(ptpm_clock_settings), POINTER(ptpm_port_settings), c_size_t, POINTER(ptpm_manager_settings), c_size_t],
+        [
+            POINTER(ptpm_clock),
+            POINTER(ptpm_clock_settings),
+            POINTER(ptpm_port_settings),
+            c_size_t,
+            POINTER(ptpm_manager_settings),
+            c_size_t,
+        ],
     ),
     "ptpm_clock_handle": (
         c_uint32,
@@ -535,6 +578,8 @@ CALLS: Dict[str, Tuple[Any, List[Any]]] = {
     "ptpm_session_resume": (c_uint32, [POINTER(ptpm_session), c_uint8]),
     "ptpm_session_retune": (c_uint32, [POINTER(ptpm_session), c_uint8]),
     "ptpm_session_receive": (c_uint32, [POINTER(ptpm_session), c_char_p, c_size_t]),
+    "ptpm_session_image": (c_uint32, [POINTER(ptpm_session), POINTER(c_uint8), c_size_t, POINTER(c_size_t)]),
+    "ptpm_session_restore": (c_uint32, [POINTER(ptpm_session), POINTER(ptpm_session_settings), c_char_p, c_size_t]),
     "ptpm_session_issued": (c_uint64, [POINTER(ptpm_session)]),
     "ptpm_session_report": (c_uint32, [POINTER(ptpm_session), POINTER(c_uint8), c_size_t, POINTER(c_size_t), POINTER(c_uint16)]),
     "ptpm_session_stop": (None, [POINTER(ptpm_session)]),
@@ -547,8 +592,30 @@ CALLS: Dict[str, Tuple[Any, List[Any]]] = {
         [POINTER(ptpm_survey), c_size_t, POINTER(ptpm_source), POINTER(c_uint8), c_size_t, POINTER(c_size_t), POINTER(c_uint16)],
     ),
     "ptpm_survey_stop": (None, [POINTER(ptpm_survey)]),
+    "ptpm_passed_on_is_first": (c_bool, [POINTER(ptpm_passed_on), c_char_p, c_size_t, c_uint64, c_uint64]),
+    "ptpm_rate_start": (None, [POINTER(ptpm_rate), c_uint64, c_uint64]),
+    "ptpm_rate_take": (c_bool, [POINTER(ptpm_rate), c_uint64]),
     "ptpm_id_named": (c_uint32, [c_char_p, c_size_t]),
     "ptpm_id_name": (c_size_t, [c_uint16, POINTER(c_char), c_size_t]),
     "ptpm_answer_name": (c_size_t, [c_uint32, POINTER(c_char), c_size_t]),
     "ptpm_error_name": (c_size_t, [c_uint16, POINTER(c_char), c_size_t]),
 }
+
+# The structs, in the order of the header.
+STRUCTS: List[Type[Structure]] = [
+    ptpm_clock,
+    ptpm_clock_settings,
+    ptpm_port_settings,
+    ptpm_observed_clock,
+    ptpm_observed_port,
+    ptpm_manager_settings,
+    ptpm_sent,
+    ptpm_changed,
+    ptpm_session,
+    ptpm_session_settings,
+    ptpm_survey,
+    ptpm_survey_settings,
+    ptpm_source,
+    ptpm_passed_on,
+    ptpm_rate,
+]

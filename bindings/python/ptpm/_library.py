@@ -1,4 +1,4 @@
-"""The shared library, and the handles that it keeps what it holds behind."""
+"""The shared library, and its handles."""
 
 from __future__ import annotations
 
@@ -26,26 +26,38 @@ def _load() -> ctypes.CDLL:
     try:
         library = ctypes.CDLL(_path())
     except OSError as error:
-        raise ImportError(f"{error}: PTPM_LIBRARY names libptpm.so.0, where the loader does not find it") from error
+        raise ImportError(f"{error}: the environment's PTPM_LIBRARY names libptpm.so.0 if the loader does not find it") from error
     for name, (answer, taken) in header.CALLS.items():
-        call = getattr(library, name)
-        call.restype = answer
-        call.argtypes = taken
+        call = getattr(library, name, None)  # an older library lacks some: only they are missing then
+        if call is not None:
+            call.restype, call.argtypes = answer, taken
+    _judge(library)
     return library
+
+
+def _judge(library: ctypes.CDLL) -> None:
+    """Refuses a library of another version, whose structs have other sizes."""
+    if not hasattr(library, "ptpm_sizes_agree"):
+        return
+    sizes = (ctypes.c_size_t * len(header.STRUCTS))(*map(ctypes.sizeof, header.STRUCTS))
+    if library.ptpm_sizes_agree(sizes, len(sizes)) != 0:
+        versions = f"version {library.ptpm_version()}, and this module of {header.PTPM_VERSION_NUMBER}"
+        raise ImportError(f"OTHER_SIZES: {_path()} is of {versions}")
 
 
 library = _load()
 
 
 def name_by(call: Callable[..., int], number: int) -> str:
-    """The name that a call of the library has for a number; an empty one where it has none."""
+    """The name that a call of the library has for a number; an empty one if it has none."""
     text = ctypes.create_string_buffer(header.PTPM_MOST_NAME)
     size = call(number, text, len(text))
     return text.raw[:size].decode("ascii")
 
 
 class Handle:
-    """What owns a handle of the library: all zeros before its first call, one live copy, and one thread at a time in a call with it."""
+    """What owns a handle of the library: all zeros before its first call, one live copy, and one thread at a time in a call with
+    it."""
 
     def __init__(self, kind: Type[ctypes.Structure], stop: Callable[..., None]) -> None:
         self._handle = kind()
@@ -59,7 +71,7 @@ class Handle:
             return int(call(self._at, *words))
 
     def close(self) -> None:
-        """Stops what the handle holds. A call behind it is refused, as of a handle that holds nothing."""
+        """Stops what the handle holds. A later call is refused: the handle holds nothing."""
         with self._turn:
             self._stop(self._at)
 

@@ -9,7 +9,7 @@ from ._library import library, name_by
 
 
 def answer_name(number: int) -> str:
-    """The name of the number that a call answered, as NO_ROOM; the number where it has none."""
+    """The name of the number that a call answered, such as NO_ROOM, or the number if it has none."""
     return name_by(library.ptpm_answer_name, number) or str(number)
 
 

@@ -13,8 +13,8 @@ from .transport import Transport
 
 
 class NoAnswer(Exception):
-    """A clock did not answer. `was_sent` says whether the request itself was sent: a SET or a COMMAND may then have been carried out,
-    once."""
+    """A clock did not answer. `was_sent` says whether the request itself was sent: a SET or a COMMAND may then have been carried
+    out, once."""
 
     def __init__(self, what: str, *, was_sent: bool) -> None:
         super().__init__(what)
@@ -22,7 +22,7 @@ class NoAnswer(Exception):
 
 
 def next_message(session: Requests) -> Optional[bytes]:
-    """The message of the unanswered request; None where no attempts are left."""
+    """The message of the unanswered request, or None if no attempts are left."""
     try:
         return session.send()
     except Error as error:
@@ -32,7 +32,7 @@ def next_message(session: Requests) -> Optional[bytes]:
 
 
 def send_out(way: Transport, message: bytes, sent: int) -> int:
-    """Sends a message; how many are sent with it. Where there is no way, and none was sent before, going on has no sense."""
+    """Sends a message, and counts it. If there is no way, and none was sent before, going on has no sense."""
     try:
         return sent + way.send(message)
     except OSError:
@@ -42,7 +42,7 @@ def send_out(way: Transport, message: bytes, sent: int) -> int:
 
 
 def first_answered(sessions: Sequence[Requests], way: Transport, until: float) -> Optional[int]:
-    """Which of these sessions is answered first before a time; None where none is."""
+    """Which of these sessions is answered first before a time, or None if none is."""
     while True:
         datagram = way.receive(until)
         if datagram is None:

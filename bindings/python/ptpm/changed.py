@@ -59,7 +59,7 @@ class PortMembers(IntFlag):
 
 @dataclass(frozen=True)
 class Changed:
-    """Which members have another value behind a datagram than before it: of the clock, and of port 1, port 2 and so on."""
+    """Which members have another value after a datagram than before it: of the clock, and of port 1, port 2 and so on."""
 
     clock: ClockMembers
     ports: Tuple[PortMembers, ...]

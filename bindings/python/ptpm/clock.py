@@ -25,7 +25,7 @@ class Handled:
 
 
 def _array(kind: Any, places: Sequence[Any]) -> Any:
-    """Places of C behind each other, for a pointer that is never null."""
+    """An array of C. It has a place at least, so that its pointer is never null."""
     return (kind * max(len(places), 1))(*places)
 
 
@@ -64,9 +64,10 @@ class Clock(Handle):
         count = ctypes.c_size_t()
         changed = header.ptpm_changed()
         datagram = bytes(octets)
-        words = (port_number(port), datagram, len(datagram), self._sent, len(self._sent), ctypes.byref(count), ctypes.byref(changed))
+        came_in = (port_number(port), datagram, len(datagram))
         with self._turn:
-            answer = judged(library.ptpm_clock_handle_changed(self._at, *words))
+            room = (self._sent, len(self._sent), ctypes.byref(count), ctypes.byref(changed))
+            answer = judged(library.ptpm_clock_handle_changed(self._at, *came_in, *room))
             messages = [(sent.port, bytes(memoryview(sent.octets)[: sent.size])) for sent in self._sent[: count.value]]
         return Handled(HandleAnswer(answer), messages, Changed.of_library(changed))
 

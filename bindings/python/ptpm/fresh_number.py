@@ -1,6 +1,6 @@
-"""A number that is new to a clock. What is asked under a number that was used before is answered by what the clock kept, or not at all. So
-a session first asks, under its number, a GET with octets that it draws: they are part of what makes a repeat, and the clock ignores
-them otherwise. It is answered where the number is new, and never by an answer that was kept."""
+"""A number that is new to a clock. What is asked under a number that was used before is answered by what the clock kept, or not
+at all. So a session first asks, under its number, a GET with octets that it draws: they are part of what makes a repeat, and the
+clock ignores them otherwise. It is answered if the number is new, and never by an answer that was kept."""
 
 from __future__ import annotations
 
@@ -8,7 +8,7 @@ import os
 import time
 from dataclasses import dataclass, replace
 from enum import Enum, auto
-from typing import List, Optional, Tuple
+from typing import Callable, List, Tuple
 
 from . import _header as header
 from .answers import Error
@@ -16,15 +16,14 @@ from .asking import NoAnswer, first_answered, next_message, send_out
 from .identity import PortIdentity
 from .ids import Action
 from .nobody import draw, nobody
-from .numbers import NumberFile
 from .requests import Requests, SessionSettings
 from .transport import Transport
 
-# Of four numbers so far apart at least one is new, whatever the latest of this manager is.
+# Of four numbers this far apart at least one is new, whatever the latest of this manager is.
 _APART = 16384
 _NUMBERS = 4
 
-# So many answers to reads, and none to the question beside them, tell that its number is not new.
+# This many answers to reads, and none to the question beside them, say that its number is not new.
 _ENOUGH = 5
 _EVERY = 255
 
@@ -37,8 +36,8 @@ class _Finding(Enum):
 
 @dataclass(frozen=True)
 class Question:
-    """Before which request it is asked, in seconds how long each answer is waited for, and how long a session without a number waits
-    first."""
+    """Before which request it is asked, in seconds how long each answer is waited for, and how long a session without a number
+    waits first."""
 
     settings: SessionSettings
     id: int
@@ -48,8 +47,8 @@ class Question:
 
 
 def _what(question: Question) -> Tuple[int, int]:
-    """What is asked, and of how many octets: DEFAULT_DATA_SET, and for an id of a port PORT_DATA_SET, since some clocks answer alone
-    where the port is named. A GET with as many octets as the data set has is taken by each clock, also by one that looks at how
+    """What is asked, and of how many octets: DEFAULT_DATA_SET, and for an id of a port PORT_DATA_SET, since some clocks answer only
+    if the port is named. A GET with as many octets as the data set has is taken by each clock, also by one that looks at how
     many they are."""
     probe = Requests(question.settings)
     try:
@@ -105,8 +104,8 @@ def _let_in(way: Transport, wait: float) -> None:
 
 
 def _of_four(question: Question, way: Transport) -> Tuple[_Finding, int]:
-    """A number of four that is new: the one that was tried last. The first is drawn, since an answer to an earlier session, and one to
-    a session of the same manager beside this one, would count as one to this where it has the same number."""
+    """A number of four that is new: the one that was tried last. The first is drawn, since an answer to an earlier session, and
+    one to a session of the same manager beside this one, would count as one to this if it has the same number."""
     first = draw()
     _let_in(way, question.wait)
     for k in range(_NUMBERS):
@@ -117,22 +116,21 @@ def _of_four(question: Question, way: Transport) -> Tuple[_Finding, int]:
     return finding, number
 
 
-def find(question: Question, way: Transport, numbers: Optional[NumberFile]) -> int:
-    """The number behind one that is new: the session's own, or one of four where it has none."""
+def find(question: Question, way: Transport, keep: Callable[[int], None]) -> int:
+    """The number after one that is new: the session's own, or one of four if it has none. The number after the session's own is
+    kept first: that one is then used up."""
     number = question.settings.first
     is_kept = number is not None
     if number is None:
         finding, number = _of_four(question, way)
     else:
-        if numbers is not None:
-            numbers.keep((number + 2) % 65536)
+        keep((number + 1) % 65536)
         finding = _ask_under(number, question, way, _EVERY)
     if finding is _Finding.SILENT:
         raise NoAnswer("no answer, and to no read either: the request itself was not sent", was_sent=False)
     if finding is _Finding.NOT_NEW:
         what = f"number {number}" if is_kept else "each of four numbers"
         who = PortIdentity.of(question.settings.manager)
-        raise NoAnswer(f"the clock answers reads, and drops {what} of manager {who}: the request itself was not sent", was_sent=False)
-    if numbers is not None:
-        numbers.keep((number + 2) % 65536)
+        why = f"the clock answers reads, and drops {what} of manager {who}: the request itself was not sent"
+        raise NoAnswer(why, was_sent=False)
     return (number + 1) % 65536

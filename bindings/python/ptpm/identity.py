@@ -38,11 +38,11 @@ class Identity:
             return cls(bytes.fromhex(identity))
         if _POINTED.fullmatch(identity):
             return cls(bytes.fromhex(identity.replace(".", "")))
-        raise ValueError(f"{identity!r} is no identity, as aabbccfffeddee01 or aabbcc.fffe.ddee01")
+        raise ValueError(f"{identity!r} is no identity, such as aabbccfffeddee01 or aabbcc.fffe.ddee01")
 
     @classmethod
     def of_mac(cls, mac: bytes) -> Identity:
-        """The identity that a MAC makes: fffe stands in its middle."""
+        """The identity that a MAC makes: fffe is in its middle."""
         return cls(mac[:3] + b"\xff\xfe" + mac[3:])
 
     @property
@@ -57,7 +57,7 @@ class Identity:
 
 @dataclass(frozen=True, order=True)
 class PortIdentity:
-    """A portIdentity: a clock and the number of its port, as aabbccfffeddee01/1 or aabbcc.fffe.ddee01-1."""
+    """A portIdentity: a clock and the number of its port, such as aabbccfffeddee01/1 or aabbcc.fffe.ddee01-1."""
 
     clock: Identity
     port: int
@@ -69,7 +69,7 @@ class PortIdentity:
             return identity
         found = _PORT.fullmatch(identity)
         if found is None or int(found[2]) > 65535:
-            raise ValueError(f"{identity!r} is no identity of a port, as aabbccfffeddee01/1 or aabbcc.fffe.ddee01-1")
+            raise ValueError(f"{identity!r} is no identity of a port, such as aabbccfffeddee01/1 or aabbcc.fffe.ddee01-1")
         return cls(Identity.of(found[1]), int(found[2]))
 
     @property

@@ -65,10 +65,10 @@ def id_of(named: IdLike) -> int:
 
 
 def id_name(number: int) -> str:
-    """The standard's name of a managementId; four hexadecimal digits where this profile lacks it."""
+    """The standard's name of a managementId, or four hexadecimal digits if this profile lacks it."""
     return name_by(library.ptpm_id_name, number) or f"{number:04x}"
 
 
 def error_name(number: int) -> str:
-    """The standard's name of a managementErrorId (15.5.4.3, table 109); its number where it has none."""
+    """The standard's name of a managementErrorId (15.5.4.3, table 109), or its number if it has none."""
     return name_by(library.ptpm_error_name, number) or f"0x{number:04x}"

@@ -147,12 +147,12 @@ _WITHOUT_MEMBERS = (ManagementId.NULL_PTP_MANAGEMENT, ManagementId.ENABLE_PORT, 
 def _interval(scaled: int) -> Decimal:
     """A TimeInterval (5.3.2), in nanoseconds times 2^16, as nanoseconds with all digits of their fraction."""
     whole, fraction = divmod(abs(scaled), 65536)
-    digits = str(whole) + f"{fraction * 5**16:016d}"  # a part of 2^16 has sixteen digits behind the point
+    digits = str(whole) + f"{fraction * 5**16:016d}"  # a part of 2^16 has sixteen digits after the point
     return Decimal(f"{'-' if scaled < 0 else ''}{digits[:-16]}.{digits[-16:].rstrip('0') or '0'}")
 
 
 def _named(kind: Union[Type[PortState], Type[DelayMechanism]], number: int) -> int:
-    """The number as one that has a name, where it has one."""
+    """The number as one that has a name, if it has one."""
     try:
         return kind(number)
     except ValueError:
@@ -182,7 +182,7 @@ def _value(place: _Place, octets: bytes) -> Member:
 
 
 def _places(number: int, octets: bytes) -> Tuple[_Place, ...]:
-    """The members that a dataField has: none of an id without members here, or where it has another length than the id's."""
+    """The members that a dataField has: none if they are not known here, or if it has another length than the id's."""
     size, places = _FIELDS.get(number, (-1, ()))
     if size == 0 and octets:
         size = (octets[0] + 2) // 2 * 2
@@ -190,7 +190,7 @@ def _places(number: int, octets: bytes) -> Tuple[_Place, ...]:
 
 
 def members(number: int, octets: bytes) -> Dict[str, Member]:
-    """The members of a managementId's dataField; none where they are not known here, or it has another length than the id's.
+    """The members of a managementId's dataField: none if they are not known here, or if it has another length than the id's.
 
     >>> members(ManagementId.CURRENT_DATA_SET, bytes.fromhex("0001ffffffffffff80000000000000000001"))
     {'stepsRemoved': 1, 'offsetFromMaster': Decimal('-0.5'), 'meanDelay': Decimal('0.0000152587890625')}

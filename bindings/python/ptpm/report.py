@@ -26,7 +26,7 @@ class Report:
 
     @property
     def members(self) -> Dict[str, Member]:
-        """The members of the dataField by the standard's names; none where they are not known here."""
+        """The members of the dataField by the standard's names: none if they are not known here."""
         return members(self.id, self.octets)
 
     def __str__(self) -> str:

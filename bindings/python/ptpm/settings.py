@@ -45,12 +45,12 @@ class Rights(IntFlag):
 
 
 def time_interval(nanoseconds: float) -> int:
-    """The TimeInterval (5.3.2) of so many nanoseconds, which the members of a clock take: nanoseconds times 2^16."""
+    """The TimeInterval (5.3.2) of N nanoseconds, which the members of a clock take: N times 2^16."""
     return round(nanoseconds * 65536)
 
 
 def write_number(struct: ctypes.Structure, member: str, value: int) -> None:
-    """Writes a member, and refuses a value that does not fit it, where ctypes would cut it off."""
+    """Writes a member, and refuses a value that does not fit it. ctypes would cut it off."""
     setattr(struct, member, value)
     if getattr(struct, member) != value:
         raise OverflowError(f"{member} takes no {value}")
@@ -62,7 +62,7 @@ def write_octets(struct: ctypes.Structure, member: str, octets: bytes) -> None:
 
 
 def write_given(struct: ctypes.Structure, member: str, value: Optional[Any]) -> None:
-    """Writes a member that counts where its flag `has_` is set."""
+    """Writes a member that counts if its flag `has_` is set."""
     if value is None:
         return
     setattr(struct, f"has_{member}", 1)

@@ -18,14 +18,15 @@ from .report import MOST_DATA, Report, told
 from .settings import write_number, write_octets
 from .transport import Transport
 
-# So often nothing new ends a survey: where somebody answered, and where nobody did.
+# Rounds without a new answer that end a survey: if somebody answered, and if nobody did.
 _QUIET = 2
 _QUIET_AT_FIRST = 5
 
 
 @dataclass(frozen=True)
 class SurveySettings:
-    """One manager, and the GET that it sends to every clock and every port. Each survey gets a number that is not on its way any more."""
+    """One manager, and the GET that it sends to every clock and every port. Each survey gets a number that is not on its way any
+    more."""
 
     manager: PortIdentityLike
     number: int
@@ -67,7 +68,7 @@ class Survey(Handle):
         return bytes(room[: size.value])
 
     def receive(self, octets: bytes) -> SurveyAnswer:
-        """Judges a datagram that came in, and keeps it where it is the first answer of its port."""
+        """Judges a datagram that came in, and keeps it if it is the first answer of its port."""
         datagram = bytes(octets)
         return SurveyAnswer(judged(self._call(library.ptpm_survey_receive, datagram, len(datagram))))
 
@@ -100,8 +101,8 @@ def survey(
     attempts: int = 30,
     timeout: float = 0.2,
 ) -> Iterator[Report]:
-    """Asks every clock, and yields the answers as they come. It asks again until two times in a row bring no new answer, or five
-    where nobody has answered, and `attempts` times at most."""
+    """Asks every clock, and yields the answers as they come. It asks again until two rounds bring no new answer, or five if nobody
+    has answered, and `attempts` times at most."""
     who = PortIdentity.of(manager) if manager is not None else nobody(PortIdentity(way.identity, 1))
     with Survey(SurveySettings(who, draw(), named, domain, hops)) as asked:
         message = asked.send()

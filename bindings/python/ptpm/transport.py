@@ -1,5 +1,5 @@
-"""Ways to clocks, over sockets of the standard library: UDP at an interface (IEEE 1588-2019, annexes C and D), and a Unix socket of this
-machine, as that of ptp4l or of ptpm-clock."""
+"""Ways to clocks, over sockets of the standard library: UDP at an interface (IEEE 1588-2019, annexes C and D), and a Unix socket
+of this machine, as that of ptp4l or of ptpm-clock."""
 
 from __future__ import annotations
 
@@ -28,13 +28,13 @@ Address = Union[str, Tuple[str, int], Tuple[str, int, int, int]]
 
 
 class Transport:
-    """A way to clocks: a socket, and where it sends to. It is closed where its `with` ends."""
+    """A way to clocks: a socket, and the address that it sends to. It is closed when its `with` ends."""
 
     identity = Identity(bytes(8))
     """The clockIdentity that a manager has here by default."""
 
     is_local = False
-    """Whether it leads to clocks of this machine alone."""
+    """Whether it leads to clocks of this machine only."""
 
     def __init__(self, opened: socket.socket, to: Address) -> None:
         self._socket = opened
@@ -64,7 +64,7 @@ class Transport:
         return True
 
     def receive(self, until: float) -> Optional[bytes]:
-        """The next datagram, or None where none comes in before a time of time.monotonic()."""
+        """The next datagram, or None if none comes in before a time of time.monotonic()."""
         while True:
             left = until - time.monotonic()
             if left <= 0 or not select.select([self._socket], [], [], left)[0]:
@@ -153,7 +153,7 @@ def _opened(interface: str, family: socket.AddressFamily) -> socket.socket:
 
 class UnixTransport(Transport):
     """The Unix socket of a clock on this machine. Its own socket is beside it meanwhile: the path, a dot, and the number of the
-    process, with another number behind it where that is taken."""
+    process, with another number after it if that is taken."""
 
     is_local = True
 
@@ -175,7 +175,7 @@ class UnixTransport(Transport):
 
 
 def _bound_beside(opened: socket.socket, clock: str) -> str:
-    """Binds a socket beside a clock's, where the clock may write to it: it has the group of the clock's. Its path."""
+    """Binds a socket beside a clock's, and answers its path. It has the group of the clock's, so that the clock may write to it."""
     for number in itertools.count():
         own = f"{clock}.{os.getpid()}" + (f".{number}" if number else "")
         try:

@@ -17,7 +17,7 @@ MANAGER = "0011223344556677/1"
 
 
 class Folder(unittest.TestCase):
-    """A test with a folder of its own, where the numbers of sessions are too."""
+    """A test with a folder of its own, which has the files of sessions too."""
 
     def setUp(self) -> None:
         self.folder = tempfile.mkdtemp()
@@ -34,7 +34,7 @@ class Folder(unittest.TestCase):
             os.environ["XDG_STATE_HOME"] = before
 
     def run_until(self, path: str, words: List[str]) -> None:
-        """Runs a program until the test ends; it goes on where a socket stands at the path."""
+        """Runs a program until the test ends, and waits until it has a socket at the path."""
         program = subprocess.Popen(words, stdout=subprocess.DEVNULL, stderr=subprocess.DEVNULL)
         self.addCleanup(program.wait)
         self.addCleanup(program.terminate)

@@ -1,4 +1,4 @@
-"""Sessions over the agent of hosts/: what is reported, and what the file of numbers says. `make -C hosts` builds the programs."""
+"""Sessions over the agent of hosts/: what is reported, and what their file has. `make -C hosts` builds the programs."""
 
 from __future__ import annotations
 
@@ -78,66 +78,107 @@ class Asking(Folder):
             session.retune(0)
             self.assertEqual(session.go_on(self.way).members, {"priority1": 9})
 
-    def test_the_file_of_numbers_is_that_of_ptpm_manage(self) -> None:
+    def test_the_file_is_that_of_ptpm_manage(self) -> None:
         for value, asks in ((10, self.ask_with_file), (11, self.ask_by_manage), (12, self.ask_with_file), (13, self.ask_by_manage)):
             self.assertEqual(asks(value), value)
-        with open(ptpm.usual_path(MANAGER, CLOCK), encoding="ascii") as file:
-            number, rest = file.read().split(" ", 1)
-        self.assertEqual(rest, f"{MANAGER} {CLOCK}\n")
-        with self.session((int(number) - 1) % 65536) as session, self.assertRaises(ptpm.NoAnswer):
+        with ptpm.SessionFile(MANAGER, CLOCK) as file:
+            kept = ptpm.Session(ptpm.SessionSettings(MANAGER, CLOCK), file)
+        self.assertFalse(kept.is_under_way)
+        with self.session((kept.next_number - 1) % 65536) as session, self.assertRaises(ptpm.NoAnswer):
             session.ask(self.way, ptpm.Action.GET, "PRIORITY1", timeout=0.05)
 
     def ask_with_file(self, value: int) -> object:
-        with ptpm.NumberFile(MANAGER, CLOCK) as numbers:
-            with ptpm.Session(ptpm.SessionSettings(MANAGER, CLOCK), numbers, wait=0) as session:
-                return session.ask(self.way, ptpm.Action.SET, "PRIORITY1", value).members["priority1"]
+        with ptpm.SessionFile(MANAGER, CLOCK) as file:
+            with ptpm.Session(ptpm.SessionSettings(MANAGER, CLOCK), file, wait=0) as session:
+                return session.ask(self.way, ptpm.Action.SET, "PRIORITY1", value, timeout=1).members["priority1"]
+
+    def manage(self, *words: str) -> "subprocess.CompletedProcess[str]":
+        command = [str(TOP / "hosts/manage"), "-u", self.path, "-m", MANAGER, "-w", "0", "--target", CLOCK, *words]
+        return subprocess.run(command, capture_output=True, text=True, check=False)
 
     def ask_by_manage(self, value: int) -> object:
-        words = ["-u", self.path, "-m", MANAGER, "-w", "0", "--target", CLOCK, "set", "PRIORITY1", str(value)]
-        said = subprocess.run([str(TOP / "hosts/manage"), *words], capture_output=True, text=True, check=True).stdout
-        return int(said.split()[1])
+        return int(self.manage("set", "PRIORITY1", str(value)).stdout.split()[1])
+
+    def leave(self, value: int) -> None:
+        """A session that ends before its SET has an answer."""
+        with self.assertRaises(ptpm.NoAnswer) as caught, ptpm.SessionFile(MANAGER, CLOCK) as file:
+            with ptpm.Session(ptpm.SessionSettings(MANAGER, CLOCK, attempts=2), file, wait=0) as session:
+                session.ask(self.way, ptpm.Action.GET, "PRIORITY1", timeout=1)
+                session.retune(4)  # in which the clock is not
+                session.ask(self.way, ptpm.Action.SET, "PRIORITY1", value, timeout=0.05)
+        self.assertTrue(caught.exception.was_sent)
+
+    def test_a_request_without_an_answer_is_finished(self) -> None:
+        self.leave(21)
+        with ptpm.SessionFile(MANAGER, CLOCK) as file:
+            with ptpm.Session(ptpm.SessionSettings(MANAGER, CLOCK), file) as session:
+                self.assertTrue(session.is_under_way)
+                report = session.ask(self.way, ptpm.Action.GET, "PRIORITY1", timeout=1)
+                self.assertEqual((str(session.earlier), str(report)), ("priority1 21", "priority1 21"))
+        self.leave(22)
+        ran = self.manage("get", "PRIORITY1")
+        self.assertEqual(ran.stdout, "priority1 22\n")
+        self.assertIn("set PRIORITY1 of an earlier run", ran.stderr)
+        self.leave(23)
+        with ptpm.SessionFile(MANAGER, CLOCK) as file:
+            with ptpm.Session(ptpm.SessionSettings(MANAGER, CLOCK), file) as session:
+                session.let_go()
+                self.assertEqual(str(session.ask(self.way, ptpm.Action.GET, "PRIORITY1", timeout=1)), "priority1 22")
+                self.assertIsNone(session.earlier)
 
     def test_a_file_of_another_session_is_refused(self) -> None:
-        path = f"{self.folder}/numbers"
-        for text, why in (
-            (f"7 {MANAGER} 0102030405060708\n", "OTHER_SESSION"),
-            ("65536\n", "no number"),
-            ("7 8\n", "no number"),
-            ("", "no number"),
+        path = f"{self.folder}/session"
+        image = ptpm.Requests(ptpm.SessionSettings(MANAGER, CLOCK, 7)).image()
+        other = ptpm.Requests(ptpm.SessionSettings(MANAGER, "0102030405060708", 7)).image()
+        for octets, why in (
+            (f"7 {MANAGER} 0102030405060708\n".encode(), "OTHER_SESSION"),
+            (other, "OTHER_SESSION"),
+            (image[:-1], "DAMAGED"),
+            (image + b"\0", "DAMAGED"),
+            (b"65536\n", "NOT_AN_IMAGE"),
+            (b"7 8\n", "NOT_AN_IMAGE"),
+            (b"", "NOT_AN_IMAGE"),
         ):
-            with open(path, "w", encoding="ascii") as file:
-                file.write(text)
-            self.assertRaisesRegex(ptpm.NumberFileError, why, ptpm.NumberFile, MANAGER, CLOCK, path)
+            with open(path, "wb") as file:
+                file.write(octets)
+            with ptpm.SessionFile(MANAGER, CLOCK, path) as held:
+                self.assertRaisesRegex(ptpm.Error, why, ptpm.Session, ptpm.SessionSettings(MANAGER, CLOCK), held)
+            with open(path, "rb") as file:
+                self.assertEqual(file.read(), octets)
         os.unlink(path)
         os.symlink("elsewhere", path)
-        self.assertRaisesRegex(ptpm.NumberFileError, "link", ptpm.NumberFile, MANAGER, CLOCK, path)
+        self.assertRaisesRegex(ptpm.SessionFileError, "link", ptpm.SessionFile, MANAGER, CLOCK, path)
 
     def test_a_file_has_one_turn_at_a_time(self) -> None:
-        path = f"{self.folder}/numbers"
-        with open(path, "w", encoding="ascii") as file:
-            file.write("7\n")
+        path = f"{self.folder}/session"
+        with open(path, "w", encoding="ascii") as old:
+            old.write(f"7 {MANAGER} {CLOCK}\n")  # as an earlier version wrote it
         os.chmod(path, 0o640)
-        with ptpm.NumberFile(MANAGER, CLOCK, path) as numbers:
-            self.assertRaisesRegex(ptpm.NumberFileError, "holds it", ptpm.NumberFile, MANAGER, CLOCK, path)
+        with ptpm.SessionFile(MANAGER, CLOCK, path) as file:
+            self.assertRaisesRegex(ptpm.SessionFileError, "holds it", ptpm.SessionFile, MANAGER, CLOCK, path)
             words = [str(TOP / "hosts/manage"), "-u", self.path, "-m", MANAGER, "-k", path, "--target", CLOCK, "get", "PRIORITY1"]
             with subprocess.Popen(words, stdout=subprocess.PIPE, text=True) as waiting:
                 self.assertRaises(subprocess.TimeoutExpired, waiting.wait, 0.3)
-                numbers.keep(300)
-                numbers.close()
+                with ptpm.Session(ptpm.SessionSettings(MANAGER, CLOCK), file) as session:
+                    session.ask(self.way, ptpm.Action.GET, "PRIORITY1", timeout=1)  # numbers 7 and 8
+                    self.assertEqual(session.next_number, 9)
+                file.close()
                 self.assertEqual(waiting.communicate()[0], "priority1 128\n")
-        with ptpm.NumberFile(MANAGER, CLOCK, path) as numbers:
-            self.assertEqual((numbers.number, os.stat(path).st_mode & 0o777), (302, 0o640))
+        with ptpm.SessionFile(MANAGER, CLOCK, path) as file:
+            self.assertEqual(ptpm.Session(ptpm.SessionSettings(MANAGER, CLOCK), file).next_number, 11)
+        self.assertEqual(os.stat(path).st_mode & 0o777, 0o640)
 
     def test_no_file_is_left_of_a_clock_that_is_not_there(self) -> None:
-        with ptpm.NumberFile(MANAGER, "0102030405060708", f"{self.folder}/numbers") as numbers:
+        with ptpm.SessionFile(MANAGER, "0102030405060708", f"{self.folder}/session") as file:
             settings = ptpm.SessionSettings(MANAGER, "0102030405060708", attempts=1)
-            with ptpm.Session(settings, numbers, wait=0) as session, self.assertRaises(ptpm.NoAnswer):
+            with ptpm.Session(settings, file, wait=0) as session, self.assertRaises(ptpm.NoAnswer):
                 session.ask(self.way, ptpm.Action.GET, "PRIORITY1", timeout=0.05)
-        self.assertEqual([name for name in os.listdir(self.folder) if name.startswith("numbers")], [])
+        self.assertEqual([name for name in os.listdir(self.folder) if name.startswith("session")], [])
 
     def test_the_command_line(self) -> None:
         def run(*words: str) -> "tuple[int, str]":
-            ran = subprocess.run([sys.executable, "-m", "ptpm", "-u", self.path, *words], capture_output=True, text=True, check=False)
+            command = [sys.executable, "-m", "ptpm", "-u", self.path, *words]
+            ran = subprocess.run(command, capture_output=True, text=True, check=False)
             return ran.returncode, ran.stdout
 
         self.assertEqual(run("get", "PRIORITY1", "--target", CLOCK), (0, "priority1 128\n"))

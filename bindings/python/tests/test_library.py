@@ -1,5 +1,5 @@
-"""What the binding does beyond the library: it lays settings and observations out, takes octets and numbers, and names answers. Expected
-octets are those of IEEE 1588-2019, clauses 13.3, 15.4 and 15.5."""
+"""What the binding does beyond the library: it lays settings and observations out, takes octets and numbers, and names answers.
+Expected octets are those of IEEE 1588-2019, clauses 13.3, 15.4 and 15.5."""
 
 from __future__ import annotations
 
@@ -8,6 +8,7 @@ import unittest
 
 import ptpm
 from ptpm import ClockMembers, HandleAnswer, PortMembers, SessionAnswer, SurveyAnswer
+from ptpm._library import library
 
 from . import CLOCK, MANAGER
 
@@ -16,8 +17,8 @@ PLACES = dict(
     priority2=0x46, steps_removed=0x4142, offset_from_master=0x0102030405060708, mean_path_delay=0x1112131415161718,
     parent_port="b0b1b2b3b4b5b6b7/29042", parent_stats=True, observed_variance=0x5152, observed_rate=0x21222324,
     grandmaster="c0c1c2c3c4c5c6c7", grandmaster_priority1=0x53, grandmaster_class=0x54, grandmaster_accuracy=0x23,
-    grandmaster_variance=0x6162, grandmaster_priority2=0x56, utc_offset=0x1920, leap61=True, utc_valid=True, frequency_traceable=True,
-    time_source=0x90,
+    grandmaster_variance=0x6162, grandmaster_priority2=0x56, utc_offset=0x1920, leap61=True, utc_valid=True,
+    frequency_traceable=True, time_source=0x90,
 )
 PORT = ptpm.PortSettings(0x0A0B0C0D0E0F1A1B, ptpm.PortState.PRE_MASTER, -11, 3, 7, -6, ptpm.DelayMechanism.P2P, 4)
 
@@ -61,9 +62,9 @@ class Clocks(unittest.TestCase):
     def test_observations_have_their_places(self) -> None:
         grandmaster = ptpm.ObservedGrandmaster("c0c1c2c3c4c5c6c7", 0x53, 6, 0x21, 0x6162, 0x56, "b0b1b2b3b4b5b6b7-29042")
         observed = ptpm.ObservedClock(
-            steps_removed=2, offset_from_master=-2, mean_path_delay=ptpm.time_interval(1), parent_stats=True, observed_variance=0x5152,
-            observed_rate=0x21222324, grandmaster=grandmaster, utc_offset=37, leap59=True, ptp_timescale=True, time_traceable=True,
-            time_source=0x20,
+            steps_removed=2, offset_from_master=-2, mean_path_delay=ptpm.time_interval(1), parent_stats=True,
+            observed_variance=0x5152, observed_rate=0x21222324, grandmaster=grandmaster, utc_offset=37, leap59=True,
+            ptp_timescale=True, time_traceable=True, time_source=0x20,
         )
         with clock() as told:
             self.assertEqual(told.observe(observed), set())
@@ -139,6 +140,20 @@ class Managers(unittest.TestCase):
             session.receive(octets)
             self.assertEqual(str(session.report()), "done")
 
+    @unittest.skipUnless(hasattr(library, "ptpm_session_image"), "the library makes no images")
+    def test_a_request_goes_on_from_an_image(self) -> None:
+        settings = ptpm.SessionSettings(MANAGER, CLOCK, 7)
+        with clock() as asked, ptpm.Session(settings) as session, ptpm.Session(settings) as restored:
+            session.begin(ptpm.Action.SET, "PRIORITY1", b"\x64\0")
+            image = session.image()
+            self.assertRaisesRegex(ptpm.Error, "DAMAGED", restored.restore, image[:-1])
+            self.assertRaisesRegex(ptpm.Error, "NOT_AN_IMAGE", restored.restore, b"")
+            restored.restore(image)
+            self.assertEqual((restored.is_busy(), restored.send()), (True, session.send()))
+            [(_, octets)] = asked.handle(1, restored.send()).messages
+            restored.receive(octets)
+            self.assertEqual(restored.report().members, {"priority1": 100})
+
     def test_a_survey_keeps_first_answers(self) -> None:
         with clock() as asked, ptpm.Survey(ptpm.SurveySettings("0a0b0c0d0e0f1011/9", 3, "PORT_DATA_SET")) as survey:
             for became in (SurveyAnswer.TAKEN, SurveyAnswer.AGAIN):
@@ -150,9 +165,23 @@ class Managers(unittest.TestCase):
             self.assertEqual(told, [(f"{CLOCK}/1", ptpm.PortState.MASTER), (f"{CLOCK}/2", ptpm.PortState.MASTER)])
 
 
+@unittest.skipUnless(hasattr(library, "ptpm_rate_take"), "the library has no tables")
+class Passing(unittest.TestCase):
+    def test_a_message_is_passed_on_once_in_its_time(self) -> None:
+        get, table = request(7, "aabbccfffeddee01ffff", 1, 0, "2005"), ptpm.PassedOn(7)
+        self.assertEqual([table.is_first(get, now, 1000) for now in (0, 999, 1000)], [True, False, True])
+        self.assertTrue(table.is_first(request(8, "aabbccfffeddee01ffff", 1, 0, "2005"), 1000, 1000))
+        self.assertFalse(table.is_first(b"", 1000, 1000))
+
+    def test_a_rate_gives_as_many_tokens_as_a_second_brings(self) -> None:
+        rate = ptpm.Rate(3, 0)
+        self.assertEqual([sum(rate.take(now) for _ in range(5)) for now in (0, 1000)], [3, 3])
+
+
 class Texts(unittest.TestCase):
     def test_texts_that_are_no_identity_are_refused(self) -> None:
-        for text in ("", CLOCK[:-1], f"{CLOCK}1", "aabbcc.fffeddee01", "aabb.ccfffe.ddee01", "aabbcc.fffe.ddee0x", "aabbccfffeddee\u0661\u0662"):
+        pointed = ("aabbcc.fffeddee01", "aabb.ccfffe.ddee01", "aabbcc.fffe.ddee0x")
+        for text in ("", CLOCK[:-1], f"{CLOCK}1", "aabbccfffeddee\u0661\u0662", *pointed):
             self.assertRaises(ValueError, ptpm.Identity.of, text)
         for text in (CLOCK, f"{CLOCK}/", f"{CLOCK}/+1", f"{CLOCK}/65536", f"{CLOCK}/1/1"):
             self.assertRaises(ValueError, ptpm.PortIdentity.of, text)

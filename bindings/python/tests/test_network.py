@@ -1,4 +1,5 @@
-"""The same over UDP, and a real ptp4l, in two network namespaces with a link between them. It needs root, `ip netns` and linuxptp."""
+"""The same over UDP, and a real ptp4l, in two network namespaces with a link between them. It needs root, `ip netns` and
+linuxptp."""
 
 from __future__ import annotations
 
@@ -61,7 +62,8 @@ class Network(Folder):
         self.start_far_clock("-m", "020000fffe000010/1")
         self.assertEqual(self.asked("-i", "near0", "get", "PRIORITY1", "--target", CLOCK), "priority1 128\n")
         said = self.asked("-i", "near0", "-w", "0", "set", "PRIORITY1", "100", "--target", CLOCK)
-        self.assertRegex(said, r"^priority1 100\nptpm: .*/020000fffe000010-1.aabbccfffeddee01 is new: the session begins at number \d+\n$")
+        new = r"ptpm: .*/020000fffe000010-1.aabbccfffeddee01 is new: the session begins at number \d+"
+        self.assertRegex(said, rf"^priority1 100\n{new}\n$")
         self.assertEqual(self.asked("-i", "near0", "set", "PRIORITY1", "101", "--target", CLOCK), "priority1 101\n")
         self.assertEqual(self.asked("--udp", "10.9.9.2", "get", "PRIORITY1", "--target", CLOCK), "priority1 101\n")
         self.assertEqual(self.asked("-i", "near0", "survey", "PRIORITY1"), f"{CLOCK}/1 priority1 101\n")

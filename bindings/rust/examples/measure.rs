@@ -1,6 +1,6 @@
 //! What a datagram costs a host in Rust, for a counter of instructions, as `hosts/measure.c` does it in C. `measure get COUNT` starts a
 //! clock, lets it answer a GET of PRIORITY1 by its manager, and hands it that GET COUNT times more, each under the next number. By
-//! the difference of two runs callgrind tells what one of them costs. Prints how many messages of how many octets it makes.
+//! the difference of two runs callgrind shows what one of them costs. Prints how many messages of how many octets it makes.
 
 use ptpm::{Clock, ClockSettings, Manager, Outbox, PortSettings, Rights};
 use std::error::Error;
@@ -26,7 +26,7 @@ fn repeat(clock: &mut Clock, outbox: &mut Outbox, count: usize) -> Result<(usize
         octets[30..32].copy_from_slice(&number.to_be_bytes());
         messages = clock.handle(1, octets, outbox)?.messages.len();
     }
-    let last = clock.handle(1, &places[(count + 1) % 2], outbox)?; // which is kept, and told again
+    let last = clock.handle(1, &places[(count + 1) % 2], outbox)?; // which is kept, and answered again
     Ok((messages, last.messages.map(|(_, octets)| octets.len()).sum()))
 }
 

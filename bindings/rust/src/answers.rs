@@ -38,7 +38,7 @@ macro_rules! numbered {
         }
 
         impl fmt::Display for $name {
-            /// The name in the header without its `PTPM_`, as `ANSWERED_NEW`. 0 has none there, and is written as a number.
+            /// The name in the header without its `PTPM_`, such as `ANSWERED_NEW`. 0 has none there, and is written as a number.
             fn fmt(&self, to: &mut fmt::Formatter<'_>) -> fmt::Result {
                 names::write_answer(self.number(), to)
             }
@@ -46,7 +46,7 @@ macro_rules! numbered {
     };
 }
 
-/// The same, and behind them why a datagram holds no management message, which each of the three calls answers.
+/// The same, and after them why a datagram holds no management message, which each of the three calls answers.
 macro_rules! answers {
     ($(#[$about:meta])* $name:ident { $($answers:tt)* }) => {
         numbered! {
@@ -89,7 +89,7 @@ answers! {
         AnsweredNew = PTPM_ANSWERED_NEW,
         /// The latest request of a manager again.
         AnsweredRepeat = PTPM_ANSWERED_REPEAT,
-        /// A manager's request behind its latest.
+        /// A manager's request before its latest.
         DroppedOld = PTPM_DROPPED_OLD,
         /// Another request under the number of a manager's latest.
         DroppedConflict = PTPM_DROPPED_CONFLICT,

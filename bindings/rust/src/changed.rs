@@ -97,7 +97,7 @@ members! {
     }
 }
 
-/// Which members have another value behind a datagram than before it.
+/// Which members have another value after a datagram than before it.
 #[derive(Clone, Copy, Debug, Default, PartialEq, Eq)]
 pub struct Changed {
     /// Those of the clock.
@@ -112,7 +112,7 @@ impl Changed {
         *self == Self::default()
     }
 
-    /// The ports of which one of these members changed, counted from 1.
+    /// The ports at which one of these members changed, counted from 1.
     pub fn ports_with(&self, members: PortMembers) -> impl Iterator<Item = u16> + '_ {
         (1u16..).zip(&self.ports).filter(move |(_, changed)| changed.intersects(members)).map(|(port, _)| port)
     }

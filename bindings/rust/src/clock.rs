@@ -13,20 +13,20 @@ use core::fmt;
 use core::mem::MaybeUninit;
 use core::ptr::null_mut;
 
-/// A dataField that a clock reads has at most so many octets.
+/// The most octets of a dataField that a clock reads.
 pub const MOST_READ: usize = sys::PTPM_MOST_READ;
 
 /// More ports than a clock has.
 const MORE_PORTS: usize = 9;
 
 /// The data sets of a clock, and what becomes of each management message that comes in at its ports. It has about 34,600 octets on
-/// the heap, and is stopped where it is dropped.
+/// the heap, and is stopped when it is dropped.
 pub struct Clock {
     handle: sys::ptpm_clock,
 }
 
-// SAFETY: one thread at a time is in a call with a handle, since each call takes the clock by `&mut`; a handle may be moved, and
-// calls with other handles may run beside it.
+// SAFETY: one thread at a time is in a call with a handle, since the type is not Sync: no other thread has a reference to it. A
+// handle may be moved, and calls with other handles may run beside it.
 unsafe impl Send for Clock {}
 
 /// What became of a datagram, and what is to be sent for it.
@@ -63,13 +63,14 @@ impl Ports {
 }
 
 impl Clock {
-    /// Starts a clock with one to eight ports, of which the first is port 1, and at most sixteen managers.
+    /// Starts a clock with one to eight ports and at most sixteen managers. The first port is port 1.
     ///
     /// # Errors
     ///
-    /// The first reason why it does not start, from [`Error::NoPorts`] to [`Error::ManagerIsEvery`] or of a member that is out of
-    /// its range, or [`Error::NoMemory`].
+    /// The first reason why it does not start. It is [`Error::OtherSizes`], or one from [`Error::NoPorts`] to
+    /// [`Error::ManagerIsEvery`], or a member that is out of its range, or [`Error::NoMemory`].
     pub fn start(settings: &ClockSettings, ports: &[PortSettings], managers: &[Manager]) -> Result<Self, Error> {
+        done(sys::ptpm_header_agrees())?;
         let mut clock = Self { handle: sys::ptpm_clock { at: null_mut(), live: false } };
         let settings = settings.as_in_c();
         // SAFETY: the handle is all zeros before this first call. Settings, ports and managers may be read, and are laid out as the
@@ -101,13 +102,13 @@ impl Clock {
         let number = judged(unsafe {
             sys::ptpm_clock_handle(&mut self.handle, port, datagram.as_ptr(), datagram.len(), sent, room, count.as_mut_ptr())
         })?;
-        // SAFETY: the call has written the count, and so many places.
+        // SAFETY: the call has written the count, and as many places.
         let messages = unsafe { outbox.messages(count.assume_init()) };
         Ok(Turn { number, messages })
     }
 
-    /// Does what [`Clock::handle`] does, and tells which members of the data sets have another value then. They are none but behind
-    /// [`Handled::AnsweredNew`].
+    /// Does what [`Clock::handle`] does, and reports which members of the data sets have another value then. There are some only
+    /// after [`Handled::AnsweredNew`].
     ///
     /// # Errors
     ///
@@ -129,7 +130,7 @@ impl Clock {
             let (count, changed) = (count.as_mut_ptr(), changed.as_mut_ptr());
             sys::ptpm_clock_handle_changed(&mut self.handle, port, octets, size, sent, room, count, changed)
         })?;
-        // SAFETY: the call has written the count, so many places, and what changed.
+        // SAFETY: the call has written the count, as many places, and what changed.
         let (messages, changed) = unsafe { (outbox.messages(count.assume_init()), changed.assume_init()) };
         Ok((Turn { number, messages }, changed.into()))
     }
@@ -160,16 +161,16 @@ impl Clock {
     /// # Errors
     ///
     /// [`Error::NoPort`] or [`Error::NotReadable`].
-    pub fn read<'a>(&mut self, id: ManagementId, port: u16, room: &'a mut [u8; MOST_READ]) -> Result<&'a [u8], Error> {
+    pub fn read<'a>(&self, id: ManagementId, port: u16, room: &'a mut [u8; MOST_READ]) -> Result<&'a [u8], Error> {
         let mut size = 0;
         let (octets, most) = (room.as_mut_ptr(), room.len());
         // SAFETY: the octets and the size may be written; the octets are borrowed mutably, so they lie apart from the rest.
-        done(unsafe { sys::ptpm_clock_read(&mut self.handle, id.0, port, octets, most, &mut size) })?;
+        done(unsafe { sys::ptpm_clock_read(&self.handle, id.0, port, octets, most, &mut size) })?;
         Ok(&room[..size])
     }
 
     /// The clock's identity, out of its DEFAULT_DATA_SET.
-    pub fn identity(&mut self) -> Result<Identity, Error> {
+    pub fn identity(&self) -> Result<Identity, Error> {
         let mut room = [0; MOST_READ];
         let field = self.read(ManagementId::DEFAULT_DATA_SET, 0, &mut room)?;
         let mut identity = Identity::default();

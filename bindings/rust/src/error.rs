@@ -6,8 +6,8 @@ use core::fmt;
 
 macro_rules! errors {
     ($($(#[$what:meta])* $variant:ident = $number:ident, $text:literal;)*) => {
-        /// Why a call was refused: it changed nothing. It is written as the header names it, with some words behind: `NO_PORT: the
-        /// clock lacks the port`.
+        /// Why a call was refused: it changed nothing. It is written as the header names it, with some words after it: `NO_PORT:
+        /// the clock lacks the port`.
         #[derive(Clone, Copy, Debug, PartialEq, Eq, Hash)]
         #[non_exhaustive]
         #[repr(u32)]
@@ -61,6 +61,7 @@ errors! {
     GaveUp = PTPM_GAVE_UP, "no attempts are left";
     NoReport = PTPM_NO_REPORT, "no request was begun, or the latest is not answered";
     NoSurvey = PTPM_NO_SURVEY, "the handle holds no survey";
+    OtherSizes = PTPM_OTHER_SIZES, "the library that is linked is of another version";
     NoPorts = PTPM_NO_PORTS, "a clock has a port or more";
     TooManyPorts = PTPM_TOO_MANY_PORTS, "a clock has eight ports at most";
     GrandmasterDiffers = PTPM_GRANDMASTER_DIFFERS, "the clock is its own grandmaster, with another priority or quality";
@@ -69,6 +70,8 @@ errors! {
     ManagerIsEvery = PTPM_MANAGER_IS_EVERY, "the manager's identity is all ones, which means every clock";
     TargetIsEvery = PTPM_TARGET_IS_EVERY, "the managed clock's identity is all ones, which means every clock";
     SameClock = PTPM_SAME_CLOCK, "the managed clock has the manager's identity";
+    IdentityIsZero = PTPM_IDENTITY_IS_ZERO, "the clock's identity is all zeros";
+    TargetIsZero = PTPM_TARGET_IS_ZERO, "the managed clock's identity is all zeros";
     BadIdentity = PTPM_BAD_IDENTITY, "the clock's identity is all ones, which means every clock";
     BadUserDescription = PTPM_BAD_USER_DESCRIPTION, "a userDescription is UTF-8, of 128 octets at most";
     BadClockAccuracy = PTPM_BAD_CLOCK_ACCURACY, "a clockAccuracy is 0x17 to 0x31, or 0xFE";
@@ -79,6 +82,11 @@ errors! {
     BadLogSync = PTPM_BAD_LOG_SYNC, "a logSyncInterval is -8 to 1";
     BadDelayMechanism = PTPM_BAD_DELAY_MECHANISM, "a delayMechanism is 1, 2 or 0xFE";
     BadLogMinPdelay = PTPM_BAD_LOG_MIN_PDELAY, "a logMinPdelayReqInterval is -8 to 5";
+    NotAnImage = PTPM_NOT_AN_IMAGE, "the octets are no image";
+    OtherVersion = PTPM_OTHER_VERSION, "the image is of another version";
+    OtherKind = PTPM_OTHER_KIND, "the image is not of a session";
+    Damaged = PTPM_DAMAGED, "the image is damaged";
+    OtherSession = PTPM_OTHER_SESSION, "the image is of another manager, clock, number of ports or first number";
 }
 
 /// The number of a call that was done is 0, and every other one an error.

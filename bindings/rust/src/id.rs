@@ -90,7 +90,7 @@ impl fmt::Display for ManagementId {
 }
 
 /// A managementErrorId (15.5.4.3, table 109): why a clock refused a request. It is written by the standard's name, or by its number
-/// where it has none.
+/// if it has none.
 ///
 /// ```
 /// assert_eq!(ptpm::ManagementErrorId(4).to_string(), "WRONG_VALUE");

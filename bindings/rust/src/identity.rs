@@ -38,14 +38,14 @@ pub struct NoIdentity;
 
 impl fmt::Display for NoIdentity {
     fn fmt(&self, to: &mut fmt::Formatter<'_>) -> fmt::Result {
-        to.write_str("it is no identity, as aabbccfffeddee01 or aabbcc.fffe.ddee01, with its port as aabbccfffeddee01/1")
+        to.write_str("it is no identity, such as aabbccfffeddee01 or aabbcc.fffe.ddee01, with its port aabbccfffeddee01/1")
     }
 }
 
 impl core::error::Error for NoIdentity {}
 
 impl Identity {
-    /// The identity that a MAC makes: `fffe` stands in its middle.
+    /// The identity that a MAC makes: `fffe` is in its middle.
     ///
     /// ```
     /// assert_eq!(ptpm::Identity::of_mac([2, 0, 0, 0, 0, 0x20]).to_string(), "020000fffe000020");

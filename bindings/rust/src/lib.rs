@@ -56,6 +56,7 @@ mod identity;
 mod names;
 mod observation;
 mod outbox;
+mod passing;
 mod report;
 mod session;
 mod settings;
@@ -70,7 +71,14 @@ pub use id::{ManagementErrorId, ManagementId, UnknownId};
 pub use identity::{Identity, NoIdentity, PortIdentity};
 pub use observation::{ObservedClock, ObservedGrandmaster, ObservedPort};
 pub use outbox::{Messages, Outbox};
+pub use passing::{PassedOn, Rate};
 pub use report::{Answer, Report, MOST_DATA, MOST_OCTETS};
-pub use session::{Action, Session, SessionSettings};
+pub use session::{Action, Session, SessionSettings, SESSION_IMAGE_OCTETS};
 pub use settings::{ClockSettings, DelayMechanism, Manager, PortSettings, PortState, Rights, TimeInterval};
 pub use survey::{Answers, Survey, SurveySettings};
+
+/// The version of the library that is linked, as a number: 10,000 times its first part, 100 times the second, and the third.
+pub fn version() -> u32 {
+    // SAFETY: the call takes nothing.
+    unsafe { sys::ptpm_version() }
+}

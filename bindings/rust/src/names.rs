@@ -4,7 +4,7 @@ use crate::sys;
 use core::ffi::c_char;
 use core::fmt;
 
-/// A name of the library's, as `NO_ROOM`.
+/// A name of the library's, such as `NO_ROOM`.
 pub(crate) struct Name {
     text: [u8; sys::PTPM_MOST_NAME],
     size: usize,
@@ -19,7 +19,7 @@ impl Name {
     }
 
     pub(crate) fn of_answer(number: u32) -> Option<Self> {
-        // SAFETY: the room may be written, and stands apart from all else.
+        // SAFETY: the room may be written, and lies apart from all else.
         Self::written(|text, room| unsafe { sys::ptpm_answer_name(number, text, room) })
     }
 
@@ -38,7 +38,7 @@ impl Name {
     }
 }
 
-/// Writes the name of the number that a call answered; the number where it has none.
+/// Writes the name of the number that a call answered, or the number if it has none.
 pub(crate) fn write_answer(number: u32, to: &mut fmt::Formatter<'_>) -> fmt::Result {
     match Name::of_answer(number) {
         Some(name) => to.pad(name.as_str()),

@@ -34,10 +34,10 @@ impl Outbox {
     ///
     /// # Safety
     ///
-    /// A call has written so many places, of each its port, its size, and so many octets.
+    /// A call has written `count` places: in each its port, its size, and as many octets as that.
     #[inline]
     pub(crate) unsafe fn messages(&self, count: usize) -> Messages<'_> {
-        // SAFETY: the caller says that there are so many places.
+        // SAFETY: the caller says that there are `count` places.
         Messages { rest: unsafe { self.places.get_unchecked(..count) }.iter() }
     }
 }
@@ -54,11 +54,11 @@ impl fmt::Debug for Outbox {
     }
 }
 
-/// The messages that are to be sent, in their order: of each the port that it is to be sent at, and its octets where the clock
-/// wrote them.
+/// The messages that are to be sent, in their order. Each is the port that it is to be sent at, and its octets, which lie in the
+/// outbox.
 #[derive(Clone)]
 pub struct Messages<'a> {
-    // Of each place its port, its size, and so many octets are written.
+    // In each place its port, its size, and as many octets as that are written.
     rest: slice::Iter<'a, MaybeUninit<sys::ptpm_sent>>,
 }
 
@@ -68,8 +68,8 @@ impl<'a> Iterator for Messages<'a> {
     #[inline]
     fn next(&mut self) -> Option<Self::Item> {
         let sent = self.rest.next()?.as_ptr();
-        // SAFETY: the library has written the port, the size, and so many octets of this place, which is borrowed for 'a. No
-        // reference is made to what lies behind them.
+        // SAFETY: the library has written the port, the size, and as many octets of this place, which is borrowed for 'a. No
+        // reference is made to the octets after them.
         unsafe {
             let octets = (&raw const (*sent).octets).cast::<u8>();
             Some(((*sent).port, slice::from_raw_parts(octets, usize::from((*sent).size))))

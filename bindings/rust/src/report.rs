@@ -6,17 +6,17 @@ use crate::identity::PortIdentity;
 use crate::sys;
 use alloc::vec::Vec;
 
-/// A message has at most so many octets.
+/// The most octets of a message.
 pub const MOST_OCTETS: usize = sys::PTPM_MOST_OCTETS;
 
-/// A dataField that is answered has at most so many octets.
+/// The most octets of a dataField that is answered.
 pub const MOST_DATA: usize = 1418;
 
 /// What an answer says (`enum ptpm_told`).
 #[derive(Clone, Copy, Debug, PartialEq, Eq)]
 #[non_exhaustive]
 pub enum Report<'a> {
-    /// The clock told a dataField.
+    /// The clock answered a dataField.
     Value(&'a [u8]),
     /// It carried a COMMAND out.
     Done,
@@ -35,7 +35,7 @@ pub struct Answer {
     pub value: Result<Vec<u8>, ManagementErrorId>,
 }
 
-/// What a call tells that writes a dataField, its size and an error, and answers a number.
+/// What a call reports that writes a dataField, its size and an error, and answers a number.
 pub(crate) fn told<'a>(
     room: &'a mut [u8],
     call: impl FnOnce(*mut u8, usize, &mut usize, &mut u16) -> u32,

@@ -9,6 +9,9 @@ use crate::sys;
 use core::fmt;
 use core::ptr::null_mut;
 
+/// The most octets of a session's image.
+pub const SESSION_IMAGE_OCTETS: usize = sys::PTPM_SESSION_IMAGE_OCTETS;
+
 /// What may be asked of a clock: the actionField of a request.
 #[derive(Clone, Copy, Debug, PartialEq, Eq, Hash)]
 #[repr(u8)]
@@ -19,9 +22,9 @@ pub enum Action {
     Command = sys::PTPM_COMMAND,
 }
 
-/// One manager, the clock that it manages, and how its requests are numbered and sent. A clock takes a request for new where its
+/// One manager, the clock that it manages, and how its requests are numbered and sent. A clock takes a request for new if its
 /// number is up to 32,767 ahead of the latest that it took from this manager: a manager that starts again goes on from the number
-/// behind the last that it began.
+/// after the last that it began.
 #[derive(Clone, Copy, Debug, PartialEq, Eq)]
 pub struct SessionSettings {
     /// The manager; its clock is not all ones.
@@ -44,6 +47,20 @@ impl SessionSettings {
     /// A session of a manager with a clock of up to eight ports, in domain 0, over one boundary clock at most, with 30 attempts.
     pub const fn new(manager: PortIdentity, target: Identity, first: u16) -> Self {
         Self { manager, target, target_ports: 8, first, domain: 0, hops: 1, attempts: 30 }
+    }
+
+    /// As the library takes them.
+    const fn as_in_c(&self) -> sys::ptpm_session_settings {
+        sys::ptpm_session_settings {
+            port: self.manager.port,
+            target_ports: self.target_ports,
+            first: self.first,
+            clock: self.manager.clock.0,
+            target: self.target.0,
+            domain: self.domain,
+            hops: self.hops,
+            attempts: self.attempts,
+        }
     }
 }
 
@@ -81,8 +98,8 @@ pub struct Session {
     handle: sys::ptpm_session,
 }
 
-// SAFETY: one thread at a time is in a call with a handle, since each call takes the session by `&mut`; a handle may be moved, and
-// calls with other handles may run beside it.
+// SAFETY: one thread at a time is in a call with a handle, since the type is not Sync: no other thread has a reference to it. A
+// handle may be moved, and calls with other handles may run beside it.
 unsafe impl Send for Session {}
 
 impl Session {
@@ -93,24 +110,47 @@ impl Session {
     /// The first of [`Error::ManagerIsEvery`], [`Error::TargetIsEvery`], [`Error::SameClock`], [`Error::NoPorts`],
     /// [`Error::TooManyPorts`] and [`Error::NoMemory`] that holds.
     pub fn start(settings: &SessionSettings) -> Result<Self, Error> {
-        let mut session = Self { handle: sys::ptpm_session { at: null_mut(), live: false } };
-        let settings = sys::ptpm_session_settings {
-            port: settings.manager.port,
-            target_ports: settings.target_ports,
-            first: settings.first,
-            clock: settings.manager.clock.0,
-            target: settings.target.0,
-            domain: settings.domain,
-            hops: settings.hops,
-            attempts: settings.attempts,
-        };
+        done(sys::ptpm_header_agrees())?;
+        let mut session = Self::none();
+        let settings = settings.as_in_c();
         // SAFETY: the handle is all zeros before this first call, and the settings may be read.
         done(unsafe { sys::ptpm_session_start(&mut session.handle, &settings) })?;
         Ok(session)
     }
 
+    /// Starts the session of an image, with the settings of the session that it is of. Its domain, hops and attempts are those of
+    /// the image. A request that was not answered goes on, with all its attempts: send it again.
+    ///
+    /// # Errors
+    ///
+    /// The first of [`Error::NotAnImage`], [`Error::OtherVersion`], [`Error::OtherKind`], [`Error::Damaged`],
+    /// [`Error::OtherSession`] and [`Error::NoMemory`] that holds. That is no reason to start the session anew: the clock would
+    /// take its requests for old ones, or for others.
+    pub fn restore(settings: &SessionSettings, image: &[u8]) -> Result<Self, Error> {
+        done(sys::ptpm_header_agrees())?;
+        let mut session = Self::none();
+        let settings = settings.as_in_c();
+        // SAFETY: the handle is all zeros before this first call. The settings may be read, and so may the octets of the slice.
+        done(unsafe { sys::ptpm_session_restore(&mut session.handle, &settings, image.as_ptr(), image.len()) })?;
+        Ok(session)
+    }
+
+    /// A handle that holds nothing.
+    const fn none() -> Self {
+        Self { handle: sys::ptpm_session { at: null_mut(), live: false } }
+    }
+
+    /// Makes the session's image in the room that it is given. A host saves it before it sends a request, and after it has reported
+    /// an answer. How many attempts are left, and the answer to the latest request, are not in it.
+    pub fn image<'a>(&self, room: &'a mut [u8; SESSION_IMAGE_OCTETS]) -> Result<&'a [u8], Error> {
+        let mut size = 0;
+        // SAFETY: the octets and the size may be written; the octets are borrowed mutably, so they lie apart from the rest.
+        done(unsafe { sys::ptpm_session_image(&self.handle, room.as_mut_ptr(), room.len(), &mut size) })?;
+        Ok(&room[..size])
+    }
+
     /// Begins a request, and lets the answer to the one before go. The port matters for an id of a port alone. The caller keeps the
-    /// number of the next request where a restart finds it: the first one and [`Session::issued`], added up.
+    /// number of the next request for a restart: the first one and [`Session::issued`], added up.
     ///
     /// # Errors
     ///
@@ -133,7 +173,7 @@ impl Session {
         Ok(&room[..size])
     }
 
-    /// Gives the unanswered request so many attempts, whatever was left.
+    /// Gives the unanswered request this many attempts, whatever was left.
     ///
     /// # Errors
     ///
@@ -149,7 +189,7 @@ impl Session {
         done(unsafe { sys::ptpm_session_retune(&mut self.handle, domain) })
     }
 
-    /// Judges a datagram that came in. Behind [`Received::Answered`] the next request can be begun.
+    /// Judges a datagram that came in. After [`Received::Answered`] the next request can be begun.
     ///
     /// # Errors
     ///
@@ -160,21 +200,21 @@ impl Session {
     }
 
     /// How many requests were begun.
-    pub fn issued(&mut self) -> u64 {
+    pub fn issued(&self) -> u64 {
         // SAFETY: the handle is live.
-        unsafe { sys::ptpm_session_issued(&mut self.handle) }
+        unsafe { sys::ptpm_session_issued(&self.handle) }
     }
 
-    /// Tells what the answer to the latest request says; a dataField in the room that it is given, for which
+    /// Reports what the answer to the latest request says; a dataField in the room that it is given, for which
     /// [`MOST_DATA`](crate::MOST_DATA) octets do.
     ///
     /// # Errors
     ///
     /// [`Error::NoReport`], or [`Error::NoRoom`] for fewer octets than the dataField has.
-    pub fn report<'a>(&mut self, room: &'a mut [u8]) -> Result<Report<'a>, Error> {
+    pub fn report<'a>(&self, room: &'a mut [u8]) -> Result<Report<'a>, Error> {
         told(room, |octets, most, size, error| {
             // SAFETY: octets, size and error may be written, and lie apart: each is borrowed mutably.
-            unsafe { sys::ptpm_session_report(&mut self.handle, octets, most, size, error) }
+            unsafe { sys::ptpm_session_report(&self.handle, octets, most, size, error) }
         })
     }
 }

@@ -12,7 +12,7 @@ use core::ops::BitOr;
 pub struct TimeInterval(pub i64);
 
 impl TimeInterval {
-    /// So many nanoseconds; what is too far for a TimeInterval is the farthest one.
+    /// An interval of N nanoseconds. What is too far for a TimeInterval is the farthest one.
     pub const fn of_nanoseconds(nanoseconds: i64) -> Self {
         Self(nanoseconds.saturating_mul(1 << 16))
     }
@@ -102,7 +102,7 @@ pub struct ClockSettings {
     pub steps_removed: u16,
     pub offset_from_master: TimeInterval,
     pub mean_path_delay: TimeInterval,
-    /// Port 0 of the clock itself, where there is none.
+    /// Port 0 of the clock itself, if there is none.
     pub parent_port: Option<PortIdentity>,
     pub parent_stats: bool,
     pub observed_variance: u16,

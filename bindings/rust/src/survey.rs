@@ -54,8 +54,8 @@ pub struct Survey {
     handle: sys::ptpm_survey,
 }
 
-// SAFETY: one thread at a time is in a call with a handle, since each call takes the survey by `&mut`; a handle may be moved, and
-// calls with other handles may run beside it.
+// SAFETY: one thread at a time is in a call with a handle, since the type is not Sync: no other thread has a reference to it. A
+// handle may be moved, and calls with other handles may run beside it.
 unsafe impl Send for Survey {}
 
 impl Survey {
@@ -65,6 +65,7 @@ impl Survey {
     ///
     /// [`Error::ManagerIsEvery`] or [`Error::NoMemory`].
     pub fn start(settings: &SurveySettings) -> Result<Self, Error> {
+        done(sys::ptpm_header_agrees())?;
         let mut survey = Self { handle: sys::ptpm_survey { at: null_mut(), live: false } };
         let settings = sys::ptpm_survey_settings {
             port: settings.manager.port,
@@ -80,14 +81,14 @@ impl Survey {
     }
 
     /// Makes the message of the GET in the room that it is given, the same each time.
-    pub fn send<'a>(&mut self, room: &'a mut [u8; MOST_OCTETS]) -> Result<&'a [u8], Error> {
+    pub fn send<'a>(&self, room: &'a mut [u8; MOST_OCTETS]) -> Result<&'a [u8], Error> {
         let mut size = 0;
         // SAFETY: the octets and the size may be written; the octets are borrowed mutably, so they lie apart from the rest.
-        done(unsafe { sys::ptpm_survey_send(&mut self.handle, room.as_mut_ptr(), room.len(), &mut size) })?;
+        done(unsafe { sys::ptpm_survey_send(&self.handle, room.as_mut_ptr(), room.len(), &mut size) })?;
         Ok(&room[..size])
     }
 
-    /// Judges a datagram that came in, and keeps it where it is the first answer of its port.
+    /// Judges a datagram that came in, and keeps it if it is the first answer of its port.
     ///
     /// # Errors
     ///
@@ -98,28 +99,28 @@ impl Survey {
     }
 
     /// How many answers are kept.
-    pub fn count(&mut self) -> usize {
+    pub fn count(&self) -> usize {
         // SAFETY: the handle is live.
-        unsafe { sys::ptpm_survey_count(&mut self.handle) }
+        unsafe { sys::ptpm_survey_count(&self.handle) }
     }
 
-    /// Tells what an answer says, and who gave it; a dataField in the room that it is given, for which [`MOST_DATA`] octets do. The
-    /// answers are counted from 0, in the order in which they came.
+    /// Reports what an answer says, and who gave it; a dataField in the room that it is given, for which [`MOST_DATA`] octets do.
+    /// The answers are counted from 0, in the order in which they came.
     ///
     /// # Errors
     ///
     /// [`Error::NoReport`], or [`Error::NoRoom`] for fewer octets than the dataField has.
-    pub fn answer<'a>(&mut self, place: usize, room: &'a mut [u8]) -> Result<(PortIdentity, Report<'a>), Error> {
+    pub fn answer<'a>(&self, place: usize, room: &'a mut [u8]) -> Result<(PortIdentity, Report<'a>), Error> {
         let mut source = sys::ptpm_source { clock: [0; 8], port: 0 };
         let report = told(room, |octets, most, size, error| {
             // SAFETY: source, octets, size and error may be written, and lie apart: each is borrowed mutably.
-            unsafe { sys::ptpm_survey_answer(&mut self.handle, place, &mut source, octets, most, size, error) }
+            unsafe { sys::ptpm_survey_answer(&self.handle, place, &mut source, octets, most, size, error) }
         })?;
         Ok((PortIdentity { clock: Identity(source.clock), port: source.port }, report))
     }
 
     /// The answers in the order in which they came, each with octets of its own.
-    pub fn answers(&mut self) -> Answers<'_> {
+    pub fn answers(&self) -> Answers<'_> {
         Answers { survey: self, place: 0 }
     }
 }
@@ -137,10 +138,10 @@ impl fmt::Debug for Survey {
     }
 }
 
-/// The answers of a survey, one behind the other.
+/// The answers of a survey, one after the other.
 #[derive(Debug)]
 pub struct Answers<'a> {
-    survey: &'a mut Survey,
+    survey: &'a Survey,
     place: usize,
 }
 

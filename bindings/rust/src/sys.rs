@@ -22,6 +22,8 @@ pub type ptpm_retuned = u32;
 pub type ptpm_session_received = u32;
 pub type ptpm_survey_received = u32;
 pub type ptpm_told = u32;
+pub type ptpm_saved = u32;
+pub type ptpm_restored = u32;
 
 #[repr(C)]
 pub struct ptpm_clock {
@@ -210,7 +212,24 @@ pub struct ptpm_source {
     pub port: u16,
 }
 
+#[repr(C)]
+#[derive(Clone, Copy)]
+pub struct ptpm_passed_on {
+    pub seed: u64,
+    pub places: [[u64; 6]; 4096],
+}
+
+#[repr(C)]
+#[derive(Clone, Copy)]
+pub struct ptpm_rate {
+    pub rate: u64,
+    pub left: u64,
+    pub time: u64,
+}
+
 extern "C" {
+    pub fn ptpm_version() -> u32;
+    pub fn ptpm_sizes_agree(sizes: *const usize, count: usize) -> ptpm_started;
     pub fn ptpm_clock_defaults(settings: *mut ptpm_clock_settings);
     pub fn ptpm_port_defaults(settings: *mut ptpm_port_settings);
     pub fn ptpm_clock_start(
@@ -248,7 +267,7 @@ extern "C" {
         left: *mut u8,
     ) -> ptpm_observed;
     pub fn ptpm_clock_read(
-        clock: *mut ptpm_clock,
+        clock: *const ptpm_clock,
         id: u16,
         port: u16,
         octets: *mut u8,
@@ -269,9 +288,16 @@ extern "C" {
     pub fn ptpm_session_resume(session: *mut ptpm_session, attempts: u8) -> ptpm_resumed;
     pub fn ptpm_session_retune(session: *mut ptpm_session, domain: u8) -> ptpm_retuned;
     pub fn ptpm_session_receive(session: *mut ptpm_session, datagram: *const u8, size: usize) -> ptpm_session_received;
-    pub fn ptpm_session_issued(session: *mut ptpm_session) -> u64;
-    pub fn ptpm_session_report(
+    pub fn ptpm_session_image(session: *const ptpm_session, octets: *mut u8, room: usize, size: *mut usize) -> ptpm_saved;
+    pub fn ptpm_session_restore(
         session: *mut ptpm_session,
+        settings: *const ptpm_session_settings,
+        image: *const u8,
+        size: usize,
+    ) -> ptpm_restored;
+    pub fn ptpm_session_issued(session: *const ptpm_session) -> u64;
+    pub fn ptpm_session_report(
+        session: *const ptpm_session,
         octets: *mut u8,
         room: usize,
         size: *mut usize,
@@ -279,11 +305,11 @@ extern "C" {
     ) -> ptpm_told;
     pub fn ptpm_session_stop(session: *mut ptpm_session);
     pub fn ptpm_survey_start(survey: *mut ptpm_survey, settings: *const ptpm_survey_settings) -> ptpm_started;
-    pub fn ptpm_survey_send(survey: *mut ptpm_survey, octets: *mut u8, room: usize, size: *mut usize) -> ptpm_sending;
+    pub fn ptpm_survey_send(survey: *const ptpm_survey, octets: *mut u8, room: usize, size: *mut usize) -> ptpm_sending;
     pub fn ptpm_survey_receive(survey: *mut ptpm_survey, datagram: *const u8, size: usize) -> ptpm_survey_received;
-    pub fn ptpm_survey_count(survey: *mut ptpm_survey) -> usize;
+    pub fn ptpm_survey_count(survey: *const ptpm_survey) -> usize;
     pub fn ptpm_survey_answer(
-        survey: *mut ptpm_survey,
+        survey: *const ptpm_survey,
         place: usize,
         source: *mut ptpm_source,
         octets: *mut u8,
@@ -292,6 +318,9 @@ extern "C" {
         error: *mut u16,
     ) -> ptpm_told;
     pub fn ptpm_survey_stop(survey: *mut ptpm_survey);
+    pub fn ptpm_passed_on_is_first(table: *mut ptpm_passed_on, message: *const u8, size: usize, now: u64, time: u64) -> bool;
+    pub fn ptpm_rate_start(rate: *mut ptpm_rate, tokens: u64, now: u64);
+    pub fn ptpm_rate_take(rate: *mut ptpm_rate, now: u64) -> bool;
     pub fn ptpm_id_named(name: *const c_char, size: usize) -> u32;
     pub fn ptpm_id_name(id: u16, text: *mut c_char, room: usize) -> usize;
     pub fn ptpm_answer_name(number: u32, text: *mut c_char, room: usize) -> usize;
@@ -304,19 +333,27 @@ pub const fn ptpm_is_refusal(answer: u32) -> bool {
     answer >= 32
 }
 
-// The library has the structs so.
-const _: () = {
-    assert!(size_of::<ptpm_clock>() == 16);
-    assert!(size_of::<ptpm_clock_settings>() == 216);
-    assert!(size_of::<ptpm_port_settings>() == 16);
-    assert!(size_of::<ptpm_observed_clock>() == 88);
-    assert!(size_of::<ptpm_observed_port>() == 16);
-    assert!(size_of::<ptpm_manager_settings>() == 12);
-    assert!(size_of::<ptpm_sent>() == 1476);
-    assert!(size_of::<ptpm_changed>() == 12);
-    assert!(size_of::<ptpm_session>() == 16);
-    assert!(size_of::<ptpm_session_settings>() == 26);
-    assert!(size_of::<ptpm_survey>() == 16);
-    assert!(size_of::<ptpm_survey_settings>() == 16);
-    assert!(size_of::<ptpm_source>() == 10);
-};
+/// The sizes of these structs, in their order.
+const SIZES: [usize; 15] = [
+    size_of::<ptpm_clock>(),
+    size_of::<ptpm_clock_settings>(),
+    size_of::<ptpm_port_settings>(),
+    size_of::<ptpm_observed_clock>(),
+    size_of::<ptpm_observed_port>(),
+    size_of::<ptpm_manager_settings>(),
+    size_of::<ptpm_sent>(),
+    size_of::<ptpm_changed>(),
+    size_of::<ptpm_session>(),
+    size_of::<ptpm_session_settings>(),
+    size_of::<ptpm_survey>(),
+    size_of::<ptpm_survey_settings>(),
+    size_of::<ptpm_source>(),
+    size_of::<ptpm_passed_on>(),
+    size_of::<ptpm_rate>(),
+];
+
+/// Compares these declarations with the library that is linked.
+pub fn ptpm_header_agrees() -> ptpm_started {
+    // SAFETY: the sizes may be read, and are as many as is said.
+    unsafe { ptpm_sizes_agree(SIZES.as_ptr(), SIZES.len()) }
+}

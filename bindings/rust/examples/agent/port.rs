@@ -55,7 +55,7 @@ fn checked(status: c_int) -> io::Result<c_int> {
 
 fn set<T: ?Sized>(socket: &OwnedFd, level: c_int, option: c_int, value: &T) -> io::Result<()> {
     let size = size_of_val(value) as u32;
-    // SAFETY: the value has so many octets, and the socket is open.
+    // SAFETY: the value has this many octets, and the socket is open.
     checked(unsafe { setsockopt(socket.as_raw_fd(), level, option, std::ptr::from_ref(value).cast(), size) })?;
     Ok(())
 }

@@ -1,30 +1,30 @@
-"""The file in which a manager's session with a clock goes on from run to run: the number of its next request. It is the file of
-ptpm-manage, by the same rules, so that programs take turns with it."""
+"""The file in which a manager's session with a clock goes on from run to run: the session's image. It is the file of ptpm-manage,
+by the same rules, so that programs take turns with it."""
 
 from __future__ import annotations
 
 import errno
 import fcntl
 import os
-import re
 import stat
 import threading
 import time
 from typing import Optional, Set, Union
 
+from . import _header as header
 from .identity import Identity, IdentityLike, PortIdentity, PortIdentityLike
 
 _TURN = 60.0
 _TRY_AGAIN = 0.01
-_LINE = re.compile(r"([0-9]{1,5})( [0-9a-f]{16}/[0-9]{1,5} [0-9a-f]{16})?\n?", re.ASCII)
+_MOST = header.PTPM_SESSION_IMAGE_OCTETS + 1  # of a larger file these are read
 
 # The locks of a process do not keep it from itself.
 _own: Set[str] = set()
 _own_turn = threading.Lock()
 
 
-class NumberFileError(Exception):
-    """A file of numbers is in another's hands, or is none."""
+class SessionFileError(Exception):
+    """A file is in another's hands, or is none."""
 
 
 def usual_path(manager: PortIdentityLike, target: IdentityLike) -> str:
@@ -38,18 +38,17 @@ def usual_path(manager: PortIdentityLike, target: IdentityLike) -> str:
     elif home.startswith("/"):
         folder = f"{home}/.local/state/ptpm"
     else:
-        raise NumberFileError("neither XDG_STATE_HOME nor HOME names a folder for the numbers")
+        raise SessionFileError("neither XDG_STATE_HOME nor HOME names a folder for the session")
     return f"{folder}/{who.clock}-{who.port}.{Identity.of(target)}"
 
 
-class NumberFile:
-    """The number of a session's next request; None where nobody knows it. Whoever holds it has its turn: others wait a minute for it.
-    It is held until it is closed, or its `with` ends."""
+class SessionFile:
+    """The octets of a session's file, or None if there is none yet. Whoever holds the file has its turn: others wait a minute. It
+    is held until it is closed, or its `with` ends."""
 
     def __init__(
         self, manager: PortIdentityLike, target: IdentityLike, path: Union[str, "os.PathLike[str]", None] = None
     ) -> None:
-        who = PortIdentity.of(manager)
         if path is None:
             self.path = usual_path(manager, target)
             os.makedirs(os.path.dirname(os.path.dirname(self.path)), mode=0o700, exist_ok=True)
@@ -57,18 +56,16 @@ class NumberFile:
             self.path = os.path.abspath(os.fspath(path))
         self._folder, self._name = os.path.split(self.path)
         if not os.path.isdir(self._folder):
-            os.mkdir(self._folder, 0o755)  # what stands above it is not made
-        self._owner = f" {who.clock}/{who.port} {Identity.of(target)}"
+            os.mkdir(self._folder, 0o755)  # no folder above it is made
         self._before: Optional[os.stat_result] = None
-        self._is_kept = False
         self._lock = self._take_turn()
         try:
-            self.number = self._read()
+            self.octets = self._read()
         except BaseException:
             self.close()
             raise
 
-    def __enter__(self) -> NumberFile:
+    def __enter__(self) -> SessionFile:
         return self
 
     def __exit__(self, *_: object) -> None:
@@ -77,7 +74,7 @@ class NumberFile:
     def _take_turn(self) -> int:
         with _own_turn:
             if self.path in _own:
-                raise NumberFileError(f"{self.path}: this program holds it already")
+                raise SessionFileError(f"{self.path}: this program holds it already")
             _own.add(self.path)
         try:
             return self._locked(time.monotonic() + _TURN)
@@ -110,7 +107,7 @@ class NumberFile:
                     raise
             if time.monotonic() >= until:
                 held = max(0, int(time.time() - os.fstat(lock).st_mtime))
-                raise NumberFileError(f"{self.path}: another run has held it for {held} s")
+                raise SessionFileError(f"{self.path}: another run has held it for {held} s")
             time.sleep(_TRY_AGAIN)
 
     def _stands_there(self, lock: int) -> bool:
@@ -120,34 +117,24 @@ class NumberFile:
             return False
         return os.path.samestat(found, os.fstat(lock))
 
-    def _read(self) -> Optional[int]:
+    def _read(self) -> Optional[bytes]:
         try:
             opened = os.open(self.path, os.O_RDONLY | os.O_NOFOLLOW | os.O_NONBLOCK | os.O_CLOEXEC)
         except FileNotFoundError:
-            os.unlink(self._write_new(0))  # where it can't be written nothing is to be sent
+            os.unlink(self._write_new(bytes(header.PTPM_SESSION_IMAGE_OCTETS)))  # if it can't be written, nothing is to be sent
             return None
         except OSError as error:
             if error.errno == errno.ELOOP:
-                raise NumberFileError(f"{self.path}: it is a link") from None
+                raise SessionFileError(f"{self.path}: it is a link") from None
             raise
         with open(opened, "rb") as file:
             self._before = os.fstat(opened)
             if not stat.S_ISREG(self._before.st_mode):
-                raise NumberFileError(f"{self.path}: it is no file")
-            text = file.read(128).decode("ascii", "replace")
-        return self._number_in(text)
+                raise SessionFileError(f"{self.path}: it is no file")
+            return file.read(_MOST)
 
-    def _number_in(self, text: str) -> int:
-        found = _LINE.fullmatch(text)
-        if found is None or int(found[1]) > 65535:
-            raise NumberFileError(f"{self.path}: it holds no number from 0 to 65535, alone or with its manager and its clock")
-        if found[2] is not None and found[2] != self._owner:
-            raise NumberFileError(f"OTHER_SESSION: {self.path} has the numbers of manager and clock{found[2]}, not of{self._owner}")
-        self._is_kept = found[2] is not None
-        return int(found[1])
-
-    def _write_new(self, number: int) -> str:
-        """Writes the file that is to stand in place of the old one, with its owner, as far as this user may, and its mode."""
+    def _write_new(self, octets: bytes) -> str:
+        """Writes the file that is to replace the old one. It has its owner, as far as this user may, and its mode."""
         path = f"{self.path}.new"
         if os.path.lexists(path):
             os.unlink(path)
@@ -155,7 +142,7 @@ class NumberFile:
         try:
             with open(opened, "wb") as file:
                 self._make_like_before(opened)
-                file.write(f"{number}{self._owner}\n".encode())
+                file.write(octets)
                 file.flush()
                 os.fsync(opened)
         except BaseException:
@@ -174,20 +161,25 @@ class NumberFile:
                 continue  # it is this user's then
         os.fchmod(opened, stat.S_IMODE(self._before.st_mode) & 0o777)
 
-    def keep(self, number: int) -> None:
-        """Has the file say that this is the number of the next request; it is on the disk when the call returns."""
-        if self._is_kept and self.number == number:
-            return
-        os.replace(self._write_new(number), self.path)
+    def write(self, octets: bytes) -> None:
+        """Has the file have these octets, whatever becomes of the program or the machine: they are on the disk when the call
+        returns."""
+        os.replace(self._write_new(octets), self.path)
         folder = os.open(self._folder, os.O_RDONLY | os.O_DIRECTORY | os.O_CLOEXEC)
         try:
             os.fsync(folder)
         finally:
             os.close(folder)
-        self.number, self._is_kept = number, True
+        self.octets = octets
+
+    @property
+    def is_open(self) -> bool:
+        """Whether it is held."""
+        return self._lock >= 0
 
     def close(self) -> None:
-        """Lets others have their turn. Where no number was kept, as of a clock that is not there, no lock stays beside it."""
+        """Lets others have their turn. If no session was kept, for example of a clock that is not there, no lock stays beside
+        it."""
         if self._lock < 0:
             return
         if not os.path.lexists(self.path) and os.path.lexists(f"{self.path}.lock"):
