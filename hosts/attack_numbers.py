@@ -24,8 +24,8 @@ def image(first, begun, request=b"", manager=MANAGER + "0001", clock=ME, ports=8
 
 
 def set_of(value):
-    """A SET of PRIORITY2 in an image."""
-    return bytes.fromhex("01200600000002") + bytes([value, 0])
+    """A SET of PRIORITY2, which is an id of no port, in an image."""
+    return bytes.fromhex("012006ffff0002") + bytes([value, 0])
 
 
 def octets(name):
@@ -129,7 +129,7 @@ def sessions():
         value = content[-2] if len(content) > 53 else 0
         check("what was under way is told", told == wanted.get(value, []))
     number = next_number("number")
-    write_octets("number", image(number, 1, bytes.fromhex("0120070000000204 00")))
+    write_octets("number", image(number, 1, bytes.fromhex("012007ffff00020400")))
     status, said, _ = two.sets()
     check("a clock that an earlier run's SET moves to another domain", status == 3 and "ptpm-manage: domainNumber 4\n" in said)
     status, said, _ = two.sets("-d", "4")
