@@ -77,7 +77,7 @@ class Handle:
 
     def __del__(self) -> None:
         if hasattr(self, "_turn"):
-            self.close()
+            Handle.close(self)
 
     def __reduce__(self) -> NoReturn:
         raise TypeError(f"a {type(self).__name__} is not copied")

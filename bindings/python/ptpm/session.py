@@ -67,15 +67,15 @@ class Session(Requests):
     def __exit__(
         self, kind: Optional[Type[BaseException]], error: Optional[BaseException], trace: Optional[TracebackType]
     ) -> None:
-        if kind is None:
-            self.close()
-        else:
-            super().close()
+        if kind is not None:
+            self._file = None  # what was answered may not be reported yet
+        self.close()
 
     def close(self) -> None:
         """Stops it. A file then has it without the request whose answer was reported."""
         if self._file is not None and self._file.is_open and self._is_fresh and not self.is_busy():
             self._file.write(self.image())
+        self._file = None
         super().close()
 
     def let_go(self) -> None:

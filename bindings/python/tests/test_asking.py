@@ -126,6 +126,16 @@ class Asking(Folder):
                 self.assertEqual(str(session.ask(self.way, ptpm.Action.GET, "PRIORITY1", timeout=1)), "priority1 22")
                 self.assertIsNone(session.earlier)
 
+    def test_an_answer_that_was_not_reported_comes_again(self) -> None:
+        settings = ptpm.SessionSettings(MANAGER, CLOCK)
+        with self.assertRaises(BrokenPipeError), ptpm.SessionFile(MANAGER, CLOCK) as file:
+            with ptpm.Session(settings, file, wait=0) as session:
+                session.ask(self.way, ptpm.Action.SET, "PRIORITY1", 31, timeout=1)
+                raise BrokenPipeError
+        with ptpm.SessionFile(MANAGER, CLOCK) as file, ptpm.Session(settings, file) as session:
+            session.ask(self.way, ptpm.Action.GET, "PRIORITY1", timeout=1)
+            self.assertEqual(str(session.earlier), "priority1 31")
+
     def test_a_file_of_another_session_is_refused(self) -> None:
         path = f"{self.folder}/session"
         image = ptpm.Requests(ptpm.SessionSettings(MANAGER, CLOCK, 7)).image()

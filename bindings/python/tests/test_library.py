@@ -4,6 +4,7 @@ Expected octets are those of IEEE 1588-2019, clauses 13.3, 15.4 and 15.5."""
 from __future__ import annotations
 
 import copy
+import doctest
 import unittest
 
 import ptpm
@@ -21,6 +22,13 @@ PLACES = dict(
     frequency_traceable=True, time_source=0x90,
 )
 PORT = ptpm.PortSettings(0x0A0B0C0D0E0F1A1B, ptpm.PortState.PRE_MASTER, -11, 3, 7, -6, ptpm.DelayMechanism.P2P, 4)
+
+
+def load_tests(_loader: unittest.TestLoader, tests: unittest.TestSuite, _pattern: object) -> unittest.TestSuite:
+    """The examples of the module too."""
+    for name in ("ptpm.identity", "ptpm.members", "ptpm.clock"):
+        tests.addTests(doctest.DocTestSuite(name))
+    return tests
 
 
 def request(number: int, target: str, hops: int, action: int, tlv: str) -> bytes:
