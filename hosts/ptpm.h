@@ -679,7 +679,7 @@ static inline enum ptpm_started ptpm_session_start_sized(struct ptpm_session *ha
             port matters for an id of a port alone.
    Answers: PTPM_BEGUN; or why not, and then nothing changes.
    Memory:  a copy of the dataField, until the request is answered.
-   Owed:    the caller sends the request, and keeps the number of the next in a place where a restart finds it. */
+   Owed:    the caller saves the session's image in a place where a restart finds it, and then sends the request. */
 enum ptpm_begun ptpm_session_begin(struct ptpm_session *session, uint8_t action, uint16_t id, uint16_t port,
                                    const uint8_t *octets, size_t size);
 

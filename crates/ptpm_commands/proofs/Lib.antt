@@ -1,2 +1,4 @@
 pub mod FreshClock
 pub mod IdentityTextLemmas
+pub mod Naming
+pub mod Telling

@@ -88,6 +88,10 @@ pub fn tell<F: fmt::Display, E: Write>(fault: &F, err: &mut E) -> io::Result<()>
 }
 
 impl From<FromHexError> for Fault {
+    ghost use Rattle.ptpm_commands.specs.Faults.{digits_fault};
+
+    ghost from_gives = { λ error fault. fault ≡ digits_fault error };
+
     fn from(error: FromHexError) -> Fault {
         match error {
             FromHexError::OutOfMemory => Fault::OutOfMemory,
@@ -97,6 +101,10 @@ impl From<FromHexError> for Fault {
 }
 
 impl From<DecodeError> for Fault {
+    ghost use Rattle.ptpm_commands.specs.declared.faults.Fault.TheVariants as faults;
+
+    ghost from_gives = { λ error fault. fault ≡ faults.Refused error };
+
     fn from(error: DecodeError) -> Fault {
         Fault::Refused(error)
     }
@@ -104,6 +112,10 @@ impl From<DecodeError> for Fault {
 
 /// Standard output is the only stream whose errors are passed on as they are.
 impl From<io::Error> for Fault {
+    ghost use Rattle.ptpm_commands.specs.declared.faults.Fault.TheVariants as faults;
+
+    ghost from_gives = { λ _ fault. fault ≡ faults.WriteFault };
+
     fn from(_error: io::Error) -> Fault {
         Fault::WriteFault
     }
