@@ -1,5 +1,5 @@
 -- `as_kept` lends what lies behind the pointer, and the pointer follows it.
-use mathlib.Core.List.{List, [], ◌∷◌, ◌++◌}
+use mathlib.Core.List.{List, [], ◌∷◌}
 use mathlib.Core.Path.{◌≡◌, ◌∙◌, refl, sym, ap}
 use Prim.Native.Nat.{ℕ}
 use seplogic.Ra.Ura.{Ura}
