@@ -1,0 +1,2 @@
+pub mod EntryOrder
+pub mod ImageLemmas

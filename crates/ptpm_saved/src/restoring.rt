@@ -1,0 +1,152 @@
+//! A clock back from its image (this project's profile).
+
+ghost use Rattle.std.specs.Prelude.{◌≡◌, ◌≤◌, ◌↔◌, IfErr, IfOk, IfSome, IsOkAnd, IsSomeAnd, IsTrue, List, MatchResult, None, length};
+ghost use Rattle.std.specs.FinMap as fin;
+ghost use Rattle.std.specs.Ordering.{is_lt};
+ghost use Rattle.ptpm_codec.specs.declared.identity.PortIdentity.{PortIdentity};
+ghost use Rattle.ptpm_codec.specs.Identity.{identity_cmp};
+ghost use Rattle.ptpm_table.specs.Entries.{Entry};
+ghost use Rattle.ptpm_table.specs.Lending.{IsAfter};
+ghost use Rattle.ptpm_saved.specs.Image.{AreEntries, SavedClock, entries_image};
+ghost use Rattle.ptpm_saved.specs.Restoring.{IsImageOf, IsRefused, IsRefusedByHead, IsRestored, head_refusal};
+
+use crate::error::RestoreError;
+use crate::image::{HEAD_OCTETS, head};
+use crate::reading::read_entry;
+use ptpm_agent::Agent;
+use ptpm_codec::PortIdentity;
+use ptpm_data::{DataSets, Reply};
+use ptpm_table::SureTable;
+use std::cmp::Ordering;
+
+/// How many entries a clock has at most, one for each manager.
+const ENTRIES: u8 = 16;
+
+/// The clock whose image this is, over a table without entries, of a clock of so many ports; and how many entries were let go,
+/// since their managers are not among those of the table. The first reason that holds is why it is refused. Takes no memory.
+pub fn restored<T: SureTable + Drop>(
+    image: &[u8],
+    ports: u16,
+    table: T,
+) -> Result<(Agent<T>, u8), RestoreError>
+    requires none { T.entries table ≡ fin.empty }
+    ensures restored { IfOk result
+        (λ r. (c : SavedClock) × IsImageOf c image.now × (r.0.sets ≡ c.sets)
+        × IsRestored (T.owner table).managers c.entries fin.empty (T.entries r.0.table) r.1) }
+    ensures owner { IfOk result (λ r. T.owner r.0.table ≡ T.owner table) }
+    ensures refused { IfErr result (λ e. IsRefused (T.owner table).identity ports image.now e) }
+    ensures found { (c : SavedClock) → IsImageOf c image.now
+        → c.sets.default.identity ≡ (T.owner table).identity → length c.sets.ports ≡ ports
+        → IsOkAnd result (λ r. (r.0.sets ≡ c.sets)
+        × IsRestored (T.owner table).managers c.entries fin.empty (T.entries r.0.table) r.1) }
+{
+    judge_head(image)?;
+    let mut table = table;
+    let Some((sets, gone)) = read_body(image, &mut table) else {
+        return Err(RestoreError::Damaged);
+    };
+    if sets.identity() != table.clock() {
+        return Err(RestoreError::OtherClock);
+    }
+    if sets.port_count() != ports {
+        return Err(RestoreError::OtherPorts);
+    }
+    Ok((Agent::new(sets, table), gone))
+}
+
+/// Judges what the head says.
+#[tactic(auto, unfolding(crate::specs::Restoring::head_refusal))]
+fn judge_head(image: &[u8]) -> Result<(), RestoreError>
+    ensures refusal { MatchResult result (λ _. head_refusal image.now ≡ None)
+        (λ e. IsRefusedByHead image.now e) }
+    ensures long { IfOk result (λ _. 12 ≤ length image.now) }
+{
+    if image.len() < HEAD_OCTETS || image[..4] != b"ptpm"[..] {
+        return Err(RestoreError::NotAnImage);
+    }
+    if image[5] != 1 {
+        return Err(RestoreError::OtherVersion);
+    }
+    if image[4] != 1 {
+        return Err(RestoreError::OtherKind);
+    }
+    Ok(())
+}
+
+/// The data sets of an image, and how many of its entries were let go; the others are kept. `None` of other octets, whatever
+/// was kept then.
+fn read_body<T: SureTable>(image: &[u8], table: &mut T) -> Option<(DataSets, u8)>
+    requires long { 12 ≤ length image.now }
+    ensures sound { IfSome result
+        (λ r. (c : SavedClock) × IsImageOf c image.now × (r.0 ≡ c.sets)
+        × IsRestored (T.owner table.old).managers c.entries (T.entries table.old)
+        (T.entries table.new) r.1) }
+    ensures found { (c : SavedClock) → IsImageOf c image.now
+        → IsSomeAnd result (λ r. (r.0 ≡ c.sets)
+        × IsRestored (T.owner table.old).managers c.entries (T.entries table.old)
+        (T.entries table.new) r.1) }
+    ensures owner { T.owner table.new ≡ T.owner table.old }
+{
+    let (front, body) = image.split_at(HEAD_OCTETS);
+    if front != head(body.len() % 4_294_967_296).as_slice() {
+        return None;
+    }
+    let sets = DataSets::restored(body)?;
+    let (_, octets) = body.split_at(sets.image_size());
+    let (count, octets) = octets.split_first()?;
+    let gone = read_entries(*count, octets, table)?;
+    Some((sets, gone))
+}
+
+/// Keeps the entries of which the table knows the managers, of so many whose images stand there and nothing else, and answers how many
+/// the others are. `None` of other octets.
+fn read_entries<T: SureTable>(count: u8, octets: &[u8], table: &mut T) -> Option<u8>
+    ensures sound { IfSome result
+        (λ gone. (es : List (PortIdentity × Entry)) × AreEntries es × (length es ≡ count)
+        × (octets.now ≡ entries_image es)
+        × IsRestored (T.owner table.old).managers es (T.entries table.old) (T.entries table.new)
+        gone) }
+    ensures found { (es : List (PortIdentity × Entry)) → AreEntries es → length es ≡ count
+        → octets.now ≡ entries_image es
+        → IsSomeAnd result (λ gone. IsRestored (T.owner table.old).managers es
+        (T.entries table.old) (T.entries table.new) gone) }
+    ensures owner { T.owner table.new ≡ T.owner table.old }
+{
+    if ENTRIES < count {
+        return None;
+    }
+    let mut reply = Reply::empty();
+    let mut octets = octets;
+    let mut after = None;
+    let mut gone = 0;
+    for _place in 0..count {
+        let (entry, rest) = read_entry(octets, &mut reply)?;
+        if !comes_after(&entry.manager, after) {
+            return None;
+        }
+        if table.knows(&entry.manager) {
+            table.replace(&entry.manager, entry.number, &entry.request, &reply);
+        } else {
+            gone += 1;
+        }
+        after = Some(entry.manager);
+        octets = rest;
+    }
+    if octets.is_empty() { Some(gone) } else { None }
+}
+
+/// Whether a manager comes after another one; any does after none.
+fn comes_after(who: &PortIdentity, other: Option<PortIdentity>) -> bool
+    ensures { IsTrue result ↔ IsAfter other who.now }
+{
+    match other {
+        None => true,
+        Some(other) => is_before(&other, who),
+    }
+}
+
+fn is_before(who: &PortIdentity, other: &PortIdentity) -> bool
+    ensures { result ≡ is_lt (identity_cmp who.now other.now) }
+{
+    who.cmp(other) == Ordering::Less
+}
