@@ -1,11 +1,11 @@
 -- The entries of a table in the order of their managers: which of them comes next.
-use Rattle.std.proofs.Common.{suc, zero, arith, ◌≡◌, ℕ, ◌+◌, ◌<◌, ◌≤◌, Bool, true, false, cond, refl, sym, ◌∙◌, ap, subst, ⊎_elim, List, [], ◌∷◌, length, drop, Option, Some, None, ◌&&◌, slice_get}
-use Rattle.std.proofs.lemmas.Bool.{cases_lt, cases_Bool, and_parts, cond-true, cond-false}
+use Rattle.std.proofs.Common.{suc, zero, arith, ◌≡◌, ℕ, ◌<◌, ◌≤◌, Bool, true, false, cond, refl, sym, ◌∙◌, ap, subst, List, [], ◌∷◌, length, drop, Option, Some, None, ◌&&◌, slice_get}
+use Rattle.std.proofs.lemmas.Bool.{and_parts}
 use Rattle.std.proofs.lemmas.Option.{slice_get_within}
 use Rattle.std.proofs.lemmas.Cmp.{tied_itself}
 use Rattle.std.specs.Prelude.{option_map}
-use Rattle.std.specs.FinMap.{FinMap, entries, entries_sorted, find, get, get-entries, is_sorted}
-use Rattle.std.specs.Ordering.{eq_by_cmp, is_eq, is_lt, ordering_reverse}
+use Rattle.std.specs.FinMap.{entries, entries_sorted, find, get, get-entries, is_sorted}
+use Rattle.std.specs.Ordering.{is_eq, is_lt, ordering_reverse}
 use Rattle.std.specs.Prelude.{T}
 use Rattle.std.specs.declared.cmp.Ordering.{Ordering}
 use Rattle.std.specs.declared.cmp.Ordering.TheVariants.{Equal, Greater, Less}
@@ -18,10 +18,10 @@ use Rattle.ptpm_table.proofs.Identities.{exact_identities, identities_total}
 abbrev pub Pair : Type 0
 Pair = PortIdentity × Entry
 
-same_Some : {A : Type 0} (x y : A) → Some x ≡ Some y → x ≡ y
+pub same_Some : {A : Type 0} (x y : A) → Some x ≡ Some y → x ≡ y
 same_Some x y e = cc
 
-lt_less : (o : Ordering) → is_lt o ≡ true → o ≡ Less
+pub lt_less : (o : Ordering) → is_lt o ≡ true → o ≡ Less
 lt_less Less h = refl
 lt_less Equal h = absurd (cc)
 lt_less Greater h = absurd (cc)
@@ -43,16 +43,16 @@ sorted_entries m = true_of _ (entries_sorted m)
 
 -- ---- lists in order
 
-abbrev below_all : PortIdentity → List Pair → Bool
+abbrev pub below_all : PortIdentity → List Pair → Bool
 below_all p [] = true
 below_all p (e ∷ es) = is_lt (identity_cmp p e.0) && below_all p es
 
-sorted_parts : (e : Pair) (es : List Pair)
+pub sorted_parts : (e : Pair) (es : List Pair)
     → is_sorted identity_cmp (e ∷ es) ≡ true
     → (below_all e.0 es ≡ true) × (is_sorted identity_cmp es ≡ true)
 sorted_parts e es h = and_parts (below_all e.0 es) (is_sorted identity_cmp es) h
 
-below_at : (p : PortIdentity) (es : List Pair) (i : ℕ) (e : Pair)
+pub below_at : (p : PortIdentity) (es : List Pair) (i : ℕ) (e : Pair)
     → below_all p es ≡ true
     → slice_get es i ≡ Some e
     → identity_cmp p e.0 ≡ Less
@@ -113,7 +113,7 @@ sorted_drop [] (suc i) h = h
 sorted_drop (x ∷ es) (suc i) h = sorted_drop es i (sorted_parts x es h).1
 
 -- a manager before all of a list is not found in it
-find_less : (q : PortIdentity) (es : List Pair)
+pub find_less : (q : PortIdentity) (es : List Pair)
     → ((j : ℕ) (e : Pair) → slice_get es j ≡ Some e → identity_cmp q e.0 ≡ Less)
     → find identity_cmp q es ≡ None
 find_less q [] h = refl

@@ -1,5 +1,5 @@
 -- Images by their parts: one more entry, one more answer, and how many octets they have.
-use Rattle.std.proofs.Common.{suc, zero, arith, ◌≡◌, ℕ, ◌+◌, ◌*◌, ◌-◌, ◌<◌, ◌≤◌, Bool, true, false, refl, sym, ◌∙◌, ap, subst, List, [], ◌∷◌, ◌++◌, length, take, Option, Some, None, slice_get, All, append_assoc, append-nil, length-append}
+use Rattle.std.proofs.Common.{suc, zero, arith, ◌≡◌, ℕ, ◌+◌, ◌*◌, ◌-◌, ◌<◌, ◌≤◌, Bool, true, false, refl, sym, ◌∙◌, ap, subst, List, [], ◌∷◌, ◌++◌, length, take, Option, Some, slice_get, All, append_assoc, append-nil, length-append}
 use Rattle.std.specs.List.{flat_map}
 use Rattle.std.specs.FinMap.{entries}
 use Rattle.std.proofs.lemmas.Option.{get_or_from_slice_get, slice_get_within}
@@ -13,7 +13,7 @@ use Rattle.ptpm_data.specs.ManagementId.{is_of_port}
 use Rattle.ptpm_agent.specs.Turn.{State}
 use Rattle.ptpm_manager.specs.Image.{image_head}
 use Rattle.ptpm_table.specs.Entries.{Entries, Entry, FitsAnswer, FitsCount, FitsOutcome, FitsRequest}
-use Rattle.ptpm_table.specs.Lending.{IsKeepable, IsNext, ManagerEntry}
+use Rattle.ptpm_table.specs.Lending.{IsNext, ManagerEntry}
 use Rattle.ptpm_codec.specs.declared.identity.PortIdentity.{PortIdentity}
 use Rattle.ptpm_saved.specs.Image.{answer_image, answers_image, body_image, clock_image, entries_image, entry_image, outcome_image, port_octets, saved_image, saved_of}
 use Rattle.ptpm_saved.proofs.EntryOrder.{after_at, after_next, next_is}
@@ -183,7 +183,7 @@ lent m i after x so inside next =
 
 -- ---- the whole
 
-head_length : (kind size : ℕ) → length (image_head kind size) ≡ 12
+pub head_length : (kind size : ℕ) → length (image_head kind size) ≡ 12
 unfolding image_head
 head_length kind size = refl
 

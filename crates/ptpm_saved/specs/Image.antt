@@ -1,6 +1,6 @@
 -- The image of a clock: the octets in which its data sets, and what is kept of each manager, outlast the clock's power. A head says
 -- what the image is of. Numbers of several octets have the highest octet first (this project's profile).
-use Rattle.std.specs.Prelude.{◌≡◌, ◌≤◌, ℕ, IsTrue, List, [], ◌∷◌, ◌++◌, length, Option, Some, None}
+use Rattle.std.specs.Prelude.{◌≤◌, ℕ, IsTrue, List, [], ◌∷◌, ◌++◌, length, Option, Some, None}
 use Rattle.std.specs.FinMap as fin
 use Rattle.std.specs.FinMap.{is_sorted}
 use Rattle.std.specs.List.{All, flat_map}
@@ -14,7 +14,7 @@ use Rattle.ptpm_data.specs.Members.{DataSetsValue, IsConsistent}
 use Rattle.ptpm_data.specs.Reply as reply
 use Rattle.ptpm_data.specs.Reply.{Answer, Outcome, ReplyValue}
 use Rattle.ptpm_table.specs.Entries.{Entry}
-use Rattle.ptpm_table.specs.Lending.{EntryFits, IsKeepable, ManagerEntry}
+use Rattle.ptpm_table.specs.Lending.{EntryFits, IsKeepable}
 use Rattle.ptpm_agent.specs.Turn.{State}
 use Rattle.ptpm_manager.specs.Image.{image_head, request_image}
 

@@ -1,12 +1,11 @@
 -- Which clock octets restore, over the table of a clock with these managers, and why they restore none (this project's profile).
-use Rattle.std.specs.Prelude.{◌≡◌, ◌≢◌, ℕ, ◌+◌, ◌==◌, ◌||◌, not, nat_lt, Bool, true, false, if◌then◌else◌, List, [], ◌∷◌, length, take, bytes_eq, Option, Some, None}
+use Rattle.std.specs.Prelude.{◌≡◌, ◌≢◌, ℕ, ◌+◌, ◌==◌, ◌||◌, not, nat_lt, Bool, if◌then◌else◌, List, [], ◌∷◌, length, take, bytes_eq, Option, Some, None}
 use Rattle.std.specs.FinMap as fin
 use Rattle.ptpm_codec.specs.declared.identity.ClockIdentity.{ClockIdentity}
 use Rattle.ptpm_codec.specs.declared.identity.PortIdentity.{PortIdentity}
 use Rattle.ptpm_codec.specs.Layout.{octet}
 use Rattle.ptpm_codec.specs.Ordered.{first_of}
 use Rattle.ptpm_table.specs.Entries.{Entries, Entry, is_known}
-use Rattle.ptpm_table.specs.Managers.{Clock}
 use Rattle.ptpm_manager.specs.Image.{image_version, mark}
 use Rattle.ptpm_saved.specs.declared.error.RestoreError.{RestoreError}
 use Rattle.ptpm_saved.specs.declared.error.RestoreError.TheVariants as restores

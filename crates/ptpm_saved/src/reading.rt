@@ -29,7 +29,7 @@ pub(crate) struct SavedRequest<'a> {
 
 /// The entry whose image stands in front, and what stands behind it; the reply is left in its place. `None` where no image
 /// of an entry stands there, whatever the reply is then.
-#[tactic(auto, unfolding(crate::specs::Image::entry_image, crate::specs::Image::front_image))]
+#[tactic(auto, using(crate::proofs::ReadingLemmas::entry_parts))]
 pub(crate) fn read_entry<'a>(
     octets: &'a [u8],
     reply: &mut Reply,
@@ -54,13 +54,13 @@ pub(crate) fn read_entry<'a>(
 }
 
 /// The reply to a request, by its answers, and what stands behind them.
-#[tactic(auto, unfolding(crate::specs::Image::answers_image))]
 fn read_reply<'a>(request: &Request<'_>, octets: &'a [u8], reply: &mut Reply) -> Option<&'a [u8]>
     requires { IsRequestAction request.now.action }
     ensures sound { IfSome result
         (λ rest. octets.now ≡ reply_image reply.new ++ rest.now) }
     ensures keepable { (n : ℕ) → IfSome result
         (λ _. IsKeepable (record { number = n; request = request.now; reply = reply.new })) }
+    ensures fits { IfSome result (λ _. All AnswerFits reply.new.answers) }
     ensures found { (n : ℕ) (r : ReplyValue) (rest : List ℕ)
         → IsKeepable (record { number = n; request = request.now; reply = r })
         → All AnswerFits r.answers
@@ -76,11 +76,10 @@ fn read_reply<'a>(request: &Request<'_>, octets: &'a [u8], reply: &mut Reply) ->
         return None;
     }
     let octets = read_answers(count, of_port, octets, &mut reply.answers)?;
-    if fit_answers(of_port, request.action, reply.answers.as_slice()) {
-        Some(octets)
-    } else {
-        None
+    if !fit_answers(of_port, request.action, reply.answers.as_slice()) {
+        return None;
     }
+    Some(octets)
 }
 
 /// So many answers, in the place of what is there, and what stands behind them.
@@ -94,6 +93,7 @@ fn read_answers<'a>(
     ensures count { IfSome result (λ rest. length answers.new.items ≡ count) }
     ensures sound { IfSome result
         (λ rest. octets.now ≡ answers_image (map answer_of answers.new.items) ++ rest.now) }
+    ensures fits { IfSome result (λ _. All AnswerFits (map answer_of answers.new.items)) }
     ensures found { (xs : List Answer) (rest : List ℕ) → length xs ≡ count
         → All (IsOfPort of_port) xs → All AnswerFits xs → All IsSmall xs
         → octets.now ≡ answers_image xs ++ rest
@@ -112,6 +112,7 @@ fn read_answers<'a>(
 #[tactic(auto, unfolding(crate::specs::Image::answer_image))]
 fn read_answer(of_port: bool, octets: &[u8]) -> Option<(PortAnswer, &[u8])>
     ensures sound { IfSome result (λ p. octets.now ≡ answer_image (answer_of p.0) ++ p.1.now) }
+    ensures fits { IfSome result (λ p. AnswerFits (answer_of p.0)) }
     ensures found { (a : Answer) (rest : List ℕ) → IsOfPort of_port a → AnswerFits a → IsSmall a
         → octets.now ≡ answer_image a ++ rest
         → IsSomeAnd result (λ p. (answer_of p.0 ≡ a) × (p.1.now ≡ rest)) }
@@ -123,6 +124,7 @@ fn read_answer(of_port: bool, octets: &[u8]) -> Option<(PortAnswer, &[u8])>
 
 fn read_port(of_port: bool, octets: &[u8]) -> Option<(Option<u16>, &[u8])>
     ensures sound { IfSome result (λ p. octets.now ≡ port_octets p.0 ++ p.1.now) }
+    ensures fits { IfSome result (λ p. (n : ℕ) → p.0 ≡ Some n → n < 2 ^ 16) }
     ensures found { (a : Answer) (rest : List ℕ) → IsOfPort of_port a → AnswerFits a
         → octets.now ≡ port_octets a.port ++ rest
         → IsSomeAnd result (λ p. (p.0 ≡ a.port) × (p.1.now ≡ rest)) }
@@ -183,6 +185,7 @@ fn read_refusal(octets: &[u8]) -> Option<(What, &[u8])>
 fn read_request(octets: &[u8]) -> Option<(Request<'_>, &[u8])>
     ensures sound { IfSome result (λ p. octets.now ≡ request_image p.0 ++ p.1.now) }
     ensures asks { IfSome result (λ p. IsRequestAction p.0.action) }
+    ensures fits { IfSome result (λ p. RequestFits p.0) }
     ensures found { (q : RequestValue) (rest : List ℕ) → IsRequestAction q.action → RequestFits q
         → octets.now ≡ request_image q ++ rest
         → IsSomeAnd result (λ p. (p.0 ≡ q) × (p.1.now ≡ rest)) }

@@ -1,21 +1,23 @@
 //! A clock back from its image (this project's profile).
 
-ghost use Rattle.std.specs.Prelude.{◌≡◌, ◌≤◌, ◌↔◌, IfErr, IfOk, IfSome, IsOkAnd, IsSomeAnd, IsTrue, List, MatchResult, None, length};
+ghost use Rattle.std.specs.Prelude.{◌≡◌, ◌≤◌, ◌%◌, ◌↔◌, IfErr, IfOk, IfSome, IsOkAnd, IsSomeAnd, IsTrue, List, MatchResult, None, if◌then◌else◌, length};
 ghost use Rattle.std.specs.FinMap as fin;
 ghost use Rattle.std.specs.Ordering.{is_lt};
 ghost use Rattle.ptpm_codec.specs.declared.identity.PortIdentity.{PortIdentity};
 ghost use Rattle.ptpm_codec.specs.Identity.{identity_cmp};
-ghost use Rattle.ptpm_table.specs.Entries.{Entry};
-ghost use Rattle.ptpm_table.specs.Lending.{IsAfter};
+ghost use Rattle.ptpm_table.specs.Entries.{Entry, is_known};
+ghost use Rattle.ptpm_table.specs.Lending.{IsAfter, IsKeepable};
+ghost use Rattle.ptpm_manager.specs.Image.{image_head};
 ghost use Rattle.ptpm_saved.specs.Image.{AreEntries, SavedClock, entries_image};
-ghost use Rattle.ptpm_saved.specs.Restoring.{IsImageOf, IsRefused, IsRefusedByHead, IsRestored, head_refusal};
+ghost use Rattle.ptpm_saved.specs.Restoring.{IsImageOf, IsRefused, IsRefusedByHead, IsRestored, head_refusal, kept_by};
+ghost use Rattle.ptpm_saved.specs.Reading.{entry_read};
 
 use crate::error::RestoreError;
 use crate::image::{HEAD_OCTETS, head};
-use crate::reading::read_entry;
+use crate::reading::{SavedRequest, read_entry};
 use ptpm_agent::Agent;
 use ptpm_codec::PortIdentity;
-use ptpm_data::{DataSets, Reply};
+use ptpm_data::{DataSets, Reply, data_sets_law, fits_law};
 use ptpm_table::SureTable;
 use std::cmp::Ordering;
 
@@ -88,14 +90,23 @@ fn read_body<T: SureTable>(image: &[u8], table: &mut T) -> Option<(DataSets, u8)
     ensures owner { T.owner table.new ≡ T.owner table.old }
 {
     let (front, body) = image.split_at(HEAD_OCTETS);
-    if front != head(body.len() % 4_294_967_296).as_slice() {
+    if !is_head(front, body.len()) {
         return None;
     }
     let sets = DataSets::restored(body)?;
+    data_sets_law(&sets);
+    fits_law(&sets);
     let (_, octets) = body.split_at(sets.image_size());
     let (count, octets) = octets.split_first()?;
     let gone = read_entries(*count, octets, table)?;
     Some((sets, gone))
+}
+
+/// Whether this is the head of an image with so many octets behind it.
+fn is_head(front: &[u8], size: usize) -> bool
+    ensures { IsTrue result ↔ front.now ≡ image_head 1 (size % 4294967296) }
+{
+    front == head(size % 4_294_967_296).as_slice()
 }
 
 /// Keeps the entries of which the table knows the managers, of so many whose images stand there and nothing else, and answers how many
@@ -124,15 +135,30 @@ fn read_entries<T: SureTable>(count: u8, octets: &[u8], table: &mut T) -> Option
         if !comes_after(&entry.manager, after) {
             return None;
         }
-        if table.knows(&entry.manager) {
-            table.replace(&entry.manager, entry.number, &entry.request, &reply);
-        } else {
-            gone += 1;
-        }
+        let lost = keep(table, &entry, &reply);
+        gone += lost;
         after = Some(entry.manager);
         octets = rest;
     }
     if octets.is_empty() { Some(gone) } else { None }
+}
+
+/// Keeps an entry where the table knows its manager, and answers how many are let go: none or one.
+fn keep<T: SureTable>(table: &mut T, entry: &SavedRequest<'_>, reply: &Reply) -> u8
+    requires { IsKeepable (entry_read entry.now reply.now).1 }
+    ensures entries { T.entries table.new
+        ≡ kept_by (is_known entry.now.manager (T.owner table.old).managers) (T.entries table.old)
+        (entry_read entry.now reply.now) }
+    ensures gone { result
+        ≡ (if is_known entry.now.manager (T.owner table.old).managers then 0 else 1) }
+    ensures owner { T.owner table.new ≡ T.owner table.old }
+{
+    if table.knows(&entry.manager) {
+        table.replace(&entry.manager, entry.number, &entry.request, reply);
+        0
+    } else {
+        1
+    }
 }
 
 /// Whether a manager comes after another one; any does after none.

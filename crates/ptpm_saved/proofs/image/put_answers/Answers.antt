@@ -1,4 +1,3 @@
-use Rattle.std.proofs.Common.{arith}
 use Rattle.ptpm_saved.proofs.ImageLemmas.{answer_at, answer_small, answers_on, no_answers, room_for}
 use Rattle.ptpm_data.specs.ManagementId.{is_of_port}
 use Rattle.ptpm_table.specs.Lending.{lent_answer}
