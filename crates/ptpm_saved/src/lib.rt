@@ -4,6 +4,7 @@
 mod error;
 mod image;
 mod keepable;
+pub mod laws;
 mod reading;
 mod restoring;
 

@@ -1,14 +1,17 @@
 //! A clock back from its image (this project's profile).
 
-ghost use Rattle.std.specs.Prelude.{◌≡◌, ◌≤◌, ◌%◌, ◌↔◌, IfErr, IfOk, IfSome, IsOkAnd, IsSomeAnd, IsTrue, List, MatchResult, None, if◌then◌else◌, length};
+ghost use Rattle.std.specs.Prelude.{◌≡◌, ◌≤◌, ◌%◌, ◌↔◌, IfErr, IfOk, IfSome, IsOkAnd, IsSomeAnd, IsTrue, List, MatchResult, None, true, if◌then◌else◌, length};
 ghost use Rattle.std.specs.FinMap as fin;
+ghost use Rattle.std.specs.List.{All};
 ghost use Rattle.std.specs.Ordering.{is_lt};
+ghost use Rattle.ptpm_agent.specs.Agent.{state_of};
+ghost use Rattle.ptpm_agent.specs.Turn.{State};
 ghost use Rattle.ptpm_codec.specs.declared.identity.PortIdentity.{PortIdentity};
 ghost use Rattle.ptpm_codec.specs.Identity.{identity_cmp};
 ghost use Rattle.ptpm_table.specs.Entries.{Entry, is_known};
 ghost use Rattle.ptpm_table.specs.Lending.{IsAfter, IsKeepable};
 ghost use Rattle.ptpm_manager.specs.Image.{image_head};
-ghost use Rattle.ptpm_saved.specs.Image.{AreEntries, SavedClock, entries_image};
+ghost use Rattle.ptpm_saved.specs.Image.{AreEntries, IsSaved, SavedClock, clock_image, entries_image, saved_of};
 ghost use Rattle.ptpm_saved.specs.Restoring.{IsImageOf, IsRefused, IsRefusedByHead, IsRestored, head_refusal, kept_by};
 ghost use Rattle.ptpm_saved.specs.Reading.{entry_read};
 
@@ -41,6 +44,12 @@ pub fn restored<T: SureTable + Drop>(
         → c.sets.default.identity ≡ (T.owner table).identity → length c.sets.ports ≡ ports
         → IsOkAnd result (λ r. (r.0.sets ≡ c.sets)
         × IsRestored (T.owner table).managers c.entries fin.empty (T.entries r.0.table) r.1) }
+
+    // The image of a clock, whose managers are all known to the table, restores this clock, and lets none of them go.
+    ensures back { (s : State) → IsSaved (saved_of s) → image.now ≡ clock_image s
+        → s.sets.default.identity ≡ (T.owner table).identity → length s.sets.ports ≡ ports
+        → All (λ e. is_known e.0 (T.owner table).managers ≡ true) (fin.entries s.entries)
+        → IsOkAnd result (λ r. (state_of T.entries r.0 ≡ s) × (r.1 ≡ 0)) }
 {
     judge_head(image)?;
     let mut table = table;
