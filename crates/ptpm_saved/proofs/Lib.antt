@@ -1,0 +1,6 @@
+pub mod EntryOrder
+pub mod ImageLemmas
+pub mod RestoringLemmas
+pub mod ReadingLemmas
+pub mod KeptAll
+pub mod BodyLemmas

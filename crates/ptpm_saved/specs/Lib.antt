@@ -1,0 +1,4 @@
+pub mod ErrorText
+pub mod Image
+pub mod Reading
+pub mod Restoring

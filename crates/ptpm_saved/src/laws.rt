@@ -1,0 +1,39 @@
+//! Laws of images, each the contract of a function that changes nothing.
+
+ghost use Rattle.std.specs.Prelude.{◌≡◌, true};
+ghost use Rattle.std.specs.FinMap as fin;
+ghost use Rattle.std.specs.List.{All};
+ghost use Rattle.ptpm_agent.specs.Agent.{state_of};
+ghost use Rattle.ptpm_table.specs.Entries.{is_known};
+ghost use Rattle.ptpm_saved.specs.Image.{AreEntries, IsSaved, saved_of};
+
+use ptpm_agent::Agent;
+use ptpm_data::{data_sets_law, fits_law};
+use ptpm_table::LendingTable;
+
+/// Every clock can be saved: so its image restores it, whole where the managers are the same.
+pub fn clock_law<T: LendingTable + Drop>(agent: &Agent<T>)
+    ensures saved { IsSaved (saved_of (state_of T.entries agent.now)) }
+    ensures known { All (λ e. is_known e.0 (T.owner agent.now.table).managers ≡ true)
+        (fin.entries (T.entries agent.now.table)) }
+{
+    let sets = agent.sets();
+    data_sets_law(sets);
+    fits_law(sets);
+    entries_law(agent.table());
+}
+
+/// The entries of a table are sixteen at most, in the order of their managers, and of its managers; and a table would keep each.
+fn entries_law<T: LendingTable>(table: &T)
+    ensures entries { AreEntries (fin.entries (T.entries table.now)) }
+    ensures known { All (λ e. is_known e.0 (T.owner table.now).managers ≡ true)
+        (fin.entries (T.entries table.now)) }
+{
+    let mut after = None;
+    for _place in 0..table.entry_count() {
+        let Some(entry) = table.next_entry(after) else {
+            unreachable!()
+        };
+        after = Some(entry.manager());
+    }
+}
