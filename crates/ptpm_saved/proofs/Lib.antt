@@ -4,3 +4,5 @@ pub mod RestoringLemmas
 pub mod ReadingLemmas
 pub mod KeptAll
 pub mod BodyLemmas
+pub mod SavingLaws
+pub mod SavingClockLaws
