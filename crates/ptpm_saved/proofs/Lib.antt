@@ -6,3 +6,4 @@ pub mod KeptAll
 pub mod BodyLemmas
 pub mod SavingLaws
 pub mod SavingClockLaws
+pub mod SavingSessionLaws

@@ -1,11 +1,11 @@
 -- A clock is a sound process.
-use Rattle.std.proofs.Common.{◌≡◌, ◌≢◌, ◌∙◌, ap, refl, sym, subst, Bool, true, false, List, [], ◌∷◌, ℕ, Result, Ok, Err}
+use Rattle.std.proofs.Common.{◌≡◌, ◌∙◌, ap, refl, sym, false, List, [], ◌∷◌, ℕ, Result, Ok, Err}
 use Rattle.std.proofs.lemmas.Bool.{false≢true}
 use Rattle.ptpm_codec.specs.declared.error.DecodeError.{DecodeError}
 use Rattle.ptpm_codec.specs.declared.message.Message.{Message}
 use Rattle.ptpm_codec.specs.Reading.{reading}
-use Rattle.ptpm_data.specs.ObservationBack.{Observation, observed_again, observed_each}
-use Rattle.ptpm_data.specs.Members.{DataSetsValue, IsConsistent}
+use Rattle.ptpm_data.specs.ObservationBack.{Observation, observed_each}
+use Rattle.ptpm_data.specs.Members.{IsConsistent}
 use Rattle.ptpm_data.proofs.Consistency.{changed_by-consistent, observed-consistent}
 use Rattle.ptpm_data.proofs.ObservingBack.{observed_back}
 use Rattle.ptpm_table.specs.Managers.{Clock}

@@ -1,6 +1,6 @@
 -- Each event keeps what is said of a process that saves before it sends.
 use Rattle.std.proofs.Common.{◌≡◌, Bool, true, false, ◌||◌, List, [], ◌∷◌, ◌++◌, refl, sym, ap, ◌∙◌, subst, append_assoc, append-nil}
-use Rattle.std.proofs.lemmas.Bool.{false≢true, or_parts}
+use Rattle.std.proofs.lemmas.Bool.{false≢true}
 use Rattle.ptpm_saved.specs.Saving.{Came, Comes, Device, Ends, Event, Fails, Happening, IsAsIfPowered, IsPartOf, IsSound, Keeps, Loses, Noted, Notes, Process, Saves, Sends, after_all, after_one, all_messages, comings, happen_all, happens, inputs, messages_of, noted_each, sent_first, started, took}
 
 -- ---- some of a list

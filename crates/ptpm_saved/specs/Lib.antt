@@ -4,3 +4,4 @@ pub mod Reading
 pub mod Restoring
 pub mod Saving
 pub mod SavingClock
+pub mod SavingSession

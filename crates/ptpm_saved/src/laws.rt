@@ -10,6 +10,8 @@ ghost use Rattle.ptpm_data.specs.Members.{IsConsistent};
 ghost use Rattle.ptpm_data.specs.ObservationBack.{Observation};
 ghost use Rattle.ptpm_table.specs.Managers.{Clock};
 ghost use Rattle.ptpm_saved.specs.Saving.{Event, IsAsIfPowered, happen_all, started};
+ghost use Rattle.ptpm_manager.specs.Session.{SessionValue};
+ghost use Rattle.ptpm_saved.specs.SavingSession.{SessionInput, SessionNote, session_process};
 ghost use Rattle.ptpm_saved.specs.SavingClock.{Datagram, clock_process};
 ghost use Rattle.ptpm_saved.specs.Image.{AreEntries, IsSaved, saved_of};
 
@@ -35,6 +37,12 @@ pub fn clock_law<T: LendingTable + Drop>(agent: &Agent<T>)
 pub fn saving_clock_law()
     ensures { (c : Clock) (s : State) (es : List (Event Datagram Observation)) → IsConsistent s.sets
         → IsAsIfPowered (clock_process c) s es (happen_all (clock_process c) (started s) es) }
+{}
+
+/// The same of a session that saves before it asks: what it sent is some of what it sends whose manager's power never fails.
+pub fn saving_session_law()
+    ensures { (s : SessionValue) (es : List (Event SessionInput SessionNote))
+        → IsAsIfPowered session_process s es (happen_all session_process (started s) es) }
 {}
 
 /// The entries of a table are sixteen at most, in the order of their managers, and of its managers; and a table would keep each.
