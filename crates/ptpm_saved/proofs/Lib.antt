@@ -4,3 +4,6 @@ pub mod RestoringLemmas
 pub mod ReadingLemmas
 pub mod KeptAll
 pub mod BodyLemmas
+pub mod SavingLaws
+pub mod SavingClockLaws
+pub mod SavingSessionLaws

@@ -1,11 +1,14 @@
 //! Worked images, as octets from outside.
 
+ghost use Rattle.std.specs.Prelude.{◌≡◌};
+ghost use Rattle.std.specs.FinMap as fin;
+
 use crate::*;
 use arrayvec::ArrayVec;
 use ptpm_agent::{Agent, Verdict};
 use ptpm_codec::{ClockIdentity, PortIdentity};
 use ptpm_data::Rights;
-use ptpm_table::{Outbox, SlotTable};
+use ptpm_table::{Outbox, ReplyTable, SlotTable};
 use std::process::Abort;
 
 const K: ClockIdentity = ClockIdentity([0xaa, 0xbb, 0xcc, 0xff, 0xfe, 0xdd, 0xee, 0x01]);
@@ -136,7 +139,9 @@ fn room_for_an_image(rt: HostRuntime) {
     assert!(rt; image_into(&clock, &mut place) == Some(119) && place[119..] == [7; 11]);
 }
 
-fn table(rt: &impl Abort, manager: &PortIdentity) -> SlotTable<2> {
+fn table(rt: &impl Abort, manager: &PortIdentity) -> SlotTable<2>
+    ensures { ⟦<SlotTable<2> as ReplyTable>⟧.entries result ≡ fin.empty }
+{
     SlotTable::of_size(K, &[(*manager, Rights(7))]).expect(rt, "a table")
 }
 
@@ -184,7 +189,7 @@ fn octets(rt: &impl Abort, digits: &str) -> Octets {
                 None => high = Some(digit),
                 Some(first) => {
                     assert!(rt; !octets.is_full());
-                    octets.push(first * 16 + digit);
+                    octets.push(first.wrapping_mul(16).wrapping_add(digit));
                     high = None;
                 }
             }
