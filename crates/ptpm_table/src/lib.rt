@@ -21,6 +21,7 @@ mod slot_table;
 pub use error::TableError;
 pub use heard::Heard;
 pub use lending::{LendingTable, LentAnswer, LentEntry, LentWhat};
+pub use managers::managers_refusal;
 pub use outbox::Outbox;
 pub use outgoing::Outgoing;
 pub use plain_table::PlainTable;
