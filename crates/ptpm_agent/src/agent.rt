@@ -1,15 +1,16 @@
 //! One clock's management agent, over any reply table.
 
 ghost use Rattle.std.specs.Prelude.{◌≡◌, ◌≢◌, ◌≤◌, ◌++◌, ◌∷◌, [], false, ℕ, List, All, IsTrue, Ok, Some, IfOk, OnOk, OnErr, length};
+ghost use Rattle.std.specs.FinMap as fin;
 ghost use Rattle.ptpm_codec.specs.declared.identity.PortIdentity.{PortIdentity};
 ghost use Rattle.ptpm_codec.specs.Layout.{message_octets};
-ghost use Rattle.ptpm_codec.specs.Message.{IsValid};
+ghost use Rattle.ptpm_codec.specs.Message.{IsDataField, IsRequestAction, IsValid};
 ghost use Rattle.ptpm_codec.specs.Reading.{reading};
 ghost use Rattle.ptpm_codec.specs.Spelling.{Spells};
 ghost use Rattle.ptpm_data.specs.Members.{HasPort};
 ghost use Rattle.ptpm_data.specs.Observation.{left_disabled, observation_refusal};
 ghost use Rattle.ptpm_data.specs.Start.{unless};
-ghost use Rattle.ptpm_table.specs.Entries.{CanResend};
+ghost use Rattle.ptpm_table.specs.Entries.{CanResend, FitsRequest, is_known};
 ghost use Rattle.ptpm_table.specs.Managers.{IsFresh, has_twice, identities, most_managers};
 ghost use Rattle.ptpm_table.specs.Rendering.{IsSendable, rendered};
 ghost use Rattle.ptpm_agent.specs.Agent.{IsTurned, clock_of, state_of};
@@ -342,6 +343,26 @@ impl<const SLOTS: usize> Agent<SlotTable<SLOTS>> {
 }
 
 impl<T: SureTable + Drop> Agent<T> {
+    /// Keeps a manager's request with its reply, as an image of the clock has them. The data sets stay as they are.
+    pub fn keep_again(
+        &mut self,
+        who: &PortIdentity,
+        number: u16,
+        request: &Request<'_>,
+        reply: &Reply,
+    )
+        requires known { IsTrue (is_known who.now (T.owner self.old.table).managers) }
+        requires action { IsRequestAction request.now.action }
+        requires octets { IsDataField request.now.octets }
+        requires fits { FitsRequest request.now reply.now }
+        ensures sets { self.new.sets ≡ self.old.sets }
+        ensures entries { T.entries self.new.table ≡ fin.insert (T.entries self.old.table) who.now
+            (record { number = number; request = request.now; reply = reply.now }) }
+        ensures owner { T.owner self.new.table ≡ T.owner self.old.table }
+    {
+        self.table.replace(who, number, request, reply);
+    }
+
     /// What `try_handle` does, over a table that always has room: never refused, and it takes no memory.
     pub fn handle(&mut self, ingress: u16, datagram: &[u8], out: &mut Outbox) -> Verdict
         requires port { HasPort ingress self.old.sets }
