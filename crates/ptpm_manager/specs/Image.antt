@@ -32,15 +32,28 @@ setup_image setup =
     port_identity_octets setup.me ++ setup.target.0 ++ setup.ports ∷ [] ++ big_bytes 2 setup.first
     ++ setup.hops ∷ setup.attempts ∷ []
 
--- action, id, the target's portNumber, the size of the dataField, and the dataField
+-- action, id, the target's portNumber and the size of the dataField
+abbrev pub request_front : RequestValue → List ℕ
+request_front q =
+    action_code q.action ∷ [] ++ big_bytes 2 q.id ++ big_bytes 2 q.port ++ big_bytes 2 (length q.octets)
+
+-- and then the dataField
 unfoldable pub request_image : RequestValue → List ℕ
-request_image q =
-    action_code q.action ∷ [] ++ big_bytes 2 q.id ++ big_bytes 2 q.port ++ big_bytes 2 (length q.octets) ++ q.octets
+request_image q = request_front q ++ q.octets
 
 -- 0, or 1 and the request that is not answered
 unfoldable pub unanswered_image : Option RequestValue → List ℕ
 unanswered_image None = 0 ∷ []
 unanswered_image (Some q) = 1 ∷ request_image q
+
+-- the same in two parts: as far as the dataField, and the dataField
+abbrev pub unanswered_front : Option RequestValue → List ℕ
+unanswered_front None = 0 ∷ []
+unanswered_front (Some q) = 1 ∷ request_front q
+
+abbrev pub data_field_of : Option RequestValue → List ℕ
+data_field_of None = []
+data_field_of (Some q) = q.octets
 
 -- after the setup: the domain, how many requests were begun, and how many of them are answered: the index of the latest
 -- that was reported

@@ -1,10 +1,10 @@
 //! The image of a session: the octets in which it outlasts the manager's power (this project's profile).
 
-ghost use Rattle.std.specs.Prelude.{◌≡◌, ◌≤◌, ◌+◌, ◌++◌, ◌↔◌, ◌^◌, ◌<◌, length, drop, IfSome, IfNone, IsSome};
+ghost use Rattle.std.specs.Prelude.{◌≡◌, ◌≤◌, ◌+◌, ◌++◌, ◌↔◌, ◌^◌, ◌<◌, bytes_eq, length, drop, IfSome, IfNone, IsSome};
 ghost use Rattle.arrayvec.specs.ArrayVec.{array_vec_len};
 ghost use Rattle.byteorder.specs.Endian.{big_bytes};
 ghost use Rattle.ptpm_codec.specs.Message.{IsDataField};
-ghost use Rattle.ptpm_manager.specs.Image.{body_image, image_head, request_image, session_image, setup_image, unanswered_image};
+ghost use Rattle.ptpm_manager.specs.Image.{body_image, data_field_of, image_head, request_front, session_image, setup_image, unanswered_front};
 ghost use Rattle.ptpm_manager.specs.Session.{IsConsistent, answered_of};
 
 use crate::saved::Saved;
@@ -26,14 +26,17 @@ pub(crate) const IMAGE_VERSION: u8 = 1;
 pub(crate) const IMAGE_HEAD_OCTETS: usize = 12;
 
 /// How many octets the image of a session has at most: 12 of the head, 48 of the session, and its request's dataField.
-pub const SESSION_OCTETS: usize = IMAGE_HEAD_OCTETS + BODY_OCTETS;
+pub const SESSION_OCTETS: usize = FRONT_OCTETS + DATA_FIELD_OCTETS;
 
-const BODY_OCTETS: usize = 48 + DATA_FIELD_OCTETS;
+/// How many octets stand before the dataField at most, and how many of these follow the head.
+const FRONT_OCTETS: usize = IMAGE_HEAD_OCTETS + BODY_OCTETS;
 
-/// Room for an image.
-pub(crate) type Image = ArrayVec<u8, SESSION_OCTETS>;
+const BODY_OCTETS: usize = 48;
 
-/// Room for what follows its head.
+/// Room for what stands before the dataField.
+type Front = ArrayVec<u8, FRONT_OCTETS>;
+
+/// Room for what of it follows the head.
 type Body = ArrayVec<u8, BODY_OCTETS>;
 
 impl Session {
@@ -42,7 +45,8 @@ impl Session {
         ensures size { result ≡ length (session_image self.now) }
         ensures small { result ≤ SESSION_OCTETS }
     {
-        self.saved().image().len()
+        let saved = self.saved();
+        saved.front().len() + saved.data_field().len()
     }
 
     /// Writes the image over the first octets of a place, and answers how many there are: 53 to 1,478. The others stay. `None`,
@@ -55,35 +59,49 @@ impl Session {
             (λ size. place.new ≡ session_image self.now ++ drop size place.old) }
         ensures unchanged { IfNone result (place.new ≡ place.old) }
     {
-        let image = self.saved().image();
-        let size = image.len();
+        let saved = self.saved();
+        let front = saved.front();
+        let data_field = saved.data_field();
+        let size = front.len() + data_field.len();
         if place.len() < size {
             return None;
         }
-        place[..size].copy_from_slice(image.as_slice());
+        place[..front.len()].copy_from_slice(front.as_slice());
+        place[front.len()..size].copy_from_slice(data_field);
         Some(size)
     }
 }
 
 impl Saved<'_> {
-    /// The image.
-    #[tactic(auto, unfolding(crate::specs::Image::image_of))]
-    pub(crate) fn image(&self) -> Image
+    /// Whether these octets are the image.
+    pub(crate) fn is_image(&self, octets: &[u8]) -> bool
         requires { IsConsistent self.now }
-        ensures { result.items ≡ session_image self.now }
+        ensures { result ≡ bytes_eq octets.now (session_image self.now) }
     {
-        let body = self.body();
-        let mut image = ArrayVec::new();
-        put_head(&mut image, body.len() as u32);
-        put(&mut image, body.as_slice());
-        image
+        let front = self.front();
+        let data_field = self.data_field();
+        let size = front.len();
+        size <= octets.len() && octets[..size] == front[..] && octets[size..] == data_field[..]
     }
 
-    /// What follows the head.
+    /// The image as far as the dataField.
+    #[tactic(auto, unfolding(crate::specs::Image::image_of))]
+    fn front(&self) -> Front
+        requires { IsConsistent self.now }
+        ensures { result.items ++ data_field_of self.now.unanswered ≡ session_image self.now }
+    {
+        let body = self.body();
+        let mut front = ArrayVec::new();
+        put_head(&mut front, (body.len() + self.data_field().len()) as u32);
+        put(&mut front, body.as_slice());
+        front
+    }
+
+    /// What of it follows the head.
     #[tactic(auto, unfolding(crate::specs::Image::body_image))]
     fn body(&self) -> Body
         requires { IsConsistent self.now }
-        ensures { result.items
+        ensures { result.items ++ data_field_of self.now.unanswered
             ≡ body_image self.now.setup self.now.domain self.now.issued self.now.unanswered }
     {
         let mut body = ArrayVec::new();
@@ -93,6 +111,16 @@ impl Saved<'_> {
         put_u64(&mut body, answered_of(self.issued, &self.unanswered));
         put_unanswered(&mut body, &self.unanswered);
         body
+    }
+
+    /// The dataField of the request, with which the image ends.
+    fn data_field(&self) -> &[u8]
+        ensures { result.now ≡ data_field_of self.now.unanswered }
+    {
+        match &self.unanswered {
+            None => &[],
+            Some(request) => request.octets,
+        }
     }
 }
 
@@ -108,24 +136,24 @@ fn answered_of(issued: u64, unanswered: &Option<Request<'_>>) -> u64
 }
 
 #[tactic(auto, unfolding(crate::specs::Image::image_head))]
-fn put_head(image: &mut Image, size: u32)
-    requires { array_vec_len image.old + 12 ≤ SESSION_OCTETS }
-    ensures items { image.new.items ≡ image.old.items ++ image_head 2 size }
-    ensures len { array_vec_len image.new ≡ array_vec_len image.old + 12 }
+fn put_head(front: &mut Front, size: u32)
+    requires { array_vec_len front.old + 12 ≤ FRONT_OCTETS }
+    ensures items { front.new.items ≡ front.old.items ++ image_head 2 size }
+    ensures len { array_vec_len front.new ≡ array_vec_len front.old + 12 }
 {
     put(
-        image,
+        front,
         &[b'p', b't', b'p', b'm', SESSION_KIND, IMAGE_VERSION, 0, 0],
     );
-    put_u32(image, size);
+    put_u32(front, size);
 }
 
-fn put_u32(image: &mut Image, number: u32)
-    requires { array_vec_len image.old + 4 ≤ SESSION_OCTETS }
-    ensures items { image.new.items ≡ image.old.items ++ big_bytes 4 number }
-    ensures len { array_vec_len image.new ≡ array_vec_len image.old + 4 }
+fn put_u32(front: &mut Front, number: u32)
+    requires { array_vec_len front.old + 4 ≤ FRONT_OCTETS }
+    ensures items { front.new.items ≡ front.old.items ++ big_bytes 4 number }
+    ensures len { array_vec_len front.new ≡ array_vec_len front.old + 4 }
 {
-    put(image, &number.to_be_bytes());
+    put(front, &number.to_be_bytes());
 }
 
 #[tactic(auto, unfolding(crate::specs::Image::setup_image, ptpm_codec::specs::Canonical::port_identity_octets))]
@@ -151,11 +179,10 @@ fn put_u64(body: &mut Body, number: u64)
     put(body, &number.to_be_bytes());
 }
 
-#[tactic(auto, unfolding(crate::specs::Image::unanswered_image))]
 fn put_unanswered(body: &mut Body, unanswered: &Option<Request<'_>>)
     requires room { array_vec_len body.old ≡ 40 }
     requires octets { IfSome unanswered.now (λ q. IsDataField q.octets) }
-    ensures { body.new.items ≡ body.old.items ++ unanswered_image unanswered.now }
+    ensures { body.new.items ≡ body.old.items ++ unanswered_front unanswered.now }
 {
     match unanswered {
         None => put(body, &[0]),
@@ -166,15 +193,13 @@ fn put_unanswered(body: &mut Body, unanswered: &Option<Request<'_>>)
     }
 }
 
-#[tactic(auto, unfolding(crate::specs::Image::request_image))]
 fn put_request(body: &mut Body, request: &Request<'_>)
     requires room { array_vec_len body.old ≡ 41 }
     requires octets { IsDataField request.now.octets }
-    ensures { body.new.items ≡ body.old.items ++ request_image request.now }
+    ensures { body.new.items ≡ body.old.items ++ request_front request.now }
 {
     put(body, &[request.action.code()]);
     put_u16(body, request.id);
     put_u16(body, request.port);
     put_u16(body, request.octets.len() as u16);
-    put(body, request.octets);
 }

@@ -95,7 +95,7 @@ fn read_image(image: &[u8]) -> Option<Saved<'_>>
         return None;
     }
     let saved = session_at(image);
-    if saved.is_consistent() && image == saved.image().as_slice() {
+    if saved.is_consistent() && saved.is_image(image) {
         Some(saved)
     } else {
         None
