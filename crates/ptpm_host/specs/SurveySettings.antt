@@ -14,6 +14,7 @@ surveying_port s = record { clock = record { 0 = s.clock }; port = s.port }
 abbrev pub enquiry_of : SurveySettings → Enquiry
 enquiry_of s = record {
   me = surveying_port s;
+  target = every_clock;
   domain = s.domain;
   number = s.number;
   hops = s.hops;

@@ -1,5 +1,6 @@
 -- What is asked of a session, and the request that it makes of it.
-use Rattle.std.specs.Prelude.{◌≡◌, ◌≤◌, ℕ, ◌&&◌, ◌==◌, Bool, true, false, not, nat_le, List, [], ◌∷◌, Option, Some, None, if◌then◌else◌}
+use Rattle.std.specs.Prelude.{◌≡◌, ◌≤◌, ◌⊎◌, ℕ, ◌&&◌, ◌||◌, ◌==◌, Bool, true, false, not, nat_le, List, [], ◌∷◌, Option, Some, None, if◌then◌else◌}
+use Rattle.std.specs.Option.{option_or}
 use Rattle.ptpm_codec.specs.declared.message.Action.{Action}
 use Rattle.ptpm_codec.specs.Identity.{every_port}
 use Rattle.ptpm_codec.specs.Message.{is_reply, is_data_field, IsDataField, IsRequestAction}
@@ -33,11 +34,15 @@ ask_of action id port octets = record { action = action; id = id; port = port; o
 abbrev pub request_of : Ask → RequestValue
 request_of a = record { action = a.action; id = a.id; port = target_port a.id a.port; octets = a.octets }
 
--- the same, as it is kept
+-- the same at the port that is named, whatever the id
+abbrev pub request_at_port : Ask → RequestValue
+request_at_port a = record { action = a.action; id = a.id; port = named_port a.port; octets = a.octets }
+
+-- a request, as it is kept
 abbrev pub pending_request : Pending → RequestValue
 pending_request p = record { action = p.action; id = p.id; port = p.port; octets = p.octets }
 
--- what holds of each request that a session makes of a clock with this many ports: one of them is named for an id of a port,
+-- what holds of each request that is made of an ask, to a clock with this many ports: one of them is named for an id of a port,
 -- and every port for any other id, so that it has one answer
 pub record IsRequestTo (ports : ℕ) (q : RequestValue) : Type 0 where
   pub action : IsRequestAction q.action
@@ -45,12 +50,19 @@ pub record IsRequestTo (ports : ℕ) (q : RequestValue) : Type 0 where
   pub port : is_of_port q.id ≡ true → (1 ≤ q.port) × (q.port ≤ ports)
   pub every : is_of_port q.id ≡ false → q.port ≡ every_port
 
+-- what holds of each request that a session makes, also at a port that is named: one port of the clock is, or, for an id of no
+-- port, every port
+pub record IsAskedOf (ports : ℕ) (q : RequestValue) : Type 0 where
+  pub action : IsRequestAction q.action
+  pub octets : IsDataField q.octets
+  pub target : ((1 ≤ q.port) × (q.port ≤ ports)) ⊎ ((is_of_port q.id ≡ false) × (q.port ≡ every_port))
+
 -- the same as a test
 abbrev pub is_target_of : ℕ → ℕ → ℕ → Bool
-is_target_of ports id port = if is_of_port id then names_port ports (Some port) else port == every_port
+is_target_of ports id port = names_port ports (Some port) || (not (is_of_port id) && port == every_port)
 
-abbrev pub is_request_to : ℕ → RequestValue → Bool
-is_request_to ports q = not (is_reply q.action) && is_data_field q.octets && is_target_of ports q.id q.port
+abbrev pub is_asked_of : ℕ → RequestValue → Bool
+is_asked_of ports q = not (is_reply q.action) && is_data_field q.octets && is_target_of ports q.id q.port
 
 -- why an ask by itself is refused, at a clock of this many ports
 unfoldable pub ask_refusal : ℕ → Ask → Option BeginError
@@ -59,3 +71,7 @@ ask_refusal ports a = first_of (
     ∷ (is_reply a.action, NotPermitted)
     ∷ (not (is_data_field a.octets), BadValue)
     ∷ [])
+
+-- the same at the port that is named, which has to be one of the clock's whatever the id
+unfoldable pub named_ask_refusal : ℕ → Ask → Option BeginError
+named_ask_refusal ports a = option_or (first_of ((not (names_port ports a.port), NeedsPort) ∷ [])) (ask_refusal ports a)

@@ -3,6 +3,8 @@ use Rattle.std.specs.Prelude.{ℕ, List, ◌++◌, codes}
 use Rattle.ptpm_codec.specs.ErrorText.{refusal_text}
 use Rattle.ptpm_manager.specs.declared.error.BeginError.{BeginError}
 use Rattle.ptpm_manager.specs.declared.error.BeginError.TheVariants as begins
+use Rattle.ptpm_manager.specs.declared.error.GiveUpRefusal.{GiveUpRefusal}
+use Rattle.ptpm_manager.specs.declared.error.GiveUpRefusal.TheVariants as give_ups
 use Rattle.ptpm_manager.specs.declared.error.RestoreError.{RestoreError}
 use Rattle.ptpm_manager.specs.declared.error.RestoreError.TheVariants as restores
 use Rattle.ptpm_manager.specs.declared.error.SendError.{SendError}
@@ -21,6 +23,10 @@ begin_error_text begins.OutOfMemory = codes "OutOfMemory"
 abbrev pub send_error_text : SendError → List ℕ
 send_error_text sends.Idle = codes "Idle"
 send_error_text sends.GaveUp = codes "GaveUp"
+
+abbrev pub give_up_refusal_text : GiveUpRefusal → List ℕ
+give_up_refusal_text give_ups.Idle = codes "Idle"
+give_up_refusal_text give_ups.OutOfReach = codes "OutOfReach"
 
 abbrev pub restore_error_text : RestoreError → List ℕ
 restore_error_text restores.NotAnImage = codes "NotAnImage"

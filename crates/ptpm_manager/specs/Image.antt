@@ -6,7 +6,7 @@ use Rattle.ptpm_codec.specs.Canonical.{port_identity_octets}
 use Rattle.ptpm_codec.specs.Message.{PortIdentityFits, action_code}
 use Rattle.ptpm_data.specs.Request.{RequestValue}
 use Rattle.ptpm_manager.specs.declared.setup.Setup.{Setup}
-use Rattle.ptpm_manager.specs.Session.{SessionValue, answered_of}
+use Rattle.ptpm_manager.specs.Session.{SessionValue}
 
 -- ---- the head
 
@@ -46,31 +46,44 @@ unfoldable pub unanswered_image : Option RequestValue → List ℕ
 unanswered_image None = 0 ∷ []
 unanswered_image (Some q) = 1 ∷ request_image q
 
--- the same in two parts: as far as the dataField, and the dataField
+-- the same without the dataField
 abbrev pub unanswered_front : Option RequestValue → List ℕ
 unanswered_front None = 0 ∷ []
 unanswered_front (Some q) = 1 ∷ request_front q
 
-abbrev pub data_field_of : Option RequestValue → List ℕ
-data_field_of None = []
-data_field_of (Some q) = q.octets
-
--- after the setup: the domain, how many requests were begun, and how many of them are answered: the index of the latest
--- that was reported
-unfoldable pub body_image : Setup → ℕ → ℕ → Option RequestValue → List ℕ
-body_image setup domain issued unanswered =
-    setup_image setup ++ domain ∷ [] ++ big_bytes 8 issued ++ big_bytes 8 (answered_of issued unanswered)
-    ++ unanswered_image unanswered
+-- after the setup: the domain, how many requests were begun, and which of them was reported last
+unfoldable pub body_image : Setup → ℕ → ℕ → ℕ → Option RequestValue → List ℕ
+body_image setup domain issued reported unanswered =
+    setup_image setup ++ domain ∷ [] ++ big_bytes 8 issued ++ big_bytes 8 reported ++ unanswered_image unanswered
 
 -- ---- the whole
 
-unfoldable pub image_of : Setup → ℕ → ℕ → Option RequestValue → List ℕ
-image_of setup domain issued unanswered =
-    image_head session_kind (length (body_image setup domain issued unanswered)) ++ body_image setup domain issued unanswered
+unfoldable pub image_of : Setup → ℕ → ℕ → ℕ → Option RequestValue → List ℕ
+image_of setup domain issued reported unanswered =
+    image_head session_kind (length (body_image setup domain issued reported unanswered))
+    ++ body_image setup domain issued reported unanswered
 
 -- how often the request may still be sent is not in the image
 abbrev pub session_image : SessionValue → List ℕ
-session_image s = image_of s.setup s.domain s.issued s.unanswered
+session_image s = image_of s.setup s.domain s.issued s.reported s.unanswered
+
+-- ---- the whole in two parts: what stands before the dataField, and the dataField, with which it ends
+
+unfoldable pub body_front : Setup → ℕ → ℕ → ℕ → Option RequestValue → List ℕ
+body_front setup domain issued reported unanswered =
+    setup_image setup ++ domain ∷ [] ++ big_bytes 8 issued ++ big_bytes 8 reported ++ unanswered_front unanswered
+
+unfoldable pub image_front : Setup → ℕ → ℕ → ℕ → Option RequestValue → List ℕ
+image_front setup domain issued reported unanswered =
+    image_head session_kind (length (body_image setup domain issued reported unanswered))
+    ++ body_front setup domain issued reported unanswered
+
+abbrev pub session_front : SessionValue → List ℕ
+session_front s = image_front s.setup s.domain s.issued s.reported s.unanswered
+
+abbrev pub data_field_of : Option RequestValue → List ℕ
+data_field_of None = []
+data_field_of (Some q) = q.octets
 
 -- ---- values that have an image of their own: numbers of their types, and identities of eight octets
 

@@ -48,6 +48,7 @@ session_at octets = record {
   setup = setup_at octets;
   domain = octet 35 octets;
   issued = count_at 36 octets;
+  reported = count_at 44 octets;
   unanswered = unanswered_at octets;
   attempts_left = (setup_at octets).attempts;
 }

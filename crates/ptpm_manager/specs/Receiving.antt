@@ -1,5 +1,5 @@
 -- What a session makes of a datagram that it hears: the answer to its request, or one that it ignores, and why.
-use Rattle.std.specs.Prelude.{◌≡◌, ℕ, ◌+◌, ◌==◌, ◌||◌, ◌&&◌, Bool, true, false, not, List, [], ◌∷◌, ◌++◌, Option, Some, None, Result, Ok, Err}
+use Rattle.std.specs.Prelude.{◌≡◌, ◌<◌, ℕ, ◌+◌, ◌==◌, ◌||◌, ◌&&◌, Bool, true, false, not, List, [], ◌∷◌, ◌++◌, Option, Some, None, Result, Ok, Err}
 use Rattle.ptpm_codec.specs.declared.error.DecodeError.{DecodeError}
 use Rattle.ptpm_codec.specs.declared.identity.PortIdentity.{PortIdentity}
 use Rattle.ptpm_codec.specs.declared.message.Action.{Action}
@@ -8,6 +8,7 @@ use Rattle.ptpm_codec.specs.declared.message.Message.{Message}
 use Rattle.ptpm_codec.specs.Identity.{every_port, same_clock, same_identity}
 use Rattle.ptpm_codec.specs.Message.{action_of, id_of, is_reply}
 use Rattle.ptpm_codec.specs.Reading.{reading}
+use Rattle.ptpm_data.specs.ManagementId.{is_of_port}
 use Rattle.ptpm_data.specs.Request.{RequestValue}
 use Rattle.ptpm_manager.specs.declared.receiving.Reason.{Reason}
 use Rattle.ptpm_manager.specs.declared.receiving.Reason.TheVariants as reasons
@@ -46,10 +47,11 @@ is_answered_by actions.Response reply = false
 is_answered_by actions.Command reply = is_acknowledge reply
 is_answered_by actions.Acknowledge reply = false
 
--- the port that was asked for answers for itself; while every port is meant, or none was asked, any port of the clock does
+-- The port that was asked for answers for itself. Any port of the clock answers while every port is meant, for an id of no port,
+-- or while nothing was asked.
 abbrev pub is_from_asked_port : Option RequestValue → ℕ → Bool
 is_from_asked_port None port = true
-is_from_asked_port (Some q) port = q.port == every_port || q.port == port
+is_from_asked_port (Some q) port = q.port == every_port || (q.port == port || not (is_of_port q.id))
 
 abbrev pub is_from_target : SessionValue → PortIdentity → Bool
 is_from_target s source = same_clock source.clock s.setup.target && is_from_asked_port s.unanswered source.port
@@ -100,7 +102,13 @@ abbrev pub NeedsMemory : Received → Type 0
 NeedsMemory (received.Answered report) = IsCopied report.outcome
 NeedsMemory (received.Ignored reason) = ⊥
 
--- what is answered is counted: reports have the indexes 1, 2, 3, .. in their order
+-- What is answered is the request after those that are over. So in a session that gives nothing up reports have the indexes
+-- 1, 2, 3, .. in their order.
 abbrev pub IsCounted : Received → ℕ → ℕ → Type 0
 IsCounted (received.Answered report) before after = (report.index ≡ before + 1) × (after ≡ before + 1)
 IsCounted (received.Ignored reason) before after = after ≡ before
+
+-- the index that is reported rises, whatever is given up
+abbrev pub IsReportedNext : Received → ℕ → ℕ → Type 0
+IsReportedNext (received.Answered report) before after = (before < report.index) × (after ≡ report.index)
+IsReportedNext (received.Ignored reason) before after = after ≡ before

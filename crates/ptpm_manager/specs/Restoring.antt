@@ -1,5 +1,5 @@
 -- Which octets are the image of a session, and why others restore none (this project's profile).
-use Rattle.std.specs.Prelude.{ℕ, ◌==◌, ◌&&◌, ◌||◌, not, nat_le, nat_lt, Bool, true, List, [], ◌∷◌, length, take, bytes_eq, Option, Some, None}
+use Rattle.std.specs.Prelude.{ℕ, ◌+◌, ◌==◌, ◌&&◌, ◌||◌, not, nat_le, nat_lt, Bool, true, List, [], ◌∷◌, length, take, bytes_eq, Option, Some, None}
 use Rattle.ptpm_codec.specs.declared.identity.ClockIdentity.{ClockIdentity}
 use Rattle.ptpm_codec.specs.declared.identity.PortIdentity.{PortIdentity}
 use Rattle.ptpm_codec.specs.Layout.{octet}
@@ -7,10 +7,10 @@ use Rattle.ptpm_codec.specs.Ordered.{first_of}
 use Rattle.ptpm_data.specs.Request.{RequestValue}
 use Rattle.ptpm_manager.specs.declared.error.RestoreError.{RestoreError}
 use Rattle.ptpm_manager.specs.declared.error.RestoreError.TheVariants as restores
-use Rattle.ptpm_manager.specs.Ask.{is_request_to}
+use Rattle.ptpm_manager.specs.Ask.{is_asked_of}
 use Rattle.ptpm_manager.specs.Image.{image_version, mark, session_image, session_kind}
 use Rattle.ptpm_manager.specs.ImageReading.{session_at, setup_at}
-use Rattle.ptpm_manager.specs.Session.{SessionValue, count_limit}
+use Rattle.ptpm_manager.specs.Session.{SessionValue, count_limit, reach_limit}
 use Rattle.ptpm_manager.specs.Setup.{is_setup, is_setup_of}
 use Rattle.std.specs.Option.{option_or}
 
@@ -18,11 +18,16 @@ use Rattle.std.specs.Option.{option_or}
 
 abbrev pub is_unanswered_at : ℕ → ℕ → Option RequestValue → Bool
 is_unanswered_at ports issued None = true
-is_unanswered_at ports issued (Some q) = nat_le 1 issued && is_request_to ports q
+is_unanswered_at ports issued (Some q) = nat_le 1 issued && is_asked_of ports q
+
+abbrev pub is_in_reach : ℕ → ℕ → Option RequestValue → Bool
+is_in_reach issued reported None = nat_le reported issued && nat_lt issued (reported + reach_limit)
+is_in_reach issued reported (Some q) = nat_lt reported issued && nat_le issued (reported + reach_limit)
 
 unfoldable pub is_consistent : SessionValue → Bool
 is_consistent s =
     is_setup s.setup && nat_le s.issued count_limit && is_unanswered_at s.setup.ports s.issued s.unanswered
+    && is_in_reach s.issued s.reported s.unanswered
 
 -- ---- images
 

@@ -7,6 +7,7 @@ saved_session s = record {
   setup = s.setup;
   domain = s.domain;
   issued = s.issued;
+  reported = s.reported;
   unanswered = s.unanswered;
   attempts_left = s.setup.attempts;
 }

@@ -3,7 +3,7 @@
 ghost use Rattle.std.specs.Prelude.{◌≡◌, ◌≢◌, ◌↔◌, None, Some, IfErr, IfOk, IsTrue, MatchResult};
 ghost use Rattle.ptpm_data.specs.ManagementId.{is_of_port};
 ghost use Rattle.ptpm_manager.specs.declared.error.BeginError.{BeginError};
-ghost use Rattle.ptpm_manager.specs.Ask.{IsRequestTo, ask_of, ask_refusal, is_request_to, is_target_of, names_port, pending_request, request_of, target_port};
+ghost use Rattle.ptpm_manager.specs.Ask.{IsAskedOf, ask_of, ask_refusal, is_asked_of, is_target_of, named_ask_refusal, names_port, pending_request, target_port};
 ghost use Rattle.ptpm_manager.specs.Receiving.{is_content};
 
 use crate::error::BeginError;
@@ -26,7 +26,7 @@ pub struct Ask {
     pub octets: Octets,
 }
 
-/// A request that was begun, as it is sent.
+/// A request that was begun, as it is kept.
 #[derive(Debug, Drop)]
 pub(crate) struct Pending {
     pub(crate) action: Action,
@@ -62,26 +62,27 @@ pub(crate) fn judge(
     Ok(())
 }
 
-impl Pending {
-    /// The request that is made of what is asked, with octets of its own.
-    pub(crate) fn of(
-        alloc: Global,
-        action: Action,
-        id: u16,
-        port: Option<u16>,
-        octets: &[u8],
-    ) -> Result<Pending, OutOfMemory>
-        ensures { IfOk result
-            (λ p. pending_request p ≡ request_of (ask_of action id port octets.now)) }
-    {
-        Ok(Pending {
-            action,
-            id,
-            port: target_port(id, port),
-            octets: Octets::copy_of(alloc, octets)?,
-        })
+/// Judges the same at the port that is named, which has to be one of the clock's whatever the id.
+#[tactic(auto, unfolding(crate::specs::Ask::named_ask_refusal))]
+pub(crate) fn judge_at(
+    ports: u16,
+    action: Action,
+    id: u16,
+    port: u16,
+    octets: &[u8],
+) -> Result<(), BeginError>
+    ensures refusal { MatchResult result
+        (λ _. named_ask_refusal ports (ask_of action id (Some port) octets.now) ≡ None)
+        (λ e. named_ask_refusal ports (ask_of action id (Some port) octets.now) ≡ Some e) }
+    ensures not_busy { IfErr result (λ e. e ≢ BeginError.Busy) }
+{
+    if !names_port(ports, Some(port)) {
+        return Err(BeginError::NeedsPort);
     }
+    judge(ports, action, id, Some(port), octets)
+}
 
+impl Pending {
     /// The same request with octets of its own.
     pub(crate) fn copy_of(alloc: Global, request: &Request<'_>) -> Result<Pending, OutOfMemory>
         ensures { IfOk result (λ p. pending_request p ≡ request.now) }
@@ -115,9 +116,9 @@ impl Pending {
 }
 
 /// Whether a session makes this request of a clock with this many ports.
-pub(crate) fn is_request_to(ports: u16, request: &Request<'_>) -> bool
-    ensures exact { result ≡ is_request_to ports request.now }
-    ensures meaning { IsTrue result ↔ IsRequestTo ports request.now }
+pub(crate) fn is_asked_of(ports: u16, request: &Request<'_>) -> bool
+    ensures exact { result ≡ is_asked_of ports request.now }
+    ensures meaning { IsTrue result ↔ IsAskedOf ports request.now }
 {
     !request.action.is_reply()
         && is_data_field(request.octets)
@@ -127,14 +128,10 @@ pub(crate) fn is_request_to(ports: u16, request: &Request<'_>) -> bool
 fn is_target_of(ports: u16, id: u16, port: u16) -> bool
     ensures { result ≡ is_target_of ports id port }
 {
-    if is_of_port(id) {
-        names_port(ports, Some(port))
-    } else {
-        port == PortIdentity::EVERY_PORT
-    }
+    names_port(ports, Some(port)) || (!is_of_port(id) && port == PortIdentity::EVERY_PORT)
 }
 
-fn is_of_port(id: u16) -> bool
+pub(crate) fn is_of_port(id: u16) -> bool
     ensures { result ≡ is_of_port id }
 {
     matches!(row(id), Some(row) if row.scope == Scope::Port)
@@ -150,7 +147,7 @@ fn names_port(ports: u16, port: Option<u16>) -> bool
 }
 
 #[tactic(auto, unfolding(crate::specs::Ask::target_port))]
-fn target_port(id: u16, port: Option<u16>) -> u16
+pub(crate) fn target_port(id: u16, port: Option<u16>) -> u16
     ensures { result ≡ target_port id port }
 {
     match port {

@@ -2,16 +2,18 @@
 
 ghost use Rattle.std.specs.Prelude.{◌≡◌, Ok, Err, MatchResult};
 ghost use Rattle.ptpm_manager.specs.Answers.{heard};
-ghost use Rattle.ptpm_manager.specs.Enquiry.{ignored_for, survey_message};
+ghost use Rattle.ptpm_manager.specs.Enquiry.{ignored_for, is_asked, survey_message};
 ghost use Rattle.ptpm_manager.specs.Report.{outcome_in};
 
 use crate::receiving::{Reason, no_reply_to};
 use ptpm_codec::{Action, ClockIdentity, Draft, DraftBody, PortIdentity, View, view};
 
-/// What a survey asks of everyone.
+/// What a survey asks of every clock, or of one.
 #[derive(Clone, Copy, Debug)]
 pub(crate) struct Enquiry {
     pub(crate) me: PortIdentity,
+    /// The clock that is asked; the identity that means every clock asks every clock.
+    pub(crate) target: ClockIdentity,
     pub(crate) domain: u8,
     /// The sequence number.
     pub(crate) number: u16,
@@ -32,7 +34,7 @@ impl Enquiry {
             source: self.me,
             number: self.number,
             target: PortIdentity {
-                clock: ClockIdentity::EVERY,
+                clock: self.target,
                 port: PortIdentity::EVERY_PORT,
             },
             starting_hops: self.hops,
@@ -70,6 +72,9 @@ impl Enquiry {
         if let Some(reason) = no_reply_to(&self.me, self.domain, message) {
             return Some(reason);
         }
+        if !self.is_asked(&message.source()) {
+            return Some(Reason::OtherSource);
+        }
         if message.number() != self.number {
             return Some(Reason::OtherNumber);
         }
@@ -77,5 +82,12 @@ impl Enquiry {
             return Some(Reason::OtherContent);
         }
         None
+    }
+
+    /// Whether an answer may come from a port.
+    fn is_asked(&self, source: &PortIdentity) -> bool
+        ensures { result ≡ is_asked self.now source.now }
+    {
+        self.target == ClockIdentity::EVERY || source.clock == self.target
     }
 }

@@ -63,6 +63,30 @@ impl fmt::Display for SendError {
     }
 }
 
+/// Why a request is not given up, in the order in which the reasons are judged. The session stays as it was.
+#[derive(Clone, Copy, Debug, PartialEq, Eq, Error)]
+pub enum GiveUpRefusal {
+    /// No request is unanswered.
+    Idle,
+    /// 32,767 requests were begun since the latest that was reported. The clock might take one more for an old one.
+    OutOfReach,
+}
+
+/// The name, as `Idle`.
+impl fmt::Display for GiveUpRefusal {
+    ghost use Rattle.std.specs.Prelude.{Some};
+    ghost use Rattle.ptpm_manager.specs.ErrorText.{give_up_refusal_text};
+
+    ghost output = { λ e. Some (give_up_refusal_text e) };
+
+    fn fmt<W: fmt::Write>(&self, f: &mut fmt::Formatter<W>) -> fmt::Result {
+        f.write_str(match self {
+            GiveUpRefusal::Idle => "Idle",
+            GiveUpRefusal::OutOfReach => "OutOfReach",
+        })
+    }
+}
+
 /// Why octets restore no session, in the order in which the reasons are judged.
 #[derive(Clone, Copy, Debug, PartialEq, Eq, Error)]
 pub enum RestoreError {

@@ -1,11 +1,11 @@
 //! The image of a session: the octets in which it outlasts the manager's power (this project's profile).
 
-ghost use Rattle.std.specs.Prelude.{◌≡◌, ◌≤◌, ◌+◌, ◌++◌, ◌↔◌, ◌^◌, ◌<◌, bytes_eq, length, drop, IfSome, IfNone, IsSome};
+ghost use Rattle.std.specs.Prelude.{◌≡◌, ◌≤◌, ◌+◌, ◌++◌, ◌↔◌, ◌^◌, ◌<◌, bytes_eq, length, take, drop, IfSome, IfNone, IsSome};
 ghost use Rattle.arrayvec.specs.ArrayVec.{array_vec_len};
 ghost use Rattle.byteorder.specs.Endian.{big_bytes};
 ghost use Rattle.ptpm_codec.specs.Message.{IsDataField};
-ghost use Rattle.ptpm_manager.specs.Image.{body_image, data_field_of, image_head, request_front, session_image, setup_image, unanswered_front};
-ghost use Rattle.ptpm_manager.specs.Session.{IsConsistent, answered_of};
+ghost use Rattle.ptpm_manager.specs.Image.{body_front, data_field_of, image_head, request_front, session_front, session_image, setup_image, unanswered_front};
+ghost use Rattle.ptpm_manager.specs.Session.{IsConsistent};
 
 use crate::saved::Saved;
 use crate::session::Session;
@@ -45,8 +45,7 @@ impl Session {
         ensures size { result ≡ length (session_image self.now) }
         ensures small { result ≤ SESSION_OCTETS }
     {
-        let saved = self.saved();
-        saved.front().len() + saved.data_field().len()
+        self.saved().image_size()
     }
 
     /// Writes the image over the first octets of a place, and answers how many there are: 53 to 1,478. The others stay. `None`,
@@ -60,35 +59,49 @@ impl Session {
         ensures unchanged { IfNone result (place.new ≡ place.old) }
     {
         let saved = self.saved();
-        let front = saved.front();
-        let data_field = saved.data_field();
-        let size = front.len() + data_field.len();
+        let size = saved.image_size();
         if place.len() < size {
             return None;
         }
-        place[..front.len()].copy_from_slice(front.as_slice());
-        place[front.len()..size].copy_from_slice(data_field);
+        saved.write_image(place);
         Some(size)
     }
 }
 
 impl Saved<'_> {
+    /// How many octets the image has.
+    fn image_size(&self) -> usize
+        requires { IsConsistent self.now }
+        ensures size { result ≡ length (session_image self.now) }
+        ensures small { result ≤ SESSION_OCTETS }
+    {
+        self.front().len() + self.data_field().len()
+    }
+
+    /// Writes the image over the first octets of a place.
+    fn write_image(&self, place: &mut [u8])
+        requires consistent { IsConsistent self.now }
+        requires room { length (session_image self.now) ≤ length place.old }
+        ensures { place.new
+            ≡ session_image self.now ++ drop (length (session_image self.now)) place.old }
+    {
+        write_both(place, self.front().as_slice(), self.data_field());
+    }
+
     /// Whether these octets are the image.
+    #[tactic(auto, using(crate::proofs::ImageLaws::front_and_field))]
     pub(crate) fn is_image(&self, octets: &[u8]) -> bool
         requires { IsConsistent self.now }
         ensures { result ≡ bytes_eq octets.now (session_image self.now) }
     {
-        let front = self.front();
-        let data_field = self.data_field();
-        let size = front.len();
-        size <= octets.len() && octets[..size] == front[..] && octets[size..] == data_field[..]
+        is_made_of(octets, self.front().as_slice(), self.data_field())
     }
 
     /// The image as far as the dataField.
-    #[tactic(auto, unfolding(crate::specs::Image::image_of))]
+    #[tactic(auto, using(crate::proofs::ImageLaws::body_size), unfolding(crate::specs::Image::image_front))]
     fn front(&self) -> Front
         requires { IsConsistent self.now }
-        ensures { result.items ++ data_field_of self.now.unanswered ≡ session_image self.now }
+        ensures { result.items ≡ session_front self.now }
     {
         let body = self.body();
         let mut front = ArrayVec::new();
@@ -98,24 +111,27 @@ impl Saved<'_> {
     }
 
     /// What of it follows the head.
-    #[tactic(auto, unfolding(crate::specs::Image::body_image))]
+    #[tactic(auto, unfolding(crate::specs::Image::body_front))]
     fn body(&self) -> Body
         requires { IsConsistent self.now }
-        ensures { result.items ++ data_field_of self.now.unanswered
-            ≡ body_image self.now.setup self.now.domain self.now.issued self.now.unanswered }
+        ensures { result.items
+            ≡ body_front self.now.setup self.now.domain self.now.issued self.now.reported
+            self.now.unanswered }
     {
         let mut body = ArrayVec::new();
         put_setup(&mut body, &self.setup);
         put(&mut body, &[self.domain]);
         put_u64(&mut body, self.issued);
-        put_u64(&mut body, answered_of(self.issued, &self.unanswered));
+        put_u64(&mut body, self.reported);
         put_unanswered(&mut body, &self.unanswered);
         body
     }
 
     /// The dataField of the request, with which the image ends.
     fn data_field(&self) -> &[u8]
-        ensures { result.now ≡ data_field_of self.now.unanswered }
+        requires { IsConsistent self.now }
+        ensures octets { result.now ≡ data_field_of self.now.unanswered }
+        ensures small { length result.now ≤ DATA_FIELD_OCTETS }
     {
         match &self.unanswered {
             None => &[],
@@ -124,15 +140,44 @@ impl Saved<'_> {
     }
 }
 
-/// How many of the begun requests are answered.
-fn answered_of(issued: u64, unanswered: &Option<Request<'_>>) -> u64
-    requires { IsSome unanswered.now → 1 ≤ issued }
-    ensures { result ≡ answered_of issued unanswered.now }
+/// Writes these two parts, one behind the other, over the first octets of a place.
+fn write_both(place: &mut [u8], front: &[u8], rest: &[u8])
+    requires { length front.now + length rest.now ≤ length place.old }
+    ensures { place.new
+        ≡ front.now ++ rest.now ++ drop (length front.now + length rest.now) place.old }
 {
-    match unanswered {
-        None => issued,
-        Some(_) => issued - 1,
+    let size = front.len();
+    write_first(place, front);
+    write(place, size, rest);
+}
+
+fn write_first(place: &mut [u8], octets: &[u8])
+    requires { length octets.now ≤ length place.old }
+    ensures { place.new ≡ octets.now ++ drop (length octets.now) place.old }
+{
+    place[..octets.len()].copy_from_slice(octets);
+}
+
+/// Writes octets over those of a place, from the one at `at` on.
+fn write(place: &mut [u8], at: usize, octets: &[u8])
+    requires { at + length octets.now ≤ length place.old }
+    ensures { place.new
+        ≡ take at place.old ++ octets.now ++ drop (at + length octets.now) place.old }
+{
+    let end = at + octets.len();
+    place[at..end].copy_from_slice(octets);
+}
+
+/// Whether octets are these two parts, one behind the other.
+#[tactic(auto, using(crate::proofs::ImageLaws::parts_short, crate::proofs::ImageLaws::parts_long))]
+fn is_made_of(octets: &[u8], front: &[u8], rest: &[u8]) -> bool
+    ensures { result ≡ bytes_eq octets.now (front.now ++ rest.now) }
+{
+    if octets.len() < front.len() {
+        return false;
     }
+    let (head, tail) = octets.split_at(front.len());
+    head == front && tail == rest
 }
 
 #[tactic(auto, unfolding(crate::specs::Image::image_head))]

@@ -1,5 +1,5 @@
 //! The client of PTP management (IEEE 1588-2019, clause 15): sessions, which make one request at a time of one clock, and
-//! surveys, which ask every clock at once.
+//! surveys, which ask every clock at once, or every port of one.
 #![tactic(auto)]
 
 mod answers;
@@ -18,7 +18,7 @@ mod setup;
 mod survey;
 
 pub use ask::Ask;
-pub use error::{BeginError, RestoreError, SendError};
+pub use error::{BeginError, GiveUpRefusal, RestoreError, SendError};
 pub use image::SESSION_OCTETS;
 pub use receiving::{Reason, Received, Surveyed};
 pub use report::{Outcome, Report};

@@ -117,6 +117,7 @@ fn session_at(image: &[u8]) -> Saved<'_>
         setup: setup_at(image),
         domain: image[35],
         issued: u64_at(image, 36),
+        reported: u64_at(image, 44),
         unanswered: unanswered_at(image),
     }
 }

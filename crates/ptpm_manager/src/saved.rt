@@ -1,11 +1,11 @@
 //! What is saved of a session.
 
 ghost use Rattle.std.specs.Prelude.{◌≡◌, ◌↔◌, IsTrue};
-ghost use Rattle.ptpm_manager.specs.Restoring.{is_consistent, is_unanswered_at};
-ghost use Rattle.ptpm_manager.specs.Session.{IsConsistent, IsUnansweredAt};
+ghost use Rattle.ptpm_manager.specs.Restoring.{is_consistent, is_in_reach, is_unanswered_at};
+ghost use Rattle.ptpm_manager.specs.Session.{IsConsistent, IsInReach, IsUnansweredAt};
 
-use crate::ask::is_request_to;
-use crate::session::REQUESTS;
+use crate::ask::is_asked_of;
+use crate::session::{REACH, REQUESTS};
 use crate::setup::Setup;
 use ptpm_data::Request;
 use std::marker::Model;
@@ -16,6 +16,7 @@ pub(crate) struct Saved<'a> {
     pub(crate) setup: Setup,
     pub(crate) domain: u8,
     pub(crate) issued: u64,
+    pub(crate) reported: u64,
     /// The last request, while it is not answered.
     pub(crate) unanswered: Option<Request<'a>>,
 }
@@ -40,6 +41,7 @@ impl Saved<'_> {
         self.setup.is_setup()
             && self.issued <= REQUESTS
             && is_unanswered_at(self.setup.ports, self.issued, &self.unanswered)
+            && is_in_reach(self.issued, self.reported, &self.unanswered)
     }
 }
 
@@ -50,6 +52,17 @@ fn is_unanswered_at(ports: u16, issued: u64, unanswered: &Option<Request<'_>>) -
 {
     match unanswered {
         None => true,
-        Some(request) => 1 <= issued && is_request_to(ports, request),
+        Some(request) => 1 <= issued && is_asked_of(ports, request),
+    }
+}
+
+/// Whether this can be the latest that was reported of this many requests.
+fn is_in_reach(issued: u64, reported: u64, unanswered: &Option<Request<'_>>) -> bool
+    ensures exact { result ≡ is_in_reach issued reported unanswered.now }
+    ensures meaning { IsTrue result ↔ IsInReach issued reported unanswered.now }
+{
+    match unanswered {
+        None => reported <= issued && issued - reported < REACH,
+        Some(_) => reported < issued && issued - reported <= REACH,
     }
 }

@@ -1,17 +1,18 @@
 //! A session: one manager's requests to one clock, one at a time.
 
-ghost use Rattle.std.specs.Prelude.{◌≡◌, ◌≢◌, ◌≤◌, ◌↔◌, true, false, Ok, Err, None, Some, IfErr, IfOk, IsErrOf, MatchResult, OnErr, OnOk};
+ghost use Rattle.std.specs.Prelude.{◌≡◌, ◌≢◌, ◌≤◌, ◌↔◌, true, false, Ok, Err, None, Some, IfErr, IfOk, IsErrOf, MatchResult, OnErr, OnOk, nat_lt};
 ghost use Rattle.ptpm_codec.specs.declared.message.Message.{Message};
 ghost use Rattle.ptpm_codec.specs.Canonical.{canonical};
 ghost use Rattle.ptpm_codec.specs.Message.{Fits, IsValid};
 ghost use Rattle.ptpm_manager.specs.declared.error.BeginError.{BeginError};
+ghost use Rattle.ptpm_manager.specs.declared.error.GiveUpRefusal.{GiveUpRefusal};
 ghost use Rattle.ptpm_manager.specs.declared.error.SendError.{SendError};
 ghost use Rattle.ptpm_manager.specs.declared.receiving.Reason.{Reason};
 ghost use Rattle.ptpm_manager.specs.declared.receiving.Received.{Received};
-ghost use Rattle.ptpm_manager.specs.Ask.{IsRequestTo, ask_of, request_of};
+ghost use Rattle.ptpm_manager.specs.Ask.{IsAskedOf, IsRequestTo, ask_of, request_at_port, request_of};
 
-use crate::ask::{Ask, Pending, judge};
-use crate::error::{BeginError, SendError};
+use crate::ask::{Ask, Pending, is_of_port, judge, judge_at, target_port};
+use crate::error::{BeginError, GiveUpRefusal, SendError};
 use crate::receiving::{Reason, Received, no_reply_to};
 use crate::report::{Report, outcome_in};
 use crate::saved::Saved;
@@ -24,6 +25,9 @@ use std::marker::Model;
 /// How many requests a session begins at most (this project's profile).
 pub const REQUESTS: u64 = 1_000_000;
 
+/// How many it begins at most after the latest that was reported: a clock takes numbers so far ahead for new ones.
+pub(crate) const REACH: u64 = 32_767;
+
 #[derive(Debug, Drop)]
 pub(crate) enum State {
     Idle,
@@ -31,15 +35,16 @@ pub(crate) enum State {
     Waiting(Pending),
 }
 
-/// One manager's requests to one clock, one at a time: a request is kept, and its number is used for no other, until its
-/// answer is heard. Contracts see how it was set up, its domain, how many requests were begun, the unanswered one, and
-/// how often that one may still be sent.
+/// One manager's requests to one clock, one at a time: a request is kept until its answer is heard or it is given up, and its number
+/// is used for no other. Contracts see how it was set up, its domain, how many requests were begun, which was reported last, the
+/// unanswered one, and how often that one may still be sent.
 #[derive(Debug, Drop)]
 pub struct Session {
     alloc: Global,
     setup: Setup,
     domain: u8,
     issued: u64,
+    reported: u64,
     state: State,
     attempts_left: u8,
 }
@@ -55,8 +60,8 @@ impl Model for Session {
 }
 
 impl Session {
-    ghost use Rattle.ptpm_manager.specs.Receiving.{IsCounted, NeedsMemory, left_by, reason_of, received_of};
-    ghost use Rattle.ptpm_manager.specs.Session.{IsConsistent, anew, answered_count, begin_refusal, begun, count_limit, due_message, fresh, is_waiting, resumed, retuned, send_refusal, sent};
+    ghost use Rattle.ptpm_manager.specs.Receiving.{IsCounted, IsReportedNext, NeedsMemory, left_by, reason_of, received_of};
+    ghost use Rattle.ptpm_manager.specs.Session.{IsConsistent, anew, begin_at_refusal, begin_refusal, begun, count_limit, due_message, fresh, give_up_refusal, given_up, is_waiting, over_count, resumed, retuned, send_refusal, sent};
     ghost use Rattle.ptpm_manager.specs.Setup.{AreTwoClocks};
 
     /// A session of `me` that has begun nothing, with a target of one to eight ports, in a domain. Neither clock is all ones,
@@ -90,6 +95,7 @@ impl Session {
             },
             domain,
             issued: 0,
+            reported: 0,
             state: State::Idle,
             attempts_left: 0,
         }
@@ -101,6 +107,15 @@ impl Session {
         ensures limit { result ≤ count_limit }
     {
         self.issued
+    }
+
+    /// Which of them was reported last, counted from 1; 0 before the first report. One begun after it was given up, or is not
+    /// answered yet.
+    pub fn reported(&self) -> u64
+        ensures latest { result ≡ self.now.reported }
+        ensures begun { result ≤ self.now.issued }
+    {
+        self.reported
     }
 
     /// The domain that requests are sent in, and replies expected in.
@@ -116,7 +131,7 @@ impl Session {
         ensures begun { OnOk result (self.new ≡ begun self.old (request_of ask.now)) }
         ensures permitted { OnOk result (begin_refusal self.old ask.now ≡ None) }
         ensures request { OnOk result (IsRequestTo self.old.setup.ports (request_of ask.now)) }
-        ensures counted { OnOk result (answered_count self.new ≡ answered_count self.old) }
+        ensures counted { OnOk result (over_count self.new ≡ over_count self.old) }
         ensures busy { IsErrOf result BeginError.Busy ↔ (is_waiting self.old ≡ true) }
         ensures refused { (e : BeginError)
             → begin_refusal self.old ask.now ≡ Some e
@@ -145,7 +160,7 @@ impl Session {
         ensures request { OnOk result
             (IsRequestTo self.old.setup.ports
             (request_of (ask_of action id port octets.now))) }
-        ensures counted { OnOk result (answered_count self.new ≡ answered_count self.old) }
+        ensures counted { OnOk result (over_count self.new ≡ over_count self.old) }
         ensures busy { IsErrOf result BeginError.Busy ↔ (is_waiting self.old ≡ true) }
         ensures refused { (e : BeginError)
             → begin_refusal self.old (ask_of action id port octets.now) ≡ Some e
@@ -156,14 +171,85 @@ impl Session {
             → begin_refusal self.old (ask_of action id port octets.now) ≡ Some e) }
         ensures unchanged { OnErr result (self.new ≡ self.old) }
     {
-        if let State::Waiting(_) = &self.state {
-            return Err(BeginError::Busy);
-        }
+        self.judge_idle()?;
         judge(self.setup.ports, action, id, port, octets)?;
+        self.make(&Request {
+            action,
+            id,
+            port: target_port(id, port),
+            octets,
+        })
+    }
+
+    /// Does what `begin_with` does at the port that is named, also for an id of no port; it has to be one of the clock's. There are
+    /// clocks that answer for an id of the clock too only where one of their ports is named. Such a request may be answered by any
+    /// port of the clock.
+    #[tactic(auto, unfolding(crate::specs::Session::begin_at_refusal))]
+    pub fn begin_at(
+        &mut self,
+        action: Action,
+        id: u16,
+        port: u16,
+        octets: &[u8],
+    ) -> Result<(), BeginError>
+        ensures begun { OnOk result
+            (self.new
+            ≡ begun self.old (request_at_port (ask_of action id (Some port) octets.now))) }
+        ensures permitted { OnOk result
+            (begin_at_refusal self.old (ask_of action id (Some port) octets.now) ≡ None) }
+        ensures request { OnOk result
+            (IsAskedOf self.old.setup.ports
+            (request_at_port (ask_of action id (Some port) octets.now))) }
+        ensures counted { OnOk result (over_count self.new ≡ over_count self.old) }
+        ensures busy { IsErrOf result BeginError.Busy ↔ (is_waiting self.old ≡ true) }
+        ensures refused { (e : BeginError)
+            → begin_at_refusal self.old (ask_of action id (Some port) octets.now) ≡ Some e
+            → result ≡ Err e }
+        ensures no_other { IfErr result
+            (λ e.
+            e ≢ BeginError.OutOfMemory
+            → begin_at_refusal self.old (ask_of action id (Some port) octets.now) ≡ Some e) }
+        ensures unchanged { OnErr result (self.new ≡ self.old) }
+    {
+        self.judge_idle()?;
+        judge_at(self.setup.ports, action, id, port, octets)?;
+        self.make(&Request {
+            action,
+            id,
+            port,
+            octets,
+        })
+    }
+
+    /// While a request is under way, no other is begun.
+    fn judge_idle(&self) -> Result<(), BeginError>
+        ensures { MatchResult result (λ _. is_waiting self.now ≡ false)
+            (λ e. (e ≡ BeginError.Busy) × (is_waiting self.now ≡ true)) }
+    {
+        match &self.state {
+            State::Idle => Ok(()),
+            State::Waiting(_) => Err(BeginError::Busy),
+        }
+    }
+
+    /// Makes this request, unless it is one too many.
+    fn make(&mut self, request: &Request<'_>) -> Result<(), BeginError>
+        requires idle { is_waiting self.old ≡ false }
+        requires asked { IsAskedOf self.old.setup.ports request.now }
+        ensures begun { OnOk result (self.new ≡ begun self.old request.now) }
+        ensures room { OnOk result (nat_lt self.old.issued count_limit ≡ true) }
+        ensures full { nat_lt self.old.issued count_limit ≡ false
+            → result ≡ Err BeginError.CountAtMaximum }
+        ensures no_other { IfErr result
+            (λ e.
+            e ≢ BeginError.OutOfMemory
+            → (e ≡ BeginError.CountAtMaximum) × (nat_lt self.old.issued count_limit ≡ false)) }
+        ensures unchanged { OnErr result (self.new ≡ self.old) }
+    {
         if self.issued >= REQUESTS {
             return Err(BeginError::CountAtMaximum);
         }
-        match Pending::of(self.alloc, action, id, port, octets) {
+        match Pending::copy_of(self.alloc, request) {
             Ok(pending) => {
                 self.issued += 1;
                 self.state = State::Waiting(pending);
@@ -215,6 +301,26 @@ impl Session {
         Ok(())
     }
 
+    /// Lets the unanswered request go, so that the next can be begun. Its number is used for no other, and no answer to it is taken
+    /// any more. The clock may have carried it out, or may still: until it accepts a later request of this session. Takes no memory.
+    #[tactic(auto, unfolding(crate::specs::Session::give_up_refusal))]
+    pub fn give_up(&mut self) -> Result<(), GiveUpRefusal>
+        ensures refusal { MatchResult result (λ _. give_up_refusal self.old ≡ None)
+            (λ e. give_up_refusal self.old ≡ Some e) }
+        ensures given_up { OnOk result (self.new ≡ given_up self.old) }
+        ensures idle { OnOk result (is_waiting self.new ≡ false) }
+        ensures unchanged { OnErr result (self.new ≡ self.old) }
+    {
+        if let State::Idle = &self.state {
+            return Err(GiveUpRefusal::Idle);
+        }
+        if self.issued - self.reported >= REACH {
+            return Err(GiveUpRefusal::OutOfReach);
+        }
+        self.state = State::Idle;
+        Ok(())
+    }
+
     /// From now on requests are sent, and replies expected, in this domain, also of a request that was begun before. Its
     /// octets then differ from those sent before in domainNumber alone. Takes no memory.
     pub fn retune(&mut self, domain: u8)
@@ -230,7 +336,9 @@ impl Session {
         ensures exact { IfOk result (λ received. received ≡ received_of self.old datagram.now) }
         ensures left { IfOk result (λ received. self.new ≡ left_by self.old received) }
         ensures counted { IfOk result
-            (λ received. IsCounted received (answered_count self.old) (answered_count self.new)) }
+            (λ received. IsCounted received (over_count self.old) (over_count self.new)) }
+        ensures rises { IfOk result
+            (λ received. IsReportedNext received self.old.reported self.new.reported) }
         ensures memory { OnErr result (NeedsMemory (received_of self.old datagram.now)) }
         ensures ignored { (r : Reason)
             → received_of self.old datagram.now ≡ Received.Ignored r
@@ -246,6 +354,7 @@ impl Session {
         }
         let outcome = outcome_in(self.alloc, &message)?;
         self.state = State::Idle;
+        self.reported = self.issued;
         Ok(Received::Answered(Report {
             index: self.issued,
             outcome,
@@ -261,6 +370,7 @@ impl Session {
             setup: self.setup,
             domain: self.domain,
             issued: self.issued,
+            reported: self.reported,
             unanswered: self.state.unanswered(),
         }
     }
@@ -275,6 +385,7 @@ impl Session {
             setup: saved.setup,
             domain: saved.domain,
             issued: saved.issued,
+            reported: saved.reported,
             state: State::of_saved(alloc, &saved.unanswered)?,
             attempts_left: saved.setup.attempts,
         })
@@ -338,7 +449,9 @@ impl State {
         match self {
             State::Idle => true,
             State::Waiting(pending) => {
-                pending.port == PortIdentity::EVERY_PORT || pending.port == port
+                pending.port == PortIdentity::EVERY_PORT
+                    || pending.port == port
+                    || !is_of_port(pending.id)
             }
         }
     }

@@ -1,7 +1,8 @@
-//! A survey: one GET to every clock and every port, and the first answer of each port.
+//! A survey: one GET to every port of every clock, or of one, and the first answer of each port.
 
 ghost use Rattle.std.specs.Prelude.{◌≡◌, ◌++◌, ◌∷◌, [], IfOk, List, OnErr, OnOk, ℕ};
 ghost use Rattle.ptpm_codec.specs.Canonical.{canonical};
+ghost use Rattle.ptpm_codec.specs.Identity.{every_clock};
 ghost use Rattle.ptpm_codec.specs.Message.{Fits, IsValid};
 ghost use Rattle.ptpm_manager.specs.declared.receiving.Surveyed.{Surveyed};
 ghost use Rattle.ptpm_manager.specs.Answers.{first_of_each_source, heard, kept_by, surveyed_by};
@@ -12,12 +13,12 @@ use crate::enquiry::Enquiry;
 use crate::receiving::Surveyed;
 use crate::report::Outcome;
 use indexmap::IndexMap;
-use ptpm_codec::{Buffer, OutOfMemory, PortIdentity, encode};
+use ptpm_codec::{Buffer, ClockIdentity, OutOfMemory, PortIdentity, encode};
 use std::alloc::Global;
 use std::marker::Model;
 
-/// One GET to every clock and every port, and the first answer of each port that answers. Contracts see what it asks and
-/// the list of its answers.
+/// One GET to every port of every clock, or of one, and the first answer of each port that answers. Contracts see what it asks
+/// and the list of its answers.
 #[derive(Drop)]
 pub struct Survey {
     alloc: Global,
@@ -34,8 +35,8 @@ impl Model for Survey {
 }
 
 impl Survey {
-    /// A survey of an id, with no answers. Its GET has this sequence number, and `hops` in both hop fields. Takes no memory.
-    #[tactic(auto, unfolding(crate::specs::Answers::first_of_each_source))]
+    /// A survey of an id, with no answers. Its GET goes to every clock. It has this sequence number, and `hops` in both hop fields.
+    /// Takes no memory.
     pub fn new(
         alloc: Global,
         me: PortIdentity,
@@ -45,7 +46,26 @@ impl Survey {
         id: u16,
     ) -> Survey
         ensures enquiry { result.enquiry
-            ≡ record { me = me; domain = domain; number = number; hops = hops; id = id } }
+            ≡ record { me = me; target = every_clock; domain = domain; number = number; hops = hops; id = id } }
+        ensures answers { result.answers ≡ [] }
+        ensures first { result.answers ≡ first_of_each_source result.enquiry [] }
+    {
+        Survey::of_clock(alloc, me, ClockIdentity::EVERY, domain, number, hops, id)
+    }
+
+    /// The same of every port of one clock: no other clock is asked, and what another says is no answer. Takes no memory.
+    #[tactic(auto, unfolding(crate::specs::Answers::first_of_each_source))]
+    pub fn of_clock(
+        alloc: Global,
+        me: PortIdentity,
+        target: ClockIdentity,
+        domain: u8,
+        number: u16,
+        hops: u8,
+        id: u16,
+    ) -> Survey
+        ensures enquiry { result.enquiry
+            ≡ record { me = me; target = target; domain = domain; number = number; hops = hops; id = id } }
         ensures answers { result.answers ≡ [] }
         ensures first { result.answers ≡ first_of_each_source result.enquiry [] }
     {
@@ -53,6 +73,7 @@ impl Survey {
             alloc,
             enquiry: Enquiry {
                 me,
+                target,
                 domain,
                 number,
                 hops,

@@ -55,6 +55,23 @@ was_accepted-joined : (m : PortIdentity) (begun : List RequestValue) (es : List 
     → WasAccepted m begun (d ∷ es) k
 was_accepted-joined m begun es d k above le old = search (kept-joined m es d k above le ∙ old.is)
 
+-- What a frame says rests on this: each request that was begun can be sent, and each that was accepted was begun.
+pub record Keeps (m : PortIdentity) (ports : ℕ) (begun : List RequestValue) (es : List Accepted) : Type 0 where
+  pub asked : (i : ℕ) (q : RequestValue) → slice_get begun i ≡ Some q → IsAsked ports q
+  pub begun_before : greatest m es ≤ length begun
+  pub from_one : kept_reply m 0 es ≡ None
+  pub was : (k : ℕ) (e : Accepted) → 0 < k → kept_reply m k es ≡ Some e → WasAccepted m begun es k
+
+pub in_step-keeps : (m : PortIdentity) (ports : ℕ) (es : List Accepted) (s : SessionState)
+    → IsInStep m ports es s
+    → Keeps m ports s.begun es
+in_step-keeps m ports es s at = record {
+  asked = at.asked;
+  begun_before = at.begun_before;
+  from_one = at.from_one;
+  was = λ k e positive kept. at.without_gap k positive (kept-le m k es e kept);
+}
+
 -- one of the manager's own requests joins: it was begun, and is kept with its one answer
 pub record JoinsOwn (m : PortIdentity) (begun : List RequestValue) (d : Accepted) : Type 0 where
   pub index : d.index ≤ length begun
@@ -71,6 +88,57 @@ without_gap-own m ports es d s y above own at k p le = ⊎_elim
     (λ (q : d.index ≡ k). search (kept-first m k d es y q, rw q at own.begun_as))
     (λ (ne : d.index ≡ k → ⊥). grind (arith, greatest-same, was_accepted-joined))
     (cases_eq d.index k)
+
+was-rest : (m : PortIdentity) (ports k : ℕ) (begun : List RequestValue) (es : List Accepted) (d e : Accepted)
+    → kept_reply m k (d ∷ es) ≡ kept_reply m k es → Keeps m ports begun es → 0 < k
+    → kept_reply m k (d ∷ es) ≡ Some e
+    → WasAccepted m begun (d ∷ es) k
+was-rest m ports k begun es d e rest at positive kept =
+    let old = at.was k e positive (sym rest ∙ kept) in
+    record { entry = old.entry; is = rest ∙ old.is; begun_as = old.begun_as; answers = old.answers; one = old.one }
+
+-- what was accepted was begun, if one of the manager's requests joins, or one of another manager
+pub keeps-joined : (m : PortIdentity) (ports : ℕ) (begun : List RequestValue) (es : List Accepted) (d : Accepted)
+    → IsAbove m es d → (same_identity m d.manager ≡ true → JoinsOwn m begun d)
+    → Keeps m ports begun es
+    → Keeps m ports begun (d ∷ es)
+keeps-joined m ports begun es d above own at = record {
+  asked = at.asked;
+  begun_before = grind (arith, greatest-same, greatest-other);
+  from_one = kept-joined m es d 0 above (omega arith) ∙ at.from_one;
+  was = λ k e positive kept. by_test (same_identity m d.manager && d.index == k)
+      (λ y.
+      let parts = and_parts (same_identity m d.manager) (d.index == k) y in
+      let same : d.index ≡ k = eqb-true d.index k parts.1 in
+      let joins = own parts.0 in
+      record {
+        entry = d;
+        is = kept-first m k d es parts.0 same;
+        begun_as = rw same at joins.begun_as;
+        answers = joins.answers;
+        one = joins.one;
+      })
+      (λ n. was-rest m ports k begun es d e (kept-rest m k d es n) at positive kept);
+}
+
+-- and if the manager begins its next
+pub keeps-begun : (m : PortIdentity) (ports : ℕ) (begun : List RequestValue) (es : List Accepted) (q : RequestValue)
+    → IsAsked ports q → Keeps m ports begun es
+    → Keeps m ports (begun ++ q ∷ []) es
+keeps-begun m ports begun es q asked at = record {
+  asked = λ i p e. get_appended (IsAsked ports) begun q i p asked (at.asked i) e;
+  begun_before = omega (arith, length-append begun (q ∷ []), at.begun_before);
+  from_one = at.from_one;
+  was = λ k e positive kept.
+      let old = at.was k e positive kept in
+      record {
+        entry = old.entry;
+        is = old.is;
+        begun_as = get_append begun (q ∷ []) (k - 1) old.entry.request old.begun_as;
+        answers = old.answers;
+        one = old.one;
+      };
+}
 
 -- a manager goes on if one of its requests joins, or one of another manager
 pub in_step-joined : (m : PortIdentity) (ports : ℕ) (es : List Accepted) (d : Accepted)

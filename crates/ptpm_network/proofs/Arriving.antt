@@ -1,7 +1,7 @@
 -- What a delivery at a clock does to what the clock accepted.
 use Rattle.ptpm_network.proofs.Common.{arith, by_test, ◌≡◌, ℕ, ◌<◌, ◌==◌, List, [], ◌∷◌, ◌++◌, Option, Some, None, true, false, refl, sym, ◌∙◌, ap, subst, ⊎_elim, ◌⊎◌, inl, inr, length, and_parts, cond-true, cond-false, eq-eqb, eqb-true, ltb-true, cons_option, slice_get, PortIdentity, Message, same_identity, message_of, RequestValue, Accepted, Delivery, History, RequestCopy, accepted_from, after_arrival, after_copy, applied_once, copies, initial_history, copy_from, copy_of, greatest, is_copy, joined, joins, kept_reply, Clock, applied_once-ports, delivers_copy, same_identity-true, number_of, AreDataSets, IsInStep, IsReached, arrives, delivery, IsNetwork, Network, manager, ports, Frame, NetworkState, SessionState, RequestOf, accepted_at_target, copies_at, history, with_place-other, with_place-same}
 use Rattle.std.proofs.lemmas.List.Elements.{filter_map-append}
-use Rattle.ptpm_network.proofs.Accepting.{IsAbove, JoinsOwn, in_step-joined, kept-joined, kept-le}
+use Rattle.ptpm_network.proofs.Accepting.{IsAbove, JoinsOwn, Keeps, in_step-joined, keeps-joined, kept-joined, kept-le}
 use Rattle.ptpm_network.proofs.Frames.{IsHeard, SaysRequest, same_read, says_request}
 use Rattle.ptpm_network.proofs.Messages.{request_at}
 use Rattle.ptpm_network.proofs.Origins.{heard-true, is_copy_by}
@@ -138,6 +138,14 @@ pub step-gained : (m : PortIdentity) (p : ℕ) (new old : List Accepted) (state 
 step-gained m p new old state gains at = ⊎_elim
     (λ (q : new ≡ old). subst (λ es. IsInStep m p es state) (sym q) at)
     (λ (g : Gains m state.begun new old). subst (λ es. IsInStep m p es state) (sym g.is) (in_step-joined m p old g.entry state g.above g.own at))
+    gains
+
+pub keeps-gained : (m : PortIdentity) (p : ℕ) (begun : List RequestValue) (new old : List Accepted)
+    → StaysOrGains m begun new old → Keeps m p begun old
+    → Keeps m p begun new
+keeps-gained m p begun new old gains at = ⊎_elim
+    (λ (q : new ≡ old). subst (λ es. Keeps m p begun es) (sym q) at)
+    (λ (g : Gains m begun new old). subst (λ es. Keeps m p begun es) (sym g.is) (keeps-joined m p begun old g.entry g.above g.own at))
     gains
 
 joins-own : (N : Network) (w : NetworkState) (c port : ℕ) (f : Frame)

@@ -1,7 +1,7 @@
 -- What a frame of each origin says, and that what a clock passes on keeps its origin.
 use Rattle.ptpm_network.proofs.Common.{arith, ◌≡◌, ℕ, ◌<◌, ◌≤◌, ◌+◌, ◌-◌, ◌^◌, List, [], ◌∷◌, Some, sym, ◌∙◌, ap, subst, length, same_Some, slice_get_within, slice_get, AllByRecursion, Message, canonical, boundary_hops, Fits, message_of, Answer, RequestValue, Heard, with_less_hop, Accepted, kept_reply, number_of, Answers, HasOneAnswer, IsSendable, IsAsked, IsForeign, IsFrame, IsInStep, IsMessage, IsOfOrigin, IsReached, SessionState, forwarded_frames, AtPort, HasEnd, IsNetwork, Network, manager, peers, ports, Frame, NetworkState, Origin, RequestOf, ReplyTo, Neither, accepted_at_target, all_flat, all_made, le_trans}
 use Rattle.ptpm_network.specs.Invariant.{IsReplyFrame, IsRequestFrame}
-use Rattle.ptpm_network.proofs.Accepting.{kept-le}
+use Rattle.ptpm_network.proofs.Accepting.{Keeps, in_step-keeps, kept-le}
 use Rattle.ptpm_network.proofs.Messages.{IsPassedOn, canonical-message, less_hop-canonical, less_hop-hops, less_hop-message, message-hops, reply_at, reply-fits, reply-valid, request_at, request-fits, request-valid}
 use Rattle.ptpm_network.proofs.Steps.{has_peers}
 
@@ -51,23 +51,23 @@ pub sendable-one : (q : RequestValue) (e : Accepted) (a : Answer)
     → IsSendable a
 sendable-one q e a one answers = (subst (AllByRecursion IsSendable) one answers.sendable).0
 
-pub kept_says : (N : Network) (s k : ℕ) (accepted : List Accepted) (state : SessionState) (e : Accepted)
-    → IsInStep (manager N s) (ports N (N.session s).target) accepted state → 0 < k → kept_reply (manager N s) k accepted ≡ Some e
-    → SaysKept N s k state.begun e
-kept_says N s k accepted state e step positive kept =
+pub kept_says : (N : Network) (s k : ℕ) (accepted : List Accepted) (begun : List RequestValue) (e : Accepted)
+    → Keeps (manager N s) (ports N (N.session s).target) begun accepted → 0 < k → kept_reply (manager N s) k accepted ≡ Some e
+    → SaysKept N s k begun e
+kept_says N s k accepted begun e keeps positive kept =
     let le = kept-le (manager N s) k accepted e kept in
-    let was = step.without_gap k positive le in
+    let was = keeps.was k e positive kept in
     let same : was.entry ≡ e = same_Some was.entry e (sym was.is ∙ kept) in
-    subst (SaysKept N s k state.begun) same (search (step.asked (k - 1) was.entry.request was.begun_as, le_trans le step.begun_before))
+    subst (SaysKept N s k begun) same (search (keeps.asked (k - 1) was.entry.request was.begun_as, le_trans le keeps.begun_before))
 
-module _ (N : Network) (s k : ℕ) (accepted : List Accepted) (state : SessionState) (n : IsNetwork N) (place : s < N.sessions) (step : IsInStep (manager N s) (ports N (N.session s).target) accepted state) where
+module _ (N : Network) (s k : ℕ) (accepted : List Accepted) (begun : List RequestValue) (n : IsNetwork N) (place : s < N.sessions) (keeps : Keeps (manager N s) (ports N (N.session s).target) begun accepted) where
   pub request_says : (octets : List ℕ)
-      → IsRequestFrame (N.session s).setup state.begun k octets
-      → SaysRequest N s k state.begun octets
+      → IsRequestFrame (N.session s).setup begun k octets
+      → SaysRequest N s k begun octets
   request_says octets i =
-      let asked = step.asked (k - 1) i.request i.begun_as in
+      let asked = keeps.asked (k - 1) i.request i.begun_as in
       let v : Message = request_at N s k i.domain i.hops i.request in
-      let within : k ≤ length state.begun = omega (arith, i.positive, slice_get_within state.begun (k - 1) i.request i.begun_as) in
+      let within : k ≤ length begun = omega (arith, i.positive, slice_get_within begun (k - 1) i.request i.begun_as) in
       let message : IsMessage octets v = subst (λ m. IsMessage m v) (sym i.is)
       (canonical-message v (request-valid N s k i.domain i.hops (ports N (N.session s).target) i.request asked)
       (request-fits N s k i.domain i.hops (ports N (N.session s).target) i.request n place asked)) in
@@ -75,11 +75,11 @@ module _ (N : Network) (s k : ℕ) (accepted : List Accepted) (state : SessionSt
 
   pub reply_says : (octets : List ℕ)
       → IsReplyFrame (N.session s).setup accepted k octets
-      → SaysReply N s k state.begun accepted octets
+      → SaysReply N s k begun accepted octets
   reply_says octets i =
       let session = n.are_sessions s place in
       let clock = n.are_clocks (N.session s).target session.exists in
-      let says = kept_says N s k accepted state i.entry step i.positive i.kept in
+      let says = kept_says N s k accepted begun i.entry keeps i.positive i.kept in
       let sendable = sendable-one i.entry.request i.entry i.answer i.one says.answers in
       let identity : length (N.session s).setup.target.0 ≡ 8 = grind arith in
       let source : length i.heard.source.clock.0 ≡ 8 = grind arith in
@@ -93,8 +93,8 @@ module _ (N : Network) (s k : ℕ) (accepted : List Accepted) (state : SessionSt
   -- ---- with one hop less
 
   pub request_passed : (octets : List ℕ)
-      → IsRequestFrame (N.session s).setup state.begun k octets
-      → IsRequestFrame (N.session s).setup state.begun k (with_less_hop octets)
+      → IsRequestFrame (N.session s).setup begun k octets
+      → IsRequestFrame (N.session s).setup begun k (with_less_hop octets)
   request_passed octets i =
       let says = request_says octets i in
       search (ap with_less_hop says.is ∙ less_hop-canonical (request_at N s k says.domain says.hops says.request)
@@ -110,22 +110,30 @@ module _ (N : Network) (s k : ℕ) (accepted : List Accepted) (state : SessionSt
 
 -- ---- in the machine, where all sessions are
 
+reached-keeps : (N : Network) (w : NetworkState) (s : ℕ)
+    → IsReached N w → s < N.sessions
+    → Keeps (manager N s) (ports N (N.session s).target) (w.session s).begun (accepted_at_target N w s)
+reached-keeps N w s r place = in_step-keeps (manager N s) (ports N (N.session s).target) (accepted_at_target N w s) (w.session s) (r.sessions s place)
+
 module _ (N : Network) (w : NetworkState) (s k : ℕ) where
   pub says_request : (octets : List ℕ)
       → IsNetwork N → IsReached N w → IsOfOrigin N w octets (RequestOf s k)
       → SaysRequest N s k (w.session s).begun octets
-  says_request octets n r (place, i) = request_says N s k (accepted_at_target N w s) (w.session s) n place (r.sessions s place) octets i
+  says_request octets n r (place, i) =
+      request_says N s k (accepted_at_target N w s) (w.session s).begun n place (reached-keeps N w s r place) octets i
 
   pub says_kept : (e : Accepted)
       → IsReached N w → s < N.sessions → 0 < k
       → kept_reply (manager N s) k (accepted_at_target N w s) ≡ Some e
       → SaysKept N s k (w.session s).begun e
-  says_kept e r place positive kept = kept_says N s k (accepted_at_target N w s) (w.session s) e (r.sessions s place) positive kept
+  says_kept e r place positive kept =
+      kept_says N s k (accepted_at_target N w s) (w.session s).begun e (reached-keeps N w s r place) positive kept
 
   pub says_reply : (octets : List ℕ)
       → IsNetwork N → IsReached N w → IsOfOrigin N w octets (ReplyTo s k)
       → SaysReply N s k (w.session s).begun (accepted_at_target N w s) octets
-  says_reply octets n r (place, i) = reply_says N s k (accepted_at_target N w s) (w.session s) n place (r.sessions s place) octets i
+  says_reply octets n r (place, i) =
+      reply_says N s k (accepted_at_target N w s) (w.session s).begun n place (reached-keeps N w s r place) octets i
 
 -- ---- a frame that comes in
 
@@ -152,8 +160,10 @@ same_read octets v u m e = same_Some v u (sym e ∙ m.read)
 pub passed_on-origin : (N : Network) (w : NetworkState) (octets : List ℕ) (o : Origin) (v : Message)
     → IsNetwork N → IsReached N w → IsHeard N w octets o → message_of octets ≡ Some v
     → IsOfOrigin N w (with_less_hop octets) o
-passed_on-origin N w octets (RequestOf s k) v n r (place, i) e = grind (arith, request_passed)
-passed_on-origin N w octets (ReplyTo s k) v n r (place, i) e = grind (arith, reply_passed)
+passed_on-origin N w octets (RequestOf s k) v n r (place, i) e =
+    (place, request_passed N s k (accepted_at_target N w s) (w.session s).begun n place (reached-keeps N w s r place) octets i)
+passed_on-origin N w octets (ReplyTo s k) v n r (place, i) e =
+    (place, reply_passed N s k (accepted_at_target N w s) (w.session s).begun n place (reached-keeps N w s r place) octets i)
 passed_on-origin N w octets Neither v n r i e =
     let p = i v e in
     record { message = record v { hops = v.hops - 1 }; is = less_hop-message v octets e p.0; foreign = grind arith }

@@ -143,6 +143,14 @@ pub session-honest : (N : Network) (r : RunningNetwork) (t : ℕ) (v : SessionVa
     → IsHonest N (with_session_value r t v)
 session-honest N r t v h s = grind (arith, at_place)
 
+-- one that keeps its setup and its request
+pub moved-honest : (N : Network) (r : RunningNetwork) → IsHonest N r → (t : ℕ) (f : SessionValue → SessionValue) → t < N.sessions
+    → (f (r.session t)).setup ≡ (r.session t).setup → (f (r.session t)).unanswered ≡ (r.session t).unanswered
+    → IsHonest N (with_session_value r t (f (r.session t)))
+moved-honest N r h t f there setup unanswered =
+    let value = h.sessions t there in
+    session-honest N r t (f (r.session t)) h (record { setup = setup ∙ value.setup; asked = λ q e. value.asked q (sym unanswered ∙ e) })
+
 -- what a session sends is its own request
 pub record IsSentBy (N : Network) (t : ℕ) (value : SessionValue) (v : Message) : Type 0 where
   pub request : RequestValue

@@ -44,8 +44,11 @@ pub mod Reporting
 pub mod Resuming
 pub mod Truth
 pub mod Honest
+pub mod EachEvent
 pub mod Own
 pub mod Owned
 pub mod Serving
 pub mod Served
+pub mod AtWork
+pub mod GivingUp
 pub mod AllInTime

@@ -1,5 +1,5 @@
 -- What a session has and what its target keeps of it, if its own messages came in time.
-use Rattle.ptpm_network.proofs.Common.{Bool, inr, true≢false, ◌⊎◌, arith, ◌≡◌, ℕ, ◌+◌, ◌-◌, ◌<◌, ◌≤◌, List, [], ◌∷◌, length, Option, Some, None, true, false, refl, sym, ◌∙◌, ap, subst, ⊎_elim, and_from, cond-true, eq-eqb, same_Some, slice_get, PortIdentity, Message, same_identity, message_of, reading-message_of, RequestValue, Entry, look_at, look_by, same_request, InWindow, reply_messages, Accepted, greatest, kept_reply, heard_of, request_of, Clock, State, turn, turn-message, judged, Verdict, reply_by, same_identity-refl, number_of, Answers, HasOneAnswer, IsInStep, SessionState}
+use Rattle.ptpm_network.proofs.Common.{Bool, inr, true≢false, ◌⊎◌, arith, ◌≡◌, ℕ, ◌+◌, ◌-◌, ◌<◌, ◌≤◌, List, [], ◌∷◌, length, Option, Some, None, true, false, refl, sym, ◌∙◌, ap, subst, ⊎_elim, and_from, cond-true, eq-eqb, same_Some, slice_get, PortIdentity, Message, same_identity, message_of, reading-message_of, RequestValue, Entry, look_at, look_by, same_request, InWindow, reply_messages, Accepted, greatest, kept_reply, heard_of, request_of, Clock, State, turn, turn-message, judged, Verdict, reply_by, same_identity-refl, number_of, Answers, HasOneAnswer}
 use Rattle.std.specs.FinMap.{get}
 use Rattle.std.proofs.lemmas.Bool.{cases_order}
 use Rattle.std.proofs.Math.Nat.{ne_of_gt, ne_of_lt}
@@ -14,7 +14,8 @@ use Rattle.ptpm_agent.specs.Turn.{new_reply, next_by}
 use Rattle.ptpm_agent.proofs.Entries.{accepted_at, accepted_entry, accepted_kept}
 use Rattle.ptpm_agent.proofs.Numbers.{serial_of-number_of}
 use Rattle.ptpm_agent.proofs.Turns.{CopyParts, judged-copy}
-use Rattle.ptpm_network.specs.ByManager.{with_carried}
+use Rattle.ptpm_network.specs.GivingUp.{carried_as}
+use Rattle.ptpm_network.proofs.Accepting.{Keeps}
 use Rattle.ptpm_network.proofs.Arriving.{StaysOrGains}
 use Rattle.ptpm_network.proofs.DueReplies.{same_request-refl}
 
@@ -51,9 +52,9 @@ does c s port octets v e = grind (arith, turn-message, reading-message_of)
 
 -- ---- a turn on a copy of the manager's own request k, in the window
 
--- what is accepted of the manager then
-abbrev pub accepted_after : PortIdentity → Clock → State → List ℕ → List Accepted → List Accepted
-accepted_after m c s octets accepted = with_carried m c s (carried_in c s octets) accepted
+-- what is accepted of the manager then, under this index
+abbrev pub accepted_after : ℕ → PortIdentity → Clock → State → List ℕ → List Accepted → List Accepted
+accepted_after j m c s octets accepted = carried_as j m c s (carried_in c s octets) accepted
 
 -- a reply is sent, and it is the one that is kept for the request
 pub record Replied (m : PortIdentity) (c : Clock) (s : State) (port : ℕ) (octets : List ℕ) (v : Message) (k : ℕ) (new : List Accepted) : Type 0 where
@@ -61,44 +62,46 @@ pub record Replied (m : PortIdentity) (c : Clock) (s : State) (port : ℕ) (octe
   pub kept : kept_reply m k new ≡ Some entry
   pub is : (turn c s port octets).replies ≡ reply_messages c port (heard_of v) (Some entry.reply)
 
-pub record TurnsOwn (m : PortIdentity) (first : ℕ) (begun : List RequestValue) (c : Clock) (s : State) (port : ℕ) (octets : List ℕ) (v : Message) (k : ℕ) (accepted : List Accepted) : Type 0 where
-  pub gains : StaysOrGains m begun (accepted_after m c s octets accepted) accepted
-  pub last : IsLastOf m first (accepted_after m c s octets accepted) (get (turn c s port octets).next.entries m)
-  pub replies : ((turn c s port octets).replies ≡ []) ⊎ Replied m c s port octets v k (accepted_after m c s octets accepted)
+pub record TurnsOwn (m : PortIdentity) (first : ℕ) (begun : List RequestValue) (c : Clock) (s : State) (port : ℕ) (octets : List ℕ) (v : Message) (k j : ℕ) (accepted : List Accepted) : Type 0 where
+  pub gains : StaysOrGains m begun (accepted_after j m c s octets accepted) accepted
+  pub last : IsLastOf m first (accepted_after j m c s octets accepted) (get (turn c s port octets).next.entries m)
+  pub replies : ((turn c s port octets).replies ≡ []) ⊎ Replied m c s port octets v k (accepted_after j m c s octets accepted)
   -- the latest is always answered, an older one never
   pub latest : k ≡ greatest m accepted → Replied m c s port octets v k accepted
   pub older : k < greatest m accepted → (turn c s port octets).replies ≡ []
 
 -- what the turn is given
-pub record ComesOwn (m : PortIdentity) (first p : ℕ) (c : Clock) (s : State) (v : Message) (k : ℕ) (accepted : List Accepted) (state : SessionState) : Type 0 where
+pub record ComesOwn (m : PortIdentity) (first p : ℕ) (c : Clock) (s : State) (v : Message) (k j : ℕ) (accepted : List Accepted) (begun : List RequestValue) : Type 0 where
   pub parts : CopyParts c (length s.sets.ports) v
   pub source : v.source ≡ m
   pub positive : 0 < k
-  pub within : k ≤ length state.begun
+  pub within : k ≤ length begun
   pub number : v.number ≡ number_of first k
-  pub begun_as : slice_get state.begun (k - 1) ≡ Some (request_of v)
+  pub begun_as : slice_get begun (k - 1) ≡ Some (request_of v)
   pub window : InWindow (greatest m accepted) k
-  pub step : IsInStep m p accepted state
+  -- the index under which it is accepted, if it is new
+  pub index : greatest m accepted < k → j ≡ k
+  pub keeps : Keeps m p begun accepted
   pub last : IsLastOf m first accepted (get s.entries m)
   -- the reply to it
   pub answers : Answers (request_of v) (new_reply c s v)
   pub one : HasOneAnswer (request_of v) (new_reply c s v)
 
 -- of the message's own source
-module _ (first p : ℕ) (c : Clock) (s : State) (port : ℕ) (octets : List ℕ) (v : Message) (k : ℕ) (accepted : List Accepted) (state : SessionState) (read : message_of octets ≡ Some v) (o : ComesOwn v.source first p c s v k accepted state) where
+module _ (first p : ℕ) (c : Clock) (s : State) (port : ℕ) (octets : List ℕ) (v : Message) (k j : ℕ) (accepted : List Accepted) (begun : List RequestValue) (read : message_of octets ≡ Some v) (o : ComesOwn v.source first p c s v k j accepted begun) where
   abbrev new_entry : Accepted
-  new_entry = accepted_at v.source (greatest v.source accepted + 1) (accepted_entry c s v)
+  new_entry = accepted_at v.source j (accepted_entry c s v)
 
   abbrev Turns : Type 0
-  Turns = TurnsOwn v.source first state.begun c s port octets v k accepted
+  Turns = TurnsOwn v.source first begun c s port octets v k j accepted
 
   -- it is carried out
   own-new : greatest v.source accepted < k → Does c s port octets v verdicts.AnsweredNew → Turns
   own-new above d =
       let m = v.source in
       let me : same_identity m m ≡ true = same_identity-refl m in
-      let here : accepted_after m c s octets accepted ≡ new_entry ∷ accepted = grind (arith, cond-true) in
-      let index : greatest m accepted + 1 ≡ k = omega (arith, o.within, o.step.one_at_a_time, o.step.accepted_before) in
+      let here : accepted_after j m c s octets accepted ≡ new_entry ∷ accepted = grind (arith, cond-true) in
+      let index : j ≡ k = o.index above in
       let most : greatest m (new_entry ∷ accepted) ≡ k = cond-true _ _ _ me ∙ omega (arith, index) in
       let kept : kept_reply m k (new_entry ∷ accepted) ≡ Some new_entry = grind (arith, cond-true, and_from, eq-eqb) in
       let at : IsLast m first (new_entry ∷ accepted) (accepted_entry c s v) = grind (arith, accepted_at, accepted_entry) in
@@ -127,8 +130,8 @@ module _ (first p : ℕ) (c : Clock) (s : State) (port : ℕ) (octets : List ℕ
   own-repeat None same is last = absurd (ne_of_gt o.positive (same ∙ last))
   own-repeat (Some e) same is last =
       let m = v.source in
-      let was = o.step.without_gap k o.positive (omega (arith, same)) in
       let kept : kept_reply m k accepted ≡ Some (accepted_at m (greatest m accepted) e) = ap (λ i. kept_reply m i accepted) same ∙ last.kept in
+      let was = o.keeps.was k (accepted_at m (greatest m accepted) e) o.positive kept in
       let entry : was.entry ≡ accepted_at m (greatest m accepted) e = same_Some was.entry _ (sym was.is ∙ kept) in
       let request : e.request ≡ request_of v = grind arith in
       let repeat : look_at (get s.entries m) v.number (request_of v) ≡ looks.Repeat =
@@ -158,10 +161,10 @@ module _ (first p : ℕ) (c : Clock) (s : State) (port : ℕ) (octets : List ℕ
       (λ _ n d. grind (arith, own-still, ne_of_gt)) fits))
       (cases_order k g)
 
-pub turns_own : (m : PortIdentity) (first p : ℕ) (c : Clock) (s : State) (port : ℕ) (octets : List ℕ) (v : Message) (k : ℕ)
-    (accepted : List Accepted) (state : SessionState)
-    → message_of octets ≡ Some v → ComesOwn m first p c s v k accepted state
-    → TurnsOwn m first state.begun c s port octets v k accepted
-turns_own m first p c s port octets v k accepted state read o =
-    subst (λ (q : PortIdentity). ComesOwn q first p c s v k accepted state → TurnsOwn q first state.begun c s port octets v k accepted) o.source
-    (own-turns first p c s port octets v k accepted state read) o
+pub turns_own : (m : PortIdentity) (first p : ℕ) (c : Clock) (s : State) (port : ℕ) (octets : List ℕ) (v : Message) (k j : ℕ)
+    (accepted : List Accepted) (begun : List RequestValue)
+    → message_of octets ≡ Some v → ComesOwn m first p c s v k j accepted begun
+    → TurnsOwn m first begun c s port octets v k j accepted
+turns_own m first p c s port octets v k j accepted begun read o =
+    subst (λ (q : PortIdentity). ComesOwn q first p c s v k j accepted begun → TurnsOwn q first begun c s port octets v k j accepted) o.source
+    (own-turns first p c s port octets v k j accepted begun read) o

@@ -6,7 +6,7 @@ use Rattle.ptpm_manager.specs.declared.receiving.Received.TheVariants as receive
 use Rattle.ptpm_manager.specs.Receiving.{left_by}
 use Rattle.ptpm_network.specs.ByManager.{Account}
 use Rattle.ptpm_network.specs.Invariant.{IsReplyFrame, IsRequestFrame}
-use Rattle.ptpm_network.proofs.Accepting.{IsToldOf, in_step-begun, in_step-reported, in_step-set}
+use Rattle.ptpm_network.proofs.Accepting.{IsToldOf, Keeps, in_step-begun, in_step-keeps, in_step-reported, in_step-set, keeps-begun}
 use Rattle.ptpm_network.proofs.Frames.{reply_passed, reply_says, request_passed, same_read}
 use Rattle.ptpm_network.proofs.Hearing.{answered-value, begun-value}
 use Rattle.ptpm_network.proofs.Honest.{IsSentBy}
@@ -36,6 +36,21 @@ pub record IsOwn (N : Network) (s : ℕ) (value : SessionValue) (reports : List 
   pub last : IsLastOf (manager N s) (N.session s).setup.first a.accepted (get clock.entries (manager N s))
   pub frames_say : AllByRecursion (IsOwnFrame N s a) frames
 
+-- of it, what its target and the frames have
+pub record IsHeld (N : Network) (s : ℕ) (clock : State) (frames : List Held) (a : Account) : Type 0 where
+  pub keeps : Keeps (manager N s) (ports N (N.session s).target) a.begun a.accepted
+  pub last : IsLastOf (manager N s) (N.session s).setup.first a.accepted (get clock.entries (manager N s))
+  pub frames_say : AllByRecursion (IsOwnFrame N s a) frames
+
+pub own-held : (N : Network) (s : ℕ) (value : SessionValue) (reports : List Report) (clock : State) (frames : List Held) (a : Account)
+    → IsOwn N s value reports clock frames a
+    → IsHeld N s clock frames a
+own-held N s value reports clock frames a at = record {
+  keeps = in_step-keeps (manager N s) (ports N (N.session s).target) a.accepted (state_of value reports a) at.step;
+  last = at.last;
+  frames_say = at.frames_say;
+}
+
 -- it is still said when more was begun and accepted
 pub said-stays : (N : Network) (s : ℕ) (a b : Account) (octets : List ℕ) (o : Origin)
     → ((i : ℕ) (q : RequestValue) → slice_get a.begun i ≡ Some q → slice_get b.begun i ≡ Some q)
@@ -47,29 +62,55 @@ said-stays N s a b octets (ReplyTo t k) begun kept i = λ ts. reply-stays (N.ses
 said-stays N s a b octets Neither begun kept i = tt
 
 -- and of what is passed on
-pub said-passed : (N : Network) (s : ℕ) (value : SessionValue) (reports : List Report) (a : Account) (octets : List ℕ) (o : Origin)
-    → IsNetwork N → s < N.sessions → IsInStep (manager N s) (ports N (N.session s).target) a.accepted (state_of value reports a)
+pub said-passed : (N : Network) (s : ℕ) (a : Account) (octets : List ℕ) (o : Origin)
+    → IsNetwork N → s < N.sessions → Keeps (manager N s) (ports N (N.session s).target) a.begun a.accepted
     → IsSaid N s a octets o
     → IsSaid N s a (with_less_hop octets) o
-said-passed N s value reports a octets (RequestOf t k) n place step i = λ ts. request_passed N s k a.accepted (state_of value reports a) n place step octets (i ts)
-said-passed N s value reports a octets (ReplyTo t k) n place step i = λ ts. reply_passed N s k a.accepted (state_of value reports a) n place step octets (i ts)
-said-passed N s value reports a octets Neither n place step i = tt
+said-passed N s a octets (RequestOf t k) n place keeps i = λ ts. request_passed N s k a.accepted a.begun n place keeps octets (i ts)
+said-passed N s a octets (ReplyTo t k) n place keeps i = λ ts. reply_passed N s k a.accepted a.begun n place keeps octets (i ts)
+said-passed N s a octets Neither n place keeps i = tt
+
+-- and it is still so when the session begins its next request
+pub held-begun : (N : Network) (s : ℕ) (clock : State) (frames : List Held) (a : Account) (q : RequestValue)
+    → IsAsked (ports N (N.session s).target) q → IsHeld N s clock frames a
+    → IsHeld N s clock frames (record { begun = a.begun ++ q ∷ []; accepted = a.accepted })
+held-begun N s clock frames a q asked at =
+    let b : Account = record { begun = a.begun ++ q ∷ []; accepted = a.accepted } in
+    record {
+      keeps = keeps-begun (manager N s) (ports N (N.session s).target) a.begun a.accepted q asked at.keeps;
+      last = at.last;
+      frames_say = all_weaker (IsOwnFrame N s a) (IsOwnFrame N s b)
+          (λ x i. said-stays N s a b x.octets x.origin (λ j p e. get_append a.begun (q ∷ []) j p e) (λ k e kept. kept) i) frames at.frames_say;
+    }
+
+-- what a session sends says its last request
+pub sent-says : (N : Network) (s : ℕ) (value : SessionValue) (a : Account) (v : Message)
+    → (by : IsSentBy N s value v) → 0 < value.issued → slice_get a.begun (value.issued - 1) ≡ Some by.request
+    → IsRequestFrame (N.session s).setup a.begun value.issued (canonical v)
+sent-says N s value a v by positive last = record {
+  positive = positive;
+  request = by.request;
+  begun_as = last;
+  domain = value.domain;
+  hops = (N.session s).setup.hops;
+  is = ap (λ (x : Message). canonical x) by.is;
+}
 
 abbrev pub reports_with : List Report → Received → List Report
 reports_with reports (received.Answered report) = reports ++ report ∷ []
 reports_with reports (received.Ignored reason) = reports
 
 -- what it takes for its answer says of the last request what is kept of it
-told_of : (N : Network) (s : ℕ) (value : SessionValue) (reports : List Report) (a : Account) (octets : List ℕ) (o : Origin) (report : Report)
+pub told_of : (N : Network) (s : ℕ) (value : SessionValue) (a : Account) (octets : List ℕ) (o : Origin) (report : Report)
     → IsNetwork N → s < N.sessions → (takes : Takes value octets report) → IsTrueTo N takes.message o → IsSaid N s a octets o
     → ((k : ℕ) → o ≡ ReplyTo s k → length a.begun ≤ k + 32768)
     → value.setup ≡ (N.session s).setup → value.issued ≡ length a.begun
-    → IsInStep (manager N s) (ports N (N.session s).target) a.accepted (state_of value reports a)
+    → Keeps (manager N s) (ports N (N.session s).target) a.begun a.accepted
     → IsToldOf (manager N s) (length a.begun) a.accepted report
-told_of N s value reports a octets o report n place takes i says time setup issued step =
+told_of N s value a octets o report n place takes i says time setup issued keeps =
     let own = takes-own N s value octets o report n place setup takes i in
     let k = own.0 in
-    let said = reply_says N s k a.accepted (state_of value reports a) n place step octets (subst (IsSaid N s a octets) own.1 says refl) in
+    let said = reply_says N s k a.accepted a.begun n place keeps octets (subst (IsSaid N s a octets) own.1 says refl) in
     let same = same_read octets takes.message _ said.message takes.read in
     let number : takes.message.number ≡ number_of (N.session s).setup.first k = ap (λ (u : Message). u.number) same ∙ said.number in
     let last : k ≡ length a.begun = grind (arith, takes-last) in grind arith
@@ -91,7 +132,7 @@ module _ (N : Network) (s : ℕ) (value : SessionValue) (reports : List Report) 
             ∙ ap (λ n. session_value (N.session s) (record { domain = value.domain; attempts_left = n; begun = a.begun ++ q ∷ []; reports = reports })) (sym (ap (λ (x : SessionValue). x.setup.attempts) at.value_is));
         step = in_step-begun (manager N s) (ports N (N.session s).target) a.accepted state q value.setup.attempts asked done at.step;
         last = at.last;
-        frames_say = grind (arith, all_weaker, said-stays, get_append);
+        frames_say = (held-begun N s clock frames a q asked (own-held N s value reports clock frames a at)).frames_say;
       }
 
   pub own-resumed : (n : ℕ) → IsOwn N s (resumed value n) reports clock frames a
@@ -135,5 +176,5 @@ module _ (N : Network) (s : ℕ) (value : SessionValue) (reports : List Report) 
   own-hears octets o (received.Answered report) n place i says time e =
       let takes = takes-by value octets report (reading octets) refl e in
       own-answered report takes.accepted.waiting
-      (told_of N s value reports a octets o report n place takes (i takes.message takes.read).1 says time
-      (ap (λ (x : SessionValue). x.setup) at.value_is) (ap (λ (x : SessionValue). x.issued) at.value_is) at.step)
+      (told_of N s value a octets o report n place takes (i takes.message takes.read).1 says time
+      (ap (λ (x : SessionValue). x.setup) at.value_is) (ap (λ (x : SessionValue). x.issued) at.value_is) (own-held N s value reports clock frames a at).keeps)

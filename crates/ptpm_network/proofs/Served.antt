@@ -1,5 +1,7 @@
 -- A session whose own messages come in time is served, after every list of events, whatever comes late of others.
-use Rattle.ptpm_network.proofs.Common.{arith, by_test, ◌≡◌, ℕ, ◌+◌, ◌<◌, ◌≤◌, ◌==◌, ◌^◌, ◌&&◌, Bool, List, [], ◌∷◌, length, Option, Some, None, Result, Ok, Err, true, false, refl, sym, ◌∙◌, ap, subst, and_cases, and_from, eq-eqb, eqb-true, ltb-false, true≢false, all_append, frame_at-all, AllByRecursion, Message, Fits, IsForeign, message_of, with_session_value, canonical, is_copy, received_of, IsAsked, strange_frame, with_place, AtPort, AtSession, End, HasEnd, IsNetwork, Network, manager, ports, Held, seen, Origin, SessionValue, Happened, network_event, network_run, goes_on, delivers, reaches, hears, RunningNetwork, begun, resumed, retuned, sent, due_message, Ask, begin_refusal, BeginRefused, SendRefused, Refusal, Event, Begin, Send, Resume, Retune, Deliver, Stranger, IsInRange, Forged, is_forged, forged, frame_at, first_of-none, no_port, no_room, no_session, nothing_to_resume, send_refusal, option_map, is_late_at, sends_in, PortIdentity, DataSetsValue, Entry, initial_history, StandsAfter, session_value}
+use Rattle.ptpm_network.proofs.Common.{arith, by_test, ◌≡◌, ℕ, ◌+◌, ◌<◌, ◌≤◌, ◌==◌, ◌^◌, ◌&&◌, Bool, List, [], ◌∷◌, reading, length, Option, Some, None, Result, Ok, Err, true, false, refl, sym, ◌∙◌, ap, subst, and_cases, and_from, eq-eqb, eqb-true, ltb-false, true≢false, all_append, frame_at-all, AllByRecursion, Message, Fits, IsForeign, message_of, with_session_value, canonical, is_copy, received_of, IsAsked, strange_frame, with_place, AtPort, AtSession, End, HasEnd, IsNetwork, Network, manager, ports, Held, seen, Origin, SessionValue, Happened, network_event, network_run, goes_on, delivers, reaches, hears, RunningNetwork, begun, resumed, retuned, sent, due_message, Ask, begin_refusal, BeginRefused, SendRefused, Refusal, Event, Begin, Send, Resume, Retune, Deliver, Stranger, IsInRange, Forged, is_forged, forged, frame_at, first_of-none, no_port, no_room, no_session, nothing_to_resume, send_refusal, option_map, is_late_at, sends_in, PortIdentity, DataSetsValue, Entry, initial_history, StandsAfter, session_value}
+use Rattle.ptpm_agent.specs.CarriedOut.{carried_by, carried_in, carried_of}
+use Rattle.ptpm_agent.specs.declared.verdict.Verdict.TheVariants as verdicts
 use Rattle.ptpm_agent.specs.Laws.{IsKept}
 use Rattle.ptpm_manager.specs.Ask as ask
 use Rattle.ptpm_manager.specs.Receiving.{left_by}
@@ -9,26 +11,79 @@ use Rattle.ptpm_network.specs.ByManager.{Account, StaysInTime, account_from, acc
 use Rattle.ptpm_network.specs.CarriedOut.{carried_at, carried_by_event, carried_of_frame}
 use Rattle.ptpm_network.specs.Served.{After, AtStart, HasAccount, IsServed, IsServedSoFar, IsTimelyCopy}
 use Rattle.ptpm_network.specs.State.{initial_session_state}
-use Rattle.ptpm_network.proofs.Accepting.{in_order}
-use Rattle.ptpm_network.proofs.Honest.{IsHonest, IsSentBy, IsTrueFrame, Then, begins-honest, first-honest, frame-true, nothing_kept, reaches-honest, sends-honest, sent-all, sent_by, session-honest, then_ok, then_unless, turns-honest}
+use Rattle.ptpm_network.specs.GivingUp.{carried_as}
+use Rattle.ptpm_network.proofs.Accepting.{in_order, in_step-window}
+use Rattle.ptpm_network.proofs.Arriving.{step-gained}
+use Rattle.ptpm_network.proofs.EachEvent.{HoldsAfterEach, holds_after}
+use Rattle.ptpm_network.proofs.Honest.{IsHonest, IsSentBy, IsTrueFrame, Then, begins-honest, first-honest, frame-true, moved-honest, nothing_kept, reaches-honest, sends-honest, sent-all, sent_by, session-honest, then_ok, then_unless, turns-honest}
 use Rattle.ptpm_network.specs.Invariant.{IsRequestFrame}
+use Rattle.ptpm_network.proofs.Origins.{IsTrue}
 use Rattle.ptpm_network.proofs.Own.{IsLastOf, TurnsOwn, turns_own}
-use Rattle.ptpm_network.proofs.Owned.{IsOwn, IsOwnFrame, own-begun, own-hears, own-message, own-resumed, own-retuned, own-sent, reports_with, state_of}
+use Rattle.ptpm_network.proofs.Owned.{IsOwn, IsOwnFrame, IsSaid, own-begun, own-hears, own-held, own-message, own-resumed, own-retuned, own-sent, reports_with, state_of}
 use Rattle.ptpm_network.proofs.Promise.{first_of_sessions, firsts}
 use Rattle.ptpm_network.proofs.Reaching.{first-reached, port-exists, session-exists}
 use Rattle.ptpm_network.proofs.Refusals.{begin-not_refused, option_map-none}
-use Rattle.ptpm_network.proofs.Serving.{Own, comes_own, own-turned}
+use Rattle.ptpm_network.proofs.Serving.{IsGiven, comes_own, held-turned, with_accepted}
 use Rattle.ptpm_network.proofs.Strangers.{strange-message}
 use Rattle.ptpm_network.proofs.Lists.{flipped}
 
 -- ---- what is in time
 
 module _ (N : Network) (s : ℕ) (r : RunningNetwork) where
-  timely-for : (o p : Origin) (end : End) (k : ℕ)
+  pub timely-for : (o p : Origin) (end : End) (k : ℕ)
       → is_for N s end o && is_behind r o ≡ false → o ≡ p → is_for N s end p ≡ true
       → is_behind r p ≡ is_late_at k (r.session s).issued
       → (r.session s).issued ≤ k + 32768
   timely-for o p end k late e here is = grind (arith, true≢false, ltb-false, and_cases)
+
+-- ---- a clock takes its turn
+
+abbrev pub Own : Network → ℕ → RunningNetwork → Account → Type 0
+Own N s r a = IsOwn N s (r.session s) (r.reports s) (r.clock (N.session s).target) r.frames a
+
+-- of what is carried out at one message the account has at most one more
+once-by : (m : PortIdentity) (c : Clock) (s : State) (v : Message) (w : Verdict) (es : List Accepted)
+    → carried_as (greatest m es + 1) m c s (carried_by w v) es ≡ with_carried m c s (carried_by w v) es
+once-by m c s v verdicts.AnsweredNew es = refl
+once-by m c s v _ es = refl
+
+once-of : (m : PortIdentity) (c : Clock) (s : State) (x : Result Message DecodeError) (es : List Accepted)
+    → carried_as (greatest m es + 1) m c s (carried_of c s x) es ≡ with_carried m c s (carried_of c s x) es
+once-of m c s (Ok v) es = once-by m c s v (judged c s v) es
+once-of m c s (Err cause) es = refl
+
+once-at : (m : PortIdentity) (c : Clock) (s : State) (here : Bool) (octets : List ℕ) (es : List Accepted)
+    → carried_as (greatest m es + 1) m c s (if here then carried_in c s octets else []) es
+    ≡ with_carried m c s (if here then carried_in c s octets else []) es
+once-at m c s true octets es = once-of m c s (reading octets) es
+once-at m c s false octets es = refl
+
+module _ (N : Network) (n : IsNetwork N) (s : ℕ) (place : s < N.sessions) (r : RunningNetwork) (h : IsHonest N r) (a : Account) (at : Own N s r a) where
+  -- the session's own copies are in the window, and are accepted one after another
+  given-in_time : (k : ℕ) → length a.begun ≤ k + 32768 → IsGiven (manager N s) a k (greatest (manager N s) a.accepted + 1)
+  given-in_time k time = record {
+    window = λ within. in_step-window (manager N s) (ports N (N.session s).target) a.accepted (state_of (r.session s) (r.reports s) a) k at.step within time;
+    index = λ within above. omega (arith, within, above, at.step.one_at_a_time, at.step.accepted_before);
+  }
+
+  own-turned : (port : ℕ) (f : Frame) → IsTrue N f.octets f.origin → IsSaid N s a f.octets f.origin
+      → (d : ℕ) → HasEnd N (AtPort d port) → ((k : ℕ) → f.origin ≡ RequestOf s k → d ≡ (N.session s).target → length a.begun ≤ k + 32768)
+      → Own N s (after_turn N r d port f)
+      (with_accepted a (with_carried (manager N s) (N.clock (N.session s).target) (r.clock (N.session s).target) (carried_at N r (N.session s).target (AtPort d port) f.octets) a.accepted))
+  own-turned port f says said d end time =
+      let c = (N.session s).target in
+      let m = manager N s in
+      let j = greatest m a.accepted + 1 in
+      let new = carried_as j m (N.clock c) (r.clock c) (carried_at N r c (AtPort d port) f.octets) a.accepted in
+      let turned = held-turned N n s place r h a (own-held N s (r.session s) (r.reports s) (r.clock c) r.frames a at) port f says said d j end
+      (λ k o here. given-in_time k (time k o here)) in
+      let own : Own N s (after_turn N r d port f) (with_accepted a new) = record {
+        value_is = at.value_is;
+        step = step-gained m (ports N c) new a.accepted (state_of (r.session s) (r.reports s) a) turned.gains at.step;
+        last = turned.held.last;
+        frames_say = turned.held.frames_say;
+      } in
+      subst (λ es. Own N s (after_turn N r d port f) (with_accepted a es)) (once-at m (N.clock c) (r.clock c) (c == d) f.octets a.accepted) own
 
 -- ---- one event
 
@@ -45,13 +100,6 @@ module _ (N : Network) (n : IsNetwork N) (s : ℕ) (place : s < N.sessions) (r :
       → IsOwn N s (f (r.session s)) (r.reports s) (r.clock (N.session s).target) r.frames a
       → IsOwn N s (with_place r.session t (f (r.session t)) s) (r.reports s) (r.clock (N.session s).target) r.frames a
   own-set f t new = grind (arith, eqb-true)
-
-  moved-honest : (t : ℕ) (f : SessionValue → SessionValue) → t < N.sessions
-      → (f (r.session t)).setup ≡ (r.session t).setup → (f (r.session t)).unanswered ≡ (r.session t).unanswered
-      → IsHonest N (with_session_value r t (f (r.session t)))
-  moved-honest t f there setup unanswered =
-      let value = h.sessions t there in
-      session-honest N r t (f (r.session t)) h (record { setup = setup ∙ value.setup; asked = λ q e. value.asked q (sym unanswered ∙ e) })
 
   own-begins : (t : ℕ) (q : Ask) → t < N.sessions → q.id < 2 ^ 16 → begin_refusal (r.session t) q ≡ None
       → IsOwn N s (with_place r.session t (begun (r.session t) (ask.request_of q)) s) (r.reports s) (r.clock (N.session s).target) r.frames
@@ -106,40 +154,30 @@ module _ (N : Network) (n : IsNetwork N) (s : ℕ) (place : s < N.sessions) (r :
   stays : (x : RunningNetwork) (b : Account) → IsHonest N x → Own N s x b → Stays N s x b
   stays x b honest own = record { network = n; place = place; honest = honest; own = own }
 
-  stays-delivers : (k : ℕ) (o : Option Held) → frame_at r.frames k ≡ o → is_late_frame_for N s r o ≡ false
-      → Then (delivers N r o)
-      (λ g. Stays N s g.network (record { begun = a.begun; accepted = with_carried (manager N s) (N.clock (N.session s).target) (r.clock (N.session s).target) (carried_of_frame N r (N.session s).target o) a.accepted }))
-  stays-delivers k None e late = λ g is. absurd (cc)
-  stays-delivers k (Some x) e late =
-      let i = frame-true N n r h k x e in
-      then_unless _ (no_room r.frames) _ (λ room. then_ok _ (reaches N r x x.end)
-      (stays _ _ (reaches-honest N n r h x x.end i.says i.end) (own-reaches x x.end i (frame_at-all (IsOwnFrame N s a) r.frames k x at.frames_say e) i.end late)))
+  each-stays : HoldsAfterEach N r (λ e x. is_late_for N s r e ≡ false → Stays N s x (account_with N s r e a))
+  unfolding carried_by_event
+  each-stays = record {
+    begins = λ t q there id fine late. stays _ _ (session-honest N r t _ h (begins-honest N r t q n h there id fine)) (own-begins t q there id fine);
+    sends = λ t there late. stays _ _ (sends-honest N r t n h there) (own-sends t there);
+    resumes = λ t attempts there late. stays _ _ (moved-honest N r h t (λ x. resumed x attempts) there refl refl)
+        (own-set (λ x. resumed x attempts) t (own-resumed N s (r.session s) (r.reports s) (r.clock (N.session s).target) r.frames a at attempts));
+    retunes = λ t domain there late. stays _ _ (moved-honest N r h t (λ x. retuned x domain) there refl refl)
+        (own-set (λ x. retuned x domain) t (own-retuned N s (r.session s) (r.reports s) (r.clock (N.session s).target) r.frames a at domain));
+    delivers = λ k x e.
+        let c = (N.session s).target in
+        let i = frame-true N n r h k x e in
+        subst (λ (o : Option Held). is_late_frame_for N s r o ≡ false
+        → Stays N s (reaches N r x x.end).network (record { begun = a.begun; accepted = with_carried (manager N s) (N.clock c) (r.clock c) (carried_of_frame N r c o) a.accepted }))
+        (sym e)
+        (λ late. stays _ _ (reaches-honest N n r h x x.end i.says i.end)
+        (own-reaches x x.end i (frame_at-all (IsOwnFrame N s a) r.frames k x at.frames_say e) i.end late));
+    intrudes = λ c port datagram end says late. stays _ _ (turns-honest N r c port (strange_frame c port datagram) n h end says)
+        (own-turned N n s place r h a at port (strange_frame c port datagram) says tt c end (λ k o here. absurd (cc)));
+  }
 
   stays-event : (e : Event) → IsInRange e → is_late_for N s r e ≡ false
       → Then (network_event N r e) (λ g. Stays N s g.network (account_with N s r e a))
-  unfolding network_event carried_by_event
-  stays-event (Begin t q) id late =
-      then_unless _ (no_session N t) _ (λ there. then_unless _ (option_map BeginRefused (begin_refusal (r.session t) q)) _
-      (λ fine.
-      let exists = session-exists N t there in
-      let none = option_map-none BeginRefused (begin_refusal (r.session t) q) fine in
-      then_ok _ _ (stays _ _ (session-honest N r t _ h (begins-honest N r t q n h exists id none)) (own-begins t q exists id none))))
-  stays-event (Send t) i late =
-      then_unless _ (no_session N t) _ (λ there. then_unless _ (no_room r.frames) _ (λ room. then_unless _ (option_map SendRefused (send_refusal (r.session t))) _
-      (λ fine. grind (arith, session-exists, then_ok, stays, sends-honest, own-sends))))
-  stays-event (Resume t attempts) i late =
-      then_unless _ (no_session N t) _ (λ there. then_unless _ (nothing_to_resume (r.session t)) _
-      (λ fine. then_ok _ _ (stays _ _ (moved-honest t (λ x. resumed x attempts) (session-exists N t there) refl refl) (own-set (λ x. resumed x attempts) t (own-resumed N s (r.session s) (r.reports s) (r.clock (N.session s).target) r.frames a at attempts)))))
-  stays-event (Retune t domain) i late =
-      then_unless _ (no_session N t) _
-      (λ there. then_ok _ _ (stays _ _ (moved-honest t (λ x. retuned x domain) (session-exists N t there) refl refl) (own-set (λ x. retuned x domain) t (own-retuned N s (r.session s) (r.reports s) (r.clock (N.session s).target) r.frames a at domain))))
-  stays-event (Deliver k) i late = stays-delivers k (frame_at r.frames k) refl late
-  stays-event (Stranger c port datagram) octets late =
-      then_unless _ (no_port N c port) _ (λ there. then_unless _ (forged N datagram) _ (λ fine. then_unless _ (no_room r.frames) _
-      (λ room.
-      let says : (v : Message) → message_of datagram ≡ Some v → Fits v × IsForeign N v = λ v e. strange-message N datagram v octets (first_of-none (is_forged N datagram) Forged [] fine).0 e in
-      let end = port-exists N c port there in
-      then_ok _ _ (stays _ _ (turns-honest N r c port (strange_frame c port datagram) n h end says) (own-turned N n s place r h a at port (strange_frame c port datagram) says tt c end (λ k o here. absurd (cc)))))))
+  stays-event e i late = λ g is. holds_after N r (λ e x. is_late_for N s r e ≡ false → Stays N s x (account_with N s r e a)) each-stays e i g is late
 
 -- ---- where the account begins
 
@@ -149,7 +187,7 @@ nothing-last : (first : PortIdentity → ℕ) (d : DataSetsValue) (m : PortIdent
 nothing-last first d m own None h = refl
 nothing-last first d m own (Some e) h = nothing_kept first d m e h
 
-stays-first : (N : Network) (s : ℕ) (r : RunningNetwork) → s < N.sessions → StandsAfter N [] r → Stays N s r (account_of N s [])
+pub stays-first : (N : Network) (s : ℕ) (r : RunningNetwork) → s < N.sessions → StandsAfter N [] r → Stays N s r (account_of N s [])
 stays-first N s r place at =
     let n = at.promised.network in
     let first : PortIdentity → ℕ = first_of_sessions N N.sessions in
@@ -184,7 +222,7 @@ account-run N s r a (e ∷ es) at i time =
 
 module _ (N : Network) (s : ℕ) (r : RunningNetwork) (a : Account) (at : Stays N s r a) where
   timely : (number port k : ℕ) (x : Held) (v : Message) → IsTimelyCopy N s r number port k x v
-      → TurnsOwn (manager N s) (N.session s).setup.first a.begun (N.clock (N.session s).target) (r.clock (N.session s).target) port x.octets v k a.accepted
+      → TurnsOwn (manager N s) (N.session s).setup.first a.begun (N.clock (N.session s).target) (r.clock (N.session s).target) port x.octets v k (greatest (manager N s) a.accepted + 1) a.accepted
   timely number port k x v copy =
       let c = (N.session s).target in
       let i = frame-true N at.network r at.honest number x copy.frame in
@@ -192,8 +230,9 @@ module _ (N : Network) (s : ℕ) (r : RunningNetwork) (a : Account) (at : Stays 
       let late : is_late_at k (r.session s).issued ≡ false = grind arith in
       let time : length a.begun ≤ k + 32768 = grind (arith, issued-begun, ltb-false) in
       let many : ports N c ≡ length (r.clock c).sets.ports = grind arith in
-      turns_own (manager N s) (N.session s).setup.first (ports N c) (N.clock c) (r.clock c) port x.octets v k a.accepted (state_of (r.session s) (r.reports s) a) copy.read
-      (comes_own N at.network s at.place r at.honest a at.own port (seen x) i.says said v k copy.origin time copy.read (subst (λ p. is_copy (N.clock c) p v ≡ true) many copy.copy))
+      let j = greatest (manager N s) a.accepted + 1 in
+      turns_own (manager N s) (N.session s).setup.first (ports N c) (N.clock c) (r.clock c) port x.octets v k j a.accepted a.begun copy.read
+      (comes_own N at.network s at.place r at.honest a (own-held N s (r.session s) (r.reports s) (r.clock c) r.frames a at.own) port (seen x) i.says said v k j copy.origin (given-in_time N at.network s at.place r at.honest a at.own k time) copy.read (subst (λ p. is_copy (N.clock c) p v ≡ true) many copy.copy))
 
   pub is-served : IsServed N s r a
   is-served =

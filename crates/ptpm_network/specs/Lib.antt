@@ -16,3 +16,4 @@ pub mod Meanwhile
 pub mod Copies
 pub mod ByManager
 pub mod Served
+pub mod GivingUp

@@ -71,6 +71,7 @@ session_value start s = record {
   setup = start.setup;
   domain = s.domain;
   issued = length s.begun;
+  reported = length s.reports;
   unanswered = unanswered s;
   attempts_left = s.attempts_left;
 }

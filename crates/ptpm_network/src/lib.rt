@@ -3,6 +3,7 @@
 //! what the network promises over every list of events.
 #![tactic(auto)]
 
+mod giving_up_laws;
 mod headline_laws;
 mod laws;
 mod manager_laws;
@@ -10,6 +11,7 @@ mod meanwhile_laws;
 mod way_laws;
 mod worth_laws;
 
+pub use giving_up_laws::managers_that_give_up_are_served;
 pub use headline_laws::{
     headline, one_reply_kept, refused_requests_change_no_data, requests_carried_out, stands_after,
     strangers_change_nothing,

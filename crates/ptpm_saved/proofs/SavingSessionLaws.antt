@@ -4,12 +4,13 @@ use Rattle.std.proofs.lemmas.Bool.{false≢true}
 use Rattle.std.specs.Prelude.{is_some}
 use Rattle.ptpm_manager.specs.declared.ask.Ask.{Ask}
 use Rattle.ptpm_manager.specs.declared.error.BeginError.{BeginError}
+use Rattle.ptpm_manager.specs.declared.error.GiveUpRefusal.{GiveUpRefusal}
 use Rattle.ptpm_manager.specs.declared.receiving.Received.{Received}
 use Rattle.ptpm_manager.specs.declared.receiving.Received.TheVariants as received
 use Rattle.ptpm_manager.specs.Receiving.{left_by, received_of}
-use Rattle.ptpm_manager.specs.Session.{SessionValue, begin_refusal}
+use Rattle.ptpm_manager.specs.Session.{SessionValue, begin_refusal, give_up_refusal}
 use Rattle.ptpm_saved.specs.Saving.{Event, IsAsIfPowered, happen_all, noted_each, started}
-use Rattle.ptpm_saved.specs.SavingSession.{Begins, Hears, IsToSend, SessionInput, SessionNote, begun_unless, is_answer, session_changes, session_after, session_process}
+use Rattle.ptpm_saved.specs.SavingSession.{Begins, GivesUp, Hears, IsToSend, SessionInput, SessionNote, begun_unless, given_up_unless, is_answer, session_changes, session_after, session_process}
 use Rattle.ptpm_saved.proofs.SavingLaws.{as_if_powered}
 
 abbrev AnySession : SessionValue → Type 0
@@ -19,6 +20,10 @@ begun_same : (refusal : Option BeginError) (s : SessionValue) (a : Ask) → not 
 begun_same None s a same = absurd (false≢true (sym same))
 begun_same (Some error) s a same = refl
 
+given_up_same : (refusal : Option GiveUpRefusal) (s : SessionValue) → not (is_some refusal) ≡ false → given_up_unless refusal s ≡ s
+given_up_same None s same = absurd (false≢true (sym same))
+given_up_same (Some reason) s same = refl
+
 left_same : (r : Received) (s : SessionValue) → is_answer r ≡ false → left_by s r ≡ s
 left_same (received.Answered report) s same = absurd (false≢true (sym same))
 left_same (received.Ignored reason) s same = refl
@@ -26,6 +31,7 @@ left_same (received.Ignored reason) s same = refl
 unchanged : (s : SessionValue) (x : SessionInput) → session_changes s x ≡ false → session_after s x ≡ s
 unchanged s (Begins a) same = begun_same (begin_refusal s a) s a same
 unchanged s IsToSend same = refl
+unchanged s GivesUp same = given_up_same (give_up_refusal s) s same
 unchanged s (Hears datagram) same = left_same (received_of s datagram) s same
 
 -- the last note alone tells

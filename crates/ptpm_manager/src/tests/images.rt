@@ -116,16 +116,16 @@ const REFUSED: [(&[(usize, u8)], RestoreError); 24] = [
     (&[(21, 2)], RestoreError::OtherSession),
     (&[(29, 2)], RestoreError::OtherSession),
     (&[(32, 8)], RestoreError::OtherSession),
-    // begun and reported
+    // begun and reported: none, 32,768 since the last report, and the one under way
     (&[(43, 0)], RestoreError::Damaged),
-    (&[(43, 2)], RestoreError::Damaged),
+    (&[(42, 0x80), (43, 0)], RestoreError::Damaged),
     (&[(51, 1)], RestoreError::Damaged),
-    // no request, and one after another number than 1; a RESPONSE; an id of a port at every port; port 1 for one of the clock
+    // no request, and one after another number than 1; a RESPONSE; an id of a port at every port; port 3 of a clock of two
     (&[(52, 0)], RestoreError::Damaged),
     (&[(52, 2)], RestoreError::Damaged),
     (&[(53, 2)], RestoreError::Damaged),
     (&[(55, 0x04)], RestoreError::Damaged),
-    (&[(56, 0), (57, 1)], RestoreError::Damaged),
+    (&[(56, 0), (57, 3)], RestoreError::Damaged),
     (&[(59, 2)], RestoreError::Damaged),
 ];
 
@@ -155,6 +155,23 @@ fn counts_of_an_image(rt: HostRuntime) {
     assert!(rt; again(&rt, rt.alloc(), image.as_slice()).issued() == 1_000_000);
     let more = edited(image.as_slice(), &[(43, 0x41), (51, 0x41)]);
     assert!(rt; is_refused(rt.alloc(), more.as_slice(), RestoreError::Damaged));
+}
+
+/// Requests that were given up stand between those begun and the latest that was reported.
+#[test]
+fn images_of_given_up_requests(rt: HostRuntime) {
+    let mut session = session_from(rt.alloc(), 7, 2);
+    assert!(rt; begins_get(&mut session, rt.alloc()));
+    assert!(rt; session.give_up() == Ok(()));
+    let idle = edited(FRESH, &[(43, 1)]);
+    has_image(&rt, &session, idle.as_slice());
+    assert!(rt; begins_get(&mut session, rt.alloc()));
+    let waiting = edited(WAITING, &[(43, 2)]);
+    has_image(&rt, &session, waiting.as_slice());
+    let session = again(&rt, rt.alloc(), waiting.as_slice());
+    assert!(rt; session.issued() == 2 && session.reported() == 0);
+    let last = edited(WAITING, &[(42, 0x7f), (43, 0xff)]);
+    assert!(rt; again(&rt, rt.alloc(), last.as_slice()).issued() == 32_767);
 }
 
 /// The identity that means every clock is no manager's and no target's, and a session has two clocks.

@@ -248,3 +248,60 @@ fn retune_while_waiting(rt: HostRuntime) {
     let reply = edited(REPLY, &[(4, 5)]);
     assert!(rt; is_answered(&mut session, reply.as_slice(), 1, &[0x80, 0]));
 }
+
+/// What was given up is neither sent nor answered any more, and the next request has the next number.
+#[test]
+fn given_up(rt: HostRuntime) {
+    let mut session = session_from(rt.alloc(), 7, 2);
+    assert!(rt; session.give_up() == Err(GiveUpRefusal::Idle));
+    assert!(rt; begins_get(&mut session, rt.alloc()));
+    assert!(rt; is_sent(&mut session, REQUEST));
+    assert!(rt; session.give_up() == Ok(()));
+    assert!(rt; sends_nothing(&mut session, SendError::Idle));
+    assert!(rt; is_ignored(&mut session, REPLY, Reason::NothingAsked));
+    assert!(rt; begins_get(&mut session, rt.alloc()));
+    assert!(rt; is_ignored(&mut session, REPLY, Reason::OtherNumber));
+    assert!(rt; session.issued() == 2 && session.reported() == 0);
+    let reply = edited(REPLY, &[(31, 8)]);
+    assert!(rt; is_answered(&mut session, reply.as_slice(), 2, &[0x80, 0]));
+    assert!(rt; session.issued() == 2 && session.reported() == 2);
+}
+
+/// Whether the session begins the ask and gives it up.
+fn is_given_up(session: &mut Session, ask: &Ask) -> bool {
+    session.begin(ask) == Ok(()) && session.give_up() == Ok(())
+}
+
+/// 32,767 requests are begun at most without a report.
+#[test]
+fn given_up_as_far_as_numbers_reach(rt: HostRuntime) -> Result<(), OutOfMemory> {
+    let ask = get_priority1(rt.alloc())?;
+    let mut session = session_from(rt.alloc(), 1, 1);
+    for index in 1..32_767u64 {
+        assert!(rt; is_given_up(&mut session, &ask), "at {index}");
+    }
+    assert!(rt; session.begin(&ask) == Ok(()));
+    assert!(rt; session.give_up() == Err(GiveUpRefusal::OutOfReach));
+    assert!(rt; is_answered(&mut session, &reply_to(32_767), 32_767, &[0x80, 0]));
+    assert!(rt; is_given_up(&mut session, &ask));
+    Ok(())
+}
+
+/// Whether the session answers so to a GET of PRIORITY1 at a port.
+fn is_begun_at(session: &mut Session, port: u16, wanted: Result<(), BeginError>) -> bool {
+    session.begin_at(Action::Get, 0x2005, port, &[]) == wanted
+}
+
+/// The clock's port 1 is named, and another port of the clock may answer.
+#[test]
+fn request_at_a_port(rt: HostRuntime) {
+    let mut session = session_from(rt.alloc(), 7, 2);
+    assert!(rt; is_begun_at(&mut session, 0, Err(BeginError::NeedsPort)));
+    assert!(rt; is_begun_at(&mut session, 3, Err(BeginError::NeedsPort)));
+    assert!(rt; is_begun_at(&mut session, 1, Ok(())));
+    assert!(rt; is_begun_at(&mut session, 0, Err(BeginError::Busy)));
+    let request = edited(REQUEST, &[(42, 0), (43, 1)]);
+    assert!(rt; is_sent(&mut session, request.as_slice()));
+    let reply = edited(REPLY, &[(29, 2)]);
+    assert!(rt; is_answered(&mut session, reply.as_slice(), 1, &[0x80, 0]));
+}

@@ -1,6 +1,6 @@
 //! A survey among answers from outside.
 
-use super::{PORT, SURVEY, edited, holds, is_surveyed, port_survey};
+use super::{CLOCK, MANAGER, PORT, SURVEY, edited, holds, is_surveyed, port_survey};
 use crate::*;
 use ptpm_codec::{Buffer, DecodeError};
 
@@ -23,6 +23,22 @@ fn survey(rt: HostRuntime) {
     assert!(rt; survey.answers().len() == 2);
     assert!(rt; holds(&survey, 0, 1, PORT));
     assert!(rt; holds(&survey, 1, 2, second.as_slice()));
+}
+
+/// One clock is asked at all of its ports, and no other clock answers.
+#[test]
+fn survey_of_a_clock(rt: HostRuntime) {
+    let mut survey = Survey::of_clock(rt.alloc(), MANAGER, CLOCK, 0, 7, 1, 0x2004);
+    let (clock, _) = PORT.split_at(28);
+    let mut request = edited(&SURVEY[..34], &[]);
+    let _ = request.try_extend_from_slice(&clock[20..]);
+    let _ = request.try_extend_from_slice(&SURVEY[42..]);
+    assert!(rt; sends(&survey, request.as_slice()));
+    let other = edited(PORT, &[(27, 2), (31, 8)]);
+    let ignored = Surveyed::Ignored(Reason::OtherSource);
+    assert!(rt; is_surveyed(&mut survey, other.as_slice(), ignored));
+    assert!(rt; is_surveyed(&mut survey, PORT, Surveyed::Taken));
+    assert!(rt; holds(&survey, 0, 1, PORT));
 }
 
 /// Octets of the answer to a survey that are replaced, and why it is then ignored.

@@ -25,6 +25,13 @@ fn is_unsent(alloc: Global, refusal: SendError, name: &str) -> bool {
     }
 }
 
+fn is_kept(alloc: Global, refusal: GiveUpRefusal, name: &str) -> bool {
+    match refusal.to_string(alloc) {
+        Ok(text) => text.as_str() == name,
+        Err(_) => false,
+    }
+}
+
 #[test]
 fn names_of_reasons(rt: HostRuntime) {
     let named = [
@@ -60,4 +67,6 @@ fn names_of_refusals(rt: HostRuntime) {
     }
     assert!(rt; is_unsent(rt.alloc(), SendError::Idle, "Idle"));
     assert!(rt; is_unsent(rt.alloc(), SendError::GaveUp, "GaveUp"));
+    assert!(rt; is_kept(rt.alloc(), GiveUpRefusal::Idle, "Idle"));
+    assert!(rt; is_kept(rt.alloc(), GiveUpRefusal::OutOfReach, "OutOfReach"));
 }
