@@ -1,23 +1,21 @@
 -- A session whose own messages come in time and that gives up now and then: what its own acts, what it hears and the turns of its
 -- target make of it.
-use Rattle.ptpm_network.proofs.Common.{arith, ◌≡◌, ℕ, ◌+◌, ◌-◌, ◌<◌, ◌≤◌, inl, inr, is_some, nat_le, not, Bool, List, [], ◌∷◌, ◌++◌, length, length-append, map, Option, Some, None, true, false, refl, sym, ◌∙◌, ap, subst, ⊎_elim, false≢true, slice_get, all_append, all_weaker, AllByRecursion, PortIdentity, same_identity, reading, RequestValue, Accepted, greatest, kept_reply, State, InWindow, Report, received_of, reports_of, IsAsked, IsNetwork, Network, manager, ports, Frame, Held, Origin, RequestOf, ReplyTo, SessionValue, answered, begun, is_waiting, get_last, first_of-none, after_turn, AtPort, HasEnd, RunningNetwork}
+use Rattle.ptpm_network.proofs.Common.{arith, ◌≡◌, ℕ, ◌+◌, ◌-◌, ◌<◌, ◌≤◌, inl, inr, is_some, nat_le, not, Bool, List, [], ◌∷◌, ◌++◌, length, length-append, Option, Some, None, true, false, refl, sym, ◌∙◌, ap, subst, ⊎_elim, false≢true, slice_get, all_append, all_weaker, AllByRecursion, PortIdentity, reading, Answer, RequestValue, Accepted, greatest, kept_reply, State, Report, received_of, reports_by, reports_of, IsAsked, IsNetwork, Network, manager, ports, Held, Origin, ReplyTo, SessionValue, answered, begun, is_waiting, get_last, first_of-none}
 use Rattle.std.proofs.lemmas.Bool.{leb-false}
+use Rattle.ptpm_manager.specs.declared.error.GiveUpRefusal.{GiveUpRefusal}
 use Rattle.ptpm_manager.specs.declared.error.GiveUpRefusal.TheVariants as give_ups
 use Rattle.ptpm_manager.specs.declared.receiving.Received.{Received}
 use Rattle.ptpm_manager.specs.declared.receiving.Received.TheVariants as received
 use Rattle.ptpm_manager.specs.Receiving.{left_by}
 use Rattle.ptpm_manager.specs.Session.{IsInReach, give_up_refusal, given_up, reach_limit}
 use Rattle.ptpm_network.specs.ByManager.{Account}
-use Rattle.ptpm_network.specs.CarriedOut.{carried_at}
-use Rattle.ptpm_network.specs.GivingUp.{AreRising, IsKeptReport, RiseFrom, carried_as}
-use Rattle.ptpm_network.specs.Machine.{index_of}
+use Rattle.ptpm_network.specs.GivingUp.{AreRising, IsKeptReport, RiseFrom}
 use Rattle.ptpm_network.proofs.Accepting.{IsToldOf, greatest-grows, kept-le, report_of}
-use Rattle.ptpm_network.proofs.Arriving.{Gains, StaysOrGains, kept-gained}
-use Rattle.ptpm_network.proofs.Honest.{IsHonest}
+use Rattle.ptpm_network.proofs.Arriving.{Gains, kept-gained}
 use Rattle.ptpm_network.proofs.Origins.{IsTrue}
 use Rattle.ptpm_network.proofs.Owned.{IsHeld, IsSaid, held-begun, reports_with, told_of}
-use Rattle.ptpm_network.proofs.Receiving.{Takes, takes-by}
-use Rattle.ptpm_network.proofs.Serving.{HeldAfter, IsGiven, held-turned, with_accepted}
+use Rattle.ptpm_network.proofs.Receiving.{takes-by}
+use Rattle.ptpm_network.proofs.Serving.{HeldAfter, IsGiven, with_accepted}
 
 pub record IsAtWork (N : Network) (s : ℕ) (value : SessionValue) (reports : List Report) (clock : State) (frames : List Held) (a : Account) : Type 0 where
   pub setup : value.setup ≡ (N.session s).setup
@@ -62,7 +60,8 @@ rise-more before [] last report rise more = (omega (arith, rise, more), refl)
 rise-more before (x ∷ reports) last report rise more = (rise.0, rise-more x.index reports last report rise.1 more)
 
 told-kept : (m : PortIdentity) (k : ℕ) (es : List Accepted) (report : Report) → IsToldOf m k es report → IsKeptReport m es report
-told-kept m k es report t = subst (λ (x : Report). IsKeptReport m es x) (sym t.is) (rw (t.kept, t.one) refl)
+told-kept m k es report t = subst (λ (x : Report). IsKeptReport m es x) (sym t.is)
+    (ap (λ (o : Option Accepted). reports_of k o) t.kept ∙ ap (λ (answers : List Answer). reports_by k t.entry.reply answers) t.one)
 
 report-stays : (i : ℕ) (o p : Option Accepted) (report : Report)
     → ((e : Accepted) → o ≡ Some e → p ≡ Some e) → reports_of i o ≡ report ∷ []
@@ -110,8 +109,10 @@ module _ (N : Network) (s : ℕ) (value : SessionValue) (reports : List Report) 
   pub work-given_up : give_up_refusal value ≡ None → IsAtWork N s (given_up value) reports clock frames a
   unfolding give_up_refusal
   work-given_up fine =
-      let further = (first_of-none (not (is_waiting value)) give_ups.Idle _ fine).1 in
-      let near = (first_of-none (nat_le (value.reported + reach_limit) value.issued) give_ups.OutOfReach _ further).0 in
+      let far = nat_le (value.reported + reach_limit) value.issued in
+      let tests : List (Bool × GiveUpRefusal) = (far, give_ups.OutOfReach) ∷ [] in
+      let further = (first_of-none (not (is_waiting value)) give_ups.Idle tests fine).1 in
+      let near = (first_of-none far give_ups.OutOfReach [] further).0 in
       record {
         setup = at.setup;
         issued = at.issued;

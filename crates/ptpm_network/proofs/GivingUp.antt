@@ -202,8 +202,8 @@ works-act N s r next a (Happens e) at acts =
     works-event N at.network s at.place r at.honest a at.work e next acts.possible acts.in_time acts.happens
 works-act N s r next a (GivesUp t) at acts = by_test (nat_lt t N.sessions)
     (λ y. works-given_up N at.network s at.place r at.honest a at.work t next (give_up_refusal (r.session t)) (ltb-true t N.sessions y) refl
-    (sym (cond-true (nat_lt t N.sessions) _ _ y) ∙ acts.happens))
-    (λ o. none-some next (sym (cond-false (nat_lt t N.sessions) _ _ o) ∙ acts.happens))
+    (sym (cond-true (nat_lt t N.sessions) (after_give_up r t (give_up_refusal (r.session t))) None y) ∙ acts.happens))
+    (λ o. none-some next (sym (cond-false (nat_lt t N.sessions) (after_give_up r t (give_up_refusal (r.session t))) None o) ∙ acts.happens))
 
 works-first : (N : Network) (s : ℕ) (r : RunningNetwork) → s < N.sessions → StandsAfter N [] r → Works N s r nothing_yet
 works-first N s r place start =
@@ -344,5 +344,5 @@ pub clock-stays : (N : Network) (r next : RunningNetwork) (s c : ℕ)
     → next.clock c ≡ r.clock c
 unfolding network_act
 clock-stays N r next s c is = by_test (nat_lt s N.sessions)
-    (λ y. clock-by N r next s c (give_up_refusal (r.session s)) (sym (cond-true (nat_lt s N.sessions) _ _ y) ∙ is))
-    (λ o. none-some next (sym (cond-false (nat_lt s N.sessions) _ _ o) ∙ is))
+    (λ y. clock-by N r next s c (give_up_refusal (r.session s)) (sym (cond-true (nat_lt s N.sessions) (after_give_up r s (give_up_refusal (r.session s))) None y) ∙ is))
+    (λ o. none-some next (sym (cond-false (nat_lt s N.sessions) (after_give_up r s (give_up_refusal (r.session s))) None o) ∙ is))

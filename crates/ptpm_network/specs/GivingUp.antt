@@ -5,7 +5,6 @@ use Rattle.std.specs.List.{AllByRecursion}
 use Rattle.ptpm_codec.specs.declared.identity.PortIdentity.{PortIdentity}
 use Rattle.ptpm_codec.specs.Identity.{same_identity}
 use Rattle.ptpm_codec.specs.declared.message.Message.{Message}
-use Rattle.ptpm_data.specs.Request.{RequestValue}
 use Rattle.ptpm_agent.specs.Addressing.{heard_of}
 use Rattle.ptpm_agent.specs.Once.{Accepted, greatest, kept_reply}
 use Rattle.ptpm_agent.specs.Turn.{Clock, NumberedRequest, State, after_request, entry_of, reply_messages, turn}
