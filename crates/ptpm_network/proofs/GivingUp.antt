@@ -317,19 +317,19 @@ kept-act N s k r a (Happens e) rising known =
     kept-carried (index_at r e) (manager N s) k (N.clock (N.session s).target) (r.clock (N.session s).target) (carried_by_event N r (N.session s).target e) a.accepted rising known
 kept-act N s k r a (GivesUp t) rising known = record { same = refl; known = known }
 
-history-on : (N : Network) (s : ℕ) (r t : RunningNetwork) (a b : Account)
+history-on : (N : Network) (s : ℕ) (r : RunningNetwork) (a : Account) (t : RunningNetwork) (b : Account)
     → HasHistory N s r a → GoesOn N s r a t b
     → HasHistory N s t b
-history-on N s r t a b history Here = history
-history-on N s r end a b history (Further t next c x goes acts) = After t next c x (history-on N s r t a c history goes) acts
+history-on N s r a t b history Here = history
+history-on N s r a end b history (Further t next c x goes acts) = After t next c x (history-on N s r a t c history goes) acts
 
-kept-on : (N : Network) (s k : ℕ) (r t : RunningNetwork) (a b : Account)
+kept-on : (N : Network) (s k : ℕ) (r : RunningNetwork) (a : Account) (t : RunningNetwork) (b : Account)
     → HasHistory N s r a → k ≤ greatest (manager N s) a.accepted → GoesOn N s r a t b
     → StaysKept (manager N s) k a.accepted b.accepted
-kept-on N s k r t a b history known Here = record { same = refl; known = known }
-kept-on N s k r end a b history known (Further t next c x goes acts) =
-    let before = kept-on N s k r t a c history known goes in
-    let later = works-by N s next (account_after N s t x c) (After t next c x (history-on N s r t a c history goes) acts) in
+kept-on N s k r a t b history known Here = record { same = refl; known = known }
+kept-on N s k r a end b history known (Further t next c x goes acts) =
+    let before = kept-on N s k r a t c history known goes in
+    let later = works-by N s next (account_after N s t x c) (After t next c x (history-on N s r a t c history goes) acts) in
     let step = kept-act N s k t c x later.work.rising before.known in
     record { same = step.same ∙ before.same; known = step.known }
 
@@ -337,7 +337,7 @@ pub decided : (N : Network) (s k : ℕ) (r later : RunningNetwork) (a b : Accoun
     → HasHistory N s r a → GoesOn N s r a later b → k ≤ (r.session s).reported
     → kept_reply (manager N s) k b.accepted ≡ kept_reply (manager N s) k a.accepted
 decided N s k r later a b history goes reported =
-    (kept-on N s k r later a b history (le_trans reported (works-by N s r a history).work.told) goes).same
+    (kept-on N s k r a later b history (le_trans reported (works-by N s r a history).work.told) goes).same
 
 pub clock-stays : (N : Network) (r next : RunningNetwork) (s c : ℕ)
     → network_act N r (GivesUp s) ≡ Some next
