@@ -20,6 +20,8 @@ struct options {
     struct meeting meeting;             /* without a path: no Unix socket */
     struct limits limits;
     struct privileges privileges;
+    const char *state;                  /* the file that the clock is saved to, or NULL */
+    int has_domain;                     /* -d is given */
     const char *source;                 /* what the clock observes: a file, a pipe, or NULL */
     int is_told;                        /* a line for each datagram */
     long end;                           /* when it ends by itself, in milliseconds; 0 if it doesn't */

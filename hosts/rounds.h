@@ -37,6 +37,9 @@ struct heard {
    round. */
 size_t hear_round(const struct port *port, int at, struct heard heard[ROUND]);
 
+/* Whether there are places for the messages of a turn. If not, what is to go out goes first. */
+int has_places(void);
+
 /* The place of the next messages that are to go out, and how many there are. */
 struct ptpm_sent *places_to_send(size_t *room);
 
@@ -44,10 +47,16 @@ struct ptpm_sent *places_to_send(size_t *room);
    came by unicast, or to the group. */
 void send_later(const struct ptpm_sent *message, const struct heard *answered);
 
+/* The same of a message for the peer at the Unix socket that sent what is answered. */
+void answer_later(const struct ptpm_sent *message, const struct heard *answered);
+
 /* The first `count` places are used. */
 void use_places(size_t count);
 
 /* Sends what is to go out; how many messages were not taken. What a socket doesn't take at once is dropped. */
 unsigned long send_round(void);
+
+/* Nothing of it goes out; how many messages that are. */
+unsigned long drop_round(void);
 
 #endif
