@@ -14,14 +14,11 @@
 static struct ptpm_clock clock_held;
 static const struct options *options;
 
-/* A clock that is heard at its Unix socket alone has a port too. */
-static size_t clock_ports(void) { return options->interface_count > 0 ? options->interface_count : 1; }
-
 void start_clock(const struct options *given) {
     struct ptpm_port_settings settings[PORTS];
     options = given;
     if (restore_clock(&clock_held, options)) return;
-    size_t count = clock_ports();
+    size_t count = ports_of(options);
     for (size_t i = 0; i < count; i++) ptpm_port_defaults(&settings[i]);
     enum ptpm_started answer = ptpm_clock_start(&clock_held, &options->settings, settings, count, options->managers,
                                                 options->manager_count);
@@ -53,7 +50,7 @@ void say_started(void) {
     char identity[IDENTITY_TEXT], text[2048];
     write_identity(identity, options->settings.identity);
     size_t size = (size_t)snprintf(text, sizeof text, "%s in domain %u:", identity, domain());
-    for (size_t i = 0; i < clock_ports(); i++) {
+    for (size_t i = 0; i < ports_of(options); i++) {
         const char *where = port_count > 0 ? ports[i].name : options->meeting.path;
         size += (size_t)snprintf(text + size, sizeof text - size, " port %zu at %.128s %s,", i + 1, where, state_of(i + 1));
     }
@@ -77,7 +74,7 @@ static void tell_turn(uint16_t ingress, const struct heard *heard, uint32_t answ
 
 static void tell_all_changed(const struct ptpm_changed *changed) {
     if (changed->clock != 0) tell_changed("changed:", PTPM_BAD_IDENTITY, changed->clock);
-    for (size_t i = 0; i < clock_ports(); i++) {
+    for (size_t i = 0; i < ports_of(options); i++) {
         char where[32];
         snprintf(where, sizeof where, "changed at port %zu:", i + 1);
         if (changed->ports[i] != 0) tell_changed(where, PTPM_BAD_STATE, changed->ports[i]);

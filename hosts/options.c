@@ -155,6 +155,8 @@ static void take_option(struct options *options, int option) {
     }
 }
 
+size_t ports_of(const struct options *options) { return options->interface_count > 0 ? options->interface_count : 1; }
+
 /* Two ports at one interface would pass on to its link what comes from there. It may be named by another of its names. */
 static void refuse_twice(char *const *given, size_t count) {
     for (size_t i = 1; i < count; i++) {

@@ -90,8 +90,8 @@ _Noreturn static void refuse_octets(enum ptpm_restored refusal) {
 
 /* The clock of the octets that were read; how many managers it had that are not configured any more. */
 static size_t restore(struct ptpm_clock *clock, size_t size) {
-    size_t gone = 0, ports = options->interface_count > 0 ? options->interface_count : 1;
-    enum ptpm_restored answer = ptpm_clock_restore(clock, options->settings.identity, ports, options->managers,
+    size_t gone = 0;
+    enum ptpm_restored answer = ptpm_clock_restore(clock, options->settings.identity, ports_of(options), options->managers,
                                                    options->manager_count, octets, size, &gone);
     if (answer != PTPM_RESTORED) refuse_octets(answer);
     return gone;
