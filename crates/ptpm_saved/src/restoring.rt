@@ -110,7 +110,8 @@ pub fn put_back<T: SureTable + Drop>(image: &[u8], agent: &mut Agent<T>) -> Opti
     ensures owner { T.owner agent.new.table ≡ T.owner agent.old.table }
 {
     let opened = open(image)?;
-    read_entries(opened.count, opened.entries, agent)
+    let gone = read_entries(opened.count, opened.entries, agent)?;
+    Some(gone)
 }
 
 /// Judges what the head says.
