@@ -8,6 +8,7 @@ import stat
 import subprocess
 import time
 
+from attack_numbers import next_number
 from attacking import HOME, MANAGER, ME, OTHER, Clock, Peer, check, clear, get, manage, path, read, run, started, work
 
 PROGRAM = os.path.join(HOME, "clock")
@@ -70,10 +71,10 @@ def states():
     clock = Clock("-v", *WORDS)
     check("also where it was killed", value() == 50)
     saves = clock.text().count("saved: ")
-    peer = Peer("peer")
-    check("a manager's GET is a change", peer.is_answered(40000) and clock.text().count("saved: ") == saves + 1)
-    check("its repeat is none", peer.is_answered(40000) and clock.text().count("saved: ") == saves + 1)
-    peer.ask(get(39999))
+    peer, number = Peer("peer"), next_number("session")
+    check("a manager's GET is a change", peer.is_answered(number) and clock.text().count("saved: ") == saves + 1)
+    check("its repeat is none", peer.is_answered(number) and clock.text().count("saved: ") == saves + 1)
+    peer.ask(get((number - 1) % 65536))
     time.sleep(0.1)
     check("an old copy is dropped", clock.text().count("7 DROPPED_OLD") == 1 and clock.text().count("saved: ") == saves + 1)
     peer.close()
@@ -243,15 +244,17 @@ def calls_that_fail():
         said = read("output")
         check("the failure is said", f"ptpm-clock: {state}: nothing is answered: Input/output error\n" in said)
         lines = [line for line in said.splitlines() if line.startswith(("saved", "port"))]
-        unsaved = [line for line, before in zip(lines[1:], lines) if ", 1 of 1 sent" in line and "ANSWERED_" in line
-                   and "UNNUMBERED" not in line and not before.startswith("saved")]
-        check(f"nothing leaves before a save: {unsaved}", unsaved == [] and ", 0 of 1 sent" in said)
+        failures = [place for place, line in enumerate(lines) if ", 0 of 1 sent" in line]
+        is_saved = all(before.startswith("saved") for before, line in zip(lines, lines[1:]) if " 5 " in line and ", 1 of 1 sent" in line)
+        check(f"nothing leaves before a save: {lines}", is_saved and len(failures) == 1)
+        if (name, at) == ("fsync", 5):
+            check(f"nothing at all while the save is in doubt: {lines}", lines[failures[0] + 1].startswith("saved"))
         clock.send_signal(signal.SIGTERM)
         check("and it ends in order", clock.wait(10) == 0)
     clock = Clock(*WORDS)
     os.unlink(state), os.mkdir(state + ".new")
     peer = Peer("peer")
-    check("a clock without its file does not go on", not peer.is_answered(9) and clock.end(None)[0] == 2)
+    check("a clock without its file does not go on", not peer.is_answered(next_number("session")) and clock.end(None)[0] == 2)
     peer.close()
 
 
