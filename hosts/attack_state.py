@@ -9,7 +9,7 @@ import subprocess
 import time
 
 from attack_numbers import next_number
-from attacking import HOME, MANAGER, ME, OTHER, Clock, Peer, check, clear, get, manage, path, read, run, started, work
+from attacking import HOME, MANAGER, ME, OTHER, Clock, Peer, check, clear, fill_disk, get, manage, path, read, run, started, work
 
 PROGRAM = os.path.join(HOME, "clock")
 NOBODY = 65534
@@ -202,18 +202,13 @@ def full_disks():
     clock = Clock("-v", "-s", inner, *UNIX)
     check("there is room at first", sets(100))
     whole = octets(inner)
-    with open(os.path.join(folder, "filler"), "wb", 0) as filler:
-        try:
-            while True:
-                filler.write(bytes(4096))
-        except OSError:
-            pass
+    filler = fill_disk(folder)
     check("nothing is answered that is not saved", manage("-u", path, "-k", os.path.join(work, "session"), "-t", "40", "-a", "4", "set",
                                                            "PRIORITY1", "50")[0] == 3)
     said = f"ptpm-clock: {inner}: nothing is answered: No space left on device\n"
     check("which is said", said in clock.text() and ", 0 of 1 sent" in clock.text())
     check("the clock and the file are as before", value() == 100 and octets(inner) == whole and not os.path.exists(inner + ".new"))
-    os.unlink(os.path.join(folder, "filler"))
+    os.unlink(filler)
     check("once there is room it goes on", sets(60))
     clock.process.send_signal(signal.SIGUSR1)
     time.sleep(0.2)
