@@ -1,7 +1,8 @@
 """A clock that saves (clock.c -s) and loses its power, under the runs of three managers whose sessions are kept. It is killed as it
-makes a call of the system, most often one of a save, or at any moment; what it had not synchronized may be lost with it. Then it
-is started again from its file. Each run sets USER_DESCRIPTION to a greater number, or reads it; between them copies of earlier
-requests come in again. What the clock has is compared with what was reported, and every reply with those before it."""
+makes a call of the system, most often one of a save, or at any moment, also after a call of a save that failed. What it had not
+synchronized may be lost with it. Then it is started again from its file. Each run sets USER_DESCRIPTION to a greater number, or
+reads it; between them copies of earlier requests come in again. What the clock has is compared with what was reported, and every
+reply with those before it."""
 import ctypes
 import os
 import random
@@ -18,6 +19,7 @@ MANAGERS = [f"020000fffe0000{number}/1" for number in ("10", "11", "12")]
 NEAR, FAR = f"ptpm-cuts-{os.getpid()}", f"ptpm-cut-{os.getpid()}"
 # Calls of a save, and how often a start makes them, which looks for room and saves; and further calls of the clock.
 OF_SAVES = {"openat": 12, "write": 3, "fsync": 3, "renameat": 1, "unlinkat": 4, "sendmmsg": 0}
+SAVE_FAILS = ["write", "fsync", "renameat"]
 CALLS = {**OF_SAVES, "close": 12, "recvmmsg": 1, "epoll_wait": 1, "fcntl": 1, "sendto": 0}
 state, log = (os.path.join(work, name) for name in ("state", "clock_log"))
 NEW_NETWORK, ALL_FRAMES, OUTGOING = 0x40000000, 3, 4
@@ -75,6 +77,13 @@ class Wire:
         seen.counts["copies of earlier requests"] += count
 
 
+def traced(name, what, number):
+    """The words of strace in front of a program: it tells the calls of saves, and does something to one of its calls."""
+    open(log, "w").close()
+    return ["strace", "-D", "-q", "-xx", "-s", "30000", "-o", log, "-e", f"trace=openat,write,fsync,renameat,{name}", "-e",
+            f"inject={name}:{what}:when={number}"]
+
+
 class Clock:
     """The clock, started again whenever it was killed, until it is to end."""
 
@@ -102,24 +111,26 @@ class Clock:
                 return
 
     def life(self):
-        """A life that is cut short."""
+        """A life that is cut short: at any moment, also behind a call that failed, or at a call."""
         kind, before = self.chance.random(), read(state)
+        is_told = kind >= 0.25
         if kind < 0.25:
             self.process = self.start()
             self.end_of(0.05 + self.chance.random() * 0.4)
-            seen.counts["killed at any moment"] += self.status == -signal.SIGKILL
+            seen.counts["killed at any moment"] += 1
+        elif kind < 0.4:
+            name = self.chance.choice(SAVE_FAILS)
+            self.process = self.start(*traced(name, "error=EIO", CALLS[name] + self.chance.randint(1, 4)))
+            self.end_of(0.2 + self.chance.random() * 0.4)
+            seen.counts[f"killed after {name} was to fail"] += 1
         else:
-            calls = OF_SAVES if kind < 0.8 else CALLS
-            name = self.chance.choice(list(calls))
-            number = self.chance.randint(1, calls[name]) if calls[name] and self.chance.random() < 0.2 else (
-                calls[name] + self.chance.randint(1, 6))
-            open(log, "w").close()
-            self.process = self.start("strace", "-D", "-q", "-xx", "-s", "30000", "-o", log, "-e",
-                                      f"trace=openat,write,fsync,renameat,{name}", "-e", f"inject={name}:signal=KILL:when={number}")
-            if self.end_of(2):
-                seen.counts[f"killed at {name}"] += 1
-            if self.has_log() and self.chance.random() < 0.8:
-                seen.counts["saves that were lost"] += lose(state, log, before)
+            name = self.chance.choice(list(OF_SAVES if kind < 0.8 else CALLS))
+            is_at_start = CALLS[name] > 0 and self.chance.random() < 0.2
+            number = self.chance.randint(1, CALLS[name]) if is_at_start else CALLS[name] + self.chance.randint(1, 6)
+            self.process = self.start(*traced(name, "signal=KILL", number))
+            seen.counts[f"killed at {name}"] += self.end_of(2)
+        if is_told and self.has_log() and self.chance.random() < 0.8:
+            seen.counts["saves that were lost"] += lose(state, log, before)
         self.kills += self.status == -signal.SIGKILL
 
     def end_of(self, most):
