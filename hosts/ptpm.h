@@ -620,7 +620,7 @@ void ptpm_port_defaults(struct ptpm_port_settings *settings);
 /* Starts a clock in place of what the handle holds, which is freed first.
    Takes:   one to eight ports, and at most sixteen managers. The first port is port 1.
    Answers: PTPM_STARTED; or why not, and then the handle holds nothing.
-   Memory:  the clock, until it is stopped, and a copy of ports and managers until the call returns.
+   Memory:  the clock, until it is stopped, and a copy of the ports until the call returns.
    Owed:    the caller stops the clock. */
 enum ptpm_started ptpm_clock_start(struct ptpm_clock *clock, const struct ptpm_clock_settings *settings,
                                    const struct ptpm_port_settings *ports, size_t port_count,

@@ -6,6 +6,10 @@ use Rattle.ptpm_saved.proofs.EntryOrder.{same_Some}
 use Rattle.ptpm_saved.proofs.ReadingLemmas.{same_heads, same_tails}
 use Rattle.ptpm_saved.proofs.restoring.open.Goals as goal
 
+pub returns-then-image-lt-HEAD_OCTETS-clause-found : goal.returns-then-image-lt-HEAD_OCTETS-clause-found
+returns-then-image-lt-HEAD_OCTETS-clause-found c = λ k is.
+    absurd (let long = image_long k c.args.image.now is in omega (arith, long, c.if-image-lt-HEAD_OCTETS.true))
+
 pub returns-then-not-is_head-clause-found : goal.returns-then-not-is_head-clause-found
 returns-then-not-is_head-clause-found c = λ k is.
     let front = front_is k c.args.image.now c.split_at.result.0.now c.split_at.result.1.now is c.split_at.ensures.front c.split_at.ensures.back in
