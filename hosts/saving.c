@@ -85,7 +85,7 @@ _Noreturn static void refuse_octets(enum ptpm_restored refusal) {
     write_identity(identity, octets + IDENTITY);
     if (refusal == PTPM_OTHER_CLOCK) say("it does not start: %s: %s: it has the state of clock %s", name, options->state, identity);
     else say("it does not start: %s: %s: %s", name, options->state, reason(refusal));
-    end_with(NOT_STARTED);
+    end_with(refusal == PTPM_RESTORE_NO_MEMORY ? NOT_OPENED : NOT_STARTED);
 }
 
 /* The clock of the octets that were read; how many managers it had that are not configured any more. */
