@@ -13,7 +13,7 @@ from attacking import HOME, MANAGER, ME, OTHER, Clock, Peer, check, clear, fill_
 
 PROGRAM = os.path.join(HOME, "clock")
 NOBODY = 65534
-state = os.path.join(work, "state")
+state, session = (os.path.join(work, name) for name in ("state", "session"))
 UNIX = ("-m", MANAGER + "/1", "-u", path, ME)
 WORDS = ("-s", state, *UNIX)
 
@@ -43,7 +43,7 @@ def is_refused(status, why, *words, user=None):
 
 def sets(number, *words):
     """A run of the manager that sets PRIORITY1: whether the clock answers it, and has the value."""
-    status, said, _ = manage("-u", path, "-k", os.path.join(work, "session"), "-t", "40", "-a", "4", *words, "set", "PRIORITY1", str(number))
+    status, said, _ = manage("-u", path, "-k", session, "-t", "40", "-a", "4", *words, "set", "PRIORITY1", str(number))
     return status == 0 and said.splitlines()[-1:] == [f"priority1 {number}"] and value() == number
 
 
@@ -152,7 +152,8 @@ def files_in_the_way():
     check("and no lock is left without a state", os.listdir(folder) == ["state.new"])
     os.rmdir(inner + ".new")
     put(b"left over", inner + ".new")
-    check("a file that a killed save left is not", begins("-s", inner, *UNIX)[0] == 0 and sorted(os.listdir(folder)) == ["state", "state.lock"])
+    status, _ = begins("-s", inner, *UNIX)
+    check("a file that a killed save left is not", status == 0 and sorted(os.listdir(folder)) == ["state", "state.lock"])
     put(b"7\n", inner)
     check("what is no state is refused", is_refused(1, f"NOT_AN_IMAGE: {inner}", "-s", inner, *UNIX) and octets(inner) == b"7\n")
 
@@ -170,8 +171,8 @@ def places_without_rights():
     os.chmod(folder, 0o777), os.chmod(inner + ".lock", 0o666)
     whole = octets(inner)
     check("a file that can't be read", is_refused(2, f"{inner}: Permission denied", *own, user=NOBODY) and octets(inner) == whole)
-    check("which becomes its user's where root reads it", begins("--user", "nobody", *own)[0] == 0 and os.stat(inner).st_uid == NOBODY
-          and octets(inner) == whole)
+    status, _ = begins("--user", "nobody", *own)
+    check("which root reads, and which is its user's then", status == 0 and os.stat(inner).st_uid == NOBODY and octets(inner) == whole)
     shutil.rmtree(folder), os.mkdir(folder)
     run("mount", "-t", "tmpfs", "-o", "ro", "tmpfs", folder)
     check("a disk that can't be written", is_refused(2, f"{inner}: Read-only file system", *own) and os.listdir(folder) == [])
@@ -203,8 +204,8 @@ def full_disks():
     check("there is room at first", sets(100))
     whole = octets(inner)
     filler = fill_disk(folder)
-    check("nothing is answered that is not saved", manage("-u", path, "-k", os.path.join(work, "session"), "-t", "40", "-a", "4", "set",
-                                                           "PRIORITY1", "50")[0] == 3)
+    status = manage("-u", path, "-k", session, "-t", "40", "-a", "4", "set", "PRIORITY1", "50")[0]
+    check("nothing is answered that is not saved", status == 3)
     said = f"ptpm-clock: {inner}: nothing is answered: No space left on device\n"
     check("which is said", said in clock.text() and ", 0 of 1 sent" in clock.text())
     check("the clock and the file are as before", value() == 100 and octets(inner) == whole and not os.path.exists(inner + ".new"))

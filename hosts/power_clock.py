@@ -124,11 +124,12 @@ class Clock:
             self.end_of(0.2 + self.chance.random() * 0.4)
             seen.counts[f"killed after {name} was to fail"] += 1
         else:
-            name = self.chance.choice(list(OF_SAVES if kind < 0.8 else CALLS))
+            name = self.chance.choice(["fsync", *OF_SAVES] if kind < 0.8 else list(CALLS))
             is_at_start = CALLS[name] > 0 and self.chance.random() < 0.2
             number = self.chance.randint(1, CALLS[name]) if is_at_start else CALLS[name] + self.chance.randint(1, 6)
             self.process = self.start(*traced(name, "signal=KILL", number))
-            seen.counts[f"killed at {name}"] += self.end_of(2)
+            if self.end_of(2):
+                seen.counts[f"killed at {name}"] += 1
         if is_told and self.has_log() and self.chance.random() < 0.8:
             seen.counts["saves that were lost"] += lose(state, log, before)
         self.kills += self.status == -signal.SIGKILL

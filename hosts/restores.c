@@ -158,6 +158,13 @@ static int has_image(const struct ptpm_clock *clock, const uint8_t *image, size_
     return ptpm_clock_image(clock, own, sizeof own, &found) == PTPM_SAVED && found == size && memcmp(own, image, size) == 0;
 }
 
+static void restore_whole(struct ptpm_clock *clock, const struct base *base) {
+    size_t gone;
+    enum ptpm_restored answer = ptpm_clock_restore(clock, identity, base->port_count, base->managers, base->manager_count, base->image,
+                                                   base->size, &gone);
+    check(answer == PTPM_RESTORED && gone == 0 && has_image(clock, base->image, base->size), "a whole image is restored");
+}
+
 /* One image, at a clock that the handle holds. */
 static void restore(struct ptpm_clock *clock, const struct base *base) {
     static uint8_t octets[ROOM + 1];
@@ -178,24 +185,19 @@ static void restore(struct ptpm_clock *clock, const struct base *base) {
     }
     check(gone <= MOST_MANAGERS && (gone > 0 || has_image(clock, octets, size)), "what is restored has the image that it is restored from");
     for (int i = 0; i < 3; i++) ask(clock, base);
-    answer = ptpm_clock_restore(clock, identity, base->port_count, base->managers, base->manager_count, base->image, base->size, &gone);
-    check(answer == PTPM_RESTORED && gone == 0 && has_image(clock, base->image, base->size), "a whole image is restored");
+    restore_whole(clock, base);
 }
 
 int main(int argc, char **argv) {
     long count = argc > 1 ? atol(argv[1]) : 1000000;
     struct ptpm_clock clock = { 0 };
-    size_t gone;
     if (argc > 2) state = strtoull(argv[2], NULL, 10);
     lay_pages();
     for (size_t i = 0; i < BASES; i++) draw_base(&bases[i], i);
     size_t before = mallinfo2().uordblks;
     for (long i = 0; i < count; i++) {
         const struct base *base = &bases[(size_t)i * BASES / (size_t)count];
-        if (!has_image(&clock, base->image, base->size)) {
-            check(ptpm_clock_restore(&clock, identity, base->port_count, base->managers, base->manager_count, base->image, base->size, &gone)
-                  == PTPM_RESTORED, "a whole image is restored");
-        }
+        if (!has_image(&clock, base->image, base->size)) restore_whole(&clock, base);
         restore(&clock, base);
     }
     ptpm_clock_stop(&clock);
