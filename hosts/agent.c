@@ -86,14 +86,14 @@ static void tell_all_changed(const struct ptpm_changed *changed) {
 static unsigned long send_out(const struct ptpm_sent *message, const struct heard *heard, const struct port *port,
                               uint16_t ingress) {
     if (message->port != ingress) send_later(message, NULL);
-    else if (port == NULL && is_saved()) return !answer_peer(message, heard);
+    else if (port == NULL && !is_unsaved) return !answer_peer(message, heard);
     else if (port == NULL) answer_later(message, heard);
     else send_later(message, heard->is_unicast ? heard : NULL);
     return 0;
 }
 
 /* What is to go out goes once all that it says is saved, or does not; how many messages were not taken. */
-static unsigned long send_saved(void) { return save_changes(&clock_held) ? send_round() : drop_round(); }
+static unsigned long send_saved(void) { return !is_unsaved || save_changes(&clock_held) ? send_round() : drop_round(); }
 
 /* The same for one turn, with a line of what became of it. */
 static unsigned long send_told(uint16_t ingress, const struct heard *heard, uint32_t answer, unsigned long lost, size_t left,
@@ -113,8 +113,11 @@ static void take_turn(struct heard *heard, const struct port *port) {
     uint16_t ingress = port == NULL ? 1 : (uint16_t)(port - ports + 1);
     if (port != NULL && !is_heard(heard, port)) return;
     lower_hops(heard);
-    if (!has_places()) count_dropped(send_saved());
     struct ptpm_sent *places = places_to_send(&room);
+    if (places == NULL) {
+        count_dropped(send_saved());
+        places = places_to_send(&room);
+    }
     enum ptpm_handled answer = ptpm_clock_handle_changed(&clock_held, ingress, heard->octets, heard->size, places, room, &count,
                                                          &changed);
     count_answer(answer);

@@ -82,11 +82,9 @@ size_t hear_round(const struct port *port, int at, struct heard heard[ROUND]) {
     return count;
 }
 
-int has_places(void) { return PLACES - used >= PTPM_MOST_SENT; }
-
 struct ptpm_sent *places_to_send(size_t *room) {
     *room = PLACES - used;
-    return sent + used;
+    return *room >= PTPM_MOST_SENT ? sent + used : NULL;
 }
 
 void send_later(const struct ptpm_sent *message, const struct heard *answered) {

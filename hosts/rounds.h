@@ -37,10 +37,8 @@ struct heard {
    round. */
 size_t hear_round(const struct port *port, int at, struct heard heard[ROUND]);
 
-/* Whether there are places for the messages of a turn. If not, what is to go out goes first. */
-int has_places(void);
-
-/* The place of the next messages that are to go out, and how many there are. */
+/* The place of the next messages that are to go out, and how many there are; NULL if there are too few for a turn, so that what is
+   to go out has to go first. */
 struct ptpm_sent *places_to_send(size_t *room);
 
 /* A message that is in the next place, or after others, is to go out at its port: to who sent what is answered, where that

@@ -18,7 +18,7 @@ enum { MOST_IN_FILE = PTPM_CLOCK_IMAGE_OCTETS + 1, LOCK_TRIES = 100 };
 static struct kept_file file = { .folder = -1, .mode = 0600 };
 static const struct options *options;
 static uint8_t octets[MOST_IN_FILE];
-static int is_unsaved;
+int is_unsaved;
 static struct saves saves;
 
 _Noreturn static void end_with(int status) {
@@ -159,8 +159,6 @@ void save_at_start(struct ptpm_clock *clock) {
 }
 
 void note_change(void) { is_unsaved = options->state != NULL; }
-
-int is_saved(void) { return !is_unsaved; }
 
 /* What the store holds may be what was to be saved, and may be gone again with the power: then no message leaves before it is saved. */
 int save_changes(struct ptpm_clock *clock) {

@@ -14,11 +14,11 @@ int restore_clock(struct ptpm_clock *clock, const struct options *options);
 /* Saves the clock once, with the rights that the program keeps; ends it with status 2 if it can't. */
 void save_at_start(struct ptpm_clock *clock);
 
+/* There is something to save: a turn has changed it, or the last save is in doubt. Each turn looks at it, so it is no call. */
+extern int is_unsaved;
+
 /* A turn has changed what is to be saved. */
 void note_change(void);
-
-/* Whether there is nothing to save. */
-int is_saved(void);
 
 /* Saves what is not saved; whether there is nothing to save after that. If a save fails the clock is the one that the file has, what
    waits to be sent is not to be, and standard error says why. Ends the program if the file can't be read then. */
