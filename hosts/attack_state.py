@@ -53,6 +53,12 @@ def value():
     return int(said.split()[1]) if said.startswith("priority1 ") else None
 
 
+def saves_of(clock):
+    """How many saves a clock has told, once what it tells is written."""
+    time.sleep(0.3)
+    return clock.text().count("saved: ")
+
+
 def saved_state():
     """The file of a clock of which the manager has set PRIORITY1, and of whose GET an entry is kept."""
     clock = Clock(*WORDS)
@@ -70,13 +76,12 @@ def states():
     clock.end(signal.SIGKILL)
     clock = Clock("-v", *WORDS)
     check("also where it was killed", value() == 50)
-    saves = clock.text().count("saved: ")
+    saves = saves_of(clock)
     peer, number = Peer("peer"), next_number("session")
-    check("a manager's GET is a change", peer.is_answered(number) and clock.text().count("saved: ") == saves + 1)
-    check("its repeat is none", peer.is_answered(number) and clock.text().count("saved: ") == saves + 1)
+    check("a manager's GET is a change", peer.is_answered(number) and saves_of(clock) == saves + 1)
+    check("its repeat is none", peer.is_answered(number) and saves_of(clock) == saves + 1)
     peer.ask(get((number - 1) % 65536))
-    time.sleep(0.1)
-    check("an old copy is dropped", clock.text().count("7 DROPPED_OLD") == 1 and clock.text().count("saved: ") == saves + 1)
+    check("an old copy is dropped", saves_of(clock) == saves + 1 and clock.text().count("7 DROPPED_OLD") == 1)
     peer.close()
     clock.process.send_signal(signal.SIGUSR1)
     time.sleep(0.2)
@@ -209,6 +214,7 @@ def full_disks():
     filler = fill_disk(folder)
     status = manage("-u", path, "-k", session, "-t", "40", "-a", "4", "set", "PRIORITY1", "50")[0]
     check("nothing is answered that is not saved", status == 3)
+    time.sleep(0.3)
     said = f"ptpm-clock: {inner}: nothing is answered: No space left on device\n"
     check("which is said", said in clock.text() and ", 0 of 1 sent" in clock.text())
     check("the clock and the file are as before", value() == 100 and octets(inner) == whole and not os.path.exists(inner + ".new"))
@@ -240,6 +246,7 @@ def calls_that_fail():
                 break
             time.sleep(0.02)
         check(f"{name} {at} fails, and the manager is answered all the same", sets(50))
+        time.sleep(0.3)
         said = read("output")
         check("the failure is said", f"ptpm-clock: {state}: nothing is answered: Input/output error\n" in said)
         lines = [line for line in said.splitlines() if line.startswith(("saved", "port"))]
