@@ -188,6 +188,15 @@ static void restore(struct ptpm_clock *clock, const struct base *base) {
     restore_whole(clock, base);
 }
 
+static void tell_answers(void) {
+    char name[PTPM_MOST_NAME];
+    printf("damaged images: %lu restored", answers[PTPM_RESTORED]);
+    for (uint32_t i = PTPM_RESTORED + 1; i < PTPM_OTHER_SESSION; i++) {
+        if (answers[i] > 0) printf(", %lu %.*s", answers[i], (int)ptpm_answer_name(i, name, sizeof name), name);
+    }
+    printf("\n");
+}
+
 int main(int argc, char **argv) {
     long count = argc > 1 ? atol(argv[1]) : 1000000;
     struct ptpm_clock clock = { 0 };
@@ -202,9 +211,7 @@ int main(int argc, char **argv) {
     }
     ptpm_clock_stop(&clock);
     check(mallinfo2().uordblks < before + PAGE, "no memory is kept, except by the allocator for its next blocks");
-    for (unsigned i = 0; i < PTPM_OTHER_SESSION; i++) {
-        if (answers[i] > 0) printf("answer %u: %lu\n", i, answers[i]);
-    }
+    tell_answers();
     for (size_t i = 0; i < BASES; i++) free(bases[i].image);
     return told("restores");
 }
