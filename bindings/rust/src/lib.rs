@@ -65,7 +65,7 @@ pub mod sys;
 
 pub use answers::{Handled, Received, Surveyed};
 pub use changed::{Changed, ClockMembers, PortMembers};
-pub use clock::{Clock, Ports, Turn, MOST_READ};
+pub use clock::{Clock, Ports, Turn, CLOCK_IMAGE_OCTETS, MOST_READ};
 pub use error::Error;
 pub use id::{ManagementErrorId, ManagementId, UnknownId};
 pub use identity::{Identity, NoIdentity, PortIdentity};

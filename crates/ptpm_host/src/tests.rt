@@ -2,6 +2,7 @@
 
 mod observing;
 mod places;
+mod restoring;
 mod surveys;
 
 use crate::*;
