@@ -1,5 +1,5 @@
 -- A clock that is saved before it answers, as the device that the law of saving is about.
-use Rattle.std.specs.Prelude.{◌≡◌, ℕ, Bool, true, false, if◌then◌else◌, List, [], ◌∷◌, ◌++◌}
+use Rattle.std.specs.Prelude.{◌≡◌, ℕ, false, if◌then◌else◌, List, [], ◌∷◌, ◌++◌}
 use Rattle.ptpm_data.specs.ObservationBack.{Observation}
 use Rattle.ptpm_table.specs.Managers.{Clock}
 use Rattle.ptpm_agent.specs.declared.verdict.Verdict.{Verdict}

@@ -1,6 +1,6 @@
 //! A clock that is saved before it answers.
 
-ghost use Rattle.std.specs.Prelude.{◌≡◌, ◌⊎◌, ◌≢◌, [], false, true, IfErr, IfOk, OnErr, OnOk, length};
+ghost use Rattle.std.specs.Prelude.{◌≡◌, ◌⊎◌, Err, [], false, true, IfErr, IfOk, IsOk, OnErr, OnOk, length};
 ghost use Rattle.ptpm_data.specs.Members.{HasPort};
 ghost use Rattle.ptpm_data.specs.Observation.{left_disabled, observation_refusal};
 ghost use Rattle.ptpm_data.specs.Start.{unless};
@@ -8,6 +8,7 @@ ghost use Rattle.ptpm_agent.specs.Agent.{clock_of, state_of};
 ghost use Rattle.ptpm_agent.specs.Observing.{moved_state};
 ghost use Rattle.ptpm_agent.specs.Turn.{turn};
 ghost use Rattle.ptpm_saved.specs.Image.{clock_image};
+ghost use Rattle.ptpm_saved.specs.SavingClock.{is_new};
 ghost use Rattle.ptpm_kept.specs.Kept.{IsKeptTurn};
 
 use crate::error::NotSaved;
@@ -69,6 +70,10 @@ impl<T: SureTable + LendingTable + Drop> KeptAgent<T> {
         ensures stopped { OnErr result (self.new.is_stopped ≡ true) }
         ensures either { OnErr result ((S.found storage.new ≡ S.found storage.old)
             ⊎ (S.found storage.new ≡ clock_image (state_of T.entries self.old.agent))) }
+        ensures already { self.old.is_stopped ≡ true → (result ≡ Err NotSaved.Stopped)
+            × ((self.new ≡ self.old) × (storage.new ≡ storage.old)) }
+        ensures failed { self.old.is_stopped ≡ false →
+            IfErr result (λ e. e ≡ NotSaved.StorageFailed) }
     {
         if self.is_stopped {
             return Err(NotSaved::Stopped);
@@ -104,6 +109,16 @@ impl<T: SureTable + LendingTable + Drop> KeptAgent<T> {
         ensures either { OnErr result ((S.found storage.new ≡ S.found storage.old)
             ⊎ (S.found storage.new ≡ clock_image (turn (clock_of T.owner self.old.agent)
             (state_of T.entries self.old.agent) ingress datagram.now).next)) }
+
+        // It is refused if it is stopped, and then stays as it is; and else at a save that fails alone.
+        ensures already { self.old.is_stopped ≡ true → (result ≡ Err NotSaved.Stopped)
+            × ((self.new ≡ self.old) × (storage.new ≡ storage.old)) }
+        ensures answers { self.old.is_stopped ≡ false
+            → is_new (turn (clock_of T.owner self.old.agent) (state_of T.entries self.old.agent)
+            ingress datagram.now).verdict ≡ false
+            → IsOk result }
+        ensures failed { self.old.is_stopped ≡ false →
+            IfErr result (λ e. e ≡ NotSaved.StorageFailed) }
     {
         out.clear();
         if self.is_stopped {

@@ -8,3 +8,6 @@ mod storage;
 pub use error::{NotSaved, StorageFailed};
 pub use kept_agent::KeptAgent;
 pub use storage::Storage;
+
+#[cfg(test)]
+mod tests;
