@@ -77,11 +77,10 @@ pub extern "C" fn ptpm_clock_restore(
         → (gone.new ≡ 0) × (held handle.new.keeping ≡ held handle.old.keeping) }
 {
     *gone = 0;
-    let (clock, lost) =
-        match HostedClock::restored_boxed(alloc, identity, ports, managers, image) {
-            Ok(restored) => restored,
-            Err(refusal) => return clock_restore_number(refusal),
-        };
+    let (clock, lost) = match HostedClock::restored_boxed(alloc, identity, ports, managers, image) {
+        Ok(restored) => restored,
+        Err(refusal) => return clock_restore_number(refusal),
+    };
     let Ok(kept) = Box::new(alloc, Kept::of(Hosted::Nothing)) else {
         return NO_MEMORY;
     };

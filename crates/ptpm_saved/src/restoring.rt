@@ -181,11 +181,7 @@ fn is_head(front: &[u8], size: usize) -> bool
 
 /// Keeps the entries of which the agent's table knows the managers, of so many whose images stand there and nothing else, and
 /// answers how many the others are. `None` of other octets.
-fn read_entries<T: SureTable + Drop>(
-    count: u8,
-    octets: &[u8],
-    agent: &mut Agent<T>,
-) -> Option<u8>
+fn read_entries<T: SureTable + Drop>(count: u8, octets: &[u8], agent: &mut Agent<T>) -> Option<u8>
     ensures sound { IfSome result
         (λ gone. (es : List (PortIdentity × Entry)) × AreEntries es × (length es ≡ count)
         × (octets.now ≡ entries_image es)
@@ -219,11 +215,7 @@ fn read_entries<T: SureTable + Drop>(
 }
 
 /// Keeps an entry where the agent's table knows its manager, and answers how many are let go: none or one.
-fn keep<T: SureTable + Drop>(
-    agent: &mut Agent<T>,
-    entry: &SavedRequest<'_>,
-    reply: &Reply,
-) -> u8
+fn keep<T: SureTable + Drop>(agent: &mut Agent<T>, entry: &SavedRequest<'_>, reply: &Reply) -> u8
     requires { IsKeepable (entry_read entry.now reply.now).1 }
     ensures entries { T.entries agent.new.table
         ≡ kept_by (is_known entry.now.manager (T.owner agent.old.table).managers)
