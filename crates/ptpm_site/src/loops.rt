@@ -1,0 +1,72 @@
+//! Loops of clocks that follow each other.
+
+use std::alloc::{AllocError, Global};
+
+/// Who follows whom, by places: the clock that each clock follows, where it follows one that is seen.
+pub(crate) type Followed = Vec<Option<usize>>;
+
+/// The loops: of each the places of its clocks, from the least on, each followed by the one that it follows. They stand in the order of
+/// their least places.
+pub(crate) fn loops(alloc: Global, followed: &[Option<usize>]) -> Result<Vec<Vec<usize>>, AllocError> {
+    let mut loops = Vec::new(alloc);
+    let mut marks = vec![in alloc; 0usize; followed.len()]?;
+    for start in 0..followed.len() {
+        if let Some(place) = walk(followed, marks.as_mut_slice(), start) {
+            loops.push(loop_from(alloc, followed, place)?)?;
+        }
+    }
+    loops.sort_by_key(|places: &Vec<usize>| places.first().copied())?;
+    Ok(loops)
+}
+
+/// Follows the clocks from a place on, and marks each that has no mark by this walk. A place of a loop, where the walk comes back to one
+/// of its own.
+fn walk(followed: &[Option<usize>], marks: &mut [usize], start: usize) -> Option<usize> {
+    let mark = start + 1;
+    let mut place = start;
+    for _ in 0..=followed.len() {
+        if place >= marks.len() {
+            return None;
+        }
+        if marks[place] == mark {
+            return Some(place);
+        }
+        if marks[place] != 0 {
+            return None;
+        }
+        marks[place] = mark;
+        place = followed[place]?;
+    }
+    None
+}
+
+/// The places of the loop through a place, from the least on.
+fn loop_from(alloc: Global, followed: &[Option<usize>], place: usize) -> Result<Vec<usize>, AllocError> {
+    let least = least_from(followed, place);
+    let mut places = Vec::new(alloc);
+    let mut here = least;
+    for _ in 0..followed.len() {
+        places.push(here)?;
+        match followed.get(here) {
+            Some(Some(next)) if *next != least => here = *next,
+            _ => break,
+        }
+    }
+    Ok(places)
+}
+
+/// The least place of the loop through a place.
+fn least_from(followed: &[Option<usize>], place: usize) -> usize {
+    let mut least = place;
+    let mut here = place;
+    for _ in 0..followed.len() {
+        match followed.get(here) {
+            Some(Some(next)) if *next != place => here = *next,
+            _ => break,
+        }
+        if here < least {
+            least = here;
+        }
+    }
+    least
+}
