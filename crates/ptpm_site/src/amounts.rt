@@ -1,38 +1,55 @@
 //! Offsets and delays beyond what is allowed.
 
-use crate::clock::{Clock, last_of};
+ghost use Rattle.std.specs.Prelude.{◌≡◌};
+ghost use Rattle.ptpm_site.specs.Amounts.{beyond, is_above, large_delay, large_link_delay, large_offset};
+ghost use Rattle.ptpm_site.specs.Kept.{kept};
+
 use crate::data_sets::PortDataSet;
+use crate::site::Site;
+use crate::source::Source;
 
 /// Whether the amount of a TimeInterval is above so many nanoseconds; a limit itself is allowed.
-pub(crate) fn is_above(interval: i64, nanoseconds: u64) -> bool {
+fn is_above(interval: i64, nanoseconds: u64) -> bool
+    ensures { result ≡ is_above interval nanoseconds }
+{
     nanoseconds.saturating_mul(65_536) < interval.unsigned_abs()
 }
 
-/// offsetFromMaster, where its amount is above the limit.
-pub(crate) fn large_offset(clock: &Clock, limit: Option<u64>) -> Option<i64> {
-    let offset = clock.current()?.offset_from_master;
-    if is_above(offset, limit?) {
-        Some(offset)
+/// A TimeInterval, where it is beyond the limit; without a limit none is.
+fn beyond(interval: i64, limit: Option<u64>) -> Option<i64>
+    ensures { result ≡ beyond interval limit }
+{
+    if is_above(interval, limit?) {
+        Some(interval)
     } else {
         None
     }
 }
 
-/// meanDelay, where its amount is above the limit.
-pub(crate) fn large_delay(clock: &Clock, limit: Option<u64>) -> Option<i64> {
-    let delay = clock.current()?.mean_delay;
-    if is_above(delay, limit?) {
-        Some(delay)
-    } else {
-        None
-    }
+/// offsetFromMaster of a clock that is not its own grandmaster, where it is beyond the limit.
+pub(crate) fn large_offset(site: &Site, source: Source, limit: Option<u64>) -> Option<i64>
+    ensures { result ≡ large_offset (kept site.now) source limit }
+{
+    let _ = site.followed(source)?;
+    let current = site.current(source)?;
+    beyond(current.offset_from_master, limit)
 }
 
-/// meanLinkDelay of a port in SLAVE or UNCALIBRATED that measures the delay of its link, where its amount is above the limit.
-pub(crate) fn large_link_delay(port: &PortDataSet, limit: Option<u64>) -> Option<i64> {
-    let delay = port.mean_link_delay;
-    if port.is_following() && port.delay_mechanism?.is_peer() && is_above(delay, limit?) {
-        Some(delay)
+/// meanDelay of a clock that is not its own grandmaster, where it is beyond the limit.
+pub(crate) fn large_delay(site: &Site, source: Source, limit: Option<u64>) -> Option<i64>
+    ensures { result ≡ large_delay (kept site.now) source limit }
+{
+    let _ = site.followed(source)?;
+    let current = site.current(source)?;
+    beyond(current.mean_delay, limit)
+}
+
+/// meanLinkDelay of a port in SLAVE or UNCALIBRATED that measures the delay of its link, where it is beyond the limit.
+pub(crate) fn large_link_delay(port: &PortDataSet, limit: Option<u64>) -> Option<i64>
+    ensures { result ≡ large_link_delay port.now limit }
+{
+    if port.is_following() && port.measures_link() {
+        beyond(port.mean_link_delay, limit)
     } else {
         None
     }

@@ -11,7 +11,7 @@ use ptpm_codec::{Action, PortIdentity, View};
 use std::alloc::{AllocError, Global};
 
 /// The request that an answer came to: who asked, and with which sequenceId.
-#[derive(Clone, Copy, Debug, PartialEq, Eq, PartialOrd, Ord)]
+#[derive(Clone, Copy, PartialEq, Eq, PartialOrd, Ord)]
 pub struct Request {
     /// targetPortIdentity of the answer.
     pub target: PortIdentity,
@@ -20,7 +20,7 @@ pub struct Request {
 }
 
 /// An answer to a request for one of the six ids.
-#[derive(Debug, Drop)]
+#[derive(Drop)]
 pub struct Answer {
     pub source: Source,
     pub request: Request,

@@ -1,7 +1,7 @@
 //! The six management ids whose answers make the picture.
 
 /// A management id of the six, in the standard's order (table 59).
-#[derive(Clone, Copy, Debug, PartialEq, Eq)]
+#[derive(Clone, Copy, PartialEq, Eq)]
 pub enum Asked {
     UserDescription,
     DefaultDataSet,

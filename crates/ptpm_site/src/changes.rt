@@ -8,7 +8,7 @@ use std::alloc::{AllocError, Global};
 use std::collections::BTreeMap;
 
 /// A member that two answers of a clock say otherwise: the value of the earlier, and of the later.
-#[derive(Clone, Copy, Debug, PartialEq, Eq)]
+#[derive(Clone, Copy)]
 pub(crate) struct Change<'a> {
     pub(crate) member: Member,
     pub(crate) before: Value<'a>,
@@ -16,7 +16,7 @@ pub(crate) struct Change<'a> {
 }
 
 /// A member's value in an answer, and the request that the answer came to.
-#[derive(Clone, Copy, Debug, PartialEq, Eq)]
+#[derive(Clone, Copy)]
 struct Said<'a> {
     request: Request,
     value: Value<'a>,

@@ -1,5 +1,9 @@
 //! What the answers tell of one clock.
 
+ghost use Rattle.std.specs.Prelude.{◌≡◌};
+ghost use Rattle.ptpm_site.specs.Answers.{counting};
+ghost use Rattle.ptpm_site.specs.Kept.{port_kept};
+
 use crate::answer::Request;
 use crate::asked::Asked;
 use crate::data_sets::{
@@ -11,7 +15,7 @@ use std::alloc::{AllocError, Global};
 use std::collections::BTreeMap;
 
 /// A data set that an answer told, and the request that the answer came to.
-#[derive(Debug, Drop)]
+#[derive(Drop)]
 pub struct Heard<T> {
     pub request: Request,
     pub set: T,
@@ -74,22 +78,30 @@ impl Clock {
     }
 
     /// DEFAULT_DATA_SET, where it was answered.
-    pub(crate) fn default(&self) -> Option<DefaultDataSet> {
+    pub(crate) fn default(&self) -> Option<DefaultDataSet>
+        ensures { result ≡ counting self.now.defaults.items }
+    {
         last_of(self.defaults.as_slice())
     }
 
     /// CURRENT_DATA_SET, where it was answered.
-    pub(crate) fn current(&self) -> Option<CurrentDataSet> {
+    pub(crate) fn current(&self) -> Option<CurrentDataSet>
+        ensures { result ≡ counting self.now.currents.items }
+    {
         last_of(self.currents.as_slice())
     }
 
     /// PARENT_DATA_SET, where it was answered.
-    pub(crate) fn parent(&self) -> Option<ParentDataSet> {
+    pub(crate) fn parent(&self) -> Option<ParentDataSet>
+        ensures { result ≡ counting self.now.parents.items }
+    {
         last_of(self.parents.as_slice())
     }
 
     /// TIME_PROPERTIES_DATA_SET, where it was answered.
-    pub(crate) fn time(&self) -> Option<TimePropertiesDataSet> {
+    pub(crate) fn time(&self) -> Option<TimePropertiesDataSet>
+        ensures { result ≡ counting self.now.times.items }
+    {
         last_of(self.times.as_slice())
     }
 
@@ -100,7 +112,9 @@ impl Clock {
     }
 
     /// PORT_DATA_SET of a port, where it was answered.
-    pub(crate) fn port(&self, number: u16) -> Option<PortDataSet> {
+    pub(crate) fn port(&self, number: u16) -> Option<PortDataSet>
+        ensures { result ≡ port_kept self.now number }
+    {
         last_of(self.ports.get(&number)?.as_slice())
     }
 
@@ -116,6 +130,15 @@ impl Clock {
         false
     }
 
+    /// Keeps at most so many ports, the first; how many were left out.
+    pub(crate) fn keep_first_ports(&mut self, room: usize) -> usize {
+        let over = self.ports.len().saturating_sub(room);
+        for _ in 0..over {
+            let _ = self.ports.pop_last();
+        }
+        over
+    }
+
     /// Whether an error came for an id.
     pub(crate) fn refuses(&self, asked: Asked) -> bool {
         self.refused.contains(&asked)
@@ -123,7 +146,9 @@ impl Clock {
 }
 
 /// The data set of the answer that counts: the last.
-pub(crate) fn last_of<T: Copy>(heard: &[Heard<T>]) -> Option<T> {
+pub(crate) fn last_of<T: Copy>(heard: &[Heard<T>]) -> Option<T>
+    ensures { result ≡ counting heard.now }
+{
     match heard.last() {
         Some(last) => Some(last.set),
         None => None,

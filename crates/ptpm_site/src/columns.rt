@@ -24,18 +24,19 @@ pub(crate) struct Columns {
 /// How many characters the widest of each column has.
 #[derive(Clone, Copy)]
 pub(crate) struct Widths {
-    /// That of the identity, from the left of the line on.
-    identity: usize,
+    /// How far to the right an identity begins.
+    indent: usize,
     description: usize,
     steps: usize,
     offset: usize,
     delay: usize,
 }
 
-impl Columns {
-    pub(crate) fn widths_of_none() -> Widths {
+impl Widths {
+    /// The least widths.
+    pub(crate) fn of_none() -> Widths {
         Widths {
-            identity: 0,
+            indent: 0,
             description: 1,
             steps: 1,
             offset: 1,
@@ -43,6 +44,20 @@ impl Columns {
         }
     }
 
+    /// Widens them so that these columns fit, of an identity that begins so many characters from the left.
+    pub(crate) fn widen(&mut self, indent: usize, columns: &Columns) {
+        self.indent = self.indent.max(indent);
+        let description = columns.description.as_str().chars().count();
+        if description <= DESCRIPTION {
+            self.description = self.description.max(description);
+        }
+        self.steps = self.steps.max(columns.steps.len());
+        self.offset = self.offset.max(columns.offset.len());
+        self.delay = self.delay.max(columns.delay.len());
+    }
+}
+
+impl Columns {
     pub(crate) fn of(alloc: Global, clock: &Clock) -> Result<Columns, AllocError> {
         let description = match clock.description() {
             Some(text) => format!(in alloc; "{text:?}")?,
@@ -66,29 +81,38 @@ impl Columns {
         })
     }
 
-    /// Widens the widths so that these columns fit, whose identity ends so many characters from the left.
-    pub(crate) fn widen(&self, identity: usize, widths: &mut Widths) {
-        widths.identity = widths.identity.max(identity);
-        let description = self.description.as_str().chars().count();
-        if description <= DESCRIPTION {
-            widths.description = widths.description.max(description);
-        }
-        widths.steps = widths.steps.max(self.steps.len());
-        widths.offset = widths.offset.max(self.offset.len());
-        widths.delay = widths.delay.max(self.delay.len());
+    /// Prints the columns behind an identity that begins so many characters from the left.
+    pub(crate) fn print<O: Write>(
+        &self,
+        indent: usize,
+        widths: &Widths,
+        out: &mut O,
+    ) -> io::Result<()> {
+        print_spaces(widths.indent.saturating_sub(indent), out)?;
+        print_left(self.description.as_str(), widths.description, out)?;
+        print_right(self.steps.as_str(), widths.steps, out)?;
+        print_right(self.offset.as_str(), widths.offset, out)?;
+        print_right(self.delay.as_str(), widths.delay, out)
     }
+}
 
-    /// Prints the columns behind an identity that ends so many characters from the left.
-    pub(crate) fn print<O: Write>(&self, identity: usize, widths: &Widths, out: &mut O) -> io::Result<()> {
-        let gap = widths.identity.saturating_sub(identity);
-        write!(out, "{:gap$}", "")?;
-        let width = widths.description;
-        write!(out, "  {:width$}", self.description.as_str())?;
-        let width = widths.steps;
-        write!(out, "  {:>width$}", self.steps.as_str())?;
-        let width = widths.offset;
-        write!(out, "  {:>width$}", self.offset.as_str())?;
-        let width = widths.delay;
-        write!(out, "  {:>width$}", self.delay.as_str())
+/// Prints so many spaces.
+pub(crate) fn print_spaces<O: Write>(count: usize, out: &mut O) -> io::Result<()> {
+    for _ in 0..count {
+        write!(out, " ")?;
     }
+    Ok(())
+}
+
+/// Prints text at the left of a column.
+fn print_left<O: Write>(text: &str, width: usize, out: &mut O) -> io::Result<()> {
+    write!(out, "  {text}")?;
+    print_spaces(width.saturating_sub(text.chars().count()), out)
+}
+
+/// Prints text, which is ASCII, at the right of a column.
+fn print_right<O: Write>(text: &str, width: usize, out: &mut O) -> io::Result<()> {
+    write!(out, "  ")?;
+    print_spaces(width.saturating_sub(text.len()), out)?;
+    write!(out, "{text}")
 }

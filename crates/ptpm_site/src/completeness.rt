@@ -43,7 +43,7 @@ impl Clock {
 }
 
 /// What a clock was asked, and neither answered nor refused.
-#[derive(Debug, Drop)]
+#[derive(Drop)]
 pub(crate) struct Missing {
     pub(crate) asked: Vec<Asked>,
     /// Ports, in runs of the first and the last.
@@ -69,13 +69,11 @@ pub(crate) fn missing_answers(alloc: Global, clock: &Clock) -> Result<Option<Mis
 fn missing_ports(alloc: Global, clock: &Clock) -> Result<Vec<(u16, u16)>, AllocError> {
     let mut runs = Vec::new(alloc);
     let last = clock.last_port();
-    let mut before = 0;
+    let mut before: u16 = 0;
     for port in clock.ports.keys() {
-        if last < *port {
-            break;
-        }
-        if before + 1 < *port {
-            runs.push((before + 1, *port - 1))?;
+        let next = before.saturating_add(1);
+        if next < *port && next <= last {
+            runs.push((next, (*port - 1).min(last)))?;
         }
         before = *port;
     }

@@ -1,11 +1,14 @@
 //! The data sets of a clock as its answers tell them (clauses 8.2 and 15.5.3): every member, whatever its value.
 
+ghost use Rattle.std.specs.Prelude.{◌≡◌, ◌+◌, ◌≤◌, length};
+ghost use Rattle.ptpm_site.specs.PortStates.{is_following, is_leading, measures_end_to_end, measures_link};
+
 use crate::numbers::{clock_at, flag_at, i8_at, i16_at, i32_at, interval_at, port_at, u16_at};
 use ptpm_codec::{ClockIdentity, PortIdentity};
 use ptpm_data::PortState;
 
 /// A ClockQuality (5.3.7).
-#[derive(Clone, Copy, Debug, PartialEq, Eq)]
+#[derive(Clone, Copy, PartialEq, Eq)]
 pub struct ClockQuality {
     pub class: u8,
     pub accuracy: u8,
@@ -14,7 +17,7 @@ pub struct ClockQuality {
 }
 
 /// DEFAULT_DATA_SET.
-#[derive(Clone, Copy, Debug, PartialEq, Eq)]
+#[derive(Clone, Copy)]
 pub struct DefaultDataSet {
     pub two_step: bool,
     pub slave_only: bool,
@@ -27,7 +30,7 @@ pub struct DefaultDataSet {
 }
 
 /// CURRENT_DATA_SET.
-#[derive(Clone, Copy, Debug, PartialEq, Eq)]
+#[derive(Clone, Copy)]
 pub struct CurrentDataSet {
     pub steps_removed: u16,
     /// A TimeInterval, in nanoseconds times 2^16.
@@ -37,7 +40,7 @@ pub struct CurrentDataSet {
 }
 
 /// PARENT_DATA_SET.
-#[derive(Clone, Copy, Debug, PartialEq, Eq)]
+#[derive(Clone, Copy)]
 pub struct ParentDataSet {
     /// parentPortIdentity.
     pub parent: PortIdentity,
@@ -54,7 +57,7 @@ pub struct ParentDataSet {
 }
 
 /// TIME_PROPERTIES_DATA_SET.
-#[derive(Clone, Copy, Debug, PartialEq, Eq)]
+#[derive(Clone, Copy)]
 pub struct TimePropertiesDataSet {
     /// currentUtcOffset, in seconds.
     pub utc_offset: i16,
@@ -68,7 +71,7 @@ pub struct TimePropertiesDataSet {
 }
 
 /// How a port measures delay (8.2.15.4.4).
-#[derive(Clone, Copy, Debug, PartialEq, Eq)]
+#[derive(Clone, Copy, PartialEq, Eq)]
 pub enum DelayMechanism {
     EndToEnd,
     PeerToPeer,
@@ -78,7 +81,7 @@ pub enum DelayMechanism {
 }
 
 /// PORT_DATA_SET, but for its portIdentity.
-#[derive(Clone, Copy, Debug, PartialEq, Eq)]
+#[derive(Clone, Copy)]
 pub struct PortDataSet {
     /// portState; none where its number is reserved.
     pub state: Option<PortState>,
@@ -97,7 +100,9 @@ pub struct PortDataSet {
 
 impl ClockQuality {
     /// That in the four octets from a place.
-    fn at(octets: &[u8], place: usize) -> ClockQuality {
+    fn at(octets: &[u8], place: usize) -> ClockQuality
+        requires { place + 4 ≤ length octets.now }
+    {
         ClockQuality {
             class: octets[place],
             accuracy: octets[place + 1],
@@ -198,7 +203,9 @@ impl PortDataSet {
     }
 
     /// Whether the port takes time from a master, or is about to.
-    pub(crate) fn is_following(&self) -> bool {
+    pub(crate) fn is_following(&self) -> bool
+        ensures { result ≡ is_following self.now.state }
+    {
         matches!(
             self.state,
             Some(PortState::Slave | PortState::Uncalibrated)
@@ -206,11 +213,27 @@ impl PortDataSet {
     }
 
     /// Whether the port gives time, or is about to.
-    pub(crate) fn is_leading(&self) -> bool {
+    pub(crate) fn is_leading(&self) -> bool
+        ensures { result ≡ is_leading self.now.state }
+    {
+        matches!(self.state, Some(PortState::Master | PortState::PreMaster))
+    }
+
+    /// Whether it measures the delay of the link to the neighbour (clause 11.4).
+    pub(crate) fn measures_link(&self) -> bool
+        ensures { result ≡ measures_link self.now.delay_mechanism }
+    {
         matches!(
-            self.state,
-            Some(PortState::Master | PortState::PreMaster)
+            self.delay_mechanism,
+            Some(DelayMechanism::PeerToPeer | DelayMechanism::CommonPeerToPeer)
         )
+    }
+
+    /// Whether it measures the delay of the whole way to the master (clause 11.3).
+    pub(crate) fn measures_end_to_end(&self) -> bool
+        ensures { result ≡ measures_end_to_end self.now.delay_mechanism }
+    {
+        matches!(self.delay_mechanism, Some(DelayMechanism::EndToEnd))
     }
 }
 
@@ -224,13 +247,5 @@ impl DelayMechanism {
             0xfe => Some(DelayMechanism::NoMechanism),
             _ => None,
         }
-    }
-
-    /// Whether it measures the delay of the link to the neighbour (clause 11.4).
-    pub(crate) fn is_peer(self) -> bool {
-        matches!(
-            self,
-            DelayMechanism::PeerToPeer | DelayMechanism::CommonPeerToPeer
-        )
     }
 }

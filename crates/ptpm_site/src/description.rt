@@ -4,7 +4,7 @@ use ptpm_codec::{is_ptp_text, text_of_ptp_text};
 use std::alloc::{AllocError, Global};
 
 /// USER_DESCRIPTION, as text; what is no UTF-8 in it is replaced.
-#[derive(Debug, Drop)]
+#[derive(Drop)]
 pub struct Description {
     pub text: String,
 }

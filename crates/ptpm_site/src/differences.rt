@@ -1,91 +1,123 @@
 //! Where a clock says otherwise than its grandmaster or the port that it follows.
 
-use crate::data_sets::{ClockQuality, DefaultDataSet, DelayMechanism, ParentDataSet, PortDataSet, TimePropertiesDataSet};
-use crate::member::{DataSet, Member, Value};
-use crate::site::Site;
-use crate::source::Source;
-use ptpm_codec::ClockIdentity;
+ghost use Rattle.std.specs.Prelude.{◌≡◌, is_some, not};
+ghost use Rattle.std.specs.Ordering.{int_eq};
+ghost use Rattle.ptpm_codec.specs.Identity.{same_clock};
+ghost use Rattle.ptpm_site.specs.Differences.{measure_otherwise};
+
+use crate::data_sets::{
+    ClockQuality, DefaultDataSet, ParentDataSet, PortDataSet, TimePropertiesDataSet,
+};
+use crate::member::{Member, Value};
 
 /// A member that two clocks say otherwise.
-#[derive(Clone, Copy, Debug, PartialEq, Eq)]
+#[derive(Clone, Copy)]
 pub(crate) struct Differs {
     pub(crate) member: Member,
     pub(crate) own: Value<'static>,
     pub(crate) other: Value<'static>,
 }
 
-fn difference(member: Member, own: Value<'static>, other: Value<'static>) -> Option<Differs> {
+/// The member, where the numbers differ.
+fn number_differs(member: Member, own: i64, other: i64) -> Option<Differs>
+    ensures { is_some result ≡ not (int_eq own other) }
+{
     if own == other {
-        None
-    } else {
-        Some(Differs { member, own, other })
+        return None;
     }
+    Some(Differs {
+        member,
+        own: Value::Number(own),
+        other: Value::Number(other),
+    })
 }
 
-fn number(number: u8) -> Value<'static> {
-    Value::Number(number as i64)
+/// The member, where the flags differ.
+fn flag_differs(member: Member, own: bool, other: bool) -> Option<Differs>
+{
+    if own == other {
+        return None;
+    }
+    Some(Differs {
+        member,
+        own: Value::Flag(own),
+        other: Value::Flag(other),
+    })
 }
 
-/// What a clock says of its grandmaster and the grandmaster's DEFAULT_DATA_SET does not, in a member of DEFAULT_DATA_SET.
-pub(crate) fn grandmaster_differs(own: &ParentDataSet, grandmaster: &DefaultDataSet) -> [Option<Differs>; 3] {
+/// The member, where the ClockQualities differ.
+fn quality_differs(member: Member, own: ClockQuality, other: ClockQuality) -> Option<Differs> {
+    if own == other {
+        return None;
+    }
+    Some(Differs {
+        member,
+        own: Value::Quality(own),
+        other: Value::Quality(other),
+    })
+}
+
+/// What a clock says of its grandmaster and the grandmaster's DEFAULT_DATA_SET does not.
+pub(crate) fn grandmaster_differs(
+    own: &ParentDataSet,
+    grandmaster: &DefaultDataSet,
+) -> [Option<Differs>; 3] {
     [
-        difference(
+        number_differs(
             Member::GrandmasterPriority1,
-            number(own.priority1),
-            number(grandmaster.priority1),
+            own.priority1 as i64,
+            grandmaster.priority1 as i64,
         ),
-        difference(
+        quality_differs(
             Member::GrandmasterClockQuality,
-            Value::Quality(own.quality),
-            Value::Quality(grandmaster.quality),
+            own.quality,
+            grandmaster.quality,
         ),
-        difference(
+        number_differs(
             Member::GrandmasterPriority2,
-            number(own.priority2),
-            number(grandmaster.priority2),
+            own.priority2 as i64,
+            grandmaster.priority2 as i64,
         ),
     ]
 }
 
-/// Whether a clock names another grandmaster than the clock that it follows does.
-pub(crate) fn other_grandmaster(site: &Site, source: Source) -> Option<Differs> {
-    let own = site.parent(source)?;
-    let parent = site.parent(source.beside(own.parent.clock))?;
-    difference(
-        Member::GrandmasterIdentity,
-        Value::Clock(own.grandmaster),
-        Value::Clock(parent.grandmaster),
-    )
+/// grandmasterIdentity, where a clock names another than the clock that it follows.
+pub(crate) fn other_grandmaster(own: &ParentDataSet, parent: &ParentDataSet) -> Option<Differs>
+    ensures { is_some result ≡ not (same_clock own.now.grandmaster parent.now.grandmaster) }
+{
+    if own.grandmaster == parent.grandmaster {
+        return None;
+    }
+    Some(Differs {
+        member: Member::GrandmasterIdentity,
+        own: Value::Clock(own.grandmaster),
+        other: Value::Clock(parent.grandmaster),
+    })
 }
 
 /// What a clock says of UTC and its grandmaster does not.
-pub(crate) fn utc_differs(own: &TimePropertiesDataSet, grandmaster: &TimePropertiesDataSet) -> [Option<Differs>; 5] {
+pub(crate) fn utc_differs(
+    own: &TimePropertiesDataSet,
+    grandmaster: &TimePropertiesDataSet,
+) -> [Option<Differs>; 5] {
     [
-        difference(
+        number_differs(
             Member::CurrentUtcOffset,
-            Value::Number(own.utc_offset as i64),
-            Value::Number(grandmaster.utc_offset as i64),
+            own.utc_offset as i64,
+            grandmaster.utc_offset as i64,
         ),
-        difference(
+        flag_differs(
             Member::CurrentUtcOffsetValid,
-            Value::Flag(own.utc_valid),
-            Value::Flag(grandmaster.utc_valid),
+            own.utc_valid,
+            grandmaster.utc_valid,
         ),
-        difference(
+        flag_differs(
             Member::PtpTimescale,
-            Value::Flag(own.ptp_timescale),
-            Value::Flag(grandmaster.ptp_timescale),
+            own.ptp_timescale,
+            grandmaster.ptp_timescale,
         ),
-        difference(
-            Member::Leap59,
-            Value::Flag(own.leap59),
-            Value::Flag(grandmaster.leap59),
-        ),
-        difference(
-            Member::Leap61,
-            Value::Flag(own.leap61),
-            Value::Flag(grandmaster.leap61),
-        ),
+        flag_differs(Member::Leap59, own.leap59, grandmaster.leap59),
+        flag_differs(Member::Leap61, own.leap61, grandmaster.leap61),
     ]
 }
 
@@ -95,28 +127,28 @@ pub(crate) fn intervals_differ(own: &PortDataSet, parent: &PortDataSet) -> [Opti
     if !own.is_following() {
         return [None, None];
     }
-    let announce = difference(
-        Member::LogAnnounceInterval,
-        Value::Number(own.log_announce as i64),
-        Value::Number(parent.log_announce as i64),
-    );
-    let mechanism = if measure_otherwise(own.delay_mechanism, parent.delay_mechanism) {
-        difference(
-            Member::DelayMechanism,
-            Value::Mechanism(own.delay_mechanism),
-            Value::Mechanism(parent.delay_mechanism),
-        )
-    } else {
-        None
-    };
-    [announce, mechanism]
+    [
+        number_differs(
+            Member::LogAnnounceInterval,
+            own.log_announce as i64,
+            parent.log_announce as i64,
+        ),
+        mechanism_differs(own, parent),
+    ]
 }
 
-/// Whether one of two mechanisms is end-to-end and the other peer-to-peer; others say nothing against a link.
-fn measure_otherwise(a: Option<DelayMechanism>, b: Option<DelayMechanism>) -> bool {
-    match (a, b) {
-        (Some(DelayMechanism::EndToEnd), Some(b)) => b.is_peer(),
-        (Some(a), Some(DelayMechanism::EndToEnd)) => a.is_peer(),
-        _ => false,
+/// delayMechanism, where one port measures the delay from end to end and the other that of the link; others say nothing against a link.
+fn mechanism_differs(own: &PortDataSet, parent: &PortDataSet) -> Option<Differs>
+    ensures { is_some result ≡ measure_otherwise own.now.delay_mechanism parent.now.delay_mechanism }
+{
+    if own.measures_link() && parent.measures_end_to_end()
+        || own.measures_end_to_end() && parent.measures_link()
+    {
+        return Some(Differs {
+            member: Member::DelayMechanism,
+            own: Value::Mechanism(own.delay_mechanism),
+            other: Value::Mechanism(parent.delay_mechanism),
+        });
     }
+    None
 }

@@ -10,14 +10,14 @@ use ptpm_codec::{ClockIdentity, PortIdentity};
 use ptpm_data::PortState;
 
 /// Something that is wrong with a clock.
-#[derive(Debug, Drop)]
+#[derive(Drop)]
 pub(crate) struct Finding<'a> {
     pub(crate) source: Source,
     pub(crate) what: What<'a>,
 }
 
 /// What is wrong, in the order in which it is told of a clock.
-#[derive(Debug, Drop)]
+#[derive(Drop)]
 pub(crate) enum What<'a> {
     /// It is one of two or more clocks of the domain that are their own grandmasters and have a port in MASTER.
     TwoGrandmasters,

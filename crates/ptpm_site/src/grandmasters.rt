@@ -56,7 +56,7 @@ fn is_following(set: &PortDataSet) -> bool {
 }
 
 /// Why a clock has no master.
-#[derive(Clone, Copy, Debug, PartialEq, Eq)]
+#[derive(Clone, Copy)]
 pub(crate) enum Masterless {
     /// It is its own grandmaster, and slaveOnly.
     SlaveOnly,

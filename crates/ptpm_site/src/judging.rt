@@ -92,7 +92,18 @@ impl<'a> Judge<'a> {
                 }
             }
         }
-        self.find_grandmaster(source, other_grandmaster(self.site, source))
+        self.judge_named(source, clock)
+    }
+
+    /// `grandmaster_differs`, by what the clock that it follows names.
+    fn judge_named(&mut self, source: Source, clock: &Clock) -> Result<(), AllocError> {
+        let Some(own) = clock.parent() else {
+            return Ok(());
+        };
+        match self.site.parent(source.beside(own.parent.clock)) {
+            Some(parent) => self.find_grandmaster(source, other_grandmaster(&own, &parent)),
+            None => Ok(()),
+        }
     }
 
     fn find_grandmaster(&mut self, source: Source, differs: Option<Differs>) -> Result<(), AllocError> {
@@ -139,14 +150,14 @@ impl<'a> Judge<'a> {
 
     /// `offset` and `delay`.
     fn judge_amounts(&mut self, source: Source, clock: &Clock) -> Result<(), AllocError> {
-        if self.site.followed(source).is_none() {
-            return Ok(());
-        }
-        if let Some(offset) = large_offset(clock, self.limits.offset) {
+        if let Some(offset) = large_offset(self.site, source, self.limits.offset) {
             self.find(source, What::Offset(offset))?;
         }
-        if let Some(delay) = large_delay(clock, self.limits.delay) {
+        if let Some(delay) = large_delay(self.site, source, self.limits.delay) {
             self.find(source, What::Delay(delay))?;
+        }
+        if self.site.followed(source).is_none() {
+            return Ok(());
         }
         for (port, heard) in clock.ports.iter() {
             if let Some(set) = last_of(heard.as_slice()) {
@@ -182,7 +193,7 @@ impl<'a> Judge<'a> {
         let Some(own) = clock.parent() else {
             return Ok(());
         };
-        let Some(parent) = self.site.port(source.domain, own.parent) else {
+        let Some(parent) = self.site.port(source.beside(own.parent.clock), own.parent.port) else {
             return Ok(());
         };
         for (port, heard) in clock.ports.iter() {

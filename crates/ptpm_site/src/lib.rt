@@ -14,6 +14,7 @@ mod differences;
 mod finding;
 mod finding_json;
 mod following;
+mod forest;
 mod grandmasters;
 mod intervals;
 mod json;
@@ -24,10 +25,11 @@ mod member;
 mod numbers;
 mod parents;
 mod picture;
+mod planting;
 mod port_states;
 mod ports_text;
 mod reading;
-mod report;
+mod reporting;
 mod site;
 mod source;
 mod telling;
@@ -36,4 +38,7 @@ mod told;
 mod tree;
 
 pub use limits::Limits;
-pub use report::{Form, Options, Outcome, report};
+pub use reporting::{Form, Options, Outcome, report};
+
+#[cfg(test)]
+mod tests;

@@ -1,13 +1,15 @@
 //! Loops of clocks that follow each other.
 
+ghost use Rattle.std.specs.Prelude.{◌<◌, length};
+
 use std::alloc::{AllocError, Global};
 
-/// Who follows whom, by places: the clock that each clock follows, where it follows one that is seen.
-pub(crate) type Followed = Vec<Option<usize>>;
-
 /// The loops: of each the places of its clocks, from the least on, each followed by the one that it follows. They stand in the order of
-/// their least places.
-pub(crate) fn loops(alloc: Global, followed: &[Option<usize>]) -> Result<Vec<Vec<usize>>, AllocError> {
+/// their least places. Given is the place of the clock that each clock follows, where it follows one that is seen.
+pub(crate) fn loops(
+    alloc: Global,
+    followed: &[Option<usize>],
+) -> Result<Vec<Vec<usize>>, AllocError> {
     let mut loops = Vec::new(alloc);
     let mut marks = vec![in alloc; 0usize; followed.len()]?;
     for start in 0..followed.len() {
@@ -21,27 +23,31 @@ pub(crate) fn loops(alloc: Global, followed: &[Option<usize>]) -> Result<Vec<Vec
 
 /// Follows the clocks from a place on, and marks each that has no mark by this walk. A place of a loop, where the walk comes back to one
 /// of its own.
-fn walk(followed: &[Option<usize>], marks: &mut [usize], start: usize) -> Option<usize> {
-    let mark = start + 1;
+fn walk(followed: &[Option<usize>], marks: &mut [usize], start: usize) -> Option<usize>
+    requires { start < length followed.now }
+{
+    let own = start + 1;
     let mut place = start;
     for _ in 0..=followed.len() {
-        if place >= marks.len() {
-            return None;
-        }
-        if marks[place] == mark {
+        let mark = marks.get_mut(place)?;
+        if *mark == own {
             return Some(place);
         }
-        if marks[place] != 0 {
+        if *mark != 0 {
             return None;
         }
-        marks[place] = mark;
-        place = followed[place]?;
+        *mark = own;
+        place = (*followed.get(place)?)?;
     }
     None
 }
 
 /// The places of the loop through a place, from the least on.
-fn loop_from(alloc: Global, followed: &[Option<usize>], place: usize) -> Result<Vec<usize>, AllocError> {
+fn loop_from(
+    alloc: Global,
+    followed: &[Option<usize>],
+    place: usize,
+) -> Result<Vec<usize>, AllocError> {
     let least = least_from(followed, place);
     let mut places = Vec::new(alloc);
     let mut here = least;

@@ -10,7 +10,7 @@ use ptpm_data::PortState;
 use std::fmt;
 
 /// A member of one of the six data sets (clauses 8.2 and 15.5.3).
-#[derive(Clone, Copy, Debug, PartialEq, Eq)]
+#[derive(Clone, Copy)]
 pub enum Member {
     TwoStepFlag,
     SlaveOnly,
@@ -111,7 +111,7 @@ impl Member {
 }
 
 /// The value of a member.
-#[derive(Clone, Copy, Debug, PartialEq, Eq)]
+#[derive(Clone, Copy, PartialEq)]
 pub enum Value<'a> {
     Flag(bool),
     Number(i64),

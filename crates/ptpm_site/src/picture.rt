@@ -1,11 +1,12 @@
 //! A site, judged.
 
 use crate::finding::Finding;
+use crate::forest::Forest;
 use crate::judging::findings_of;
 use crate::limits::Limits;
 use crate::loops::loops;
 use crate::site::{LeftOut, Site};
-use crate::tree::{Forest, Row};
+use crate::tree::{Row, rows};
 use std::alloc::{AllocError, Global};
 
 /// A site with its tree and its findings.
@@ -27,7 +28,7 @@ impl<'a> Picture<'a> {
     ) -> Result<Picture<'a>, AllocError> {
         let forest = Forest::of(alloc, site)?;
         let loops = loops(alloc, forest.followed.as_slice())?;
-        let rows = forest.rows(alloc, site, loops.as_slice())?;
+        let rows = rows(alloc, site, &forest, loops.as_slice())?;
         let sources = forest.sources.as_slice();
         let findings = findings_of(alloc, site, sources, loops.as_slice(), limits)?;
         Ok(Picture {

@@ -1,10 +1,12 @@
 //! The clocks of a site, by the answers that were taken.
 
+ghost use Rattle.std.specs.Prelude.{◌≡◌};
+ghost use Rattle.ptpm_site.specs.Kept.{kept};
+
 use crate::answer::Answer;
 use crate::clock::Clock;
 use crate::data_sets::{CurrentDataSet, DefaultDataSet, ParentDataSet, PortDataSet, TimePropertiesDataSet};
 use crate::source::Source;
-use ptpm_codec::PortIdentity;
 use std::alloc::{AllocError, Global};
 use std::collections::BTreeMap;
 
@@ -21,7 +23,7 @@ pub(crate) const CLOCKS: usize = 4_096;
 pub(crate) const PORTS: usize = 16_384;
 
 /// What of a site is not shown.
-#[derive(Clone, Copy, Debug, PartialEq, Eq)]
+#[derive(Clone, Copy)]
 pub(crate) struct LeftOut {
     pub(crate) clocks: usize,
     pub(crate) ports: usize,
@@ -48,25 +50,15 @@ impl Site {
 
     /// Keeps the first clocks, by domain and identity, and the first of their ports; the others are as if they had not answered.
     pub(crate) fn keep_first(&mut self) -> LeftOut {
-        let mut clocks = 0;
-        for _ in 0..self.clocks.len() {
-            if self.clocks.len() <= CLOCKS {
-                break;
-            }
+        let clocks = self.clocks.len().saturating_sub(CLOCKS);
+        for _ in 0..clocks {
             let _ = self.clocks.pop_last();
-            clocks += 1;
         }
         let mut room = PORTS;
-        let mut ports = 0;
+        let mut ports = 0usize;
         for clock in self.clocks.values_mut() {
-            for _ in 0..clock.ports.len() {
-                if clock.ports.len() <= room {
-                    break;
-                }
-                let _ = clock.ports.pop_last();
-                ports += 1;
-            }
-            room -= clock.ports.len();
+            ports = ports.saturating_add(clock.keep_first_ports(room));
+            room = room.saturating_sub(clock.ports.len());
         }
         LeftOut { clocks, ports }
     }
@@ -76,36 +68,44 @@ impl Site {
     }
 
     /// Whether a clock is seen.
-    pub(crate) fn sees(&self, source: Source) -> bool {
+    pub(crate) fn sees(&self, source: Source) -> bool
+        ensures { result ≡ (kept self.now).seen source }
+    {
         self.clocks.contains_key(&source)
     }
 
     /// DEFAULT_DATA_SET of a clock, where it was answered.
-    pub(crate) fn default(&self, source: Source) -> Option<DefaultDataSet> {
+    pub(crate) fn default(&self, source: Source) -> Option<DefaultDataSet>
+        ensures { result ≡ (kept self.now).default source }
+    {
         self.clocks.get(&source)?.default()
     }
 
     /// CURRENT_DATA_SET of a clock, where it was answered.
-    pub(crate) fn current(&self, source: Source) -> Option<CurrentDataSet> {
+    pub(crate) fn current(&self, source: Source) -> Option<CurrentDataSet>
+        ensures { result ≡ (kept self.now).current source }
+    {
         self.clocks.get(&source)?.current()
     }
 
     /// PARENT_DATA_SET of a clock, where it was answered.
-    pub(crate) fn parent(&self, source: Source) -> Option<ParentDataSet> {
+    pub(crate) fn parent(&self, source: Source) -> Option<ParentDataSet>
+        ensures { result ≡ (kept self.now).parent source }
+    {
         self.clocks.get(&source)?.parent()
     }
 
     /// TIME_PROPERTIES_DATA_SET of a clock, where it was answered.
-    pub(crate) fn time(&self, source: Source) -> Option<TimePropertiesDataSet> {
+    pub(crate) fn time(&self, source: Source) -> Option<TimePropertiesDataSet>
+        ensures { result ≡ (kept self.now).time source }
+    {
         self.clocks.get(&source)?.time()
     }
 
-    /// PORT_DATA_SET of a port in a domain, where it was answered.
-    pub(crate) fn port(&self, domain: u8, port: PortIdentity) -> Option<PortDataSet> {
-        let source = Source {
-            domain,
-            clock: port.clock,
-        };
-        self.clocks.get(&source)?.port(port.port)
+    /// PORT_DATA_SET of a port of a clock, where it was answered.
+    pub(crate) fn port(&self, source: Source, number: u16) -> Option<PortDataSet>
+        ensures { result ≡ (kept self.now).port source number }
+    {
+        self.clocks.get(&source)?.port(number)
     }
 }

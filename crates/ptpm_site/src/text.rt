@@ -1,6 +1,9 @@
 //! A site as text: for each domain its tree, a line a clock, and then the findings, one a line.
 
-use crate::columns::Columns;
+ghost use Rattle.std.specs.Prelude.{◌≤◌, length};
+
+use crate::clock::Clock;
+use crate::columns::{Columns, Widths, print_spaces};
 use crate::finding::{Finding, What};
 use crate::grandmasters::leads;
 use crate::picture::Picture;
@@ -40,38 +43,49 @@ impl Picture<'_> {
 
     fn domain_of(&self, row: &Row) -> u8 {
         match row {
-            Row::Clock { place, .. } => self.forest.sources[*place].domain,
+            Row::Clock { place, .. } => self.forest.domain_of(*place).unwrap_or(0),
             Row::NotSeen { domain, .. } => *domain,
         }
     }
 
     /// How many of these rows, from the first on, are of a domain.
-    fn rows_of(&self, domain: u8, rows: &[Row]) -> usize {
-        let mut count = 0;
-        for row in rows {
+    fn rows_of(&self, domain: u8, rows: &[Row]) -> usize
+        ensures { result ≤ length rows.now }
+    {
+        for (count, row) in rows.iter().enumerate() {
             if self.domain_of(row) != domain {
-                break;
+                return count;
             }
-            count += 1;
         }
-        count
+        rows.len()
+    }
+
+    /// The clock of a row, and what is known of it; none where the row names one that is not seen.
+    fn clock_of(&self, row: &Row) -> Option<(Source, &Clock)> {
+        match row {
+            Row::Clock { place, .. } => {
+                let source = self.forest.sources.get(*place)?;
+                Some((*source, self.site.clocks.get(source)?))
+            }
+            Row::NotSeen { .. } => None,
+        }
     }
 
     /// A domain, how many clocks it has, and which are grandmasters.
     fn print_head<O: Write>(&self, domain: u8, rows: &[Row], out: &mut O) -> io::Result<()> {
-        let mut clocks = 0;
-        for row in rows {
-            if matches!(row, Row::Clock { .. }) {
-                clocks += 1;
-            }
-        }
+        let clocks = rows
+            .iter()
+            .filter(|row| matches!(row, Row::Clock { .. }))
+            .count();
         let noun = if clocks == 1 { "clock" } else { "clocks" };
         write!(out, "domain {domain}: {clocks} {noun}")?;
         let mut word = "grandmaster";
         for row in rows {
-            if let Some(source) = self.leading(row) {
-                write!(out, ", {word} {}", source.clock)?;
-                word = "and";
+            if let Some((source, clock)) = self.clock_of(row) {
+                if leads(source, clock) {
+                    write!(out, ", {word} {}", source.clock)?;
+                    word = "and";
+                }
             }
         }
         if word == "grandmaster" {
@@ -80,56 +94,48 @@ impl Picture<'_> {
         writeln!(out)
     }
 
-    /// The clock of a row, where it is its own grandmaster and has a port in MASTER.
-    fn leading(&self, row: &Row) -> Option<Source> {
-        match row {
-            Row::Clock { place, .. } => {
-                let source = self.forest.sources[*place];
-                let clock = self.site.clocks.get(&source)?;
-                if leads(source, clock) {
-                    Some(source)
-                } else {
-                    None
-                }
-            }
-            Row::NotSeen { .. } => None,
-        }
-    }
-
     fn print_rows<O: Write>(&self, alloc: Global, rows: &[Row], out: &mut O) -> Result<(), Fault> {
-        let mut widths = Columns::widths_of_none();
-        for row in rows {
-            if let Row::Clock { place, depth } = row {
-                if let Some(clock) = self.site.clocks.get(&self.forest.sources[*place]) {
-                    let columns = Columns::of(alloc, clock).map_err(|_| Fault::OutOfMemory)?;
-                    columns.widen(MARGIN + 2 * *depth + 16, &mut widths);
-                }
-            }
-        }
+        let widths = self.widths(alloc, rows).map_err(|_| Fault::OutOfMemory)?;
         for row in rows {
             match row {
                 Row::Clock { place, depth } => {
-                    let source = self.forest.sources[*place];
-                    let indent = MARGIN + 2 * *depth;
-                    write!(out, "{:indent$}{}", "", source.clock)?;
-                    if let Some(clock) = self.site.clocks.get(&source) {
+                    if let Some((source, clock)) = self.clock_of(row) {
+                        let indent = indent(*depth);
+                        print_spaces(indent, out)?;
+                        write!(out, "{}", source.clock)?;
                         let columns = Columns::of(alloc, clock).map_err(|_| Fault::OutOfMemory)?;
-                        columns.print(indent + 16, &widths, out)?;
-                        writeln!(out, "  {}{}", PortsText(clock), self.cut(*place, *depth))?;
+                        columns.print(indent, &widths, out)?;
+                        let cut = self.cut(*place, *depth);
+                        writeln!(out, "  {}{cut}", PortsText(clock))?;
                     }
                 }
-                Row::NotSeen { parent, .. } => writeln!(out, "{:MARGIN$}not seen: {parent}", "")?,
+                Row::NotSeen { parent, .. } => {
+                    print_spaces(MARGIN, out)?;
+                    writeln!(out, "not seen: {parent}")?;
+                },
             }
         }
         Ok(())
     }
 
+    /// The widths that the columns of these rows need.
+    fn widths(&self, alloc: Global, rows: &[Row]) -> Result<Widths, AllocError> {
+        let mut widths = Widths::of_none();
+        for row in rows {
+            if let Row::Clock { depth, .. } = row {
+                if let Some((_, clock)) = self.clock_of(row) {
+                    widths.widen(indent(*depth), &Columns::of(alloc, clock)?);
+                }
+            }
+        }
+        Ok(widths)
+    }
+
     /// What is said of a clock at which a loop is cut: it is a root, and follows one that is seen.
-    fn cut(&self, place: usize, depth: usize) -> &'static str {
-        if depth == 0 && self.forest.followed[place].is_some() {
-            "  (in a loop)"
-        } else {
-            ""
+    fn cut(&self, place: usize, depth: u32) -> &'static str {
+        match self.forest.followed.get(place) {
+            Some(Some(_)) if depth == 0 => "  (in a loop)",
+            _ => "",
         }
     }
 
@@ -181,18 +187,23 @@ impl Picture<'_> {
     }
 }
 
+/// Where the identity of a clock at this depth begins.
+fn indent(depth: u32) -> usize {
+    MARGIN + 2 * depth as usize
+}
+
 /// How many lines the findings take.
 fn lines_of(findings: &[Finding<'_>], unseen: &[Source]) -> usize {
-    let mut lines = 0;
+    let mut lines = 0usize;
     for finding in findings {
         if !matches!(finding.what, What::GrandmasterNotSeen(_)) {
-            lines += 1;
+            lines = lines.saturating_add(1);
         }
     }
     let mut last = None;
     for source in unseen {
         if last != Some(*source) {
-            lines += 1;
+            lines = lines.saturating_add(1);
         }
         last = Some(*source);
     }

@@ -7,7 +7,7 @@ use crate::data_sets::{
 use crate::description::Description;
 
 /// What an answer tells: a data set, or that the clock refuses to.
-#[derive(Debug, Drop)]
+#[derive(Drop)]
 pub enum Told {
     Default(DefaultDataSet),
     Current(CurrentDataSet),
