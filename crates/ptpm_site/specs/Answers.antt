@@ -1,12 +1,10 @@
 -- What the answers among the lines tell, whatever program reads them (IEEE 1588-2019, 15.4.1 and 15.5.3).
-use Rattle.std.specs.Prelude.{ℕ, ◌==◌, ◌&&◌, ◌-◌, Bool, true, false, List, Option, Some, None, length, slice_get, if◌then◌else◌, option_and_then}
+use Rattle.std.specs.Prelude.{ℕ, ◌==◌, ◌&&◌, ◌-◌, Bool, List, Option, Some, None, length, slice_get, if◌then◌else◌}
 use Rattle.std.specs.List.{filter, filter_map, list_any}
-use Rattle.std.specs.Option.{option_map}
+use Rattle.std.specs.Option.{option_map, option_to_list}
 use Rattle.ptpm_codec.specs.Identity.{same_clock}
-use Rattle.ptpm_codec.specs.declared.identity.ClockIdentity.{ClockIdentity}
-use Rattle.ptpm_codec.specs.declared.identity.PortIdentity.{PortIdentity}
 use Rattle.ptpm_site.specs.declared.answer.Answer.{Answer}
-use Rattle.ptpm_site.specs.declared.asked.Asked.{Asked}
+use Rattle.ptpm_site.specs.declared.answer.Request.{Request}
 use Rattle.ptpm_site.specs.declared.clock.Heard.{Heard}
 use Rattle.ptpm_site.specs.declared.data_sets.CurrentDataSet.{CurrentDataSet}
 use Rattle.ptpm_site.specs.declared.data_sets.DefaultDataSet.{DefaultDataSet}
@@ -56,6 +54,10 @@ port_told n _ = None
 
 abbrev pub heard : {A : Type 0} → (Told → Option A) → Answer → Option (Heard A)
 heard says a = option_map (λ set. record { request = a.request; set = set }) (says a.told)
+
+-- the same of a request and what came to it
+abbrev pub heard_now : {A : Type 0} → (Told → Option A) → Request → Told → List (Heard A)
+heard_now says request t = option_to_list (option_map (λ set. record { request = request; set = set }) (says t))
 
 -- of all answers of a clock, those that tell this, in the order of their lines
 abbrev pub all_heard : {A : Type 0} → (Told → Option A) → Source → List Answer → List (Heard A)

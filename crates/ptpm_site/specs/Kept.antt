@@ -1,8 +1,9 @@
 -- What the program keeps of a site, as what counts of it.
-use Rattle.std.specs.Prelude.{ℕ, Bool, List, Option, Some, None, is_some, option_and_then}
+use Rattle.std.specs.Prelude.{ℕ, Bool, List, [], Option, is_some, option_and_then}
 use Rattle.std.specs.declared.cmp.Ordering.{Ordering}
 use Rattle.std.specs.BTreeMap.{BTreeMap, get}
 use Rattle.std.specs.Cmp.Lexicographic.{slice_cmp}
+use Rattle.std.specs.Option.{option_map_or}
 use Rattle.std.specs.Ordering.{nat_cmp, ordering_then}
 use Rattle.ptpm_site.specs.declared.clock.Clock.{Clock}
 use Rattle.ptpm_site.specs.declared.clock.Heard.{Heard}
@@ -25,6 +26,10 @@ clock_at site s = get source_cmp site.clocks s
 
 abbrev pub port_kept : Clock → ℕ → Option PortDataSet
 port_kept c n = option_and_then (λ heard. counting heard.items) (get nat_cmp c.ports n)
+
+-- what is kept of the answers that tell of a port, in the order of their lines
+abbrev pub port_heard : Clock → ℕ → List (Heard PortDataSet)
+port_heard c n = option_map_or (λ heard. heard.items) (get nat_cmp c.ports n) []
 
 abbrev pub kept : Site → Telling
 kept site = record {

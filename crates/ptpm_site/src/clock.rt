@@ -1,8 +1,8 @@
 //! What the answers tell of one clock.
 
-ghost use Rattle.std.specs.Prelude.{◌≡◌};
-ghost use Rattle.ptpm_site.specs.Answers.{counting};
-ghost use Rattle.ptpm_site.specs.Kept.{port_kept};
+ghost use Rattle.std.specs.Prelude.{◌≡◌, ℕ, ◌++◌, OnOk};
+ghost use Rattle.ptpm_site.specs.Answers.{counting, current_told, default_told, heard_now, parent_told, port_told, time_told};
+ghost use Rattle.ptpm_site.specs.Kept.{port_heard, port_kept};
 
 use crate::answer::Request;
 use crate::asked::Asked;
@@ -54,7 +54,18 @@ impl Clock {
         alloc: Global,
         request: Request,
         told: Told,
-    ) -> Result<(), AllocError> {
+    ) -> Result<(), AllocError>
+        ensures defaults { OnOk result (self.new.defaults.items
+            ≡ self.old.defaults.items ++ heard_now default_told request told) }
+        ensures currents { OnOk result (self.new.currents.items
+            ≡ self.old.currents.items ++ heard_now current_told request told) }
+        ensures parents { OnOk result (self.new.parents.items
+            ≡ self.old.parents.items ++ heard_now parent_told request told) }
+        ensures times { OnOk result (self.new.times.items
+            ≡ self.old.times.items ++ heard_now time_told request told) }
+        ensures ports { OnOk result ((n : ℕ) → port_heard self.new n
+            ≡ port_heard self.old n ++ heard_now (port_told n) request told) }
+    {
         match told {
             Told::Default(set) => self.defaults.push(Heard { request, set })?,
             Told::Current(set) => self.currents.push(Heard { request, set })?,

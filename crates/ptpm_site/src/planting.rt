@@ -40,9 +40,9 @@ impl Planting {
         ensures stays { OnOk result (StaysMarked self.old.marks.items self.new.marks.items) }
     {
         self.put(forest, place, depth)?;
-        for _ in 0..usize::MAX {
+        'grow: for _ in 0..usize::MAX {
             let Some((below, deeper)) = self.waiting.pop() else {
-                break;
+                break 'grow;
             };
             self.put(forest, below, deeper)?;
         }
@@ -107,7 +107,7 @@ fn cover(marks: &mut Vec<bool>, place: usize) -> Result<(), AllocError>
     ensures room { OnOk result (place < vec_len marks.new) }
     ensures same { (p : ℕ) → slice_index_or marks.new.items p false ≡ slice_index_or marks.old.items p false }
 {
-    for _ in marks.len()..=place {
+    while marks.len() <= place {
         marks.push(false)?;
     }
     Ok(())
