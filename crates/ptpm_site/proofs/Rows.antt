@@ -30,7 +30,12 @@ pub IsGrown-clock : (marks : List Bool) (rows : List Row) (p depth : ℕ)
     → p < length marks
     → get_or marks p false ≡ false
     → IsGrown (set marks p true) (rows ++ row.Clock p depth ∷ [])
-IsGrown-clock marks rows p depth h within none q = ?
+IsGrown-clock marks rows p depth h within none q =
+    ⊎_elim (λ e. let there : get_or (set marks p true) p false ≡ true = get_or-set_same marks p true false within in
+    let before = h p in grind (arith, rows_at-clock rows p depth q))
+    (λ ne. let other : q ≢ p = λ e. ne (sym e) in
+    let there = get_or-set_other marks p q true false other in let before = h q in grind (arith, rows_at-clock rows p depth q))
+    (cases_eq p q)
 
 pub IsGrown-not_seen : (marks : List Bool) (rows : List Row) (domain : ℕ) (parent : PortIdentity) → IsGrown marks rows → IsGrown marks (rows ++ row.NotSeen domain parent ∷ [])
 IsGrown-not_seen marks rows domain parent h q = rows_at-not_seen rows domain parent q ∙ h q
