@@ -19,6 +19,7 @@ mod grandmasters;
 mod intervals;
 mod json;
 mod judging;
+pub mod laws;
 mod limits;
 mod loops;
 mod member;

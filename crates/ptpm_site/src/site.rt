@@ -1,6 +1,7 @@
 //! The clocks of a site, by the answers that were taken.
 
-ghost use Rattle.std.specs.Prelude.{◌≡◌};
+ghost use Rattle.std.specs.Prelude.{◌≡◌, [], OnOk};
+ghost use Rattle.ptpm_site.specs.Keeping.{Keeps, Takes};
 ghost use Rattle.ptpm_site.specs.Kept.{kept};
 
 use crate::answer::Answer;
@@ -31,14 +32,18 @@ pub(crate) struct LeftOut {
 
 impl Site {
     /// A site of which nothing is known.
-    pub(crate) fn new(alloc: Global) -> Site {
+    pub(crate) fn new(alloc: Global) -> Site
+        ensures { Keeps result [] }
+    {
         Site {
             clocks: BTreeMap::new(alloc),
         }
     }
 
     /// Takes an answer, behind all earlier ones.
-    pub(crate) fn take(&mut self, alloc: Global, answer: Answer) -> Result<(), AllocError> {
+    pub(crate) fn take(&mut self, alloc: Global, answer: Answer) -> Result<(), AllocError>
+        ensures { OnOk result (Takes self.old self.new answer) }
+    {
         let Answer {
             source,
             request,
