@@ -4,7 +4,6 @@ use Rattle.std.specs.List.{filter, filter_map, list_any, cons_option}
 use Rattle.std.specs.Option.{is_some, option_map, option_map_or, option_and_then, option_to_list}
 use Rattle.std.proofs.lemmas.List.Elements.{filter-append, filter_map-append}
 use Rattle.std.proofs.lemmas.List.Folds.{list_any-append}
-use Rattle.std.proofs.lemmas.Bool.{or-false}
 use Rattle.ptpm_site.specs.declared.answer.Answer.{Answer}
 use Rattle.ptpm_site.specs.declared.clock.Clock.{Clock}
 use Rattle.ptpm_site.specs.declared.clock.Heard.{Heard}
@@ -35,9 +34,13 @@ all_heard-more says s answers a =
     ∙ filter_map-append (heard says) (answers_of s answers) (filter (λ x. same_source s x.source) (a ∷ []))
     ∙ ap (λ l. all_heard says s answers ++ l) (here says s a (same_source s a.source))
 
+or_none : (b : Bool) → (b || false) ≡ b
+or_none true = refl
+or_none false = refl
+
 pub is_seen-more : (s : Source) (answers : List Answer) (a : Answer) → is_seen s (answers ++ a ∷ []) ≡ (is_seen s answers || same_source s a.source)
 is_seen-more s answers a =
-    list_any-append (λ x. same_source s x.source) answers (a ∷ []) ∙ ap (λ b. is_seen s answers || b) (or-false (same_source s a.source))
+    list_any-append (λ x. same_source s x.source) answers (a ∷ []) ∙ ap (λ b. is_seen s answers || b) (or_none (same_source s a.source))
 
 kept_more : {A : Type 0} → (says : Told → Option A) (s : Source) (answers : List Answer) (a : Answer) (old new : List (Heard A))
     → new ≡ old ++ added says s a

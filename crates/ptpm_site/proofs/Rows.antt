@@ -1,5 +1,5 @@
 -- Rows that are added to a tree, and marks.
-use Rattle.std.proofs.Common.{◌≡◌, ℕ, ◌+◌, ◌<◌, ◌≢◌, ◌==◌, Bool, true, false, cond, List, [], ◌∷◌, ◌++◌, length, get_or, set, refl, ap, sym, ◌∙◌, arith, ⊎_elim}
+use Rattle.std.proofs.Common.{◌≡◌, ℕ, ◌+◌, ◌<◌, ◌≢◌, ◌==◌, Bool, true, false, cond, zero, suc, List, [], ◌∷◌, ◌++◌, length, get_or, set, refl, ap, sym, ◌∙◌, arith, ⊎_elim}
 use Rattle.std.proofs.lemmas.Grind.{common_steps}
 use Rattle.std.proofs.lemmas.Bool.{cases_eq}
 use Rattle.std.proofs.lemmas.List.{get_or-set_same, get_or-set_other}
@@ -11,9 +11,9 @@ use Rattle.ptpm_site.specs.Tree.{IsGrown, place_of, places_of, rows_at}
 
 -- no mark behind the last is as good as one that says no
 pub get_or-more_false : (xs : List Bool) (p : ℕ) → get_or (xs ++ false ∷ []) p false ≡ get_or xs p false
-get_or-more_false [] 0 = refl
+get_or-more_false [] zero = refl
 get_or-more_false [] (suc p) = refl
-get_or-more_false (x ∷ xs) 0 = refl
+get_or-more_false (x ∷ xs) zero = refl
 get_or-more_false (x ∷ xs) (suc p) = get_or-more_false xs p
 
 -- one more row of a clock

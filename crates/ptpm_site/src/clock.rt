@@ -11,6 +11,7 @@ use crate::data_sets::{
 };
 use crate::description::Description;
 use crate::told::Told;
+use ptpm_data::PortState;
 use std::alloc::{AllocError, Global};
 use std::collections::BTreeMap;
 
@@ -129,11 +130,11 @@ impl Clock {
         last_of(self.ports.get(&number)?.as_slice())
     }
 
-    /// Whether a port that answered is so.
-    pub(crate) fn has_port<F: Fn(&PortDataSet) -> bool>(&self, is_so: F) -> bool {
+    /// Whether a port that answered is in one of these states.
+    pub(crate) fn has_port_in(&self, states: &[PortState]) -> bool {
         for heard in self.ports.values() {
             if let Some(set) = last_of(heard.as_slice()) {
-                if is_so(&set) {
+                if set.is_in(states) {
                     return true;
                 }
             }

@@ -69,7 +69,7 @@ impl Columns {
         if let Some(current) = clock.current() {
             steps = format!(in alloc; "{}", current.steps_removed)?;
             delay = format!(in alloc; "{} ns", Whole(current.mean_delay))?;
-            if clock.has_port(|set| set.state == Some(PortState::Slave)) {
+            if clock.has_port_in(&[PortState::Slave]) {
                 offset = format!(in alloc; "{} ns", Whole(current.offset_from_master))?;
             }
         }

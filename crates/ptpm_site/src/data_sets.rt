@@ -202,6 +202,14 @@ impl PortDataSet {
         Some((port_at(octets, 0), set))
     }
 
+    /// Whether the port is in one of these states.
+    pub(crate) fn is_in(&self, states: &[PortState]) -> bool {
+        match self.state {
+            Some(state) => states.contains(&state),
+            None => false,
+        }
+    }
+
     /// Whether the port takes time from a master, or is about to.
     pub(crate) fn is_following(&self) -> bool
         ensures { result ≡ is_following self.now.state }

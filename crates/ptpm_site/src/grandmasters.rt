@@ -1,7 +1,6 @@
 //! Grandmasters: whether there are two, none, or one that was not seen.
 
 use crate::clock::Clock;
-use crate::data_sets::PortDataSet;
 use crate::site::Site;
 use crate::source::Source;
 use ptpm_codec::ClockIdentity;
@@ -34,26 +33,20 @@ impl Leading {
 /// Whether a clock is its own grandmaster and has a port in MASTER.
 pub(crate) fn leads(source: Source, clock: &Clock) -> bool {
     match clock.parent() {
-        Some(set) => set.grandmaster == source.clock && clock.has_port(is_master),
+        Some(set) => set.grandmaster == source.clock && clock.has_port_in(&[PortState::Master]),
         None => false,
     }
 }
 
-fn is_master(set: &PortDataSet) -> bool {
-    set.state == Some(PortState::Master)
-}
+/// In these states a port gives time, is about to, or stands by.
+static GIVING: [PortState; 3] = [
+    PortState::Master,
+    PortState::PreMaster,
+    PortState::Passive,
+];
 
-fn is_passive(set: &PortDataSet) -> bool {
-    set.state == Some(PortState::Passive)
-}
-
-fn leads_or_stands_by(set: &PortDataSet) -> bool {
-    set.is_leading() || is_passive(set)
-}
-
-fn is_following(set: &PortDataSet) -> bool {
-    set.is_following()
-}
+/// In these states a port takes time, or is about to.
+static TAKING: [PortState; 2] = [PortState::Slave, PortState::Uncalibrated];
 
 /// Why a clock has no master.
 #[derive(Clone, Copy)]
@@ -77,13 +70,13 @@ pub(crate) fn masterless_reason(source: Source, clock: &Clock) -> Option<Masterl
         if default.slave_only {
             return Some(Masterless::SlaveOnly);
         }
-        if !clock.has_port(leads_or_stands_by) {
+        if !clock.has_port_in(&GIVING) {
             return Some(Masterless::Silent);
         }
         return None;
     }
-    let stands_by = default.quality.class < 128 && clock.has_port(is_passive);
-    if clock.has_port(is_following) || stands_by {
+    let stands_by = default.quality.class < 128 && clock.has_port_in(&[PortState::Passive]);
+    if clock.has_port_in(&TAKING) || stands_by {
         return None;
     }
     Some(Masterless::Lost(parent.grandmaster))

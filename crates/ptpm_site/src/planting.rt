@@ -1,7 +1,7 @@
 //! Each clock gets its row in the tree once.
 
 ghost use Rattle.std.specs.Prelude.{◌≡◌, true, false, ℕ, ◌<◌, slice_index_or, vec_len, OnOk, IfOk};
-ghost use Rattle.ptpm_site.specs.Tree.{IsGrown, StandsOnce, StaysMarked};
+ghost use Rattle.ptpm_site.specs.Tree.{IsGrown, StandsOnce, StaysMarked, rows_at};
 
 use crate::forest::Forest;
 use crate::tree::Row;
@@ -57,27 +57,13 @@ impl Planting {
         if is_marked(self.marks.as_slice(), place) {
             return Ok(());
         }
-        cover(&mut self.marks, place)?;
-        self.rows.push(Row::Clock { place, depth })?;
-        self.marks[place] = true;
-        self.wait(forest, place, depth)
-    }
-
-    /// Those that follow a clock are next, the first last.
-    fn wait(&mut self, forest: &Forest, place: usize, depth: u32) -> Result<(), AllocError>
-        ensures { self.new.marks ≡ self.old.marks }
-    {
-        for follower in forest.followers_of(place).iter().rev() {
-            self.waiting
-                .push((follower.place, depth.saturating_add(1)))?;
-        }
-        Ok(())
+        add_clock(&mut self.rows, &mut self.marks, place, depth)?;
+        wait_below(&mut self.waiting, forest, place, depth)
     }
 
     /// A row that names a port whose clock is not seen.
     pub(crate) fn name(&mut self, domain: u8, parent: PortIdentity) -> Result<(), AllocError> {
-        self.rows.push(Row::NotSeen { domain, parent })?;
-        Ok(())
+        add_port(&mut self.rows, domain, parent)
     }
 
     /// The rows. A clock that has none yet gets one at depth 0.
@@ -92,6 +78,19 @@ impl Planting {
     }
 }
 
+/// Those that follow a clock are next, the first last.
+fn wait_below(
+    waiting: &mut Vec<(usize, u32)>,
+    forest: &Forest,
+    place: usize,
+    depth: u32,
+) -> Result<(), AllocError> {
+    for follower in forest.followers_of(place).iter().rev() {
+        waiting.push((follower.place, depth.saturating_add(1)))?;
+    }
+    Ok(())
+}
+
 /// Whether the clock at a place has its row.
 fn is_marked(marks: &[bool], place: usize) -> bool
     ensures { result ≡ slice_index_or marks.now place false }
@@ -100,6 +99,33 @@ fn is_marked(marks: &[bool], place: usize) -> bool
         Some(mark) => *mark,
         None => false,
     }
+}
+
+/// A row for a clock that has none, and its mark.
+fn add_clock(
+    rows: &mut Vec<Row>,
+    marks: &mut Vec<bool>,
+    place: usize,
+    depth: u32,
+) -> Result<(), AllocError>
+    requires grown { IsGrown marks.old.items rows.old.items }
+    requires none { slice_index_or marks.old.items place false ≡ false }
+    ensures grown { IsGrown marks.new.items rows.new.items }
+    ensures marked { OnOk result (slice_index_or marks.new.items place false ≡ true) }
+    ensures stays { StaysMarked marks.old.items marks.new.items }
+{
+    cover(marks, place)?;
+    rows.push(Row::Clock { place, depth })?;
+    marks[place] = true;
+    Ok(())
+}
+
+/// A row that names a port.
+fn add_port(rows: &mut Vec<Row>, domain: u8, parent: PortIdentity) -> Result<(), AllocError>
+    ensures { (p : ℕ) → rows_at p rows.new.items ≡ rows_at p rows.old.items }
+{
+    rows.push(Row::NotSeen { domain, parent })?;
+    Ok(())
 }
 
 /// Makes room for the mark of a place; what is marked stays so.
