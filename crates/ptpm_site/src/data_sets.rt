@@ -214,10 +214,7 @@ impl PortDataSet {
     pub(crate) fn is_following(&self) -> bool
         ensures { result ≡ is_following self.now.state }
     {
-        matches!(
-            self.state,
-            Some(PortState::Slave | PortState::Uncalibrated)
-        )
+        matches!(self.state, Some(PortState::Slave | PortState::Uncalibrated))
     }
 
     /// Whether the port gives time, or is about to.

@@ -33,8 +33,7 @@ fn number_differs(member: Member, own: i64, other: i64) -> Option<Differs>
 }
 
 /// The member, where the flags differ.
-fn flag_differs(member: Member, own: bool, other: bool) -> Option<Differs>
-{
+fn flag_differs(member: Member, own: bool, other: bool) -> Option<Differs> {
     if own == other {
         return None;
     }

@@ -16,8 +16,18 @@ pub(crate) fn finding_value(alloc: Global, finding: &Finding<'_>) -> Result<Valu
     let mut map = Map::new(alloc);
     let source = finding.source;
     put(&mut map, alloc, "domainNumber", Value::from(source.domain))?;
-    put(&mut map, alloc, "clockIdentity", identity_value(alloc, source.clock)?)?;
-    put(&mut map, alloc, "finding", text_value(alloc, finding.what.name())?)?;
+    put(
+        &mut map,
+        alloc,
+        "clockIdentity",
+        identity_value(alloc, source.clock)?,
+    )?;
+    put(
+        &mut map,
+        alloc,
+        "finding",
+        text_value(alloc, finding.what.name())?,
+    )?;
     put_values(alloc, &mut map, &finding.what)?;
     Ok(Value::Object(map))
 }
@@ -30,10 +40,25 @@ fn put_values(
     match what {
         What::TwoGrandmasters => Ok(()),
         What::NoMaster(why) => put_masterless(alloc, map, why),
-        What::GrandmasterNotSeen(clock) => put(map, alloc, "grandmasterIdentity", identity_value(alloc, *clock)?),
-        What::ParentNotSeen(parent) => put(map, alloc, "parentPortIdentity", port_value(alloc, *parent)?),
+        What::GrandmasterNotSeen(clock) => put(
+            map,
+            alloc,
+            "grandmasterIdentity",
+            identity_value(alloc, *clock)?,
+        ),
+        What::ParentNotSeen(parent) => put(
+            map,
+            alloc,
+            "parentPortIdentity",
+            port_value(alloc, *parent)?,
+        ),
         What::ParentNotMaster(parent, why) => {
-            put(map, alloc, "parentPortIdentity", port_value(alloc, *parent)?)?;
+            put(
+                map,
+                alloc,
+                "parentPortIdentity",
+                port_value(alloc, *parent)?,
+            )?;
             let state = match why {
                 NoMaster::NoPort => Value::Null,
                 NoMaster::InState(state) => text_value(alloc, state_name(*state))?,
@@ -51,7 +76,12 @@ fn put_values(
         }
         What::PortState(port, state) => {
             put(map, alloc, "portNumber", Value::from(*port))?;
-            put(map, alloc, "portState", text_value(alloc, state_name(Some(*state)))?)
+            put(
+                map,
+                alloc,
+                "portState",
+                text_value(alloc, state_name(Some(*state)))?,
+            )
         }
         What::Offset(offset) => put(map, alloc, "offsetFromMaster", Value::from(*offset)),
         What::Delay(delay) => put(map, alloc, "meanDelay", Value::from(*delay)),
@@ -87,11 +117,7 @@ fn put_masterless(
     put(map, alloc, "reason", text_value(alloc, reason)?)
 }
 
-fn put_steps(
-    alloc: Global,
-    map: &mut Map<String, Value>,
-    steps: &Steps,
-) -> Result<(), AllocError> {
+fn put_steps(alloc: Global, map: &mut Map<String, Value>, steps: &Steps) -> Result<(), AllocError> {
     put(map, alloc, "stepsRemoved", Value::from(steps.steps))?;
     let parent = match steps.parent {
         Some(parent) => Value::from(parent),
@@ -106,7 +132,12 @@ fn put_differs(
     map: &mut Map<String, Value>,
     differs: &Differs,
 ) -> Result<(), AllocError> {
-    put(map, alloc, "member", text_value(alloc, differs.member.name())?)?;
+    put(
+        map,
+        alloc,
+        "member",
+        text_value(alloc, differs.member.name())?,
+    )?;
     put(map, alloc, "value", member_value(alloc, differs.own)?)?;
     put(map, alloc, "expected", member_value(alloc, differs.other)?)
 }
@@ -139,7 +170,12 @@ fn put_change(
     if let Some(port) = port {
         put(map, alloc, "portNumber", Value::from(port))?;
     }
-    put(map, alloc, "member", text_value(alloc, change.member.name())?)?;
+    put(
+        map,
+        alloc,
+        "member",
+        text_value(alloc, change.member.name())?,
+    )?;
     put(map, alloc, "before", member_value(alloc, change.before)?)?;
     put(map, alloc, "after", member_value(alloc, change.after)?)
 }

@@ -39,11 +39,7 @@ pub(crate) fn leads(source: Source, clock: &Clock) -> bool {
 }
 
 /// In these states a port gives time, is about to, or stands by.
-static GIVING: [PortState; 3] = [
-    PortState::Master,
-    PortState::PreMaster,
-    PortState::Passive,
-];
+static GIVING: [PortState; 3] = [PortState::Master, PortState::PreMaster, PortState::Passive];
 
 /// In these states a port takes time, or is about to.
 static TAKING: [PortState; 2] = [PortState::Slave, PortState::Uncalibrated];
@@ -83,7 +79,11 @@ pub(crate) fn masterless_reason(source: Source, clock: &Clock) -> Option<Masterl
 }
 
 /// The grandmaster that a clock names, where it is not seen.
-pub(crate) fn unseen_grandmaster(site: &Site, source: Source, clock: &Clock) -> Option<ClockIdentity> {
+pub(crate) fn unseen_grandmaster(
+    site: &Site,
+    source: Source,
+    clock: &Clock,
+) -> Option<ClockIdentity> {
     let parent = clock.parent()?;
     if site.sees(source.beside(parent.grandmaster)) {
         None

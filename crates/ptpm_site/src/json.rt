@@ -36,7 +36,10 @@ impl Picture<'_> {
             between = ",\n";
         }
         let (clocks, ports) = (self.left_out.clocks, self.left_out.ports);
-        writeln!(out, "],\n\"leftOut\":{{\"clocks\":{clocks},\"ports\":{ports}}}}}")?;
+        writeln!(
+            out,
+            "],\n\"leftOut\":{{\"clocks\":{clocks},\"ports\":{ports}}}}}"
+        )?;
         Ok(())
     }
 }
@@ -61,12 +64,37 @@ fn print_value<O: Write>(
 /// A clock: its identity, and what it told, of each id by the id's name.
 fn clock_value(alloc: Global, source: Source, clock: &Clock) -> Result<Value, AllocError> {
     let mut map = Map::new(alloc);
-    put(&mut map, alloc, "clockIdentity", identity_value(alloc, source.clock)?)?;
-    put_last(alloc, &mut map, "DEFAULT_DATA_SET", clock.defaults.as_slice())?;
-    put_last(alloc, &mut map, "CURRENT_DATA_SET", clock.currents.as_slice())?;
+    put(
+        &mut map,
+        alloc,
+        "clockIdentity",
+        identity_value(alloc, source.clock)?,
+    )?;
+    put_last(
+        alloc,
+        &mut map,
+        "DEFAULT_DATA_SET",
+        clock.defaults.as_slice(),
+    )?;
+    put_last(
+        alloc,
+        &mut map,
+        "CURRENT_DATA_SET",
+        clock.currents.as_slice(),
+    )?;
     put_last(alloc, &mut map, "PARENT_DATA_SET", clock.parents.as_slice())?;
-    put_last(alloc, &mut map, "TIME_PROPERTIES_DATA_SET", clock.times.as_slice())?;
-    put_last(alloc, &mut map, "USER_DESCRIPTION", clock.descriptions.as_slice())?;
+    put_last(
+        alloc,
+        &mut map,
+        "TIME_PROPERTIES_DATA_SET",
+        clock.times.as_slice(),
+    )?;
+    put_last(
+        alloc,
+        &mut map,
+        "USER_DESCRIPTION",
+        clock.descriptions.as_slice(),
+    )?;
     let mut ports = Vec::new(alloc);
     for (number, heard) in clock.ports.iter() {
         if let Some(last) = heard.last() {
@@ -75,7 +103,12 @@ fn clock_value(alloc: Global, source: Source, clock: &Clock) -> Result<Value, Al
                 clock: source.clock,
                 port: *number,
             };
-            put(&mut port, alloc, "portIdentity", port_value(alloc, identity)?)?;
+            put(
+                &mut port,
+                alloc,
+                "portIdentity",
+                port_value(alloc, identity)?,
+            )?;
             ports.push(Value::Object(port))?;
         }
     }

@@ -4,7 +4,9 @@ use crate::amounts::{large_delay, large_link_delay, large_offset};
 use crate::changes::{Change, first_change, first_contradiction, is_said_otherwise};
 use crate::clock::{Clock, Heard, last_of};
 use crate::completeness::missing_answers;
-use crate::differences::{Differs, grandmaster_differs, intervals_differ, other_grandmaster, utc_differs};
+use crate::differences::{
+    Differs, grandmaster_differs, intervals_differ, other_grandmaster, utc_differs,
+};
 use crate::finding::{Finding, What};
 use crate::grandmasters::{Leading, masterless_reason, unseen_grandmaster};
 use crate::limits::Limits;
@@ -106,7 +108,11 @@ impl<'a> Judge<'a> {
         }
     }
 
-    fn find_grandmaster(&mut self, source: Source, differs: Option<Differs>) -> Result<(), AllocError> {
+    fn find_grandmaster(
+        &mut self,
+        source: Source,
+        differs: Option<Differs>,
+    ) -> Result<(), AllocError> {
         match differs {
             Some(differs) => self.find(source, What::GrandmasterDiffers(differs)),
             None => Ok(()),
@@ -193,7 +199,10 @@ impl<'a> Judge<'a> {
         let Some(own) = clock.parent() else {
             return Ok(());
         };
-        let Some(parent) = self.site.port(source.beside(own.parent.clock), own.parent.port) else {
+        let Some(parent) = self
+            .site
+            .port(source.beside(own.parent.clock), own.parent.port)
+        else {
             return Ok(());
         };
         for (port, heard) in clock.ports.iter() {
@@ -217,7 +226,12 @@ impl<'a> Judge<'a> {
         self.find_changes(source, clock, Sort::Twice)
     }
 
-    fn find_changes(&mut self, source: Source, clock: &'a Clock, sort: Sort) -> Result<(), AllocError> {
+    fn find_changes(
+        &mut self,
+        source: Source,
+        clock: &'a Clock,
+        sort: Sort,
+    ) -> Result<(), AllocError> {
         self.find_in(source, None, clock.defaults.as_slice(), sort)?;
         self.find_in(source, None, clock.currents.as_slice(), sort)?;
         self.find_in(source, None, clock.parents.as_slice(), sort)?;
@@ -229,7 +243,13 @@ impl<'a> Judge<'a> {
     }
 
     /// The changes, or the contradictions, among the answers of one data set.
-    fn find_in<T: DataSet>(&mut self, source: Source, port: Option<u16>, heard: &'a [Heard<T>], sort: Sort) -> Result<(), AllocError> {
+    fn find_in<T: DataSet>(
+        &mut self,
+        source: Source,
+        port: Option<u16>,
+        heard: &'a [Heard<T>],
+        sort: Sort,
+    ) -> Result<(), AllocError> {
         for member in T::members() {
             if member.is_moving() || !is_said_otherwise(heard, *member) {
                 continue;

@@ -11,11 +11,9 @@ ghost use Rattle.ptpm_site.specs.Telling.{IsToldAlike, told_by};
 pub fn kept_law()
     ensures step { (old new : Site) (answers : List Answer) (a : Answer) → Takes old new a → Keeps old answers → Keeps new (answers ++ a ∷ []) }
     ensures told { (site : Site) (answers : List Answer) → Keeps site answers → kept site ≡ told_by answers }
-{
-}
+{}
 
 /// The order of the lines does not matter but for the lines of one clock to one id, and of one port.
 pub fn order_law()
     ensures { (xs ys : List Answer) → IsToldAlike xs ys → told_by xs ≡ told_by ys }
-{
-}
+{}

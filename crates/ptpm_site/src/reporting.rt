@@ -54,8 +54,9 @@ pub fn report<R: Read + Drop, O: Write>(
 ) -> Result<Outcome, Fault> {
     let mut site = read_site(alloc, reader)?;
     let left_out = site.keep_first();
-    let picture =
-        Picture::of(alloc, &site, left_out, options.limits).map_err(|_| Fault::OutOfMemory)?;
+    let picture = Picture::of(alloc, &site, left_out, options.limits).map_err(
+        |_| Fault::OutOfMemory,
+    )?;
     match options.form {
         Form::Text => picture.print(alloc, out)?,
         Form::Json => picture.print_json(alloc, out)?,

@@ -6,7 +6,9 @@ ghost use Rattle.ptpm_site.specs.Kept.{kept};
 
 use crate::answer::Answer;
 use crate::clock::Clock;
-use crate::data_sets::{CurrentDataSet, DefaultDataSet, ParentDataSet, PortDataSet, TimePropertiesDataSet};
+use crate::data_sets::{
+    CurrentDataSet, DefaultDataSet, ParentDataSet, PortDataSet, TimePropertiesDataSet,
+};
 use crate::source::Source;
 use std::alloc::{AllocError, Global};
 use std::collections::BTreeMap;

@@ -1,11 +1,11 @@
 //! A finding as a line of text.
 
 use crate::changes::Change;
+use crate::completeness::Missing;
 use crate::differences::Differs;
 use crate::finding::{Finding, What};
 use crate::grandmasters::Masterless;
 use crate::intervals::Exact;
-use crate::completeness::Missing;
 use crate::member::state_name;
 use crate::parents::{NoMaster, Steps};
 use ptpm_codec::PortIdentity;
@@ -92,7 +92,11 @@ fn write_no_master<W: fmt::Write>(
 
 fn write_steps<W: fmt::Write>(steps: &Steps, f: &mut fmt::Formatter<W>) -> fmt::Result {
     match steps.parent {
-        Some(parent) => write!(f, " stepsRemoved {}, and its parent has {parent}", steps.steps),
+        Some(parent) => write!(
+            f,
+            " stepsRemoved {}, and its parent has {parent}",
+            steps.steps
+        ),
         None => write!(f, " stepsRemoved {} at a grandmaster", steps.steps),
     }
 }

@@ -141,10 +141,18 @@ impl Picture<'_> {
 
     fn print_left_out<O: Write>(&self, out: &mut O) -> io::Result<()> {
         if self.left_out.clocks != 0 {
-            writeln!(out, "left out: {} clocks behind the first {CLOCKS}", self.left_out.clocks)?;
+            writeln!(
+                out,
+                "left out: {} clocks behind the first {CLOCKS}",
+                self.left_out.clocks
+            )?;
         }
         if self.left_out.ports != 0 {
-            writeln!(out, "left out: {} ports behind the first {PORTS}", self.left_out.ports)?;
+            writeln!(
+                out,
+                "left out: {} ports behind the first {PORTS}",
+                self.left_out.ports
+            )?;
         }
         Ok(())
     }
@@ -211,7 +219,11 @@ fn lines_of(findings: &[Finding<'_>], unseen: &[Source]) -> usize {
 }
 
 /// Prints those grandmasters that are not seen and stand before a clock, or all; what is left of them.
-fn print_unseen<'a, O: Write>(unseen: &'a [Source], before: Option<Source>, out: &mut O) -> io::Result<&'a [Source]> {
+fn print_unseen<'a, O: Write>(
+    unseen: &'a [Source],
+    before: Option<Source>,
+    out: &mut O,
+) -> io::Result<&'a [Source]> {
     let mut rest = unseen;
     for _ in 0..unseen.len() {
         let Some(first) = rest.first() else {
@@ -222,8 +234,15 @@ fn print_unseen<'a, O: Write>(unseen: &'a [Source], before: Option<Source>, out:
         }
         let count = rest.partition_point(|source| source <= first);
         let (domain, clock) = (first.domain, first.clock);
-        let names = if count == 1 { "clock names" } else { "clocks name" };
-        writeln!(out, "{domain} {clock} grandmaster_not_seen {count} {names} it")?;
+        let names = if count == 1 {
+            "clock names"
+        } else {
+            "clocks name"
+        };
+        writeln!(
+            out,
+            "{domain} {clock} grandmaster_not_seen {count} {names} it"
+        )?;
         let (_, others) = rest.split_at(count);
         rest = others;
     }

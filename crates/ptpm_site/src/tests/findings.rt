@@ -26,7 +26,13 @@ fn nothing(rt: HostRuntime) -> Result<(), Fail> {
 fn two_grandmasters(rt: HostRuntime) -> Result<(), Fail> {
     let alloc = rt.alloc();
     let both = [grandmaster(1), slave(2), grandmaster(3)];
-    assert!(rt; finds_of(alloc, &both, &["01 two_grandmasters", "03 two_grandmasters"])?);
+    assert!(rt;
+        finds_of(
+            alloc,
+            &both,
+            &["01 two_grandmasters", "03 two_grandmasters"]
+        )?
+    );
     let mut stands_by = grandmaster(3);
     stands_by.port.state = Some(PortState::Passive);
     assert!(rt; finds_of(alloc, &[grandmaster(1), stands_by], &[])?);

@@ -22,7 +22,9 @@ fn shuffled(alloc: Global, count: usize, seed: u64) -> Result<Vec<usize>, Fail> 
     }
     let mut drawn = seed;
     for place in 0..places.len() {
-        drawn = drawn.wrapping_mul(6_364_136_223_846_793_005).wrapping_add(1_442_695_040_888_963_407);
+        drawn = drawn
+            .wrapping_mul(6_364_136_223_846_793_005)
+            .wrapping_add(1_442_695_040_888_963_407);
         let other = (drawn >> 33) as usize % count.max(1);
         if place < places.len() && other < places.len() {
             places.as_mut_slice().swap(place, other);
