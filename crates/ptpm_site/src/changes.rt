@@ -48,8 +48,8 @@ impl<'a> Said<'a> {
     }
 }
 
-/// Of the settled values so far: the first, one of another request, and another value. Where one of all of them has another request
-/// and another value than a later answer, one of these three has.
+/// Of the settled values so far: the first, one of another request, and another value. Where one of all of them has another
+/// request and another value than a later answer, one of these three has.
 #[derive(Drop)]
 struct Settled<'a> {
     first: Option<Said<'a>>,

@@ -31,7 +31,8 @@ impl Clock {
         silent && !self.refuses(asked)
     }
 
-    /// The highest port that has to answer: numberPorts, of a clock that answered some port and refused none; else none has to.
+    /// The highest port that has to answer: numberPorts, of a clock that answered some port and refused none; else none has
+    /// to.
     fn last_port(&self) -> u16 {
         match self.default() {
             Some(default) if !self.ports.is_empty() && !self.refuses(Asked::PortDataSet) => {

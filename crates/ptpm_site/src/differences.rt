@@ -120,8 +120,8 @@ pub(crate) fn utc_differs(
     ]
 }
 
-/// What a port in SLAVE or UNCALIBRATED says otherwise than the port that it follows: logAnnounceInterval, and a delayMechanism
-/// that measures another delay.
+/// What a port in SLAVE or UNCALIBRATED says otherwise than the port that it follows: logAnnounceInterval, and a
+/// delayMechanism that measures another delay.
 pub(crate) fn intervals_differ(own: &PortDataSet, parent: &PortDataSet) -> [Option<Differs>; 2] {
     if !own.is_following() {
         return [None, None];
@@ -136,7 +136,8 @@ pub(crate) fn intervals_differ(own: &PortDataSet, parent: &PortDataSet) -> [Opti
     ]
 }
 
-/// delayMechanism, where one port measures the delay from end to end and the other that of the link; others say nothing against a link.
+/// delayMechanism, where one port measures the delay from end to end and the other that of the link; others say nothing
+/// against a link.
 fn mechanism_differs(own: &PortDataSet, parent: &PortDataSet) -> Option<Differs>
     ensures { is_some result ≡ measure_otherwise own.now.delay_mechanism parent.now.delay_mechanism }
 {

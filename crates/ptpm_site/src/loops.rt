@@ -4,8 +4,9 @@ ghost use Rattle.std.specs.Prelude.{◌<◌, length};
 
 use std::alloc::{AllocError, Global};
 
-/// The loops: of each the places of its clocks, from the least on, each followed by the one that it follows. They stand in the order of
-/// their least places. Given is the place of the clock that each clock follows, where it follows one that is seen.
+/// The loops: of each the places of its clocks, from the least on, each followed by the one that it follows. They stand in
+/// the order of their least places. Given is the place of the clock that each clock follows, where it follows one that is
+/// seen.
 pub(crate) fn loops(
     alloc: Global,
     followed: &[Option<usize>],
@@ -21,8 +22,8 @@ pub(crate) fn loops(
     Ok(loops)
 }
 
-/// Follows the clocks from a place on, and marks each that has no mark by this walk. A place of a loop, where the walk comes back to one
-/// of its own.
+/// Follows the clocks from a place on, and marks each that has no mark by this walk. A place of a loop, where the walk
+/// comes back to one of its own.
 fn walk(followed: &[Option<usize>], marks: &mut [usize], start: usize) -> Option<usize>
     requires { start < length followed.now }
 {

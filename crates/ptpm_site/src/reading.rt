@@ -8,8 +8,8 @@ use ptpm_commands::lines::Lines;
 use std::alloc::{AllocError, Global};
 use std::io::Read;
 
-/// The site that the answers among a reader's lines make. A datagram that is no answer to one of the six is passed over; a line that is
-/// no datagram in hexadecimal is a fault.
+/// The site that the answers among a reader's lines make. A datagram that is no answer to one of the six is passed over; a
+/// line that is no datagram in hexadecimal is a fault.
 pub(crate) fn read_site<R: Read + Drop>(alloc: Global, reader: R) -> Result<Site, Fault> {
     let mut lines = Lines::new(alloc, reader)?;
     let mut site = Site::new(alloc);

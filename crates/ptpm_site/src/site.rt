@@ -55,7 +55,8 @@ impl Site {
         clock.take(alloc, request, told)
     }
 
-    /// Keeps the first clocks, by domain and identity, and the first of their ports; the others are as if they had not answered.
+    /// Keeps the first clocks, by domain and identity, and the first of their ports; the others are as if they had not
+    /// answered.
     pub(crate) fn keep_first(&mut self) -> LeftOut {
         let clocks = self.clocks.len().saturating_sub(CLOCKS);
         for _ in 0..clocks {

@@ -18,8 +18,9 @@ pub enum Row {
     NotSeen { domain: u8, parent: PortIdentity },
 }
 
-/// The rows of the tree, by domain: the grandmasters, the clocks whose parent is not seen, those of loops from their least on, and those
-/// that did not say whom they follow; below each clock those that follow it, by its port, and then by identity.
+/// The rows of the tree, by domain: the grandmasters, the clocks whose parent is not seen, those of loops from their least
+/// on, and those that did not say whom they follow; below each clock those that follow it, by its port, and then by
+/// identity.
 pub(crate) fn rows(
     alloc: Global,
     site: &Site,

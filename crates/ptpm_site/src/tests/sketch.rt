@@ -177,7 +177,8 @@ pub(super) fn printed(alloc: Global, site: &mut Site, limits: Limits) -> Result<
     Ok(out)
 }
 
-/// Whether the findings of a site are these lines, without their domain and all of a clock's identity but its last two digits.
+/// Whether the findings of a site are these lines, without their domain and all of a clock's identity but its last two
+/// digits.
 pub(super) fn finds(
     alloc: Global,
     site: &mut Site,
