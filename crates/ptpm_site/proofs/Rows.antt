@@ -1,0 +1,41 @@
+-- Rows that are added to a tree, and marks.
+use Rattle.std.proofs.Common.{◌≡◌, ℕ, ◌+◌, ◌<◌, ◌≢◌, ◌==◌, Bool, true, false, cond, zero, suc, List, [], ◌∷◌, ◌++◌, length, get_or, set, refl, ap, sym, ◌∙◌, arith, ⊎_elim}
+use Rattle.std.proofs.lemmas.Grind.{common_steps}
+use Rattle.std.proofs.lemmas.Bool.{cases_eq}
+use Rattle.std.proofs.lemmas.List.{get_or-set_same, get_or-set_other}
+use Rattle.std.proofs.lemmas.List.Elements.{filter_map-append}
+use Rattle.ptpm_codec.specs.declared.identity.PortIdentity.{PortIdentity}
+use Rattle.ptpm_site.specs.declared.tree.Row.{Row}
+use Rattle.ptpm_site.specs.declared.tree.Row.TheVariants as row
+use Rattle.ptpm_site.specs.Tree.{IsGrown, place_of, places_of, rows_at}
+
+-- no mark behind the last is as good as one that says no
+pub get_or-more_false : (xs : List Bool) (p : ℕ) → get_or (xs ++ false ∷ []) p false ≡ get_or xs p false
+get_or-more_false [] zero = refl
+get_or-more_false [] (suc p) = refl
+get_or-more_false (x ∷ xs) zero = refl
+get_or-more_false (x ∷ xs) (suc p) = get_or-more_false xs p
+
+-- one more row of a clock
+pub rows_at-clock : (rows : List Row) (p depth q : ℕ) → rows_at q (rows ++ row.Clock p depth ∷ []) ≡ rows_at q rows + cond (p == q) 1 0
+rows_at-clock rows p depth q = grind (arith, common_steps, filter_map-append)
+
+-- one that names a port
+pub rows_at-not_seen : (rows : List Row) (domain : ℕ) (parent : PortIdentity) (q : ℕ) → rows_at q (rows ++ row.NotSeen domain parent ∷ []) ≡ rows_at q rows
+rows_at-not_seen rows domain parent q = grind (arith, common_steps, filter_map-append)
+
+-- a clock that has no row gets one, and its mark
+pub IsGrown-clock : (marks : List Bool) (rows : List Row) (p depth : ℕ)
+    → IsGrown marks rows
+    → p < length marks
+    → get_or marks p false ≡ false
+    → IsGrown (set marks p true) (rows ++ row.Clock p depth ∷ [])
+IsGrown-clock marks rows p depth h within none q =
+    ⊎_elim (λ e. let there : get_or (set marks p true) p false ≡ true = get_or-set_same marks p true false within in
+    let before = h p in grind (arith, rows_at-clock rows p depth q))
+    (λ ne. let other : q ≢ p = λ e. ne (sym e) in
+    let there = get_or-set_other marks p q true false other in let before = h q in grind (arith, rows_at-clock rows p depth q))
+    (cases_eq p q)
+
+pub IsGrown-not_seen : (marks : List Bool) (rows : List Row) (domain : ℕ) (parent : PortIdentity) → IsGrown marks rows → IsGrown marks (rows ++ row.NotSeen domain parent ∷ [])
+IsGrown-not_seen marks rows domain parent h q = rows_at-not_seen rows domain parent q ∙ h q

@@ -1,0 +1,14 @@
+-- What counts is the last of what was heard.
+use Rattle.std.proofs.Common.{ap}
+use Rattle.ptpm_site.specs.Answers.{counting}
+use Rattle.ptpm_site.proofs.laws.order_law.Goals as goal
+
+pub returns : goal.returns
+returns c = λ xs ys k. λ i. record {
+  seen = λ s. k.seen s i;
+  default = λ s. counting (k.defaults s i);
+  current = λ s. counting (k.currents s i);
+  parent = λ s. counting (k.parents s i);
+  time = λ s. counting (k.times s i);
+  port = λ s n. counting (k.ports s n i);
+}

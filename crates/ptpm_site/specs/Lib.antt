@@ -1,0 +1,10 @@
+pub mod Amounts
+pub mod Answers
+pub mod Differences
+pub mod Following
+pub mod Keeping
+pub mod Kept
+pub mod Parents
+pub mod PortStates
+pub mod Telling
+pub mod Tree

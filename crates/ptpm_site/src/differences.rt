@@ -1,0 +1,154 @@
+//! Where a clock says otherwise than its grandmaster or the port that it follows.
+
+ghost use Rattle.std.specs.Prelude.{◌≡◌, is_some, not};
+ghost use Rattle.std.specs.Ordering.{int_eq};
+ghost use Rattle.ptpm_codec.specs.Identity.{same_clock};
+ghost use Rattle.ptpm_site.specs.Differences.{measure_otherwise};
+
+use crate::data_sets::{
+    ClockQuality, DefaultDataSet, ParentDataSet, PortDataSet, TimePropertiesDataSet,
+};
+use crate::member::{Member, Value};
+
+/// A member that two clocks say otherwise.
+#[derive(Clone, Copy)]
+pub(crate) struct Differs {
+    pub(crate) member: Member,
+    pub(crate) own: Value<'static>,
+    pub(crate) other: Value<'static>,
+}
+
+/// The member, where the numbers differ.
+fn number_differs(member: Member, own: i64, other: i64) -> Option<Differs>
+    ensures { is_some result ≡ not (int_eq own other) }
+{
+    if own == other {
+        return None;
+    }
+    Some(Differs {
+        member,
+        own: Value::Number(own),
+        other: Value::Number(other),
+    })
+}
+
+/// The member, where the flags differ.
+fn flag_differs(member: Member, own: bool, other: bool) -> Option<Differs> {
+    if own == other {
+        return None;
+    }
+    Some(Differs {
+        member,
+        own: Value::Flag(own),
+        other: Value::Flag(other),
+    })
+}
+
+/// The member, where the ClockQualities differ.
+fn quality_differs(member: Member, own: ClockQuality, other: ClockQuality) -> Option<Differs> {
+    if own == other {
+        return None;
+    }
+    Some(Differs {
+        member,
+        own: Value::Quality(own),
+        other: Value::Quality(other),
+    })
+}
+
+/// What a clock says of its grandmaster and the grandmaster's DEFAULT_DATA_SET does not.
+pub(crate) fn grandmaster_differs(
+    own: &ParentDataSet,
+    grandmaster: &DefaultDataSet,
+) -> [Option<Differs>; 3] {
+    [
+        number_differs(
+            Member::GrandmasterPriority1,
+            own.priority1 as i64,
+            grandmaster.priority1 as i64,
+        ),
+        quality_differs(
+            Member::GrandmasterClockQuality,
+            own.quality,
+            grandmaster.quality,
+        ),
+        number_differs(
+            Member::GrandmasterPriority2,
+            own.priority2 as i64,
+            grandmaster.priority2 as i64,
+        ),
+    ]
+}
+
+/// grandmasterIdentity, where a clock names another than the clock that it follows.
+pub(crate) fn other_grandmaster(own: &ParentDataSet, parent: &ParentDataSet) -> Option<Differs>
+    ensures { is_some result ≡ not (same_clock own.now.grandmaster parent.now.grandmaster) }
+{
+    if own.grandmaster == parent.grandmaster {
+        return None;
+    }
+    Some(Differs {
+        member: Member::GrandmasterIdentity,
+        own: Value::Clock(own.grandmaster),
+        other: Value::Clock(parent.grandmaster),
+    })
+}
+
+/// What a clock says of UTC and its grandmaster does not.
+pub(crate) fn utc_differs(
+    own: &TimePropertiesDataSet,
+    grandmaster: &TimePropertiesDataSet,
+) -> [Option<Differs>; 5] {
+    [
+        number_differs(
+            Member::CurrentUtcOffset,
+            own.utc_offset as i64,
+            grandmaster.utc_offset as i64,
+        ),
+        flag_differs(
+            Member::CurrentUtcOffsetValid,
+            own.utc_valid,
+            grandmaster.utc_valid,
+        ),
+        flag_differs(
+            Member::PtpTimescale,
+            own.ptp_timescale,
+            grandmaster.ptp_timescale,
+        ),
+        flag_differs(Member::Leap59, own.leap59, grandmaster.leap59),
+        flag_differs(Member::Leap61, own.leap61, grandmaster.leap61),
+    ]
+}
+
+/// What a port in SLAVE or UNCALIBRATED says otherwise than the port that it follows: logAnnounceInterval, and a
+/// delayMechanism that measures another delay.
+pub(crate) fn intervals_differ(own: &PortDataSet, parent: &PortDataSet) -> [Option<Differs>; 2] {
+    if !own.is_following() {
+        return [None, None];
+    }
+    [
+        number_differs(
+            Member::LogAnnounceInterval,
+            own.log_announce as i64,
+            parent.log_announce as i64,
+        ),
+        mechanism_differs(own, parent),
+    ]
+}
+
+/// delayMechanism, where one port measures the delay from end to end and the other that of the link; others say nothing
+/// against a link.
+fn mechanism_differs(own: &PortDataSet, parent: &PortDataSet) -> Option<Differs>
+    ensures { is_some result ≡ measure_otherwise own.now.delay_mechanism parent.now.delay_mechanism }
+{
+    if own.measures_link() && parent.measures_end_to_end()
+        || own.measures_end_to_end() && parent.measures_link()
+    {
+        return Some(Differs {
+            member: Member::DelayMechanism,
+            own: Value::Mechanism(own.delay_mechanism),
+            other: Value::Mechanism(parent.delay_mechanism),
+        });
+    }
+    None
+}

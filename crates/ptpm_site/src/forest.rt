@@ -1,0 +1,119 @@
+//! Who follows whom, by the places of the clocks in their order.
+
+use crate::site::Site;
+use crate::source::Source;
+use ptpm_codec::PortIdentity;
+use std::alloc::{AllocError, Global};
+use std::ops::Range;
+
+/// A clock that follows one that is seen: by that, by its port, and by itself.
+#[derive(Clone, Copy, PartialEq, Eq, PartialOrd, Ord)]
+pub(crate) struct Follower {
+    above: usize,
+    port: u16,
+    pub(crate) place: usize,
+}
+
+/// A clock that follows one that is not seen: by its domain, by the port that it follows, and by itself.
+#[derive(Clone, Copy, PartialEq, Eq, PartialOrd, Ord)]
+pub(crate) struct Lost {
+    domain: u8,
+    pub(crate) parent: PortIdentity,
+    pub(crate) place: usize,
+}
+
+/// The clocks in their order, and who follows whom.
+#[derive(Drop)]
+pub(crate) struct Forest {
+    pub(crate) sources: Vec<Source>,
+    /// The clock that each follows, where it follows one that is seen.
+    pub(crate) followed: Vec<Option<usize>>,
+    /// In their order.
+    followers: Vec<Follower>,
+    /// In their order.
+    lost: Vec<Lost>,
+}
+
+impl Forest {
+    pub(crate) fn of(alloc: Global, site: &Site) -> Result<Forest, AllocError> {
+        let sources: Vec<Source> = site.clocks.keys().copied().collect(alloc)?;
+        let mut forest = Forest {
+            sources: Vec::new(alloc),
+            followed: Vec::new(alloc),
+            followers: Vec::new(alloc),
+            lost: Vec::new(alloc),
+        };
+        for (place, source) in sources.as_slice().iter().enumerate() {
+            forest.add(site, sources.as_slice(), place, *source)?;
+        }
+        forest.sources = sources;
+        forest.followers.sort()?;
+        forest.lost.sort()?;
+        Ok(forest)
+    }
+
+    /// Adds the clock at a place, behind those of all lower places.
+    fn add(
+        &mut self,
+        site: &Site,
+        sources: &[Source],
+        place: usize,
+        source: Source,
+    ) -> Result<(), AllocError> {
+        let Some(parent) = site.followed(source) else {
+            self.followed.push(None)?;
+            return Ok(());
+        };
+        match sources.binary_search(&source.beside(parent.clock)) {
+            Ok(above) => {
+                self.followed.push(Some(above))?;
+                self.followers.push(Follower {
+                    above,
+                    port: parent.port,
+                    place,
+                })?;
+            }
+            Err(_) => {
+                self.followed.push(None)?;
+                self.lost.push(Lost {
+                    domain: source.domain,
+                    parent,
+                    place,
+                })?;
+            }
+        }
+        Ok(())
+    }
+
+    /// The places of a domain's clocks.
+    pub(crate) fn places_of(&self, domain: u8) -> Range<usize> {
+        let sources = self.sources.as_slice();
+        let from = sources.partition_point(|source| source.domain < domain);
+        let to = sources.partition_point(|source| source.domain <= domain);
+        from..to
+    }
+
+    /// The domain of the clock at a place.
+    pub(crate) fn domain_of(&self, place: usize) -> Option<u8> {
+        match self.sources.get(place) {
+            Some(source) => Some(source.domain),
+            None => None,
+        }
+    }
+
+    /// The clocks that follow the clock at a place, by its port, and then by identity.
+    pub(crate) fn followers_of(&self, place: usize) -> &[Follower] {
+        let followers = self.followers.as_slice();
+        let from = followers.partition_point(|follower| follower.above < place);
+        let to = followers.partition_point(|follower| follower.above <= place);
+        followers.get(from..to).unwrap_or(&[])
+    }
+
+    /// The clocks of a domain whose parent is not seen, by its port, and then by identity.
+    pub(crate) fn lost_of(&self, domain: u8) -> &[Lost] {
+        let lost = self.lost.as_slice();
+        let from = lost.partition_point(|lost| lost.domain < domain);
+        let to = lost.partition_point(|lost| lost.domain <= domain);
+        lost.get(from..to).unwrap_or(&[])
+    }
+}
