@@ -27,7 +27,7 @@ fn beyond(interval: i64, limit: Option<u64>) -> Option<i64>
 }
 
 /// offsetFromMaster of a clock that is not its own grandmaster, where it is beyond the limit.
-pub(crate) fn large_offset(site: &Site, source: Source, limit: Option<u64>) -> Option<i64>
+pub fn large_offset(site: &Site, source: Source, limit: Option<u64>) -> Option<i64>
     ensures { result ≡ large_offset (kept site.now) source limit }
 {
     let _ = site.followed(source)?;
@@ -36,7 +36,7 @@ pub(crate) fn large_offset(site: &Site, source: Source, limit: Option<u64>) -> O
 }
 
 /// meanDelay of a clock that is not its own grandmaster, where it is beyond the limit.
-pub(crate) fn large_delay(site: &Site, source: Source, limit: Option<u64>) -> Option<i64>
+pub fn large_delay(site: &Site, source: Source, limit: Option<u64>) -> Option<i64>
     ensures { result ≡ large_delay (kept site.now) source limit }
 {
     let _ = site.followed(source)?;
@@ -45,7 +45,7 @@ pub(crate) fn large_delay(site: &Site, source: Source, limit: Option<u64>) -> Op
 }
 
 /// meanLinkDelay of a port in SLAVE or UNCALIBRATED that measures the delay of its link, where it is beyond the limit.
-pub(crate) fn large_link_delay(port: &PortDataSet, limit: Option<u64>) -> Option<i64>
+pub fn large_link_delay(port: &PortDataSet, limit: Option<u64>) -> Option<i64>
     ensures { result ≡ large_link_delay port.now limit }
 {
     if port.is_following() && port.measures_link() {

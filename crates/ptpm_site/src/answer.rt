@@ -30,7 +30,7 @@ pub struct Answer {
 impl Answer {
     /// The answer that a message is; none where it is no RESPONSE to one of the six, where its dataField has another
     /// length, or where PORT_DATA_SET names another clock than its source.
-    pub(crate) fn of(alloc: Global, message: &View<'_>) -> Result<Option<Answer>, AllocError> {
+    pub fn of(alloc: Global, message: &View<'_>) -> Result<Option<Answer>, AllocError> {
         if message.action() != Action::Response {
             return Ok(None);
         }

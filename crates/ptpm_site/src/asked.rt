@@ -12,7 +12,7 @@ pub enum Asked {
 }
 
 /// The six.
-pub(crate) static ASKED: [Asked; 6] = [
+pub static ASKED: [Asked; 6] = [
     Asked::DefaultDataSet,
     Asked::CurrentDataSet,
     Asked::ParentDataSet,
@@ -23,7 +23,7 @@ pub(crate) static ASKED: [Asked; 6] = [
 
 impl Asked {
     /// That of a managementId; none where it is none of the six.
-    pub(crate) fn of_id(id: u16) -> Option<Asked> {
+    pub fn of_id(id: u16) -> Option<Asked> {
         match id {
             0x0002 => Some(Asked::UserDescription),
             0x2000 => Some(Asked::DefaultDataSet),
@@ -36,7 +36,7 @@ impl Asked {
     }
 
     /// The standard's name.
-    pub(crate) fn name(self) -> &'static str {
+    pub fn name(self) -> &'static str {
         match self {
             Asked::UserDescription => "USER_DESCRIPTION",
             Asked::DefaultDataSet => "DEFAULT_DATA_SET",

@@ -9,10 +9,10 @@ use std::collections::BTreeMap;
 
 /// A member that two answers of a clock say otherwise: the value of the earlier, and of the later.
 #[derive(Clone, Copy)]
-pub(crate) struct Change<'a> {
-    pub(crate) member: Member,
-    pub(crate) before: Value<'a>,
-    pub(crate) after: Value<'a>,
+pub struct Change<'a> {
+    pub member: Member,
+    pub before: Value<'a>,
+    pub after: Value<'a>,
 }
 
 /// A member's value in an answer, and the request that the answer came to.
@@ -85,7 +85,7 @@ impl<'a> Settled<'a> {
 }
 
 /// The first change of a member: two answers to different requests that say it otherwise.
-pub(crate) fn first_change<'a, T: DataSet>(
+pub fn first_change<'a, T: DataSet>(
     heard: &'a [Heard<T>],
     member: Member,
 ) -> Option<Change<'a>> {
@@ -111,7 +111,7 @@ pub(crate) fn first_change<'a, T: DataSet>(
 }
 
 /// The first contradiction in a member: two answers to one request that say it otherwise.
-pub(crate) fn first_contradiction<'a, T: DataSet>(
+pub fn first_contradiction<'a, T: DataSet>(
     alloc: Global,
     heard: &'a [Heard<T>],
     member: Member,
@@ -139,7 +139,7 @@ pub(crate) fn first_contradiction<'a, T: DataSet>(
 }
 
 /// Whether two answers say a member otherwise.
-pub(crate) fn is_said_otherwise<T: DataSet>(heard: &[Heard<T>], member: Member) -> bool {
+pub fn is_said_otherwise<T: DataSet>(heard: &[Heard<T>], member: Member) -> bool {
     match heard.split_first() {
         Some((first, others)) => {
             let value = first.set.value(member);

@@ -25,19 +25,19 @@ pub struct Heard<T> {
 /// What the answers of a clock tell, of each data set in the order of their lines. The last counts.
 #[derive(Drop)]
 pub struct Clock {
-    pub(crate) defaults: Vec<Heard<DefaultDataSet>>,
-    pub(crate) currents: Vec<Heard<CurrentDataSet>>,
-    pub(crate) parents: Vec<Heard<ParentDataSet>>,
-    pub(crate) times: Vec<Heard<TimePropertiesDataSet>>,
-    pub(crate) descriptions: Vec<Heard<Description>>,
+    pub defaults: Vec<Heard<DefaultDataSet>>,
+    pub currents: Vec<Heard<CurrentDataSet>>,
+    pub parents: Vec<Heard<ParentDataSet>>,
+    pub times: Vec<Heard<TimePropertiesDataSet>>,
+    pub descriptions: Vec<Heard<Description>>,
     /// By portNumber.
-    pub(crate) ports: BTreeMap<u16, Vec<Heard<PortDataSet>>>,
-    pub(crate) refused: Vec<Asked>,
+    pub ports: BTreeMap<u16, Vec<Heard<PortDataSet>>>,
+    pub refused: Vec<Asked>,
 }
 
 impl Clock {
     /// A clock that told nothing yet.
-    pub(crate) fn new(alloc: Global) -> Clock {
+    pub fn new(alloc: Global) -> Clock {
         Clock {
             defaults: Vec::new(alloc),
             currents: Vec::new(alloc),
@@ -50,7 +50,7 @@ impl Clock {
     }
 
     /// Takes what an answer of the clock tells, behind all earlier ones.
-    pub(crate) fn take(
+    pub fn take(
         &mut self,
         alloc: Global,
         request: Request,
@@ -90,48 +90,48 @@ impl Clock {
     }
 
     /// DEFAULT_DATA_SET, where it was answered.
-    pub(crate) fn default(&self) -> Option<DefaultDataSet>
+    pub fn default(&self) -> Option<DefaultDataSet>
         ensures { result ≡ counting self.now.defaults.items }
     {
         last_of(self.defaults.as_slice())
     }
 
     /// CURRENT_DATA_SET, where it was answered.
-    pub(crate) fn current(&self) -> Option<CurrentDataSet>
+    pub fn current(&self) -> Option<CurrentDataSet>
         ensures { result ≡ counting self.now.currents.items }
     {
         last_of(self.currents.as_slice())
     }
 
     /// PARENT_DATA_SET, where it was answered.
-    pub(crate) fn parent(&self) -> Option<ParentDataSet>
+    pub fn parent(&self) -> Option<ParentDataSet>
         ensures { result ≡ counting self.now.parents.items }
     {
         last_of(self.parents.as_slice())
     }
 
     /// TIME_PROPERTIES_DATA_SET, where it was answered.
-    pub(crate) fn time(&self) -> Option<TimePropertiesDataSet>
+    pub fn time(&self) -> Option<TimePropertiesDataSet>
         ensures { result ≡ counting self.now.times.items }
     {
         last_of(self.times.as_slice())
     }
 
     /// userDescription, where it was answered.
-    pub(crate) fn description(&self) -> Option<&str> {
+    pub fn description(&self) -> Option<&str> {
         let heard = self.descriptions.last()?;
         Some(heard.set.text.as_str())
     }
 
     /// PORT_DATA_SET of a port, where it was answered.
-    pub(crate) fn port(&self, number: u16) -> Option<PortDataSet>
+    pub fn port(&self, number: u16) -> Option<PortDataSet>
         ensures { result ≡ port_kept self.now number }
     {
         last_of(self.ports.get(&number)?.as_slice())
     }
 
     /// Whether a port that answered is in one of these states.
-    pub(crate) fn has_port_in(&self, states: &[PortState]) -> bool {
+    pub fn has_port_in(&self, states: &[PortState]) -> bool {
         for heard in self.ports.values() {
             if let Some(set) = last_of(heard.as_slice()) {
                 if set.is_in(states) {
@@ -143,7 +143,7 @@ impl Clock {
     }
 
     /// Keeps at most so many ports, the first; how many were left out.
-    pub(crate) fn keep_first_ports(&mut self, room: usize) -> usize {
+    pub fn keep_first_ports(&mut self, room: usize) -> usize {
         let over = self.ports.len().saturating_sub(room);
         for _ in 0..over {
             let _ = self.ports.pop_last();
@@ -152,13 +152,13 @@ impl Clock {
     }
 
     /// Whether an error came for an id.
-    pub(crate) fn refuses(&self, asked: Asked) -> bool {
+    pub fn refuses(&self, asked: Asked) -> bool {
         self.refused.contains(&asked)
     }
 }
 
 /// The data set of the answer that counts: the last.
-pub(crate) fn last_of<T: Copy>(heard: &[Heard<T>]) -> Option<T>
+pub fn last_of<T: Copy>(heard: &[Heard<T>]) -> Option<T>
     ensures { result ≡ counting heard.now }
 {
     match heard.last() {

@@ -6,7 +6,7 @@ use std::alloc::{AllocError, Global};
 
 impl Clock {
     /// Whether the clock's DEFAULT_DATA_SET and each of its ports answered.
-    pub(crate) fn all_ports_answered(&self) -> bool {
+    pub fn all_ports_answered(&self) -> bool {
         let Some(default) = self.default() else {
             return false;
         };
@@ -19,7 +19,7 @@ impl Clock {
     }
 
     /// Whether an id was neither answered nor refused.
-    pub(crate) fn lacks(&self, asked: Asked) -> bool {
+    pub fn lacks(&self, asked: Asked) -> bool {
         let silent = match asked {
             Asked::UserDescription => self.descriptions.is_empty(),
             Asked::DefaultDataSet => self.defaults.is_empty(),
@@ -45,14 +45,14 @@ impl Clock {
 
 /// What a clock was asked, and neither answered nor refused.
 #[derive(Drop)]
-pub(crate) struct Missing {
-    pub(crate) asked: Vec<Asked>,
+pub struct Missing {
+    pub asked: Vec<Asked>,
     /// Ports, in runs of the first and the last.
-    pub(crate) ports: Vec<(u16, u16)>,
+    pub ports: Vec<(u16, u16)>,
 }
 
 /// What a clock neither answered nor refused, where that is anything.
-pub(crate) fn missing_answers(alloc: Global, clock: &Clock) -> Result<Option<Missing>, AllocError> {
+pub fn missing_answers(alloc: Global, clock: &Clock) -> Result<Option<Missing>, AllocError> {
     let mut asked = Vec::new(alloc);
     for id in &ASKED {
         if clock.lacks(*id) {

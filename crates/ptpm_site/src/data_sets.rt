@@ -113,7 +113,7 @@ impl ClockQuality {
 
 impl DefaultDataSet {
     /// What a dataField tells; none where its length is another.
-    pub(crate) fn read(octets: &[u8]) -> Option<DefaultDataSet> {
+    pub fn read(octets: &[u8]) -> Option<DefaultDataSet> {
         if octets.len() != 20 {
             return None;
         }
@@ -132,7 +132,7 @@ impl DefaultDataSet {
 
 impl CurrentDataSet {
     /// What a dataField tells; none where its length is another.
-    pub(crate) fn read(octets: &[u8]) -> Option<CurrentDataSet> {
+    pub fn read(octets: &[u8]) -> Option<CurrentDataSet> {
         if octets.len() != 18 {
             return None;
         }
@@ -146,7 +146,7 @@ impl CurrentDataSet {
 
 impl ParentDataSet {
     /// What a dataField tells; none where its length is another.
-    pub(crate) fn read(octets: &[u8]) -> Option<ParentDataSet> {
+    pub fn read(octets: &[u8]) -> Option<ParentDataSet> {
         if octets.len() != 32 {
             return None;
         }
@@ -165,7 +165,7 @@ impl ParentDataSet {
 
 impl TimePropertiesDataSet {
     /// What a dataField tells; none where its length is another.
-    pub(crate) fn read(octets: &[u8]) -> Option<TimePropertiesDataSet> {
+    pub fn read(octets: &[u8]) -> Option<TimePropertiesDataSet> {
         if octets.len() != 4 {
             return None;
         }
@@ -184,7 +184,7 @@ impl TimePropertiesDataSet {
 
 impl PortDataSet {
     /// What a dataField tells, and of which port; none where its length is another.
-    pub(crate) fn read(octets: &[u8]) -> Option<(PortIdentity, PortDataSet)> {
+    pub fn read(octets: &[u8]) -> Option<(PortIdentity, PortDataSet)> {
         if octets.len() != 26 {
             return None;
         }
@@ -203,7 +203,7 @@ impl PortDataSet {
     }
 
     /// Whether the port is in one of these states.
-    pub(crate) fn is_in(&self, states: &[PortState]) -> bool {
+    pub fn is_in(&self, states: &[PortState]) -> bool {
         match self.state {
             Some(state) => states.contains(&state),
             None => false,
@@ -211,21 +211,21 @@ impl PortDataSet {
     }
 
     /// Whether the port takes time from a master, or is about to.
-    pub(crate) fn is_following(&self) -> bool
+    pub fn is_following(&self) -> bool
         ensures { result ≡ is_following self.now.state }
     {
         matches!(self.state, Some(PortState::Slave | PortState::Uncalibrated))
     }
 
     /// Whether the port gives time, or is about to.
-    pub(crate) fn is_leading(&self) -> bool
+    pub fn is_leading(&self) -> bool
         ensures { result ≡ is_leading self.now.state }
     {
         matches!(self.state, Some(PortState::Master | PortState::PreMaster))
     }
 
     /// Whether it measures the delay of the link to the neighbour (clause 11.4).
-    pub(crate) fn measures_link(&self) -> bool
+    pub fn measures_link(&self) -> bool
         ensures { result ≡ measures_link self.now.delay_mechanism }
     {
         matches!(
@@ -235,7 +235,7 @@ impl PortDataSet {
     }
 
     /// Whether it measures the delay of the whole way to the master (clause 11.3).
-    pub(crate) fn measures_end_to_end(&self) -> bool
+    pub fn measures_end_to_end(&self) -> bool
         ensures { result ≡ measures_end_to_end self.now.delay_mechanism }
     {
         matches!(self.delay_mechanism, Some(DelayMechanism::EndToEnd))

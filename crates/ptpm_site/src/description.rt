@@ -11,7 +11,7 @@ pub struct Description {
 
 impl Description {
     /// What a dataField tells; none where it is no PTPText.
-    pub(crate) fn read(alloc: Global, octets: &[u8]) -> Result<Option<Description>, AllocError> {
+    pub fn read(alloc: Global, octets: &[u8]) -> Result<Option<Description>, AllocError> {
         if octets.is_empty() || !is_ptp_text(octets) {
             return Ok(None);
         }

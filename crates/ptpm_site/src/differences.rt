@@ -12,10 +12,10 @@ use crate::member::{Member, Value};
 
 /// A member that two clocks say otherwise.
 #[derive(Clone, Copy)]
-pub(crate) struct Differs {
-    pub(crate) member: Member,
-    pub(crate) own: Value<'static>,
-    pub(crate) other: Value<'static>,
+pub struct Differs {
+    pub member: Member,
+    pub own: Value<'static>,
+    pub other: Value<'static>,
 }
 
 /// The member, where the numbers differ.
@@ -57,7 +57,7 @@ fn quality_differs(member: Member, own: ClockQuality, other: ClockQuality) -> Op
 }
 
 /// What a clock says of its grandmaster and the grandmaster's DEFAULT_DATA_SET does not.
-pub(crate) fn grandmaster_differs(
+pub fn grandmaster_differs(
     own: &ParentDataSet,
     grandmaster: &DefaultDataSet,
 ) -> [Option<Differs>; 3] {
@@ -81,7 +81,7 @@ pub(crate) fn grandmaster_differs(
 }
 
 /// grandmasterIdentity, where a clock names another than the clock that it follows.
-pub(crate) fn other_grandmaster(own: &ParentDataSet, parent: &ParentDataSet) -> Option<Differs>
+pub fn other_grandmaster(own: &ParentDataSet, parent: &ParentDataSet) -> Option<Differs>
     ensures { is_some result ≡ not (same_clock own.now.grandmaster parent.now.grandmaster) }
 {
     if own.grandmaster == parent.grandmaster {
@@ -95,7 +95,7 @@ pub(crate) fn other_grandmaster(own: &ParentDataSet, parent: &ParentDataSet) -> 
 }
 
 /// What a clock says of UTC and its grandmaster does not.
-pub(crate) fn utc_differs(
+pub fn utc_differs(
     own: &TimePropertiesDataSet,
     grandmaster: &TimePropertiesDataSet,
 ) -> [Option<Differs>; 5] {
@@ -122,7 +122,7 @@ pub(crate) fn utc_differs(
 
 /// What a port in SLAVE or UNCALIBRATED says otherwise than the port that it follows: logAnnounceInterval, and a
 /// delayMechanism that measures another delay.
-pub(crate) fn intervals_differ(own: &PortDataSet, parent: &PortDataSet) -> [Option<Differs>; 2] {
+pub fn intervals_differ(own: &PortDataSet, parent: &PortDataSet) -> [Option<Differs>; 2] {
     if !own.is_following() {
         return [None, None];
     }

@@ -11,14 +11,14 @@ use ptpm_data::PortState;
 
 /// Something that is wrong with a clock.
 #[derive(Drop)]
-pub(crate) struct Finding<'a> {
-    pub(crate) source: Source,
-    pub(crate) what: What<'a>,
+pub struct Finding<'a> {
+    pub source: Source,
+    pub what: What<'a>,
 }
 
 /// What is wrong, in the order in which it is told of a clock.
 #[derive(Drop)]
-pub(crate) enum What<'a> {
+pub enum What<'a> {
     /// It is one of two or more clocks of the domain that are their own grandmasters and have a port in MASTER.
     TwoGrandmasters,
     /// It takes time from no clock.
@@ -57,7 +57,7 @@ pub(crate) enum What<'a> {
 
 impl What<'_> {
     /// Its name, which scripts read.
-    pub(crate) fn name(&self) -> &'static str {
+    pub fn name(&self) -> &'static str {
         match self {
             What::TwoGrandmasters => "two_grandmasters",
             What::NoMaster(_) => "no_master",

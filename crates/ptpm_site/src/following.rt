@@ -10,7 +10,7 @@ use ptpm_codec::PortIdentity;
 
 impl Site {
     /// Whether a clock names itself as its grandmaster.
-    pub(crate) fn is_own_grandmaster(&self, source: Source) -> bool
+    pub fn is_own_grandmaster(&self, source: Source) -> bool
         ensures { result ≡ is_own_grandmaster (kept self.now) source }
     {
         match self.parent(source) {
@@ -20,7 +20,7 @@ impl Site {
     }
 
     /// The port that a clock follows; none where it is its own grandmaster, or did not say.
-    pub(crate) fn followed(&self, source: Source) -> Option<PortIdentity>
+    pub fn followed(&self, source: Source) -> Option<PortIdentity>
         ensures { result ≡ followed (kept self.now) source }
     {
         let set = self.parent(source)?;

@@ -8,26 +8,26 @@ use std::ops::Range;
 
 /// A clock that follows one that is seen: by that, by its port, and by itself.
 #[derive(Clone, Copy, PartialEq, Eq, PartialOrd, Ord)]
-pub(crate) struct Follower {
+pub struct Follower {
     above: usize,
     port: u16,
-    pub(crate) place: usize,
+    pub place: usize,
 }
 
 /// A clock that follows one that is not seen: by its domain, by the port that it follows, and by itself.
 #[derive(Clone, Copy, PartialEq, Eq, PartialOrd, Ord)]
-pub(crate) struct Lost {
+pub struct Lost {
     domain: u8,
-    pub(crate) parent: PortIdentity,
-    pub(crate) place: usize,
+    pub parent: PortIdentity,
+    pub place: usize,
 }
 
 /// The clocks in their order, and who follows whom.
 #[derive(Drop)]
-pub(crate) struct Forest {
-    pub(crate) sources: Vec<Source>,
+pub struct Forest {
+    pub sources: Vec<Source>,
     /// The clock that each follows, where it follows one that is seen.
-    pub(crate) followed: Vec<Option<usize>>,
+    pub followed: Vec<Option<usize>>,
     /// In their order.
     followers: Vec<Follower>,
     /// In their order.
@@ -35,7 +35,7 @@ pub(crate) struct Forest {
 }
 
 impl Forest {
-    pub(crate) fn of(alloc: Global, site: &Site) -> Result<Forest, AllocError> {
+    pub fn of(alloc: Global, site: &Site) -> Result<Forest, AllocError> {
         let sources: Vec<Source> = site.clocks.keys().copied().collect(alloc)?;
         let mut forest = Forest {
             sources: Vec::new(alloc),
@@ -86,7 +86,7 @@ impl Forest {
     }
 
     /// The places of a domain's clocks.
-    pub(crate) fn places_of(&self, domain: u8) -> Range<usize> {
+    pub fn places_of(&self, domain: u8) -> Range<usize> {
         let sources = self.sources.as_slice();
         let from = sources.partition_point(|source| source.domain < domain);
         let to = sources.partition_point(|source| source.domain <= domain);
@@ -94,7 +94,7 @@ impl Forest {
     }
 
     /// The domain of the clock at a place.
-    pub(crate) fn domain_of(&self, place: usize) -> Option<u8> {
+    pub fn domain_of(&self, place: usize) -> Option<u8> {
         match self.sources.get(place) {
             Some(source) => Some(source.domain),
             None => None,
@@ -102,7 +102,7 @@ impl Forest {
     }
 
     /// The clocks that follow the clock at a place, by its port, and then by identity.
-    pub(crate) fn followers_of(&self, place: usize) -> &[Follower] {
+    pub fn followers_of(&self, place: usize) -> &[Follower] {
         let followers = self.followers.as_slice();
         let from = followers.partition_point(|follower| follower.above < place);
         let to = followers.partition_point(|follower| follower.above <= place);
@@ -110,7 +110,7 @@ impl Forest {
     }
 
     /// The clocks of a domain whose parent is not seen, by its port, and then by identity.
-    pub(crate) fn lost_of(&self, domain: u8) -> &[Lost] {
+    pub fn lost_of(&self, domain: u8) -> &[Lost] {
         let lost = self.lost.as_slice();
         let from = lost.partition_point(|lost| lost.domain < domain);
         let to = lost.partition_point(|lost| lost.domain <= domain);

@@ -8,12 +8,12 @@ use ptpm_data::PortState;
 
 /// How many clocks of each domain are their own grandmasters and have a port in MASTER, up to two.
 #[derive(Drop)]
-pub(crate) struct Leading {
+pub struct Leading {
     domains: [u8; 256],
 }
 
 impl Leading {
-    pub(crate) fn of(site: &Site) -> Leading {
+    pub fn of(site: &Site) -> Leading {
         let mut domains = [0; 256];
         for (source, clock) in site.clocks.iter() {
             let place = source.domain as usize;
@@ -25,13 +25,13 @@ impl Leading {
     }
 
     /// Whether a clock is one of two or more that lead in its domain.
-    pub(crate) fn is_one_of_two(&self, source: Source, clock: &Clock) -> bool {
+    pub fn is_one_of_two(&self, source: Source, clock: &Clock) -> bool {
         leads(source, clock) && self.domains[source.domain as usize] == 2
     }
 }
 
 /// Whether a clock is its own grandmaster and has a port in MASTER.
-pub(crate) fn leads(source: Source, clock: &Clock) -> bool {
+pub fn leads(source: Source, clock: &Clock) -> bool {
     match clock.parent() {
         Some(set) => set.grandmaster == source.clock && clock.has_port_in(&[PortState::Master]),
         None => false,
@@ -46,7 +46,7 @@ static TAKING: [PortState; 2] = [PortState::Slave, PortState::Uncalibrated];
 
 /// Why a clock has no master.
 #[derive(Clone, Copy)]
-pub(crate) enum Masterless {
+pub enum Masterless {
     /// It is its own grandmaster, and slaveOnly.
     SlaveOnly,
     /// It is its own grandmaster, with no port in MASTER, PRE_MASTER or PASSIVE.
@@ -56,7 +56,7 @@ pub(crate) enum Masterless {
 }
 
 /// Why a clock has no master, where all its ports answered.
-pub(crate) fn masterless_reason(source: Source, clock: &Clock) -> Option<Masterless> {
+pub fn masterless_reason(source: Source, clock: &Clock) -> Option<Masterless> {
     let parent = clock.parent()?;
     let default = clock.default()?;
     if !clock.all_ports_answered() {
@@ -79,7 +79,7 @@ pub(crate) fn masterless_reason(source: Source, clock: &Clock) -> Option<Masterl
 }
 
 /// The grandmaster that a clock names, where it is not seen.
-pub(crate) fn unseen_grandmaster(
+pub fn unseen_grandmaster(
     site: &Site,
     source: Source,
     clock: &Clock,

@@ -19,16 +19,16 @@ use std::alloc::{AllocError, Global};
 
 /// Findings that gather, of a site's clocks one after another.
 #[derive(Drop)]
-pub(crate) struct Judge<'a> {
+pub struct Judge<'a> {
     alloc: Global,
     site: &'a Site,
     limits: Limits,
     leading: Leading,
-    pub(crate) findings: Vec<Finding<'a>>,
+    pub findings: Vec<Finding<'a>>,
 }
 
 /// All findings. Each loop, of the least clock's place, is told at its least clock.
-pub(crate) fn findings_of<'a>(
+pub fn findings_of<'a>(
     alloc: Global,
     site: &'a Site,
     sources: &[Source],

@@ -98,7 +98,7 @@ impl Member {
     }
 
     /// Whether its value moves from one answer to the next with nothing changed.
-    pub(crate) fn is_moving(self) -> bool {
+    pub fn is_moving(self) -> bool {
         matches!(
             self,
             Member::OffsetFromMaster
@@ -285,7 +285,7 @@ impl DataSet for Description {
 }
 
 /// The standard's name of a port's state; `reserved` where its number is.
-pub(crate) fn state_name(state: Option<PortState>) -> &'static str {
+pub fn state_name(state: Option<PortState>) -> &'static str {
     match state {
         Some(PortState::Initializing) => "INITIALIZING",
         Some(PortState::Faulty) => "FAULTY",
@@ -301,7 +301,7 @@ pub(crate) fn state_name(state: Option<PortState>) -> &'static str {
 }
 
 /// The standard's name of a delay mechanism; `reserved` where its number is.
-pub(crate) fn mechanism_name(mechanism: Option<DelayMechanism>) -> &'static str {
+pub fn mechanism_name(mechanism: Option<DelayMechanism>) -> &'static str {
     match mechanism {
         Some(DelayMechanism::EndToEnd) => "E2E",
         Some(DelayMechanism::PeerToPeer) => "P2P",

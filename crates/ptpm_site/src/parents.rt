@@ -10,7 +10,7 @@ use ptpm_codec::PortIdentity;
 use ptpm_data::PortState;
 
 /// The port that a clock follows, where its clock is not seen.
-pub(crate) fn unseen_parent(site: &Site, source: Source) -> Option<PortIdentity>
+pub fn unseen_parent(site: &Site, source: Source) -> Option<PortIdentity>
     ensures { result ≡ unseen_parent (kept site.now) source }
 {
     let parent = site.followed(source)?;
@@ -31,7 +31,7 @@ pub enum NoMaster {
 }
 
 /// The port that a clock follows, where that is no master though its clock is seen.
-pub(crate) fn no_master_port(site: &Site, source: Source) -> Option<(PortIdentity, NoMaster)>
+pub fn no_master_port(site: &Site, source: Source) -> Option<(PortIdentity, NoMaster)>
     ensures { result ≡ no_master_port (kept site.now) source }
 {
     let parent = site.followed(source)?;
@@ -80,7 +80,7 @@ pub struct Steps {
 }
 
 /// The stepsRemoved of a clock where it is not 0 at a grandmaster, or not one more than that of the clock that it follows.
-pub(crate) fn wrong_steps(site: &Site, source: Source) -> Option<Steps>
+pub fn wrong_steps(site: &Site, source: Source) -> Option<Steps>
     ensures { result ≡ wrong_steps (kept site.now) source }
 {
     let current = site.current(source)?;

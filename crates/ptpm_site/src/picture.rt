@@ -11,16 +11,16 @@ use std::alloc::{AllocError, Global};
 
 /// A site with its tree and its findings.
 #[derive(Drop)]
-pub(crate) struct Picture<'a> {
-    pub(crate) site: &'a Site,
-    pub(crate) forest: Forest,
-    pub(crate) rows: Vec<Row>,
-    pub(crate) findings: Vec<Finding<'a>>,
-    pub(crate) left_out: LeftOut,
+pub struct Picture<'a> {
+    pub site: &'a Site,
+    pub forest: Forest,
+    pub rows: Vec<Row>,
+    pub findings: Vec<Finding<'a>>,
+    pub left_out: LeftOut,
 }
 
 impl<'a> Picture<'a> {
-    pub(crate) fn of(
+    pub fn of(
         alloc: Global,
         site: &'a Site,
         left_out: LeftOut,

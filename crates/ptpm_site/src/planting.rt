@@ -10,7 +10,7 @@ use std::alloc::{AllocError, Global};
 
 /// A tree that grows.
 #[derive(Drop)]
-pub(crate) struct Planting {
+pub struct Planting {
     rows: Vec<Row>,
     /// Whether a clock has its row, by its place; a clock behind the last has none.
     marks: Vec<bool>,
@@ -21,7 +21,7 @@ pub(crate) struct Planting {
 
 impl Planting {
     /// A tree without rows.
-    pub(crate) fn new(alloc: Global) -> Planting {
+    pub fn new(alloc: Global) -> Planting {
         Planting {
             rows: Vec::new(alloc),
             marks: Vec::new(alloc),
@@ -30,7 +30,7 @@ impl Planting {
     }
 
     /// Gives a clock its row at this depth, and all that follow it theirs below it; each that has one keeps it.
-    pub(crate) fn plant(
+    pub fn plant(
         &mut self,
         forest: &Forest,
         place: usize,
@@ -62,12 +62,12 @@ impl Planting {
     }
 
     /// A row that names a port whose clock is not seen.
-    pub(crate) fn name(&mut self, domain: u8, parent: PortIdentity) -> Result<(), AllocError> {
+    pub fn name(&mut self, domain: u8, parent: PortIdentity) -> Result<(), AllocError> {
         add_port(&mut self.rows, domain, parent)
     }
 
     /// The rows. A clock that has none yet gets one at depth 0.
-    pub(crate) fn finish(mut self, forest: &Forest) -> Result<Vec<Row>, AllocError>
+    pub fn finish(mut self, forest: &Forest) -> Result<Vec<Row>, AllocError>
         ensures { IfOk result (λ rows. StandsOnce (vec_len forest.now.sources) rows.items) }
     {
         for place in 0..forest.sources.len() {

@@ -54,7 +54,7 @@ fn was_on_the_way(earlier: &[Heard<PortDataSet>], request: &Request) -> bool
 
 /// The state of a port that is FAULTY in the answer that counts, or on its way in it and in the latest earlier answer to
 /// another request of the same requester.
-pub(crate) fn bad_state(heard: &[Heard<PortDataSet>]) -> Option<PortState>
+pub fn bad_state(heard: &[Heard<PortDataSet>]) -> Option<PortState>
     ensures { result ≡ bad_state heard.now }
 {
     let (last, earlier) = heard.split_last()?;

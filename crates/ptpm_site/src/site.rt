@@ -16,25 +16,25 @@ use std::collections::BTreeMap;
 /// The clocks that are seen: each gave one answer, or one error, to one of the six in its domain.
 #[derive(Drop)]
 pub struct Site {
-    pub(crate) clocks: BTreeMap<Source, Clock>,
+    pub clocks: BTreeMap<Source, Clock>,
 }
 
 /// At most so many clocks are shown (this project's profile).
-pub(crate) const CLOCKS: usize = 4_096;
+pub const CLOCKS: usize = 4_096;
 
 /// At most so many ports are shown (this project's profile).
-pub(crate) const PORTS: usize = 16_384;
+pub const PORTS: usize = 16_384;
 
 /// What of a site is not shown.
 #[derive(Clone, Copy)]
-pub(crate) struct LeftOut {
-    pub(crate) clocks: usize,
-    pub(crate) ports: usize,
+pub struct LeftOut {
+    pub clocks: usize,
+    pub ports: usize,
 }
 
 impl Site {
     /// A site of which nothing is known.
-    pub(crate) fn new(alloc: Global) -> Site
+    pub fn new(alloc: Global) -> Site
         ensures { Keeps result [] }
     {
         Site {
@@ -43,7 +43,7 @@ impl Site {
     }
 
     /// Takes an answer, behind all earlier ones.
-    pub(crate) fn take(&mut self, alloc: Global, answer: Answer) -> Result<(), AllocError>
+    pub fn take(&mut self, alloc: Global, answer: Answer) -> Result<(), AllocError>
         ensures { OnOk result (Takes self.old self.new answer) }
     {
         let Answer {
@@ -57,7 +57,7 @@ impl Site {
 
     /// Keeps the first clocks, by domain and identity, and the first of their ports; the others are as if they had not
     /// answered.
-    pub(crate) fn keep_first(&mut self) -> LeftOut {
+    pub fn keep_first(&mut self) -> LeftOut {
         let clocks = self.clocks.len().saturating_sub(CLOCKS);
         for _ in 0..clocks {
             let _ = self.clocks.pop_last();
@@ -71,47 +71,47 @@ impl Site {
         LeftOut { clocks, ports }
     }
 
-    pub(crate) fn is_empty(&self) -> bool {
+    pub fn is_empty(&self) -> bool {
         self.clocks.is_empty()
     }
 
     /// Whether a clock is seen.
-    pub(crate) fn sees(&self, source: Source) -> bool
+    pub fn sees(&self, source: Source) -> bool
         ensures { result ≡ (kept self.now).seen source }
     {
         self.clocks.contains_key(&source)
     }
 
     /// DEFAULT_DATA_SET of a clock, where it was answered.
-    pub(crate) fn default(&self, source: Source) -> Option<DefaultDataSet>
+    pub fn default(&self, source: Source) -> Option<DefaultDataSet>
         ensures { result ≡ (kept self.now).default source }
     {
         self.clocks.get(&source)?.default()
     }
 
     /// CURRENT_DATA_SET of a clock, where it was answered.
-    pub(crate) fn current(&self, source: Source) -> Option<CurrentDataSet>
+    pub fn current(&self, source: Source) -> Option<CurrentDataSet>
         ensures { result ≡ (kept self.now).current source }
     {
         self.clocks.get(&source)?.current()
     }
 
     /// PARENT_DATA_SET of a clock, where it was answered.
-    pub(crate) fn parent(&self, source: Source) -> Option<ParentDataSet>
+    pub fn parent(&self, source: Source) -> Option<ParentDataSet>
         ensures { result ≡ (kept self.now).parent source }
     {
         self.clocks.get(&source)?.parent()
     }
 
     /// TIME_PROPERTIES_DATA_SET of a clock, where it was answered.
-    pub(crate) fn time(&self, source: Source) -> Option<TimePropertiesDataSet>
+    pub fn time(&self, source: Source) -> Option<TimePropertiesDataSet>
         ensures { result ≡ (kept self.now).time source }
     {
         self.clocks.get(&source)?.time()
     }
 
     /// PORT_DATA_SET of a port of a clock, where it was answered.
-    pub(crate) fn port(&self, source: Source, number: u16) -> Option<PortDataSet>
+    pub fn port(&self, source: Source, number: u16) -> Option<PortDataSet>
         ensures { result ≡ (kept self.now).port source number }
     {
         self.clocks.get(&source)?.port(number)

@@ -14,7 +14,7 @@ pub struct Source {
 
 impl Source {
     /// Another clock of the same domain.
-    pub(crate) fn beside(self, clock: ClockIdentity) -> Source
+    pub fn beside(self, clock: ClockIdentity) -> Source
         ensures { result ≡ record self { clock = clock } }
     {
         Source {

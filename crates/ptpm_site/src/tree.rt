@@ -21,7 +21,7 @@ pub enum Row {
 /// The rows of the tree, by domain: the grandmasters, the clocks whose parent is not seen, those of loops from their least
 /// on, and those that did not say whom they follow; below each clock those that follow it, by its port, and then by
 /// identity.
-pub(crate) fn rows(
+pub fn rows(
     alloc: Global,
     site: &Site,
     forest: &Forest,

@@ -1,6 +1,6 @@
 //! The columns of a clock's line.
 
-use crate::clock::Clock;
+use ptpm_site::clock::Clock;
 use crate::intervals::Whole;
 use ptpm_data::PortState;
 use std::alloc::{AllocError, Global};

@@ -1,22 +1,26 @@
 //! A site as one JSON object, by the standard's names.
 
-use crate::clock::{Clock, Heard};
+use ptpm_site::clock::{Clock, Heard};
 use crate::finding_json::finding_value;
-use crate::member::{DataSet, Member, Value as MemberValue, mechanism_name, state_name};
-use crate::picture::Picture;
-use crate::source::Source;
+use ptpm_site::member::{DataSet, Member, Value as MemberValue, mechanism_name, state_name};
+use ptpm_site::picture::Picture;
+use ptpm_site::source::Source;
 use ptpm_codec::{ClockIdentity, PortIdentity};
 use ptpm_commands::Fault;
 use serde_json::{Map, Value, json, put};
 use std::alloc::{AllocError, Global};
 use std::io::Write;
 
-impl Picture<'_> {
+/// A picture as JSON.
+#[derive(Clone, Copy)]
+pub(crate) struct Object<'a>(pub(crate) &'a Picture<'a>);
+
+impl Object<'_> {
     /// Prints one object: the domains with their clocks, the findings, and how much was left out.
-    pub(crate) fn print_json<O: Write>(&self, alloc: Global, out: &mut O) -> Result<(), Fault> {
+    pub(crate) fn print<O: Write>(&self, alloc: Global, out: &mut O) -> Result<(), Fault> {
         write!(out, "{{\"domains\":[")?;
         let mut domain = None;
-        for (source, clock) in self.site.clocks.iter() {
+        for (source, clock) in self.0.site.clocks.iter() {
             if domain == Some(source.domain) {
                 writeln!(out, ",")?;
             } else {
@@ -30,12 +34,12 @@ impl Picture<'_> {
         writeln!(out, "{}],", if domain.is_some() { "]}" } else { "" })?;
         write!(out, "\"findings\":[")?;
         let mut between = "\n";
-        for finding in self.findings.as_slice() {
+        for finding in self.0.findings.as_slice() {
             write!(out, "{between}")?;
             print_value(alloc, finding_value(alloc, finding), out)?;
             between = ",\n";
         }
-        let (clocks, ports) = (self.left_out.clocks, self.left_out.ports);
+        let (clocks, ports) = (self.0.left_out.clocks, self.0.left_out.ports);
         writeln!(
             out,
             "],\n\"leftOut\":{{\"clocks\":{clocks},\"ports\":{ports}}}}}"

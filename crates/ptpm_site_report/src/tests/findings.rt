@@ -4,13 +4,13 @@ use super::sketch::{
     NO_LIMITS, Sketch, answer, finds, finds_of, grandmaster, identity, port, request, slave,
     take_all,
 };
-use crate::answer::Answer;
-use crate::asked::Asked;
-use crate::data_sets::DelayMechanism;
-use crate::limits::Limits;
-use crate::site::Site;
-use crate::source::Source;
-use crate::told::Told;
+use ptpm_site::answer::Answer;
+use ptpm_site::asked::Asked;
+use ptpm_site::data_sets::DelayMechanism;
+use ptpm_site::limits::Limits;
+use ptpm_site::site::Site;
+use ptpm_site::source::Source;
+use ptpm_site::told::Told;
 use ptpm_data::PortState;
 use std::alloc::Global;
 use std::test::Fail;

@@ -1,13 +1,13 @@
 //! A finding as a JSON object.
 
-use crate::changes::Change;
-use crate::completeness::Missing;
-use crate::differences::Differs;
-use crate::finding::{Finding, What};
-use crate::grandmasters::Masterless;
+use ptpm_site::changes::Change;
+use ptpm_site::completeness::Missing;
+use ptpm_site::differences::Differs;
+use ptpm_site::finding::{Finding, What};
+use ptpm_site::grandmasters::Masterless;
 use crate::json::{identity_value, member_value, port_value, text_value};
-use crate::member::state_name;
-use crate::parents::{NoMaster, Steps};
+use ptpm_site::member::state_name;
+use ptpm_site::parents::{NoMaster, Steps};
 use serde_json::{Map, Value, json, put};
 use std::alloc::{AllocError, Global};
 

@@ -1,7 +1,7 @@
 //! The order of the answers does not matter, where each is given once.
 
 use super::sketch::{ANSWERS, NO_LIMITS, Sketch, answer, grandmaster, printed, slave, take_all};
-use crate::site::Site;
+use ptpm_site::site::Site;
 use std::alloc::Global;
 use std::test::Fail;
 

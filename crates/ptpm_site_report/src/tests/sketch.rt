@@ -1,16 +1,17 @@
 //! Clocks as a test describes them, and what is printed of their answers.
 
-use crate::answer::{Answer, Request};
-use crate::data_sets::{
+use crate::text::Sheet;
+use ptpm_site::answer::{Answer, Request};
+use ptpm_site::data_sets::{
     ClockQuality, CurrentDataSet, DefaultDataSet, DelayMechanism, ParentDataSet, PortDataSet,
     TimePropertiesDataSet,
 };
-use crate::description::Description;
-use crate::limits::Limits;
-use crate::picture::Picture;
-use crate::site::Site;
-use crate::source::Source;
-use crate::told::Told;
+use ptpm_site::description::Description;
+use ptpm_site::limits::Limits;
+use ptpm_site::picture::Picture;
+use ptpm_site::site::Site;
+use ptpm_site::source::Source;
+use ptpm_site::told::Told;
 use ptpm_codec::{ClockIdentity, PortIdentity};
 use ptpm_data::PortState;
 use std::alloc::Global;
@@ -173,7 +174,7 @@ pub(super) fn printed(alloc: Global, site: &mut Site, limits: Limits) -> Result<
     let left_out = site.keep_first();
     let picture = Picture::of(alloc, site, left_out, limits)?;
     let mut out = Vec::new(alloc);
-    picture.print(alloc, &mut out)?;
+    Sheet(&picture).print(alloc, &mut out)?;
     Ok(out)
 }
 

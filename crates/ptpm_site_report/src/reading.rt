@@ -1,11 +1,9 @@
 //! The answers among lines of datagrams.
 
-use crate::answer::Answer;
-use crate::site::Site;
-use ptpm_codec::view;
 use ptpm_commands::Fault;
 use ptpm_commands::lines::Lines;
-use std::alloc::{AllocError, Global};
+use ptpm_site::site::Site;
+use std::alloc::Global;
 use std::io::Read;
 
 /// The site that the answers among a reader's lines make. A datagram that is no answer to one of the six is passed over; a
@@ -18,19 +16,10 @@ pub(crate) fn read_site<R: Read + Drop>(alloc: Global, reader: R) -> Result<Site
             break;
         }
         if let Some(datagram) = lines.datagram(alloc, number)? {
-            take(alloc, &mut site, datagram.as_slice()).map_err(|_| Fault::OutOfMemory)?;
+            site.take_datagram(alloc, datagram.as_slice()).map_err(
+                |_| Fault::OutOfMemory,
+            )?;
         }
     }
     Ok(site)
-}
-
-/// Takes the answer that a datagram is, where it is one.
-pub(crate) fn take(alloc: Global, site: &mut Site, datagram: &[u8]) -> Result<(), AllocError> {
-    let Ok(message) = view(datagram) else {
-        return Ok(());
-    };
-    match Answer::of(alloc, &message)? {
-        Some(answer) => site.take(alloc, answer),
-        None => Ok(()),
-    }
 }

@@ -1,7 +1,7 @@
 //! The ports of a clock with their states, as text.
 
-use crate::clock::{Clock, last_of};
-use crate::member::state_name;
+use ptpm_site::clock::{Clock, last_of};
+use ptpm_site::member::state_name;
 use std::fmt;
 
 /// The ports of a clock that answered, by number: `1 SLAVE, 2-4 MASTER`; `-` where none did.

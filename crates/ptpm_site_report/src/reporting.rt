@@ -1,8 +1,10 @@
 //! `ptpm site`: a site's tree and what is wrong with it, by the answers among lines of datagrams.
 
-use crate::limits::Limits;
-use crate::picture::Picture;
+use ptpm_site::limits::Limits;
+use ptpm_site::picture::Picture;
+use crate::json::Object;
 use crate::reading::read_site;
+use crate::text::Sheet;
 use ptpm_commands::Fault;
 use std::alloc::Global;
 use std::io::{Read, Write};
@@ -58,8 +60,8 @@ pub fn report<R: Read + Drop, O: Write>(
         |_| Fault::OutOfMemory,
     )?;
     match options.form {
-        Form::Text => picture.print(alloc, out)?,
-        Form::Json => picture.print_json(alloc, out)?,
+        Form::Text => Sheet(&picture).print(alloc, out)?,
+        Form::Json => Object(&picture).print(alloc, out)?,
     }
     Ok(if site.is_empty() {
         Outcome::NoClock

@@ -2,16 +2,16 @@
 
 ghost use Rattle.std.specs.Prelude.{◌≤◌, length};
 
-use crate::clock::Clock;
+use ptpm_site::clock::Clock;
 use crate::columns::{Columns, Widths, print_spaces};
-use crate::finding::{Finding, What};
-use crate::grandmasters::leads;
-use crate::picture::Picture;
+use ptpm_site::finding::{Finding, What};
+use ptpm_site::grandmasters::leads;
+use ptpm_site::picture::Picture;
 use crate::ports_text::PortsText;
-use crate::site::{CLOCKS, PORTS};
-use crate::source::Source;
+use ptpm_site::site::{CLOCKS, PORTS};
+use ptpm_site::source::Source;
 use crate::telling::Words;
-use crate::tree::Row;
+use ptpm_site::tree::Row;
 use ptpm_commands::Fault;
 use std::alloc::{AllocError, Global};
 use std::io;
@@ -20,11 +20,15 @@ use std::io::Write;
 /// The first column has so many characters to its left, and two more for each clock above.
 const MARGIN: usize = 2;
 
-impl Picture<'_> {
+/// A picture as text.
+#[derive(Clone, Copy)]
+pub(crate) struct Sheet<'a>(pub(crate) &'a Picture<'a>);
+
+impl Sheet<'_> {
     /// Prints the tree of each domain, and the findings.
     pub(crate) fn print<O: Write>(&self, alloc: Global, out: &mut O) -> Result<(), Fault> {
-        let mut rest = self.rows.as_slice();
-        for _ in 0..self.rows.len() {
+        let mut rest = self.0.rows.as_slice();
+        for _ in 0..self.0.rows.len() {
             let Some(first) = rest.first() else {
                 break;
             };
@@ -43,7 +47,7 @@ impl Picture<'_> {
 
     fn domain_of(&self, row: &Row) -> u8 {
         match row {
-            Row::Clock { place, .. } => self.forest.domain_of(*place).unwrap_or(0),
+            Row::Clock { place, .. } => self.0.forest.domain_of(*place).unwrap_or(0),
             Row::NotSeen { domain, .. } => *domain,
         }
     }
@@ -64,8 +68,8 @@ impl Picture<'_> {
     fn clock_of(&self, row: &Row) -> Option<(Source, &Clock)> {
         match row {
             Row::Clock { place, .. } => {
-                let source = self.forest.sources.get(*place)?;
-                Some((*source, self.site.clocks.get(source)?))
+                let source = self.0.forest.sources.get(*place)?;
+                Some((*source, self.0.site.clocks.get(source)?))
             }
             Row::NotSeen { .. } => None,
         }
@@ -133,25 +137,25 @@ impl Picture<'_> {
 
     /// What is said of a clock at which a loop is cut: it is a root, and follows one that is seen.
     fn cut(&self, place: usize, depth: u32) -> &'static str {
-        match self.forest.followed.get(place) {
+        match self.0.forest.followed.get(place) {
             Some(Some(_)) if depth == 0 => "  (in a loop)",
             _ => "",
         }
     }
 
     fn print_left_out<O: Write>(&self, out: &mut O) -> io::Result<()> {
-        if self.left_out.clocks != 0 {
+        if self.0.left_out.clocks != 0 {
             writeln!(
                 out,
                 "left out: {} clocks behind the first {CLOCKS}",
-                self.left_out.clocks
+                self.0.left_out.clocks
             )?;
         }
-        if self.left_out.ports != 0 {
+        if self.0.left_out.ports != 0 {
             writeln!(
                 out,
                 "left out: {} ports behind the first {PORTS}",
-                self.left_out.ports
+                self.0.left_out.ports
             )?;
         }
         Ok(())
@@ -159,19 +163,19 @@ impl Picture<'_> {
 
     /// The findings, one a line. A grandmaster that is not seen is one, with how many clocks name it.
     fn print_findings<O: Write>(&self, alloc: Global, out: &mut O) -> Result<(), Fault> {
-        if self.site.is_empty() {
+        if self.0.site.is_empty() {
             writeln!(out, "no clock answered")?;
             return Ok(());
         }
         let unseen = self.unseen(alloc).map_err(|_| Fault::OutOfMemory)?;
-        let lines = lines_of(self.findings.as_slice(), unseen.as_slice());
+        let lines = lines_of(self.0.findings.as_slice(), unseen.as_slice());
         if lines == 0 {
             writeln!(out, "findings: none")?;
         } else {
             writeln!(out, "findings: {lines}")?;
         }
         let mut unseen = unseen.as_slice();
-        for finding in self.findings.as_slice() {
+        for finding in self.0.findings.as_slice() {
             if let What::GrandmasterNotSeen(_) = finding.what {
                 continue;
             }
@@ -185,7 +189,7 @@ impl Picture<'_> {
     /// The grandmasters that are not seen, in their order, each once for each clock that names it.
     fn unseen(&self, alloc: Global) -> Result<Vec<Source>, AllocError> {
         let mut unseen = Vec::new(alloc);
-        for finding in self.findings.as_slice() {
+        for finding in self.0.findings.as_slice() {
             if let What::GrandmasterNotSeen(grandmaster) = finding.what {
                 unseen.push(finding.source.beside(grandmaster))?;
             }
