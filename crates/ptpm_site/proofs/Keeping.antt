@@ -1,6 +1,6 @@
 -- Each answer that is taken is kept, and what counts is what the answers tell.
-use Rattle.std.proofs.Common.{◌≡◌, ℕ, ◌-◌, ◌||◌, Bool, true, false, cond, List, [], ◌∷◌, ◌++◌, Option, Some, None, length, refl, sym, ◌∙◌, ap}
-use Rattle.std.specs.List.{filter, filter_map, list_any, cons_option}
+use Rattle.std.proofs.Common.{◌≡◌, ℕ, ◌-◌, ◌||◌, Bool, true, false, cond, List, [], ◌∷◌, ◌++◌, Option, Some, None, length, refl, sym, ◌∙◌, ap, append-nil}
+use Rattle.std.specs.List.{filter, filter_map, fold, list_any, cons_option}
 use Rattle.std.specs.Option.{is_some, option_map, option_map_or, option_and_then, option_to_list}
 use Rattle.std.proofs.lemmas.List.Elements.{filter-append, filter_map-append}
 use Rattle.std.proofs.lemmas.List.Folds.{list_any-append}
@@ -10,7 +10,7 @@ use Rattle.ptpm_site.specs.declared.clock.Heard.{Heard}
 use Rattle.ptpm_site.specs.declared.site.Site.{Site}
 use Rattle.ptpm_site.specs.declared.source.Source.{Source}
 use Rattle.ptpm_site.specs.declared.told.Told.{Told}
-use Rattle.ptpm_site.specs.Answers.{all_heard, answers_of, counting, heard, heard_now, is_seen, same_source}
+use Rattle.ptpm_site.specs.Answers.{all_heard, answers_of, counting, heard, heard_now, is_seen, place_clock, place_number, port_number, ports_of, same_source}
 use Rattle.ptpm_site.specs.Keeping.{Keeps, Takes, added}
 use Rattle.std.specs.BTreeMap.{get}
 use Rattle.std.specs.Ordering.{nat_cmp}
@@ -48,14 +48,32 @@ kept_more : {A : Type 0} → (says : Told → Option A) (s : Source) (answers : 
     → new ≡ all_heard says s (answers ++ a ∷ [])
 kept_more says s answers a old new e h = e ∙ ap (λ l. l ++ added says s a) h ∙ sym (all_heard-more says s answers a)
 
+fold_more : {A B : Type 0} → (f : B → A → B) (b : B) (xs : List A) (x : A) → fold f b (xs ++ x ∷ []) ≡ f (fold f b xs) x
+fold_more f b [] x = refl
+fold_more f b (y ∷ xs) x = fold_more f (f b y) xs x
+
+numbers_here : (s : Source) (answers : List Answer) (a : Answer) (b : Bool)
+    → fold (λ ns x. place_number ns (port_number x.told)) [] (answers_of s answers ++ cond b (a ∷ []) [])
+    ≡ cond b (place_number (ports_of s answers) (port_number a.told)) (ports_of s answers)
+numbers_here s answers a true = fold_more (λ ns x. place_number ns (port_number x.told)) [] (answers_of s answers) a
+numbers_here s answers a false = ap (fold (λ ns x. place_number ns (port_number x.told)) []) (append-nil (answers_of s answers))
+
+ports_of-more : (s : Source) (answers : List Answer) (a : Answer)
+    → ports_of s (answers ++ a ∷ []) ≡ cond (same_source s a.source) (place_number (ports_of s answers) (port_number a.told)) (ports_of s answers)
+ports_of-more s answers a =
+    ap (fold (λ ns x. place_number ns (port_number x.told)) []) (filter-append (λ x. same_source s x.source) answers (a ∷ []))
+    ∙ numbers_here s answers a (same_source s a.source)
+
 -- one more answer that is taken is kept behind all others
 pub Keeps-more : (old new : Site) (answers : List Answer) (a : Answer) → Takes old new a → Keeps old answers → Keeps new (answers ++ a ∷ [])
 Keeps-more old new answers a t k = record {
+  clocks = t.clocks ∙ ap (λ cs. place_clock cs a) k.clocks ∙ sym (fold_more place_clock [] answers a);
   seen = λ s. t.seen s ∙ ap (λ b. b || same_source s a.source) (k.seen s) ∙ sym (is_seen-more s answers a);
   defaults = λ s. kept_more _ s answers a _ _ (t.defaults s) (k.defaults s);
   currents = λ s. kept_more _ s answers a _ _ (t.currents s) (k.currents s);
   parents = λ s. kept_more _ s answers a _ _ (t.parents s) (k.parents s);
   times = λ s. kept_more _ s answers a _ _ (t.times s) (k.times s);
+  numbers = λ s. t.numbers s ∙ ap (λ ns. cond (same_source s a.source) (place_number ns (port_number a.told)) ns) (k.numbers s) ∙ sym (ports_of-more s answers a);
   ports = λ s n. kept_more _ s answers a _ _ (t.ports s n) (k.ports s n);
 }
 
@@ -74,6 +92,7 @@ port_of_clock n (Some c) = port_counting c n
 
 -- what counts of what is kept is what counts of the answers
 pub kept_is_told : (site : Site) (answers : List Answer) → Keeps site answers → kept site ≡ told_by answers
+unfolding kept
 kept_is_told site answers k =
     let default = λ (s : Source). counting_of (λ c. c.defaults.items) (clock_at site s) ∙ ap counting (k.defaults s) in
     let current = λ (s : Source). counting_of (λ c. c.currents.items) (clock_at site s) ∙ ap counting (k.currents s) in
@@ -81,10 +100,13 @@ kept_is_told site answers k =
     let time = λ (s : Source). counting_of (λ c. c.times.items) (clock_at site s) ∙ ap counting (k.times s) in
     let port = λ (s : Source) (n : ℕ). port_of_clock n (clock_at site s) ∙ ap counting (k.ports s n) in
     λ i. record {
+      clocks = k.clocks i;
       seen = λ s. k.seen s i;
       default = λ s. default s i;
       current = λ s. current s i;
       parent = λ s. parent s i;
       time = λ s. time s i;
+      ports = λ s. k.numbers s i;
+      heard = λ s n. k.ports s n i;
       port = λ s n. port s n i;
     }

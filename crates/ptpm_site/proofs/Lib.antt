@@ -1,3 +1,6 @@
+pub mod Defined
 pub mod Keeping
+pub mod Places
+pub mod Ports
 pub mod Rows
 pub mod Sources

@@ -1,9 +1,10 @@
 -- Rows that are added to a tree, and marks.
-use Rattle.std.proofs.Common.{◌≡◌, ℕ, ◌+◌, ◌<◌, ◌≢◌, ◌==◌, Bool, true, false, cond, zero, suc, List, [], ◌∷◌, ◌++◌, length, get_or, set, refl, ap, sym, ◌∙◌, arith, ⊎_elim}
+use Rattle.std.proofs.Common.{◌≡◌, ℕ, ◌+◌, ◌<◌, ◌≢◌, ◌==◌, Bool, true, false, cond, zero, suc, List, [], ◌∷◌, ◌++◌, length, get_or, set, append-nil, refl, ap, sym, ◌∙◌, arith, ⊎_elim}
 use Rattle.std.proofs.lemmas.Grind.{common_steps}
 use Rattle.std.proofs.lemmas.Bool.{cases_eq}
 use Rattle.std.proofs.lemmas.List.{get_or-set_same, get_or-set_other}
 use Rattle.std.proofs.lemmas.List.Elements.{filter_map-append}
+use Rattle.std.specs.List.{count_by}
 use Rattle.ptpm_codec.specs.declared.identity.PortIdentity.{PortIdentity}
 use Rattle.ptpm_site.specs.declared.tree.Row.{Row}
 use Rattle.ptpm_site.specs.declared.tree.Row.TheVariants as row
@@ -22,7 +23,8 @@ rows_at-clock rows p depth q = grind (arith, common_steps, filter_map-append)
 
 -- one that names a port
 pub rows_at-not_seen : (rows : List Row) (domain : ℕ) (parent : PortIdentity) (q : ℕ) → rows_at q (rows ++ row.NotSeen domain parent ∷ []) ≡ rows_at q rows
-rows_at-not_seen rows domain parent q = grind (arith, common_steps, filter_map-append)
+rows_at-not_seen rows domain parent q =
+    ap (count_by (λ p. p == q)) (filter_map-append place_of rows (row.NotSeen domain parent ∷ []) ∙ append-nil (places_of rows))
 
 -- a clock that has no row gets one, and its mark
 pub IsGrown-clock : (marks : List Bool) (rows : List Row) (p depth : ℕ)

@@ -7,8 +7,7 @@ use Rattle.std.specs.Cmp.{IsTotalOrder}
 use Rattle.std.specs.Cmp.Lexicographic.{slice_cmp}
 use Rattle.std.specs.Ordering.{eq_by_cmp, nat_cmp}
 use Rattle.ptpm_site.specs.declared.source.Source.{Source}
-use Rattle.ptpm_site.specs.Answers.{same_source}
-use Rattle.ptpm_site.specs.Kept.{source_cmp}
+use Rattle.ptpm_site.specs.Answers.{same_source, source_cmp}
 
 pub sources_total : IsTotalOrder source_cmp
 sources_total = then_total (on_total (λ s. s.domain) nat_cmp_total) (on_total (λ s. s.clock.0) nat_list_cmp_total)

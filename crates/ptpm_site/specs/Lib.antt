@@ -1,7 +1,9 @@
 pub mod Amounts
 pub mod Answers
 pub mod Differences
+pub mod Findings
 pub mod Following
+pub mod Grandmasters
 pub mod Keeping
 pub mod Kept
 pub mod Parents

@@ -1,5 +1,5 @@
 -- The states of ports (IEEE 1588-2019, 9.2.5), how they measure delay (8.2.15.4.4), and `port_state`.
-use Rattle.std.specs.Prelude.{ℕ, ◌==◌, ◌&&◌, ◌-◌, Bool, true, false, not, List, length, slice_get, take, reverse, Option, Some, None, if◌then◌else◌, option_and_then, find}
+use Rattle.std.specs.Prelude.{ℕ, zero, suc, ◌==◌, ◌&&◌, ◌-◌, Bool, true, false, not, List, length, slice_get, take, reverse, Option, Some, None, if◌then◌else◌, option_and_then, find}
 use Rattle.std.specs.Option.{option_map_or}
 use Rattle.ptpm_codec.specs.Identity.{same_identity}
 use Rattle.ptpm_data.specs.declared.port_state.PortState.{PortState}
@@ -9,6 +9,8 @@ use Rattle.ptpm_site.specs.declared.clock.Heard.{Heard}
 use Rattle.ptpm_site.specs.declared.data_sets.DelayMechanism.{DelayMechanism}
 use Rattle.ptpm_site.specs.declared.data_sets.DelayMechanism.TheVariants as mechanisms
 use Rattle.ptpm_site.specs.declared.data_sets.PortDataSet.{PortDataSet}
+use Rattle.ptpm_site.specs.declared.port_groups.PortGroup.{PortGroup}
+use Rattle.ptpm_site.specs.declared.port_groups.PortGroup.TheVariants as groups
 
 -- a port in MASTER or PRE_MASTER gives time, or is about to
 abbrev pub is_leading : Option PortState → Bool
@@ -21,6 +23,41 @@ abbrev pub is_following : Option PortState → Bool
 is_following (Some states.Slave) = true
 is_following (Some states.Uncalibrated) = true
 is_following _ = false
+
+-- a port in MASTER, PRE_MASTER or PASSIVE gives time, is about to, or stands by
+abbrev pub is_giving : Option PortState → Bool
+is_giving (Some states.Master) = true
+is_giving (Some states.PreMaster) = true
+is_giving (Some states.Passive) = true
+is_giving _ = false
+
+abbrev pub is_master : Option PortState → Bool
+is_master (Some states.Master) = true
+is_master _ = false
+
+abbrev pub is_passive : Option PortState → Bool
+is_passive (Some states.Passive) = true
+is_passive _ = false
+
+abbrev pub is_slave : Option PortState → Bool
+is_slave (Some states.Slave) = true
+is_slave _ = false
+
+abbrev pub is_of : PortGroup → Option PortState → Bool
+is_of groups.Master state = is_master state
+is_of groups.Giving state = is_giving state
+is_of groups.Taking state = is_following state
+is_of groups.Passive state = is_passive state
+is_of groups.Slave state = is_slave state
+
+-- a port that answered so is in a state of a group
+abbrev pub is_port_of : PortGroup → Option PortDataSet → Bool
+is_port_of group o = option_map_or (λ set. is_of group set.state) o false
+
+-- what holds of each number from 1 on to this
+abbrev pub holds_to : (ℕ → Bool) → ℕ → Bool
+holds_to p zero = true
+holds_to p (suc n) = p (suc n) && holds_to p n
 
 -- a port in INITIALIZING, PRE_MASTER or UNCALIBRATED is on its way to another state
 abbrev pub is_on_the_way : PortState → Bool

@@ -1,8 +1,11 @@
 //! What the answers tell of one clock.
 
-ghost use Rattle.std.specs.Prelude.{◌≡◌, ℕ, ◌++◌, OnOk};
-ghost use Rattle.ptpm_site.specs.Answers.{counting, current_told, default_told, heard_now, parent_told, port_told, time_told};
-ghost use Rattle.ptpm_site.specs.Kept.{port_heard, port_kept};
+ghost use Rattle.std.specs.Prelude.{◌≡◌, ℕ, ◌==◌, ◌++◌, [], ◌∷◌, OnOk, if◌then◌else◌};
+ghost use Rattle.std.specs.BTreeMap.{keys};
+ghost use Rattle.std.specs.List.{list_any};
+ghost use Rattle.ptpm_site.specs.Answers.{counting, current_told, default_told, heard_now, parent_told, place_number, port_number, port_told, time_told};
+ghost use Rattle.ptpm_site.specs.Kept.{heard_of, port_heard, port_kept};
+ghost use Rattle.ptpm_site.specs.PortStates.{is_port_of};
 
 use crate::answer::Request;
 use crate::asked::Asked;
@@ -10,8 +13,8 @@ use crate::data_sets::{
     CurrentDataSet, DefaultDataSet, ParentDataSet, PortDataSet, TimePropertiesDataSet,
 };
 use crate::description::Description;
+use crate::port_groups::PortGroup;
 use crate::told::Told;
-use ptpm_data::PortState;
 use std::alloc::{AllocError, Global};
 use std::collections::BTreeMap;
 
@@ -64,6 +67,7 @@ impl Clock {
             ≡ self.old.parents.items ++ heard_now parent_told request told) }
         ensures times { OnOk result (self.new.times.items
             ≡ self.old.times.items ++ heard_now time_told request told) }
+        ensures numbers { OnOk result (keys self.new.ports ≡ place_number (keys self.old.ports) (port_number told)) }
         ensures ports { OnOk result ((n : ℕ) → port_heard self.new n
             ≡ port_heard self.old n ++ heard_now (port_told n) request told) }
     {
@@ -74,8 +78,7 @@ impl Clock {
             Told::Time(set) => self.times.push(Heard { request, set })?,
             Told::Description(set) => self.descriptions.push(Heard { request, set })?,
             Told::Port(number, set) => {
-                let port = self.ports.entry(number)?.or_insert(Vec::new(alloc));
-                port.push(Heard { request, set })?;
+                put_port(alloc, &mut self.ports, number, Heard { request, set })?;
             }
             Told::Refused(asked) => self.refuse(asked)?,
         }
@@ -130,16 +133,26 @@ impl Clock {
         last_of(self.ports.get(&number)?.as_slice())
     }
 
-    /// Whether a port that answered is in one of these states.
-    pub fn has_port_in(&self, states: &[PortState]) -> bool {
-        for heard in self.ports.values() {
-            if let Some(set) = last_of(heard.as_slice()) {
-                if set.is_in(states) {
-                    return true;
-                }
-            }
+    /// What was heard of a port, in the order of the lines.
+    pub fn heard(&self, number: u16) -> &[Heard<PortDataSet>]
+        ensures { result.now ≡ port_heard self.now number }
+    {
+        match self.ports.get(&number) {
+            Some(heard) => heard.as_slice(),
+            None => &[],
         }
-        false
+    }
+
+    /// Whether a port that answered is in a state of a group.
+    pub fn has_port_of(&self, group: PortGroup) -> bool
+        ensures { result ≡ list_any (λ n. is_port_of group (port_kept self.now n)) (keys self.now.ports) }
+    {
+        self.ports.keys().any(|number| {
+            match self.port(*number) {
+                Some(set) => group.has(set.state),
+                None => false,
+            }
+        })
     }
 
     /// Keeps at most so many ports, the first; how many were left out.
@@ -155,6 +168,26 @@ impl Clock {
     pub fn refuses(&self, asked: Asked) -> bool {
         self.refused.contains(&asked)
     }
+}
+
+/// What was heard of a port stands behind all that was heard of it.
+fn put_port(
+    alloc: Global,
+    ports: &mut BTreeMap<u16, Vec<Heard<PortDataSet>>>,
+    number: u16,
+    heard: Heard<PortDataSet>,
+) -> Result<(), AllocError>
+    ensures numbers { OnOk result (keys ports.new ≡ place_number (keys ports.old) (Some number)) }
+    ensures heard { OnOk result ((n : ℕ) → heard_of ports.new n
+        ≡ heard_of ports.old n ++ (if number == n then heard ∷ [] else [])) }
+{
+    if !ports.contains_key(&number) {
+        ports.insert(number, Vec::new(alloc))?;
+    }
+    if let Some(all) = ports.get_mut(&number) {
+        all.push(heard)?;
+    }
+    Ok(())
 }
 
 /// The data set of the answer that counts: the last.

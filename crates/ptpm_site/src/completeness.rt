@@ -5,19 +5,6 @@ use crate::clock::Clock;
 use std::alloc::{AllocError, Global};
 
 impl Clock {
-    /// Whether the clock's DEFAULT_DATA_SET and each of its ports answered.
-    pub fn all_ports_answered(&self) -> bool {
-        let Some(default) = self.default() else {
-            return false;
-        };
-        for port in 1..=default.number_of_ports {
-            if !self.ports.contains_key(&port) {
-                return false;
-            }
-        }
-        true
-    }
-
     /// Whether an id was neither answered nor refused.
     pub fn lacks(&self, asked: Asked) -> bool {
         let silent = match asked {

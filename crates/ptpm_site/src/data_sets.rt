@@ -202,14 +202,6 @@ impl PortDataSet {
         Some((port_at(octets, 0), set))
     }
 
-    /// Whether the port is in one of these states.
-    pub fn is_in(&self, states: &[PortState]) -> bool {
-        match self.state {
-            Some(state) => states.contains(&state),
-            None => false,
-        }
-    }
-
     /// Whether the port takes time from a master, or is about to.
     pub fn is_following(&self) -> bool
         ensures { result ≡ is_following self.now.state }

@@ -1,9 +1,7 @@
 //! Where a clock says otherwise than its grandmaster or the port that it follows.
 
-ghost use Rattle.std.specs.Prelude.{◌≡◌, is_some, not};
-ghost use Rattle.std.specs.Ordering.{int_eq};
-ghost use Rattle.ptpm_codec.specs.Identity.{same_clock};
-ghost use Rattle.ptpm_site.specs.Differences.{measure_otherwise};
+ghost use Rattle.std.specs.Prelude.{◌≡◌};
+ghost use Rattle.ptpm_site.specs.Differences.{flag_differs, grandmaster_differs, intervals_differ, mechanism_differs, number_differs, other_grandmaster, quality_differs, utc_differs};
 
 use crate::data_sets::{
     ClockQuality, DefaultDataSet, ParentDataSet, PortDataSet, TimePropertiesDataSet,
@@ -20,7 +18,7 @@ pub struct Differs {
 
 /// The member, where the numbers differ.
 fn number_differs(member: Member, own: i64, other: i64) -> Option<Differs>
-    ensures { is_some result ≡ not (int_eq own other) }
+    ensures { result ≡ number_differs member own other }
 {
     if own == other {
         return None;
@@ -33,7 +31,9 @@ fn number_differs(member: Member, own: i64, other: i64) -> Option<Differs>
 }
 
 /// The member, where the flags differ.
-fn flag_differs(member: Member, own: bool, other: bool) -> Option<Differs> {
+fn flag_differs(member: Member, own: bool, other: bool) -> Option<Differs>
+    ensures { result ≡ flag_differs member own other }
+{
     if own == other {
         return None;
     }
@@ -45,7 +45,9 @@ fn flag_differs(member: Member, own: bool, other: bool) -> Option<Differs> {
 }
 
 /// The member, where the ClockQualities differ.
-fn quality_differs(member: Member, own: ClockQuality, other: ClockQuality) -> Option<Differs> {
+fn quality_differs(member: Member, own: ClockQuality, other: ClockQuality) -> Option<Differs>
+    ensures { result ≡ quality_differs member own other }
+{
     if own == other {
         return None;
     }
@@ -60,7 +62,9 @@ fn quality_differs(member: Member, own: ClockQuality, other: ClockQuality) -> Op
 pub fn grandmaster_differs(
     own: &ParentDataSet,
     grandmaster: &DefaultDataSet,
-) -> [Option<Differs>; 3] {
+) -> [Option<Differs>; 3]
+    ensures { result ≡ grandmaster_differs own.now grandmaster.now }
+{
     [
         number_differs(
             Member::GrandmasterPriority1,
@@ -82,7 +86,7 @@ pub fn grandmaster_differs(
 
 /// grandmasterIdentity, where a clock names another than the clock that it follows.
 pub fn other_grandmaster(own: &ParentDataSet, parent: &ParentDataSet) -> Option<Differs>
-    ensures { is_some result ≡ not (same_clock own.now.grandmaster parent.now.grandmaster) }
+    ensures { result ≡ other_grandmaster own.now parent.now }
 {
     if own.grandmaster == parent.grandmaster {
         return None;
@@ -98,7 +102,9 @@ pub fn other_grandmaster(own: &ParentDataSet, parent: &ParentDataSet) -> Option<
 pub fn utc_differs(
     own: &TimePropertiesDataSet,
     grandmaster: &TimePropertiesDataSet,
-) -> [Option<Differs>; 5] {
+) -> [Option<Differs>; 5]
+    ensures { result ≡ utc_differs own.now grandmaster.now }
+{
     [
         number_differs(
             Member::CurrentUtcOffset,
@@ -122,7 +128,9 @@ pub fn utc_differs(
 
 /// What a port in SLAVE or UNCALIBRATED says otherwise than the port that it follows: logAnnounceInterval, and a
 /// delayMechanism that measures another delay.
-pub fn intervals_differ(own: &PortDataSet, parent: &PortDataSet) -> [Option<Differs>; 2] {
+pub fn intervals_differ(own: &PortDataSet, parent: &PortDataSet) -> [Option<Differs>; 2]
+    ensures { result ≡ intervals_differ own.now parent.now }
+{
     if !own.is_following() {
         return [None, None];
     }
@@ -139,7 +147,7 @@ pub fn intervals_differ(own: &PortDataSet, parent: &PortDataSet) -> [Option<Diff
 /// delayMechanism, where one port measures the delay from end to end and the other that of the link; others say nothing
 /// against a link.
 fn mechanism_differs(own: &PortDataSet, parent: &PortDataSet) -> Option<Differs>
-    ensures { is_some result ≡ measure_otherwise own.now.delay_mechanism parent.now.delay_mechanism }
+    ensures { result ≡ mechanism_differs own.now parent.now }
 {
     if own.measures_link() && parent.measures_end_to_end()
         || own.measures_end_to_end() && parent.measures_link()

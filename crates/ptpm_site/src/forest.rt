@@ -1,5 +1,8 @@
 //! Who follows whom, by the places of the clocks in their order.
 
+ghost use Rattle.std.specs.Prelude.{◌≡◌, IfOk};
+ghost use Rattle.ptpm_site.specs.Kept.{kept};
+
 use crate::site::Site;
 use crate::source::Source;
 use ptpm_codec::PortIdentity;
@@ -35,8 +38,10 @@ pub struct Forest {
 }
 
 impl Forest {
-    pub fn of(alloc: Global, site: &Site) -> Result<Forest, AllocError> {
-        let sources: Vec<Source> = site.clocks.keys().copied().collect(alloc)?;
+    pub fn of(alloc: Global, site: &Site) -> Result<Forest, AllocError>
+        ensures { IfOk result (λ forest. forest.sources.items ≡ (kept site.now).clocks) }
+    {
+        let sources = site.sources(alloc)?;
         let mut forest = Forest {
             sources: Vec::new(alloc),
             followed: Vec::new(alloc),

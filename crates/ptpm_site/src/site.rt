@@ -1,14 +1,16 @@
 //! The clocks of a site, by the answers that were taken.
 
-ghost use Rattle.std.specs.Prelude.{◌≡◌, [], OnOk};
+ghost use Rattle.std.specs.Prelude.{◌≡◌, [], OnOk, IfOk};
 ghost use Rattle.ptpm_site.specs.Keeping.{Keeps, Takes};
 ghost use Rattle.ptpm_site.specs.Kept.{kept};
+ghost use Rattle.ptpm_site.specs.Telling.{has_port_of, has_ports_to};
 
 use crate::answer::Answer;
-use crate::clock::Clock;
+use crate::clock::{Clock, Heard};
 use crate::data_sets::{
     CurrentDataSet, DefaultDataSet, ParentDataSet, PortDataSet, TimePropertiesDataSet,
 };
+use crate::port_groups::PortGroup;
 use crate::source::Source;
 use std::alloc::{AllocError, Global};
 use std::collections::BTreeMap;
@@ -51,8 +53,13 @@ impl Site {
             request,
             told,
         } = answer;
-        let clock = self.clocks.entry(source)?.or_insert(Clock::new(alloc));
-        clock.take(alloc, request, told)
+        if !self.clocks.contains_key(&source) {
+            self.clocks.insert(source, Clock::new(alloc))?;
+        }
+        match self.clocks.get_mut(&source) {
+            Some(clock) => clock.take(alloc, request, told),
+            None => Ok(()),
+        }
     }
 
     /// Keeps the first clocks, by domain and identity, and the first of their ports; the others are as if they had not
@@ -75,7 +82,61 @@ impl Site {
         self.clocks.is_empty()
     }
 
+    /// The clocks that are seen, by domain and then by identity.
+    #[tactic(auto, unfolding(crate::specs::Kept::kept))]
+    pub fn sources(&self, alloc: Global) -> Result<Vec<Source>, AllocError>
+        ensures { IfOk result (λ sources. sources.items ≡ (kept self.now).clocks) }
+    {
+        self.clocks.keys().copied().collect(alloc)
+    }
+
+    /// The numbers of a clock's ports that answered, ascending.
+    #[tactic(auto, unfolding(crate::specs::Kept::kept))]
+    pub fn ports(&self, alloc: Global, source: Source) -> Result<Vec<u16>, AllocError>
+        ensures { IfOk result (λ ports. ports.items ≡ (kept self.now).ports source) }
+    {
+        match self.clocks.get(&source) {
+            Some(clock) => clock.ports.keys().copied().collect(alloc),
+            None => Ok(Vec::new(alloc)),
+        }
+    }
+
+    /// Whether a port of a clock that answered is in a state of a group.
+    #[tactic(auto, unfolding(crate::specs::Kept::kept))]
+    pub fn has_port_of(&self, source: Source, group: PortGroup) -> bool
+        ensures { result ≡ has_port_of (kept self.now) source group }
+    {
+        match self.clocks.get(&source) {
+            Some(clock) => clock.has_port_of(group),
+            None => false,
+        }
+    }
+
+    /// Whether each port of a clock from 1 to a number answered.
+    pub fn has_ports_to(&self, source: Source, last: u16) -> bool
+        ensures { result ≡ has_ports_to (kept self.now) source last }
+    {
+        for before in 0..last {
+            if self.port(source, before + 1).is_none() {
+                return false;
+            }
+        }
+        true
+    }
+
+    /// What was heard of a port of a clock, in the order of the lines.
+    #[tactic(auto, unfolding(crate::specs::Kept::kept))]
+    pub fn heard(&self, source: Source, port: u16) -> &[Heard<PortDataSet>]
+        ensures { result.now ≡ (kept self.now).heard source port }
+    {
+        match self.clocks.get(&source) {
+            Some(clock) => clock.heard(port),
+            None => &[],
+        }
+    }
+
     /// Whether a clock is seen.
+    #[tactic(auto, unfolding(crate::specs::Kept::kept))]
     pub fn sees(&self, source: Source) -> bool
         ensures { result ≡ (kept self.now).seen source }
     {
@@ -83,6 +144,7 @@ impl Site {
     }
 
     /// DEFAULT_DATA_SET of a clock, where it was answered.
+    #[tactic(auto, unfolding(crate::specs::Kept::kept))]
     pub fn default(&self, source: Source) -> Option<DefaultDataSet>
         ensures { result ≡ (kept self.now).default source }
     {
@@ -90,6 +152,7 @@ impl Site {
     }
 
     /// CURRENT_DATA_SET of a clock, where it was answered.
+    #[tactic(auto, unfolding(crate::specs::Kept::kept))]
     pub fn current(&self, source: Source) -> Option<CurrentDataSet>
         ensures { result ≡ (kept self.now).current source }
     {
@@ -97,6 +160,7 @@ impl Site {
     }
 
     /// PARENT_DATA_SET of a clock, where it was answered.
+    #[tactic(auto, unfolding(crate::specs::Kept::kept))]
     pub fn parent(&self, source: Source) -> Option<ParentDataSet>
         ensures { result ≡ (kept self.now).parent source }
     {
@@ -104,6 +168,7 @@ impl Site {
     }
 
     /// TIME_PROPERTIES_DATA_SET of a clock, where it was answered.
+    #[tactic(auto, unfolding(crate::specs::Kept::kept))]
     pub fn time(&self, source: Source) -> Option<TimePropertiesDataSet>
         ensures { result ≡ (kept self.now).time source }
     {
@@ -111,6 +176,7 @@ impl Site {
     }
 
     /// PORT_DATA_SET of a port of a clock, where it was answered.
+    #[tactic(auto, unfolding(crate::specs::Kept::kept))]
     pub fn port(&self, source: Source, number: u16) -> Option<PortDataSet>
         ensures { result ≡ (kept self.now).port source number }
     {

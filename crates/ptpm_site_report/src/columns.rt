@@ -1,8 +1,8 @@
 //! The columns of a clock's line.
 
 use ptpm_site::clock::Clock;
+use ptpm_site::port_groups::PortGroup;
 use crate::intervals::Whole;
-use ptpm_data::PortState;
 use std::alloc::{AllocError, Global};
 use std::io;
 use std::io::Write;
@@ -69,7 +69,7 @@ impl Columns {
         if let Some(current) = clock.current() {
             steps = format!(in alloc; "{}", current.steps_removed)?;
             delay = format!(in alloc; "{} ns", Whole(current.mean_delay))?;
-            if clock.has_port_in(&[PortState::Slave]) {
+            if clock.has_port_of(PortGroup::Slave) {
                 offset = format!(in alloc; "{} ns", Whole(current.offset_from_master))?;
             }
         }

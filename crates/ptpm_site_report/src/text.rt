@@ -5,7 +5,6 @@ ghost use Rattle.std.specs.Prelude.{◌≤◌, length};
 use ptpm_site::clock::Clock;
 use crate::columns::{Columns, Widths, print_spaces};
 use ptpm_site::finding::{Finding, What};
-use ptpm_site::grandmasters::leads;
 use ptpm_site::picture::Picture;
 use crate::ports_text::PortsText;
 use ptpm_site::site::{CLOCKS, PORTS};
@@ -85,8 +84,8 @@ impl Sheet<'_> {
         write!(out, "domain {domain}: {clocks} {noun}")?;
         let mut word = "grandmaster";
         for row in rows {
-            if let Some((source, clock)) = self.clock_of(row) {
-                if leads(source, clock) {
+            if let Some((source, _)) = self.clock_of(row) {
+                if self.0.site.leads(source) {
                     write!(out, ", {word} {}", source.clock)?;
                     word = "and";
                 }

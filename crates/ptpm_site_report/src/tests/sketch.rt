@@ -48,7 +48,7 @@ pub(super) fn port(number: u8, port: u16) -> PortIdentity {
 }
 
 /// A clock with one port in this state, of class 248, that names clock 1 as its grandmaster and follows its port 1.
-fn sketch(number: u8, state: PortState) -> Sketch {
+fn clock_in(number: u8, state: PortState) -> Sketch {
     let quality = ClockQuality {
         class: 248,
         accuracy: 0xfe,
@@ -107,7 +107,7 @@ fn sketch(number: u8, state: PortState) -> Sketch {
 
 /// A clock that is its own grandmaster, with a port in MASTER.
 pub(super) fn grandmaster(number: u8) -> Sketch {
-    let mut clock = sketch(number, PortState::Master);
+    let mut clock = clock_in(number, PortState::Master);
     clock.parent.parent = port(number, 0);
     clock.parent.grandmaster = identity(number);
     clock.current.steps_removed = 0;
@@ -116,7 +116,7 @@ pub(super) fn grandmaster(number: u8) -> Sketch {
 
 /// A clock that follows port 1 of clock 1.
 pub(super) fn slave(number: u8) -> Sketch {
-    sketch(number, PortState::Slave)
+    clock_in(number, PortState::Slave)
 }
 
 /// The request of this number of the one requester.

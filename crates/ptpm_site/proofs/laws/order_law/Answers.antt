@@ -5,10 +5,13 @@ use Rattle.ptpm_site.proofs.laws.order_law.Goals as goal
 
 pub returns : goal.returns
 returns c = λ xs ys k. λ i. record {
+  clocks = k.clocks i;
   seen = λ s. k.seen s i;
   default = λ s. counting (k.defaults s i);
   current = λ s. counting (k.currents s i);
   parent = λ s. counting (k.parents s i);
   time = λ s. counting (k.times s i);
+  ports = λ s. k.numbers s i;
+  heard = λ s n. k.ports s n i;
   port = λ s n. counting (k.ports s n i);
 }
