@@ -41,3 +41,16 @@ IsGrown-clock marks rows p depth h within none q =
 
 pub IsGrown-not_seen : (marks : List Bool) (rows : List Row) (domain : ℕ) (parent : PortIdentity) → IsGrown marks rows → IsGrown marks (rows ++ row.NotSeen domain parent ∷ [])
 IsGrown-not_seen marks rows domain parent h q = rows_at-not_seen rows domain parent q ∙ h q
+
+-- the same, with the marks covered first
+pub IsGrown-more : (old_marks covered marks : List Bool) (old_rows rows : List Row) (p depth : ℕ)
+    → IsGrown old_marks old_rows
+    → ((q : ℕ) → get_or covered q false ≡ get_or old_marks q false)
+    → p < length covered
+    → get_or old_marks p false ≡ false
+    → rows ≡ old_rows ++ row.Clock p depth ∷ []
+    → marks ≡ set covered p true
+    → IsGrown marks rows
+IsGrown-more old_marks covered marks old_rows rows p depth h same within none more marked q =
+    let grown : IsGrown covered old_rows = λ r. h r ∙ ap (λ b. cond b 1 0) (sym (same r)) in
+    ap (rows_at q) more ∙ IsGrown-clock covered old_rows p depth grown within (same p ∙ none) q ∙ ap (λ ms. cond (get_or ms q false) 1 0) (sym marked)
