@@ -4,3 +4,4 @@ pub mod Places
 pub mod Ports
 pub mod Rows
 pub mod Sources
+pub mod Taking

@@ -5,6 +5,7 @@ ghost use Rattle.std.specs.BTreeMap.{get, keys};
 ghost use Rattle.std.specs.List.{list_any};
 ghost use Rattle.std.specs.Ordering.{nat_cmp};
 ghost use Rattle.ptpm_site.specs.Answers.{counting, current_told, default_told, heard_now, parent_told, place, place_number, port_number, port_told, time_told};
+ghost use Rattle.ptpm_site.specs.Keeping.{IsSilent};
 ghost use Rattle.ptpm_site.specs.Kept.{heard_of, port_heard, port_kept};
 ghost use Rattle.ptpm_site.specs.PortStates.{is_port_of};
 
@@ -41,7 +42,9 @@ pub struct Clock {
 
 impl Clock {
     /// A clock that told nothing yet.
-    pub fn new(alloc: Global) -> Clock {
+    pub fn new(alloc: Global) -> Clock
+        ensures { IsSilent result }
+    {
         Clock {
             defaults: Vec::new(alloc),
             currents: Vec::new(alloc),
@@ -183,7 +186,8 @@ fn put_port(
         ≡ heard_of ports.old n ++ (if number == n then heard ∷ [] else [])) }
 {
     place_port(alloc, ports, number)?;
-    push_heard(ports, number, heard)
+    push_heard(ports, number, heard)?;
+    Ok(())
 }
 
 /// A port of which nothing was heard gets its place.
