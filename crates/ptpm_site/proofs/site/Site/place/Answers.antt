@@ -3,7 +3,7 @@ use Rattle.std.proofs.Common.{◌≡◌, true, false, ap}
 use Rattle.std.specs.BTreeMap.{get}
 use Rattle.std.specs.Option.{is_some}
 use Rattle.ptpm_site.specs.Answers.{source_cmp}
-use Rattle.ptpm_site.proofs.Taking.{known, placed, some_is}
+use Rattle.ptpm_site.proofs.Clocks.{known, placed, some_is}
 use Rattle.ptpm_site.proofs.site.Site.place.Goals as goal
 
 pub returns-then-contains_key : goal.returns-then-contains_key

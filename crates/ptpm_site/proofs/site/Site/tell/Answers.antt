@@ -1,6 +1,6 @@
 -- What is told stands behind what was.
 use Rattle.std.proofs.Common.{◌≡◌, sym}
-use Rattle.ptpm_site.proofs.Taking.{told}
+use Rattle.ptpm_site.proofs.Clocks.{told}
 use Rattle.ptpm_site.proofs.site.Site.tell.Goals as goal
 
 pub returns-in_ok-take : goal.returns-in_ok-take
