@@ -124,7 +124,7 @@ known old source there is_there = record {
   clocks = sym (place-known source_cmp old.entries source there);
   there = is_there;
   seen = λ s. known_or (get source_cmp old s) (is_at (source_cmp source) s) (moved (λ q. is_some (get source_cmp old q)) source s true there)
-  ∙ tie_or source s (is_some (get source_cmp old s));
+      ∙ tie_or source s (is_some (get source_cmp old s));
   defaults = λ s. refl;
   currents = λ s. refl;
   parents = λ s. refl;
@@ -148,15 +148,15 @@ told old new source request t before after was updates same grows =
       clocks = same;
       seen = λ s. told_seen before after (get source_cmp old s) (get source_cmp new s) (at s) (updates s) (there s);
       defaults = λ s. told_field (λ c. c.defaults.items) before after _ (get source_cmp old s) (get source_cmp new s) (at s) (updates s) (there s) grows.defaults
-      ∙ ap (λ l. option_map_or (λ c. c.defaults.items) (get source_cmp old s) [] ++ l) (tie_cond source s _ []);
+          ∙ ap (λ l. option_map_or (λ c. c.defaults.items) (get source_cmp old s) [] ++ l) (tie_cond source s _ []);
       currents = λ s. told_field (λ c. c.currents.items) before after _ (get source_cmp old s) (get source_cmp new s) (at s) (updates s) (there s) grows.currents
-      ∙ ap (λ l. option_map_or (λ c. c.currents.items) (get source_cmp old s) [] ++ l) (tie_cond source s _ []);
+          ∙ ap (λ l. option_map_or (λ c. c.currents.items) (get source_cmp old s) [] ++ l) (tie_cond source s _ []);
       parents = λ s. told_field (λ c. c.parents.items) before after _ (get source_cmp old s) (get source_cmp new s) (at s) (updates s) (there s) grows.parents
-      ∙ ap (λ l. option_map_or (λ c. c.parents.items) (get source_cmp old s) [] ++ l) (tie_cond source s _ []);
+          ∙ ap (λ l. option_map_or (λ c. c.parents.items) (get source_cmp old s) [] ++ l) (tie_cond source s _ []);
       times = λ s. told_field (λ c. c.times.items) before after _ (get source_cmp old s) (get source_cmp new s) (at s) (updates s) (there s) grows.times
-      ∙ ap (λ l. option_map_or (λ c. c.times.items) (get source_cmp old s) [] ++ l) (tie_cond source s _ []);
+          ∙ ap (λ l. option_map_or (λ c. c.times.items) (get source_cmp old s) [] ++ l) (tie_cond source s _ []);
       numbers = λ s. told_numbers (λ c. keys c.ports) (λ ns. place_number ns (port_number t)) before after (get source_cmp old s) (get source_cmp new s) (at s) (updates s) (there s) grows.numbers
-      ∙ tie_cond source s _ _;
+          ∙ tie_cond source s _ _;
       ports = λ s n. told_field (λ c. port_heard c n) before after _ (get source_cmp old s) (get source_cmp new s) (at s) (updates s) (there s) (grows.ports n)
-      ∙ ap (λ l. option_map_or (λ c. port_heard c n) (get source_cmp old s) [] ++ l) (tie_cond source s _ []);
+          ∙ ap (λ l. option_map_or (λ c. port_heard c n) (get source_cmp old s) [] ++ l) (tie_cond source s _ []);
     }

@@ -11,7 +11,6 @@ use Rattle.std.specs.Option.{is_some}
 use Rattle.std.specs.Ordering.{eq_by_cmp, is_eq, match_ordering}
 use Rattle.ptpm_site.specs.Answers.{place}
 
-
 pub is_some-lookup : {K X : Type 0} (test : K → Bool) (es : List (K × X)) → is_some (lookup test es) ≡ list_any test (keys_of es)
 is_some-lookup test [] = refl
 is_some-lookup test (e ∷ es) = let h = is_some-lookup test es in grind (arith, common_steps)

@@ -57,12 +57,7 @@ impl Clock {
     }
 
     /// Takes what an answer of the clock tells, behind all earlier ones.
-    pub fn take(
-        &mut self,
-        alloc: Global,
-        request: Request,
-        told: Told,
-    ) -> Result<(), AllocError>
+    pub fn take(&mut self, alloc: Global, request: Request, told: Told) -> Result<(), AllocError>
         ensures defaults { OnOk result (self.new.defaults.items
             ≡ self.old.defaults.items ++ heard_now default_told request told) }
         ensures currents { OnOk result (self.new.currents.items

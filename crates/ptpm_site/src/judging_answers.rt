@@ -74,14 +74,42 @@ fn judge_changes<'a>(
 ) -> Result<(), AllocError>
     ensures { OnOk result (defined findings.new.items ≡ defined findings.old.items) }
 {
-    judge_set(alloc, source, None, clock.defaults.as_slice(), sort, findings)?;
-    judge_set(alloc, source, None, clock.currents.as_slice(), sort, findings)?;
-    judge_set(alloc, source, None, clock.parents.as_slice(), sort, findings)?;
+    judge_set(
+        alloc,
+        source,
+        None,
+        clock.defaults.as_slice(),
+        sort,
+        findings,
+    )?;
+    judge_set(
+        alloc,
+        source,
+        None,
+        clock.currents.as_slice(),
+        sort,
+        findings,
+    )?;
+    judge_set(
+        alloc,
+        source,
+        None,
+        clock.parents.as_slice(),
+        sort,
+        findings,
+    )?;
     judge_set(alloc, source, None, clock.times.as_slice(), sort, findings)?;
     for (port, heard) in clock.ports.iter() {
         judge_set(alloc, source, Some(*port), heard.as_slice(), sort, findings)?;
     }
-    judge_set(alloc, source, None, clock.descriptions.as_slice(), sort, findings)
+    judge_set(
+        alloc,
+        source,
+        None,
+        clock.descriptions.as_slice(),
+        sort,
+        findings,
+    )
 }
 
 /// The changes, or the contradictions, among the answers of one data set.

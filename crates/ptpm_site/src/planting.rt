@@ -30,12 +30,7 @@ impl Planting {
     }
 
     /// Gives a clock its row at this depth, and all that follow it theirs below it; each that has one keeps it.
-    pub fn plant(
-        &mut self,
-        forest: &Forest,
-        place: usize,
-        depth: u32,
-    ) -> Result<(), AllocError>
+    pub fn plant(&mut self, forest: &Forest, place: usize, depth: u32) -> Result<(), AllocError>
         ensures marked { OnOk result (slice_index_or self.new.marks.items place false ≡ true) }
         ensures stays { OnOk result (StaysMarked self.old.marks.items self.new.marks.items) }
     {
