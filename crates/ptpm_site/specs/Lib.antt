@@ -8,5 +8,6 @@ pub mod Keeping
 pub mod Kept
 pub mod Parents
 pub mod PortStates
+pub mod Showing
 pub mod Telling
 pub mod Tree
