@@ -14,6 +14,7 @@ use Rattle.std.specs.Ordering.{eq_by_cmp, is_eq, match_ordering, nat_cmp, orderi
 use Rattle.std.specs.declared.cmp.Ordering.{Ordering}
 use Rattle.std.specs.declared.cmp.Ordering.TheVariants.{Less, Equal, Greater}
 use Rattle.ptpm_site.specs.declared.answer.Answer.{Answer}
+use Rattle.ptpm_site.specs.declared.clock.Heard.{Heard}
 use Rattle.ptpm_site.specs.declared.source.Source.{Source}
 use Rattle.ptpm_site.specs.declared.told.Told.{Told}
 use Rattle.ptpm_site.specs.declared.told.Told.TheVariants as told
@@ -165,9 +166,9 @@ heard_here : {A : Type 0} → (says : Told → Option A) (a b : Answer) (others 
     → (p ≡ true → q ≡ true → (says a.told ≡ None) ⊎ (says b.told ≡ None))
     → filter_map (heard says) (cond p (a ∷ cond q (b ∷ others) others) (cond q (b ∷ others) others))
     ≡ filter_map (heard says) (cond q (b ∷ cond p (a ∷ others) others) (cond p (a ∷ others) others))
-heard_here says a b others true true h =
+heard_here {A = A} says a b others true true h =
     let rest = filter_map (heard says) others in
-    let nothing = λ (x : Answer) (e : says x.told ≡ None). ap (option_map (λ set. record { request = x.request; set = set })) e in
+    let nothing = λ (x : Answer) (e : says x.told ≡ None). ap (option_map {U = Heard A} (λ set. record { request = x.request; set = set })) e in
     ⊎_elim (λ e. ap (λ o. cons_option o (cons_option (heard says b) rest)) (nothing a e) ∙ sym (ap (λ o. cons_option (heard says b) (cons_option o rest)) (nothing a e)))
     (λ e. ap (λ o. cons_option (heard says a) (cons_option o rest)) (nothing b e) ∙ sym (ap (λ o. cons_option o (cons_option (heard says a) rest)) (nothing b e)))
     (h refl refl)

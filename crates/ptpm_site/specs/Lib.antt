@@ -9,5 +9,6 @@ pub mod Kept
 pub mod Parents
 pub mod PortStates
 pub mod Showing
+pub mod Swapping
 pub mod Telling
 pub mod Tree

@@ -3,7 +3,7 @@ use Rattle.std.proofs.Common.{◌≡◌, ◌+◌, length}
 use Rattle.std.specs.List.{sum_by}
 use Rattle.ptpm_site.specs.declared.site.TheConstants.{PORTS}
 use Rattle.ptpm_site.specs.Kept.{kept}
-use Rattle.ptpm_site.proofs.showing.Site.is_shown_whole.Given as goal
+use Rattle.ptpm_site.proofs.site.Site.is_shown_whole.Given as goal
 
 abbrev pub invariant-loop-source : goal.invariant-loop-source
 invariant-loop-source l =
