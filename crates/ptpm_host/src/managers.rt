@@ -34,7 +34,9 @@ impl ConfiguredManagers {
     ghost use Rattle.std.specs.Prelude.{IfOk, MatchResult, None, Some};
     ghost use Rattle.ptpm_table.specs.Managers.{table_refusal};
 
-    /// These managers, or why they can't be a clock's. Takes no memory.
+    /// These managers, or why they can't be a clock's. Takes no memory. It is never inlined, so a start has no room for its work on
+    /// the stack when it makes data sets.
+    #[inline(never)]
     #[tactic(auto, using(crate::proofs::ManagerLemmas::too_many, crate::proofs::ManagerLemmas::none_twice))]
     pub fn new(managers: &[ManagerSettings]) -> Result<ConfiguredManagers, TableError>
         ensures managers { IfOk result (λ m. take m.count m.places ≡ configured managers.now) }

@@ -1,6 +1,6 @@
 //! A clock back from its image (this project's profile).
 
-ghost use Rattle.std.specs.Prelude.{◌≡◌, ◌≤◌, ◌%◌, ◌↔◌, IfErr, IfOk, IfSome, IsOkAnd, IsSomeAnd, IsTrue, List, MatchResult, None, true, if◌then◌else◌, length};
+ghost use Rattle.std.specs.Prelude.{◌≡◌, ◌≤◌, ◌%◌, ◌↔◌, IfErr, IfOk, IfSome, IsOkAnd, IsSome, IsSomeAnd, IsTrue, List, MatchResult, None, true, if◌then◌else◌, length};
 ghost use Rattle.std.specs.FinMap as fin;
 ghost use Rattle.std.specs.List.{All};
 ghost use Rattle.std.specs.Ordering.{is_lt};
@@ -97,7 +97,8 @@ pub fn judged(
 }
 
 /// Keeps the entries of an image in an agent whose table knows their managers, and answers how many were let go, since it does
-/// not. Data sets and managers stay. `None` of octets that are no image, whatever was kept then. Takes no memory.
+/// not. Data sets and managers stay. `None` of octets that are no image, whatever was kept then. Takes no memory. Never inlined.
+#[inline(never)]
 pub fn put_back<T: SureTable + Drop>(image: &[u8], agent: &mut Agent<T>) -> Option<u8>
     ensures kept { IfSome result
         (λ gone. (c : SavedClock) × IsImageOf c image.now
@@ -133,7 +134,9 @@ fn judge_head(image: &[u8]) -> Result<(), RestoreError>
     Ok(())
 }
 
-/// The data sets of an image whose entries are entries too. `None` of other octets.
+/// The data sets of an image whose entries are entries too. `None` of other octets. It is never inlined, as those below that say so:
+/// so the stack has one of their frames at a time.
+#[inline(never)]
 fn read_body(image: &[u8]) -> Option<DataSets>
     ensures sound { IfSome result
         (λ sets. (c : SavedClock) × IsImageOf c image.now × (sets ≡ c.sets)) }
@@ -141,12 +144,28 @@ fn read_body(image: &[u8]) -> Option<DataSets>
         → IsSomeAnd result (λ sets. sets ≡ c.sets) }
 {
     let opened = open(image)?;
-    let mut nobody: Agent<SlotTable<0>> = Agent::without_managers(opened.sets.copy());
-    read_entries(opened.count, opened.entries, &mut nobody)?;
+    judge_entries(&opened)?;
     Some(opened.sets)
 }
 
-/// Reads an image as far as its data sets. `None` where its head or its data sets are none.
+/// How many entries an image has that stand where its data sets end, and nothing else; they are read, and none is kept. `None` of other
+/// octets. Never inlined.
+#[inline(never)]
+fn judge_entries(opened: &Opened<'_>) -> Option<u8>
+    ensures sound { IfSome result
+        (λ _. (es : List (PortIdentity × Entry)) × AreEntries es
+        × (length es ≡ opened.now.count) × (opened.now.entries.now ≡ entries_image es)) }
+    ensures found { (es : List (PortIdentity × Entry)) → AreEntries es
+        → length es ≡ opened.now.count → opened.now.entries.now ≡ entries_image es
+        → IsSome result }
+{
+    let mut nobody: Agent<SlotTable<0>> = Agent::without_managers(opened.sets.copy());
+    let gone = read_entries(opened.count, opened.entries, &mut nobody)?;
+    Some(gone)
+}
+
+/// Reads an image as far as its data sets. `None` where its head or its data sets are none. Never inlined.
+#[inline(never)]
 fn open(image: &[u8]) -> Option<Opened<'_>>
     ensures opened { IfSome result
         (λ o. IsOpened image.now o.sets o.count o.entries.now) }
