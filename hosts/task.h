@@ -3,10 +3,12 @@
 #define TASK_H
 
 #include "ptpm.h"
+#include "site_options.h"
 #include <stdint.h>
 
 struct task {
-    int is_survey;
+    int is_survey;                              /* every clock is asked */
+    struct site_options site;                   /* of a survey that collects, and what is shown of it */
     uint8_t action;                             /* PTPM_GET, PTPM_SET or PTPM_COMMAND, if it is no survey */
     uint16_t id;
     uint16_t port;                              /* the clock's, of an id of a port; 0 if none is named */

@@ -22,7 +22,7 @@ static const char *name, *interface;    /* of the way in a notice; of a way over
 static int is_six, is_ethernet;
 static uint8_t station[STATION];        /* the interface's address on Ethernet */
 
-enum { MOST_DATAGRAM = 65536 };
+enum { MOST_DATAGRAM = 65536, ROOM_FOR_MANY = 4 << 20 };
 
 const char *way_name(void) { return name; }
 
@@ -107,7 +107,7 @@ static void find_unix(const struct task *task) {
 void find_way(struct task *task) {
     if (task->path != NULL) find_unix(task);
     else find_at_interface(task);
-    int is_nobodys = !task->is_kept && (task->path != NULL || !task->is_survey);
+    int is_nobodys = !task->is_kept && (task->path != NULL || !task->is_survey || task->site.is_collected);
     if (!task->has_manager && is_nobodys) task->settings.port = port_of_nobody(task->settings.port);
 }
 
@@ -127,6 +127,16 @@ static void open_beside(const char *path) {
 void open_way(const struct task *task) {
     if (task->path != NULL) open_beside(task->path);
     else open_at_interface();
+}
+
+void widen_way(void) {
+    const int wanted = ROOM_FOR_MANY;
+    if (setsockopt(at, SOL_SOCKET, SO_RCVBUFFORCE, &wanted, sizeof wanted) == 0) return;
+    setsockopt(at, SOL_SOCKET, SO_RCVBUF, &wanted, sizeof wanted);
+}
+
+void hear_every_kind(int is_every) {
+    if (is_ethernet && !filter_ethernet(at, !is_every)) complain("%s: the filter of frames: %s", name, strerror(errno));
 }
 
 static ssize_t send_frame(const uint8_t *octets, size_t size) {
