@@ -11,8 +11,8 @@
 #include <string.h>
 
 /* One request each 50 ms: all at once lose answers in the buffers of the clocks, which hear each other's answers too. Of requests to
-   one clock alone a burst has fewer answers than such a buffer holds. */
-enum { STEP = 50, BURST = 128, DOMAINS_AT_ONCE = 16 };
+   one clock alone a burst has fewer answers than such a buffer holds, unless they would take more than so many bursts. */
+enum { STEP = 50, BURST = 128, MOST_BURSTS = 16, DOMAINS_AT_ONCE = 32 };
 
 /* A socket without room is tried again so often, this many milliseconds apart. A silence that never comes is not waited for longer
    than this many time-outs. */
@@ -135,14 +135,16 @@ static void hear_until_quiet(const struct task *task) {
     }
 }
 
-static void send_request(const uint8_t *message, size_t size) {
+/* Whether a message went out, which waits for room. */
+static int is_sent(const uint8_t *message, size_t size) {
     for (int tries = 0; tries < TRIES && !stopped && !has_no_way; tries++) {
         enum sending sending = send_out(message, size);
         sent += sending == OUT;
         has_no_way = sending == NO_WAY && sent == 0;
-        if (sending == OUT) return;
+        if (sending == OUT) return 1;
         if (!has_no_way) hear_until(milliseconds() + TRY);
     }
+    return 0;
 }
 
 /* Asks every clock, one id after the other. */
@@ -150,7 +152,7 @@ static void ask_every(void) {
     for (int id = 0; id < COLLECTED && !stopped && !has_no_way; id++) {
         long end = milliseconds() + STEP;
         for (size_t i = 0; i < request_count; i++) {
-            if (requests[i].id == (enum collected)id) send_request(requests[i].message, requests[i].size);
+            if (requests[i].id == (enum collected)id) is_sent(requests[i].message, requests[i].size);
         }
         if (id + 1 < COLLECTED) hear_until(end);
     }
@@ -163,30 +165,41 @@ static const struct request *request_of(uint8_t domain, enum collected id) {
     return NULL;
 }
 
-/* Asks one clock, and all its ports: the message of the request with its identity as the target's. */
-static void ask_alone(const struct request *request, const struct seen_clock *clock) {
+/* The request for what a clock lacks, if it lacks an answer to it; NULL otherwise. */
+static const struct request *lacking(const struct seen_clock *clock, int id) {
+    return is_lacking(clock, (enum collected)id) ? request_of(clock->domain, (enum collected)id) : NULL;
+}
+
+static size_t count_lacking(void) {
+    size_t count = 0;
+    for (size_t place = 0; place < seen_count(); place++) {
+        for (int id = 0; id < COLLECTED; id++) count += lacking(seen_clock(place), id) != NULL;
+    }
+    return count;
+}
+
+/* Asks one clock, and all its ports: the message of the request with its identity as the target's. Whether that went out. */
+static int is_asked_alone(const struct request *request, const struct seen_clock *clock) {
     static uint8_t message[PTPM_MOST_OCTETS];
     memcpy(message, request->message, request->size);
     memcpy(message + TARGET_AT, clock->identity, sizeof clock->identity);
-    send_request(message, request->size);
+    return is_sent(message, request->size);
 }
 
-/* Asks each clock of these domains for what it lacks; how many requests that took. */
-static size_t ask_lacking(void) {
-    size_t asked = 0;
+/* Asks each clock of these domains for what it lacks, until there is no room for more. */
+static void ask_lacking(size_t count) {
+    size_t asked = 0, burst = count / MOST_BURSTS > BURST ? count / MOST_BURSTS : BURST;
     long end = milliseconds() + STEP;
-    for (size_t place = 0; place < seen_count() && !stopped; place++) {
-        const struct seen_clock *clock = seen_clock(place);
-        for (int id = 0; id < COLLECTED && !stopped; id++) {
-            const struct request *request = is_lacking(clock, (enum collected)id) ? request_of(clock->domain, (enum collected)id) : NULL;
+    for (size_t place = 0; place < seen_count(); place++) {
+        for (int id = 0; id < COLLECTED; id++) {
+            const struct request *request = lacking(seen_clock(place), id);
             if (request == NULL) continue;
-            ask_alone(request, clock);
-            if (++asked % BURST != 0) continue;
+            if (!is_asked_alone(request, seen_clock(place))) return;
+            if (++asked % burst != 0) continue;
             hear_until(end);
             end = milliseconds() + STEP;
         }
     }
-    return asked;
 }
 
 /* Asks in so many domains; whether the library would ask at all. */
@@ -200,23 +213,24 @@ static int ask_in(const struct task *task, const uint8_t *domains, size_t count)
     ask_every();
     hear_until_quiet(task);
     for (int round = 1; round <= task->settings.attempts && !stopped && !has_no_way; round++) {
-        size_t asked = ask_lacking();
-        if (asked == 0) break;
-        show_progress("%zu clocks so far: attempt %d, %zu answers lacking", seen_count(), round, asked);
+        size_t lacks = count_lacking();
+        if (lacks == 0) break;
+        show_progress("%zu clocks so far: attempt %d for %zu answers that lack", seen_count(), round, lacks);
+        ask_lacking(lacks);
         hear_until_quiet(task);
     }
     stop_requests();
     return 1;
 }
 
-static int end_of_collection(const struct domains *domains) {
+static int end_of_collection(const struct task *task, const struct domains *domains) {
     clear_progress();
     if (unseen_answers() > 0) {
         complain("there is room for %d clocks and %d answers: %lu answers more are left out", MOST_CLOCKS, MOST_KEPT, unseen_answers());
     }
     if (has_no_way) complain("nothing was sent: %s: %s", way_name(), strerror(errno));
-    else if (stopped) complain("ended by a signal: more may answer");
-    else if (sent == 0) complain("nothing was sent: no message is taken at %s", way_name());
+    else if (stopped && task->site.watch == 0) complain("ended by a signal: more may answer");
+    else if (sent == 0 && !stopped) complain("nothing was sent: no message is taken at %s", way_name());
     if (has_no_way || (sent == 0 && !stopped)) return NOT_ASKED;
     if (stopped) return BY_SIGNAL + stopped;
     if (seen_count() > 0) return ANSWERED;
@@ -236,7 +250,7 @@ int collect_answers(const struct task *task, const struct domains *domains, FILE
         if (!ask_in(task, together, count)) return NOT_ASKED;
         count = 0;
     }
-    return end_of_collection(domains);
+    return end_of_collection(task, domains);
 }
 
 int collect(const struct task *task) {

@@ -18,8 +18,8 @@
 /* A change has gone through a site by then. */
 enum { BEFORE_SECOND_LOOK = 2000, TIME_TEXT = 32 };
 
-/* `ptpm site` found something, or failed; and no clock answered. */
-enum { FINDINGS = 1, NO_CLOCK = 3 };
+/* `ptpm site` found something, or failed. */
+enum { FINDINGS = 1 };
 
 /* Where the domain and the clock are in a line of hexadecimal. */
 enum { DOMAIN_IN_LINE = 8, CLOCK_IN_LINE = 40, LEAST_LINE = 56 };
@@ -70,7 +70,7 @@ static int look_at_site(struct look *look, const struct task *task, const struct
     if (lines == NULL) refuse("nothing was asked: %s", strerror(errno));
     look->status = collect_answers(task, domains, lines);
     if (fclose(lines) != 0) complain("some answers are left out: %s", strerror(errno));
-    if (look->status != ANSWERED) return look->status;
+    if (look->status != ANSWERED && look->status != NOT_ANSWERED) return look->status;
     if (earlier != NULL && earlier->size > 0) leave_seen(earlier);
     struct piece parts[2] = {
         { earlier == NULL ? NULL : earlier->lines, earlier == NULL ? 0 : earlier->size }, { look->lines, look->size },
