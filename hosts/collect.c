@@ -25,7 +25,10 @@ enum {
 };
 enum { ERROR_TLV = 2, DEFAULT_SIZE = 20, PORT_SIZE = 26 };
 
-static const uint16_t ids[COLLECTED] = { 0x2000, 0x2001, 0x2002, 0x2003, 0x2004, 0x0002 };
+static const uint16_t ids[COLLECTED] = {
+    PTPM_ID_DEFAULT_DATA_SET, PTPM_ID_CURRENT_DATA_SET, PTPM_ID_PARENT_DATA_SET, PTPM_ID_TIME_PROPERTIES_DATA_SET,
+    PTPM_ID_PORT_DATA_SET, PTPM_ID_USER_DESCRIPTION,
+};
 
 /* A request to every clock of a domain. */
 struct request {
@@ -206,7 +209,9 @@ static void ask_lacking(size_t count) {
 static int ask_in(const struct task *task, const uint8_t *domains, size_t count) {
     for (size_t i = 0; i < count; i++) {
         for (int id = 0; id < COLLECTED; id++) {
-            if (!start_request(task, domains[i], (enum collected)id)) return 0;
+            if (start_request(task, domains[i], (enum collected)id)) continue;
+            stop_requests();
+            return 0;
         }
     }
     show_progress("%zu clocks so far: domain %u and on", seen_count(), domains[0]);

@@ -12,9 +12,14 @@ static const char text[] =
     "ptpm-manage [OPTION].. --target IDENTITY[-PORT] set ID VALUE\n"
     "ptpm-manage [OPTION].. --target IDENTITY[-PORT] command ID\n"
     "ptpm-manage [OPTION].. survey ID\n"
+    "ptpm-manage [OPTION].. collect\n"
+    "ptpm-manage [OPTION].. status\n"
     "\n"
     "Asks a PTP clock for a data set, sets a value, or has a command carried out, and prints what the\n"
     "clock answers. The request is sent again until it is answered. survey asks every clock and port.\n"
+    "\n"
+    "collect asks every clock for a whole site, and prints the answers in hexadecimal. status shows it\n"
+    "by ptpm site: who is grandmaster, who follows whom, and what is wrong.\n"
     "\n"
     "The way to the clock:\n"
     "  -i, --interface NAME    over UDP at this interface, to every clock there, with IPv4\n"
@@ -27,10 +32,21 @@ static const char text[] =
     "  -T, --target IDENTITY   the clock, such as aabbccfffeddee01 or aabbcc.fffe.ddee01. For an id of\n"
     "                          a port its port follows: aabbccfffeddee01/1\n"
     "  -p, --port PORT         the clock's port, named apart\n"
-    "  -d, --domain N          domainNumber, 0 to 255 (0)\n"
-    "  -b, --hops N            how many boundary clocks pass the request on, 0 to 255 (1)\n"
+    "  -d, --domain N          domainNumber, 0 to 255 (0); collect and status also take two, as 0-7, or\n"
+    "                          all: those of Announce messages, 0 and 127\n"
+    "  -b, --hops N            how many boundary clocks pass the request on, 0 to 255 (1; collect and\n"
+    "                          status 7)\n"
     "  -x, --hexadecimal       VALUE and answers are octets of the dataField in hexadecimal\n"
     "      --text              VALUE is a text, for USER_DESCRIPTION\n"
+    "\n"
+    "A whole site:\n"
+    "      --listen SECONDS    how long --domain all listens for Announce messages (4)\n"
+    "      --max-offset NS     offsets above this limit are findings, in nanoseconds\n"
+    "      --max-delay NS      the same of delays\n"
+    "      --json              status as one JSON object\n"
+    "      --draw              status as an SVG file\n"
+    "      --once              status does not look a second time if it finds what may pass\n"
+    "      --watch SECONDS     status looks again and again, and prints what came and what went\n"
     "\n"
     "Who asks, and how often:\n"
     "  -m, --manager ID-PORT   the manager's own identity and port. Otherwise that of the interface, at\n"
@@ -43,7 +59,8 @@ static const char text[] =
     "      --give-up           lets the request of an earlier run go that had no answer; without\n"
     "                          this it is sent again first\n"
     "  -w, --wait MILLIS       how long it waits if there is no such file, in milliseconds (3000)\n"
-    "  -a, --attempts N        how often a request is sent at most, 1 to 255 (30)\n"
+    "  -a, --attempts N        how often a request is sent at most, 1 to 255 (30). Of collect and status,\n"
+    "                          how often a clock is asked for what it lacks (10)\n"
     "  -t, --timeout MILLIS    how long each answer is waited for, in milliseconds (200)\n"
     "  -n, --times N           makes the request N times, for trials (1)\n"
     "  -q, --quiet             shows no progress; nor does it if standard error is no terminal\n"
@@ -52,8 +69,9 @@ static const char text[] =
     "\n";
 
 static const char end[] =
-    "Exit status: 0 answered; 1 the clock refuses; 2 nothing was asked or sent; 3 no answer came;\n"
-    "4 the answer could not be printed. 128 and its number: a signal ended it.\n";
+    "Exit status: 0 answered, and of status nothing was found; 1 the clock refuses, or there are findings;\n"
+    "2 nothing was asked or sent; 3 no answer came; 4 the answer could not be printed. 128 and its number:\n"
+    "a signal ended it.\n";
 
 /* The names of all ids, in their order. */
 static void print_ids(void) {
