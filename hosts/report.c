@@ -199,7 +199,9 @@ size_t findings_left(const struct report *report) {
     return left;
 }
 
-static void print_piece(FILE *to, const struct piece *piece) { fwrite(piece->at, 1, piece->size, to); }
+static void print_piece(FILE *to, const struct piece *piece) {
+    if (piece->size > 0) fwrite(piece->at, 1, piece->size, to);
+}
 
 void print_report_text(FILE *to, const struct report *report, int is_coloured) {
     const char *between = "\n";

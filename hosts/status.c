@@ -111,7 +111,7 @@ static void print_look(const struct look *look, const struct task *task) {
         print_report_text(stdout, &look->report, is_coloured());
     } else if (look->status <= FINDINGS) {
         run_site_program(&task->site, AS_DRAWING, &lines, 1, &drawing);
-        fwrite(drawing.text, 1, drawing.size, stdout);
+        if (drawing.size > 0) fwrite(drawing.text, 1, drawing.size, stdout);
         free_report(&drawing);
     }
 }
