@@ -67,9 +67,14 @@ static void read_manager(struct task *task, const char *text) {
     task->has_manager = 1;
 }
 
+static void take_interface(struct task *task, const char *name) {
+    if (task->interface_count == MOST_INTERFACES) refuse("--interface %s: there are more than %d", name, MOST_INTERFACES);
+    task->interfaces[task->interface_count++] = name;
+}
+
 static void take_option(struct task *task, struct words *words, int option, const char *value) {
     switch (option) {
-    case 'i': task->interface = value; break;
+    case 'i': take_interface(task, value); break;
     case UDP: task->address = value; break;
     case '6': task->is_six = 1; break;
     case '2': task->is_ethernet = 1; break;
@@ -171,12 +176,13 @@ static void read_value(struct task *task, const struct words *words) {
 
 /* Whether what is said of the clock and the way to it is whole, and said once. */
 static void judge(const struct task *task, const struct words *words) {
-    if (task->path == NULL && task->interface == NULL && task->address == NULL) {
+    if (task->path == NULL && task->interface_count == 0 && task->address == NULL) {
         refuse("the way to the clock is missing: --interface NAME, --udp ADDRESS or --unix PATH");
     }
-    if (task->path != NULL && (task->interface != NULL || task->address != NULL || task->is_six || task->is_ethernet)) {
+    if (task->path != NULL && (task->interface_count > 0 || task->address != NULL || task->is_six || task->is_ethernet)) {
         refuse("--unix stands without --interface, --udp, --ipv6 and --ethernet");
     }
+    if (task->address != NULL && task->interface_count > 1) refuse("--udp stands with one --interface");
     if (task->is_ethernet && (task->address != NULL || task->is_six)) refuse("--ethernet stands without --udp and --ipv6");
     if (task->is_survey && words->has_target) refuse("%s asks every clock: it takes no --target", words->at[0]);
     if (!task->is_survey && !words->has_target) refuse("--target is missing: the clock that is asked; survey asks every clock");
@@ -208,7 +214,8 @@ static void read_asked(struct task *task, const struct words *words) {
     read_value(task, words);
 }
 
-/* The domains, hops and attempts that the options name, or else those of what is asked. */
+/* The domains, hops and attempts that the options name, or else those of what is asked. Of several interfaces the last counts, but a
+   whole site is asked at all of them. */
 static void read_reach(struct task *task, const struct words *words) {
     int is_site = task->site.is_collected;
     struct ptpm_session_settings *settings = &task->settings;
@@ -216,6 +223,9 @@ static void read_reach(struct task *task, const struct words *words) {
     else if (words->domain != NULL) settings->domain = (uint8_t)number("domain", words->domain, 0, 255);
     settings->hops = (uint8_t)(words->hops >= 0 ? words->hops : is_site ? SITE_HOPS : HOPS);
     settings->attempts = (uint8_t)(words->attempts >= 0 ? words->attempts : is_site ? SITE_ATTEMPTS : ATTEMPTS);
+    if (is_site || task->interface_count < 2) return;
+    task->interfaces[0] = task->interfaces[task->interface_count - 1];
+    task->interface_count = 1;
 }
 
 void read_task(struct task *task, int argc, char **argv) {
