@@ -214,13 +214,13 @@ static int ask_in(const struct task *task, const uint8_t *domains, size_t count)
             return 0;
         }
     }
-    show_progress("%zu clocks so far: domain %u and on", seen_count(), domains[0]);
+    show_progress("%zu clocks so far; asking from domain %u on", seen_count(), domains[0]);
     ask_every();
     hear_until_quiet(task);
     for (int round = 1; round <= task->settings.attempts && !stopped && !has_no_way; round++) {
         size_t lacks = count_lacking();
         if (lacks == 0) break;
-        show_progress("%zu clocks so far: attempt %d for %zu answers that lack", seen_count(), round, lacks);
+        show_progress("%zu clocks so far; attempt %d for %zu answers that lack", seen_count(), round, lacks);
         ask_lacking(lacks);
         hear_until_quiet(task);
     }

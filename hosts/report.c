@@ -19,10 +19,6 @@ static int is_piece(const struct piece *piece, const char *text) {
     return piece->size == strlen(text) && memcmp(piece->at, text, piece->size) == 0;
 }
 
-static int is_same_piece(const struct piece *one, const struct piece *other) {
-    return one->size == other->size && memcmp(one->at, other->at, one->size) == 0;
-}
-
 static int is_named(const struct finding *finding, const char *const *names, size_t count) {
     for (size_t i = 0; i < count; i++) {
         if (is_piece(&finding->key[NAME_PART], names[i])) return 1;
@@ -177,20 +173,46 @@ int has_passing_finding(const struct report *report) {
     return 0;
 }
 
-static int has_same_key(const struct finding *one, const struct finding *other) {
-    for (int part = 0; part < KEY_PARTS; part++) {
-        if (!is_same_piece(&one->key[part], &other->key[part])) return 0;
+static int compare_pieces(const struct piece *one, const struct piece *other) {
+    size_t least = one->size < other->size ? one->size : other->size;
+    int order = memcmp(one->at, other->at, least);
+    return order != 0 ? order : (one->size > other->size) - (one->size < other->size);
+}
+
+static int by_key(const void *one, const void *other) {
+    const struct finding *first = *(const struct finding *const *)one, *second = *(const struct finding *const *)other;
+    int order = 0;
+    for (int part = 0; part < KEY_PARTS && order == 0; part++) order = compare_pieces(&first->key[part], &second->key[part]);
+    return order;
+}
+
+static int by_text(const void *one, const void *other) {
+    return compare_pieces(&(*(const struct finding *const *)one)->whole, &(*(const struct finding *const *)other)->whole);
+}
+
+/* The findings of a report that are not left out, in an order. */
+struct sorted { const struct finding **at; size_t count; int (*order)(const void *, const void *); };
+
+static struct sorted sort_findings(const struct report *report, int (*order)(const void *, const void *)) {
+    struct sorted sorted = { calloc(report->count + 1, sizeof *sorted.at), 0, order };
+    for (size_t i = 0; i < report->count && sorted.at != NULL; i++) {
+        if (!report->findings[i].is_left_out) sorted.at[sorted.count++] = &report->findings[i];
     }
-    return 1;
+    if (sorted.count > 0) qsort(sorted.at, sorted.count, sizeof *sorted.at, order);
+    return sorted;
+}
+
+static int has_finding(const struct sorted *sorted, const struct finding *finding) {
+    return sorted->count > 0 && bsearch(&finding, sorted->at, sorted->count, sizeof *sorted->at, sorted->order) != NULL;
 }
 
 void leave_out_passing(struct report *report, const struct report *earlier) {
-    for (size_t i = 0; i < report->count; i++) {
+    struct sorted keys = sort_findings(earlier, by_key);
+    for (size_t i = 0; i < report->count && keys.at != NULL; i++) {
         struct finding *finding = &report->findings[i];
-        int is_found = !is_passing(finding);
-        for (size_t k = 0; k < earlier->count && !is_found; k++) is_found = has_same_key(finding, &earlier->findings[k]);
-        finding->is_left_out = !is_found;
+        finding->is_left_out = is_passing(finding) && !has_finding(&keys, finding);
     }
+    free(keys.at);
 }
 
 size_t findings_left(const struct report *report) {
@@ -223,32 +245,27 @@ void print_report_text(FILE *to, const struct report *report, int is_coloured) {
     print_piece(to, &report->tail);
 }
 
-/* Whether a report has a finding as it is, or, if its values move, with its key. */
-static int has_finding(const struct report *report, const struct finding *finding) {
-    int is_moving = is_named(finding, moving, sizeof moving / sizeof *moving);
-    for (size_t i = 0; i < report->count; i++) {
-        const struct finding *one = &report->findings[i];
-        if (one->is_left_out) continue;
-        if (is_moving ? has_same_key(one, finding) : is_same_piece(&one->whole, &finding->whole)) return 1;
-    }
-    return 0;
-}
-
 static void print_change(FILE *to, const char *lead, char sign, const struct finding *finding, const char *colour) {
     fprintf(to, "%s%s%c %.*s%s\n", lead, colour == NULL ? "" : colour, sign, (int)finding->whole.size, finding->whole.at,
             colour == NULL ? "" : plain);
 }
 
-void print_changes(FILE *to, const char *lead, const struct report *report, const struct report *earlier, int is_coloured) {
-    for (size_t i = 0; i < earlier->count; i++) {
-        const struct finding *finding = &earlier->findings[i];
-        if (finding->is_left_out || is_piece(&finding->key[NAME_PART], changed) || has_finding(report, finding)) continue;
-        print_change(to, lead, '-', finding, is_coloured ? green : NULL);
-    }
+/* Prints the findings of a report that another lacks: with other values, too, unless their values move. Of what tells of a change, all
+   or none. */
+static void print_lacking(FILE *to, const char *lead, char sign, const struct report *report, const struct report *other,
+                          const char *colour) {
+    struct sorted keys = sort_findings(other, by_key), texts = sort_findings(other, by_text);
     for (size_t i = 0; i < report->count; i++) {
         const struct finding *finding = &report->findings[i];
-        if (finding->is_left_out) continue;
-        if (!is_piece(&finding->key[NAME_PART], changed) && has_finding(earlier, finding)) continue;
-        print_change(to, lead, '+', finding, is_coloured ? red : NULL);
+        int is_moving = is_named(finding, moving, sizeof moving / sizeof *moving);
+        int is_in_other = is_piece(&finding->key[NAME_PART], changed) ? sign == '-' : has_finding(is_moving ? &keys : &texts, finding);
+        if (!finding->is_left_out && !is_in_other) print_change(to, lead, sign, finding, colour);
     }
+    free(keys.at);
+    free(texts.at);
+}
+
+void print_changes(FILE *to, const char *lead, const struct report *report, const struct report *earlier, int is_coloured) {
+    print_lacking(to, lead, '-', earlier, report, is_coloured ? green : NULL);
+    print_lacking(to, lead, '+', report, earlier, is_coloured ? red : NULL);
 }

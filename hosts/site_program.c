@@ -93,6 +93,7 @@ static void read_all(int from, struct report *report) {
 
 static int status_of(pid_t process) {
     int status;
+    wait_for(NULL, 0, 0);                   /* a signal of the terminal asks both programs to end */
     if (stopped) kill(process, SIGTERM);
     while (waitpid(process, &status, 0) < 0) {
         if (errno != EINTR) return FAULT;

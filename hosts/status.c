@@ -103,17 +103,22 @@ static int is_coloured(void) {
     return isatty(STDOUT_FILENO) && terminal != NULL && strcmp(terminal, "dumb") != 0;
 }
 
-static void print_look(const struct look *look, const struct task *task) {
-    struct report drawing = { 0 };
+/* Has the lines of a look drawn; the status, which is the look's unless that fails. */
+static int draw_look(const struct look *look, const struct task *task) {
+    struct report drawing;
     const struct piece lines = { look->lines, look->size };
+    int status = run_site_program(&task->site, AS_DRAWING, &lines, 1, &drawing);
+    if (drawing.size > 0) fwrite(drawing.text, 1, drawing.size, stdout);
+    free_report(&drawing);
+    return status > FINDINGS ? status : look->status;
+}
+
+/* Prints it; the status. */
+static int print_look(const struct look *look, const struct task *task) {
     clear_progress();
-    if (!task->site.is_drawn) {
-        print_report_text(stdout, &look->report, is_coloured());
-    } else if (look->status <= FINDINGS) {
-        run_site_program(&task->site, AS_DRAWING, &lines, 1, &drawing);
-        if (drawing.size > 0) fwrite(drawing.text, 1, drawing.size, stdout);
-        free_report(&drawing);
-    }
+    if (task->site.is_drawn && look->status <= FINDINGS) return draw_look(look, task);
+    print_report_text(stdout, &look->report, is_coloured());
+    return look->status;
 }
 
 static int was_seen(const struct seen_clock *clock) {
@@ -158,6 +163,9 @@ static void print_difference(const struct look *look, const struct look *earlier
     print_changes(stdout, lead, &look->report, &earlier->report, is_coloured());
 }
 
+/* Whether a look shows the site, which may have no clock by now; otherwise something failed, and that is said. */
+static int is_whole(const struct look *look) { return look->report.has_findings || look->status == NOT_ANSWERED; }
+
 /* Looks again and again, until the program is asked to end. */
 static int watch(struct look *earlier, const struct task *task, struct domains *domains) {
     struct look look;
@@ -167,8 +175,12 @@ static int watch(struct look *earlier, const struct task *task, struct domains *
         listen_for_domains(domains, task, task->site.watch);
         if (stopped) break;
         look_twice(&look, task, domains, earlier);
-        if (!stopped) print_difference(&look, earlier, task);
-        if (!stopped) keep_clocks();
+        if (stopped || !is_whole(&look)) {
+            free_look(&look);
+            continue;
+        }
+        print_difference(&look, earlier, task);
+        keep_clocks();
         free_look(earlier);
         *earlier = look;
     }
@@ -182,8 +194,7 @@ int show_status(const struct task *task) {
     widen_way();
     find_domains(&domains, task);
     look_twice(&look, task, &domains, NULL);
-    int status = stopped ? BY_SIGNAL + stopped : look.status;
-    if (!stopped) print_look(&look, task);
+    int status = stopped ? BY_SIGNAL + stopped : print_look(&look, task);
     if (!stopped && task->site.watch > 0 && status != NOT_ASKED) status = watch(&look, task, &domains);
     free_look(&look);
     return status;
