@@ -97,7 +97,10 @@ static void take_answer(const struct request *request, const uint8_t *message) {
     if (has_field && answer.id == DEFAULT_SET && size == FIELD_AT + DEFAULT_SIZE) {
         answer.port_count = (uint16_t)two_octets(message + PORT_COUNT_AT);
     }
-    if (has_field && answer.id == PORT_SET && size == FIELD_AT + PORT_SIZE) answer.port = (uint16_t)two_octets(message + FIELD_PORT_AT);
+    if (has_field && answer.id == PORT_SET && size == FIELD_AT + PORT_SIZE) {
+        int is_own = memcmp(message + FIELD_AT, answer.clock, 8) == 0;
+        answer.port = is_own ? (uint16_t)two_octets(message + FIELD_PORT_AT) : 0;       /* 0 is no port, and none is answered */
+    }
     enum seen seen = see_answer(&answer);
     if (seen == SEEN_BEFORE || seen == NO_PLACE) return;
     latest = milliseconds();
