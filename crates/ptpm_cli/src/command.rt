@@ -9,6 +9,8 @@ use ptpm_commands::show::{show, show_good_lines, show_lines};
 use ptpm_commands::{Fault, tell};
 use ptpm_draw::{Chosen, draw};
 use ptpm_schedule::{Chances, schedule};
+use ptpm_site::limits::Limits;
+use ptpm_site_report::{Form, Options, report};
 use ptpm_world::{ScriptError, check_script, run_script};
 use std::alloc::{AllocError, Global};
 use std::fmt;
@@ -19,7 +21,8 @@ const VERSION: &str = "0.1.0";
 
 /// Does what the words say, the first of which is the program's name, and answers the exit status: 0 where it was done;
 /// 1 at a fault, with the line `ptpm: FAULT` on `err`, and where `check` wrote faults on `out`; 2 where the words were refused,
-/// with the reason on `err`. What `err` does changes nothing. `run`, `check`, `schedule`, `draw` and the option `--lines` alone read.
+/// with the reason on `err`. `site` answers 1 where it found something, and 3 where no clock answered. What `err` does changes nothing.
+/// `run`, `check`, `schedule`, `draw`, `site` and the option `--lines` alone read.
 /// Whatever was written on `out` is flushed, at a fault too.
 pub fn command<R: Read, O: Write, E: Write>(
     alloc: Global,
@@ -84,6 +87,9 @@ fn run<R: Read, O: Write, E: Write>(
             schedule(alloc, chances, reader, out, err).map_err(Failure::Script)?;
         }
         Ok(Task::Draw(chosen)) => draw(alloc, chosen, reader, out).map_err(Failure::Script)?,
+        Ok(Task::Site(options)) => {
+            status = report(alloc, options, reader, out)?.status();
+        }
         Ok(Task::Check) => {
             let findings = check_script(alloc, reader, out).map_err(Failure::Script)?;
             if findings.first.is_some() {
@@ -116,6 +122,8 @@ enum Task<'a> {
     Check,
     /// `draw`, with a script on standard input.
     Draw(Chosen),
+    /// `site`, with answers on standard input.
+    Site(Options),
 }
 
 /// What `answer` or `show` takes.
@@ -150,6 +158,7 @@ fn task_of<'a>(name: &str, values: &ArgMatches<'a>) -> Option<Task<'a>> {
         "schedule" => Some(Task::Schedule(chances(values)?)),
         "check" => Some(Task::Check),
         "draw" => Some(Task::Draw(chosen(values)?)),
+        "site" => Some(Task::Site(site_options(values))),
         _ => None,
     }
 }
@@ -190,6 +199,21 @@ fn chosen(values: &ArgMatches<'_>) -> Option<Chosen> {
     })
 }
 
+/// What `site` prints, and what it allows.
+fn site_options(values: &ArgMatches<'_>) -> Options {
+    Options {
+        form: if values.get_flag("json") {
+            Form::Json
+        } else {
+            Form::Text
+        },
+        limits: Limits {
+            offset: values.get_one("max-offset"),
+            delay: values.get_one("max-delay"),
+        },
+    }
+}
+
 fn command_line<'a>(alloc: Global) -> Result<Command<'a>, AllocError> {
     let answer = Command::new(alloc, "answer").about(
         "Prints what a fresh clock sends for a datagram at its port 1",
@@ -214,7 +238,8 @@ fn command_line<'a>(alloc: Global) -> Result<Command<'a>, AllocError> {
         .subcommand(run)?
         .subcommand(check)?
         .subcommand(schedule_command(alloc)?)?
-        .subcommand(draw_command(alloc)?)
+        .subcommand(draw_command(alloc)?)?
+        .subcommand(site_command(alloc)?)
 }
 
 /// The command, with a datagram or `--lines`.
@@ -322,6 +347,32 @@ fn draw_command<'a>(alloc: Global) -> Result<Command<'a>, AllocError> {
         .about("Draws what happens in the script on standard input, as a picture in SVG")
         .arg(from)?
         .arg(to)
+}
+
+fn site_command<'a>(alloc: Global) -> Result<Command<'a>, AllocError> {
+    let json = flag(alloc, "json", "Prints one JSON object");
+    let offset = nanoseconds(
+        alloc,
+        "max-offset",
+        "An offset from the master above so many nanoseconds is a finding",
+    );
+    let delay = nanoseconds(
+        alloc,
+        "max-delay",
+        "A mean delay above so many nanoseconds is a finding",
+    );
+    Command::new(alloc, "site")
+        .about(
+            "Shows which clock follows which, and what is wrong, by the answers on standard input, a datagram a line",
+        )
+        .arg(json)?
+        .arg(offset)?
+        .arg(delay)
+}
+
+/// An option `--NAME NS`, no limit where it is absent.
+fn nanoseconds<'a>(alloc: Global, name: &'a str, help: &'a str) -> Arg<'a> {
+    option(alloc, name, "NS", help).value_parser(value_parser!(u64))
 }
 
 /// An option `--NAME N` of so many in a hundred, none where it is absent.
