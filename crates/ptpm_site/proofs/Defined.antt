@@ -1,8 +1,7 @@
 -- Of the findings whose conditions are defined none is lost where the defined ones are taken.
-use Rattle.std.proofs.Common.{◌≡◌, ℕ, ◌+◌, ◌<◌, Bool, true, false, cond, List, [], ◌∷◌, ◌++◌, Option, Some, None, length, get_or, take, refl, ap, sym, ◌∙◌}
+use Rattle.std.proofs.Common.{◌≡◌, ℕ, Bool, true, false, cond, List, [], ◌∷◌, ◌++◌, Option, Some, None, append_assoc, refl, ap, sym, ◌∙◌}
 use Rattle.std.specs.List.{filter, flat_map}
 use Rattle.std.specs.Option.{is_some, option_map, option_to_list}
-use Rattle.std.proofs.lemmas.List.{flat_map_more, take_more}
 use Rattle.std.proofs.lemmas.List.Elements.{filter-append}
 use Rattle.ptpm_site.specs.declared.comparing.Compared.{Compared}
 use Rattle.ptpm_site.specs.declared.comparing.Compared.TheVariants as compared
@@ -13,7 +12,7 @@ use Rattle.ptpm_site.specs.declared.finding.What.TheVariants as what
 use Rattle.ptpm_site.specs.declared.limits.Limits.{Limits}
 use Rattle.ptpm_site.specs.declared.source.Source.{Source}
 use Rattle.ptpm_site.specs.Differences.{what_differs}
-use Rattle.ptpm_site.specs.Findings.{amounts_found, defined, finding, found, found_above, found_each, found_here, grandmaster_found, interval_found, is_defined, link_delay_found, link_delays_found, parent_found, state_found, two_found}
+use Rattle.ptpm_site.specs.Findings.{amounts_found, defined, finding, found, found_above, found_each, found_here, found_of, grandmaster_found, interval_found, is_defined, link_delay_found, link_delays_found, parent_found, state_found, two_found}
 use Rattle.ptpm_site.specs.Following.{followed}
 use Rattle.ptpm_site.specs.Grandmasters.{is_one_of_two}
 use Rattle.ptpm_site.specs.Telling.{Telling}
@@ -99,12 +98,17 @@ defined-here t limits s =
     both _ _ (both _ _ (both _ _ (each (state_found t s) (states t s) (t.ports s)) (amounts t limits s)) (members compared.Time s _))
     (each (interval_found t s) (intervals t s) (t.ports s))
 
--- one more item of a list, of each of which something is found
-pub one_more : {X : Type 0} (f : X → List Finding) (old now new : List Finding) (xs : List X) (i : ℕ) (d : X)
-    → i < length xs
-    → now ≡ old ++ flat_map f (take i xs)
-    → new ≡ now ++ f (get_or xs i d)
-    → new ≡ old ++ flat_map f (take (i + 1) xs)
-one_more f old now new xs i d within h e =
-    e ∙ ap (λ l. l ++ f (get_or xs i d)) h ∙ flat_map_more f old (take i xs) (get_or xs i d)
-    ∙ ap (λ l. old ++ flat_map f l) (sym (take_more xs i d within))
+-- what is told of a clock, with others between and behind it that are not defined
+pub one_clock : (t : Telling) (limits : Limits) (s : Source) (old above loop here all : List Finding)
+    → above ≡ old ++ found_above t s
+    → defined loop ≡ defined above
+    → here ≡ loop ++ found_here t limits s
+    → defined all ≡ defined here
+    → defined all ≡ defined old ++ found_of t limits s
+unfolding found_of
+one_clock t limits s old above loop here all a l h e =
+    let first : defined loop ≡ defined old ++ found_above t s =
+    l ∙ ap defined a ∙ defined-append old (found_above t s) ∙ ap (λ xs. defined old ++ xs) (defined-above t s) in
+    let then_here : defined here ≡ defined loop ++ found_here t limits s =
+    ap defined h ∙ defined-append loop (found_here t limits s) ∙ ap (λ xs. defined loop ++ xs) (defined-here t limits s) in
+    e ∙ then_here ∙ ap (λ xs. xs ++ found_here t limits s) first ∙ append_assoc (defined old) (found_above t s) (found_here t limits s)

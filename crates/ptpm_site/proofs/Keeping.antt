@@ -30,17 +30,17 @@ here says s a false = refl
 pub all_heard-more : {A : Type 0} → (says : Told → Option A) (s : Source) (answers : List Answer) (a : Answer)
     → all_heard says s (answers ++ a ∷ []) ≡ all_heard says s answers ++ added says s a
 all_heard-more says s answers a =
-    ap (filter_map (heard says)) (filter-append (λ x. same_source s x.source) answers (a ∷ []))
-    ∙ filter_map-append (heard says) (answers_of s answers) (filter (λ x. same_source s x.source) (a ∷ []))
-    ∙ ap (λ l. all_heard says s answers ++ l) (here says s a (same_source s a.source))
+    ap (filter_map (heard says)) (filter-append (λ x. same_source x.source s) answers (a ∷ []))
+    ∙ filter_map-append (heard says) (answers_of s answers) (filter (λ x. same_source x.source s) (a ∷ []))
+    ∙ ap (λ l. all_heard says s answers ++ l) (here says s a (same_source a.source s))
 
 or_none : (b : Bool) → (b || false) ≡ b
 or_none true = refl
 or_none false = refl
 
-pub is_seen-more : (s : Source) (answers : List Answer) (a : Answer) → is_seen s (answers ++ a ∷ []) ≡ (is_seen s answers || same_source s a.source)
+pub is_seen-more : (s : Source) (answers : List Answer) (a : Answer) → is_seen s (answers ++ a ∷ []) ≡ (is_seen s answers || same_source a.source s)
 is_seen-more s answers a =
-    list_any-append (λ x. same_source s x.source) answers (a ∷ []) ∙ ap (λ b. is_seen s answers || b) (or_none (same_source s a.source))
+    list_any-append (λ x. same_source x.source s) answers (a ∷ []) ∙ ap (λ b. is_seen s answers || b) (or_none (same_source a.source s))
 
 kept_more : {A : Type 0} → (says : Told → Option A) (s : Source) (answers : List Answer) (a : Answer) (old new : List (Heard A))
     → new ≡ old ++ added says s a
@@ -59,21 +59,21 @@ numbers_here s answers a true = fold_more (λ ns x. place_number ns (port_number
 numbers_here s answers a false = ap (fold (λ ns x. place_number ns (port_number x.told)) []) (append-nil (answers_of s answers))
 
 ports_of-more : (s : Source) (answers : List Answer) (a : Answer)
-    → ports_of s (answers ++ a ∷ []) ≡ cond (same_source s a.source) (place_number (ports_of s answers) (port_number a.told)) (ports_of s answers)
+    → ports_of s (answers ++ a ∷ []) ≡ cond (same_source a.source s) (place_number (ports_of s answers) (port_number a.told)) (ports_of s answers)
 ports_of-more s answers a =
-    ap (fold (λ ns x. place_number ns (port_number x.told)) []) (filter-append (λ x. same_source s x.source) answers (a ∷ []))
-    ∙ numbers_here s answers a (same_source s a.source)
+    ap (fold (λ ns x. place_number ns (port_number x.told)) []) (filter-append (λ x. same_source x.source s) answers (a ∷ []))
+    ∙ numbers_here s answers a (same_source a.source s)
 
 -- one more answer that is taken is kept behind all others
 pub Keeps-more : (old new : Site) (answers : List Answer) (a : Answer) → Takes old new a → Keeps old answers → Keeps new (answers ++ a ∷ [])
 Keeps-more old new answers a t k = record {
   clocks = t.clocks ∙ ap (λ cs. place_clock cs a) k.clocks ∙ sym (fold_more place_clock [] answers a);
-  seen = λ s. t.seen s ∙ ap (λ b. b || same_source s a.source) (k.seen s) ∙ sym (is_seen-more s answers a);
+  seen = λ s. t.seen s ∙ ap (λ b. b || same_source a.source s) (k.seen s) ∙ sym (is_seen-more s answers a);
   defaults = λ s. kept_more _ s answers a _ _ (t.defaults s) (k.defaults s);
   currents = λ s. kept_more _ s answers a _ _ (t.currents s) (k.currents s);
   parents = λ s. kept_more _ s answers a _ _ (t.parents s) (k.parents s);
   times = λ s. kept_more _ s answers a _ _ (t.times s) (k.times s);
-  numbers = λ s. t.numbers s ∙ ap (λ ns. cond (same_source s a.source) (place_number ns (port_number a.told)) ns) (k.numbers s) ∙ sym (ports_of-more s answers a);
+  numbers = λ s. t.numbers s ∙ ap (λ ns. cond (same_source a.source s) (place_number ns (port_number a.told)) ns) (k.numbers s) ∙ sym (ports_of-more s answers a);
   ports = λ s n. kept_more _ s answers a _ _ (t.ports s n) (k.ports s n);
 }
 

@@ -1,3 +1,4 @@
+pub mod Clocks
 pub mod Defined
 pub mod Keeping
 pub mod Places

@@ -1,6 +1,5 @@
 -- A new key of a map goes to its place among the keys.
-use Rattle.std.proofs.Common.{◌≡◌, ℕ, Bool, true, false, cond, ◌||◌, List, [], ◌∷◌, refl, ap, sym, ◌∙◌, arith}
-use Rattle.std.proofs.lemmas.Grind.{common_steps}
+use Rattle.std.proofs.Common.{◌≡◌, ℕ, Bool, true, false, cond, ◌||◌, List, [], ◌∷◌, Option, Some, refl, ap, sym, ◌∙◌}
 use Rattle.std.specs.declared.cmp.Ordering.{Ordering}
 use Rattle.std.specs.declared.cmp.Ordering.TheVariants.{Less, Equal, Greater}
 use Rattle.std.specs.BTreeMap.{insert_entry, is_at}
@@ -11,10 +10,13 @@ use Rattle.std.specs.Option.{is_some}
 use Rattle.std.specs.Ordering.{eq_by_cmp, is_eq, match_ordering}
 use Rattle.ptpm_site.specs.Answers.{place}
 
+found_here : {X : Type 0} (b : Bool) (o : Option X) (x : X) (r : Bool) → is_some o ≡ r → is_some (cond b (Some x) o) ≡ (b || r)
+found_here true o x r h = refl
+found_here false o x r h = h
 
 pub is_some-lookup : {K X : Type 0} (test : K → Bool) (es : List (K × X)) → is_some (lookup test es) ≡ list_any test (keys_of es)
 is_some-lookup test [] = refl
-is_some-lookup test (e ∷ es) = let h = is_some-lookup test es in grind (arith, common_steps)
+is_some-lookup test (e ∷ es) = found_here (test e.0) (lookup test es) e.1 (list_any test (keys_of es)) (is_some-lookup test es)
 
 insert_at : {K X : Type 0} (cmp : K → K → Ordering) (e : K × X) (es : List (K × X)) (k : K) (v : X) (o : Ordering)
     → keys_of (insert_entry cmp es k v) ≡ insert_key cmp (keys_of es) k

@@ -31,7 +31,7 @@ same_source a b = a.domain == b.domain && same_clock a.clock b.clock
 
 -- the answers of a clock, in the order of their lines
 abbrev pub answers_of : Source → List Answer → List Answer
-answers_of s answers = filter (λ a. same_source s a.source) answers
+answers_of s answers = filter (λ a. same_source a.source s) answers
 
 -- by domain, and then by identity
 abbrev pub source_cmp : Source → Source → Ordering
@@ -39,7 +39,7 @@ source_cmp a b = ordering_then (nat_cmp a.domain b.domain) (slice_cmp nat_cmp a.
 
 -- a clock is seen where it gave one answer, or one error, to one of the six ids
 abbrev pub is_seen : Source → List Answer → Bool
-is_seen s answers = list_any (λ a. same_source s a.source) answers
+is_seen s answers = list_any (λ a. same_source a.source s) answers
 
 -- the clocks that are seen, each once, by domain and then by identity
 abbrev pub place_clock : List Source → Answer → List Source

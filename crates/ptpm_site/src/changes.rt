@@ -85,10 +85,7 @@ impl<'a> Settled<'a> {
 }
 
 /// The first change of a member: two answers to different requests that say it otherwise.
-pub fn first_change<'a, T: DataSet>(
-    heard: &'a [Heard<T>],
-    member: Member,
-) -> Option<Change<'a>> {
+pub fn first_change<'a, T: DataSet>(heard: &'a [Heard<T>], member: Member) -> Option<Change<'a>> {
     let mut settled = Settled {
         first: None,
         other_request: None,

@@ -1,9 +1,11 @@
 //! What the answers tell of one clock.
 
-ghost use Rattle.std.specs.Prelude.{◌≡◌, ℕ, ◌==◌, ◌++◌, [], ◌∷◌, OnOk, if◌then◌else◌};
-ghost use Rattle.std.specs.BTreeMap.{keys};
+ghost use Rattle.std.specs.Prelude.{◌≡◌, ℕ, ◌==◌, ◌++◌, [], ◌∷◌, OnOk, IsSome, if◌then◌else◌};
+ghost use Rattle.std.specs.BTreeMap.{get, keys};
 ghost use Rattle.std.specs.List.{list_any};
-ghost use Rattle.ptpm_site.specs.Answers.{counting, current_told, default_told, heard_now, parent_told, place_number, port_number, port_told, time_told};
+ghost use Rattle.std.specs.Ordering.{nat_cmp};
+ghost use Rattle.ptpm_site.specs.Answers.{counting, current_told, default_told, heard_now, parent_told, place, place_number, port_number, port_told, time_told};
+ghost use Rattle.ptpm_site.specs.Keeping.{IsSilent};
 ghost use Rattle.ptpm_site.specs.Kept.{heard_of, port_heard, port_kept};
 ghost use Rattle.ptpm_site.specs.PortStates.{is_port_of};
 
@@ -40,7 +42,9 @@ pub struct Clock {
 
 impl Clock {
     /// A clock that told nothing yet.
-    pub fn new(alloc: Global) -> Clock {
+    pub fn new(alloc: Global) -> Clock
+        ensures { IsSilent result }
+    {
         Clock {
             defaults: Vec::new(alloc),
             currents: Vec::new(alloc),
@@ -53,12 +57,7 @@ impl Clock {
     }
 
     /// Takes what an answer of the clock tells, behind all earlier ones.
-    pub fn take(
-        &mut self,
-        alloc: Global,
-        request: Request,
-        told: Told,
-    ) -> Result<(), AllocError>
+    pub fn take(&mut self, alloc: Global, request: Request, told: Told) -> Result<(), AllocError>
         ensures defaults { OnOk result (self.new.defaults.items
             ≡ self.old.defaults.items ++ heard_now default_told request told) }
         ensures currents { OnOk result (self.new.currents.items
@@ -177,13 +176,43 @@ fn put_port(
     number: u16,
     heard: Heard<PortDataSet>,
 ) -> Result<(), AllocError>
-    ensures numbers { OnOk result (keys ports.new ≡ place_number (keys ports.old) (Some number)) }
+    ensures numbers { OnOk result (keys ports.new ≡ place nat_cmp (keys ports.old) number) }
     ensures heard { OnOk result ((n : ℕ) → heard_of ports.new n
         ≡ heard_of ports.old n ++ (if number == n then heard ∷ [] else [])) }
 {
-    if !ports.contains_key(&number) {
-        ports.insert(number, Vec::new(alloc))?;
+    place_port(alloc, ports, number)?;
+    push_heard(ports, number, heard)?;
+    Ok(())
+}
+
+/// A port of which nothing was heard gets its place.
+fn place_port(
+    alloc: Global,
+    ports: &mut BTreeMap<u16, Vec<Heard<PortDataSet>>>,
+    number: u16,
+) -> Result<(), AllocError>
+    ensures numbers { OnOk result (keys ports.new ≡ place nat_cmp (keys ports.old) number) }
+    ensures heard { OnOk result ((n : ℕ) → heard_of ports.new n ≡ heard_of ports.old n) }
+    ensures there { OnOk result (IsSome (get nat_cmp ports.new number)) }
+{
+    if ports.contains_key(&number) {
+        return Ok(());
     }
+    ports.insert(number, Vec::new(alloc))?;
+    Ok(())
+}
+
+/// What was heard of a port that has its place stands behind all that was heard of it.
+fn push_heard(
+    ports: &mut BTreeMap<u16, Vec<Heard<PortDataSet>>>,
+    number: u16,
+    heard: Heard<PortDataSet>,
+) -> Result<(), AllocError>
+    requires { IsSome (get nat_cmp ports.old number) }
+    ensures numbers { OnOk result (keys ports.new ≡ keys ports.old) }
+    ensures heard { OnOk result ((n : ℕ) → heard_of ports.new n
+        ≡ heard_of ports.old n ++ (if number == n then heard ∷ [] else [])) }
+{
     if let Some(all) = ports.get_mut(&number) {
         all.push(heard)?;
     }

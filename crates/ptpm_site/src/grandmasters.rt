@@ -22,11 +22,7 @@ impl Site {
 }
 
 /// The clocks that are their own grandmasters and have a port in MASTER, of all clocks.
-pub fn leading(
-    alloc: Global,
-    site: &Site,
-    sources: &[Source],
-) -> Result<Vec<Source>, AllocError>
+pub fn leading(alloc: Global, site: &Site, sources: &[Source]) -> Result<Vec<Source>, AllocError>
     ensures { IfOk result (λ found. found.items ≡ filter (leads (kept site.now)) sources.now) }
 {
     let mut found = Vec::new(alloc);
@@ -42,7 +38,10 @@ pub fn leading(
 pub fn count_in(sources: &[Source], domain: u8) -> usize
     ensures { result ≡ count_by (in_domain domain) sources.now }
 {
-    sources.iter().filter(|source| source.domain == domain).count()
+    sources
+        .iter()
+        .filter(|source| source.domain == domain)
+        .count()
 }
 
 /// Why a clock has no master.

@@ -9,11 +9,26 @@ use crate::completeness::missing_answers;
 use crate::finding::{Finding, What};
 use crate::finds::find;
 use crate::member::{DataSet, Member};
+use crate::site::Site;
 use crate::source::Source;
 use std::alloc::{AllocError, Global};
 
 /// `incomplete`, `changed` and `identity_twice`.
 pub fn judge_answers<'a>(
+    alloc: Global,
+    site: &'a Site,
+    source: Source,
+    findings: &mut Vec<Finding<'a>>,
+) -> Result<(), AllocError>
+    ensures { OnOk result (defined findings.new.items ≡ defined findings.old.items) }
+{
+    match site.clocks.get(&source) {
+        Some(clock) => judge_clock(alloc, source, clock, findings),
+        None => Ok(()),
+    }
+}
+
+fn judge_clock<'a>(
     alloc: Global,
     source: Source,
     clock: &'a Clock,
@@ -59,14 +74,42 @@ fn judge_changes<'a>(
 ) -> Result<(), AllocError>
     ensures { OnOk result (defined findings.new.items ≡ defined findings.old.items) }
 {
-    judge_set(alloc, source, None, clock.defaults.as_slice(), sort, findings)?;
-    judge_set(alloc, source, None, clock.currents.as_slice(), sort, findings)?;
-    judge_set(alloc, source, None, clock.parents.as_slice(), sort, findings)?;
+    judge_set(
+        alloc,
+        source,
+        None,
+        clock.defaults.as_slice(),
+        sort,
+        findings,
+    )?;
+    judge_set(
+        alloc,
+        source,
+        None,
+        clock.currents.as_slice(),
+        sort,
+        findings,
+    )?;
+    judge_set(
+        alloc,
+        source,
+        None,
+        clock.parents.as_slice(),
+        sort,
+        findings,
+    )?;
     judge_set(alloc, source, None, clock.times.as_slice(), sort, findings)?;
     for (port, heard) in clock.ports.iter() {
         judge_set(alloc, source, Some(*port), heard.as_slice(), sort, findings)?;
     }
-    judge_set(alloc, source, None, clock.descriptions.as_slice(), sort, findings)
+    judge_set(
+        alloc,
+        source,
+        None,
+        clock.descriptions.as_slice(),
+        sort,
+        findings,
+    )
 }
 
 /// The changes, or the contradictions, among the answers of one data set.

@@ -7,10 +7,7 @@ use std::alloc::{AllocError, Global};
 /// The loops: of each the places of its clocks, from the least on, each followed by the one that it follows. They stand in
 /// the order of their least places. Given is the place of the clock that each clock follows, where it follows one that is
 /// seen.
-pub fn loops(
-    alloc: Global,
-    followed: &[Option<usize>],
-) -> Result<Vec<Vec<usize>>, AllocError> {
+pub fn loops(alloc: Global, followed: &[Option<usize>]) -> Result<Vec<Vec<usize>>, AllocError> {
     let mut loops = Vec::new(alloc);
     let mut marks = vec![in alloc; 0usize; followed.len()]?;
     for start in 0..followed.len() {

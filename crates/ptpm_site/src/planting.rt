@@ -1,6 +1,6 @@
 //! Each clock gets its row in the tree once.
 
-ghost use Rattle.std.specs.Prelude.{◌≡◌, true, false, ℕ, ◌<◌, slice_index_or, vec_len, OnOk, IfOk};
+ghost use Rattle.std.specs.Prelude.{◌≡◌, true, false, ℕ, ◌<◌, slice_index_or, slice_set, vec_len, OnOk, IfOk};
 ghost use Rattle.ptpm_site.specs.Tree.{IsGrown, StandsOnce, StaysMarked, rows_at};
 
 use crate::forest::Forest;
@@ -30,12 +30,7 @@ impl Planting {
     }
 
     /// Gives a clock its row at this depth, and all that follow it theirs below it; each that has one keeps it.
-    pub fn plant(
-        &mut self,
-        forest: &Forest,
-        place: usize,
-        depth: u32,
-    ) -> Result<(), AllocError>
+    pub fn plant(&mut self, forest: &Forest, place: usize, depth: u32) -> Result<(), AllocError>
         ensures marked { OnOk result (slice_index_or self.new.marks.items place false ≡ true) }
         ensures stays { OnOk result (StaysMarked self.old.marks.items self.new.marks.items) }
     {
@@ -116,8 +111,16 @@ fn add_clock(
 {
     cover(marks, place)?;
     rows.push(Row::Clock { place, depth })?;
-    marks[place] = true;
+    mark(marks, place);
     Ok(())
+}
+
+/// The mark of a place for which there is room.
+fn mark(marks: &mut Vec<bool>, place: usize)
+    requires { place < vec_len marks.old }
+    ensures { marks.new.items ≡ slice_set marks.old.items place true }
+{
+    marks[place] = true;
 }
 
 /// A row that names a port.

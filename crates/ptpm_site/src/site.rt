@@ -1,17 +1,18 @@
 //! The clocks of a site, by the answers that were taken.
 
-ghost use Rattle.std.specs.Prelude.{◌≡◌, [], OnOk, IfOk};
-ghost use Rattle.ptpm_site.specs.Keeping.{Keeps, Takes};
-ghost use Rattle.ptpm_site.specs.Kept.{kept};
+ghost use Rattle.std.specs.Prelude.{◌≡◌, [], OnOk, IfOk, IsSome};
+ghost use Rattle.ptpm_site.specs.Keeping.{Keeps, Places, Takes, Tells};
+ghost use Rattle.ptpm_site.specs.Kept.{clock_at, kept};
 ghost use Rattle.ptpm_site.specs.Telling.{has_port_of, has_ports_to};
 
-use crate::answer::Answer;
+use crate::answer::{Answer, Request};
 use crate::clock::{Clock, Heard};
 use crate::data_sets::{
     CurrentDataSet, DefaultDataSet, ParentDataSet, PortDataSet, TimePropertiesDataSet,
 };
 use crate::port_groups::PortGroup;
 use crate::source::Source;
+use crate::told::Told;
 use std::alloc::{AllocError, Global};
 use std::collections::BTreeMap;
 
@@ -53,13 +54,37 @@ impl Site {
             request,
             told,
         } = answer;
-        if !self.clocks.contains_key(&source) {
-            self.clocks.insert(source, Clock::new(alloc))?;
+        self.place(alloc, source)?;
+        self.tell(alloc, source, request, told)?;
+        Ok(())
+    }
+
+    /// A clock of which nothing was heard gets its place.
+    fn place(&mut self, alloc: Global, source: Source) -> Result<(), AllocError>
+        ensures { OnOk result (Places self.old self.new source) }
+    {
+        if self.clocks.contains_key(&source) {
+            return Ok(());
         }
-        match self.clocks.get_mut(&source) {
-            Some(clock) => clock.take(alloc, request, told),
-            None => Ok(()),
+        self.clocks.insert(source, Clock::new(alloc))?;
+        Ok(())
+    }
+
+    /// Takes what an answer of a clock that has its place tells.
+    fn tell(
+        &mut self,
+        alloc: Global,
+        source: Source,
+        request: Request,
+        told: Told,
+    ) -> Result<(), AllocError>
+        requires { IsSome (clock_at self.old source) }
+        ensures { OnOk result (Tells self.old self.new source request told) }
+    {
+        if let Some(clock) = self.clocks.get_mut(&source) {
+            clock.take(alloc, request, told)?;
         }
+        Ok(())
     }
 
     /// Keeps the first clocks, by domain and identity, and the first of their ports; the others are as if they had not

@@ -1,8 +1,8 @@
 //! The columns of a clock's line.
 
+use crate::intervals::Whole;
 use ptpm_site::clock::Clock;
 use ptpm_site::port_groups::PortGroup;
-use crate::intervals::Whole;
 use std::alloc::{AllocError, Global};
 use std::io;
 use std::io::Write;

@@ -1,11 +1,11 @@
 //! A finding as a JSON object.
 
+use crate::json::{identity_value, member_value, port_value, text_value};
 use ptpm_site::changes::Change;
 use ptpm_site::completeness::Missing;
 use ptpm_site::differences::Differs;
 use ptpm_site::finding::{Finding, What};
 use ptpm_site::grandmasters::Masterless;
-use crate::json::{identity_value, member_value, port_value, text_value};
 use ptpm_site::member::state_name;
 use ptpm_site::parents::{NoMaster, Steps};
 use serde_json::{Map, Value, json, put};

@@ -1,12 +1,12 @@
 //! A site as one JSON object, by the standard's names.
 
-use ptpm_site::clock::{Clock, Heard};
 use crate::finding_json::finding_value;
+use ptpm_codec::{ClockIdentity, PortIdentity};
+use ptpm_commands::Fault;
+use ptpm_site::clock::{Clock, Heard};
 use ptpm_site::member::{DataSet, Member, Value as MemberValue, mechanism_name, state_name};
 use ptpm_site::picture::Picture;
 use ptpm_site::source::Source;
-use ptpm_codec::{ClockIdentity, PortIdentity};
-use ptpm_commands::Fault;
 use serde_json::{Map, Value, json, put};
 use std::alloc::{AllocError, Global};
 use std::io::Write;

@@ -16,9 +16,8 @@ pub(crate) fn read_site<R: Read + Drop>(alloc: Global, reader: R) -> Result<Site
             break;
         }
         if let Some(datagram) = lines.datagram(alloc, number)? {
-            site.take_datagram(alloc, datagram.as_slice()).map_err(
-                |_| Fault::OutOfMemory,
-            )?;
+            site.take_datagram(alloc, datagram.as_slice())
+                .map_err(|_| Fault::OutOfMemory)?;
         }
     }
     Ok(site)

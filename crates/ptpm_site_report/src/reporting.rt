@@ -1,11 +1,11 @@
 //! `ptpm site`: a site's tree and what is wrong with it, by the answers among lines of datagrams.
 
-use ptpm_site::limits::Limits;
-use ptpm_site::picture::Picture;
 use crate::json::Object;
 use crate::reading::read_site;
 use crate::text::Sheet;
 use ptpm_commands::Fault;
+use ptpm_site::limits::Limits;
+use ptpm_site::picture::Picture;
 use std::alloc::Global;
 use std::io::{Read, Write};
 

@@ -1,14 +1,14 @@
 //! A finding as a line of text.
 
+use crate::intervals::Exact;
+use ptpm_codec::PortIdentity;
 use ptpm_site::changes::Change;
 use ptpm_site::completeness::Missing;
 use ptpm_site::differences::Differs;
 use ptpm_site::finding::{Finding, What};
 use ptpm_site::grandmasters::Masterless;
-use crate::intervals::Exact;
 use ptpm_site::member::state_name;
 use ptpm_site::parents::{NoMaster, Steps};
-use ptpm_codec::PortIdentity;
 use std::fmt;
 
 /// A finding in words: the domain, the clock, the finding's name, and the values.

@@ -2,16 +2,16 @@
 
 ghost use Rattle.std.specs.Prelude.{◌≤◌, length};
 
-use ptpm_site::clock::Clock;
 use crate::columns::{Columns, Widths, print_spaces};
+use crate::ports_text::PortsText;
+use crate::telling::Words;
+use ptpm_commands::Fault;
+use ptpm_site::clock::Clock;
 use ptpm_site::finding::{Finding, What};
 use ptpm_site::picture::Picture;
-use crate::ports_text::PortsText;
 use ptpm_site::site::{CLOCKS, PORTS};
 use ptpm_site::source::Source;
-use crate::telling::Words;
 use ptpm_site::tree::Row;
-use ptpm_commands::Fault;
 use std::alloc::{AllocError, Global};
 use std::io;
 use std::io::Write;

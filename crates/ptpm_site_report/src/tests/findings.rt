@@ -4,6 +4,7 @@ use super::sketch::{
     NO_LIMITS, Sketch, answer, finds, finds_of, grandmaster, identity, port, request, slave,
     take_all,
 };
+use ptpm_data::PortState;
 use ptpm_site::answer::Answer;
 use ptpm_site::asked::Asked;
 use ptpm_site::data_sets::DelayMechanism;
@@ -11,7 +12,6 @@ use ptpm_site::limits::Limits;
 use ptpm_site::site::Site;
 use ptpm_site::source::Source;
 use ptpm_site::told::Told;
-use ptpm_data::PortState;
 use std::alloc::Global;
 use std::test::Fail;
 

@@ -1,6 +1,8 @@
 //! Clocks as a test describes them, and what is printed of their answers.
 
 use crate::text::Sheet;
+use ptpm_codec::{ClockIdentity, PortIdentity};
+use ptpm_data::PortState;
 use ptpm_site::answer::{Answer, Request};
 use ptpm_site::data_sets::{
     ClockQuality, CurrentDataSet, DefaultDataSet, DelayMechanism, ParentDataSet, PortDataSet,
@@ -12,8 +14,6 @@ use ptpm_site::picture::Picture;
 use ptpm_site::site::Site;
 use ptpm_site::source::Source;
 use ptpm_site::told::Told;
-use ptpm_codec::{ClockIdentity, PortIdentity};
-use ptpm_data::PortState;
 use std::alloc::Global;
 use std::test::Fail;
 
