@@ -9,7 +9,7 @@ static const uint8_t datagram[54] = {           /* from 0011223344556677/1 to ev
     0x0d, 0x12, 0, 54, 0, 0, 0, 0, 0, 0, 0, 0, 0, 0, 0, 0, 0, 0, 0, 0, 0x00, 0x11, 0x22, 0x33, 0x44, 0x55, 0x66, 0x77, 0, 1, 0, 7, 4, 0x7f,
     0xaa, 0xbb, 0xcc, 0xff, 0xfe, 0xdd, 0xee, 0x01, 0xff, 0xff, 1, 1, 0, 0, 0, 1, 0, 2, 0x20, 0x05,
 };
-static struct ptpm_sent sent[PTPM_MOST_SENT];   /* large, so it stands in no frame */
+static struct ptpm_sent sent[PTPM_MOST_SENT];   /* large, so it is in no frame */
 
 int main(void) {
     struct ptpm_clock clock = { NULL, false };

@@ -28,7 +28,7 @@ void start_clock(const struct options *given) {
     exit(1);
 }
 
-/* The portState that a GET of PORT_DATA_SET tells. */
+/* The portState that a GET of PORT_DATA_SET shows. */
 static const char *state_of(size_t port) {
     enum { PORT_STATE = 10 };
     uint8_t octets[PTPM_MOST_READ];
@@ -38,7 +38,7 @@ static const char *state_of(size_t port) {
     return name != NULL ? name : "?";
 }
 
-/* Who it is and where it is heard, once it is. */
+/* Its identity and its interfaces, once it is heard. */
 void say_started(void) {
     char identity[IDENTITY_TEXT], text[2048];
     write_identity(identity, options->settings.identity);
@@ -50,7 +50,7 @@ void say_started(void) {
     say("%s %zu manager%s", text, options->manager_count, options->manager_count == 1 ? "" : "s");
 }
 
-/* Members by their names, which the answers have that refuse their values, behind BAD_. */
+/* Members by their names, which the answers have that refuse their values, after BAD_. */
 static void tell_changed(const char *where, uint32_t first, uint32_t members) {
     char line[1024];
     int size = snprintf(line, sizeof line, "%s", where);
@@ -120,7 +120,7 @@ static void tell_left(uint8_t left) {
     }
 }
 
-/* The clock observes what a text tells, all of it or nothing. */
+/* The clock observes what a text says, all of it or nothing. */
 void observe(char *text) {
     struct observation observation;
     uint8_t left = 0;

@@ -1,21 +1,21 @@
-/* The clock that the library holds, behind the ports and the Unix socket: what becomes of datagrams and of observations. */
+/* The clock that the library holds, for the ports and the Unix socket: what becomes of datagrams and of observations. */
 #ifndef AGENT_H
 #define AGENT_H
 
 #include "options.h"
 #include "ports.h"
 
-/* Starts it with a port for each that is open. Ends the program with status 1, and says why, where the library does not start it. */
+/* Starts it with a port for each that is open. Ends the program with status 1, and says why, if the library does not start it. */
 void start_clock(const struct options *given);
 
-/* A line on standard error: who it is, where it is heard, the states of its ports, and how many managers it has. */
+/* A line on standard error: its identity, its interfaces, the states of its ports, and how many managers it has. */
 void say_started(void);
 
-/* Takes the datagrams that have come in at a port, or, where there is none, at the Unix socket, and sends what they are answered
+/* Takes the datagrams that have come in at a port, or, if there is none, at the Unix socket, and sends what they are answered
    and what is passed on. */
 void take_round(const struct port *port, int at);
 
-/* The clock observes what a text tells, all of it or nothing. */
+/* The clock observes what a text says, all of it or nothing. */
 void observe(char *text);
 
 void stop_clock(void);

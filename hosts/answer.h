@@ -1,17 +1,17 @@
-/* What an answer of a clock tells, printed. */
+/* What an answer of a clock says, printed. */
 #ifndef ANSWER_H
 #define ANSWER_H
 
 #include "task.h"
 #include <stdio.h>
 
-/* What an answer tells; its dataField is the head of `octets`. */
+/* What an answer says; its dataField is the head of `octets`. */
 struct answer { enum ptpm_told told; uint16_t error; size_t size; uint8_t octets[PTPM_MOST_OCTETS]; };
 
-/* What the answer to the session's latest request tells. */
+/* What the answer to the session's latest request says. */
 void take_report(struct ptpm_session *session, struct answer *answer);
 
-/* Prints it, each line behind `lead`. */
+/* Prints it, each line after `lead`. */
 void print_answer(FILE *to, const struct task *task, const char *lead, const struct answer *answer);
 
 #endif

@@ -5,7 +5,7 @@
 #include "identity.h"
 #include "names.h"
 #include "notices.h"
-#include "number_file.h"
+#include "session_file.h"
 #include "unanswered.h"
 #include "way.h"
 #include <errno.h>
@@ -13,12 +13,10 @@
 #include <string.h>
 
 enum { NOT_SUPPORTED = 6 };         /* a managementErrorId (15.5.4.3) */
-enum { QUIET = 2, QUIET_AT_FIRST = 5 };     /* so often nothing new ends a survey: where somebody answered, and where nobody did */
+enum { QUIET = 2, QUIET_AT_FIRST = 5 };     /* rounds without a new answer that end a survey; QUIET_AT_FIRST if nobody answered */
 
-static struct ptpm_session session;
 static struct ptpm_survey survey;
 static struct answer answer;
-static long all_sent;
 
 /* What an operator does about an answer of the library for which nothing is asked. */
 static const char *advice(uint32_t refusal) {
@@ -27,6 +25,7 @@ static const char *advice(uint32_t refusal) {
     case PTPM_SAME_CLOCK: return ": the manager has the identity of the clock; --manager gives it another";
     case PTPM_MANAGER_IS_EVERY: return ": the manager's identity means every clock; --manager gives it another";
     case PTPM_TARGET_IS_EVERY: return ": --target means every clock; survey asks every clock";
+    case PTPM_TARGET_IS_ZERO: return ": --target is no clock's identity; survey tells those that there are";
     default: return "";
     }
 }
@@ -37,58 +36,78 @@ static int not_asked(uint32_t refusal) {
 }
 
 /* Counts a message that went out; whether going on has a sense. Where there is no way, and it didn't go out before, it has none,
-   and that is told. */
+   and that is said. */
 static int is_going_on(enum sending sending, long *sent) {
-    if (sending == OUT) {
-        ++*sent;
-        all_sent++;
-    }
+    *sent += sending == OUT;
     if (sending != NO_WAY || *sent > 0) return 1;
     complain("nothing was sent: %s: %s", way_name(), strerror(errno));
     return 0;
 }
 
-/* Sends the request until it is answered, its attempts are used, or a signal comes in. */
-static int carry_out(const struct task *task) {
-    long sent = 0;
+int send_until_answered(struct session *session, const struct task *task, long *sent) {
     for (int attempt = 1;; attempt++) {
-        enum sending sending = stopped ? NONE_LEFT : send_again(&session);
-        if (sending == NONE_LEFT) return no_answer(task, REQUEST, sent);
+        enum sending sending = stopped ? NONE_LEFT : send_again(&session->handle);
+        if (sending == NONE_LEFT) return NOT_ANSWERED;
         if (attempt > 1) show_progress("no answer yet: attempt %d of %d", attempt, task->settings.attempts);
-        if (!is_going_on(sending, &sent)) return NOT_ASKED;
-        if (first_answered(&session, NULL, milliseconds() + task->milliseconds) == 0) break;
+        if (!is_going_on(sending, sent)) return NOT_ASKED;
+        if (first_answered(&session->handle, NULL, milliseconds() + task->milliseconds) == 0) return ANSWERED;
     }
-    take_report(&session, &answer);
+}
+
+/* Prints what the answer tells, before the session is kept without the request. */
+static int print_report(struct session *session, const struct task *task) {
+    take_report(&session->handle, &answer);
     print_answer(stdout, task, "", &answer);
+    if (fflush(stdout)) return NOT_WRITTEN;
     if (answer.told == PTPM_REFUSED && answer.error == NOT_SUPPORTED && task->action != PTPM_GET) {
         complain("the clock lacks that id, or takes no change of it from this manager: a ptp4l takes some at its Unix socket alone");
     }
     return answer.told == PTPM_REFUSED ? REFUSED : ANSWERED;
 }
 
-static uint32_t begin(const struct task *task) {
-    return ptpm_session_begin(&session, task->action, task->id, task->port, task->octets, task->size);
+/* Keeps the session without the latest request: its answer was reported, or nothing was sent of it. */
+static void keep_at_rest(struct session *session) {
+    if (!session->is_kept || save_session(session)) return;
+    complain("%s: %s: the next run asks this again", session_path(), strerror(errno));
+}
+
+/* Takes a request back of which nothing was sent: its number is that of the next one. */
+static void take_back(struct session *session, const struct task *task) {
+    start_session(session, task, latest_number(session));
+    keep_at_rest(session);
+}
+
+static int carry_out(struct session *session, const struct task *task, long *all_sent) {
+    long sent = 0;
+    begin_request(session, task);
+    uint16_t number = latest_number(session);
+    int status = send_until_answered(session, task, &sent);
+    *all_sent += sent;
+    if (sent == 0 && status != ANSWERED) take_back(session, task);
+    if (status == NOT_ANSWERED) return no_answer(task, REQUEST, number, sent);
+    return status == ANSWERED ? print_report(session, task) : status;
 }
 
 int judge_request(const struct task *task) {
+    struct ptpm_session session = { 0 };
     uint32_t refusal = ptpm_session_start(&session, &task->settings);
-    if (refusal == PTPM_STARTED) refusal = begin(task);
+    if (refusal == PTPM_STARTED) {
+        refusal = ptpm_session_begin(&session, task->action, task->id, task->port, task->octets, task->size);
+    }
     ptpm_session_stop(&session);
     return refusal == PTPM_BEGUN ? ANSWERED : not_asked(refusal);
 }
 
-int ask_clock(const struct task *task) {
+int ask_clock(struct session *session, const struct task *task) {
     int status = ANSWERED;
-    uint32_t refusal = ptpm_session_start(&session, &task->settings);
-    for (long i = 0; i < task->times && refusal == PTPM_STARTED && (status == ANSWERED || status == REFUSED); i++) {
-        refusal = begin(task);
-        if (refusal != PTPM_BEGUN) break;
-        if (task->is_numbered) keep_number((uint16_t)(task->settings.first + ptpm_session_issued(&session)));
-        status = carry_out(task);
+    long requests = 0, sent = 0;
+    for (; requests < task->times && (status == ANSWERED || status == REFUSED); requests++) {
+        status = carry_out(session, task, &sent);
     }
-    if (task->times > 1) printf("requests %lu, datagrams %ld\n", (unsigned long)ptpm_session_issued(&session), all_sent);
-    ptpm_session_stop(&session);
-    return refusal == PTPM_BEGUN ? status : not_asked(refusal);
+    if (task->times > 1) printf("requests %ld, datagrams %ld\n", requests, sent);
+    if (status == ANSWERED || status == REFUSED) keep_at_rest(session);
+    ptpm_session_stop(&session->handle);
+    return status;
 }
 
 /* How many answers the survey hears in time that are the first of their port; more ports than it has room for are counted. */
@@ -121,7 +140,7 @@ static int end_of_survey(const struct task *task, long sent, long lost) {
     print_answers(task);
     if (lost > 0) complain("more ports answered than there is room for: these are the first %zu", count);
     if (count > 0 && stopped) complain("ended by a signal: more may answer");
-    if (count == 0) return no_answer(task, REQUEST, sent);
+    if (count == 0) return no_answer(task, REQUEST, 0, sent);
     return stopped ? BY_SIGNAL + stopped : ANSWERED;
 }
 

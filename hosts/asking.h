@@ -2,21 +2,26 @@
 #ifndef ASKING_H
 #define ASKING_H
 
+#include "session.h"
 #include "task.h"
 
 /* The status with which the program ends. */
 enum status { ANSWERED = 0, REFUSED = 1, NOT_ASKED = 2, NOT_ANSWERED = 3, NOT_WRITTEN = 4, BY_SIGNAL = 128 };
 
 /* Whether the library would take the task's request, without a word of it on the network: ANSWERED, or the program's status, and
-   then why not is told. */
+   then why not is said. */
 int judge_request(const struct task *task);
 
-/* Makes the task's request so many times as it says, one behind the other, each sent until it is answered or its attempts are
-   used, and prints what each answer tells; the program's status. */
-int ask_clock(const struct task *task);
+/* Sends the session's request, which is the task's, until it is answered, its attempts are used, or a signal comes in; what went out
+   is counted. ANSWERED, NOT_ANSWERED, or NOT_ASKED if there is no way, which is said then. */
+int send_until_answered(struct session *session, const struct task *task, long *sent);
 
-/* Asks every clock and every port until two times bring no new answer, or the attempts are used, and prints what each answer
-   tells behind the port that gave it; the program's status. */
+/* Makes the task's request in a session as many times as the task says, one after the other, each sent until it is answered or its
+   attempts are used, and prints what each answer says; the program's status. */
+int ask_clock(struct session *session, const struct task *task);
+
+/* Asks every clock and every port until two rounds bring no new answer, or the attempts are used, and prints what each answer
+   says after the port that gave it; the program's status. */
 int ask_every_clock(const struct task *task);
 
 #endif

@@ -1,6 +1,7 @@
-"""What may become of a manager's numbers: of the file that keeps them, and of runs that are killed, hang, or go beside each other.
+"""What may become of a manager's session: of the file that keeps it, and of runs that are killed, hang, or go beside each other.
 What a run of manage.c reports is so all the same."""
 import os
+import re
 import shutil
 import signal
 import socket
@@ -14,12 +15,37 @@ from attacking import (HOME, MANAGER, ME, OTHER, Clock, Peer, asks, check, manag
 PROGRAM = os.path.join(HOME, "manage")
 
 
-def file_of(number):
-    """What a file of numbers has where the manager's next request to this clock has the number."""
-    return f"{number} {MANAGER}/1 {ME}\n"
+def image(first, begun, request=b"", manager=MANAGER + "0001", clock=ME, ports=8, hops=1, attempts=30, domain=0):
+    """What the file has of a session that began so many requests from a number on; the latest is under way if it is given: its
+    action, id, port, the size of the dataField, and the dataField."""
+    body = (bytes.fromhex(manager + clock) + bytes([ports]) + first.to_bytes(2, "big") + bytes([hops, attempts, domain])
+            + begun.to_bytes(8, "big") + (begun - bool(request)).to_bytes(8, "big") + bytes([bool(request)]) + request)
+    return b"ptpm" + bytes([2, 1, 0, 0]) + len(body).to_bytes(4, "big") + body
+
+
+def set_of(value):
+    """A SET of PRIORITY2, which is an id of no port, in an image."""
+    return bytes.fromhex("012006ffff0002") + bytes([value, 0])
+
+
+def octets(name):
+    with open(os.path.join(work, name), "rb") as file:
+        return file.read()
+
+
+def write_octets(name, content):
+    with open(os.path.join(work, name), "wb") as file:
+        file.write(content)
+    return os.path.join(work, name)
+
+
+def next_number(name):
+    content = octets(name)
+    return (int.from_bytes(content[31:33], "big") + int.from_bytes(content[36:44], "big")) % 65536
 
 
 def number_files():
+    """The files of earlier versions: a number, alone or with the manager and the clock."""
     clock = Clock("-m", MANAGER + "/1", "-u", path, ME)
     number = os.path.join(work, "number")
     owner = f"{MANAGER}/1 {ME}"
@@ -28,25 +54,31 @@ def number_files():
                  f"7 {MANAGER}/1\n"]:
         write("number", text)
         status, said, _ = asks("-k", number)
-        check(f"the number {text!r} is refused", status == 2 and "no number from 0 to 65535" in said and read("number") == text)
+        check(f"the number {text!r} is refused", status == 2 and "nothing was asked: NOT_AN_IMAGE" in said and read("number") == text)
     for text in [f"7 {MANAGER}/2 {ME}\n", f"7 {MANAGER}/1 {OTHER}\n", f"7 {ME}/1 {MANAGER}\n"]:
         write("number", text)
         status, said, _ = asks("-k", number)
         check(f"the number {text!r} is another session's", status == 2 and "OTHER_SESSION" in said and read("number") == text)
-    for text, after in [("65535\n", 1), ("7", 9), ("00009\n", 11), (file_of(65534), 0), (file_of(7).strip(), 9)]:
+    for text, first in [("65535\n", 65535), ("7", 7), ("00009\n", 9), (f"65534 {owner}\n", 65534), (f"7 {owner}", 7)]:
         write("number", text)
         status, _, _ = asks("-k", number)
-        check(f"the number {text!r} is taken", status == 0 and read("number") == file_of(after))
+        check(f"the number {text!r} is taken", status == 0 and octets("number") == image(first, 2))
         clock.end()
         clock = Clock("-m", MANAGER + "/1", "-u", path, ME)
+    clock.end()
+
+
+def files_in_the_way():
+    clock = Clock("-m", MANAGER + "/1", "-u", path, ME)
+    number = write_octets("number", image(7, 0))
     os.chmod(number, 0o640)
     os.chown(number, 1, 2)
     found = (asks("-k", number), os.stat(number))[1]
-    check("a number file keeps its mode and its owner", (stat.S_IMODE(found.st_mode), found.st_uid, found.st_gid) == (0o640, 1, 2))
+    check("a session's file keeps its mode and its owner", (stat.S_IMODE(found.st_mode), found.st_uid, found.st_gid) == (0o640, 1, 2))
     os.unlink(number)
     for make, what in [(os.mkfifo, "a pipe"), (os.mkdir, "a folder")]:
         make(number)
-        check(f"{what} is no number file", asks("-k", number)[0] == 2)
+        check(f"{what} is no session's file", asks("-k", number)[0] == 2)
         os.rmdir(number) if os.path.isdir(number) else os.unlink(number)
     for name in ["number", "number.lock"]:
         os.symlink(write("victim", "5\n"), os.path.join(work, name))
@@ -57,9 +89,70 @@ def number_files():
             os.unlink(number + ".lock")
     os.symlink(os.path.join(work, "victim"), number + ".new")
     status, _, _ = asks("-k", number)
-    check("number.new as a link is not followed", status == 0 and read("victim") == "5\n" and read("number").endswith(f" {owner}\n"))
+    check("number.new as a link is not followed", status == 0 and read("victim") == "5\n" and len(octets("number")) == 53)
     os.unlink(number)
     clock.end()
+
+
+def sessions():
+    """Images of sessions that were written by hand: those that are refused, and how those of this manager go on."""
+    whole = image(7, 2)
+    refused = [(whole[:size], "NOT_AN_IMAGE" if size < 12 else "DAMAGED") for size in range(len(whole))] + [
+        (b"ptpn" + whole[4:], "NOT_AN_IMAGE"), (whole[:5] + b"\2" + whole[6:], "OTHER_VERSION"),
+        (whole[:4] + b"\1" + whole[5:], "OTHER_KIND"), (whole + b"\0", "DAMAGED"), (whole * 40, "DAMAGED"),
+        (whole[:6] + b"\1" + whole[7:], "DAMAGED"), (image(7, 1000001), "DAMAGED"), (image(7, 2, ports=9), "DAMAGED"),
+        (image(7, 1, set_of(50))[:36] + bytes(16) + b"\1" + set_of(50), "DAMAGED"), (image(7, 2, ports=2), "OTHER_SESSION"),
+        (image(7, 2, manager=MANAGER + "0002"), "OTHER_SESSION"), (image(7, 2, clock=OTHER), "OTHER_SESSION"),
+        (image(7, 2, set_of(50), clock=OTHER), "OTHER_SESSION")]
+    two, wrong = TwoManagers(), []
+    for content, name in refused:
+        write_octets("number", content)
+        two.last, two.said, _ = two.sets()
+        if not two.said.startswith(f"ptpm-manage: nothing was asked: {name}: ") or octets("number") != content or two.last != 2:
+            wrong.append((content.hex(), two.said))
+    check(f"{len(refused)} files without a session are refused by name, and stay, but for {wrong}", wrong == [])
+    check("nothing was sent then", two.value() == "priority2 128")
+    for content, words, after in [
+            (image(7, 2), (), image(7, 4)),
+            (image(100, 2, set_of(77)), (), image(100, 4)),
+            (image(200, 999999), (), image((200 + 1000000) % 65536, 1, attempts=3)),
+            (image(20000, 2, hops=4, attempts=1), (), image(20002, 2, attempts=3)),
+            (image(20100, 2, domain=5), (), image(20100, 4)),
+            (image(20200, 2, set_of(78)), ("--give-up",), image(20202, 2, attempts=3))]:
+        write_octets("number", content)
+        done = two.is_honest(*words)
+        check(f"the session {content.hex()} goes on", done and two.last == 0 and octets("number") == after)
+        told = [line for line in two.said.splitlines() if "of an earlier run" in line or "priority2 7" in line]
+        lead = "ptpm-manage: set PRIORITY2 of an earlier run, number "
+        wanted = {77: [lead + "101, had no answer yet, and was sent again:", "ptpm-manage: priority2 77"],
+                  78: [lead + "20201, is let go: a get shows whether it was carried out"]}
+        value = content[-2] if len(content) > 53 else 0
+        check("what was under way is told", told == wanted.get(value, []))
+    number = next_number("number")
+    write_octets("number", image(number, 1, bytes.fromhex("012007ffff00020400")))
+    status, said, _ = two.sets()
+    check("a clock that an earlier run's SET moves to another domain", status == 3 and "ptpm-manage: domainNumber 4\n" in said)
+    status, said, _ = two.sets("-d", "4")
+    check("is asked there by the session", status == 0 and said == "priority2 50\n")
+    two.clock.end()
+
+
+def reports_that_are_lost():
+    """An answer that can't be printed is none that was reported: the next run prints it."""
+    two = TwoManagers()
+    write_octets("number", image(7, 0))
+    with open("/dev/full", "w") as full:
+        lost = subprocess.run([PROGRAM, "-m", MANAGER + "/1", "-u", path, "-k", two.number, "--target", ME, "set", "PRIORITY2", "70"],
+                              stdout=full, stderr=subprocess.DEVNULL)
+    check("an answer is not printed", lost.returncode == 4 and two.value() == "priority2 70")
+    check("the next run prints it", two.is_honest() and two.last == 0 and "ptpm-manage: priority2 70\n" in two.said)
+    write_octets("number", image(20, 1, set_of(71)))
+    with open("/dev/full", "w") as full:
+        lost = subprocess.run([PROGRAM, "-m", MANAGER + "/1", "-u", path, "-k", two.number, "--target", ME, "get", "DOMAIN"],
+                              stdout=subprocess.PIPE, stderr=full)
+    check("nor is one of an earlier run", (lost.returncode, lost.stdout) == (4, b"") and two.value() == "priority2 71")
+    check("and the next run prints that", two.is_honest() and two.last == 0 and "ptpm-manage: priority2 71\n" in two.said)
+    two.clock.end()
 
 
 def runs_at_once():
@@ -69,7 +162,7 @@ def runs_at_once():
     runs = [start("manage", "-m", MANAGER + "/1", "-w", "0", "-u", path, "-k", number, "set", "PRIORITY1", "100", "--target", ME,
                   stdout=subprocess.DEVNULL, stderr=subprocess.DEVNULL) for _ in range(80)]
     check("80 runs at once are all answered", [one.wait() for one in runs] == [0] * 80)
-    check("each has two numbers of its own", read("number") == file_of(16384 + 160))
+    check("each has two numbers of its own", octets("number") == image(16384, 160))
     clock.end()
     check("each is carried out once", "answer 5: 160\n" in clock.text())
     os.unlink(number)
@@ -111,12 +204,13 @@ def clocks_that_are_not_there():
         most = max(most, sum(name.startswith("socket.") for name in os.listdir(work)))
         time.sleep(0.02)
     check("a run without an answer has its turn alone", most == 1)
-    check("it leaves no file of numbers, and no lock", os.listdir(work) == ["socket"])
+    check("it leaves no file of its session, and no lock", os.listdir(work) == ["socket"])
     deaf.close()
 
 
 def losses_of_power():
-    """The new number is on the disk before it stands in place of the old one, and the folder after that."""
+    """A session is on the disk before it is in place of the old one, and the folder after that: before a request goes out, and
+    after its answer is reported."""
     if shutil.which("strace") is None:
         print("attack: strace is missing")
         return
@@ -124,11 +218,12 @@ def losses_of_power():
     kept = ["fsync", "rename", "fsync"]
     words = [PROGRAM, "-m", MANAGER + "/1", "-w", "0", "-u", path, "-k", os.path.join(work, "number"), "get", "PRIORITY1",
              "--target", ME]
-    for what, wanted in [("a new file", ["fsync", "sendto", *kept, "sendto"]), ("a file", [*kept, "sendto", "sendto"])]:
-        traced = run("strace", "-e", "trace=fsync,renameat,renameat2,sendto", *words)
-        calls = [line.split("(")[0] for line in traced.stdout.splitlines() if "(" in line]
+    for what, wanted in [("a new session", ["fsync", "sendto", *kept, "sendto", "write", *kept]),
+                         ("a session", [*kept, "sendto", *kept, "sendto", "write", *kept])]:
+        traced = run("strace", "-e", "trace=fsync,renameat,renameat2,sendto,write", *words)
+        calls = [line.split("(")[0] for line in traced.stdout.splitlines() if "(" in line and not re.match(r"write\([^1]", line)]
         calls = ["rename" if call.startswith("rename") else call for call in calls]
-        check(f"the number of {what} is on the disk before the request goes out", calls == wanted)
+        check(f"{what} is on the disk when it has to be: {calls}", calls == wanted)
     clock.end()
 
 
@@ -159,42 +254,42 @@ class TwoManagers:
 
 
 def damages():
-    """A file of numbers of which an octet is another one, or what stands behind an octet is lost: a refusal, or the truth."""
+    """A session's file of which an octet is another one, or what follows an octet is lost: a refusal, or the truth."""
     two, wrong = TwoManagers(), []
     write("number", "16384\n")
     check("a session begins", two.is_honest() and two.last == 0)
-    for place in range(len(read("number"))):
-        for change in ["cut", "flip", "zero"]:
-            whole = read("number").rjust(len(file_of(16384)), "0")      # a number of fewer digits, too
-            octets = whole.encode()
-            other = {"cut": b"", "flip": bytes([octets[place] ^ 1]) + octets[place + 1:], "zero": b"\0" + octets[place + 1:]}
-            damaged = octets[:place] + other[change]
-            with open(two.number, "wb") as file:
-                file.write(damaged)
-            if not (two.other_sets() and two.is_honest()):
-                wrong.append(damaged)
-            if two.last != 0:
-                write("number", whole)
-    check(f"damaged files of numbers, but for {wrong}", wrong == [])
+    changes = {"cut": lambda octet: None, "flip": lambda octet: octet ^ 1, "zero": lambda octet: 0}
+    cases = [(place, change, b"") for place in range(53) for change in changes]
+    cases += [(place, "flip", set_of(50)) for place in range(53)] + [(place, "cut", set_of(50)) for place in range(53, 62)]
+    for place, change, request in cases:
+        whole = image(next_number("number"), len(request) > 0, request)
+        octet = changes[change](whole[place])
+        write_octets("number", whole[:place] + (b"" if octet is None else bytes([octet]) + whole[place + 1:]))
+        if not (two.other_sets() and two.is_honest()):
+            wrong.append((place, change, two.said))
+        if two.last != 0:
+            write_octets("number", whole)
+    check(f"damaged files of a session, but for {wrong}", wrong == [])
     two.clock.end()
 
 
 def old_files():
-    """A file of numbers that is lost, one that is brought back from an older copy, and two copies that are used by turns."""
+    """A session's file that is lost, one that is brought back from an older copy, and two copies that are used by turns."""
     two = TwoManagers()
     write("number", "1000\n")
     check("a session begins", two.is_honest() and two.last == 0)
-    older = read("number")
+    older = octets("number")
     os.unlink(two.number)
     check("a session whose file was lost begins anew", two.other_sets() and two.is_honest() and two.last == 0)
-    newer = read("number")
-    for text in [older, older, file_of(int(newer.split()[0]) - 1), file_of(int(newer.split()[0]) - 2)]:
-        write("number", text)
+    newer, number = octets("number"), next_number("number")
+    for content in [older, older, image(number - 1, 0), image(number - 2, 0), image(number - 2, 1, set_of(40))]:
+        write_octets("number", content)
         is_true = two.other_sets() and two.is_honest()
-        check(f"an older copy of the file, {text!r}, is dropped by the clock", is_true and two.last == 3)
-    check("which is told", all(part in two.said for part in ["the request itself was not sent", "and has by now", "priority2 60",
-                                                            " behind one of another file or of a copy", two.number]))
-    write("number", newer)
+        check(f"an older copy of the file, {content.hex()}, is dropped by the clock", is_true and two.last == 3)
+    check("which is told", all(part in two.said for part in [
+        "this one was not sent", f"set PRIORITY2 of an earlier run, number {number - 2}, comes before it; --give-up lets it go",
+        "and has by now", "priority2 60", " behind one of another file or of a copy", two.number]))
+    write_octets("number", newer)
     copies = [two.number, os.path.join(work, "copy")]
     shutil.copy(*copies)
     for turn in range(6):
@@ -228,7 +323,7 @@ def calls_of(trace):
 
 
 def kills():
-    """A run that is killed at any of its system calls, with a file of numbers and without one, and the command again."""
+    """A run that is killed at any of its system calls, with a file of its session and without one, and the command again."""
     if shutil.which("strace") is None:
         print("attack: strace is missing")
         return
@@ -332,12 +427,12 @@ def places_without_room():
     os.environ["XDG_STATE_HOME"] = folder
     status, text, _ = manage("-u", path, "set", "PRIORITY2", "50")
     said = (f"ptpm-manage: the request was not sent: {folder}/ptpm/{MANAGER}-1.{ME}: Read-only file system; "
-            "--numbers FILE keeps the numbers elsewhere\n")
+            "--numbers FILE keeps the session elsewhere\n")
     check("a usual folder that can't be made", status == 2 and text == said and two.value() == "priority2 60")
     os.environ["XDG_STATE_HOME"] = os.path.join(work, "state")
     run("umount", folder)
     two.clock.end()
 
 
-ATTACKS = [number_files, runs_at_once, runs_beside_each_other, clocks_that_are_not_there, losses_of_power, damages, old_files,
-           latest_numbers, kills, places_without_room, users]
+ATTACKS = [number_files, files_in_the_way, sessions, reports_that_are_lost, runs_at_once, runs_beside_each_other,
+           clocks_that_are_not_there, losses_of_power, damages, old_files, latest_numbers, kills, places_without_room, users]

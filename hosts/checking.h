@@ -1,4 +1,4 @@
-/* What holds in a test that is a program, and what doesn't: counted, and each failure told. */
+/* What holds in a test that is a program, and what doesn't: counted, and each failure reported. */
 #ifndef CHECKING_H
 #define CHECKING_H
 

@@ -78,7 +78,7 @@ static int take_event(uint32_t what) {
     return asked != END_ASKED;
 }
 
-/* Once a second: what came in at a socket that stood at the path for a moment, and the source, where it moved. */
+/* Once a second: what came in at a socket that was at the path for a moment, and the source, if it moved. */
 static void look_around(long now) {
     static long next;
     if (now < next) return;
@@ -87,7 +87,7 @@ static void look_around(long now) {
     if (source >= 0 && source_has_moved()) observe_all();
 }
 
-/* Until a signal asks for the end, or that time comes, where it is not 0. */
+/* Until a signal asks for the end, or that time comes, if it is not 0. */
 static void run(long end) {
     struct epoll_event events[WAITS];
     int is_going_on = 1;

@@ -66,7 +66,7 @@ void catch_signals(void) {
     sigprocmask(SIG_BLOCK, &held, &while_waiting);
 }
 
-/* ppoll lets no signal in where it finds something at once, and in a flood it does so each time. */
+/* ppoll lets no signal in if it finds something at once, and in a flood it does so each time. */
 static void let_signals_in(void) {
     sigset_t held;
     sigprocmask(SIG_SETMASK, &while_waiting, &held);
@@ -169,7 +169,7 @@ int join_again(int at, unsigned interface, int is_six) {
     return setsockopt(at, IPPROTO_IP, IP_ADD_MEMBERSHIP, &join, sizeof join) == 0;
 }
 
-/* Removes a socket at the path where no program listens at it. */
+/* Removes a socket at the path if no program listens at it. */
 static void remove_unheard(const char *path) {
     struct sockaddr_un address = { .sun_family = AF_UNIX };
     struct stat found;
@@ -181,7 +181,7 @@ static void remove_unheard(const char *path) {
     close(probe);
 }
 
-/* Whether a name is another with a dot and the number of a process behind it, and there is no such process. */
+/* Whether a name is another with a dot and the number of a process after it, and there is no such process. */
 static int is_of_gone_process(const char *name, const char *base) {
     size_t size = strlen(base);
     if (strncmp(name, base, size) != 0 || name[size] != '.') return 0;
@@ -208,7 +208,7 @@ void remove_left_over(const char *path) {
     remove_beside(path);
 }
 
-/* What stands at the path by now may be another program's. */
+/* What is at the path by now may be another program's. */
 static void remove_own(void) {
     struct stat found;
     if (lstat(own_path.sun_path, &found) || found.st_dev != own_file.st_dev || found.st_ino != own_file.st_ino) return;

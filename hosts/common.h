@@ -12,7 +12,7 @@
 /* UDP port of all messages but those of events. */
 enum { GENERAL_PORT = 320 };
 
-/* The program's own: its name, which stands before what it says on standard error. */
+/* The program's own: its name, which comes before what it says on standard error. */
 extern const char program[];
 
 /* The program's own: it says how the program is called, and ends it with status 2. */
@@ -21,7 +21,7 @@ _Noreturn void usage(void);
 /* Says what went wrong, with the text of errno, and ends the program with status 2. */
 _Noreturn void give_up(const char *what);
 
-/* A number of decimal digits alone, at most `most`; -1 where the text is none. */
+/* A number of decimal digits alone, at most `most`; -1 if the text is none. */
 long decimal(const char *text, long most);
 
 /* Two hexadecimal digits in either case an octet, as many as there are up to `most`; how many octets they are. */
@@ -34,30 +34,31 @@ extern volatile sig_atomic_t stopped;
    the program began stays so. Where nobody reads what the program prints, a write fails, and no SIGPIPE ends it. */
 void catch_signals(void);
 
-/* poll, for so many milliseconds at most, and until a signal comes in. */
+/* poll, for this many milliseconds at most, and until a signal comes in. */
 int wait_for(struct pollfd *waits, nfds_t count, long milliseconds);
 
 /* A time that no one sets. */
 long milliseconds(void);
 
 /* A socket at UDP port 320 of an interface, and in the group of PTP there (IEEE 1588-2019, annexes C and D); it hears nothing
-   of what this host sends. -1 where it can't be made: errno says why, and *what at which step. */
+   of what this host sends. -1 if it can't be made: errno says why, and *what at which step. */
 int open_udp(const char *interface, int is_six, const char **what);
 
-/* Behind the text of errno, which right it takes to open such a socket, or one of Ethernet; nothing where errno is of no right. */
+/* After the text of errno, which right it takes to open such a socket, or one of Ethernet; nothing if errno is of no right. */
 const char *right_needed(int is_ethernet);
 
 /* The address of that group, and its size. */
 socklen_t group(struct sockaddr_storage *to, int is_six);
 
-/* Joins that group once more at an interface whose memberships may be gone, as where its MTU was too small; whether it is done. */
+/* Joins that group once more at an interface whose memberships may be gone, for example since its MTU was too small. Whether it is
+   done. */
 int join_again(int at, unsigned interface, int is_six);
 
 /* Removes a socket at a path at which no program listens, and those beside it whose names end in a dot and the number of a process
    that is gone: ptpm-manage has its own there while it asks. */
 void remove_left_over(const char *path);
 
-/* A Unix socket at a path where nothing stands. */
+/* A Unix socket at a path where nothing is. */
 int bind_unix(const char *path, mode_t mode);
 
 /* A Unix socket at a path, in place of one that a program left there and no program listens at. When the program ends it is

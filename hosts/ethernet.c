@@ -14,7 +14,7 @@ enum { PTP = 0x88f7, TAG = 0x8100, SERVICE_TAG = 0x88a8, TAG_SIZE = 4, TYPE = 12
 
 static const uint8_t group_station[STATION] = { 0x01, 0x1b, 0x19, 0x00, 0x00, 0x00 };
 
-/* Of frames with this Ethertype, behind one tag or none, those whose messageType is 0xD. */
+/* Of frames with this Ethertype, after one tag or none, those whose messageType is 0xD. */
 static const struct sock_filter wanted[] = {
     BPF_STMT(BPF_LD | BPF_H | BPF_ABS, TYPE),
     BPF_JUMP(BPF_JMP | BPF_JEQ | BPF_K, PTP, 6, 0),

@@ -6,16 +6,16 @@
 #include <stdint.h>
 #include <sys/uio.h>
 
-/* What stands before the message in a frame that is sent, how many octets that frame has at least, and how many parts. */
+/* What comes before the message in a frame that is sent, how many octets that frame has at least, and how many parts. */
 enum { STATION = 6, ETHERNET_HEAD = 14, ETHERNET_LEAST = 60, FRAME_PARTS = 3 };
 
 /* A socket of an interface, at which frames with management messages alone come in, of the group and of the interface's own
-   address. It hears nothing of what this host sends. own gets the interface's address. -1 where it can't be made: errno says why,
+   address. It hears nothing of what this host sends. own gets the interface's address. -1 if it can't be made: errno says why,
    and *what at which step. */
 int open_ethernet(const char *interface, uint8_t own[STATION], const char **what);
 
-/* Where the message begins in a frame, behind the tags of a VLAN; 0 where the frame has none for the group or this address. The
-   frame may be padded behind the message. */
+/* Where the message begins in a frame, after the tags of a VLAN; 0 if the frame has none for the group or this address. The
+   frame may be padded after the message. */
 size_t message_in(const uint8_t *frame, size_t size, const uint8_t own[STATION]);
 
 /* Whether a frame is to this address alone. */
@@ -24,10 +24,10 @@ int is_to_station(const uint8_t *frame, const uint8_t own[STATION]);
 /* Who sent a frame. */
 const uint8_t *station_of(const uint8_t *frame);
 
-/* Writes the head of a frame to a station, or to the group where there is none. */
+/* Writes the head of a frame to a station, or to the group if there is none. */
 void write_head(uint8_t head[ETHERNET_HEAD], const uint8_t *to, const uint8_t own[STATION]);
 
-/* The parts of a frame: a head, a message, and zeros behind it where the frame would be too short. */
+/* The parts of a frame: a head, a message, and zeros after it if the frame would be too short. */
 void join_frame(struct iovec parts[FRAME_PARTS], uint8_t head[ETHERNET_HEAD], const uint8_t *message, size_t size);
 
 #endif

@@ -5,10 +5,10 @@
 #include "ptpm.h"
 #include "way.h"
 
-/* Sends the session's request once more, which uses one of its attempts: NONE_LEFT where there is none. */
+/* Sends the session's request once more, which uses one of its attempts: NONE_LEFT if there is none. */
 enum sending send_again(struct ptpm_session *session);
 
-/* The first of two sessions that a datagram answers before a time, 0 or 1; -1 where none does, or a signal asks the program to end.
+/* The first of two sessions that a datagram answers before a time, 0 or 1; -1 if none does, or a signal asks the program to end.
    The second may be NULL. */
 int first_answered(struct ptpm_session *first, struct ptpm_session *second, long end);
 

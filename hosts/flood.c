@@ -19,7 +19,7 @@ static uint8_t request[MESSAGE] = {
     [42] = 0xff, 0xff, 1, 1, 0, 0, 0, 1, 0, 2, 0x20, 0x05,
 };
 static long sent_at[NUMBERS];                   /* nanoseconds; 0: answered, or not asked */
-static unsigned long answered, times[MOST_TIME + 1];         /* how many answers took so many microseconds */
+static unsigned long answered, times[MOST_TIME + 1];         /* how many answers took this many microseconds */
 
 _Noreturn void usage(void) {
     fputs("flood INTERFACE IDENTITY RATE SECONDS\n", stderr);
@@ -44,7 +44,7 @@ static void take_answer(int at) {
     *asked = 0;
 }
 
-/* In how many microseconds so many of a hundred were answered. */
+/* In how many microseconds N of a hundred were answered. */
 static long part(unsigned long percent) {
     unsigned long count = 0;
     long time = 0;

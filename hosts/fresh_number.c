@@ -3,59 +3,79 @@
 #include "common.h"
 #include "draw.h"
 #include "exchange.h"
-#include "names.h"
 #include "notices.h"
-#include "number_file.h"
 #include "reading.h"
+#include "session_file.h"
 #include "unanswered.h"
 #include <errno.h>
 #include <string.h>
 
-/* What is asked: DEFAULT_DATA_SET, and for an id of a port PORT_DATA_SET, since some clocks answer alone where the port is named. A
+/* What is asked: DEFAULT_DATA_SET, and for an id of a port PORT_DATA_SET, since some clocks answer only if the port is named. A
    GET with as many octets as the data set has is taken by each clock, also by one that looks at how many they are. */
-enum { MOST_FIELD = 26 };
-struct question { uint16_t id; size_t size; };
-static const struct question of_clock = { PTPM_ID_DEFAULT_DATA_SET, 20 }, of_port = { PTPM_ID_PORT_DATA_SET, MOST_FIELD };
+enum { OF_CLOCK = 20, OF_PORT = 26 };
 
 /* Of four numbers so far apart at least one is new, whatever the latest of this manager is. */
 enum { APART = 16384, NUMBERS = 4 };
 
-/* So many answers to reads, and none to the question beside them, tell that its number is not new. */
+/* This many answers to reads, and none to the question beside them, show that its number is not new. */
 enum { ENOUGH = 5 };
 
 enum finding { NEW, NOT_NEW, SILENT, NOT_OUT };
 
-static struct ptpm_session asking, reading;
+static struct session asking;
+static struct ptpm_session reading;
 
-/* Begins it with drawn octets; which it is. */
-static const struct question *begin_question(const struct task *task) {
-    uint8_t field[MOST_FIELD];
-    draw_octets(field, sizeof field);
-    uint32_t refusal = ptpm_session_start(&asking, &task->settings);
-    if (refusal == PTPM_STARTED) refusal = ptpm_session_begin(&asking, PTPM_GET, task->id, 0, field, 0);
-    const struct question *question = refusal == PTPM_NEEDS_PORT ? &of_port : &of_clock;
-    refusal = ptpm_session_start(&asking, &task->settings);
-    if (refusal == PTPM_STARTED) refusal = ptpm_session_begin(&asking, PTPM_GET, question->id, task->port, field, question->size);
-    if (refusal != PTPM_BEGUN) refuse("nothing was asked: %s", answer_name(refusal));
+/* Whether the task's id is one of a port, as the library has it: a request of it needs a port. */
+static int is_of_port(const struct task *task) {
+    struct ptpm_session session = { 0 };
+    int needs_port = ptpm_session_start(&session, &task->settings) == PTPM_STARTED
+                     && ptpm_session_begin(&session, PTPM_GET, task->id, 0, task->octets, 0) == PTPM_NEEDS_PORT;
+    ptpm_session_stop(&session);
+    return needs_port;
+}
+
+/* The question that is asked before the task's request, with octets drawn anew. */
+static struct task question_of(const struct task *task) {
+    struct task question = *task;
+    int is_port = is_of_port(task);
+    question.action = PTPM_GET;
+    question.id = is_port ? PTPM_ID_PORT_DATA_SET : PTPM_ID_DEFAULT_DATA_SET;
+    question.size = is_port ? OF_PORT : OF_CLOCK;
+    draw_octets(question.octets, question.size);
     return question;
+}
+
+int is_question(const struct task *task) {
+    return task->action == PTPM_GET && ((task->id == PTPM_ID_DEFAULT_DATA_SET && task->size == OF_CLOCK)
+                                        || (task->id == PTPM_ID_PORT_DATA_SET && task->size == OF_PORT));
+}
+
+int ask_whether_new(struct session *session, const struct task *task) {
+    struct task question = question_of(task);
+    long sent = 0;
+    begin_request(session, &question);
+    int status = send_until_answered(session, &question, &sent);
+    return status == NOT_ANSWERED ? no_answer(task, NUMBER, latest_number(session), sent) : status;
 }
 
 /* Whether the question is answered in time; answers to a read beside it are counted. */
 static int is_answered(const struct task *task, int *readings) {
     long end = milliseconds() + task->milliseconds;
-    for (int place; (place = first_answered(&asking, &reading, end)) >= 0;) {
+    for (int place; (place = first_answered(&asking.handle, &reading, end)) >= 0;) {
         if (place == 0) return 1;
         ++*readings;
     }
     return 0;
 }
 
-/* Asks under the task's number until it is answered, or enough reads beside it are; what went out of it is counted. */
-static enum finding ask_under_number(const struct task *task, int enough, long *sent) {
+/* Asks under a number until it is answered, or enough reads beside it are; what went out of it is counted. */
+static enum finding ask_under_number(const struct task *task, uint16_t number, int enough, long *sent) {
     int readings = 0;
-    const struct question *question = begin_question(task);
+    struct task question = question_of(task);
+    start_session(&asking, task, number);
+    begin_request(&asking, &question);
     for (int attempt = 1; readings < enough && !stopped; attempt++) {
-        enum sending sending = send_again(&asking);
+        enum sending sending = send_again(&asking.handle);
         if (sending == NONE_LEFT) break;
         if (attempt > 1) show_progress("no answer yet: attempt %d of %d", attempt, task->settings.attempts);
         *sent += sending == OUT;
@@ -64,7 +84,7 @@ static enum finding ask_under_number(const struct task *task, int enough, long *
             return NOT_OUT;
         }
         int is_read_too = attempt > 1 || task->settings.attempts == 1;
-        if (is_read_too && begin_reading(&reading, task, question->id, task->port)) send_again(&reading);
+        if (is_read_too && begin_reading(&reading, task, question.id, task->port)) send_again(&reading);
         if (is_answered(task, &readings)) return NEW;
     }
     return readings > 0 ? NOT_NEW : SILENT;
@@ -77,30 +97,29 @@ static void wait_for_copies(long wait) {
     for (long end = milliseconds() + wait; hear(&size, end) != NULL;) {}
 }
 
-/* A number of four that is new: the task's is the last that was tried. The first is drawn, since an answer to an earlier session, and
-   one to a session of the same manager beside this one, would count as one to this where it has the same number. */
-static enum finding find_of_four(struct task *task, long *sent) {
+/* A number of four that is new: *number is the last that was tried. The first is drawn, since an answer to an earlier session, and
+   one to a session of the same manager beside this one, would count as one to this if it has the same number. */
+static enum finding find_of_four(const struct task *task, uint16_t *number, long *sent) {
     enum finding finding = NOT_NEW;
     uint16_t first = draw_number();
     int enough = task->settings.attempts < ENOUGH ? task->settings.attempts : ENOUGH;
     wait_for_copies(task->wait);
     for (int k = 0; k < NUMBERS && finding == NOT_NEW; k++) {
-        task->settings.first = (uint16_t)(first + APART * k);
-        finding = ask_under_number(task, enough, sent);
+        *number = (uint16_t)(first + APART * k);
+        finding = ask_under_number(task, *number, enough, sent);
     }
     return finding;
 }
 
-int find_number(struct task *task, int is_kept) {
+int begin_session(struct session *session, const struct task *task) {
     long sent = 0;
-    if (is_kept) keep_number((uint16_t)(task->settings.first + 2));
-    enum finding finding = is_kept ? ask_under_number(task, UINT8_MAX, &sent) : find_of_four(task, &sent);
-    ptpm_session_stop(&asking);
+    uint16_t number;
+    enum finding finding = find_of_four(task, &number, &sent);
+    ptpm_session_stop(&asking.handle);
     ptpm_session_stop(&reading);
     if (finding == NOT_OUT) return NOT_ASKED;
-    if (finding != NEW) return no_answer(task, is_kept ? NUMBER : FIRST_NUMBER, sent);
-    task->settings.first++;
-    keep_number((uint16_t)(task->settings.first + 1));
-    if (!is_kept) complain("%s is new: the session begins at number %u", numbers_path(), task->settings.first);
+    if (finding != NEW) return no_answer(task, FIRST_NUMBER, number, sent);
+    start_session(session, task, (uint16_t)(number + 1));
+    complain("%s is new: the session begins at number %u", session_path(), (uint16_t)(number + 1));
     return ANSWERED;
 }

@@ -5,13 +5,21 @@
 #ifndef FRESH_NUMBER_H
 #define FRESH_NUMBER_H
 
-#include "task.h"
+#include "session.h"
 
-/* Asks the clock, under the number that the task begins at, a GET of a data set with drawn octets. A GET's dataField is ignored,
-   but belongs to what makes a repeat: so it is answered where its number is new, and else not at all. Then the task begins
-   at the number behind it, which is new too. Where no file kept a number (`is_kept` is 0), the task begins at a drawn number, or up
-   to three times 16384 ahead of it; it waits before as long as the task says, since copies of what an earlier session sent may be on
-   their way, and the step ahead may make them new. ANSWERED, or the program's status, which is told then. */
-int find_number(struct task *task, int is_kept);
+/* What is asked before a task's request is a GET of a data set with drawn octets. A GET's dataField is ignored, but belongs to what
+   makes a repeat: so it is answered if its number is new, and else not at all. Then the number after it is new too. */
+
+/* Asks so in the session, under its next number: the file of it may be an older one or a copy. ANSWERED, or the program's status,
+   which is said then. */
+int ask_whether_new(struct session *session, const struct task *task);
+
+/* Whether a request is such a question. */
+int is_question(const struct task *task);
+
+/* Starts the task's session, of which there is no file, at the number after one that is new: a drawn number, or up to three times
+   16384 ahead of it. It waits before as long as the task says, since copies of what an earlier session sent may be on their way, and
+   the step ahead may make them new. ANSWERED, or the program's status, which is said then. */
+int begin_session(struct session *session, const struct task *task);
 
 #endif

@@ -21,11 +21,11 @@ static const char text[] =
     "  -6, --ipv6              with IPv6\n"
     "  -2, --ethernet          there in frames of IEEE 802.3, and not over UDP\n"
     "      --udp ADDRESS       over UDP to this address, also without --interface\n"
-    "  -u, --unix PATH         at a Unix socket, as /var/run/ptp4l\n"
+    "  -u, --unix PATH         at a Unix socket, such as /var/run/ptp4l\n"
     "\n"
     "What is asked of whom:\n"
-    "  -T, --target IDENTITY   the clock, as aabbccfffeddee01 or aabbcc.fffe.ddee01, and behind it its\n"
-    "                          port, as in aabbccfffeddee01/1, for an id of a port\n"
+    "  -T, --target IDENTITY   the clock, such as aabbccfffeddee01 or aabbcc.fffe.ddee01. For an id of\n"
+    "                          a port its port follows: aabbccfffeddee01/1\n"
     "  -p, --port PORT         the clock's port, named apart\n"
     "  -d, --domain N          domainNumber, 0 to 255 (0)\n"
     "  -b, --hops N            how many boundary clocks pass the request on, 0 to 255 (1)\n"
@@ -33,25 +33,27 @@ static const char text[] =
     "      --text              VALUE is a text, for USER_DESCRIPTION\n"
     "\n"
     "Who asks, and how often:\n"
-    "  -m, --manager ID-PORT   the manager's own identity and port; else that of the interface, at\n"
-    "                          port 1, and for a get without -k at a port of this process, as at\n"
-    "                          a Unix socket, where it is clock 0\n"
-    "  -k, --numbers FILE      keeps the number of this manager's next request to this clock; else a\n"
-    "                          file in $XDG_STATE_HOME/ptpm, /var/lib/ptpm or ~/.local/state/ptpm\n"
-    "                          does, for a set and a command over UDP and for what is asked with -m,\n"
-    "                          but for no survey\n"
-    "  -w, --wait MILLIS       how long it waits where there is no such file, in milliseconds (3000)\n"
+    "  -m, --manager ID-PORT   the manager's own identity and port. Otherwise that of the interface, at\n"
+    "                          port 1, and for a get without -k at a port of this process. At a Unix\n"
+    "                          socket clock 0, at a port of this process\n"
+    "  -k, --numbers FILE      keeps the session of this manager with this clock from run to run.\n"
+    "                          Without it, a file in $XDG_STATE_HOME/ptpm, /var/lib/ptpm or\n"
+    "                          ~/.local/state/ptpm does so for a set or a command over UDP or\n"
+    "                          Ethernet. With -m it does so for everything except a survey\n"
+    "      --give-up           lets the request of an earlier run go that had no answer; without\n"
+    "                          this it is sent again first\n"
+    "  -w, --wait MILLIS       how long it waits if there is no such file, in milliseconds (3000)\n"
     "  -a, --attempts N        how often a request is sent at most, 1 to 255 (30)\n"
     "  -t, --timeout MILLIS    how long each answer is waited for, in milliseconds (200)\n"
-    "  -n, --times N           makes the request so many times, for trials (1)\n"
-    "  -q, --quiet             shows no progress, as where standard error is no terminal\n"
+    "  -n, --times N           makes the request N times, for trials (1)\n"
+    "  -q, --quiet             shows no progress; nor does it if standard error is no terminal\n"
     "  -h, --help              this text\n"
     "      --version           the version\n"
     "\n";
 
 static const char end[] =
     "Exit status: 0 answered; 1 the clock refuses; 2 nothing was asked or sent; 3 no answer came;\n"
-    "4 the answer could not be printed; 128 and its number where a signal ended it.\n";
+    "4 the answer could not be printed. 128 and its number: a signal ended it.\n";
 
 /* The names of all ids, in their order. */
 static void print_ids(void) {

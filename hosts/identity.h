@@ -5,11 +5,11 @@
 
 #include <stdint.h>
 
-/* A clockIdentity: sixteen hexadecimal digits in either case, also with a dot behind the sixth and the tenth. The rest of the
-   text; NULL where it does not begin with one. */
+/* A clockIdentity: sixteen hexadecimal digits in either case, also with a dot after the sixth and the tenth. The rest of the
+   text; NULL if it does not begin with one. */
 const char *identity_at(const char *text, uint8_t identity[8]);
 
-/* The portNumber behind a clockIdentity: a slash or a hyphen and a decimal number, at most `most`; -1 where the rest of the text
+/* The portNumber after a clockIdentity: a slash or a hyphen and a decimal number, at most `most`; -1 if the rest of the text
    is none. */
 long port_behind(const char *rest, long most);
 

@@ -1,7 +1,7 @@
-/* layout: whether ptpm.h has its members where the library has them. Each member of each struct gets a value of its own, and
+/* layout: whether ptpm.h has its members in the library's places. Each member of each struct gets a value of its own, and
    what the library then says must have that value at the place that the standard gives it (IEEE 1588-2019, clauses 13.3, 15.4
    and 15.5). And each constant of an answer must have its name, and ids and errors theirs. Prints what does not hold and `layout: N passed, M
-   failed`; its status is 1 where one failed. */
+   failed`; its status is 1 if one failed. */
 #include "checking.h"
 #include "ptpm.h"
 #include <ctype.h>
@@ -32,7 +32,7 @@ static int is_text(const uint8_t *octets, size_t size, const char *text) {
     return octets_of(text, wanted) == size && memcmp(octets, wanted, size) == 0;
 }
 
-/* A message with one TLV: the octets of 13.3 and 15.4, and behind them the TLV's. */
+/* A message with one TLV: the octets of 13.3 and 15.4, and after them the TLV's. */
 static const char *message(unsigned domain, const char *source, unsigned number, const char *target, unsigned hops, unsigned action,
                            const char *tlv) {
     static char text[512];
@@ -42,15 +42,30 @@ static const char *message(unsigned domain, const char *source, unsigned number,
 }
 
 static int reads(uint16_t id, uint16_t port, const char *wanted) {
+    const struct ptpm_clock *held = &clock_held;
     uint8_t octets[PTPM_MOST_READ];
     size_t size;
-    return ptpm_clock_read(&clock_held, id, port, octets, sizeof octets, &size) == PTPM_READ && is_text(octets, size, wanted);
+    return ptpm_clock_read(held, id, port, octets, sizeof octets, &size) == PTPM_READ && is_text(octets, size, wanted);
 }
 
 static uint32_t handle(uint16_t port, const char *text) {
     uint8_t octets[PTPM_MOST_OCTETS];
     size_t size = octets_of(text, octets);
     return ptpm_clock_handle(&clock_held, port, octets, size, sent, PTPM_MOST_SENT, &count);
+}
+
+/* The library is of this header's version, and has its structs. */
+static void header(void) {
+    size_t sizes[] = { 16, 216, 16, 88, 16, 12, 1476, 12, 16, 26, 16, 16, 10, 196616, 24, 0 }, all = sizeof sizes / sizeof *sizes - 1;
+    check(ptpm_version() == PTPM_VERSION_NUMBER, "the version of the library");
+    check(ptpm_header_agrees() == PTPM_STARTED && ptpm_sizes_agree(sizes, all) == PTPM_STARTED, "the sizes of the structs");
+    check(ptpm_sizes_agree(sizes, all - 1) == PTPM_OTHER_SIZES && ptpm_sizes_agree(sizes, all + 1) == PTPM_OTHER_SIZES,
+          "a struct fewer, and one more");
+    for (size_t i = 0; i < all; i++) {
+        sizes[i] += 4;
+        check(ptpm_sizes_agree(sizes, all) == PTPM_OTHER_SIZES, "a struct of another size");
+        sizes[i] -= 4;
+    }
 }
 
 /* Numbers and identities of a clock's own; no flag is set. */
@@ -83,7 +98,7 @@ static uint32_t start(const struct ptpm_clock_settings *settings) {
         { .port = 0x0933, .rights = PTPM_PORT_COMMAND },
     };
     for (int i = 0; i < 3; i++) octets_of(MANAGER, managers[i].clock);
-    return ptpm_clock_start(&clock_held, settings, ports, 2, managers, 3);
+    return ptpm_clock_start_sized(&clock_held, settings, ports, 2, managers, 3);
 }
 
 static void numbers_and_identities(void) {
@@ -167,6 +182,8 @@ static void refusals(void) {
     }
     memset(s.identity, 0xff, sizeof s.identity);
     check(start(&s) == PTPM_BAD_IDENTITY, "PTPM_BAD_IDENTITY");
+    memset(s.identity, 0, sizeof s.identity);
+    check(start(&s) == PTPM_IDENTITY_IS_ZERO, "PTPM_IDENTITY_IS_ZERO");
     s = own_values();
     s.clock_accuracy = 0x16;
     check(start(&s) == PTPM_BAD_CLOCK_ACCURACY, "PTPM_BAD_CLOCK_ACCURACY");
@@ -299,7 +316,7 @@ static void managers(void) {
           "the port of a manager");
 }
 
-/* The longest message fills its place, and its size counts no octet behind the place. */
+/* The longest message fills its place, and its size counts no octet past the place. */
 static void longest(void) {
     uint8_t octets[PTPM_MOST_OCTETS];
     struct ptpm_clock_settings s = own_values();
@@ -353,7 +370,7 @@ static void changes(void) {
     }
 }
 
-/* Each constant of a changed member stands where the fault of its member does. */
+/* Each constant of a changed member is in the place of its member's fault. */
 static void changed_members(void) {
 #define MEMBER(name) check(PTPM_CHANGED_##name == 1 << (PTPM_BAD_##name - PTPM_BAD_IDENTITY), "PTPM_CHANGED_" #name);
     MEMBER(IDENTITY) MEMBER(DOMAIN) MEMBER(USER_DESCRIPTION) MEMBER(TWO_STEP) MEMBER(PRIORITY1) MEMBER(CLOCK_CLASS)
@@ -387,10 +404,14 @@ static uint32_t session_hears(const char *text) {
 
 static void sessions(void) {
     struct ptpm_session_settings s = session_values();
+    const struct ptpm_session *held = &session;
     uint8_t octets[PTPM_MOST_OCTETS], none = 0;
     size_t size = 0;
     uint16_t error = 0;
-    check(ptpm_session_start(&session, &s) == PTPM_STARTED, "a session starts");
+    memset(s.target, 0, sizeof s.target);
+    check(ptpm_session_start(&session, &s) == PTPM_TARGET_IS_ZERO, "PTPM_TARGET_IS_ZERO");
+    s = session_values();
+    check(ptpm_session_start_sized(&session, &s) == PTPM_STARTED, "a session starts");
     check(ptpm_session_begin(&session, PTPM_GET, 0x200b, 8, &none, 0) == PTPM_NEEDS_PORT
           && ptpm_session_begin(&session, PTPM_GET, 0x200b, 7, &none, 0) == PTPM_BEGUN, "target_ports");
     for (int i = 0; i < 3; i++) {
@@ -400,7 +421,7 @@ static void sessions(void) {
     }
     check(ptpm_session_send(&session, octets, sizeof octets, &size) == PTPM_GAVE_UP, "attempts");
     check(session_hears(message(0x2b, OTHER "0007", 0x3344, MANAGER "0a11", 0, 2, "0001" "0004" "200b" "fd00")) == PTPM_ANSWERED
-          && ptpm_session_report(&session, octets, sizeof octets, &size, &error) == PTPM_VALUE && is_text(octets, size, "fd00"),
+          && ptpm_session_report(held, octets, sizeof octets, &size, &error) == PTPM_VALUE && is_text(octets, size, "fd00"),
           "a value that is told");
     check(ptpm_session_begin(&session, PTPM_SET, 0x2005, 0, (const uint8_t[]){ 0x6a, 0 }, 2) == PTPM_BEGUN
           && ptpm_session_send(&session, octets, sizeof octets, &size) == PTPM_SENT
@@ -409,25 +430,76 @@ static void sessions(void) {
     check(session_hears(message(0x2b, OTHER "0001", 0x3345, MANAGER "0a11", 0, 2, "0002" "0008" "0004" "2005" "00000000")) == PTPM_ANSWERED
           && ptpm_session_report(&session, octets, sizeof octets, &size, &error) == PTPM_REFUSED && error == 0x0004,
           "a refusal that is told");
-    check(ptpm_session_issued(&session) == 2, "how many requests were begun");
+    check(ptpm_session_issued(held) == 2, "how many requests were begun");
+}
+
+/* A session whose GET is not answered, as its image has it, and the session back from the image. */
+static void images(void) {
+    struct ptpm_session_settings s = session_values();
+    struct ptpm_session saved = { 0 };
+    uint8_t image[PTPM_SESSION_IMAGE_OCTETS], octets[PTPM_MOST_OCTETS], none = 0;
+    size_t size = 0, length = 0;
+    check(ptpm_session_image(&saved, image, sizeof image, &size) == PTPM_SAVE_NO_SESSION && size == 0, "no session, no image");
+    check(ptpm_session_start(&saved, &s) == PTPM_STARTED
+          && ptpm_session_begin(&saved, PTPM_GET, 0x200b, 7, &none, 0) == PTPM_BEGUN, "a session that is saved");
+    check(ptpm_session_image(&saved, image, 59, &size) == PTPM_SAVE_NO_ROOM && size == 0, "an image that lacks room");
+    check(ptpm_session_image(&saved, image, sizeof image, &size) == PTPM_SAVED
+          && is_text(image, size, "7074706d" "02" "01" "0000" "00000030" MANAGER "0a11" OTHER "07" "3344" "09" "03" "2b"
+                     "0000000000000001" "0000000000000000" "01" "00" "200b" "0007" "0000"),
+          "the image of a session");
+    ptpm_session_stop(&saved);
+    check(ptpm_session_restore(&saved, &s, image, 11) == PTPM_NOT_AN_IMAGE, "PTPM_NOT_AN_IMAGE");
+    check(ptpm_session_restore(&saved, &s, image, size - 1) == PTPM_DAMAGED, "PTPM_DAMAGED");
+    image[4] = 1;
+    check(ptpm_session_restore(&saved, &s, image, size) == PTPM_OTHER_KIND, "PTPM_OTHER_KIND");
+    image[4] = 2;
+    image[5] = 2;
+    check(ptpm_session_restore(&saved, &s, image, size) == PTPM_OTHER_VERSION, "PTPM_OTHER_VERSION");
+    image[5] = 1;
+    s.first++;
+    check(ptpm_session_restore(&saved, &s, image, size) == PTPM_OTHER_SESSION, "PTPM_OTHER_SESSION");
+    s.first--;
+    check(ptpm_session_issued(&saved) == 0, "a restore that is refused leaves the handle");
+    s.domain = s.hops = s.attempts = 0;
+    check(ptpm_session_restore(&saved, &s, image, size) == PTPM_RESTORED && ptpm_session_issued(&saved) == 1
+          && ptpm_session_send(&saved, octets, sizeof octets, &length) == PTPM_SENT
+          && is_text(octets, length, message(0x2b, MANAGER "0a11", 0x3344, OTHER "0007", 0x0909, PTPM_GET, "0001" "0002" "200b")),
+          "the request of a session that is restored");
+    ptpm_session_stop(&saved);
 }
 
 static void surveys(void) {
     struct ptpm_survey_settings s = { .port = 0x0b22, .number = 0x5566, .id = 0x2006, .domain = 0x2c, .hops = 4 };
+    const struct ptpm_survey *held = &survey;
     struct ptpm_source source;
     uint8_t octets[PTPM_MOST_OCTETS];
     size_t size = 0;
     uint16_t error = 0;
     octets_of(MANAGER, s.clock);
-    check(ptpm_survey_start(&survey, &s) == PTPM_STARTED, "a survey starts");
-    check(ptpm_survey_send(&survey, octets, sizeof octets, &size) == PTPM_SENT
+    check(ptpm_survey_start_sized(&survey, &s) == PTPM_STARTED, "a survey starts");
+    check(ptpm_survey_send(held, octets, sizeof octets, &size) == PTPM_SENT
           && is_text(octets, size, message(0x2c, MANAGER "0b22", 0x5566, "ffffffffffffffffffff", 0x0404, PTPM_GET, "0001" "0002" "2006")),
           "the GET of a survey");
     size = octets_of(message(0x2c, OTHER "0c33", 0x5566, MANAGER "0b22", 0, 2, "0001" "0004" "2006" "5b00"), octets);
-    check(ptpm_survey_receive(&survey, octets, size) == PTPM_TAKEN && ptpm_survey_count(&survey) == 1, "an answer that is taken");
-    check(ptpm_survey_answer(&survey, 0, &source, octets, sizeof octets, &size, &error) == PTPM_VALUE
+    check(ptpm_survey_receive(&survey, octets, size) == PTPM_TAKEN && ptpm_survey_count(held) == 1, "an answer that is taken");
+    check(ptpm_survey_answer(held, 0, &source, octets, sizeof octets, &size, &error) == PTPM_VALUE
           && is_text(octets, size, "5b00") && is_text(source.clock, 8, OTHER) && source.port == 0x0c33,
           "the port that gave it");
+}
+
+/* A table of a host, and a bucket. */
+static void tables(void) {
+    static struct ptpm_passed_on table = { .seed = 0x0102030405060708 };
+    struct ptpm_rate rate;
+    uint8_t octets[PTPM_MOST_OCTETS];
+    size_t size = octets_of(message(0x2a, MANAGER "0911", 0x1234, OTHER "ffff", 0x0503, PTPM_GET, "0001" "0002" "2005"), octets);
+    check(ptpm_passed_on_is_first(&table, octets, size, 100, 20) && !ptpm_passed_on_is_first(&table, octets, size, 119, 20)
+          && ptpm_passed_on_is_first(&table, octets, size, 120, 20) && table.seed == 0x0102030405060708, "what was passed on");
+    check(!ptpm_passed_on_is_first(&table, octets, size - 1, 200, 20), "what is no message is not passed on");
+    ptpm_rate_start(&rate, 2, 300);
+    check(rate.rate == 2 && rate.left == 2000 && rate.time == 300, "a full bucket");
+    check(ptpm_rate_take(&rate, 301) && ptpm_rate_take(&rate, 302) && !ptpm_rate_take(&rate, 303), "its tokens");
+    check(rate.rate == 2 && rate.left == 4 && rate.time == 303, "what is left");
 }
 
 static int has_name(uint32_t number, const char *name) {
@@ -452,8 +524,9 @@ static const struct answer outcomes[] = {
 static const struct answer refused[] = {
     ANSWER(NO_CLOCK), ANSWER(NO_PORT), ANSWER(NO_ROOM), ANSWER(NO_MEMORY), ANSWER(NOT_READABLE), ANSWER(NO_SESSION), ANSWER(BUSY),
     ANSWER(NEEDS_PORT), ANSWER(NOT_PERMITTED), ANSWER(BAD_VALUE), ANSWER(COUNT_AT_MAXIMUM), ANSWER(IDLE), ANSWER(GAVE_UP),
-    ANSWER(NO_REPORT), ANSWER(NO_SURVEY), ANSWER(NO_PORTS), ANSWER(TOO_MANY_PORTS), ANSWER(GRANDMASTER_DIFFERS),
+    ANSWER(NO_REPORT), ANSWER(NO_SURVEY), ANSWER(OTHER_SIZES), ANSWER(NO_PORTS), ANSWER(TOO_MANY_PORTS), ANSWER(GRANDMASTER_DIFFERS),
     ANSWER(TOO_MANY_MANAGERS), ANSWER(MANAGER_TWICE), ANSWER(MANAGER_IS_EVERY), ANSWER(TARGET_IS_EVERY), ANSWER(SAME_CLOCK),
+    ANSWER(IDENTITY_IS_ZERO), ANSWER(TARGET_IS_ZERO),
     ANSWER(BAD_IDENTITY), ANSWER(BAD_DOMAIN), ANSWER(BAD_USER_DESCRIPTION), ANSWER(BAD_TWO_STEP), ANSWER(BAD_PRIORITY1),
     ANSWER(BAD_CLOCK_CLASS), ANSWER(BAD_CLOCK_ACCURACY), ANSWER(BAD_VARIANCE), ANSWER(BAD_PRIORITY2), ANSWER(BAD_STEPS_REMOVED),
     ANSWER(BAD_OFFSET_FROM_MASTER), ANSWER(BAD_MEAN_PATH_DELAY), ANSWER(BAD_PARENT_PORT), ANSWER(BAD_PARENT_STATS),
@@ -463,6 +536,7 @@ static const struct answer refused[] = {
     ANSWER(BAD_PTP_TIMESCALE), ANSWER(BAD_TIME_TRACEABLE), ANSWER(BAD_FREQUENCY_TRACEABLE), ANSWER(BAD_TIME_SOURCE),
     ANSWER(BAD_STATE), ANSWER(BAD_LOG_MIN_DELAY_REQ), ANSWER(BAD_PEER_DELAY), ANSWER(BAD_LOG_ANNOUNCE),
     ANSWER(BAD_RECEIPT_TIMEOUT), ANSWER(BAD_LOG_SYNC), ANSWER(BAD_DELAY_MECHANISM), ANSWER(BAD_LOG_MIN_PDELAY),
+    ANSWER(NOT_AN_IMAGE), ANSWER(OTHER_VERSION), ANSWER(OTHER_KIND), ANSWER(DAMAGED), ANSWER(OTHER_SESSION),
 };
 #undef ANSWER
 
@@ -485,7 +559,7 @@ static void names_in_types(void) {
 #define NO_MESSAGE(kind) OF(kind, OTHER_DOMAIN) OF(kind, TOO_SHORT) OF(kind, NOT_MANAGEMENT) OF(kind, BAD_VERSION) \
         OF(kind, BAD_LENGTH) OF(kind, BAD_ACTION) OF(kind, BAD_TLV_TYPE) OF(kind, BAD_TLV_LENGTH) OF(kind, BAD_TEXT)
 #define IGNORED(kind) OF(kind, NOT_A_REPLY) OF(kind, OTHER_TARGET) OF(kind, OTHER_NUMBER) OF(kind, OTHER_CONTENT)
-    OF(START, NO_MEMORY) OF(START, GRANDMASTER_DIFFERS) OF(START, BAD_CLOCK_ACCURACY) OF(START, BAD_LEAP59) OF(START, BAD_STATE)
+    OF(START, NO_MEMORY) OF(START, OTHER_SIZES) OF(START, GRANDMASTER_DIFFERS) OF(START, BAD_CLOCK_ACCURACY) OF(START, BAD_LEAP59) OF(START, BAD_STATE)
     NO_MESSAGE(HANDLE) OF(HANDLE, NO_CLOCK) OF(HANDLE, NO_PORT) OF(HANDLE, NO_ROOM)
     OF(OBSERVE, NO_CLOCK) OF(OBSERVE, NO_PORT) OF(OBSERVE, GRANDMASTER_DIFFERS) OF(OBSERVE, BAD_CLOCK_ACCURACY)
     OF(OBSERVE, BAD_LEAP59) OF(OBSERVE, BAD_STATE)
@@ -496,6 +570,7 @@ static void names_in_types(void) {
     NO_MESSAGE(SESSION) IGNORED(SESSION) OF(SESSION, NO_MEMORY) OF(SESSION, NO_SESSION)
     NO_MESSAGE(SURVEY) IGNORED(SURVEY) OF(SURVEY, NO_MEMORY) OF(SURVEY, NO_SURVEY)
     OF(REPORT, NO_ROOM) OF(REPORT, NO_SESSION) OF(REPORT, NO_SURVEY)
+    OF(SAVE, NO_ROOM) OF(SAVE, NO_SESSION) OF(RESTORE, NO_MEMORY)
 #undef IGNORED
 #undef NO_MESSAGE
 #undef OF
@@ -548,6 +623,7 @@ static void id_names(void) {
 }
 
 int main(void) {
+    header();
     numbers_and_identities();
     flags();
     given_values();
@@ -560,7 +636,9 @@ int main(void) {
     changes();
     changed_members();
     sessions();
+    images();
     surveys();
+    tables();
     answer_names();
     names_in_types();
     error_names();

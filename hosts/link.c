@@ -22,7 +22,7 @@ enum { MOST = 2048 };       /* over what a frame of Ethernet has */
 
 struct frame { size_t size; uint8_t octets[MOST]; };
 
-/* Of the frames that come in at one end. The held one goes out behind the next that passes; of size 0 it is none. */
+/* Of the frames that come in at one end. The held one goes out after the next that passes; of size 0 it is none. */
 struct way {
     int from, to;
     unsigned short chance[3];

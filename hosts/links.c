@@ -27,7 +27,7 @@ int open_links(void) {
     return at;
 }
 
-/* The MTU that the kernel tells of an interface; 0 where it tells none. */
+/* The MTU that the kernel reports of an interface; 0 if it reports none. */
 static unsigned mtu_of(const struct nlmsghdr *message) {
     unsigned mtu = 0;
     const char *first = (const char *)message, *end = first + message->nlmsg_len;
@@ -47,7 +47,7 @@ static void take_message(const struct nlmsghdr *message, link_taker *take) {
     int is_gone = message->nlmsg_type == RTM_DELLINK;
     is_stale = 1;
     if (!is_gone && message->nlmsg_type != RTM_NEWLINK) return;
-    if (message->nlmsg_len < NLMSG_LENGTH(sizeof *link) || link->ifi_family != AF_UNSPEC) return;    /* as a bridge tells of its ports */
+    if (message->nlmsg_len < NLMSG_LENGTH(sizeof *link) || link->ifi_family != AF_UNSPEC) return;    /* such as a bridge's of its ports */
     take((unsigned)link->ifi_index, is_gone ? LINK_GONE : LINK_CHANGED, mtu_of(message));
 }
 
@@ -75,7 +75,7 @@ void read_links(link_taker *take) {
     }
 }
 
-/* Where the octets of an address stand, and how many there are; none of another family. */
+/* Where the octets of an address are, and how many there are; none of another family. */
 static const uint8_t *octets_of(const struct sockaddr *address, size_t *size) {
     *size = 4;
     if (address->sa_family == AF_INET) return (const uint8_t *)&((const struct sockaddr_in *)address)->sin_addr;
@@ -92,7 +92,7 @@ static void add_network(const struct ifaddrs *one) {
     const uint8_t *mask = octets_of(one->ifa_netmask, &mask_size);
     if (size == 0 || mask_size != size) return;
     snprintf(name, sizeof name, "%s", one->ifa_name);
-    name[strcspn(name, ":")] = '\0';                    /* behind which an address of IPv4 may have a label */
+    name[strcspn(name, ":")] = '\0';                    /* after which an address of IPv4 may have a label */
     struct network *network = &networks[network_count];
     network->index = if_nametoindex(name);
     network->family = one->ifa_addr->sa_family;
@@ -101,7 +101,7 @@ static void add_network(const struct ifaddrs *one) {
     if (network->index != 0) network_count++;
 }
 
-/* Where the kernel can't be asked, what it told before stays. */
+/* If the kernel can't be asked, what it reported before stays. */
 static void read_networks(void) {
     struct ifaddrs *all;
     is_stale = 0;

@@ -1,19 +1,19 @@
-/* What the kernel tells of this host's interfaces (rtnetlink): that one went, came or has another MTU, and which addresses are on
+/* What the kernel reports of this host's interfaces (rtnetlink): that one went, came or has another MTU, and which addresses are on
    its link. */
 #ifndef LINKS_H
 #define LINKS_H
 
 #include <sys/socket.h>
 
-/* What became of the interface of an index, and the MTU that it has; 0 where it isn't told. */
+/* What became of the interface of an index, and the MTU that it has; 0 if it isn't known. */
 enum link_event { LINK_GONE, LINK_CHANGED };
 typedef void link_taker(unsigned index, enum link_event event, unsigned mtu);
 
-/* What is to be polled. Ends the program with status 2 where the kernel tells nothing. */
+/* What is to be polled. Ends the program with status 2 if the kernel reports nothing. */
 int open_links(void);
 
-/* Reads what the kernel has told by now, and hands on each event of an interface. Where it told more than was kept, each interface
-   may have changed: index 0. */
+/* Reads what the kernel has reported by now, and hands on each event of an interface. If it reported more than was kept, each
+   interface may have changed: index 0. */
 void read_links(link_taker *take);
 
 /* Whether an address of IPv4 or IPv6 belongs to a network at the interface: that of one of the interface's own addresses, or of

@@ -5,10 +5,10 @@
 #include "asking.h"
 #include "common.h"
 #include "draw.h"
+#include "earlier.h"
 #include "fresh_number.h"
 #include "notices.h"
-#include "number_file.h"
-#include "state_folder.h"
+#include "session.h"
 #include "way.h"
 #include <errno.h>
 #include <stdio.h>
@@ -18,23 +18,35 @@ const char program[] = "ptpm-manage";
 
 _Noreturn void usage(void) { refuse("see ptpm-manage --help"); }
 
-/* Asks it. A numbered request has its turn before its socket: an answer to this host alone comes in at the latest socket there,
-   which has to be heard. */
+/* Asks in the manager's session, which goes on from run to run. It has its turn before its socket: an answer to this host alone
+   comes in at the latest socket there, which has to be heard. */
+static int ask_in_session(struct session *session, const struct task *task) {
+    static struct task earlier;
+    int status = ANSWERED;
+    enum kept kept = open_session(session, task, &earlier);
+    open_way(task);
+    if (kept == NO_FILE) {
+        status = begin_session(session, task);
+    } else {
+        if (kept == UNDER_WAY) status = settle_earlier(session, &earlier, task);
+        if (status == ANSWERED) see_to_hops(session, task);
+        if (status == ANSWERED) status = ask_whether_new(session, task);
+    }
+    return status == ANSWERED ? ask_clock(session, task) : status;
+}
+
+/* Asks it. */
 static int ask(struct task *task) {
-    int is_kept = 0;
+    static struct session session;
     find_way(task);
     int status = task->is_survey ? ANSWERED : judge_request(task);
     if (status != ANSWERED) return status;
-    if (task->is_numbered) {
-        int is_named = task->numbers != NULL;
-        is_kept = open_numbers(is_named ? task->numbers : usual_numbers(&task->settings), is_named, &task->settings);
-    } else {
-        task->settings.first = draw_number();
-    }
+    if (task->is_kept) return ask_in_session(&session, task);
+    task->settings.first = draw_number();
     open_way(task);
     if (task->is_survey) return ask_every_clock(task);
-    if (task->is_numbered) status = find_number(task, is_kept);
-    return status == ANSWERED ? ask_clock(task) : status;
+    start_session(&session, task, task->settings.first);
+    return ask_clock(&session, task);
 }
 
 int main(int argc, char **argv) {

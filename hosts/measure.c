@@ -2,8 +2,8 @@
    hands it the datagram of the list COUNT times at port 1; a counter of instructions (callgrind) tells by the difference of two
    runs what one of them costs. The lists are those of the program ptpm_measure, which calls the clock without the exports; in
    `start` a clock of two ports is started and stopped COUNT times. Prints the list, the answer to the last datagram, and how
-   many messages of how many octets were sent for it; of `start` its name alone. Status 2 where the words are not understood, 1
-   where the clock does not start. */
+   many messages of how many octets were sent for it; of `start` its name alone. Status 2 if the words are not understood, 1
+   if the clock does not start. */
 #include "ptpm.h"
 #include <stdio.h>
 #include <stdlib.h>
@@ -50,7 +50,7 @@ static const uint8_t another[8] = { 0xaa, 0xbb, 0xcc, 0xff, 0xfe, 0xdd, 0xee, 0x
 static const uint8_t every[8] = { 0xff, 0xff, 0xff, 0xff, 0xff, 0xff, 0xff, 0xff };
 static struct ptpm_sent sent[PTPM_MOST_SENT];
 
-/* Writes the list's datagram under sequenceId 7, with one hop, and tells its size (IEEE 1588-2019, 15.4.1 and table 58). */
+/* Writes the list's datagram under sequenceId 7, with one hop, and answers its size (IEEE 1588-2019, 15.4.1 and table 58). */
 static size_t request(const struct list *list, uint8_t octets[MOST]) {
     size_t size = HEAD + (list->action == SET ? 2 : 0);
     memset(octets, 0, MOST);
@@ -66,7 +66,7 @@ static size_t request(const struct list *list, uint8_t octets[MOST]) {
     return size;
 }
 
-/* The clock of the list: ports that are MASTER, and managers that may change everything, of which the last is `manager`. */
+/* The clock of the list: ports that are MASTER, and managers that may change everything. The last is `manager`. */
 static bool start(const struct list *list, struct ptpm_clock *clock) {
     struct ptpm_clock_settings settings;
     struct ptpm_port_settings ports[EIGHT];

@@ -8,7 +8,7 @@
 #include <string.h>
 #include <strings.h>
 
-/* How a member stands in its octets, and how it is printed. */
+/* How a member is written in its octets, and how it is printed. */
 enum kind { UNSIGNED, HEXADECIMAL, SIGNED, FLAG, VERSION, INTERVAL, CLOCK, PORT, STATE, MECHANISM, TEXT };
 
 struct member { const char *name; enum kind kind; uint8_t at, size, mask; };
@@ -123,7 +123,7 @@ static void print_state(FILE *to, uint8_t state) {
     else fprintf(to, "%u", state);
 }
 
-/* The number's word, or the number where it has none. */
+/* The number's word, or the number if it has none. */
 static void print_word(FILE *to, const struct word *words, uint8_t number) {
     while (words->text != NULL && words->number != number) words++;
     if (words->text != NULL) fputs(words->text, to);
@@ -176,7 +176,7 @@ void print_members(FILE *to, const char *lead, uint16_t id, const uint8_t *octet
     }
 }
 
-/* The number of a word, in either case; -1 where it is none of these. */
+/* The number of a word, in either case; -1 if it is none of these. */
 static long word_number(const struct word *words, const char *text) {
     for (; words->text != NULL; words++) {
         if (strcasecmp(text, words->text) == 0) return words->number;
@@ -184,7 +184,7 @@ static long word_number(const struct word *words, const char *text) {
     return -1;
 }
 
-/* The value of a member of one octet; NO_VALUE where the text is none. */
+/* The value of a member of one octet; NO_VALUE if the text is none. */
 static long value_of(enum kind kind, const char *text) {
     uint8_t octet;
     long number = kind == FLAG ? word_number(flags, text) : kind == MECHANISM ? word_number(mechanisms, text) : -1;

@@ -8,11 +8,11 @@
 
 enum { MOST_TEXT = 128 };       /* octets of a userDescription */
 
-/* Prints what the dataField of an id tells: behind `lead` a line for each member, its name and its value. A dataField that is
+/* Prints what the dataField of an id says: after `lead` a line for each member, its name and its value. A dataField that is
    empty, of an id whose members are not known here, or of another length than the id's is printed as by `print_octets`. */
 void print_members(FILE *to, const char *lead, uint16_t id, const uint8_t *octets, size_t size);
 
-/* Prints a line of a dataField as it is: `value` and its octets in hexadecimal, or `-` where it has none. */
+/* Prints a line of a dataField as it is: `value` and its octets in hexadecimal, or `-` if it has none. */
 void print_octets(FILE *to, const char *lead, const uint8_t *octets, size_t size);
 
 /* Whether an id has one member of one octet, so that a SET takes its value as a word. */

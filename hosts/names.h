@@ -1,4 +1,4 @@
-/* Names for numbers, and numbers for names: the library's, and those of the states of a port. A name that was given stands until
+/* Names for numbers, and numbers for names: the library's, and those of the states of a port. A name that was given stays until
    the next call of its function. */
 #ifndef NAMES_H
 #define NAMES_H
@@ -6,19 +6,19 @@
 #include <stdint.h>
 
 /* The managementId (IEEE 1588-2019, 15.5.2.3) of a name, in either case, or of four hexadecimal digits, with or without 0x
-   before them; -1 where the text is neither. */
+   before them; -1 if the text is neither. */
 long id_named(const char *text);
 
-/* The name of a managementId of this profile; NULL where it has none. */
+/* The name of a managementId of this profile; NULL if it has none. */
 const char *id_name(uint16_t id);
 
-/* The name of a managementErrorId (15.5.4.3); NULL where the standard has none. */
+/* The name of a managementErrorId (15.5.4.3); NULL if the standard has none. */
 const char *error_name(uint16_t error);
 
 /* The name of why the library starts or begins nothing: that of the constant in ptpm.h, without PTPM_. */
 const char *answer_name(uint32_t answer);
 
-/* The name of a portState (8.2.15.3.1); NULL where the standard has none. */
+/* The name of a portState (8.2.15.3.1); NULL if the standard has none. */
 const char *state_name(uint8_t state);
 
 #endif

@@ -1,24 +1,29 @@
 #define _GNU_SOURCE
 #include "network_limits.h"
-#include "bucket.h"
 #include "common.h"
 #include "links.h"
-#include "passed_on.h"
 #include <string.h>
 #include <sys/random.h>
 
 /* Octets of a management message (IEEE 1588-2019, 13.3 and 15.4). */
 enum { SOURCE_CLOCK = 20, SOURCE_PORT = 28, STARTING_HOPS = 44, HOPS = 45, LEAST_MESSAGE = 54 };
 
+enum { NOTED = 1000 };     /* for how many milliseconds a message is not passed on again */
+
 static struct limits limits;
 static struct kept_back kept_back;
-static struct passed_on passed_on;
-static struct bucket copies[PORTS], answers[PORTS];
+static struct ptpm_passed_on passed_on;
+static struct ptpm_rate copies[PORTS], answers[PORTS];
+
+static uint64_t time_now(void) { return (uint64_t)milliseconds(); }
 
 void start_limits(const struct limits *given) {
     limits = *given;
     if (getrandom(&passed_on.seed, sizeof passed_on.seed, 0) < 0) give_up("getrandom");
-    for (int i = 0; i < PORTS; i++) copies[i] = answers[i] = full_bucket(limits.rate, milliseconds());
+    for (int i = 0; i < PORTS; i++) {
+        ptpm_rate_start(&copies[i], (uint64_t)limits.rate, time_now());
+        ptpm_rate_start(&answers[i], (uint64_t)limits.rate, time_now());
+    }
 }
 
 int is_heard(const struct heard *heard, const struct port *port) {
@@ -44,17 +49,17 @@ static int is_of_manager(const struct heard *heard) {
 }
 
 /* Whether a message is to be passed on at all. It is asked once of each, since it is noted. */
-static int goes_on(const struct heard *heard, const struct port *port, long now) {
+static int goes_on(const struct heard *heard, const struct port *port, uint64_t now) {
     if (!limits.is_passed_on || limits.hops == 0 || (port == NULL && !limits.is_passed_on_from_host)) return 0;
-    if (is_first(&passed_on, heard->octets, now)) return 1;
+    if (ptpm_passed_on_is_first(&passed_on, heard->octets, heard->size, now, NOTED)) return 1;
     kept_back.again++;
     return 0;
 }
 
 /* Answers to programs of this host, and to managers, are not counted. */
-static int is_answered(const struct heard *heard, const struct port *port, uint16_t ingress, uint32_t answer, long now) {
+static int is_answered(const struct heard *heard, const struct port *port, uint16_t ingress, uint32_t answer, uint64_t now) {
     if (port == NULL || answer != PTPM_ANSWERED_UNNUMBERED || is_of_manager(heard)) return 1;
-    if (take_token(&answers[ingress - 1], now)) return 1;
+    if (ptpm_rate_take(&answers[ingress - 1], now)) return 1;
     kept_back.unanswered++;
     return 0;
 }
@@ -63,7 +68,7 @@ size_t keep_back(const struct heard *heard, const struct port *port, uint16_t in
                  const struct ptpm_sent *sent, size_t count, const struct ptpm_sent *kept[PTPM_MOST_SENT]) {
     size_t left = 0;
     int is_asked = 0, is_going_on = 0;
-    long now = count > 0 ? milliseconds() : 0;
+    uint64_t now = count > 0 ? time_now() : 0;
     for (size_t i = 0; i < count; i++) {
         if (sent[i].port == ingress) {
             if (is_answered(heard, port, ingress, answer, now)) kept[left++] = &sent[i];
@@ -72,7 +77,7 @@ size_t keep_back(const struct heard *heard, const struct port *port, uint16_t in
         if (!is_asked) is_going_on = goes_on(heard, port, now);
         is_asked = 1;
         if (!is_going_on) continue;
-        if (take_token(&copies[sent[i].port - 1], now)) kept[left++] = &sent[i];
+        if (ptpm_rate_take(&copies[sent[i].port - 1], now)) kept[left++] = &sent[i];
         else kept_back.over_rate++;
     }
     return left;

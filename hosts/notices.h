@@ -1,8 +1,8 @@
-/* What ptpm-manage says on standard error: a line for each fault, and its progress where that is a terminal. */
+/* What ptpm-manage says on standard error: a line for each fault, and its progress if that is a terminal. */
 #ifndef NOTICES_H
 #define NOTICES_H
 
-/* A line behind the program's name. */
+/* A line after the program's name. */
 __attribute__((format(printf, 1, 2))) void complain(const char *format, ...);
 
 /* The same, and the program ends with status 2: nothing was asked or sent. */
@@ -11,7 +11,7 @@ _Noreturn __attribute__((format(printf, 1, 2))) void refuse(const char *format, 
 /* From now on no progress is shown. */
 void be_quiet(void);
 
-/* Shows a line of progress in place of the one before it, where standard error is a terminal. */
+/* Shows a line of progress in place of the one before it, if standard error is a terminal. */
 __attribute__((format(printf, 1, 2))) void show_progress(const char *format, ...);
 
 /* Takes that line away. It comes before what is printed otherwise. */

@@ -13,7 +13,7 @@ enum kind { UNSIGNED, SIGNED, FLAG, IDENTITY, STATE };
 
 enum { MOST_WORDS = 5, NO_FLAG = 0xffff };
 
-/* A member of a struct: where it stands, and the flag that says that it is told. */
+/* A member of a struct: its place, and the flag that says that it is given. */
 struct member { const char *name; size_t at, size, flag; enum kind kind; };
 
 #define PLACE(what, name) offsetof(struct what, name), sizeof ((struct what *)0)->name
@@ -30,7 +30,7 @@ static const struct member members_of_clock[] = {
     OF_CLOCK(time_source, UNSIGNED), OF_GRANDMASTER(is_grandmaster, FLAG), { 0 },
 };
 
-/* These are told together. */
+/* These are given together. */
 static const struct member members_of_grandmaster[] = {
     OF_GRANDMASTER(grandmaster, IDENTITY), OF_GRANDMASTER(grandmaster_priority1, UNSIGNED),
     OF_GRANDMASTER(grandmaster_class, UNSIGNED), OF_GRANDMASTER(grandmaster_accuracy, UNSIGNED),
@@ -40,7 +40,7 @@ static const struct member members_of_grandmaster[] = {
 
 static const struct member members_of_port[] = { OF_PORT(state, STATE), OF_PORT(peer_delay, SIGNED), { 0 } };
 
-/* The place of a member in its list; -1 where it is not there. */
+/* The place of a member in its list; -1 if it is not there. */
 static int place_of(const struct member *members, const char *name) {
     for (int k = 0; members[k].name != NULL; k++) {
         if (strcmp(members[k].name, name) == 0) return k;
@@ -110,7 +110,7 @@ static int put_identity(const struct member *member, const char *text, uint8_t *
     return 1;
 }
 
-/* Writes a value at its member of a struct, and that it is told. */
+/* Writes a value at its member of a struct, and that it is given. */
 static int put_value(const struct member *member, const char *text, void *whole) {
     uint8_t *at = (uint8_t *)whole + member->at;
     int is_right = member->kind == FLAG ? put_flag(member, text, at)
@@ -138,7 +138,7 @@ static int take_member(struct observation *observation, char **words, size_t cou
     return put_value(&members_of_grandmaster[of_grandmaster], words[1], &observation->clock);
 }
 
-/* What one line tells; whether it is right. */
+/* What one line says; whether it is right. */
 static int take_line(struct observation *observation, char *line) {
     char *words[MOST_WORDS], *place = NULL;
     size_t count = 0;
@@ -153,7 +153,7 @@ static int take_line(struct observation *observation, char *line) {
     return strcmp(words[0], "port") == 0 ? take_port(observation, words, count) : take_member(observation, words, count);
 }
 
-/* A grandmaster is told whole, or not at all. */
+/* A grandmaster is given whole, or not at all. */
 static int has_whole_grandmaster(struct observation *observation) {
     if (observation->grandmaster == 0) return 1;
     for (int k = 0; members_of_grandmaster[k].name != NULL; k++) {

@@ -1,4 +1,4 @@
-/* What a text tells of a clock and of its ports, as an observation for ptpm_clock_observe: a line for each member. */
+/* What a text says of a clock and of its ports, as an observation for ptpm_clock_observe: a line for each member. */
 #ifndef OBSERVATION_H
 #define OBSERVATION_H
 
@@ -10,8 +10,8 @@ enum { OBSERVED_PORTS = 8 };
 struct observation {
     struct ptpm_observed_clock clock;
     struct ptpm_observed_port ports[OBSERVED_PORTS];
-    size_t port_count;          /* up to the last port of which something is told */
-    unsigned grandmaster;       /* which members of a grandmaster are told, a bit each */
+    size_t port_count;          /* up to the last port that has an observation */
+    unsigned grandmaster;       /* which members of a grandmaster are given, a bit each */
 };
 
 /* Reads it from lines, the text's own: `MEMBER VALUE` of struct ptpm_observed_clock, and `port PORT MEMBER VALUE` of struct

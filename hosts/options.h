@@ -22,10 +22,10 @@ struct options {
     struct privileges privileges;
     const char *source;                 /* what the clock observes: a file, a pipe, or NULL */
     int is_told;                        /* a line for each datagram */
-    long end;                           /* when it ends by itself, in milliseconds; 0 where it doesn't */
+    long end;                           /* when it ends by itself, in milliseconds; 0 if it doesn't */
 };
 
-/* Reads it whole, or ends the program: with status 2 where something is wrong, which is said. */
+/* Reads it whole, or ends the program: with status 2 if something is wrong, which is said. */
 void read_options(struct options *options, int argc, char **argv);
 
 #endif

@@ -1,7 +1,7 @@
 #define _GNU_SOURCE
 #include "output.h"
-#include "bucket.h"
 #include "common.h"
+#include "ptpm.h"
 #include <errno.h>
 #include <pthread.h>
 #include <stdarg.h>
@@ -31,7 +31,7 @@ static char output[ROOM], notices[ROOM];
 static struct stream standard_output = STREAM(STDOUT_FILENO, output);
 static struct stream standard_error = STREAM(STDERR_FILENO, notices);
 
-/* Writes what waits, until the end. What can't be written, as where nobody reads any more, is let go. */
+/* Writes what waits, until the end. What can't be written, for example if nobody reads any more, is dropped. */
 static void *write_all(void *given) {
     struct stream *stream = given;
     pthread_mutex_lock(&stream->lock);
@@ -105,11 +105,12 @@ void say(const char *format, ...) {
 }
 
 void say_at_times(const char *format, ...) {
-    static struct bucket times;
+    static struct ptpm_rate times;
     static unsigned long beyond;
     va_list values;
-    if (times.rate == 0) times = full_bucket(TIMES_A_SECOND, milliseconds());
-    if (!take_token(&times, milliseconds())) {
+    uint64_t now = (uint64_t)milliseconds();
+    if (times.rate == 0) ptpm_rate_start(&times, TIMES_A_SECOND, now);
+    if (!ptpm_rate_take(&times, now)) {
         beyond++;
         return;
     }
@@ -122,7 +123,7 @@ void say_at_times(const char *format, ...) {
 
 unsigned long lines_lost(void) { return standard_output.lost + standard_error.lost; }
 
-/* A thread that waits for a reader is left behind. */
+/* A thread that waits for a reader is left waiting. */
 static void end_stream(struct stream *stream, const struct timespec *end) {
     if (!stream->is_started) return;
     pthread_mutex_lock(&stream->lock);

@@ -1,5 +1,5 @@
-/* What ptpm-clock prints: lines on standard output, and on standard error behind the program's name. Once it has started a thread
-   each writes them, so that a reader that stands still stops nothing else: what there is no room for is counted, and not printed. */
+/* What ptpm-clock prints: lines on standard output, and on standard error after the program's name. Once it has started a thread
+   each writes them, so that a reader that hangs stops nothing else: what there is no room for is counted, and not printed. */
 #ifndef OUTPUT_H
 #define OUTPUT_H
 
@@ -9,7 +9,7 @@ void start_output(void);
 /* A line on standard output. */
 __attribute__((format(printf, 1, 2))) void print_line(const char *format, ...);
 
-/* A line on standard error, behind the program's name. */
+/* A line on standard error, after the program's name. */
 __attribute__((format(printf, 1, 2))) void say(const char *format, ...);
 
 /* Says what is wrong with something that may be wrong again and again: ten lines a second, and how many there were beyond. */

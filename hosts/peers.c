@@ -10,7 +10,7 @@
 enum {
     ROOM = 1 << 20,             /* octets of what nobody has read yet, at one socket */
     SHARE = 32768,              /* and how many of them one peer may add */
-    UNCHECKED = 8,              /* messages behind which it is seen how much was read */
+    UNCHECKED = 8,              /* messages after which it is seen how much was read */
 };
 
 /* A socket to send from, and the peer that has it. */
@@ -27,7 +27,7 @@ static struct way_back ways[WAYS_BACK];
 static unsigned long turn;
 static int meeting_socket = -1;
 
-/* A socket with the name of the path, which stands there for a moment only: then another does. */
+/* A socket with the name of the path, which is there for a moment only: then another is. */
 static int open_named(const struct meeting *meeting) {
     int room = ROOM, at = bind_unix(meeting->path, meeting->mode);
     if (unlink(meeting->path)) give_up(meeting->path);

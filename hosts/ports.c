@@ -17,9 +17,9 @@ struct port ports[PORTS];
 size_t port_count;
 enum transport transport;
 
-static int is_hurried;          /* the kernel told of a change */
+static int is_hurried;          /* the kernel reported a change */
 
-/* With UDP the kernel is to tell of each datagram where it was sent to. */
+/* With UDP the kernel is to report of each datagram the address that it was sent to. */
 static int open_socket(struct port *port, const char **what) {
     int one = 1;
     if (transport == ETHERNET) return open_ethernet(port->name, port->station, what);
@@ -29,7 +29,7 @@ static int open_socket(struct port *port, const char **what) {
     return at;
 }
 
-/* The MTU of the interface as its port is opened: a leave and a join that nobody needs may cost messages where a switch listens. */
+/* The MTU of the interface as its port is opened: a leave and a join that nobody needs may cost messages if a switch listens. */
 static unsigned mtu_at(int at, unsigned index) {
     struct ifreq request = { 0 };
     if (if_indextoname(index, request.ifr_name) == NULL || ioctl(at, SIOCGIFMTU, &request)) return 0;
@@ -113,7 +113,7 @@ void renew_ports(long now) {
     for (size_t i = 0; i < port_count; i++) renew(&ports[i]);
 }
 
-/* Where the kernel told more than was kept, index 0, each port may have changed. */
+/* If the kernel reported more than was kept, index 0, each port may have changed. */
 static void take_link(unsigned index, enum link_event event, unsigned mtu) {
     for (size_t i = 0; i < port_count; i++) {
         struct port *port = &ports[i];

@@ -17,7 +17,7 @@ struct port {
     int socket;
     unsigned index;             /* the kernel's number of the interface */
     uint8_t station[STATION];   /* its address on Ethernet */
-    unsigned mtu, refused;      /* as the kernel told last; the index at which it could not be opened */
+    unsigned mtu, refused;      /* as the kernel reported last; the index at which it could not be opened */
     int is_due;                 /* it may not be in its group any more */
     unsigned long openings;     /* how many sockets it had */
 };
@@ -29,11 +29,11 @@ extern enum transport transport;
 /* Opens the next port. Where it can't be opened the program ends with status 2. */
 void open_port(const char *interface);
 
-/* Sees once a second, and when the kernel tells of a change, which interface has the name of each port, and opens a port anew
-   where it is another one. What can't be opened is said once, and tried again each second. */
+/* Sees once a second, and when the kernel reports a change, which interface has the name of each port, and opens a port anew
+   if it is another one. What can't be opened is said once, and tried again each second. */
 void renew_ports(long now);
 
-/* Takes what the kernel has told of interfaces. */
+/* Takes what the kernel has reported of interfaces. */
 void hear_of_links(void);
 
 void close_ports(void);

@@ -70,7 +70,7 @@ void let_go_of_rights(const struct privileges *privileges, enum needs needs) {
     if (prctl(PR_SET_NO_NEW_PRIVS, 1L, 0L, 0L, 0L)) give_up("PR_SET_NO_NEW_PRIVS");
 }
 
-/* What the program and its C library call of the system when the filter stands: sockets and what is read and written, what opens a
+/* What the program and its C library call of the system when the filter is on: sockets and what is read and written, what opens a
    port anew, the source of observations, the Unix socket at its end, threads, memory, time and the end itself. Each machine lacks
    some of them. */
 static const int allowed[] = {
@@ -95,7 +95,7 @@ enum { FIRST_CALL = 4, IOCTL = FIRST_CALL + CALLS, FIRST_CONTROL = IOCTL + 2, RE
 
 static struct sock_filter loads(size_t place) { return (struct sock_filter)BPF_STMT(BPF_LD | BPF_W | BPF_ABS, (uint32_t)place); }
 
-/* Goes to one of two places where what was loaded is, and is not, a number. */
+/* Goes to one of two places, if what was loaded is a number and if it is not. */
 static struct sock_filter branches(int at, uint32_t number, int where_equal, int where_not) {
     uint8_t by = (uint8_t)(where_equal - at - 1), by_not = (uint8_t)(where_not - at - 1);
     return (struct sock_filter)BPF_JUMP(BPF_JMP | BPF_JEQ | BPF_K, number, by, by_not);

@@ -8,18 +8,18 @@ struct privileges {
     const char *user_name;      /* whom the program is to be, or NULL: it stays who it is */
     uid_t user;
     gid_t group;
-    gid_t socket_group;         /* that of the Unix socket, in which it is then too; -1 where none was given */
+    gid_t socket_group;         /* that of the Unix socket, in which it is then too; -1 if none was given */
     int is_unfiltered;          /* it may call all of the system */
 };
 
-/* What it takes to open a port's socket once more, where its interface is made anew. */
+/* What it takes to open a port's socket once more, if its interface is made anew. */
 enum needs { NEEDS_NOTHING, NEEDS_LOW_PORT, NEEDS_FRAMES };
 
-/* Lets go of every capability but the one that is needed, for good, and becomes the user. Ends the program with status 2 where that
+/* Drops every capability but the one that is needed, for good, and becomes the user. Ends the program with status 2 if that
    can't be done. Comes before any thread. */
 void let_go_of_rights(const struct privileges *privileges, enum needs needs);
 
-/* From now on all calls of the system fail but those that the program makes; nothing where the kernel has no filters. Comes before
+/* From now on all calls of the system fail but those that the program makes; nothing if the kernel has no filters. Comes before
    any thread. */
 void filter_calls(const struct privileges *privileges);
 

@@ -1,27 +1,28 @@
 /* PTP management (IEEE 1588-2019, clause 15) for a host in C. An agent: the data sets of one clock, and what becomes of each
-   management message that comes in at its ports. And a session of a manager: one request at a time to one clock; such an
-   agent carries it out once, however often it is sent. And a survey: one GET to every clock, and the first answer of each
-   port. The library opens no socket, reads no clock and starts no thread. Link libptpm.a alone, which calls malloc, realloc
-   and free of the host. This file is C99, C11, C17 and C++17, of gcc or clang.
+   management message that comes in at its ports. And a session of a manager: one request at a time to one clock. Such an agent
+   carries it out once, however often it is sent. And a survey: one GET to every clock, and the first answer of each port. The
+   library opens no socket, reads no clock and starts no thread. Link libptpm.a or libptpm.so. Either needs the C library
+   alone, and calls malloc, realloc and free of the host. This file is C99, C11, C17 and C++17, of gcc or clang.
 
    What is proved of a call is proved of callers that keep to this:
 
-   - A pointer is never null, also where its size is 0 (let it then point at anything), and is aligned as its type asks.
-   - What a pointer and its size name may be read, and where it is no const may be written; it stays the caller's, and the
-     library keeps no pointer to it after the call. What a call may write lies apart from everything else that the call is
+   - A pointer is never null, even if its size is 0 (let it then point at anything), and is aligned as its type asks.
+   - What a pointer and its size name may be read, and if it is no const may be written. It stays the caller's, and the library
+     keeps no pointer to it after the call. What a call may write lies apart from everything else that the call is
      given.
-   - One thread at a time is in a call with a handle. Calls with different handles may run side by side.
-   - A handle is all zeros before its first call: a start frees what the handle holds, and any other octets it takes for
-     something to free. There is one live copy of a handle. The host may move it, and reads and writes nothing inside it.
-   - malloc, realloc and free come from one allocator, and malloc aligns each block to the greatest power of two up to 16
-     that divides its size. No call is made from a signal handler, or in a forked child of a process with threads.
-   - A call has the stack that it needs, as the library is built for x86-64 and aarch64: ptpm_clock_start 4,400 octets,
-     ptpm_clock_handle_changed 2,100, ptpm_survey_send 1,900, ptpm_clock_handle and ptpm_clock_observe 1,000, every other call 500;
-     and beyond that what malloc, realloc, free, memcpy, memmove and memset of the host take. No call calls itself.
+   - One thread at a time is in a call with a handle, a table or a bucket. Calls with different ones may run side by
+     side.
+   - A handle is all zeros before its first call. A start frees what the handle holds, and any other octets it takes for something
+     to free. There is one live copy of a handle. The host may move it, and reads and writes nothing inside it.
+   - malloc, realloc and free come from one allocator. malloc aligns each block to the greatest power of two up to 16 that divides
+     its size. No call is made from a signal handler, or in a forked child of a process with threads.
+   - A call has the stack that it needs, as the library is built for x86-64 and aarch64. Most calls take 500 octets. A restore of a
+     session takes 10,000, and its image 8,000. A start of a clock takes 4,400, ptpm_clock_handle_changed 2,100, ptpm_clock_handle
+     and ptpm_clock_observe 1,000 each. The message of a survey takes 1,900. Beyond that a call has what malloc, realloc, free,
+     memcpy, memmove and memset of the host take. No call calls itself.
 
-   Every call writes to its handle, a call that only reads too, so no handle is const. Where several refusals hold, a call answers
-   the first. Want of memory can come in place of it in ptpm_clock_start alone; every other call asks for memory where nothing
-   else refuses. */
+   A call that only reads takes a const handle, and leaves it as it is. If several refusals hold, a call answers the first. Want of
+   memory can come in place of it in ptpm_clock_start alone. Every other call asks for memory only if nothing else refuses. */
 #ifndef PTPM_H
 #define PTPM_H
 
@@ -37,8 +38,8 @@
 extern "C" {
 #endif
 
-/* The version of this file and of its library, as `ptpm --version` prints it; and the same as a number, 10,000 times the first
-   part, 100 times the second, and the third. */
+/* The version of this file and of its library: what `ptpm --version` prints. And the same as a number: 10,000 times the first part,
+   100 times the second, and the third. */
 #define PTPM_VERSION "0.1.0"
 #define PTPM_VERSION_NUMBER 100
 
@@ -53,11 +54,11 @@ enum {
     PTPM_ID_DELAY_MECHANISM = 0x6000, PTPM_ID_LOG_MIN_PDELAY_REQ_INTERVAL = 0x6001
 };
 
-/* A clock, about 34,600 octets behind one pointer. All zeros hold no clock: struct ptpm_clock clock = { 0 }; */
+/* A clock, about 34,600 octets at one pointer. All zeros hold no clock: struct ptpm_clock clock = { 0 }; */
 struct ptpm_clock { void *at; bool live; };
 
 /* The start values of a clock's own members: ptpm_clock_defaults writes them all, then the host writes its own over them.
-   A flag is set where it is not 0. Without its has_ flag a value is the clock's own, and parent_port is its port 0. */
+   A flag is set if it is not 0. Without its has_ flag a value is the clock's own, and parent_port is its port 0. */
 struct ptpm_clock_settings {
     int64_t offset_from_master;         /* in nanoseconds times 2^16 */
     int64_t mean_path_delay;            /* in nanoseconds times 2^16 */
@@ -68,7 +69,7 @@ struct ptpm_clock_settings {
     uint16_t grandmaster_variance;
     uint16_t parent_port_number;
     int16_t utc_offset;
-    uint8_t identity[8];                /* not all ones */
+    uint8_t identity[8];                /* neither all ones nor all zeros */
     uint8_t parent_port_clock[8];
     uint8_t grandmaster[8];
     uint8_t domain;
@@ -112,11 +113,11 @@ struct ptpm_port_settings {
     int8_t log_min_pdelay;              /* -8 to 5 */
 };
 
-/* What a host observes of its clock: its servo, its port state machines and its best master clock algorithm find it (clause
-   8.2 of IEEE 1588-2019). Start from all zeros, struct ptpm_observed_clock observed = { 0 }; a member without its has_ flag
-   stays. A flag is set where it is not 0. A grandmaster is observed whole: where is_grandmaster is set, the clock itself, and
-   the members of a grandmaster and of the parent port do not count; else, where has_grandmaster is set, the one that they name.
-   Where neither is set, the quality of a clock that is its own grandmaster is shown as its grandmaster's too. What managers
+/* What a host observes of its clock. Its servo, its port state machines and its best master clock algorithm find it (clause 8.2 of
+   IEEE 1588-2019). Start from all zeros, struct ptpm_observed_clock observed = { 0 }; a member without its has_ flag
+   stays. A flag is set if it is not 0. A grandmaster is observed whole. If is_grandmaster is set it is the clock itself, and the
+   members of a grandmaster and of the parent port do not count. Otherwise, if has_grandmaster is set, it is the one that they name.
+   If neither is set, the quality of a clock that is its own grandmaster is shown as its grandmaster's too. What managers
    alone set is not observed; clock_accuracy, utc_offset, the two leaps and utc_valid are what the later of both said. */
 struct ptpm_observed_clock {
     int64_t offset_from_master;         /* in nanoseconds times 2^16 */
@@ -165,7 +166,7 @@ struct ptpm_observed_clock {
     uint8_t has_time_source;
 };
 
-/* What a host observes of a port. State 3, DISABLED, is entered and left by commands of managers alone: an enabled port is not
+/* What a host observes of a port. State 3, DISABLED, is entered and left by commands of managers alone. An enabled port is not
    observed in it, and a disabled port stays in it. A number of no state counts as 3. */
 struct ptpm_observed_port {
     int64_t peer_delay;                 /* in nanoseconds times 2^16 */
@@ -183,14 +184,14 @@ struct ptpm_manager_settings {
     uint8_t rights;                     /* a sum of the three above */
 };
 
-/* A message, and the port that it is to be sent at. Behind size the octets are what stood there before. */
+/* A message, and the port that it is to be sent at. The octets past size are what was there before. */
 struct ptpm_sent {
     uint16_t port;
     uint16_t size;
     uint8_t octets[1472];
 };
 
-/* Which members have another value behind a datagram than before it: of the clock, and of port 1, port 2 and so on. */
+/* Which members have another value after a datagram than before it: of the clock, and of port 1, port 2 and so on. */
 struct ptpm_changed {
     uint32_t clock;                     /* PTPM_CHANGED_IDENTITY to PTPM_CHANGED_TIME_SOURCE, summed up */
     uint8_t ports[8];                   /* PTPM_CHANGED_PORT_STATE to PTPM_CHANGED_PORT_LOG_MIN_PDELAY, summed up */
@@ -223,18 +224,18 @@ enum {
     PTPM_CHANGED_LOG_MIN_PDELAY = PTPM_CHANGED_PORT_LOG_MIN_PDELAY
 };
 
-/* A session of a manager, about 1,600 octets behind one pointer. All zeros hold no session. */
+/* A session of a manager, about 1,600 octets at one pointer. All zeros hold no session. */
 struct ptpm_session { void *at; bool live; };
 
-/* One manager, the clock that it manages, and how its requests are numbered and sent. A clock takes a request for new where
-   its number is up to 32,767 ahead of the latest that it took from this manager: a manager that starts again goes on from
-   the number behind the last that it began. */
+/* One manager, the clock that it manages, and how its requests are numbered and sent. A clock takes a request for new if its number
+   is up to 32,767 ahead of the latest that it took from this manager. So a manager that starts again goes on from the number after
+   the last that it began. */
 struct ptpm_session_settings {
     uint16_t port;                      /* portNumber of the manager */
     uint16_t target_ports;              /* how many ports the managed clock has, 1 to 8 */
     uint16_t first;                     /* the sequenceId of the first request */
     uint8_t clock[8];                   /* clockIdentity of the manager, not all ones */
-    uint8_t target[8];                  /* clockIdentity of the managed clock, another one, and not all ones */
+    uint8_t target[8];                  /* clockIdentity of the managed clock, another one, and neither all ones nor all zeros */
     uint8_t domain;
     uint8_t hops;                       /* startingBoundaryHops of each request */
     uint8_t attempts;                   /* how often a request may be sent before it is given up */
@@ -243,12 +244,12 @@ struct ptpm_session_settings {
 /* What may be asked of a clock: the actionField of a request. */
 enum { PTPM_GET = 0, PTPM_SET = 1, PTPM_COMMAND = 3 };
 
-/* A survey of a manager: what it asks and its answers, behind one pointer. All zeros hold no survey. */
+/* A survey of a manager: what it asks and its answers, at one pointer. All zeros hold no survey. */
 struct ptpm_survey { void *at; bool live; };
 
 /* One manager, and the GET that it sends to every clock and every port. A clock answers it whatever numbers it took from this
-   manager before. A late answer to another GET of the manager with the same number and id counts as one to this: so each
-   survey gets a number that is not on its way any more. */
+   manager before. A late answer to an earlier GET with the same number and id is taken for this survey's: use a number with nothing
+   in flight. */
 struct ptpm_survey_settings {
     uint16_t port;                      /* portNumber of the manager */
     uint16_t number;                    /* sequenceId */
@@ -264,8 +265,23 @@ struct ptpm_source {
     uint16_t port;
 };
 
-/* No flag of the compiler may lay a struct out otherwise than the library has it: where one does, the compiler refuses an array
-   with the name of the struct, since its size is negative. C99 has no static assertion. */
+/* Which messages were passed on last, 4,096 at most, about 197,000 octets. All zeros note none. The host then draws a seed, by which
+   nobody else can say where a message is noted, and writes nothing else inside it. */
+struct ptpm_passed_on {
+    uint64_t seed;
+    uint64_t places[4096][6];
+};
+
+/* A bucket of tokens: N a second, and what a second brings at once. ptpm_rate_start makes it, and the host writes nothing inside
+   it. */
+struct ptpm_rate {
+    uint64_t rate;                      /* tokens a second */
+    uint64_t left;                      /* thousandths of a token */
+    uint64_t time;                      /* the latest that it was asked at, in milliseconds */
+};
+
+/* No flag of the compiler may lay a struct out otherwise than the library has it. If one does, the compiler refuses an array with
+   the name of the struct, since its size is negative. C99 has no static assertion. */
 #define PTPM_HAS_SIZE(name, size) typedef char name##_is_laid_out_otherwise[sizeof(struct name) == (size) ? 1 : -1]
 PTPM_HAS_SIZE(ptpm_clock, 16);
 PTPM_HAS_SIZE(ptpm_clock_settings, 216);
@@ -280,23 +296,25 @@ PTPM_HAS_SIZE(ptpm_session_settings, 26);
 PTPM_HAS_SIZE(ptpm_survey, 16);
 PTPM_HAS_SIZE(ptpm_survey_settings, 16);
 PTPM_HAS_SIZE(ptpm_source, 10);
+PTPM_HAS_SIZE(ptpm_passed_on, 196616);
+PTPM_HAS_SIZE(ptpm_rate, 24);
 #undef PTPM_HAS_SIZE
 
-/* A clock sends at most so many messages for a datagram, and a dataField of its own has at most so many octets; a message
-   has at most so many, its dataField included. */
-enum { PTPM_MOST_SENT = 15, PTPM_MOST_READ = 130, PTPM_MOST_OCTETS = 1472 };
+/* The most messages that a clock sends for a datagram. The most octets of a dataField of its own. The most octets of a message, its
+   dataField included, and of a session's image. */
+enum { PTPM_MOST_SENT = 15, PTPM_MOST_READ = 130, PTPM_MOST_OCTETS = 1472, PTPM_SESSION_IMAGE_OCTETS = 1478 };
 
-/* A survey keeps the answers of at most so many ports. */
+/* The most ports whose answers a survey keeps. */
 enum { PTPM_MOST_ANSWERS = 512 };
 
 /* What calls answer. 0 says that the call was done. 1 to 31 say what became of a datagram or of a request. From 32 on the call was
-   refused (ptpm_is_refusal): 48 to 63 say why nothing starts, or an observation is refused, and from 64 on a member is out of its
+   refused (ptpm_is_refusal). 48 to 63 say why nothing starts, or an observation is refused. From 64 on a member is out of its
    range.
 
-   Each kind of call has a type for its answers. With -Wenum-compare gcc, g++ and clang++ warn where an answer is compared with a
+   Each kind of call has a type for its answers. With -Wenum-compare gcc, g++ and clang++ warn if an answer is compared with a
    name of another kind's. A name that several kinds of calls answer is a plain number, and compares with each type. Each type has
-   it again with the kind in front, as PTPM_HANDLE_NO_CLOCK for PTPM_NO_CLOCK, so that -Wswitch and debuggers know it. A uint32_t
-   holds any answer. */
+   it again with the kind in front, such as PTPM_HANDLE_NO_CLOCK for PTPM_NO_CLOCK, so that -Wswitch and debuggers know it. A
+   uint32_t holds any answer. */
 
 /* A datagram is of another domain. */
 #define PTPM_OTHER_DOMAIN 1
@@ -325,25 +343,28 @@ enum { PTPM_MOST_ANSWERS = 512 };
 #define PTPM_NO_SESSION 37              /* the handle holds none */
 #define PTPM_IDLE 43                    /* no request is unanswered */
 #define PTPM_NO_SURVEY 46               /* the handle holds none */
+#define PTPM_OTHER_SIZES 47             /* a struct of the caller has another size than the library's */
 #define PTPM_GRANDMASTER_DIFFERS 50     /* a clock is its own grandmaster, with another priority or quality */
 #define PTPM_BAD_CLOCK_ACCURACY 70
 #define PTPM_BAD_LEAP59 88              /* both leaps */
 #define PTPM_BAD_STATE 94
 
-/* A type of answers has the four octets of the library's answers, also where -fshort-enums would give it one. In C clang takes the
-   form of C++ behind __extension__. */
+/* A type of answers has the four octets of the library's answers, even if -fshort-enums would give it one. In C clang takes the
+   form of C++ after __extension__. */
 #if defined(__cplusplus) || defined(__clang__)
 #define PTPM_FOUR_OCTETS(name) name : uint32_t
 #else
 #define PTPM_FOUR_OCTETS(name) __attribute__((__mode__(__SI__))) name
 #endif
 
-/* The three starts. A session is refused by PTPM_MANAGER_IS_EVERY, PTPM_TARGET_IS_EVERY, PTPM_SAME_CLOCK, PTPM_NO_PORTS,
-   PTPM_TOO_MANY_PORTS or PTPM_NO_MEMORY, in this order. A survey is refused by the first or the last of these. A clock is refused
-   by all others, and by the last three of these. */
+/* The starts. A session is refused by PTPM_MANAGER_IS_EVERY, PTPM_TARGET_IS_EVERY, PTPM_SAME_CLOCK, PTPM_NO_PORTS,
+   PTPM_TOO_MANY_PORTS, PTPM_TARGET_IS_ZERO or PTPM_NO_MEMORY, in this order. A survey is refused by the first or the last of
+   these. A clock is refused by all others, PTPM_IDENTITY_IS_ZERO last, and by PTPM_NO_PORTS, PTPM_TOO_MANY_PORTS and
+   PTPM_NO_MEMORY. PTPM_OTHER_SIZES comes before all of them, of ptpm_clock_start_sized and its like alone. */
 __extension__ enum PTPM_FOUR_OCTETS(ptpm_started) {
     PTPM_STARTED = 0,
     PTPM_START_NO_MEMORY = PTPM_NO_MEMORY,
+    PTPM_START_OTHER_SIZES = PTPM_OTHER_SIZES,
     PTPM_NO_PORTS = 48,
     PTPM_TOO_MANY_PORTS = 49,           /* over eight */
     PTPM_START_GRANDMASTER_DIFFERS = PTPM_GRANDMASTER_DIFFERS,
@@ -352,6 +373,8 @@ __extension__ enum PTPM_FOUR_OCTETS(ptpm_started) {
     PTPM_MANAGER_IS_EVERY = 53,         /* its identity is all ones */
     PTPM_TARGET_IS_EVERY = 54,          /* the managed clock's is */
     PTPM_SAME_CLOCK = 55,               /* the managed clock has the manager's identity */
+    PTPM_IDENTITY_IS_ZERO = 56,         /* the clock's identity is all zeros */
+    PTPM_TARGET_IS_ZERO = 57,           /* the managed clock's is */
     PTPM_BAD_IDENTITY = 64,             /* a member is out of its range, here and below */
     PTPM_BAD_USER_DESCRIPTION = 66,
     PTPM_START_BAD_CLOCK_ACCURACY = PTPM_BAD_CLOCK_ACCURACY,
@@ -384,7 +407,7 @@ __extension__ enum PTPM_FOUR_OCTETS(ptpm_handled) {
     PTPM_NOT_A_REQUEST = 4,             /* it is an answer */
     PTPM_ANSWERED_NEW = 5,              /* a new request of a manager */
     PTPM_ANSWERED_REPEAT = 6,           /* the latest request of a manager again */
-    PTPM_DROPPED_OLD = 7,               /* a manager's request behind its latest */
+    PTPM_DROPPED_OLD = 7,               /* a manager's request older than its latest */
     PTPM_DROPPED_CONFLICT = 8,          /* another request under the number of its latest */
     PTPM_ANSWERED_UNNUMBERED = 9,       /* a request of anybody else, or to every clock */
     PTPM_HANDLE_TOO_SHORT = PTPM_TOO_SHORT,
@@ -501,13 +524,31 @@ __extension__ enum PTPM_FOUR_OCTETS(ptpm_survey_received) {
 
 /* ptpm_session_report and ptpm_survey_answer. */
 __extension__ enum PTPM_FOUR_OCTETS(ptpm_told) {
-    PTPM_VALUE = 0,                     /* the clock told a dataField */
+    PTPM_VALUE = 0,                     /* the clock answered a dataField */
     PTPM_DONE = 25,                     /* it carried a COMMAND out */
-    PTPM_REFUSED = 26,                  /* it told a managementErrorId */
+    PTPM_REFUSED = 26,                  /* it answered a managementErrorId */
     PTPM_REPORT_NO_ROOM = PTPM_NO_ROOM, /* for fewer octets than the dataField has */
     PTPM_REPORT_NO_SESSION = PTPM_NO_SESSION,
     PTPM_NO_REPORT = 45,                /* no request was begun, or the latest is not answered; the survey has no such answer */
     PTPM_REPORT_NO_SURVEY = PTPM_NO_SURVEY
+};
+
+/* ptpm_session_image. */
+__extension__ enum PTPM_FOUR_OCTETS(ptpm_saved) {
+    PTPM_SAVED = 0,
+    PTPM_SAVE_NO_ROOM = PTPM_NO_ROOM,   /* for fewer octets than the image has */
+    PTPM_SAVE_NO_SESSION = PTPM_NO_SESSION
+};
+
+/* ptpm_session_restore. */
+__extension__ enum PTPM_FOUR_OCTETS(ptpm_restored) {
+    PTPM_RESTORED = 0,
+    PTPM_RESTORE_NO_MEMORY = PTPM_NO_MEMORY,
+    PTPM_NOT_AN_IMAGE = 104,            /* under 12 octets, or the first four are not "ptpm" */
+    PTPM_OTHER_VERSION = 105,           /* an image of another version */
+    PTPM_OTHER_KIND = 106,              /* an image, but not of a session */
+    PTPM_DAMAGED = 107,                 /* octets are missing, further ones follow, or one has a value that no image has */
+    PTPM_OTHER_SESSION = 110            /* another manager or clock, another number of ports, or another first number */
 };
 
 /* So the header refuses a compiler that takes no such word. */
@@ -523,20 +564,43 @@ PTPM_IS_WIDE(ptpm_retuned);
 PTPM_IS_WIDE(ptpm_session_received);
 PTPM_IS_WIDE(ptpm_survey_received);
 PTPM_IS_WIDE(ptpm_told);
+PTPM_IS_WIDE(ptpm_saved);
+PTPM_IS_WIDE(ptpm_restored);
 #undef PTPM_IS_WIDE
 #undef PTPM_FOUR_OCTETS
 
-/* Tells whether a call that answered so was refused. It then changed nothing, but that a start leaves nothing in its handle.
-   PTPM_REFUSED is no such answer: the call told that the clock which was asked refused the request.
+/* Whether a call that answered so was refused. It then changed nothing, except that a start leaves nothing in its handle.
+   PTPM_REFUSED is no such answer: it says that the clock which was asked refused the request.
    Takes:   what a call with one of these types answered. */
 static inline bool ptpm_is_refusal(uint32_t answer) { return answer >= 32; }
 
-/* Each call below says what it takes, what it answers, what of the host's memory it writes beside its handle, what memory it asks
-   of malloc, and what the caller then owes. Where a line is missing, there is none of it. */
+/* Each call below says what it takes, and what it answers. It says what of the host's memory it writes beside its handle, what
+   memory it asks of malloc, and what the caller then owes. If a line is missing, there is none of it. */
+
+/* Tells the version of the library that is linked: PTPM_VERSION_NUMBER of its own header.
+   Answers: the number. */
+uint32_t ptpm_version(void);
+
+/* Compares the sizes of a caller's structs with those of the library, so that a header of another version is found.
+   Takes:   count sizes, one for each struct of this file, in its order.
+   Answers: PTPM_STARTED where the library has these structs, of these sizes, and no others; or PTPM_OTHER_SIZES. */
+enum ptpm_started ptpm_sizes_agree(const size_t *sizes, size_t count);
+
+/* Does so for the file that the caller was compiled with. */
+static inline enum ptpm_started ptpm_header_agrees(void) {
+    static const size_t sizes[] = {
+        sizeof(struct ptpm_clock), sizeof(struct ptpm_clock_settings), sizeof(struct ptpm_port_settings),
+        sizeof(struct ptpm_observed_clock), sizeof(struct ptpm_observed_port), sizeof(struct ptpm_manager_settings),
+        sizeof(struct ptpm_sent), sizeof(struct ptpm_changed), sizeof(struct ptpm_session), sizeof(struct ptpm_session_settings),
+        sizeof(struct ptpm_survey), sizeof(struct ptpm_survey_settings), sizeof(struct ptpm_source), sizeof(struct ptpm_passed_on),
+        sizeof(struct ptpm_rate)
+    };
+    return ptpm_sizes_agree(sizes, sizeof sizes / sizeof *sizes);
+}
 
 /* Makes the settings of a clock of identity 0 in domain 0 that is its own grandmaster, with this profile's defaults.
    Writes:  all of *settings.
-   Owed:    the caller writes the identity, and what else its clock has, over them. */
+   Owed:    the caller writes the identity, and what else its clock has, over them. No clock starts with an identity of zeros. */
 void ptpm_clock_defaults(struct ptpm_clock_settings *settings);
 
 /* Makes the settings of a port that is MASTER, with this profile's defaults.
@@ -544,7 +608,7 @@ void ptpm_clock_defaults(struct ptpm_clock_settings *settings);
 void ptpm_port_defaults(struct ptpm_port_settings *settings);
 
 /* Starts a clock in place of what the handle holds, which is freed first.
-   Takes:   one to eight ports, of which the first is port 1, and at most sixteen managers.
+   Takes:   one to eight ports, and at most sixteen managers. The first port is port 1.
    Answers: PTPM_STARTED; or why not, and then the handle holds nothing.
    Memory:  the clock, until it is stopped, and a copy of ports and managers until the call returns.
    Owed:    the caller stops the clock. */
@@ -552,28 +616,37 @@ enum ptpm_started ptpm_clock_start(struct ptpm_clock *clock, const struct ptpm_c
                                    const struct ptpm_port_settings *ports, size_t port_count,
                                    const struct ptpm_manager_settings *managers, size_t manager_count);
 
+/* Does what ptpm_clock_start does if this file is that of the library.
+   Answers: what ptpm_clock_start answers; or PTPM_OTHER_SIZES, and then the handle holds what it held. */
+static inline enum ptpm_started ptpm_clock_start_sized(struct ptpm_clock *handle, const struct ptpm_clock_settings *settings,
+                                                       const struct ptpm_port_settings *of_ports, size_t all_ports,
+                                                       const struct ptpm_manager_settings *of_managers, size_t all_managers) {
+    enum ptpm_started answer = ptpm_header_agrees();
+    return answer != PTPM_STARTED ? answer : ptpm_clock_start(handle, settings, of_ports, all_ports, of_managers, all_managers);
+}
+
 /* Judges a datagram that came in at a port, carries its request out, and makes what is to be sent.
    Takes:   the port, counted from 1; size octets; and room places, PTPM_MOST_SENT or more.
    Answers: what became of the datagram; or why it was not judged, and then *count is 0.
-   Writes:  *count, and the first *count places of sent: of each its port, its size, and so many octets.
+   Writes:  *count, and the first *count places of sent: of each its port, its size, and as many octets.
    Owed:    the caller sends these messages in their order, whatever is answered, each at its port. */
 enum ptpm_handled ptpm_clock_handle(struct ptpm_clock *clock, uint16_t port, const uint8_t *datagram, size_t size,
                                     struct ptpm_sent *sent, size_t room, size_t *count);
 
-/* Does what ptpm_clock_handle does, and tells what the datagram changed.
+/* Like ptpm_clock_handle. It also reports exactly the members that the turn changed; none unless the answer is PTPM_ANSWERED_NEW.
    Takes:   what ptpm_clock_handle takes.
    Answers: what ptpm_clock_handle answers.
-   Writes:  what ptpm_clock_handle writes, and *changed: the members that have another value behind the call than before it. They
-            are none (all zeros) whatever is answered but PTPM_ANSWERED_NEW, and behind a GET or a request that was refused.
+   Writes:  what ptpm_clock_handle writes, and *changed: the members that have another value after the call than before it. It
+            is all zeros after every answer except PTPM_ANSWERED_NEW, and after a GET or a request that was refused.
    Owed:    what ptpm_clock_handle leaves owed; and the device acts on each change. ptpm_clock_read reads the new values. */
 enum ptpm_handled ptpm_clock_handle_changed(struct ptpm_clock *clock, uint16_t port, const uint8_t *datagram, size_t size,
                                             struct ptpm_sent *sent, size_t room, size_t *count, struct ptpm_changed *changed);
 
-/* Moves what the host observes of its clock and of its ports, and nothing else. Judges the data sets as they would be afterwards.
-   Takes:   port_count places, of which the first is of port 1: as many as the clock has ports, or fewer, or none.
+/* Sets exactly what the host observed of its clock and of its ports. Judges the data sets as they would be afterwards.
+   Takes:   port_count places, from port 1 on: as many as the clock has ports, or fewer, or none.
    Answers: PTPM_OBSERVED; or why not, and then nothing changes.
    Writes:  *left: the disabled ports at which a state was observed, and which stay disabled. 1 is port 1, 2 is port 2, 4 is
-            port 3, and so on, summed up; 0 where the call is refused.
+            port 3, and so on, summed up; 0 if the call is refused.
    Owed:    the host stops these ports. */
 enum ptpm_observed ptpm_clock_observe(struct ptpm_clock *clock, const struct ptpm_observed_clock *observed,
                                       const struct ptpm_observed_port *ports, size_t port_count, uint8_t *left);
@@ -581,8 +654,9 @@ enum ptpm_observed ptpm_clock_observe(struct ptpm_clock *clock, const struct ptp
 /* Reads what a GET of a managementId is answered.
    Takes:   the id; a port of the clock, which matters for an id of a port alone; and room octets, PTPM_MOST_READ or more.
    Answers: PTPM_READ, or why not.
-   Writes:  *size, and so many octets from octets on: the dataField. *size is 0 where the call is refused. */
-enum ptpm_read ptpm_clock_read(struct ptpm_clock *clock, uint16_t id, uint16_t port, uint8_t *octets, size_t room, size_t *size);
+   Writes:  *size, and as many octets from octets on: the dataField. *size is 0 if the call is refused. */
+enum ptpm_read ptpm_clock_read(const struct ptpm_clock *clock, uint16_t id, uint16_t port, uint8_t *octets, size_t room,
+                               size_t *size);
 
 /* Ends what the handle holds, if it holds anything. The handle then holds nothing, and may be started again. */
 void ptpm_clock_stop(struct ptpm_clock *clock);
@@ -593,12 +667,20 @@ void ptpm_clock_stop(struct ptpm_clock *clock);
    Owed:    the caller stops the session. */
 enum ptpm_started ptpm_session_start(struct ptpm_session *session, const struct ptpm_session_settings *settings);
 
+/* Does what ptpm_session_start does if this file is that of the library.
+   Answers: what ptpm_session_start answers; or PTPM_OTHER_SIZES, and then the handle holds what it held. */
+static inline enum ptpm_started ptpm_session_start_sized(struct ptpm_session *handle,
+                                                         const struct ptpm_session_settings *settings) {
+    enum ptpm_started answer = ptpm_header_agrees();
+    return answer != PTPM_STARTED ? answer : ptpm_session_start(handle, settings);
+}
+
 /* Begins a request, and lets the answer to the one before go.
-   Takes:   PTPM_GET, PTPM_SET or PTPM_COMMAND; the id; a port of the managed clock, which matters for an id of a port alone; and
-            the dataField, of size octets.
+   Takes:   PTPM_GET, PTPM_SET or PTPM_COMMAND; the id; a port of the managed clock; and the dataField, of size octets. The
+            port matters for an id of a port alone.
    Answers: PTPM_BEGUN; or why not, and then nothing changes.
    Memory:  a copy of the dataField, until the request is answered.
-   Owed:    the caller sends the request, and keeps the number of the next where a restart finds it. */
+   Owed:    the caller saves the session's image in a place where a restart finds it, and then sends the request. */
 enum ptpm_begun ptpm_session_begin(struct ptpm_session *session, uint8_t action, uint16_t id, uint16_t port,
                                    const uint8_t *octets, size_t size);
 
@@ -606,11 +688,11 @@ enum ptpm_begun ptpm_session_begin(struct ptpm_session *session, uint8_t action,
    the session is retuned.
    Takes:   room octets, PTPM_MOST_OCTETS or more.
    Answers: PTPM_SENT; or why not, and then no attempt is used.
-   Writes:  *size, and so many octets from octets on: the message. *size is 0 where the call is refused.
+   Writes:  *size, and as many octets from octets on: the message. *size is 0 if the call is refused.
    Owed:    the caller sends the message, and hands in what comes in. */
 enum ptpm_sending ptpm_session_send(struct ptpm_session *session, uint8_t *octets, size_t room, size_t *size);
 
-/* Gives the unanswered request so many attempts, whatever was left.
+/* Gives the unanswered request this many attempts, whatever was left.
    Answers: PTPM_RESUMED; or why not, and then nothing changes. */
 enum ptpm_resumed ptpm_session_resume(struct ptpm_session *session, uint8_t attempts);
 
@@ -618,22 +700,41 @@ enum ptpm_resumed ptpm_session_resume(struct ptpm_session *session, uint8_t atte
    Answers: PTPM_RETUNED, or why not. */
 enum ptpm_retuned ptpm_session_retune(struct ptpm_session *session, uint8_t domain);
 
-/* Judges a datagram that came in. Where it answers the unanswered request, the next one can be begun.
+/* Judges a datagram that came in. If it answers the unanswered request, the next one can be begun.
    Takes:   size octets.
    Answers: PTPM_ANSWERED; or why the datagram is ignored or not judged, and then nothing changes.
    Memory:  a copy of the dataField of the answer, until the next request is begun. */
 enum ptpm_session_received ptpm_session_receive(struct ptpm_session *session, const uint8_t *datagram, size_t size);
 
-/* Counts the requests that were begun.
-   Answers: how many they are; 0 where the handle holds no session. */
-uint64_t ptpm_session_issued(struct ptpm_session *session);
+/* Makes the session's image: what a host saves before it sends a request, and after it has reported an answer. From it a
+   session goes on after a restart. How many attempts are left, and the answer to the latest request, are not in it.
+   Takes:   room octets; PTPM_SESSION_IMAGE_OCTETS are enough for every session.
+   Answers: PTPM_SAVED, or why not.
+   Writes:  *size, and that number of octets from octets on: the image. If the call is refused, *size is 0 and no octet is written. */
+enum ptpm_saved ptpm_session_image(const struct ptpm_session *session, uint8_t *octets, size_t room, size_t *size);
 
-/* Tells what the answer to the latest request says.
+/* Puts the session of an image in the handle, in place of what it holds, which is then freed. A request that was not answered
+   goes on, with all its attempts: send it again.
+   Takes:   size octets, and the settings of the session. Its manager, managed clock, number of ports and first number must be
+            those of the image. Domain, hops and attempts are those of the image.
+   Answers: PTPM_RESTORED; or why not, and then the handle holds what it held. A restore that is refused is no reason to start
+            the session anew. The clock would then take its requests for old ones, or for others.
+   Memory:  the session, until it is stopped, and a copy of the dataField of its request.
+   Owed:    the caller stops the session. */
+enum ptpm_restored ptpm_session_restore(struct ptpm_session *session, const struct ptpm_session_settings *settings,
+                                        const uint8_t *image, size_t size);
+
+/* Counts the requests that were begun.
+   Answers: how many they are; 0 if the handle holds no session. */
+uint64_t ptpm_session_issued(const struct ptpm_session *session);
+
+/* Gives what the answer to the latest request says.
    Takes:   room octets, as many as the dataField has or more: 1,418 do for each.
-   Answers: PTPM_VALUE, PTPM_DONE or PTPM_REFUSED; or why nothing is told.
-   Writes:  *size, and so many octets from octets on: the dataField, behind PTPM_VALUE. *size is 0 behind every other answer.
-            *error: the managementErrorId behind PTPM_REFUSED, and 0 behind every other answer. */
-enum ptpm_told ptpm_session_report(struct ptpm_session *session, uint8_t *octets, size_t room, size_t *size, uint16_t *error);
+   Answers: PTPM_VALUE, PTPM_DONE or PTPM_REFUSED; or why nothing is given.
+   Writes:  *size, and as many octets from octets on: the dataField, after PTPM_VALUE. *size is 0 after every other answer.
+            *error: the managementErrorId after PTPM_REFUSED, and 0 after every other answer. */
+enum ptpm_told ptpm_session_report(const struct ptpm_session *session, uint8_t *octets, size_t room, size_t *size,
+                                   uint16_t *error);
 
 /* Ends what the handle holds, if it holds anything. The handle then holds nothing, and may be started again. */
 void ptpm_session_stop(struct ptpm_session *session);
@@ -644,61 +745,88 @@ void ptpm_session_stop(struct ptpm_session *session);
    Owed:    the caller stops the survey. */
 enum ptpm_started ptpm_survey_start(struct ptpm_survey *survey, const struct ptpm_survey_settings *settings);
 
+/* Does what ptpm_survey_start does if this file is that of the library.
+   Answers: what ptpm_survey_start answers; or PTPM_OTHER_SIZES, and then the handle holds what it held. */
+static inline enum ptpm_started ptpm_survey_start_sized(struct ptpm_survey *handle, const struct ptpm_survey_settings *settings) {
+    enum ptpm_started answer = ptpm_header_agrees();
+    return answer != PTPM_STARTED ? answer : ptpm_survey_start(handle, settings);
+}
+
 /* Makes the message of the GET, the same each time.
    Takes:   room octets, PTPM_MOST_OCTETS or more.
    Answers: PTPM_SENT, or why not.
-   Writes:  *size, and so many octets from octets on: the message. *size is 0 where the call is refused.
+   Writes:  *size, and as many octets from octets on: the message. *size is 0 if the call is refused.
    Owed:    the caller sends the message, and hands in what comes in. */
-enum ptpm_sending ptpm_survey_send(struct ptpm_survey *survey, uint8_t *octets, size_t room, size_t *size);
+enum ptpm_sending ptpm_survey_send(const struct ptpm_survey *survey, uint8_t *octets, size_t room, size_t *size);
 
-/* Judges a datagram that came in, and keeps it where it is the first answer of its port.
+/* Judges a datagram that came in, and keeps it if it is the first answer of its port.
    Takes:   size octets.
    Answers: PTPM_TAKEN; or PTPM_AGAIN, PTPM_FULL, or why the datagram is ignored or not judged, and then nothing changes.
    Memory:  the answer that is kept, until the survey is stopped. */
 enum ptpm_survey_received ptpm_survey_receive(struct ptpm_survey *survey, const uint8_t *datagram, size_t size);
 
 /* Counts the answers that are kept.
-   Answers: how many they are; 0 where the handle holds no survey. */
-size_t ptpm_survey_count(struct ptpm_survey *survey);
+   Answers: how many they are; 0 if the handle holds no survey. */
+size_t ptpm_survey_count(const struct ptpm_survey *survey);
 
-/* Tells what an answer says, and who gave it.
-   Takes:   its place, counted from 0 in the order in which the answers came; and room octets, as many as the dataField has or
+/* Gives what an answer says, and who gave it.
+   Takes:   its place, counted from 0 in the order in which the answers came. And room octets, as many as the dataField has or
             more: 1,418 do for each.
-   Answers: PTPM_VALUE, PTPM_DONE or PTPM_REFUSED; or why nothing is told.
-   Writes:  *size, and so many octets from octets on: the dataField, behind PTPM_VALUE. *size is 0 behind every other answer.
-            *error: the managementErrorId behind PTPM_REFUSED, and 0 behind every other answer.
-            *source: the port that gave the answer. It stays as it was where nothing is told. */
-enum ptpm_told ptpm_survey_answer(struct ptpm_survey *survey, size_t place, struct ptpm_source *source, uint8_t *octets,
+   Answers: PTPM_VALUE, PTPM_DONE or PTPM_REFUSED; or why nothing is given.
+   Writes:  *size, and as many octets from octets on: the dataField, after PTPM_VALUE. *size is 0 after every other answer.
+            *error: the managementErrorId after PTPM_REFUSED, and 0 after every other answer.
+            *source: the port that gave the answer. It stays as it was if nothing is given. */
+enum ptpm_told ptpm_survey_answer(const struct ptpm_survey *survey, size_t place, struct ptpm_source *source, uint8_t *octets,
                                   size_t room, size_t *size, uint16_t *error);
 
 /* Ends what the handle holds, if it holds anything. The handle then holds nothing, and may be started again. */
 void ptpm_survey_stop(struct ptpm_survey *survey);
 
-/* The number that ptpm_id_named answers where no id has the name, and how many octets a name has at most. */
+/* Says whether a message is to be passed on, and notes it then. It is if none is noted that has its sourcePortIdentity, sequenceId,
+   targetPortIdentity, actionField and managementId, and there is a place to note it. So a message that comes round is passed on
+   once, and one that keeps coming once in each such time.
+   Takes:   the message, of size octets; a time; and for how long it is noted, in the unit of that time. Both are the host's.
+   Answers: whether it is to be passed on; false too for what is no management message.
+   Writes:  one of the places of *table, if it answers true. */
+bool ptpm_passed_on_is_first(struct ptpm_passed_on *table, const uint8_t *message, size_t size, uint64_t now, uint64_t time);
+
+/* Makes a full bucket of a number of tokens a second.
+   Takes:   how many; those over 1,000,000 do not count. And a time in milliseconds.
+   Writes:  all of *rate. */
+void ptpm_rate_start(struct ptpm_rate *rate, uint64_t tokens, uint64_t now);
+
+/* Takes a token from a bucket, if there is one. In any stretch of time it gives no more of them than a second's, and those that the
+   time has brought.
+   Takes:   a time in milliseconds. One that is before the latest counts as that.
+   Answers: whether there was one.
+   Writes:  *rate. */
+bool ptpm_rate_take(struct ptpm_rate *rate, uint64_t now);
+
+/* The number that ptpm_id_named answers if no id has the name, and how many octets a name has at most. */
 enum { PTPM_NO_ID = 65536, PTPM_MOST_NAME = 27 };
 
-/* Finds the managementId of a name, as PRIORITY1 or priority1 (15.5.2.3).
-   Takes:   the name in ASCII, of size octets and in either case, without a zero behind it.
-   Answers: the id, which fits a uint16_t; or PTPM_NO_ID where no id of this profile has the name. */
+/* Finds the managementId of a name, such as PRIORITY1 or priority1 (15.5.2.3).
+   Takes:   the name in ASCII, of size octets and in either case, without a zero after it.
+   Answers: the id, which fits a uint16_t; or PTPM_NO_ID if no id of this profile has the name. */
 uint32_t ptpm_id_named(const char *name, size_t size);
 
 /* Gives the standard's name of a managementId.
    Takes:   the id; and room octets, for which PTPM_MOST_NAME is enough.
-   Answers: how many octets the name has; 0 where this profile lacks the id, or room is too small for the whole name.
-   Writes:  so many octets from text on: the name, with no zero behind it. */
+   Answers: how many octets the name has; 0 if this profile lacks the id, or room is too small for the whole name.
+   Writes:  as many octets from text on: the name, with no zero after it. */
 size_t ptpm_id_name(uint16_t id, char *text, size_t room);
 
-/* Gives the name of the number that a call answered, as NO_ROOM for PTPM_NO_ROOM. 0 has none, since each call answers it.
+/* Gives the name of the number that a call answered, such as NO_ROOM for PTPM_NO_ROOM. 0 has none, since each call answers it.
    Takes:   the number; and room octets, for which PTPM_MOST_NAME is enough.
-   Answers: how many octets the name has; 0 where the number has none, or room is too small for the whole name.
-   Writes:  so many octets from text on: the name, with no zero behind it. */
+   Answers: how many octets the name has; 0 if the number has none, or room is too small for the whole name.
+   Writes:  as many octets from text on: the name, with no zero after it. */
 size_t ptpm_answer_name(uint32_t number, char *text, size_t room);
 
-/* Gives the standard's name of a managementErrorId (15.5.4.3, table 109), as WRONG_VALUE for 4.
+/* Gives the standard's name of a managementErrorId (15.5.4.3, table 109), such as WRONG_VALUE for 4.
    Takes:   the number; and room octets, for which PTPM_MOST_NAME is enough.
-   Answers: how many octets the name has; 0 where the table reserves the number or leaves it to an implementation, or room is too
+   Answers: how many octets the name has. 0 if the table reserves the number or leaves it to an implementation, or room is too
             small for the whole name.
-   Writes:  so many octets from text on: the name, with no zero behind it. */
+   Writes:  as many octets from text on: the name, with no zero after it. */
 size_t ptpm_error_name(uint16_t error, char *text, size_t room);
 
 #ifdef __cplusplus

@@ -8,7 +8,7 @@
 
 enum { PLACES = ROUND + PTPM_MOST_SENT, LEAST_JOINED = 8, MOST_JOINED = 64, MOST_OCTETS = 60000 };
 
-/* What the kernel tells of, or is told for, a datagram's addresses. */
+/* What the kernel reports of, or gets for, a datagram's addresses. */
 struct control { _Alignas(struct cmsghdr) char octets[CMSG_SPACE(sizeof(struct in6_pktinfo))]; };
 
 /* A message that is to go out. */
@@ -101,7 +101,7 @@ static void put_control(struct cmsghdr *at, int level, int type, const void *val
     memcpy(CMSG_DATA(at), value, size);
 }
 
-/* The address that a datagram goes to, and, where it answers one that came to this host alone, the address that it comes from. */
+/* The address that a datagram goes to, and, if it answers one that came to this host alone, the address that it comes from. */
 static void address_datagram(struct msghdr *head, const struct heard *answered, union sender *to, struct control *control) {
     head->msg_name = to;
     if (answered == NULL) {
@@ -134,7 +134,7 @@ struct batch {
     size_t count, part_count;
 };
 
-/* The kernel may not take datagrams together, as where an interface can't send them so. */
+/* The kernel may not take datagrams together, for example if an interface can't send them so. */
 static int is_joining = 1;
 
 static void add_frame(struct batch *batch, const struct port *port, const struct outgoing *out) {

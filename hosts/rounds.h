@@ -1,4 +1,4 @@
-/* Datagrams in rounds: what has come in at a socket by now, up to 64 at once, and what goes out behind a round. Nothing waits for a
+/* Datagrams in rounds: what has come in at a socket by now, up to 64 at once, and what goes out after a round. Nothing waits for a
    round to be full. */
 #ifndef ROUNDS_H
 #define ROUNDS_H
@@ -21,7 +21,7 @@ union sender {
     struct sockaddr_storage room;
 };
 
-/* A datagram. Octets behind the first 2,048 belong to no message, and are not kept. */
+/* A datagram. Octets past the first 2,048 belong to no message, and are not kept. */
 struct heard {
     uint8_t *octets;
     size_t size, whole;                 /* the octets that are kept, and all that came in */
@@ -33,14 +33,14 @@ struct heard {
     struct in6_pktinfo own_six;
 };
 
-/* Takes what has come in at a port, or, where there is none, at the Unix socket; how many datagrams. They stay until the next
+/* Takes what has come in at a port, or, if there is none, at the Unix socket; how many datagrams. They stay until the next
    round. */
 size_t hear_round(const struct port *port, int at, struct heard heard[ROUND]);
 
 /* The place of the next messages that are to go out, and how many there are. */
 struct ptpm_sent *places_to_send(size_t *room);
 
-/* A message that stands in the next place, or behind others, is to go out at its port: to who sent what is answered, where that
+/* A message that is in the next place, or after others, is to go out at its port: to who sent what is answered, where that
    came by unicast, or to the group. */
 void send_later(const struct ptpm_sent *message, const struct heard *answered);
 

@@ -14,7 +14,7 @@ static socklen_t size;
 static int at = -1;
 static long every, next;        /* milliseconds; 0: nobody watches */
 
-/* A path, or a name behind @ that stands in no folder. */
+/* A path, or a name after @ that is in no folder. */
 void open_service(void) {
     const char *name = getenv("NOTIFY_SOCKET"), *watched = getenv("WATCHDOG_USEC"), *process = getenv("WATCHDOG_PID");
     if (name == NULL || (*name != '/' && *name != '@') || strlen(name) >= sizeof told.sun_path) return;

@@ -1,20 +1,20 @@
-/* What the manager of services is told, where one started this program (sd_notify(3)): that it is ready, that it goes on, and that
-   it ends. */
+/* What is reported to the manager of services, if one started this program (sd_notify(3)): that it is ready, that it goes on, and
+   that it ends. */
 #ifndef SERVICE_H
 #define SERVICE_H
 
-/* Finds out who is told, and how often; nobody where no one asks for it. Comes before rights are let go of. */
+/* Finds out to whom it is reported, and how often; to nobody if no one asks for it. Comes before rights are dropped. */
 void open_service(void);
 
 /* Its sockets are open. */
 void tell_ready(void);
 
-/* It goes on: told where half of the time has passed in which it has to be. */
+/* It goes on: reported when half of the time has passed in which it has to be. */
 void tell_alive(long now);
 
 void tell_stopping(void);
 
-/* In how many milliseconds it has to be told again that the program goes on, at most `most`. */
+/* In how many milliseconds it has to be reported again that the program goes on, at most `most`. */
 long until_alive(long now, long most);
 
 #endif

@@ -33,7 +33,7 @@ static ino_t file_read;         /* what was read last */
 
 static void complain(const char *what) { say_at_times("%s: %s", path, what); }
 
-/* Who owns a name in a folder, or the folder, may let the path lead anywhere: what stands in another's file is read for nobody but
+/* Who owns a name in a folder, or the folder, may let the path lead anywhere: what is in another's file is read for nobody but
    those who may read it. */
 static int may_choose(const struct stat *owned, const struct stat *file) {
     return owned->st_uid == 0 || owned->st_uid == geteuid() || owned->st_uid == file->st_uid;
@@ -109,7 +109,7 @@ static int is_written(void) {
     return written;
 }
 
-/* Whether another file stands at the path than the one that was read last, and has been left alone for a second. */
+/* Whether another file is at the path than the one that was read last, and has been left alone for a second. */
 static int is_other(void) {
     struct stat found;
     struct timespec now;
@@ -142,7 +142,7 @@ static void read_file(void) {
     watch_folders();
 }
 
-/* Where another thing, or nothing, stands at the path by now, there is nothing to poll any more. */
+/* If another thing, or nothing, is at the path by now, there is nothing to poll any more. */
 static void open_again(void) {
     struct stat found;
     int again = open_file(&found);
@@ -206,7 +206,7 @@ static void let_go_all(void) {
     is_too_long = 1;
 }
 
-/* Lets go of the latest text. */
+/* Drops the latest text. */
 static void go_behind(void) {
     first += taken;
     size -= taken;
@@ -219,7 +219,7 @@ int next_text(char **text) {
         taken = size_of_text();
     } while (taken > 0 && is_let_go());
     if (taken > 0) {
-        held[first + (taken < size ? taken - 1 : taken)] = '\0';      /* in place of an empty line, or behind all */
+        held[first + (taken < size ? taken - 1 : taken)] = '\0';      /* in place of an empty line, or after all */
         *text = held + first;
         return 1;
     }

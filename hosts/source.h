@@ -1,18 +1,18 @@
-/* A file, or a pipe, that tells something again and again. One a program. */
+/* A file, or a pipe, that says something again and again. One for each program. */
 #ifndef SOURCE_H
 #define SOURCE_H
 
-/* Opens it, and answers what is to be polled. Ends the program with status 2 where there is no such file. */
+/* Opens it, and answers what is to be polled. Ends the program with status 2 if there is no such file. */
 int open_source(const char *path);
 
 /* Whether it is to be read although nothing was polled: a folder that was made anew, or a link, leads to another file by now. */
 int source_has_moved(void);
 
-/* Reads what has come in by now, without waiting, and answers what is to be polled from now on: -1 where a pipe was removed, and
+/* Reads what has come in by now, without waiting, and answers what is to be polled from now on: -1 if a pipe was removed, and
    the last program that wrote to it has closed it. */
 int read_source(void);
 
-/* Whether that leaves a text to take, which is then at *text, with a zero behind it, until the next call: of a file all that it
+/* Whether that leaves a text to take, which is then at *text, with a zero after it, until the next call: of a file all that it
    holds, at first and whenever a program that wrote to it has closed it, or another file has come into its place; of a pipe
    what came in up to an empty line, or until the last program that wrote to it has closed it. What has 65,536 octets or more,
    and a file that can't be read, is said on standard error, and is no text. */

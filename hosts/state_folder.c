@@ -12,7 +12,7 @@
 
 static char path[PATH_MAX];
 
-/* A variable of the environment that names a folder; NULL where it is not set, or is no absolute path. */
+/* A variable of the environment that names a folder; NULL if it is not set, or is no absolute path. */
 static const char *folder_in(const char *variable) {
     const char *folder = getenv(variable);
     return folder != NULL && folder[0] == '/' ? folder : NULL;
@@ -24,7 +24,7 @@ static size_t write_folder(void) {
     if (state != NULL) return (size_t)snprintf(path, sizeof path, "%s/ptpm", state);
     if (geteuid() == 0) return (size_t)snprintf(path, sizeof path, "/var/lib/ptpm");
     if (home != NULL) return (size_t)snprintf(path, sizeof path, "%s/.local/state/ptpm", home);
-    refuse("the request was not sent: neither XDG_STATE_HOME nor HOME names a folder for the numbers; --numbers FILE names a file");
+    refuse("the request was not sent: neither XDG_STATE_HOME nor HOME names a folder for the session; --numbers FILE names a file");
 }
 
 /* Makes the folders above the last one; that one is made with the file. */
@@ -34,13 +34,13 @@ static void make_parents(void) {
         int failure = mkdir(path, 0700) ? errno : 0;
         struct stat found;
         if (failure != 0 && (stat(path, &found) || !S_ISDIR(found.st_mode))) {
-            refuse("the request was not sent: %s: %s; --numbers FILE keeps the numbers elsewhere", path, strerror(failure));
+            refuse("the request was not sent: %s: %s; --numbers FILE keeps the session elsewhere", path, strerror(failure));
         }
         *slash = '/';
     }
 }
 
-const char *usual_numbers(const struct ptpm_session_settings *settings) {
+const char *usual_file(const struct ptpm_session_settings *settings) {
     char manager[IDENTITY_TEXT], clock[IDENTITY_TEXT];
     size_t size = write_folder();
     write_identity(manager, settings->clock);
@@ -49,6 +49,6 @@ const char *usual_numbers(const struct ptpm_session_settings *settings) {
         make_parents();
         size += (size_t)snprintf(path + size, sizeof path - size, "/%s-%u.%s", manager, settings->port, clock);
     }
-    if (size >= sizeof path) refuse("the request was not sent: the path of the folder for the numbers is too long");
+    if (size >= sizeof path) refuse("the request was not sent: the path of the folder for the session is too long");
     return path;
 }

@@ -1,6 +1,6 @@
 /* stops: a clock, a session and a survey, each started, used, started anew in a live handle, refused there, started again and
    stopped, many times. It shows nothing by itself: run in valgrind it tells whether anything was kept. Prints `stops: done`;
-   its status is 1 where a call doesn't answer as it has to. */
+   its status is 1 if a call doesn't answer as it has to. */
 #include "ptpm.h"
 #include <stdio.h>
 #include <stdlib.h>
@@ -62,7 +62,7 @@ static void clocks(struct ptpm_clock *clock, const uint8_t *request) {
     ptpm_clock_stop(clock);
 }
 
-/* One request that is answered and told, one that is refused, and one that is left unanswered. */
+/* One request that is answered and reported, one that is refused, and one that is left unanswered. */
 static void use_session(struct ptpm_session *session) {
     static const uint8_t text[128] = { 127 };
     uint8_t octets[PTPM_MOST_OCTETS];

@@ -7,12 +7,13 @@
 #include "names.h"
 #include "notices.h"
 #include <getopt.h>
+#include <stdio.h>
 #include <stdlib.h>
 #include <string.h>
 #include <strings.h>
 
 /* Options without a letter of their own, and a word that is none: getopt's for a string that begins with a hyphen. */
-enum { WORD = 1, UDP = 256, TEXT, VERSION };
+enum { WORD = 1, UDP = 256, TEXT, VERSION, GIVE_UP };
 
 enum { MOST_WORDS = 3, MOST_FIELD = 1418, NOT_NAMED = -1 };
 
@@ -24,6 +25,7 @@ static const struct option options[] = {
     { "manager", required_argument, NULL, 'm' }, { "numbers", required_argument, NULL, 'k' },
     { "wait", required_argument, NULL, 'w' }, { "attempts", required_argument, NULL, 'a' },
     { "timeout", required_argument, NULL, 't' }, { "times", required_argument, NULL, 'n' },
+    { "give-up", no_argument, NULL, GIVE_UP },
     { "hexadecimal", no_argument, NULL, 'x' }, { "text", no_argument, NULL, TEXT }, { "quiet", no_argument, NULL, 'q' },
     { "help", no_argument, NULL, 'h' }, { "version", no_argument, NULL, VERSION },
     { NULL, 0, NULL, 0 },
@@ -42,7 +44,7 @@ static long number(const char *option, const char *text, long least, long most) 
     return found;
 }
 
-/* The clock that is asked, and the port behind it, if one is named there. */
+/* The clock that is asked, and the port after it, if one is named there. */
 static void read_target(struct task *task, struct words *words, const char *text) {
     const char *rest = identity_at(text, task->settings.target);
     words->has_target = 1;
@@ -76,6 +78,7 @@ static void take_option(struct task *task, struct words *words, int option, cons
     case 'a': task->settings.attempts = (uint8_t)number("attempts", value, 1, 255); break;
     case 't': task->milliseconds = number("timeout", value, 1, 100000); break;
     case 'n': task->times = number("times", value, 1, 1000000); break;
+    case GIVE_UP: task->is_letting_go = 1; break;
     case 'x': task->is_in_octets = 1; break;
     case TEXT: words->is_text = 1; break;
     case 'q': be_quiet(); break;
@@ -90,7 +93,7 @@ static void take_word(struct words *words, const char *word) {
     words->at[words->count++] = word;
 }
 
-/* Behind `set ID` stands its value, which may be below 0: it is no option there. */
+/* After `set ID` comes its value, which may be below 0: it is no option there. */
 static int is_value(const struct words *words, const char *word) {
     if (words->count != 2 || strcasecmp(words->at[0], "set") != 0) return 0;
     return word[0] == '-' && word[1] >= '0' && word[1] <= '9';
@@ -110,12 +113,14 @@ static void read_words(struct task *task, struct words *words, int argc, char **
     while (optind < argc) take_word(words, argv[optind++]);
 }
 
+enum { ACTIONS = 3 };
+static const struct { const char *name; uint8_t action; } actions[ACTIONS] = {
+    { "get", PTPM_GET }, { "set", PTPM_SET }, { "command", PTPM_COMMAND },
+};
+
 static void read_verb(struct task *task, const char *verb) {
-    static const struct { const char *name; uint8_t action; } actions[] = {
-        { "get", PTPM_GET }, { "set", PTPM_SET }, { "command", PTPM_COMMAND },
-    };
     task->is_survey = strcasecmp(verb, "survey") == 0;
-    for (size_t i = 0; i < sizeof actions / sizeof *actions; i++) {
+    for (int i = 0; i < ACTIONS; i++) {
         if (strcasecmp(verb, actions[i].name) != 0) continue;
         task->action = actions[i].action;
         return;
@@ -192,5 +197,19 @@ void read_task(struct task *task, int argc, char **argv) {
     judge(task, &words);
     long port = words.port >= 0 ? words.port : words.target_port;
     task->port = port < 0 ? 0 : (uint16_t)port;
-    task->is_numbered = is_by_one_manager(task);
+    task->is_kept = is_by_one_manager(task);
+    if (task->is_letting_go && !task->is_kept) refuse("--give-up: no session is kept of what is asked");
+}
+
+const char *task_words(const struct task *task) {
+    static char words[64];
+    char number[8];
+    const char *action = "", *id = id_name(task->id);
+    for (int i = 0; i < ACTIONS; i++) {
+        if (actions[i].action == task->action) action = actions[i].name;
+    }
+    snprintf(number, sizeof number, "%04x", task->id);
+    int size = snprintf(words, sizeof words, "%s %s", action, id != NULL ? id : number);
+    if (task->port != 0) snprintf(words + size, sizeof words - (size_t)size, " at port %u", task->port);
+    return words;
 }

@@ -7,24 +7,28 @@
 
 struct task {
     int is_survey;
-    uint8_t action;                             /* PTPM_GET, PTPM_SET or PTPM_COMMAND, where it is no survey */
+    uint8_t action;                             /* PTPM_GET, PTPM_SET or PTPM_COMMAND, if it is no survey */
     uint16_t id;
-    uint16_t port;                              /* the clock's, of an id of a port; 0 where none is named */
+    uint16_t port;                              /* the clock's, of an id of a port; 0 if none is named */
     size_t size;
     uint8_t octets[PTPM_MOST_OCTETS];           /* the dataField */
-    struct ptpm_session_settings settings;      /* the number of the first request is 0 before it is found */
+    struct ptpm_session_settings settings;      /* the number of the first request is 0 until one is drawn */
     int has_manager;                            /* whether settings name the manager */
-    int is_numbered;                            /* by a manager who is the same in each run: a file keeps his numbers */
+    int is_kept;                                /* by a manager who is the same in each run: a file keeps his session */
+    int is_letting_go;                          /* what an earlier run asked without an answer is not finished */
     const char *interface, *address, *path;     /* the way: an interface, an address or both, or a Unix socket */
     int is_six, is_ethernet;                    /* at an interface IPv6, or IEEE 802.3, in place of IPv4 */
-    const char *numbers;                        /* the file of the next request's number, or NULL */
+    const char *numbers;                        /* the file that keeps the session, or NULL */
     long wait;                                  /* how long a session waits that has no such file yet, in milliseconds */
     long milliseconds;                          /* how long an answer is waited for */
     long times;                                 /* how often the request is made anew */
     int is_in_octets;                           /* answers are printed as octets */
 };
 
-/* Reads it from a command line. Ends the program with status 2 where it is none, and with 0 behind --help and --version. */
+/* Reads it from a command line. Ends the program with status 2 if it is none, and with 0 after --help and --version. */
 void read_task(struct task *task, int argc, char **argv);
+
+/* What is asked, as `set PRIORITY1` or `command DISABLE_PORT at port 2`. The text is there until the next call. */
+const char *task_words(const struct task *task);
 
 #endif

@@ -4,7 +4,7 @@
 #include <locale.h>
 #include <string.h>
 
-/* How many octets the character at the head has, and its number; 0 where there is no well-formed one (RFC 3629). */
+/* How many octets the character at the head has, and its number; 0 if there is no well-formed one (RFC 3629). */
 static size_t character(const uint8_t *octets, size_t size, uint32_t *number) {
     static const uint32_t least[] = { 0, 0, 0x80, 0x800, 0x10000 };
     uint8_t head = octets[0];
@@ -18,7 +18,7 @@ static size_t character(const uint8_t *octets, size_t size, uint32_t *number) {
     return *number < least[count] || *number > 0x10ffff || (*number >= 0xd800 && *number < 0xe000) ? 0 : count;
 }
 
-/* Control characters, and those that are unseen, as fillers, or turn the direction of what stands behind them. */
+/* Control characters, and those that are unseen, such as fillers, or turn the direction of what follows them. */
 static int is_shown(uint32_t number) {
     static const struct { uint32_t first, last; } hidden[] = {
         { 0, 0x1f }, { '\\', '\\' }, { 0x7f, 0x9f }, { 0xad, 0xad }, { 0x34f, 0x34f }, { 0x61c, 0x61c }, { 0x115f, 0x1160 },

@@ -4,11 +4,11 @@
 #include "common.h"
 #include "identity.h"
 #include "notices.h"
-#include "number_file.h"
 #include "reading.h"
+#include "session_file.h"
 #include "way.h"
 
-/* Whether nobody is answered where the manager was not; then it is told what the clock has. */
+/* Whether nobody is answered if the manager was not; then what the clock has is said. */
 static int tell_value(const struct task *task) {
     static struct answer answer;
     struct ptpm_session session = { 0 };
@@ -25,7 +25,7 @@ static int tell_value(const struct task *task) {
 }
 
 /* Why a clock that answers reads may drop what this manager asks. */
-static void tell_reason(const struct task *task, enum asked asked) {
+static void tell_reason(const struct task *task, enum asked asked, uint16_t number) {
     char manager[IDENTITY_TEXT];
     unsigned port = task->settings.port;
     write_identity(manager, task->settings.clock);
@@ -33,10 +33,11 @@ static void tell_reason(const struct task *task, enum asked asked) {
     case REQUEST:
         complain("it dropped the request, since a copy of manager %s/%u asks too, or each answer was lost", manager, port);
         break;
+    case EARLIER_REQUEST:
     case NUMBER:
         complain("it dropped number %u of manager %s/%u, behind one of another file or of a copy of the manager, or each answer was "
-                 "lost", task->settings.first, manager, port);
-        complain("where it does so each time: once %s is removed, the next run begins a new session", numbers_path());
+                 "lost", number, manager, port);
+        complain("where it does so each time: once %s is removed, the next run begins a new session", session_path());
         break;
     case FIRST_NUMBER:
         complain("it answers no GET of manager %s/%u, under none of four numbers", manager, port);
@@ -44,27 +45,45 @@ static void tell_reason(const struct task *task, enum asked asked) {
     }
 }
 
-/* What may be wrong where the clock answers nobody. */
+/* What may be wrong if the clock answers nobody. */
 static void advise(const struct task *task) {
     if (task->port > 1) complain("numberPorts of get DEFAULT_DATA_SET tells whether the clock has a port %u", task->port);
     if (task->path == NULL) complain("survey DEFAULT_DATA_SET shows which clocks are in that domain; --domain names another");
 }
 
-int no_answer(const struct task *task, enum asked asked, long sent) {
+/* What becomes of a request that stays in the session's file. */
+static void tell_rest(const struct task *task, enum asked asked, uint16_t number) {
+    const char *words = task_words(task);
+    if (!task->is_kept) return;
+    if (asked == REQUEST) {
+        complain("the next run sends %s again, under number %u, before its own; --give-up lets it go", words, number);
+    } else if (asked == EARLIER_REQUEST) {
+        complain("%s of an earlier run, number %u, comes before it; --give-up lets it go", words, number);
+    }
+}
+
+/* What is said of the request at the end of the first line. */
+static const char *request_clause(const struct task *task, enum asked asked) {
+    int may_change = !task->is_survey && task->action != PTPM_GET;
+    if (asked == REQUEST) return may_change ? ": the request may have been carried out" : "";
+    if (asked == EARLIER_REQUEST && may_change) return ": an earlier request may have been carried out, and this one was not sent";
+    return ": the request itself was not sent";
+}
+
+int no_answer(const struct task *task, enum asked asked, uint16_t number, long sent) {
     const char *end = stopped ? "ended by a signal: " : "";
-    const char *request = asked != REQUEST ? ": the request itself was not sent"
-        : task->is_survey || task->action == PTPM_GET ? "" : ": the request may have been carried out";
     if (sent == 0) {
         complain("%snothing was sent%s%s", end, stopped ? "" : ": no message is taken at ", stopped ? "" : way_name());
         return stopped ? BY_SIGNAL + stopped : NOT_ASKED;
     }
     complain("%sno answer at %s in domain %u to %ld message%s%s", end, way_name(), task->settings.domain, sent,
-             sent == 1 ? "" : "s", request);
+             sent == 1 ? "" : "s", request_clause(task, asked));
+    tell_rest(task, asked, number);
     if (stopped) return BY_SIGNAL + stopped;
     if (task->is_survey) return NOT_ANSWERED;
-    int is_answered = (task->is_numbered || task->action != PTPM_GET) && tell_value(task);
+    int is_answered = (task->is_kept || task->action != PTPM_GET) && tell_value(task);
     if (stopped) return BY_SIGNAL + stopped;
     if (!is_answered) advise(task);
-    else if (task->is_numbered) tell_reason(task, asked);
+    else if (task->is_kept) tell_reason(task, asked, number);
     return NOT_ANSWERED;
 }

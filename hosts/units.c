@@ -1,22 +1,28 @@
-/* Tests of what the hosts decide without a socket: token buckets, messages that were passed on, and messages in frames. Prints what
-   does not hold, and `units: N passed, M failed`. */
-#include "bucket.h"
+/* Tests of what the hosts decide without a socket: token buckets and messages that were passed on, by the library, messages in
+   frames, and what the image of a session says. Prints what does not hold, and `units: N passed, M failed`. */
 #include "checking.h"
 #include "ethernet.h"
-#include "passed_on.h"
+#include "ptpm.h"
+#include "session_image.h"
 #include <string.h>
 
-enum { NOW = 5000, MESSAGE = 54 };
+enum { NOW = 5000, TIME = 1000, MESSAGE = 54, ERROR_STATUS = 60, PLACES = 4096 };
+
+static struct ptpm_rate full_bucket(uint64_t tokens, uint64_t now) {
+    struct ptpm_rate bucket;
+    ptpm_rate_start(&bucket, tokens, now);
+    return bucket;
+}
 
 /* How many tokens there are at a time, taken one after another. */
-static long taken(struct bucket *bucket, long now) {
+static long taken(struct ptpm_rate *bucket, uint64_t now) {
     long count = 0;
-    while (take_token(bucket, now)) count++;
+    while (ptpm_rate_take(bucket, now)) count++;
     return count;
 }
 
 static void buckets(void) {
-    struct bucket bucket = full_bucket(1000, NOW);
+    struct ptpm_rate bucket = full_bucket(1000, NOW);
     check(taken(&bucket, NOW) == 1000, "a second's tokens at once");
     check(taken(&bucket, NOW + 1) == 1, "one more a millisecond later");
     check(taken(&bucket, NOW + 11) == 10, "ten more ten milliseconds later");
@@ -25,23 +31,35 @@ static void buckets(void) {
     check(taken(&bucket, NOW) == 1 && taken(&bucket, NOW + 999) == 0 && taken(&bucket, NOW + 1000) == 1, "one a second");
     bucket = full_bucket(1000000, NOW);
     check(taken(&bucket, NOW) == 1000000 && taken(&bucket, NOW + 5) == 5000, "a million a second");
+    bucket = full_bucket(1000001, NOW);
+    check(taken(&bucket, NOW) == 1000000, "a rate that is over the highest");
+    bucket = full_bucket(0, NOW);
+    check(taken(&bucket, NOW + 100000) == 0, "a rate of nothing");
+    bucket = full_bucket(10, NOW);
+    check(taken(&bucket, NOW) == 10 && taken(&bucket, 0) == 0 && taken(&bucket, NOW + 100) == 1, "a time that goes back brings nothing");
     bucket = full_bucket(3, NOW);
     long count = 0;
-    for (long now = NOW; now < NOW + 10000; now++) count += taken(&bucket, now);
+    for (uint64_t now = NOW; now < NOW + 10000; now++) count += taken(&bucket, now);
     check(count == 3 + 29, "three a second, and no fraction is lost: the last token is whole at ten seconds");
 }
 
-/* Fields of a GET of PRIORITY1 that tell one message from another, and the octets at which they stand (13.3, 15.4). */
+/* Whether a message is passed on, and noted for a second. */
+static int is_first(struct ptpm_passed_on *table, const uint8_t message[ERROR_STATUS], uint64_t now) {
+    return ptpm_passed_on_is_first(table, message, (size_t)(message[2] << 8 | message[3]), now, TIME);
+}
+
+/* Fields of a GET of PRIORITY1 that distinguish one message from another, and the octets at which they are (13.3, 15.4). */
 static void passing_on(void) {
-    static struct passed_on table;
+    static struct ptpm_passed_on table;
     static const struct { int octet; const char *name; } fields[] = {
         { 20, "sourcePortIdentity" }, { 29, "sourcePortIdentity" }, { 30, "sequenceId" }, { 31, "sequenceId" },
         { 34, "targetPortIdentity" }, { 43, "targetPortIdentity" }, { 46, "actionField" }, { 52, "managementId" },
         { 53, "managementId" },
     };
     static const int others[] = { 2, 6, 8, 32, 33, 44, 45, 47 };
-    uint8_t message[MESSAGE + 4] = { 0x0d, 0x12, 0, MESSAGE };
+    uint8_t message[ERROR_STATUS] = { 0x0d, 0x12, 0, MESSAGE };
     message[49] = 1;
+    message[51] = 2;
     check(is_first(&table, message, NOW), "a message that was not passed on");
     check(!is_first(&table, message, NOW) && !is_first(&table, message, NOW + 999), "the same in the second behind it");
     for (size_t i = 0; i < sizeof fields / sizeof *fields; i++) {
@@ -55,10 +73,16 @@ static void passing_on(void) {
         message[others[i]] ^= 1;
     }
     check(is_first(&table, message, NOW + 1000) && !is_first(&table, message, NOW + 1999), "a second later it is passed on again");
+    check(!is_first(&table, message, NOW + 1500) && is_first(&table, message, NOW + 2000), "what is kept back is not noted again");
+    message[0] = 0x0c;
+    check(!is_first(&table, message, NOW), "no management message");
+    memcpy(message, (const uint8_t[]){ 0x0d, 0x12, 0, ERROR_STATUS }, 4);
+    message[46] = 2;
+    message[49] = 2;                            /* an error status, whose id follows the error */
+    message[51] = 8;
     message[55] = 7;
-    message[49] = 2;                            /* an error status, whose id stands behind the error */
     check(is_first(&table, message, NOW) && !is_first(&table, message, NOW), "an error status");
-    message[54] ^= 1;
+    message[55] ^= 1;
     check(is_first(&table, message, NOW), "an error status of another id");
     message[53] ^= 1;
     check(!is_first(&table, message, NOW), "another error of the same id");
@@ -66,9 +90,11 @@ static void passing_on(void) {
 
 /* The table keeps a second's messages at the rates that there are, and passes on none that it can't note. */
 static void many_messages(void) {
-    static struct passed_on table = { .seed = 1588 };
-    uint8_t message[MESSAGE] = { 0x0d, 0x12, 0, MESSAGE };
+    static struct ptpm_passed_on table = { .seed = 1588 };
+    uint8_t message[ERROR_STATUS] = { 0x0d, 0x12, 0, MESSAGE };
     unsigned first = 0, again = 0, late = 0;
+    message[49] = 1;
+    message[51] = 2;
     for (unsigned i = 0; i < 2000; i++) {
         message[30] = (uint8_t)(i >> 8);
         message[31] = (uint8_t)i;
@@ -86,7 +112,7 @@ static void many_messages(void) {
         message[20] = 1;
         late += (unsigned)is_first(&table, message, NOW + 600);
     }
-    check(late + first <= PASSED_ON_PLACES, "no more messages than there are places");
+    check(late + first <= PLACES, "no more messages than there are places");
 }
 
 static void frames(void) {
@@ -116,10 +142,35 @@ static void frames(void) {
     check(parts[1].iov_base == frame && parts[1].iov_len == 46 && parts[2].iov_len == 0, "and no octet behind a message that is longer");
 }
 
+/* The session of manager 0011223344556677/1 with clock aabbccfffeddee01 of two ports, from number 7 on: a GET of PRIORITY1 is under
+   way; and with a COMMAND of DISABLE_PORT at port 2 in its place. */
+static void images(void) {
+    uint8_t octets[] = {
+        'p', 't', 'p', 'm', 2, 1, 0, 0, 0, 0, 0, 48, 0x00, 0x11, 0x22, 0x33, 0x44, 0x55, 0x66, 0x77, 0, 1,
+        0xaa, 0xbb, 0xcc, 0xff, 0xfe, 0xdd, 0xee, 0x01, 2, 0, 7, 1, 2, 0, 0, 0, 0, 0, 0, 0, 0, 1, 0, 0, 0, 0, 0, 0, 0, 0,
+        1, 0, 0x20, 0x05, 0xff, 0xff, 0, 0, 0xa5, 0x5a,
+    };
+    size_t size = sizeof octets - 2;
+    struct session_image image = read_image(octets, size);
+    check(memcmp(image.manager, octets + 12, 8) == 0 && memcmp(image.target, octets + 22, 8) == 0, "the clocks of an image");
+    check(image.manager_port == 1 && image.ports == 2 && image.first == 7 && image.hops == 1, "the other members of a session");
+    check(image.is_under_way && image.action == 0 && image.id == 0x2005 && image.size == 0, "what is under way");
+    check(image.port == 0, "an id of the clock names no port");
+    memcpy(octets + 52, (const uint8_t[]){ 1, 3, 0x20, 0x0e, 0, 2, 0, 2 }, 8);
+    image = read_image(octets, sizeof octets);
+    check(image.action == 3 && image.id == 0x200e && image.port == 2, "a COMMAND at a port");
+    check(image.size == 2 && memcmp(image.octets, "\xa5\x5a", 2) == 0, "and its dataField");
+    check(!read_image(octets, size).is_under_way, "a request of which octets are missing is none");
+    octets[52] = 0;
+    check(!read_image(octets, 53).is_under_way && read_image(octets, 53).first == 7, "a session at rest");
+    check(read_image(octets, 52).first == 0, "fewer octets are no session");
+}
+
 int main(void) {
     buckets();
     passing_on();
     many_messages();
     frames();
+    images();
     return told("units");
 }

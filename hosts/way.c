@@ -37,7 +37,7 @@ static void read_address(const char *text) {
     freeaddrinfo(found);
 }
 
-/* Interfaces with one MAC have the same address of IPv6 for their links: then the scope tells which one it is. */
+/* Interfaces with one MAC have the same address of IPv6 for their links: then the scope says which one it is. */
 static int is_same(const struct sockaddr *one, const struct sockaddr_storage *other) {
     if (one == NULL || one->sa_family != other->ss_family) return 0;
     if (one->sa_family == AF_INET) {
@@ -64,7 +64,7 @@ static const char *interface_to(const char *address) {
         if (is_same(one->ifa_addr, &own)) snprintf(found, sizeof found, "%s", one->ifa_name);
     }
     freeifaddrs(all);
-    found[strcspn(found, ":")] = '\0';      /* behind which an address of IPv4 may have a label */
+    found[strcspn(found, ":")] = '\0';      /* after which an address of IPv4 may have a label */
     if (*found == '\0') refuse("nothing was sent: no interface leads to %s", address);
     return found;
 }
@@ -107,7 +107,7 @@ static void find_unix(const struct task *task) {
 void find_way(struct task *task) {
     if (task->path != NULL) find_unix(task);
     else find_at_interface(task);
-    int is_nobodys = !task->is_numbered && (task->path != NULL || !task->is_survey);
+    int is_nobodys = !task->is_kept && (task->path != NULL || !task->is_survey);
     if (!task->has_manager && is_nobodys) task->settings.port = port_of_nobody(task->settings.port);
 }
 

@@ -1,4 +1,4 @@
-# tools/crates.mk: proves and builds a crate by rt, and first what it stands on, side by side where neither stands on the other:
+# tools/crates.mk: proves and builds a crate by rt, and first the crates that it uses, side by side if neither uses the other:
 #     make -f tools/crates.mk NAME=ptpm_cli    the program, crates/ptpm_cli/out/ptpm_cli
 #     make -f tools/crates.mk NAME=ptpm_c      the static library, crates/ptpm_c/out/libptpm_c.a
 # Where one fails, what has begun ends, and nothing more begins. rt itself sees what has changed.

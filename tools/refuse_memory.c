@@ -1,6 +1,6 @@
 /*
  * A library to be loaded before a program, by LD_PRELOAD: refuses it the Nth memory that it asks for, counted from 1, where
- * REFUSE_MEMORY is N, and that one alone; where it is N+, each later one too. A refusal is told by a 1 in the file that
+ * REFUSE_MEMORY is N, and that one alone; if it is N+, each later one too. A refusal is shown by a 1 in the file that
  * REFUSE_MEMORY_TOLD names.
  */
 

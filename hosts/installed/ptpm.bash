@@ -6,7 +6,7 @@ _ptpm_options() {
     "$@" --help 2>&1 < /dev/null | grep -oE -- '(^|[] ,|])\[?--?[a-zA-Z0-9][a-z0-9-]*' | grep -oE -- '--?[a-zA-Z0-9].*' | sort -u
 }
 
-# Whether in the help of the program $1 the option $2 has a word in capitals behind it: then what stands at the cursor is that.
+# Whether in the help of the program $1 the option $2 has a word in capitals after it: then what is at the cursor is that.
 _ptpm_takes() { [[ $2 = -* ]] && "$1" --help 2>&1 < /dev/null | grep -qE -- "(^|[][ ,|])$2(, --[a-z0-9-]+)? <?[A-Z]"; }
 
 _ptpm_ids() { ptpm ids 2> /dev/null | cut -d ' ' -f 2; }
@@ -60,7 +60,7 @@ _ptpm_manage() {
     esac
 }
 
-# What is no option is an interface, but for the first, the clock's identity.
+# What is no option is an interface, except the first, the clock's identity.
 _ptpm_clock() {
     case ${COMP_WORDS[COMP_CWORD]} in
     -*) _ptpm_offer_lines < <(_ptpm_options ptpm-clock) ;;

@@ -96,7 +96,7 @@ due_reply-none : (c : Clock) (h : History) (k : RequestCopy)
     → due_reply c h k ≡ None
 due_reply-none c h k j other = cond-false _ _ _ j ∙ cond-false _ _ _ (ne_eqb (greatest k.heard.source h.accepted) k.index other)
 
--- to one that has it, what is kept of the latest request is due, where it is a copy of that
+-- to one that has it, what is kept of the latest request is due, if it is a copy of that
 due_reply-kept : (first : PortIdentity → ℕ) (c : Clock) (h : History) (k : RequestCopy) (e : Entry)
     → joins h k ≡ false
     → greatest k.heard.source h.accepted ≡ k.index
@@ -106,7 +106,7 @@ due_reply-kept first c h k e j same latest = grind arith
 
 -- ---- the number of a copy
 
--- it tells the order of the indexes
+-- it gives the order of the indexes
 serial_of-copy : (first : PortIdentity → ℕ) (h : History) (k : RequestCopy) (e : Entry)
     → IsInTime first h k
     → IsLatest first h k.heard.source e
@@ -243,7 +243,7 @@ goes_copy first c s h x v at y time =
 
 -- ---- one delivery
 
--- a turn on a copy leaves this history, sends this reply, and changes nothing where the copy does not join
+-- a turn on a copy leaves this history, sends this reply, and changes nothing if the copy does not join
 pub record TurnsAs (first : PortIdentity → ℕ) (c : Clock) (s : State) (h : History) (x : Delivery) (k : RequestCopy) : Type 0 where
   pub stands : StandsAt first (turn c s x.ingress x.datagram).next (after_copy c h k)
   pub replies : (turn c s x.ingress x.datagram).replies ≡ due_messages c k (due_reply c h k)

@@ -13,7 +13,7 @@ use Rattle.ptpm_agent.proofs.AtMostOnce.{TurnsAs, after_copy-ports, applied_once
 
 -- ---- one happening
 
--- a delivery, of which there is a copy in time or none
+-- a delivery, with a copy in time or with none
 pub stands-arrival : (first : PortIdentity → ℕ) (c : Clock) (ports : ℕ) (s : State) (h : History)
     (x : Delivery) (o : Option RequestCopy)
     → length h.sets.ports ≡ ports → copy_of c ports x ≡ o → StandsAt first s h
@@ -50,7 +50,7 @@ stands_happenings first c ports s h (x ∷ xs) many at time =
     stands_happenings first c ports (after_happening c s x) (history_after c ports h x) xs
     (history_after-ports c ports h x ∙ many) (stands-happening first c ports s h x many at time.0) time.1
 
--- the turn on a copy that comes in behind all of these
+-- the turn on a copy that comes in after all of these
 turns_as_behind : (first : PortIdentity → ℕ) (c : Clock) (ports : ℕ) (s : State) (h : History)
     (xs : List Happening) (x : Delivery) (k : RequestCopy)
     → length h.sets.ports ≡ ports → StandsAt first s h → copy_of c ports x ≡ Some k
@@ -140,7 +140,7 @@ applied_once-alone c ports h (x ∷ xs) =
     applied_once-alone c ports (after_arrival c h (copy_of c ports x)) xs
     ∙ applied_once-arrival c h (copy_of c ports x) (copies c ports xs)
 
--- the copies ks come in behind a delivery, of which there is a copy or none
+-- the copies ks come in after a delivery, with a copy or with none
 record ArrivesInTime (first : PortIdentity → ℕ) (c : Clock) (h : History) (o : Option RequestCopy) (ks : List RequestCopy) : Type 0 where
   pub time : (k : RequestCopy) → o ≡ Some k → IsInTime first h k
   pub numbered : AreNumbered first ks

@@ -71,7 +71,7 @@ copies_up_to-skip ingress d datagram port some n = grind (arith, copies_up_to-mo
 length-filter_range : (t : ℕ → Bool) (a n : ℕ) → length (filter t (range_with_len a n)) ≤ n
 length-filter_range t a n = omega (arith, length-filter_both t (λ k. not (t k)) (λ k. refl) (range_with_len a n), length-range_with_len a n)
 
--- one less where a number of the range does not pass
+-- one less if a number of the range does not pass
 length-filter_range_but_one : (t : ℕ → Bool) (a n i : ℕ)
     → a ≤ i
     → i < a + n

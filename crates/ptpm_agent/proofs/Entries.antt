@@ -33,7 +33,7 @@ get-insert_other entries m e q other =
 abbrev pub accepted_at : PortIdentity → ℕ → Entry → Accepted
 accepted_at m k e = record { manager = m; index = k; request = e.request; reply = e.reply }
 
--- where the greatest index is k, what is said of it is said of k
+-- if the greatest index is k, what is said of it is said of k
 latest_at : (first : PortIdentity → ℕ) (h : History) (m : PortIdentity) (e : Entry) (k : ℕ)
     → greatest m h.accepted ≡ k
     → 0 < k
@@ -90,7 +90,7 @@ IsLatest-joined : (first : PortIdentity → ℕ) (c : Clock) (s : State) (h : Hi
     → IsLatest first (joined c h (copy_from x v)) v.source (accepted_entry c s v)
 IsLatest-joined first c s h x v stands n above = grind (arith, same_identity-refl)
 
--- a clock that carries a copy out stands where the history stands that the copy joins
+-- a clock that carries a copy out is at the history that the copy joins
 pub StandsAt-joined : (first : PortIdentity → ℕ) (c : Clock) (s : State) (h : History)
     (x : Delivery) (v : Message)
     → StandsAt first s h

@@ -1,4 +1,4 @@
--- In the window, sequenceIds tell what the indexes tell.
+-- In the window, sequenceIds say what the indexes say.
 use Rattle.std.proofs.Common.{arith, ◌≡◌, ℕ, ◌<◌}
 use Rattle.ptpm_table.specs.Serial.{serial_of, order_of, InWindow}
 use Rattle.ptpm_table.proofs.SerialLaws.{serial_in_window}

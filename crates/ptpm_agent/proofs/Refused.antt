@@ -1,4 +1,4 @@
--- What a turn leaves where its reply has an error.
+-- What a turn leaves if its reply has an error.
 use Rattle.std.proofs.Common.{◌≡◌, ℕ, List, Some, refl, sym, ◌∙◌, subst}
 use Rattle.std.proofs.lemmas.Option.{same_Some}
 use Rattle.std.specs.List.{Contains}

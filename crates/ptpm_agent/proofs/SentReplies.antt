@@ -1,4 +1,4 @@
--- What is sent where it is answered is the reply, and is kept as it was sent.
+-- If a request is answered, what is sent is the reply, and it is kept as it was sent.
 use Rattle.std.proofs.Common.{All, arith, ◌≡◌, ◌≤◌, ◌<◌, ◌^◌, ◌∙◌, ℕ, suc, Bool, true, false, List, [], ◌∷◌, ◌++◌, ap, length, map, refl, subst, sym}
 use Rattle.std.specs.Prelude.{is_some}
 use Rattle.ptpm_codec.specs.declared.identity.ClockIdentity.{ClockIdentity}
@@ -99,7 +99,7 @@ all_fit shown grown s t me heard r ingress held is sent =
     subst (λ (p : ℕ × ℕ). All (λ a. Fits (message_like v r.action p.0 p.1 a)) r.answers) (λ i. (is.id_is i, is.ingress_is i))
     (sent.fits v r.action is.fits (subst (λ (id : ℕ). id < 2 ^ 16) (sym is.id_is) is.fits.body))
 
--- the last answer that was sent is of a port where the id is
+-- the last answer that was sent is of a port if the id is
 pub sent_of_port : {O : Type 0} (shown : O → List (ℕ × List ℕ)) (grown : O → O → Type 0) (q : RequestValue) (s t : Sender O) (r : ReplyValue)
     → FitsRequest q r
     → HasSent shown grown s r.answers t
@@ -122,6 +122,7 @@ sent_reply shown grown q s t me heard r ingress of_port messages is fits sent po
       ingress = ingress;
       action_is = fits.action;
       id_is = fits.id;
+      port_is = own;
       count = grind arith;
       answers = grind arith;
       fits = all_fit shown grown s t me heard r ingress [] named sent;

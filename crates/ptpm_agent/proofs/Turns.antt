@@ -152,7 +152,7 @@ judged-elsewhere : (c : Clock) (s : State) (v : Message)
     → judged c s v ≡ verdicts.OtherDomain
 judged-elsewhere c s v p d = judged-foreign c s v (in_domain-copy c s v p ∙ d)
 
--- the verdict on a copy, by what the entry of its source tells: in the clock's domain or of a repeat, or elsewhere of none
+-- the verdict on a copy, by what the entry of its source says: in the clock's domain or of a repeat, or elsewhere of none
 pub judged-copy : (P : Verdict → Type 0) (c : Clock) (s : State) (v : Message) (l : Look)
     → CopyParts c (length s.sets.ports) v
     → look_at (get s.entries v.source) v.number (request_of v) ≡ l
@@ -198,7 +198,7 @@ pub is_copy-numbered : (c : Clock) (s : State) (v : Message)
     → is_copy c (length s.sets.ports) v ≡ true
 is_copy-numbered c s v d o a q n = grind arith
 
--- what holds of each verdict where it is the first that holds, holds of the verdict
+-- what holds of each verdict if it is the first that holds, holds of the verdict
 pub judged-each : (P : Verdict → Type 0) (c : Clock) (s : State) (v : Message)
     → P verdicts.OtherDomain
     → P verdicts.OwnMessage
@@ -212,7 +212,7 @@ pub judged-each : (P : Verdict → Type 0) (c : Clock) (s : State) (v : Message)
     → P (judged c s v)
 judged-each P c s v foreign own away reply request = grind (arith, judged-own, judged-request, judged-reply, judged-away, judged-foreign)
 
--- a request without a number is answered from the data sets as they stand
+-- a request without a number is answered from the data sets as they are
 pub verdict_at-unnumbered : (c : Clock) (s : State) (v : Message)
     → is_numbered c v ≡ false
     → verdict_at (look c s v) ≡ verdicts.AnsweredUnnumbered

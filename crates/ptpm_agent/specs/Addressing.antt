@@ -44,7 +44,7 @@ is_own c v = same_clock v.source.clock c.identity
 abbrev pub is_for_this_clock : Clock → Message → Bool
 is_for_this_clock c v = same_clock v.target.clock c.identity
 
--- every port, or one of a clock's so many (15.3.1)
+-- every port, or one of a clock's N (15.3.1)
 abbrev pub names_port : ℕ → ℕ → Bool
 names_port ports port = port == every_port || (nat_le 1 port && nat_le port ports)
 

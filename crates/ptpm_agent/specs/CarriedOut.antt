@@ -10,7 +10,7 @@ use Rattle.ptpm_agent.specs.declared.verdict.Verdict.{Verdict}
 use Rattle.ptpm_agent.specs.declared.verdict.Verdict.TheVariants as verdicts
 use Rattle.ptpm_agent.specs.Turn.{Clock, NumberedRequest, State, after_request, judged, numbered_from, turn}
 
--- a message's request is carried out where the verdict is AnsweredNew, and nothing is where it is another
+-- a message's request is carried out if the verdict is AnsweredNew, and nothing is if it is another
 abbrev pub carried_by : Verdict → Message → List NumberedRequest
 carried_by verdicts.AnsweredNew v = numbered_from v ∷ []
 carried_by _ v = []

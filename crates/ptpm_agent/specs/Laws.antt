@@ -23,7 +23,7 @@ abbrev pub after_each : Clock → State → List (ℕ × List ℕ) → State
 after_each c s [] = s
 after_each c s (x ∷ xs) = after_each c (turn c s x.0 x.1).next xs
 
--- what an outbox holds then: what is sent for the last of them, or what it held before where there is none
+-- what an outbox holds then: what is sent for the last of them, or what it held before if there is none
 abbrev pub last_sent : Clock → State → List (ℕ × List ℕ) → List (ℕ × List ℕ) → List (ℕ × List ℕ)
 last_sent c s before [] = before
 last_sent c s before (x ∷ xs) =
@@ -45,12 +45,12 @@ pub record IsLatest (first : PortIdentity → ℕ) (h : History) (m : PortIdenti
       ≡ Some (record { manager = m; index = greatest m h.accepted; request = e.request; reply = e.reply })
   pub number : e.number ≡ number_of (first m) (greatest m h.accepted)
 
--- no entry where nothing of the manager was accepted
+-- no entry if nothing of the manager was accepted
 abbrev pub IsKept : (PortIdentity → ℕ) → History → PortIdentity → Option Entry → Type 0
 IsKept first h m None = greatest m h.accepted ≡ 0
 IsKept first h m (Some e) = IsLatest first h m e
 
--- the clock stands where the history stands: it has its data sets, and of each manager the latest accepted request
+-- the clock is at the history: it has its data sets, and of each manager the latest accepted request
 pub record StandsAt (first : PortIdentity → ℕ) (s : State) (h : History) : Type 0 where
   pub sets : s.sets ≡ h.sets
   pub entries : (m : PortIdentity) → IsKept first h m (get s.entries m)

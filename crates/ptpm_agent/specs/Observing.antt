@@ -1,6 +1,6 @@
--- At-most-once execution at a clock whose host observes: between deliveries the data sets also move by no request, as a servo
--- or the state machine of a port tells what it found. Each accepted request is applied once all the same, to the data sets as
--- they stand then (this project's profile).
+-- At-most-once execution at a clock whose host observes: between deliveries the data sets also move by no request, when a servo
+-- or the state machine of a port reports what it found. Each accepted request is applied once all the same, to the data sets as
+-- they are then (this project's profile).
 use Rattle.std.specs.Prelude.{◌≡◌, ℕ, true, List, [], ◌∷◌, map, Option, Some, None}
 use Rattle.ptpm_codec.specs.declared.identity.PortIdentity.{PortIdentity}
 use Rattle.ptpm_data.specs.declared.observation.ClockObservation.{ClockObservation}
@@ -16,7 +16,7 @@ use Rattle.ptpm_agent.specs.Window.{IsInTime}
 pub data Happening : Type 0 where
   -- a datagram comes in at a port
   Delivered : (delivery : Delivery) → Happening
-  -- the host tells what it observes of the clock, and of its ports from 1 on; where this is refused, nothing moves
+  -- the host reports what it observes of the clock, and of its ports from 1 on; if this is refused, nothing moves
   Observed : (clock : ClockObservation) → (ports : List PortObservation) → Happening
 
 -- deliveries, and no observation
@@ -40,7 +40,7 @@ after_happenings c s (x ∷ xs) = after_happenings c (after_happening c s x) xs
 
 -- ---- what was accepted
 
--- a delivery of which there is a copy or none
+-- a delivery, with a copy or with none
 abbrev pub after_arrival : Clock → History → Option RequestCopy → History
 after_arrival c h None = h
 after_arrival c h (Some k) = after_copy c h k
@@ -49,7 +49,7 @@ after_arrival c h (Some k) = after_copy c h k
 abbrev pub moved_history : ClockObservation → List PortObservation → History → History
 moved_history o ports h = record { sets = observed o ports h.sets; accepted = h.accepted }
 
--- at a clock of so many ports
+-- at a clock of this many ports
 abbrev pub history_after : Clock → ℕ → History → Happening → History
 history_after c ports h (Delivered x) = after_arrival c h (copy_of c ports x)
 history_after c ports h (Observed o seen) = moved_history o seen h

@@ -20,7 +20,7 @@ use Rattle.ptpm_agent.specs.Addressing.{heard_of, is_for_this_clock, is_own, is_
 
 -- ---- deliveries
 
--- a datagram that comes in at a port; where it is a copy of a manager's request, with the index of that request
+-- a datagram that comes in at a port; if it is a copy of a manager's request, with the index of that request
 pub record Delivery : Type 0 where
   pub ingress : ℕ
   pub datagram : List ℕ
@@ -33,7 +33,7 @@ pub record RequestCopy : Type 0 where
   pub heard : Heard
   pub request : RequestValue
 
--- of sdoId 0, from a configured manager that is not of this clock, for exactly this clock and one of its so many ports or
+-- of sdoId 0, from a configured manager that is not of this clock, for exactly this clock and one of its N ports or
 -- all, and a GET, SET or COMMAND
 abbrev pub is_copy : Clock → ℕ → Message → Bool
 is_copy c ports v =
@@ -48,7 +48,7 @@ abbrev pub copy_by : Clock → ℕ → Delivery → Option Message → Option Re
 copy_by c ports x None = None
 copy_by c ports x (Some v) = if is_copy c ports v then Some (copy_from x v) else None
 
--- the copy that was delivered at a clock of so many ports, if it is one
+-- the copy that was delivered at a clock of this many ports, if it is one
 abbrev pub copy_of : Clock → ℕ → Delivery → Option RequestCopy
 copy_of c ports x = copy_by c ports x (message_of x.datagram)
 
@@ -73,7 +73,7 @@ pub record History : Type 0 where
 abbrev pub initial_history : DataSetsValue → History
 initial_history d = record { sets = d; accepted = [] }
 
--- the greatest accepted index of a manager, 0 where none is
+-- the greatest accepted index of a manager, 0 if none is
 abbrev pub greatest : PortIdentity → List Accepted → ℕ
 greatest m [] = 0
 greatest m (a ∷ as') =
@@ -83,7 +83,7 @@ greatest m (a ∷ as') =
 abbrev pub kept_reply : PortIdentity → ℕ → List Accepted → Option Accepted
 kept_reply m k accepted = find (λ a. same_identity m a.manager && a.index == k) accepted
 
--- a copy joins where it is in the clock's domain, and its index is above every accepted one of its manager
+-- a copy joins if it is in the clock's domain, and its index is above every accepted one of its manager
 abbrev pub joins : History → RequestCopy → Bool
 joins h x =
     x.heard.domain == h.sets.default.domain && nat_lt (greatest x.heard.source h.accepted) x.index
@@ -96,7 +96,7 @@ accepted_from c h x = record {
   reply = reply_to x.request (c.rights x.heard.source) h.sets;
 }
 
--- a request that joins is applied, also where it is refused and so changes nothing
+-- a request that joins is applied, also if it is refused and so changes nothing
 abbrev pub joined : Clock → History → RequestCopy → History
 joined c h x = record {
   sets = changed_by x.request (c.rights x.heard.source) h.sets;
@@ -117,7 +117,7 @@ abbrev pub kept_for : RequestCopy → Option Accepted → Option ReplyValue
 kept_for x None = None
 kept_for x (Some a) = if same_request a.request x.request then Some a.reply else None
 
--- The reply to the request where the copy joins. The reply kept where it is a copy of the latest accepted request of its
+-- The reply to the request if the copy joins. The reply kept if it is a copy of the latest accepted request of its
 -- manager, in whatever domain. None otherwise.
 abbrev pub due_reply : Clock → History → RequestCopy → Option ReplyValue
 due_reply c h x =

@@ -81,7 +81,7 @@ verdict_of c s datagram = verdict_by c s (reading datagram)
 
 -- ---- what each verdict does
 
--- to a new request, from the data sets as they stand before it
+-- to a new request, from the data sets as they are before it
 abbrev pub new_reply : Clock → State → Message → ReplyValue
 new_reply c s v = reply_to (request_of v) (c.rights v.source) s.sets
 
@@ -91,7 +91,7 @@ pub record NumberedRequest : Type 0 where
   pub number : ℕ
   pub request : RequestValue
 
--- what is kept of it, where it is carried out: its number, and the reply to it, also where it is refused
+-- what is kept of it, if it is carried out: its number, and the reply to it, also if it is refused
 abbrev pub entry_of : Clock → State → NumberedRequest → Entry
 entry_of c s r = record {
   number = r.number;

@@ -4,7 +4,7 @@ use Rattle.ptpm_codec.specs.ErrorText.{refusal_text}
 use Rattle.ptpm_agent.specs.declared.verdict.Verdict.{Verdict}
 use Rattle.ptpm_agent.specs.declared.verdict.Verdict.TheVariants as verdicts
 
--- behind Malformed stands the name of its cause
+-- the name of its cause comes after Malformed
 abbrev pub verdict_text : Verdict → List ℕ
 verdict_text (verdicts.Malformed cause) = codes "Malformed " ++ refusal_text cause
 verdict_text verdicts.OtherDomain = codes "OtherDomain"

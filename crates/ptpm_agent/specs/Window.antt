@@ -1,4 +1,4 @@
--- For which copies sequenceIds of 16 bits tell what the indexes tell (this project's profile).
+-- For which copies sequenceIds of 16 bits say what the indexes say (this project's profile).
 use Rattle.std.specs.Prelude.{◌≡◌, ℕ, ◌<◌, List, [], ◌∷◌}
 use Rattle.std.specs.List.{AllByRecursion}
 use Rattle.ptpm_codec.specs.declared.identity.PortIdentity.{PortIdentity}
@@ -26,7 +26,7 @@ abbrev pub KeepsWindow : Clock → History → List RequestCopy → Type 0
 KeepsWindow c h [] = Unit {0}
 KeepsWindow c h (x ∷ xs) = IsInWindow h x × KeepsWindow c (after_copy c h x) xs
 
--- a copy of which both hold: its sequenceId then tells what its index tells
+-- both hold of a copy: its sequenceId then says what its index says
 pub record IsInTime (first : PortIdentity → ℕ) (h : History) (x : RequestCopy) : Type 0 where
   pub numbered : IsNumbered first x
   pub window : IsInWindow h x

@@ -1,15 +1,16 @@
 //! One clock's management agent, over any reply table.
 
 ghost use Rattle.std.specs.Prelude.{◌≡◌, ◌≢◌, ◌≤◌, ◌++◌, ◌∷◌, [], false, ℕ, List, All, IsTrue, Ok, Some, IfOk, OnOk, OnErr, length};
+ghost use Rattle.std.specs.FinMap as fin;
 ghost use Rattle.ptpm_codec.specs.declared.identity.PortIdentity.{PortIdentity};
 ghost use Rattle.ptpm_codec.specs.Layout.{message_octets};
-ghost use Rattle.ptpm_codec.specs.Message.{IsValid};
+ghost use Rattle.ptpm_codec.specs.Message.{IsDataField, IsRequestAction, IsValid};
 ghost use Rattle.ptpm_codec.specs.Reading.{reading};
 ghost use Rattle.ptpm_codec.specs.Spelling.{Spells};
 ghost use Rattle.ptpm_data.specs.Members.{HasPort};
 ghost use Rattle.ptpm_data.specs.Observation.{left_disabled, observation_refusal};
 ghost use Rattle.ptpm_data.specs.Start.{unless};
-ghost use Rattle.ptpm_table.specs.Entries.{CanResend};
+ghost use Rattle.ptpm_table.specs.Entries.{CanResend, FitsRequest, is_known};
 ghost use Rattle.ptpm_table.specs.Managers.{IsFresh, has_twice, identities, most_managers};
 ghost use Rattle.ptpm_table.specs.Rendering.{IsSendable, rendered};
 ghost use Rattle.ptpm_agent.specs.Agent.{IsTurned, clock_of, state_of};
@@ -48,14 +49,14 @@ impl<T: ReplyTable + Drop> Agent<T> {
         Agent { sets, table }
     }
 
-    /// The data sets as they stand.
+    /// The data sets as they are.
     pub fn sets(&self) -> &DataSets
         ensures { result.now ≡ self.now.sets }
     {
         &self.sets
     }
 
-    /// The reply table as it stands.
+    /// The reply table as it is.
     pub fn table(&self) -> &T
         ensures { result.now ≡ self.now.table }
     {
@@ -64,7 +65,7 @@ impl<T: ReplyTable + Drop> Agent<T> {
 
     /// What becomes of a datagram that comes in at a port of the clock: one turn. The outbox then holds what is to be sent
     /// and nothing else: the copies that are passed on, then the replies. Memory is asked for by the table's `keep` alone,
-    /// where the verdict is `AnsweredNew`; where it is refused, nothing has changed, the outbox neither, and the datagram
+    /// if the verdict is `AnsweredNew`. If it is refused, nothing has changed, nor has the outbox, and the datagram
     /// counts as not delivered.
     pub fn try_handle(
         &mut self,
@@ -109,9 +110,9 @@ impl<T: ReplyTable + Drop> Agent<T> {
         Ok(verdict)
     }
 
-    /// Takes what the clock's host observed. The data sets move as `DataSets::observe` has them, and what is kept of each manager
+    /// Takes what the clock's host observed. The data sets change as `DataSets::observe` says. What is kept of each manager
     /// stays: so each request is carried out once all the same, and a copy of the latest gets the reply that was kept. The
-    /// answer tells the ports that are DISABLED and were left so. Takes no memory.
+    /// answer reports the ports that are DISABLED and were left so. Takes no memory.
     ///
     /// Refused with the first `ObservationError` that holds, judged on the data sets as they would be; then nothing changes.
     pub fn observe(
@@ -130,7 +131,7 @@ impl<T: ReplyTable + Drop> Agent<T> {
         self.sets.observe(clock, ports)
     }
 
-    /// The verdict on a message, and the rights of its source where it is a new request.
+    /// The verdict on a message, and the rights of its source if it is a new request.
     #[tactic(auto, unfolding(crate::specs::Turn::judged))]
     fn judge(&self, message: &View<'_>) -> (Verdict, Rights)
         ensures verdict { result.0 ≡ judged
@@ -313,7 +314,7 @@ impl<T: ReplyTable + Drop> Agent<T> {
 const _: () = prove!(size_of::<Agent<SlotTable<1>>>() == 2_592);
 
 impl<const SLOTS: usize> Agent<SlotTable<SLOTS>> {
-    /// A clock that has heard nothing yet and has no managers. It is never inlined: whoever keeps it has it made where it is
+    /// A clock that has heard nothing yet and has no managers. It is never inlined: it is made in the place where it is
     /// kept, cleared once and not moved.
     #[inline(never)]
     pub fn without_managers(sets: DataSets) -> Agent<SlotTable<SLOTS>>
@@ -342,6 +343,26 @@ impl<const SLOTS: usize> Agent<SlotTable<SLOTS>> {
 }
 
 impl<T: SureTable + Drop> Agent<T> {
+    /// Keeps a manager's request with its reply, as an image of the clock has them. The data sets stay as they are.
+    pub fn keep_again(
+        &mut self,
+        who: &PortIdentity,
+        number: u16,
+        request: &Request<'_>,
+        reply: &Reply,
+    )
+        requires known { IsTrue (is_known who.now (T.owner self.old.table).managers) }
+        requires action { IsRequestAction request.now.action }
+        requires octets { IsDataField request.now.octets }
+        requires fits { FitsRequest request.now reply.now }
+        ensures sets { self.new.sets ≡ self.old.sets }
+        ensures entries { T.entries self.new.table ≡ fin.insert (T.entries self.old.table) who.now
+            (record { number = number; request = request.now; reply = reply.now }) }
+        ensures owner { T.owner self.new.table ≡ T.owner self.old.table }
+    {
+        self.table.replace(who, number, request, reply);
+    }
+
     /// What `try_handle` does, over a table that always has room: never refused, and it takes no memory.
     pub fn handle(&mut self, ingress: u16, datagram: &[u8], out: &mut Outbox) -> Verdict
         requires port { HasPort ingress self.old.sets }
@@ -354,7 +375,7 @@ impl<T: SureTable + Drop> Agent<T> {
         self.handle_into(ingress, datagram, out)
     }
 
-    /// What `handle` does, with each message made right where it goes. Nothing was sent there before; at most fifteen messages are.
+    /// Like `handle`, but writes each message directly to `out`, which must be empty; at most fifteen.
     #[inline(always)]
     pub fn handle_into<O: Outgoing>(
         &mut self,
@@ -384,10 +405,10 @@ impl<T: SureTable + Drop> Agent<T> {
     }
 
     /// Handles the datagrams of a list in their order, each as it comes in at its port. The outbox then holds what is sent for
-    /// the last of them, and nothing else. So a running agent keeps over every list what it keeps in one call: where it stands
-    /// at a history, as it does at first, and the copies among the datagrams keep to the window, it stands at the history in
-    /// which each accepted request is applied once more, in order of first acceptance; and the last datagram, where it is a
-    /// copy, is sent the reply that is due to it.
+    /// the last of them, and nothing else. So a running agent keeps over every list what it keeps in one call. Let it be
+    /// at a history, as it is at first, and let the copies among the datagrams keep to the window. Then it is at the history
+    /// in which each accepted request is applied once more, in order of first acceptance. The last datagram, if it is a copy,
+    /// is sent the reply that is due to it.
     pub fn handle_each(&mut self, datagrams: &[(u16, Octets)], out: &mut Outbox)
         requires ports { All (λ x. HasPort x.0 self.old.sets) datagrams.now }
         ensures turned { state_of T.entries self.new ≡ after_each

@@ -18,9 +18,9 @@ ghost use Rattle.ptpm_agent.specs.Observing.{AreOfOneRequest, ComeInTime, Delive
 ghost use Rattle.ptpm_agent.specs.CarriedOut.{AreOfOthers, after_requests, carried_in, carried_in_turns};
 ghost use Rattle.ptpm_agent.specs.Laws.{AreOfManagers, StandsAt, after_each, due_messages, initial_clock_state, turns};
 
-/// At-most-once execution. Whatever list of datagrams comes in at a fresh clock, where each copy of a manager's request among
-/// them has the sequenceId that its index gives, and its index is at most 32,768 behind and at most 32,767 ahead of the greatest
-/// accepted one of that manager as it comes:
+/// At-most-once execution. Let any list of datagrams come in at a fresh clock. Let each copy of a manager's request among
+/// them have the sequenceId that its index gives. Let its index, as it comes, be at most 32,768 less and at most 32,767 more
+/// than the greatest accepted one of that manager. Then:
 /// - the data sets are those after the accepted requests, each applied once, in order of first acceptance;
 /// - each copy is sent the reply that is due to it, and nothing else is sent for it;
 /// - a copy of a request that is not newly accepted changes neither data sets nor entries.
@@ -48,16 +48,16 @@ pub fn at_most_once()
         turns c (initial_clock_state d) (xs ++ x ∷ []) ≡ turns c (initial_clock_state d) xs }
 {}
 
-/// At-most-once execution at a clock whose host observes. Whatever list of deliveries and observations there is at a fresh
-/// clock, where each copy of a manager's request among them comes in time, as in `at_most_once`:
+/// At-most-once execution at a clock whose host observes. Let there be any list of deliveries and observations at a fresh
+/// clock. Let each copy of a manager's request among them come in time, as in `at_most_once`. Then:
 /// - the data sets are those after the accepted requests, each applied once, in order of first acceptance, to the data sets as
-///   they stood then, with each observation in its place among them;
+///   they were then, with each observation in its place among them;
 /// - each copy is sent the reply that is due to it, and nothing else is sent for it;
 /// - a copy of a request that is not newly accepted changes neither data sets nor entries.
 ///
-/// A copy of the latest accepted request of its manager is due the one reply that was made from the data sets as they stood when
-/// the request was accepted, whatever has happened since: the reply to a GET tells what was true then. A list of deliveries
-/// without observations is the case of which `at_most_once` speaks.
+/// A copy of the latest accepted request of its manager is due the one reply that was made from the data sets as they were when
+/// the request was accepted, whatever has happened since. For example, the reply to a GET shows what was true then. A list
+/// of deliveries without observations is the case of `at_most_once`.
 pub fn at_most_once_observed()
     ensures sets { (c : Clock) (first : PortIdentity → ℕ) (d : DataSetsValue)
         (xs : List Happening) →
@@ -97,7 +97,7 @@ pub fn at_most_once_observed()
         ComeInTime first c ports h (deliveries_alone xs) }
 {}
 
-/// One delivery at a clock that stands at a history: a copy in time takes it to where the history goes, and is sent what
+/// One delivery at a clock that is at a history: a copy in time takes it to where the history goes, and is sent what
 /// is due. A datagram that is no copy of a manager's request changes neither data sets nor entries, whatever came before.
 /// Nothing is said of a copy that is not in time.
 pub fn one_delivery()
@@ -145,7 +145,7 @@ pub fn only_managers()
         AreOfManagers c (turn c s ingress datagram).next.entries }
 {}
 
-/// A request that is refused, for whatever reason and whoever sent it, leaves the data sets as they were: where the reply to
+/// A request that is refused, for whatever reason and whoever sent it, leaves the data sets as they were: if the reply to
 /// a datagram has an error, they stay.
 pub fn refused_changes_no_data()
     ensures { (c : Clock) (s : State) (ingress : ℕ) (datagram : List ℕ) (v : Message)
@@ -156,7 +156,7 @@ pub fn refused_changes_no_data()
 {}
 
 /// Whatever comes in at a clock, in time or late, its data sets and what it keeps are those that it had, after the requests of its
-/// turns that were `AnsweredNew`, each as the clock stood in its turn, in their order; and nothing else changes them. So a
+/// turns that were `AnsweredNew`, each as the clock was in its turn, in their order; and nothing else changes them. So a
 /// stranger's request, a repeat and what is passed on leave them. And what is kept of a manager is the latest of its requests
 /// among these, with the reply that was made of it then.
 pub fn requests_of_turns()

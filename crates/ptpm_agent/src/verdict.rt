@@ -25,11 +25,11 @@ pub enum Verdict {
     DroppedOld,
     /// The number of the latest accepted request with another request.
     DroppedConflict,
-    /// Any other request: answered from the data sets as they stand, and never carried out.
+    /// Any other request: answered from the data sets as they are, and never carried out.
     AnsweredUnnumbered,
 }
 
-/// The name, as `AnsweredNew`; behind `Malformed` the name of its cause.
+/// The name, such as `AnsweredNew`; after `Malformed` the name of its cause.
 impl fmt::Display for Verdict {
     ghost use Rattle.std.specs.Prelude.{Some};
     ghost use Rattle.ptpm_agent.specs.VerdictText.{verdict_text};

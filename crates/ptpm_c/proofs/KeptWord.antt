@@ -74,7 +74,7 @@ kept_word p = vstruct (vcons (ptr_val p) vnil)
 pub kept_good : (p : Ptr) → Good (layout Kept) (kept_word p)
 kept_good p = let of_pointer : Good ty_ptr (ptr_val p) = Ptr-Good p in (and_tt (has_ty ty_ptr (ptr_val p)) of_pointer.0, (of_pointer.1, tt))
 
--- ---- what is kept where something is known to be
+-- ---- what is kept if something is known to be
 pub record Holding (kept : Option Inner.Denot) : Type 0 where
   pub inner : Inner.Denot
   pub is_it : kept ≡ Some inner

@@ -3,9 +3,11 @@
 use Rattle.std.proofs.Common.{◌≡◌, ◌≢◌, ℕ, Option, None, Some, ap, ◌∙◌}
 use Rattle.ptpm_manager.specs.declared.error.BeginError.{BeginError}
 use Rattle.ptpm_manager.specs.declared.error.BeginError.TheVariants as begins
+use Rattle.ptpm_manager.specs.declared.error.RestoreError.{RestoreError}
+use Rattle.ptpm_manager.specs.declared.error.RestoreError.TheVariants as restores
 use Rattle.ptpm_host.specs.declared.refusal.StartRefusal.{StartRefusal}
 use Rattle.ptpm_host.specs.declared.refusal.StartRefusal.TheVariants as starts
-use Rattle.ptpm_host.specs.Numbers.{begin_number, no_memory, start_number}
+use Rattle.ptpm_host.specs.Numbers.{begin_number, no_memory, restore_number, start_number}
 
 one_reason : {E : Type 0} (first : Option E) (r e : E)
     → first ≡ Some r
@@ -31,6 +33,7 @@ pub memory_of_start_refusal : (first : Option StartRefusal) (r : StartRefusal) (
     → first ≡ None → number ≡ no_memory
 memory_of_start_refusal first (starts.Values fault) number told numbered none = no_reason first _ (told (λ memory. cc)) none
 memory_of_start_refusal first (starts.Managers fault) number told numbered none = no_reason first _ (told (λ memory. cc)) none
+memory_of_start_refusal first starts.IdentityIsZero number told numbered none = no_reason first _ (told (λ memory. cc)) none
 memory_of_start_refusal first starts.OutOfMemory number told numbered none = numbered
 
 pub memory_of_refusal : (first : Option BeginError) (r : BeginError) (number : ℕ)
@@ -39,3 +42,10 @@ pub memory_of_refusal : (first : Option BeginError) (r : BeginError) (number : �
     → first ≡ None → number ≡ no_memory
 memory_of_refusal first begins.OutOfMemory number told numbered none = numbered
 memory_of_refusal first r number told numbered none = no_reason first _ (told (λ memory. cc)) none
+
+pub memory_of_restore : (first : Option RestoreError) (r : RestoreError) (number : ℕ)
+    → (r ≢ restores.OutOfMemory → first ≡ Some r)
+    → number ≡ restore_number r
+    → first ≡ None → number ≡ no_memory
+memory_of_restore first restores.OutOfMemory number told numbered none = numbered
+memory_of_restore first r number told numbered none = no_reason first _ (told (λ memory. cc)) none

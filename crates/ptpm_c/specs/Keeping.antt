@@ -1,4 +1,4 @@
--- What a pointer that a host keeps owns: what a box of what is kept there owns, or nothing where nothing is kept.
+-- What a pointer that a host keeps owns: what a box of what is kept there owns, or nothing if nothing is kept.
 use mir.Syntax.{Ty}
 use base.Fml.{Fml, ftrue}
 use base.Stored.{Coded}

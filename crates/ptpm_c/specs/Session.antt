@@ -13,10 +13,10 @@ use Rattle.ptpm_host.specs.Session.{report_after}
 abbrev pub IsAt : HostedSession → SessionValue → Option Report → Type 0
 IsAt t value report = (t.session ≡ value) × (t.report ≡ report)
 
--- the session behind it with the request that is made of an ask
+-- the session that it holds, with the request that is made of an ask
 abbrev pub HasBegun : HostedSession → Ask → HostedSession → Type 0
 HasBegun s ask t = IsAt t (begun s.session (request_of ask)) None
 
--- the session behind it after a datagram
+-- the session that it holds, after a datagram
 abbrev pub HasHeard : HostedSession → Received → HostedSession → Type 0
 HasHeard s received t = IsAt t (left_by s.session received) (report_after s.report received)

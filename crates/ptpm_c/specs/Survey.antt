@@ -8,6 +8,6 @@ use Rattle.ptpm_host.specs.declared.survey.HostedSurvey.{HostedSurvey}
 abbrev pub IsAt : HostedSurvey → Enquiry → List Answer → Type 0
 IsAt t enquiry answers = (t.survey.enquiry ≡ enquiry) × (t.survey.answers ≡ answers)
 
--- the survey behind it after a datagram
+-- the survey that it holds, after a datagram
 abbrev pub HasSurveyed : HostedSurvey → List ℕ → HostedSurvey → Type 0
 HasSurveyed s datagram t = IsAt t s.survey.enquiry (kept_by s.survey.answers (heard s.survey.enquiry datagram))

@@ -9,7 +9,7 @@ use Rattle.ptpm_host.specs.Numbers.{verdict_number}
 abbrev pub turn_of : HostedClock → ℕ → List ℕ → Turned
 turn_of c port datagram = turn (clock_in c) (state_in c) port datagram
 
--- the number of its verdict is answered, these messages are written into its host's places, and the clock stands where it leads
+-- the number of its verdict is answered, these messages are written into its host's places, and the clock is where it leads
 pub record IsTurnedTo (c : HostedClock) (port : ℕ) (datagram : List ℕ) (number : ℕ) (messages : List (ℕ × List ℕ)) (d : HostedClock) : Type 0 where
   pub number_is : number ≡ verdict_number (turn_of c port datagram).verdict
   pub messages_are : messages ≡ outbox_of (turn_of c port datagram)

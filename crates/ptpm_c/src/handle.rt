@@ -1,10 +1,9 @@
 //! What a host in C keeps of a clock, a session or a survey.
 
-ghost use Rattle.std.specs.Prelude.{◌≡◌, IfNone, IfSome, None, OnSome, Some, is_some};
+ghost use Rattle.std.specs.Prelude.{◌≡◌, IfNone, IfSome, MatchOption, None, OnSome, Some, is_some};
 ghost use Rattle.ptpm_data.specs.Changed.{changed};
 ghost use Rattle.ptpm_host.specs.declared.clock.HostedClock.{HostedClock};
 ghost use Rattle.ptpm_c.specs.declared.kept.Hosted.TheVariants.{Clock, Nothing, Session, Survey};
-ghost use Rattle.ptpm_c.specs.Held.{clock_held, held, session_held, survey_held};
 
 use crate::keeping::Keeping;
 use crate::kept::{Hosted, Kept};
@@ -13,7 +12,7 @@ use ptpm_host::{HostedClock, HostedSession, HostedSurvey};
 use std::alloc::Global;
 use std::mem;
 
-/// `struct ptpm_clock { void *at; bool live; }`, and the same of a session and a survey: where it is all zeros it holds nothing.
+/// `struct ptpm_clock { void *at; bool live; }`, and the same of a session and a survey: if it is all zeros it holds nothing.
 #[repr(C)]
 #[derive(Drop)]
 pub struct Handle {
@@ -23,6 +22,10 @@ pub struct Handle {
 }
 
 impl Handle {
+    ghost use Rattle.std.specs.Borrow.{sem};
+    ghost use Rattle.ptpm_c.specs.Held.{clock_held, held, session_held, survey_held};
+    ghost use Rattle.ptpm_c.specs.LendingHandle.{LendsHeld};
+
     /// Holds nothing.
     pub fn empty() -> Handle
         ensures { held result.keeping ≡ Nothing }
@@ -61,7 +64,7 @@ impl Handle {
         }
     }
 
-    /// The members that have another value in the clock that it holds than in these data sets; none where it holds no clock.
+    /// The members that have another value in the clock that it holds than in these data sets; none if it holds no clock.
     pub fn changed_since(&mut self, alloc: Global, before: &DataSets) -> ChangedMembers
         ensures changed { (c : HostedClock)
             → clock_held self.old.keeping ≡ Some c
@@ -108,6 +111,18 @@ impl Handle {
                 None
             }
         }
+    }
+
+    /// What it holds, where it lies. Whoever only reads it writes nothing to the handle.
+    pub fn kept(&mut self) -> Option<&mut Kept>
+        ensures* writes_back { sem 𝓛 (LendsHeld self.entry result) }
+        ensures value { MatchOption result (held self.old.keeping ≡ Nothing)
+            (λ kept. kept.now.hosted.value ≡ held self.old.keeping) }
+    {
+        if !self.live {
+            return None;
+        }
+        Some(self.keeping.as_kept())
     }
 
     /// Ends what it holds.

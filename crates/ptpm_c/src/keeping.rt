@@ -1,4 +1,4 @@
-//! A box behind a pointer that a host keeps. All that is unsafe stands here.
+//! A box behind a pointer that a host keeps. All that is unsafe is here.
 
 ghost use Rattle.std.specs.Prelude.{◌≡◌, IsTrue, Option, None, Some, is_some};
 ghost use Rattle.ptpm_c.specs.declared.kept.Kept.{Kept};
@@ -21,6 +21,9 @@ impl Model for Keeping {
 }
 
 impl Keeping {
+    ghost use Rattle.std.specs.Borrow.{sem};
+    ghost use Rattle.ptpm_c.specs.Lending.{LendsKept};
+
     /// No box.
     pub fn nothing() -> Keeping
         ensures { result.kept ≡ None }
@@ -36,6 +39,16 @@ impl Keeping {
     {
         let at = Box::into_raw(kept);
         Keeping { at: at as *mut u8 }
+    }
+
+    /// What lies in the box, where it lies.
+    pub fn as_kept(&mut self) -> &mut Kept
+        requires { IsTrue (is_some self.old.kept) }
+        ensures* writes_back { sem 𝓛 (LendsKept self.entry result) }
+        ensures value { Some result.now ≡ self.old.kept }
+    {
+        let at = self.at as *mut Kept;
+        unsafe { &mut *at }
     }
 
     /// The box again.

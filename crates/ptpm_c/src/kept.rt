@@ -1,6 +1,7 @@
 //! What a handle's block holds.
 
 ghost use Rattle.std.specs.Prelude.{◌≡◌};
+ghost use Rattle.std.specs.Option.{option_copied};
 
 use ptpm_host::{HostedClock, HostedSession, HostedSurvey};
 use std::mem::ManuallyDrop;
@@ -22,12 +23,44 @@ pub struct Kept {
 }
 
 impl Kept {
+    ghost use Rattle.ptpm_c.specs.Held.{clock_of, session_of, survey_of};
+
     /// Keeps this.
     pub fn of(hosted: Hosted) -> Kept
         ensures { result.hosted.value ≡ hosted }
     {
         Kept {
             hosted: ManuallyDrop::new(hosted),
+        }
+    }
+
+    /// The clock that is kept.
+    pub fn clock(&self) -> Option<&HostedClock>
+        ensures { option_copied result ≡ clock_of self.now.hosted.value }
+    {
+        match &*self.hosted {
+            Hosted::Clock(clock) => Some(clock.as_ref()),
+            _ => None,
+        }
+    }
+
+    /// The session that is kept.
+    pub fn session(&self) -> Option<&HostedSession>
+        ensures { option_copied result ≡ session_of self.now.hosted.value }
+    {
+        match &*self.hosted {
+            Hosted::Session(session) => Some(session.as_ref()),
+            _ => None,
+        }
+    }
+
+    /// The survey that is kept.
+    pub fn survey(&self) -> Option<&HostedSurvey>
+        ensures { option_copied result ≡ survey_of self.now.hosted.value }
+    {
+        match &*self.hosted {
+            Hosted::Survey(survey) => Some(survey.as_ref()),
+            _ => None,
         }
     }
 

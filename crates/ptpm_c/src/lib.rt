@@ -23,10 +23,13 @@ ghost use Rattle.ptpm_c.specs.declared.kept.Hosted.TheVariants.{Nothing};
 ghost use Rattle.ptpm_c.specs.Held.{clock_held, held};
 ghost use Rattle.ptpm_c.specs.Turned.{IsTurnedTo};
 
+mod agreement;
 mod handle;
 mod keeping;
 mod kept;
 mod names;
+mod network;
+mod saving;
 mod session;
 mod survey;
 
@@ -95,7 +98,7 @@ pub extern "C" fn ptpm_clock_start(
 }
 
 /// What becomes of a datagram that comes in at a port: the number of the verdict, or of the refusal. The first `count`
-/// places of `sent` get what the clock sends; the places behind them stay as they are, and so does what stands behind each
+/// places of `sent` get what the clock sends; the places after them stay as they are, and so does what follows each
 /// message. Takes no memory.
 #[tactic(auto, using(crate::proofs::Turns::turned_to, ptpm_host::specs::PlacesLaws::kept_by_none))]
 #[unsafe(no_mangle)]
@@ -142,7 +145,7 @@ pub extern "C" fn ptpm_clock_handle(
     number
 }
 
-/// What `ptpm_clock_handle` does, and leaves in `members` those that have another value behind it than before: none but where
+/// What `ptpm_clock_handle` does, and leaves in `members` those that have another value after it than before: none unless
 /// the number is that of AnsweredNew. Takes no memory.
 #[tactic(auto, using(crate::proofs::Turns::turned_still, crate::proofs::Turns::changed_to, crate::proofs::Turns::none_to, ptpm_host::specs::PlacesLaws::kept_by_none))]
 #[unsafe(no_mangle)]
@@ -239,10 +242,9 @@ pub extern "C" fn ptpm_clock_observe(
 }
 
 /// Leaves what a GET of this id is answered at the head of `octets`, `size` octets: 0, or the number of the refusal. What
-/// stands behind them stays. The port matters for an id of a port alone. Takes no memory.
+/// follows them stays. The port matters for an id of a port alone. Takes no memory.
 #[unsafe(no_mangle)]
 pub extern "C" fn ptpm_clock_read(
-    alloc: Global,
     handle: &mut Handle,
     id: u16,
     port: u16,
@@ -262,18 +264,19 @@ pub extern "C" fn ptpm_clock_read(
     ensures empty { clock_held handle.old.keeping ≡ None → (result ≡ no_clock) × (size.new ≡ 0) }
 {
     *size = 0;
-    let Some((kept, clock)) = handle.take_clock(alloc) else {
+    let Some(kept) = handle.kept() else {
         return NO_CLOCK;
     };
-    let number = match clock.read(id, port, octets) {
+    let Some(clock) = kept.clock() else {
+        return NO_CLOCK;
+    };
+    match clock.read(id, port, octets) {
         Ok(count) => {
             *size = count;
             0
         }
         Err(refusal) => read_number(refusal),
-    };
-    *handle = Handle::of(kept, Hosted::Clock(clock));
-    number
+    }
 }
 
 /// Ends the clock that a handle holds, if it holds one.

@@ -60,7 +60,7 @@ pub extern "C" fn ptpm_session_start(
     0
 }
 
-/// Begins a request: 0. Where it is refused, by the number of the refusal, nothing changes. Memory is asked for where nothing
+/// Begins a request: 0. If it is refused, by the number of the refusal, nothing changes. Memory is asked for if nothing
 /// else refuses it.
 #[tactic(auto, using(crate::proofs::Numbers::memory_of_refusal))]
 #[unsafe(no_mangle)]
@@ -108,7 +108,7 @@ pub extern "C" fn ptpm_session_begin(
     number
 }
 
-/// Leaves the unanswered request at the head of `octets`, `size` octets: 0, or the number of the refusal. What stands behind
+/// Leaves the unanswered request at the head of `octets`, `size` octets: 0, or the number of the refusal. What follows
 /// them stays. Takes no memory.
 #[unsafe(no_mangle)]
 pub extern "C" fn ptpm_session_send(
@@ -228,28 +228,28 @@ pub extern "C" fn ptpm_session_receive(alloc: Global, handle: &mut Handle, datag
     number
 }
 
-/// How many requests were begun; 0 where the handle holds no session. Takes no memory.
+/// How many requests were begun; 0 if the handle holds no session. Takes no memory.
 #[unsafe(no_mangle)]
-pub extern "C" fn ptpm_session_issued(alloc: Global, handle: &mut Handle) -> u64
+pub extern "C" fn ptpm_session_issued(handle: &mut Handle) -> u64
     ensures kept { held handle.new.keeping ≡ held handle.old.keeping }
     ensures issued { (s : HostedSession)
         → session_held handle.old.keeping ≡ Some s
         → result ≡ s.session.issued }
     ensures empty { session_held handle.old.keeping ≡ None → result ≡ 0 }
 {
-    let Some((kept, session)) = handle.take_session(alloc) else {
+    let Some(kept) = handle.kept() else {
         return 0;
     };
-    let issued = session.issued();
-    *handle = Handle::of(kept, Hosted::Session(session));
-    issued
+    let Some(session) = kept.session() else {
+        return 0;
+    };
+    session.issued()
 }
 
-/// What the answer to the latest request tells, as a number; a dataField is left at the head of `octets`, `size` octets, and
-/// a managementErrorId in `error`. Where none is told, they are 0. What stands behind a dataField stays. Takes no memory.
+/// What the answer to the latest request says, as a number; a dataField is left at the head of `octets`, `size` octets, and
+/// a managementErrorId in `error`. If there is none, they are 0. What follows a dataField stays. Takes no memory.
 #[unsafe(no_mangle)]
 pub extern "C" fn ptpm_session_report(
-    alloc: Global,
     handle: &mut Handle,
     octets: &mut [u8],
     size: &mut usize,
@@ -278,19 +278,20 @@ pub extern "C" fn ptpm_session_report(
 {
     *size = 0;
     *error = 0;
-    let Some((kept, session)) = handle.take_session(alloc) else {
+    let Some(kept) = handle.kept() else {
         return NO_SESSION;
     };
-    let number = match session.report(octets) {
+    let Some(session) = kept.session() else {
+        return NO_SESSION;
+    };
+    match session.report(octets) {
         Ok(told) => {
             *size = told.size();
             *error = told.error();
             told_number(told)
         }
         Err(refusal) => report_number(refusal),
-    };
-    *handle = Handle::of(kept, Hosted::Session(session));
-    number
+    }
 }
 
 /// Ends the session that a handle holds, if it holds one.

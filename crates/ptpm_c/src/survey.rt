@@ -58,15 +58,10 @@ pub extern "C" fn ptpm_survey_start(
     0
 }
 
-/// Leaves the GET at the head of `octets`, `size` octets: 0, or the number of the refusal. What stands behind them stays. Takes
+/// Leaves the GET at the head of `octets`, `size` octets: 0, or the number of the refusal. What follows them stays. Takes
 /// no memory.
 #[unsafe(no_mangle)]
-pub extern "C" fn ptpm_survey_send(
-    alloc: Global,
-    handle: &mut Handle,
-    octets: &mut [u8],
-    size: &mut usize,
-) -> u32
+pub extern "C" fn ptpm_survey_send(handle: &mut Handle, octets: &mut [u8], size: &mut usize) -> u32
     ensures kept { held handle.new.keeping ≡ held handle.old.keeping }
     ensures sent { (s : HostedSurvey)
         → survey_held handle.old.keeping ≡ Some s
@@ -81,18 +76,19 @@ pub extern "C" fn ptpm_survey_send(
     ensures empty { survey_held handle.old.keeping ≡ None → (result ≡ no_survey) × (size.new ≡ 0) }
 {
     *size = 0;
-    let Some((kept, survey)) = handle.take_survey(alloc) else {
+    let Some(kept) = handle.kept() else {
         return NO_SURVEY;
     };
-    let number = match survey.send(octets) {
+    let Some(survey) = kept.survey() else {
+        return NO_SURVEY;
+    };
+    match survey.send(octets) {
         Ok(count) => {
             *size = count;
             0
         }
         Err(refusal) => send_number(refusal),
-    };
-    *handle = Handle::of(kept, Hosted::Survey(survey));
-    number
+    }
 }
 
 /// What the survey makes of a datagram, as a number. Where memory is refused, nothing changes.
@@ -135,29 +131,29 @@ pub extern "C" fn ptpm_survey_receive(alloc: Global, handle: &mut Handle, datagr
     number
 }
 
-/// How many answers are kept; 0 where the handle holds no survey. Takes no memory.
+/// How many answers are kept; 0 if the handle holds no survey. Takes no memory.
 #[unsafe(no_mangle)]
-pub extern "C" fn ptpm_survey_count(alloc: Global, handle: &mut Handle) -> usize
+pub extern "C" fn ptpm_survey_count(handle: &mut Handle) -> usize
     ensures kept { held handle.new.keeping ≡ held handle.old.keeping }
     ensures count { (s : HostedSurvey)
         → survey_held handle.old.keeping ≡ Some s
         → result ≡ length s.survey.answers }
     ensures empty { survey_held handle.old.keeping ≡ None → result ≡ 0 }
 {
-    let Some((kept, survey)) = handle.take_survey(alloc) else {
+    let Some(kept) = handle.kept() else {
         return 0;
     };
-    let count = survey.count();
-    *handle = Handle::of(kept, Hosted::Survey(survey));
-    count
+    let Some(survey) = kept.survey() else {
+        return 0;
+    };
+    survey.count()
 }
 
-/// What the answer at a place tells, as a number, counted from 0, and who gave it; a dataField is left at the head of
-/// `octets`, `size` octets, and a managementErrorId in `error`. Where none is told, they are 0. What stands behind a dataField
+/// What the answer at a place says, as a number, counted from 0, and who gave it; a dataField is left at the head of
+/// `octets`, `size` octets, and a managementErrorId in `error`. If there is none, they are 0. What follows a dataField
 /// stays. Takes no memory.
 #[unsafe(no_mangle)]
 pub extern "C" fn ptpm_survey_answer(
-    alloc: Global,
     handle: &mut Handle,
     place: usize,
     source: &mut Source,
@@ -189,10 +185,13 @@ pub extern "C" fn ptpm_survey_answer(
 {
     *size = 0;
     *error = 0;
-    let Some((kept, survey)) = handle.take_survey(alloc) else {
+    let Some(kept) = handle.kept() else {
         return NO_SURVEY;
     };
-    let number = match survey.answer(place, octets) {
+    let Some(survey) = kept.survey() else {
+        return NO_SURVEY;
+    };
+    match survey.answer(place, octets) {
         Ok(answer) => {
             *source = answer.source;
             *size = answer.told.size();
@@ -200,9 +199,7 @@ pub extern "C" fn ptpm_survey_answer(
             told_number(answer.told)
         }
         Err(refusal) => report_number(refusal),
-    };
-    *handle = Handle::of(kept, Hosted::Survey(survey));
-    number
+    }
 }
 
 /// Ends what a handle holds, if it holds anything.

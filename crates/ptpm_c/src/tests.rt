@@ -1,7 +1,9 @@
 //! The calls of a host in C, one after another.
 
+use crate::agreement::*;
 use crate::handle::Handle;
 use crate::names::*;
+use crate::saving::*;
 use crate::session::*;
 use crate::survey::*;
 use crate::*;
@@ -59,7 +61,7 @@ const LONGEST_HEAD: &[u8; 54] = b"\x0d\x12\x05\xc0\x00\x00\
     \xaa\xbb\xcc\xff\xfe\xdd\xee\x02\xff\xff\x02\x01\x01\x00\
     \x00\x01\x05\x8c\x00\x02";
 
-/// The size of a message that fills its place counts no octet behind the place.
+/// The size of a message that fills its place counts no octet past the place.
 #[test]
 fn the_longest_message_passed_on(rt: HostRuntime) {
     let alloc = rt.alloc();
@@ -94,7 +96,7 @@ const GET_CURRENT: &[u8; 54] = b"\x0d\x12\x00\x36\x00\x00\
 const CURRENT: &[u8; 18] = b"\x00\x01\xff\xff\xff\xff\xff\xfe\x80\x00\
     \x00\x00\x00\x00\x00\xfa\x00\x00";
 
-/// An empty handle, what a GET reads behind an observation, a port that a manager disabled, and refusals, which change nothing.
+/// An empty handle, what a GET reads after an observation, a port that a manager disabled, and refusals, which change nothing.
 #[test]
 fn a_clock_that_is_observed(rt: HostRuntime) {
     let alloc = rt.alloc();
@@ -155,7 +157,7 @@ fn a_clock_that_is_observed(rt: HostRuntime) {
     let message = &sent[0];
     assert!(rt; count == 1 && message.size == 72);
     assert!(rt; &message.octets[54..72] == CURRENT.as_slice());
-    assert!(rt; ptpm_clock_read(alloc, &mut handle, 0x2004, 2, &mut octets, &mut count) == 0);
+    assert!(rt; ptpm_clock_read(&mut handle, 0x2004, 2, &mut octets, &mut count) == 0);
     assert!(rt; octets[10] == 3);
     ptpm_clock_stop(alloc, &mut handle);
 }
@@ -195,14 +197,63 @@ fn a_session_from_start_to_stop(rt: HostRuntime) {
     assert!(rt; answer == 10);
     let answer = ptpm_session_receive(rt.alloc(), &mut handle, REPLY);
     assert!(rt; answer == 0);
-    let answer = ptpm_session_report(rt.alloc(), &mut handle, &mut octets, &mut size, &mut error);
+    let answer = ptpm_session_report(&mut handle, &mut octets, &mut size, &mut error);
     assert!(rt; answer == 0 && size == 2 && error == 0);
     assert!(rt; octets.starts_with([0x80, 0].as_slice()));
-    let issued = ptpm_session_issued(rt.alloc(), &mut handle);
+    let issued = ptpm_session_issued(&mut handle);
     assert!(rt; issued == 1);
     ptpm_session_stop(rt.alloc(), &mut handle);
     let answer = ptpm_session_receive(rt.alloc(), &mut handle, REPLY);
     assert!(rt; answer == 37);
+}
+
+/// The image of a session whose GET of PRIORITY1, its first request, is not answered. A second program made it.
+const WAITING: &[u8; 60] = b"ptpm\x02\x01\x00\x00\x00\x00\x00\x30\
+    \x00\x11\x22\x33\x44\x55\x66\x77\x00\x01\xaa\xbb\xcc\xff\xfe\xdd\xee\x01\
+    \x02\x00\x07\x01\x02\x00\x00\x00\x00\x00\x00\x00\x00\x01\x00\x00\x00\x00\
+    \x00\x00\x00\x00\x01\x00\x20\x05\xff\xff\x00\x00";
+
+/// A session is saved before it sends. After a restart it sends the same request, and takes the answer to it.
+#[test]
+fn a_session_from_its_image(rt: HostRuntime) {
+    let alloc = rt.alloc();
+    let settings = SessionSettings {
+        port: 1,
+        target_ports: 2,
+        first: 7,
+        clock: [0x00, 0x11, 0x22, 0x33, 0x44, 0x55, 0x66, 0x77],
+        target: [0xaa, 0xbb, 0xcc, 0xff, 0xfe, 0xdd, 0xee, 0x01],
+        domain: 0,
+        hops: 1,
+        attempts: 2,
+    };
+    let other = SessionSettings {
+        first: 8,
+        ..settings
+    };
+    let mut handle = Handle::empty();
+    let mut octets = [0; 1478];
+    let mut size = 1;
+    let answer = ptpm_session_image(&mut handle, &mut octets, &mut size);
+    assert!(rt; answer == 37 && size == 0);
+    assert!(rt; ptpm_session_start(alloc, &mut handle, &settings) == 0);
+    assert!(rt; ptpm_session_begin(alloc, &mut handle, 0, 0x2005, 0, &[]) == 0);
+    let answer = ptpm_session_image(&mut handle, &mut octets[..59], &mut size);
+    assert!(rt; answer == 34 && size == 0 && octets[0] == 0);
+    let answer = ptpm_session_image(&mut handle, &mut octets, &mut size);
+    assert!(rt; answer == 0 && size == 60);
+    assert!(rt; octets.starts_with(WAITING.as_slice()));
+    ptpm_session_stop(alloc, &mut handle);
+    assert!(rt; ptpm_session_restore(alloc, &mut handle, &settings, &WAITING[..11]) == 104);
+    assert!(rt; ptpm_session_restore(alloc, &mut handle, &settings, &WAITING[..59]) == 107);
+    assert!(rt; ptpm_session_restore(alloc, &mut handle, &other, WAITING) == 110);
+    assert!(rt; ptpm_session_send(alloc, &mut handle, &mut octets, &mut size) == 37);
+    assert!(rt; ptpm_session_restore(alloc, &mut handle, &settings, WAITING) == 0);
+    assert!(rt; ptpm_session_restore(alloc, &mut handle, &other, WAITING) == 110);
+    assert!(rt; ptpm_session_send(alloc, &mut handle, &mut octets, &mut size) == 0);
+    assert!(rt; size == 54 && octets.starts_with(REQUEST.as_slice()));
+    assert!(rt; ptpm_session_receive(alloc, &mut handle, REPLY) == 0);
+    ptpm_session_stop(alloc, &mut handle);
 }
 
 /// GET PRIORITY1, number 7, of the manager to every clock, at every port.
@@ -234,14 +285,13 @@ fn a_survey_from_start_to_stop(rt: HostRuntime) {
     assert!(rt; ptpm_survey_receive(alloc, &mut handle, REPLY) == 46);
     assert!(rt; ptpm_survey_start(alloc, &mut handle, &settings) == 0);
     assert!(rt; ptpm_session_begin(alloc, &mut handle, 0, 0x2005, 0, &[]) == 37);
-    assert!(rt; ptpm_survey_send(alloc, &mut handle, &mut octets, &mut size) == 0);
+    assert!(rt; ptpm_survey_send(&mut handle, &mut octets, &mut size) == 0);
     assert!(rt; size == 54 && octets.starts_with(ENQUIRY.as_slice()));
     assert!(rt; ptpm_survey_receive(alloc, &mut handle, REQUEST) == 10);
     assert!(rt; ptpm_survey_receive(alloc, &mut handle, REPLY) == 0);
     assert!(rt; ptpm_survey_receive(alloc, &mut handle, REPLY) == 27);
-    assert!(rt; ptpm_survey_count(alloc, &mut handle) == 1);
+    assert!(rt; ptpm_survey_count(&mut handle) == 1);
     let answer = ptpm_survey_answer(
-        alloc,
         &mut handle,
         0,
         &mut source,
@@ -254,7 +304,6 @@ fn a_survey_from_start_to_stop(rt: HostRuntime) {
     assert!(rt; source.clock == [0xaa, 0xbb, 0xcc, 0xff, 0xfe, 0xdd, 0xee, 0x01]);
     assert!(rt; source.port == 1);
     let answer = ptpm_survey_answer(
-        alloc,
         &mut handle,
         1,
         &mut source,
@@ -264,7 +313,7 @@ fn a_survey_from_start_to_stop(rt: HostRuntime) {
     );
     assert!(rt; answer == 45 && size == 0);
     ptpm_survey_stop(alloc, &mut handle);
-    assert!(rt; ptpm_survey_count(alloc, &mut handle) == 0);
+    assert!(rt; ptpm_survey_count(&mut handle) == 0);
 }
 
 /// The ids' names are the standard's (15.5.2.3), in either case. Memory is ample, and none is taken.
@@ -381,4 +430,19 @@ fn what_a_datagram_changes(rt: HostRuntime) {
         assert!(rt; changed.ports[0].0 == 0 && changed.ports[1].0 == port);
     }
     ptpm_clock_stop(alloc, &mut handle);
+}
+
+/// The structs of a host on a machine of 64 bits, in the order of the header; sizes of a shorter struct, of one struct fewer, and
+/// of one more.
+#[test]
+fn sizes_of_headers(rt: HostRuntime) {
+    let mut sizes = [
+        16, 216, 16, 88, 16, 12, 1476, 12, 16, 26, 16, 16, 10, 196_616, 24, 0,
+    ];
+    assert!(rt; ptpm_version() == 100);
+    assert!(rt; ptpm_sizes_agree(&sizes[..15]) == 0);
+    assert!(rt; ptpm_sizes_agree(&sizes[..14]) == 47);
+    assert!(rt; ptpm_sizes_agree(&sizes) == 47);
+    sizes[1] = 212;
+    assert!(rt; ptpm_sizes_agree(&sizes[..15]) == 47);
 }

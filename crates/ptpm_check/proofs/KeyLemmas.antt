@@ -1,4 +1,4 @@
--- The keys of a table that are faults are none exactly where the table keeps to its rules.
+-- The keys of a table that are faults are none exactly if the table keeps to its rules.
 use Rattle.std.proofs.Common.{◌≡◌, ℕ, Bool, true, false, not, ◌&&◌, ◌||◌, if◌then◌else◌, List, [], ◌∷◌, ◌++◌, Option, Some, None, refl, ap, sym, ◌∙◌, is_some, is_none}
 use Rattle.toml.specs.Data.{Data, Members, no_members, member, get_member}
 use Rattle.ptpm_script.specs.Document.{KeyRule, has_only, has_required, is_shaped}

@@ -6,12 +6,12 @@ use Rattle.ptpm_script.specs.declared.event.EventError.{EventError}
 use Rattle.ptpm_script.specs.declared.net_error.NetError.{NetError}
 use Rattle.ptpm_script.specs.NetworkValue.{NetworkValue}
 
--- why a text is no network; none where it is one
+-- why a text is no network; none if it is one
 abbrev pub refusal_of : Result NetworkValue NetError → Option NetError
 refusal_of (Ok n) = None
 refusal_of (Err e) = Some e
 
--- why a line is no event; none where it is one
+-- why a line is no event; none if it is one
 abbrev pub error_of : Result Event EventError → Option EventError
 error_of (Ok event) = None
 error_of (Err e) = Some e

@@ -25,7 +25,7 @@ abbrev pub has_none : List (List ℕ) → Bool
 has_none [] = true
 has_none (key ∷ keys) = false
 
--- ---- as faults tell them
+-- ---- as faults report them
 
 abbrev pub key_in : Found → List ℕ
 key_in (founds.Missing key) = key.now

@@ -1,9 +1,9 @@
--- Where a fault of a network file stands.
+-- Where a fault of a network file is.
 use Rattle.std.specs.Prelude.{ℕ, List, codes}
 use Rattle.ptpm_check.specs.declared.place.Array.{Array}
 use Rattle.ptpm_check.specs.declared.place.Array.TheVariants.{Clock, Session, Link}
 
--- the key at which an array of tables stands
+-- the key of an array of tables
 abbrev pub array_key : Array → List ℕ
 array_key Clock = codes "clock"
 array_key Session = codes "session"

@@ -36,9 +36,9 @@ pub struct EventFault<'a> {
 /// What was expected of a word, or of a line.
 #[derive(Clone, Copy)]
 pub enum Expected {
-    /// A verb, of which this one is the nearest.
+    /// A verb; this one is the nearest.
     Verb(Option<&'static str>),
-    /// An action, of which this one is the nearest.
+    /// An action; this one is the nearest.
     Action(Option<&'static str>),
     /// The words of a verb's line.
     Words(&'static str),
@@ -46,7 +46,7 @@ pub enum Expected {
     Number(u32),
     /// A port or none.
     PortOrNone,
-    /// A management id, of which this is the nearest name.
+    /// A management id; this is the nearest name.
     Id(Option<&'static str>),
     /// Hexadecimal digits.
     Octets,
@@ -90,7 +90,7 @@ fn verb_names() -> [&'static str; 6] {
     names
 }
 
-/// Why a line is no event; `None` where it is one.
+/// Why a line is no event; `None` if it is one.
 pub fn event_fault<'a>(alloc: Global, line: &'a str) -> Result<Option<EventFault<'a>>, OutOfMemory>
     ensures { IfOk result (λ fault. option_map (λ f. f.error) fault ≡ error_of (reading line.now)) }
 {
@@ -148,7 +148,7 @@ fn first_word(text: &str) -> Option<&str> {
     }
 }
 
-/// What stands behind the first word of a text.
+/// What follows the first word of a text.
 fn behind_word(text: &str) -> &str {
     match split_word(text) {
         Some((_, rest)) => rest,
@@ -229,7 +229,7 @@ fn name_of(id: u16) -> Option<&'static str> {
     }
 }
 
-/// As `"300": a whole number from 0 to 255`.
+/// For example, `"300": a whole number from 0 to 255`.
 impl fmt::Display for EventFault<'_> {
     fn fmt<W: fmt::Write>(&self, f: &mut fmt::Formatter<W>) -> fmt::Result {
         if let Some(word) = self.word {

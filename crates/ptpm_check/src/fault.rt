@@ -8,7 +8,7 @@ use std::alloc::AllocError;
 use std::fmt;
 use toml::{Table, Value};
 
-/// A fault of a network file, with its place, what stands there, and what may stand there.
+/// A fault of a network file, with its place, what is there, and what may be there.
 #[derive(Clone, Copy)]
 pub struct Fault<'a> {
     /// Which refusal of a network file it is of.
@@ -18,10 +18,10 @@ pub struct Fault<'a> {
     pub wanted: Wanted<'a>,
 }
 
-/// What stands at a place.
+/// What is at a place.
 #[derive(Clone, Copy)]
 pub enum Found<'a> {
-    /// Nothing that is told.
+    /// Nothing that is shown.
     Untold,
     /// Nothing at a key.
     Missing(&'a str),
@@ -31,18 +31,18 @@ pub enum Found<'a> {
     Item(&'a str, usize, &'a Value),
     /// The table is this value.
     Whole(&'a Value),
-    /// So many of something.
+    /// This number of something.
     Count(usize, &'static str),
 }
 
-/// What may stand at a place, or why what stands there may not.
+/// What may be at a place, or why what is there may not.
 #[derive(Clone, Copy)]
 pub enum Wanted<'a> {
     /// What is asked of it in every file.
     Need(Need),
-    /// A name of this kind that is known, of which this one is the nearest.
+    /// A name of this kind that is known; this one is the nearest.
     Known(Names, Option<&'a str>),
-    /// What does not stand at this place too.
+    /// What is not at this place too.
     Once(Place<'a>),
     /// Another clockIdentity than that of the clock at this place.
     OtherClock(Place<'a>),
@@ -56,12 +56,12 @@ pub enum Names {
     Session,
 }
 
-/// What is asked of a place, whatever else stands in the file.
+/// What is asked of a place, whatever else is in the file.
 #[derive(Clone, Copy)]
 pub enum Need {
     /// Not what the refusal says.
     Accepted(NetError),
-    /// At most 262,144 octets, of which there are more.
+    /// At most 262,144 octets; there are more.
     Size,
     /// TOML, which ends here for this reason.
     Toml(toml::de::Error),
@@ -75,17 +75,17 @@ pub enum Need {
     Rights,
     /// One of the three rights.
     Right,
-    /// A right that does not stand before it.
+    /// A right that was not given before it.
     OtherRight,
     /// An end of a link.
     End,
-    /// At most so many.
+    /// At most this number.
     AtMost(usize),
     /// As many ends as a link has.
     Ends(usize),
-    /// At most so many sessions with this target, where there are so many.
+    /// How many sessions have this target, and how many may at most.
     Managers(usize, usize),
-    /// A port of a clock that has so many.
+    /// A port of a clock that has this many.
     PortUpTo(u16),
     /// A number of ports with which a clock can start.
     Ports,
@@ -125,7 +125,7 @@ pub(crate) fn add_fault<'a>(
     Ok(())
 }
 
-/// Adds a fault of the value at a key; none where there is no value.
+/// Adds a fault of the value at a key; none if there is no value.
 pub(crate) fn add_at_key<'a>(
     faults: &mut Vec<Fault<'a>>,
     class: NetError,
@@ -140,7 +140,7 @@ pub(crate) fn add_at_key<'a>(
     }
 }
 
-/// As `session 1 "m": attempts = 300: a whole number from 0 to 255`.
+/// For example, `session 1 "m": attempts = 300: a whole number from 0 to 255`.
 impl fmt::Display for Fault<'_> {
     fn fmt<W: fmt::Write>(&self, f: &mut fmt::Formatter<W>) -> fmt::Result {
         let place = self.place;
@@ -166,7 +166,7 @@ impl fmt::Display for Fault<'_> {
     }
 }
 
-/// A key, as it stands where it is a bare one, else as a text.
+/// A key: as it is if it is a bare one, else as a text.
 #[derive(Clone, Copy)]
 struct Key<'a>(&'a str);
 

@@ -1,4 +1,4 @@
-//! What tables of a network file are known by, where it is well shaped: names, identities, targets and ends.
+//! What tables of a well-shaped network file are known by: names, identities, targets and ends.
 
 use crate::place::{Array, Place};
 use crate::values::{items_at, name_at, name_in, table_of, text_at, text_of, whole_at};

@@ -69,7 +69,7 @@ fn add_ends<'a>(
     }
 }
 
-/// How many ends a link has, where they are an array.
+/// How many ends a link has, if they are an array.
 fn count_of_ends(table: &Table) -> Option<usize> {
     Some(value_at(table, "ends")?.as_array()?.len())
 }

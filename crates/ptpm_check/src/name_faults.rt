@@ -65,7 +65,7 @@ fn is_among(name: &str, names: &[&str]) -> bool {
     false
 }
 
-/// How many ports a clock has, where it can start with so many; of another the ports are not looked at.
+/// How many ports a clock has, if it can start with this many. The ports of another are not looked at.
 fn ports_of(clock: &ClockHead<'_>) -> Option<u16> {
     let count = clock.count?;
     if 1 <= count && count <= 8 {
@@ -92,7 +92,7 @@ fn add_ports<'a>(faults: &mut Vec<Fault<'a>>, clock: &ClockHead<'a>) -> Result<(
     Ok(())
 }
 
-/// Whether a port's number is none of a clock with so many ports.
+/// Whether a port's number is none of a clock with this many ports.
 fn is_past(number: Option<u16>, count: u16) -> bool {
     match number {
         Some(number) => number == 0 || count < number,
@@ -123,7 +123,7 @@ fn add_target<'a>(
     )
 }
 
-/// Adds a fault where a port's end is not there.
+/// Adds a fault if a port's end is not there.
 fn add_port_end<'a>(
     alloc: Global,
     faults: &mut Vec<Fault<'a>>,
@@ -156,7 +156,7 @@ fn clock_named<'a>(clocks: &[ClockHead<'a>], name: &str) -> Option<ClockHead<'a>
     None
 }
 
-/// Adds a fault where a session's end is not there.
+/// Adds a fault if a session's end is not there.
 fn add_session_end<'a>(
     alloc: Global,
     faults: &mut Vec<Fault<'a>>,

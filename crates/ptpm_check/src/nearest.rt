@@ -4,7 +4,7 @@ use std::alloc::{AllocError, Global};
 use strsim::jaro_winkler;
 
 /// The name that is most like another by the measure of Jaro and Winkler, and the first of several: it counts the characters that both
-/// have at about the same place, and more where the first up to four are the same. `None` where there are no names.
+/// have at about the same place, and more if the first up to four are the same. `None` if there are no names.
 pub(crate) fn nearest<'a>(
     alloc: Global,
     name: &str,

@@ -35,7 +35,7 @@ enum Content {
 }
 
 impl Document {
-    /// Judges a text. Nothing is made where memory is refused.
+    /// Judges a text. Nothing is made if memory is refused.
     pub fn of(alloc: Global, text: &str) -> Result<Document, OutOfMemory>
         ensures { IfOk result (λ d. d.refusal ≡ refusal_of (network_of text.now)) }
     {
@@ -48,7 +48,7 @@ impl Document {
         Ok(Document { refusal, content })
     }
 
-    /// Its faults: none exactly where the text is a network file, and first one of the refusal that `Network::from_toml` answers.
+    /// Its faults: none exactly if the text is a network file, and first one of the refusal that `Network::from_toml` answers.
     pub fn faults(&self, alloc: Global) -> Result<Vec<Fault<'_>>, OutOfMemory>
         ensures { IfOk result (λ faults. first_class faults.items ≡ self.now.refusal) }
     {
@@ -74,7 +74,7 @@ fn content_of(alloc: Global, text: &str) -> Result<Content, OutOfMemory> {
     }
 }
 
-/// The line of a text, from 1, in which an error stands.
+/// The line of a text, from 1, that has an error.
 fn line_of(text: &str, error: &toml::de::Error) -> usize {
     let before = match error.span() {
         Some(span) => span.start,
@@ -90,7 +90,7 @@ fn line_of(text: &str, error: &toml::de::Error) -> usize {
     line
 }
 
-/// The faults that are told of a text that is refused.
+/// The faults that are reported of a text that is refused.
 fn told_in<'a>(
     alloc: Global,
     content: &'a Content,
@@ -139,7 +139,7 @@ fn add_file_faults<'a>(
     add_start_faults(faults, heads.clocks.as_slice())
 }
 
-/// The faults with one of this refusal first: the first of them that is, or one that tells the refusal alone.
+/// The faults with one of this refusal first: the first of them that is, or one that gives the refusal alone.
 fn with_first<'a>(
     mut faults: Vec<Fault<'a>>,
     refusal: NetError,
@@ -156,7 +156,7 @@ fn with_first<'a>(
     Ok(faults)
 }
 
-/// The index of the first fault of a refusal; past the last where there is none.
+/// The index of the first fault of a refusal; past the last if there is none.
 fn index_of(faults: &[Fault<'_>], refusal: NetError) -> usize {
     for index in 0..faults.len() {
         if faults[index].class == refusal {
@@ -178,7 +178,7 @@ fn of_class<'a>(fault: Fault<'a>, refusal: NetError) -> Fault<'a>
     }
 }
 
-/// A fault that tells a refusal alone.
+/// A fault that gives a refusal alone.
 fn told_alone<'a>(refusal: NetError) -> Fault<'a> {
     Fault {
         class: refusal,

@@ -1,4 +1,4 @@
-//! Where a fault stands.
+//! Where a fault is.
 
 ghost use Rattle.std.specs.Prelude.{◌≡◌};
 ghost use Rattle.ptpm_check.specs.Place.{array_key};
@@ -26,7 +26,7 @@ impl fmt::Display for Array {
 }
 
 impl Array {
-    /// The key that it stands at.
+    /// The key that it is at.
     pub fn key(self) -> &'static str
         ensures { result.now ≡ array_key self }
     {
@@ -38,20 +38,20 @@ impl Array {
     }
 }
 
-/// Where a fault stands. Lines, and the tables of an array, are counted from 1.
+/// Where a fault is. Lines, and the tables of an array, are counted from 1.
 #[derive(Clone, Copy)]
 pub enum Place<'a> {
     /// The file as a whole, or a key outside of its arrays.
     File,
     /// A line.
     Line(usize),
-    /// A table of an array, and its name where it has one.
+    /// A table of an array, and its name if it has one.
     Table(Array, usize, Option<&'a str>),
     /// A table `clock.port` of the clock of this number and name.
     Port(usize, Option<&'a str>, usize),
 }
 
-/// As `clock 2 "K"`, and of a port as `clock 2 "K", port table 1`.
+/// For example `clock 2 "K"`, and of a port `clock 2 "K", port table 1`.
 impl fmt::Display for Place<'_> {
     fn fmt<W: fmt::Write>(&self, f: &mut fmt::Formatter<W>) -> fmt::Result {
         match *self {

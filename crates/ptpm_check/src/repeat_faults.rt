@@ -1,4 +1,4 @@
-//! What may stand only once in a network file.
+//! What may be given only once in a network file.
 
 use crate::fault::{Fault, Found, Wanted, add_at_key, add_fault};
 use crate::heads::{ClockHead, EndHead, Heads, SessionHead};
@@ -9,10 +9,10 @@ use ptpm_script::NetError;
 use std::alloc::AllocError;
 use toml::{Table, Value};
 
-/// So many tables of ports of a clock are held beside each other.
+/// How many tables of ports of a clock are held beside each other.
 const PORT_TABLES: usize = 64;
 
-/// Adds a fault for each port's number, name, identity and end that stands before it.
+/// Adds a fault for each port's number, name, identity and end that was given before it.
 pub(crate) fn add_repeat_faults<'a>(
     faults: &mut Vec<Fault<'a>>,
     heads: &Heads<'a>,
@@ -23,7 +23,7 @@ pub(crate) fn add_repeat_faults<'a>(
     add_ends(faults, heads.ends.as_slice())
 }
 
-/// Adds a fault where the value at a key stands at another place too.
+/// Adds a fault if the value at a key is at another place too.
 fn add_once<'a>(
     faults: &mut Vec<Fault<'a>>,
     place: Place<'a>,
@@ -153,7 +153,7 @@ fn add_sessions<'a>(
     Ok(())
 }
 
-/// Adds a fault where a session's identity is that of a session before it, and one where it has a clock's.
+/// Adds a fault if a session's identity is that of a session before it, and one if it has a clock's.
 fn add_identity<'a>(
     faults: &mut Vec<Fault<'a>>,
     clocks: &[ClockHead<'a>],

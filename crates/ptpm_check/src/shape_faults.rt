@@ -82,7 +82,7 @@ fn add_ports<'a>(
     Ok(())
 }
 
-/// The items of the array at a key of a value; none where it is no table, or there is no array.
+/// The items of the array at a key of a value; none if it is no table, or there is no array.
 fn items_in<'a>(value: &'a Value, key: &str) -> &'a [Value] {
     match table_of(value) {
         Some(table) => items_at(table, key),
@@ -108,7 +108,7 @@ fn add_sessions<'a>(
     Ok(())
 }
 
-/// Adds a fault where a session has no rights in version 2, or some in version 1.
+/// Adds a fault if a session has no rights in version 2, or some in version 1.
 fn add_version<'a>(
     faults: &mut Vec<Fault<'a>>,
     place: Place<'a>,
@@ -125,7 +125,7 @@ fn add_version<'a>(
     }
 }
 
-/// Adds a fault for each item that is no right, or one that stands before it.
+/// Adds a fault for each item that is no right, or one that was given before it.
 fn add_rights<'a>(
     faults: &mut Vec<Fault<'a>>,
     place: Place<'a>,

@@ -89,7 +89,7 @@ fn members_of(clock: &ClockHead<'_>) -> ClockStart {
     start
 }
 
-/// Adds a fault for each member that is out of its range. A member that is told is set right, and the rest judged again.
+/// Adds a fault for each member that is out of its range. A member that is reported is set right, and the rest judged again.
 fn add_members<'a>(faults: &mut Vec<Fault<'a>>, clock: &ClockHead<'a>) -> Result<(), AllocError> {
     let mut start = members_of(clock);
     for _ in 0..MEMBERS {
@@ -103,7 +103,7 @@ fn add_members<'a>(faults: &mut Vec<Fault<'a>>, clock: &ClockHead<'a>) -> Result
     Ok(())
 }
 
-/// Gives a member its default, where it can be out of its range.
+/// Gives a member its default, if it can be out of its range.
 fn set_right(start: &mut ClockStart, member: Member) {
     match member {
         Member::UserDescription => start.user_description.clear(),
@@ -157,7 +157,7 @@ fn set_port_right(start: &mut PortStart, member: Member) {
     }
 }
 
-/// Adds a fault for each member of the grandmaster that is not the clock's own, where the clock is its own grandmaster.
+/// Adds a fault for each member of the grandmaster that is not the clock's own, if the clock is its own grandmaster.
 fn add_grandmaster<'a>(
     faults: &mut Vec<Fault<'a>>,
     clock: &ClockHead<'a>,

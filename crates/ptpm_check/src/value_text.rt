@@ -1,9 +1,9 @@
-//! What stands in a file, as a fault shows it.
+//! The content of a file, as a fault shows it.
 
 use std::fmt;
 use toml::Value;
 
-/// So many characters of a text are shown, and so many items of an array.
+/// How many characters of a text are shown, and how many items of an array.
 const SHOWN: usize = 48;
 
 /// A text between quotes; what cannot be printed is shown as `?`, and of a long text the beginning.
@@ -55,7 +55,7 @@ impl fmt::Display for ValueText<'_> {
     }
 }
 
-/// A value, of which an array or a table is not looked into.
+/// A value; an array or a table is not looked into.
 #[derive(Clone, Copy)]
 struct Plain<'a>(&'a Value);
 

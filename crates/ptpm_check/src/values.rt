@@ -1,5 +1,5 @@
-//! What stands in the tables of a network file, whatever it is. Nothing is promised of it here: which text is a network, and which
-//! table keeps to its rules, is said where it is judged.
+//! The content of the tables of a network file, whatever it is. Nothing is promised of it here. Which text is a network, and
+//! which table keeps to its rules, is said where it is judged.
 
 use ptpm_codec::ClockIdentity;
 use ptpm_script::{is_name, value_at};
@@ -15,7 +15,7 @@ pub(crate) fn text_of(value: &Value) -> Option<&str> {
     value.as_str()
 }
 
-/// The items of the array at a key; none where there is no array.
+/// The items of the array at a key; none if there is no array.
 pub(crate) fn items_at<'a>(table: &'a Table, key: &str) -> &'a [Value] {
     match value_at(table, key) {
         Some(Value::Array(items)) => items.as_slice(),
@@ -23,7 +23,7 @@ pub(crate) fn items_at<'a>(table: &'a Table, key: &str) -> &'a [Value] {
     }
 }
 
-/// The text at a key; an empty one where there is none.
+/// The text at a key; an empty one if there is none.
 pub(crate) fn text_at<'a>(table: &'a Table, key: &str) -> &'a str {
     match value_at(table, key) {
         Some(value) => text_of(value).unwrap_or(""),
@@ -31,7 +31,7 @@ pub(crate) fn text_at<'a>(table: &'a Table, key: &str) -> &'a str {
     }
 }
 
-/// The name at a key, where it is short enough to be one.
+/// The name at a key, if it is short enough to be one.
 pub(crate) fn name_at<'a>(table: &'a Table, key: &str) -> Option<&'a str> {
     let text = text_at(table, key);
     if is_name(text) { Some(text) } else { None }
@@ -42,7 +42,7 @@ pub(crate) fn name_in(value: &Value) -> Option<&str> {
     name_at(table_of(value)?, "name")
 }
 
-/// The number at a key, where it is one from 0 to 65,535.
+/// The number at a key, if it is one from 0 to 65,535.
 pub(crate) fn whole_at(table: &Table, key: &str) -> Option<u16> {
     let number = integer_at(table, key)?;
     if 0 <= number && number <= 0xffff {

@@ -1,6 +1,7 @@
 //! Wrong scripts, each with all that is written of it.
 
-use ptpm_world::{ScriptError, check_script, run_script};
+use ptpm_findings::check_script;
+use ptpm_world::{ScriptError, run_script};
 use std::alloc::Global;
 use std::process::Abort;
 use std::test::Fail;

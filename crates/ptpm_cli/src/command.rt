@@ -8,20 +8,21 @@ use ptpm_commands::make::{RequestWords, make};
 use ptpm_commands::show::{show, show_good_lines, show_lines};
 use ptpm_commands::{Fault, tell};
 use ptpm_draw::{Chosen, draw};
+use ptpm_findings::check_script;
 use ptpm_schedule::{Chances, schedule};
 use ptpm_site::limits::Limits;
 use ptpm_site_report::{Form, Options, report};
-use ptpm_world::{ScriptError, check_script, run_script};
+use ptpm_world::{ScriptError, run_script};
 use std::alloc::{AllocError, Global};
 use std::fmt;
 use std::io::{Read, Write};
 
-/// What `--version` prints behind the program's name; CHANGELOG.md says what came with each.
+/// What `--version` prints after the program's name; CHANGELOG.md says what came with each.
 const VERSION: &str = "0.1.0";
 
-/// Does what the words say, the first of which is the program's name, and answers the exit status: 0 where it was done;
-/// 1 at a fault, with the line `ptpm: FAULT` on `err`, and where `check` wrote faults on `out`; 2 where the words were refused,
-/// with the reason on `err`. `site` answers 1 where it found something, and 3 where no clock answered. What `err` does changes nothing.
+/// Does what the words say, and answers the exit status. The first word is the program's name. 0: it was done.
+/// 1: a fault, with the line `ptpm: FAULT` on `err`, or `check` wrote faults on `out`. 2: the words were refused,
+/// with the reason on `err`. `site` answers 1 if it found something, and 3 if no clock answered. What `err` does changes nothing.
 /// `run`, `check`, `schedule`, `draw`, `site` and the option `--lines` alone read.
 /// Whatever was written on `out` is flushed, at a fault too.
 pub fn command<R: Read, O: Write, E: Write>(
@@ -42,7 +43,7 @@ pub fn command<R: Read, O: Write, E: Write>(
     }
 }
 
-/// Ends at a fault, which is named on `err`. What was written before it may still stand in a buffer and is flushed; where `out`
+/// Ends at a fault, which is named on `err`. What was written before it may still be in a buffer and is flushed; if `out`
 /// refuses that, a write failed first.
 fn end_at_fault<F: fmt::Display, O: Write, E: Write>(fault: &F, out: &mut O, err: &mut E) -> u8 {
     let _ = match out.flush() {
@@ -146,7 +147,7 @@ fn parse<'a>(alloc: Global, words: &'a [&'a str]) -> Result<Task<'a>, clap::Erro
     Err(ptpm.error(ErrorKind::MissingSubcommand, "a command is required")?)
 }
 
-/// The task of a subcommand whose values were taken; `None` where it is no subcommand, or one of its values is missing.
+/// The task of a subcommand whose values were taken; `None` if it is no subcommand, or one of its values is missing.
 fn task_of<'a>(name: &str, values: &ArgMatches<'a>) -> Option<Task<'a>> {
     match name {
         "answer" => Some(Task::Answer(datagrams_of(values)?)),
@@ -294,7 +295,7 @@ fn make_command<'a>(alloc: Global) -> Result<Command<'a>, AllocError> {
     with_numbers(alloc, make)
 }
 
-/// The command, with the options that are numbers behind the others.
+/// The command, with the options that are numbers after the others.
 fn with_numbers<'a>(alloc: Global, command: Command<'a>) -> Result<Command<'a>, AllocError> {
     let number = option(alloc, "number", "N", "sequenceId, 0 to 65535")
         .value_parser(value_parser!(u16))
@@ -314,15 +315,11 @@ fn with_numbers<'a>(alloc: Global, command: Command<'a>) -> Result<Command<'a>, 
 }
 
 fn schedule_command<'a>(alloc: Global) -> Result<Command<'a>, AllocError> {
-    let loss = percent(
-        alloc,
-        "loss",
-        "Of a hundred frames so many are lost, 0 to 100",
-    );
+    let loss = percent(alloc, "loss", "Of a hundred frames N are lost, 0 to 100");
     let repeat = percent(
         alloc,
         "repeat",
-        "Of a hundred frames that arrive so many arrive twice, 0 to 100",
+        "Of a hundred frames that arrive N arrive twice, 0 to 100",
     );
     let seed = option(alloc, "seed", "N", "The same seed draws the same")
         .value_parser(value_parser!(u64))
@@ -370,12 +367,12 @@ fn site_command<'a>(alloc: Global) -> Result<Command<'a>, AllocError> {
         .arg(delay)
 }
 
-/// An option `--NAME NS`, no limit where it is absent.
+/// An option `--NAME NS`, no limit if it is absent.
 fn nanoseconds<'a>(alloc: Global, name: &'a str, help: &'a str) -> Arg<'a> {
     option(alloc, name, "NS", help).value_parser(value_parser!(u64))
 }
 
-/// An option `--NAME N` of so many in a hundred, none where it is absent.
+/// An option `--NAME N` of N in a hundred, none if it is absent.
 fn percent<'a>(alloc: Global, name: &'a str, help: &'a str) -> Arg<'a> {
     option(alloc, name, "N", help)
         .value_parser(value_parser!(u8).range(0..=100))

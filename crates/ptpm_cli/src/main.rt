@@ -24,7 +24,7 @@ fn main(rt: HostRuntime) -> ExitCode {
     ExitCode::from(status)
 }
 
-/// The exit status of the program's words over the standard streams. It fails where a word is no text (InvalidData), or
+/// The exit status of the program's words over the standard streams. It fails if a word is no text (InvalidData), or
 /// memory for the words or for output is refused.
 fn run(rt: &HostRuntime) -> io::Result<u8> {
     let alloc = rt.alloc();

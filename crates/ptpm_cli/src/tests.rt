@@ -47,7 +47,7 @@ fn fails(rt: &impl Abort, alloc: Global, words: &[&str], wanted: u8, text: &[u8]
     assert!(rt; status == wanted && out.is_empty(), "{words:?}");
 }
 
-/// The request with some octets replaced, and others behind it, in hexadecimal.
+/// The request with some octets replaced, and others after it, in hexadecimal.
 fn edited(alloc: Global, edits: &[(usize, u8)], behind: &[u8]) -> Result<String, Fail> {
     let mut datagram = hex::decode(alloc, REQUEST)?;
     for (place, octet) in edits {
@@ -429,7 +429,7 @@ enum Full {
     TakesNothing,
 }
 
-/// A writer with room for so many octets, which is interrupted before each write.
+/// A writer with room for this many octets, which is interrupted before each write.
 #[derive(Drop)]
 struct Narrow {
     room: usize,

@@ -1,4 +1,4 @@
--- A header is the canonical one where each field is written at its place.
+-- A header is the canonical one if each field is written at its place.
 use Rattle.std.proofs.Common.{arith, ◌≡◌, ℕ, ◌+◌, ◌*◌, ◌%◌, ◌/◌, List, [], ◌∷◌, ◌++◌, drop, length, refl}
 use Rattle.std.specs.Prelude.{replicate}
 use Rattle.std.proofs.lemmas.List.{drop_all, length-drop}

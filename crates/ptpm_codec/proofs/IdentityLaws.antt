@@ -1,4 +1,4 @@
--- Identities: the test of equality, and eight octets told apart by the number that they spell.
+-- Identities: the test of equality, and eight octets distinguished by the number that they spell.
 use Rattle.std.proofs.Common.{arith, ◌≡◌, ℕ, ◌==◌, ◌<◌, true, List, length, get_or, refl, sym, ◌∙◌, ap}
 use Rattle.std.specs.Int.{from_be_bytes, to_be_bytes, w64}
 use Rattle.std.specs.Str.{bytes_eq}

@@ -1,4 +1,4 @@
--- What holds where no test of an order does.
+-- What holds if no test of an order does.
 use Rattle.std.proofs.Common.{◌≡◌, Bool, true, false, List, ◌∷◌, Option, Some, None, refl}
 use Rattle.std.specs.Option.{option_or}
 use Rattle.ptpm_codec.specs.Ordered.{first_of}

@@ -1,4 +1,4 @@
--- A place keeps what stands there where a list is cut behind it.
+-- A place keeps its octets if a list is cut after it.
 use Rattle.std.proofs.Common.{◌≡◌, ℕ, ◌+◌, ◌*◌, ◌<◌, ◌≤◌, List, get_or, take, arith}
 use Rattle.std.proofs.lemmas.List.{get_or-drop, get_or-take}
 use Rattle.ptpm_codec.specs.Layout.{octet, number_at}

@@ -204,7 +204,7 @@ spelled-well_formed d m h e = subst (λ (n : List ℕ). Spells (message_at n) (m
 
 -- ---- `message_of`
 
--- where `message_of` gives a value, the datagram is well-formed, and the value is the one read from its octets
+-- if `message_of` gives a value, the datagram is well-formed, and the value is the one read from its octets
 pub message_of-some : (d : List ℕ) (v : Message)
     → message_of d ≡ Some v
     → IsWellFormed d × (v ≡ message_at (message_octets d))

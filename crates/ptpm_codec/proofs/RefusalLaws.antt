@@ -1,4 +1,4 @@
--- What holds of a datagram where no refusal's test does.
+-- What holds of a datagram if no refusal's test does.
 use Rattle.std.proofs.Common.{arith, ◌≡◌, ℕ, ◌+◌, ◌%◌, ◌≤◌, Bool, true, false, not, cond, List, length, Option, Some, None, refl, ◌⊎◌}
 use Rattle.std.proofs.lemmas.Bool.{ltb-false, le-ltb, eqb-true, eq-eqb, not-false, not_from_true, or_parts, or_from, and_cases, and_parts}
 use Rattle.ptpm_codec.specs.declared.error.DecodeError.{DecodeError}
@@ -9,7 +9,7 @@ use Rattle.ptpm_codec.specs.Layout.{message_length}
 use Rattle.ptpm_codec.specs.Message.{is_reply}
 use Rattle.ptpm_codec.specs.Refusal.{action_from, least_length, is_text, frame_refusal, tlv_refusal, text_refusal}
 
--- one test of the list, and the tests behind it
+-- one test of the list, and the tests after it
 passes : (test : Bool) (e : DecodeError) (o : Option DecodeError)
     → cond test (Some e) o ≡ None
     → (test ≡ false) × (o ≡ None)

@@ -79,7 +79,7 @@ number_at-set : (place i n : ℕ) (m : List ℕ)
     → number_at place (slice_set m i n) ≡ number_at place m
 number_at-set place i n m p q = grind (arith, get_or-set_other, number_at-octets)
 
--- an octet behind the identity
+-- an octet after the identity
 port_identity_at-set : (place k n : ℕ) (m : List ℕ)
     → 10 ≤ k
     → port_identity_at place (slice_set m (place + k) n) ≡ port_identity_at place m

@@ -1,4 +1,4 @@
--- A PTPText (IEEE 1588-2019, 5.3.9): a length octet, the text, and a pad octet where these are odd in number.
+-- A PTPText (IEEE 1588-2019, 5.3.9): a length octet, the text, and a pad octet if the number of both is odd.
 use Rattle.std.specs.Prelude.{ℕ, ◌+◌, ◌%◌, Bool, false, ◌==◌, List, [], ◌∷◌, ◌++◌, length, replicate, take}
 use Rattle.ptpm_codec.specs.Layout.{even_up}
 

@@ -8,7 +8,7 @@ use Rattle.ptpm_codec.specs.Message.{action_code, action_of, IsRequestAction, Is
 use Rattle.ptpm_codec.specs.Layout as layout
 use Rattle.ptpm_codec.specs.Layout.{octet, even_up}
 
--- displayData is absent, or a PTPText (5.3.9): a length octet, the text, and a pad octet where their number is odd
+-- displayData is absent, or a PTPText (5.3.9): a length octet, the text, and a pad octet if their number is odd
 abbrev pub SpellsText : List ℕ → List ℕ → Type 0
 SpellsText text d =
     ((length d ≡ 0) × (text ≡ []))

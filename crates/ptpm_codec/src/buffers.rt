@@ -10,7 +10,7 @@ use byteorder::{BigEndian, ByteOrder};
 
 const ZEROS: &[u8; MESSAGE_OCTETS] = &[0; MESSAGE_OCTETS];
 
-/// Appends a copy of these octets. The buffer has room for them behind what it holds.
+/// Appends a copy of these octets. The buffer has room for them after what it holds.
 pub fn put<const N: usize>(buffer: &mut ArrayVec<u8, N>, octets: &[u8])
     requires { array_vec_len buffer.old + length octets.now ≤ N }
     ensures items { buffer.new.items ≡ buffer.old.items ++ octets.now }
@@ -34,7 +34,7 @@ pub fn put_message<const N: usize>(buffer: &mut ArrayVec<u8, N>, message: &[u8])
     }
 }
 
-/// The same of so many octets.
+/// What `put` does, for a size given as a constant.
 #[inline(always)]
 fn put_array<const M: usize, const N: usize>(buffer: &mut ArrayVec<u8, N>, message: &[u8])
     requires size { length message.now ≡ M }
@@ -72,7 +72,7 @@ pub fn overwrite<const N: usize>(buffer: &mut ArrayVec<u8, N>, octets: &[u8])
     }
 }
 
-/// The same where the size changes: what the buffer had is not cleared before, but for what would stay behind the copy.
+/// What `overwrite` does if the size changes. Of what the buffer had, only what would stay past the copy is cleared first.
 #[inline(never)]
 fn resize_over<const N: usize>(buffer: &mut ArrayVec<u8, N>, octets: &[u8])
     requires { length octets.now ≤ N }
@@ -124,7 +124,7 @@ fn copy_any(place: &mut [u8], message: &[u8])
     place.copy_from_slice(message);
 }
 
-/// The same of so many octets, which are read before any of them is written.
+/// What `copy_any` does, for a size given as a constant. All octets are read before any is written.
 #[inline(always)]
 fn copy_array<const N: usize>(place: &mut [u8], message: &[u8])
     requires place { length place.old ≡ N }
@@ -140,7 +140,7 @@ fn copy_array<const N: usize>(place: &mut [u8], message: &[u8])
     *place = *octets;
 }
 
-/// Leaves so many octets in the buffer, whatever they are. Where it had as many, none is written.
+/// Leaves this number of octets in the buffer, whatever they are. If it had as many, none is written.
 #[inline(always)]
 pub(crate) fn fit<const N: usize>(buffer: &mut ArrayVec<u8, N>, size: usize)
     requires room { size ≤ N }
@@ -152,7 +152,7 @@ pub(crate) fn fit<const N: usize>(buffer: &mut ArrayVec<u8, N>, size: usize)
     }
 }
 
-/// The same where the size changes.
+/// What `fit` does if the size changes.
 #[inline(never)]
 fn resize<const N: usize>(buffer: &mut ArrayVec<u8, N>, size: usize)
     requires room { size ≤ N }

@@ -75,7 +75,7 @@ fn judge_text(message: &[u8], tlv: TlvKind) -> Result<(), DecodeError>
 }
 
 /// Reads a datagram in place: the message value that its first messageLength octets spell, or the first refusal that
-/// holds. Octets behind messageLength are ignored (this project's profile). Takes no memory and copies nothing.
+/// holds. Octets past messageLength are ignored (this project's profile). Takes no memory and copies nothing.
 pub fn view(datagram: &[u8]) -> Result<View<'_>, DecodeError>
     ensures exact { result ≡ reading datagram.now }
 
@@ -92,8 +92,8 @@ pub fn view(datagram: &[u8]) -> Result<View<'_>, DecodeError>
     }
 }
 
-/// A well-formed message with a MANAGEMENT TLV, as all but the error statuses have; nothing for any other datagram. No
-/// refusal is told apart, so that most datagrams are read by the fewest tests.
+/// A well-formed message with a MANAGEMENT TLV, which every message except an error status has; nothing for any other
+/// datagram. It does not say which refusal holds, so that most datagrams are read by the fewest tests.
 #[inline(always)]
 fn view_management(datagram: &[u8]) -> Option<View<'_>>
     ensures exact { IfSome result (λ v. reading datagram.now ≡ Ok v) }
@@ -117,7 +117,7 @@ fn view_management(datagram: &[u8]) -> Option<View<'_>>
     })
 }
 
-/// What `view` answers, where every refusal is told apart.
+/// What `view` answers, with the refusal that holds.
 #[cold]
 #[inline(never)]
 fn view_any(datagram: &[u8]) -> Result<View<'_>, DecodeError>

@@ -32,7 +32,7 @@ pub enum DraftBody<'a> {
     },
 }
 
-/// A message whose octets are lent, to be encoded where it is `valid`. Contracts see it as the `Message` of the same fields.
+/// A message whose octets are lent, to be encoded if it is `valid`. Contracts see it as the `Message` of the same fields.
 #[derive(Debug, Drop)]
 pub struct Draft<'a> {
     /// sdoId, of twelve bits: 0xFFF at most.
@@ -66,7 +66,7 @@ impl<'a> Model for Draft<'a> {
 impl Draft<'_> {
     ghost use Rattle.ptpm_codec.specs.Message.{IsValid};
 
-    /// Whether the fields are a message value, as `Message::valid` tells.
+    /// Whether the fields are a message value, as `Message::valid` says.
     pub fn valid(&self) -> bool
         ensures { IsTrue result ↔ IsValid self.now }
     {

@@ -1,4 +1,4 @@
-//! Messages to octets: the canonical spelling, written right where it stays.
+//! Messages to octets: the canonical spelling, written in place.
 
 ghost use Rattle.std.specs.Prelude.{◌≡◌, ◌+◌, ◌^◌, ◌<◌, ◌≤◌, ◌++◌, List, length, replicate, ℕ};
 ghost use Rattle.byteorder.specs.Endian.{big_bytes};
@@ -17,13 +17,13 @@ use arrayvec::ArrayVec;
 /// How many octets a message has at most (this project's profile).
 pub const MESSAGE_OCTETS: usize = 1472;
 
-/// How many octets stand before the TLV.
+/// How many octets come before the TLV.
 pub(crate) const HEADER_OCTETS: usize = 48;
 
-/// How many octets of a MANAGEMENT TLV stand before the dataField.
+/// How many octets of a MANAGEMENT TLV come before the dataField.
 const TLV_HEAD_OCTETS: usize = 6;
 
-/// How many octets of an error status stand before displayData.
+/// How many octets of an error status come before displayData.
 const ERROR_HEAD_OCTETS: usize = 12;
 
 /// Room for one message.
@@ -43,7 +43,7 @@ pub fn encode(draft: &Draft<'_>, buffer: &mut Buffer)
     encode_in(draft, buffer.as_mut_slice());
 }
 
-/// Writes the same over a place of its size.
+/// Writes the canonical spelling of a valid draft over a place of its size.
 #[inline(always)]
 fn encode_in(draft: &Draft<'_>, place: &mut [u8])
     requires valid { IsValid draft.now }

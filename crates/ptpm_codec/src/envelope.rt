@@ -1,4 +1,4 @@
-//! The messages of one reply, of which each has a port and an answer of its own.
+//! The messages of one reply. Each has a port and an answer of its own.
 
 ghost use Rattle.std.specs.Prelude.{◌≡◌, ◌≤◌, ◌+◌, [], ℕ, length, replicate};
 ghost use Rattle.ptpm_codec.specs.declared.message.Action.{Action};
@@ -16,10 +16,10 @@ use crate::encoding::{
 use crate::places::write_u16;
 use std::marker::Model;
 
-/// How many octets stand before the dataField of a message.
+/// How many octets of a message come before its dataField.
 pub const HEAD_OCTETS: usize = 54;
 
-/// How many octets an error status has that tells no text.
+/// How many octets an error status without text has.
 pub const REFUSAL_OCTETS: usize = 60;
 
 /// What the messages of one reply have in common, put together once: the message with an empty dataField. Contracts see its
@@ -38,7 +38,7 @@ impl Model for Envelope {
 }
 
 impl Envelope {
-    /// An envelope without address, to be addressed where it stays: one that is returned with its octets would be moved.
+    /// An envelope without address. It is addressed in place, since returning it with its octets would move them.
     #[inline(always)]
     pub fn blank() -> Envelope
         ensures { result ≡ replicate 54 0 }

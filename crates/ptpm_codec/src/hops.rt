@@ -21,7 +21,7 @@ pub fn less_hop(datagram: &[u8], buffer: &mut Buffer)
     less_hop_in(datagram, buffer.as_mut_slice());
 }
 
-/// Writes the same over a place of its size, as many octets as `message_size` tells.
+/// Writes the same over a place of its size, as many octets as `message_size` answers.
 #[inline(always)]
 pub fn less_hop_in(datagram: &[u8], place: &mut [u8])
     requires well_formed { IsWellFormed datagram.now }

@@ -18,7 +18,7 @@ pub fn one_or_the_other()
     ensures { (d : List ℕ) → IsWellFormed d ↔ ((v : Message) × Spells v (message_octets d)) }
 {}
 
-/// `message_of` gives a value exactly where the first messageLength octets spell it.
+/// `message_of` gives a value exactly if the first messageLength octets spell it.
 pub fn message_of_spelling()
     ensures { (v : Message) (d : List ℕ) → (message_of d ≡ Some v) ↔ Spells v (message_octets d) }
 {}
@@ -42,7 +42,7 @@ pub fn round_trip()
 {}
 
 /// What a boundary clock passes on is the message with boundaryHops less by one. In any list, that octet is no part of the
-/// two identities, of sequenceId, or of what stands from octet 46 on.
+/// two identities, of sequenceId, or of the octets from 46 on.
 pub fn forwarded_message()
     ensures message { (v : Message) (d : List ℕ)
         → message_of d ≡ Some v

@@ -21,7 +21,7 @@ impl Model for Octets {
 }
 
 impl Octets {
-    /// A copy of these octets. Nothing is made where memory is refused.
+    /// A copy of these octets. Nothing is made if memory is refused.
     pub fn copy_of(alloc: Global, octets: &[u8]) -> Result<Octets, OutOfMemory>
         ensures { IfOk result (λ o. o ≡ octets.now) }
     {

@@ -41,8 +41,8 @@ pub fn port_identity_at(octets: &[u8], place: usize) -> PortIdentity
     }
 }
 
-/// What stands where a message has its sourcePortIdentity (13.3.2.11), whether the octets are a message or not; `None` where
-/// there are too few of them.
+/// The octets at the place of a message's sourcePortIdentity (13.3.2.11), whether they are of a message or not; `None` if
+/// there are too few.
 pub fn source_port_identity(octets: &[u8]) -> Option<PortIdentity>
     ensures { result
         ≡ (if nat_le 30 (length octets.now) then Some (source_port_identity octets.now) else None) }

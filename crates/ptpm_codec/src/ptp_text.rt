@@ -1,4 +1,4 @@
-//! A PTPText (5.3.9): a length octet, the text, and a pad octet where these are odd in number.
+//! A PTPText (5.3.9): a length octet, the text, and a pad octet if the number of both is odd.
 
 ghost use Rattle.std.specs.Prelude.{◌≡◌, ◌≤◌, length, true};
 ghost use Rattle.ptpm_codec.specs.PtpText.{is_ptp_text, ptp_text, ptp_text_octets};

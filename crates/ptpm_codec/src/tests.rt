@@ -25,7 +25,7 @@ const REFUSAL: &[u8; 64] = b"\x0d\x12\x00\x40\x00\x00\
     \x00\x11\x22\x33\x44\x55\x66\x77\x00\x01\x00\x00\x02\x00\
     \x00\x02\x00\x0c\x00\x04\x20\x05\x00\x00\x00\x00\x02no\x00";
 
-/// The octets with some replaced, and others behind them.
+/// The octets with some replaced, and others after them.
 fn edited(octets: &[u8], edits: &[(usize, u8)], behind: &[u8]) -> Buffer {
     let mut datagram = Buffer::new();
     let _ = datagram.try_extend_from_slice(octets);
@@ -301,7 +301,7 @@ fn get_with_data_and_trailing_octets(rt: HostRuntime) {
     let datagram = edited(REQUEST, &edits, &[0; 4]);
     assert!(rt; is_seen_number_8(datagram.as_slice(), &[0x00, 0x00]));
 
-    // Sent on, it has minorVersionPTP 1, and nothing behind messageLength.
+    // Sent on, it has minorVersionPTP 1, and nothing past messageLength.
     let edits = [(3, 0x38), (31, 0x08), (51, 0x04)];
     let sent = edited(REQUEST, &edits, &[0; 2]);
     assert!(rt; is_sent_as(rt.alloc(), datagram.as_slice(), sent.as_slice()));
@@ -358,7 +358,7 @@ fn largest() -> Buffer {
     )
 }
 
-/// Whether the datagram is seen with a dataField of so many octets.
+/// Whether the datagram is seen with a dataField of this size.
 fn is_seen_with(datagram: &[u8], size: usize) -> bool {
     match view(datagram) {
         Ok(view) => view.octets().len() == size,

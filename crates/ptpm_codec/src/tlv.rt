@@ -1,4 +1,4 @@
-//! The two TLVs of management messages, told apart by their numbers.
+//! The two TLVs of management messages, distinguished by their numbers.
 
 ghost use Rattle.std.specs.Prelude.{◌≡◌, ◌+◌, ◌≤◌, Some, None, IfOk, IfSome, OnSome, MatchResult, nat_lt, if◌then◌else◌};
 ghost use Rattle.ptpm_codec.specs.Refusal.{action_from, tlv_kind, tlv_refusal};
@@ -54,7 +54,7 @@ pub(crate) fn tlv(
     Ok((action, tlv))
 }
 
-/// The action of a message with a MANAGEMENT TLV, where nothing is wrong with its numbers.
+/// The action of a message with a MANAGEMENT TLV, if nothing is wrong with its numbers.
 #[inline(always)]
 #[tactic(auto, unfolding(crate::specs::Refusal::tlv_refusal))]
 pub(crate) fn management_action(

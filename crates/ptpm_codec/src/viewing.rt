@@ -1,4 +1,4 @@
-//! A message read where it lies.
+//! A message read in place.
 
 ghost use Rattle.std.specs.Prelude.{◌≡◌, ◌≤◌, true, IfOk, length, [], None, Some};
 ghost use Rattle.ptpm_codec.specs.Layout as layout;
@@ -124,7 +124,7 @@ impl<'a> View<'a> {
         }
     }
 
-    /// The text of an error status's displayData; empty where there is none.
+    /// The text of an error status's displayData; empty if there is none.
     pub fn text(&self) -> &'a [u8]
         ensures { result.now ≡ text_of self.now.body }
     {

@@ -1,3 +1,4 @@
 pub mod FreshClock
 pub mod IdentityTextLemmas
-pub mod TurnLemmas
+pub mod Naming
+pub mod Telling

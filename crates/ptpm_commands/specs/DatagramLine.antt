@@ -1,4 +1,4 @@
--- A datagram in a line of standard input (this project's profile): in hexadecimal digits, alone or behind a port number and a
+-- A datagram in a line of standard input (this project's profile): in hexadecimal digits, alone or after a port number and a
 -- space, as `ptpm answer` prints a message.
 use Rattle.std.specs.Prelude.{ℕ, if◌then◌else◌, List, bytes_eq, codes, is_some, Option, Some, None, Result, Ok, Err}
 use Rattle.hex.specs.declared.error.FromHexError.{FromHexError}
@@ -11,11 +11,11 @@ abbrev pub behind : Option (List ℕ × List ℕ) → List ℕ → List ℕ
 behind None line = line
 behind (Some parts) line = if is_some (decimal_up_to 65535 parts.0) then parts.1 else line
 
--- what follows a port number and a space; the whole line where it does not begin with these
+-- what follows a port number and a space; the whole line if it does not begin with these
 unfoldable pub after_port : List ℕ → List ℕ
 after_port line = behind (cut_at space line) line
 
--- the datagram's digits; none where the line is `nothing`, which is printed where no message is sent
+-- the datagram's digits; none if the line is `nothing`, which is printed if no message is sent
 unfoldable pub digits_of : List ℕ → Option (List ℕ)
 digits_of line = if bytes_eq line (codes "nothing") then None else Some (after_port line)
 

@@ -1,14 +1,20 @@
 -- What the words of `ptpm make` ask for.
-use Rattle.std.specs.Prelude.{ℕ, if◌then◌else◌, List, Option, Some, None, Result, Ok, Err}
+use Rattle.std.specs.Prelude.{◌≡◌, ℕ, if◌then◌else◌, List, [], ◌∷◌, ◌++◌, Option, Some, None, Result, Ok, Err}
+use Rattle.std.specs.Io.KnownBytes.{Appends}
+use Rattle.hex.specs.declared.error.FromHexError.{FromHexError}
+use Rattle.hex.specs.Hex.{decode_of}
 use Rattle.ptpm_codec.specs.declared.identity.PortIdentity.{PortIdentity}
 use Rattle.ptpm_codec.specs.declared.message.Action.{Action}
 use Rattle.ptpm_codec.specs.declared.message.Body.TheVariants as bodies
 use Rattle.ptpm_codec.specs.declared.message.Message.{Message}
+use Rattle.ptpm_codec.specs.Canonical.{canonical}
 use Rattle.ptpm_codec.specs.Message.{is_data_field}
 use Rattle.ptpm_commands.specs.declared.faults.Fault.{Fault}
 use Rattle.ptpm_commands.specs.declared.faults.Fault.TheVariants as faults
 use Rattle.ptpm_commands.specs.declared.make.RequestWords.{RequestWords}
 use Rattle.ptpm_commands.specs.IdentityText.{identity_of}
+use Rattle.ptpm_script.specs.OctetText.{text_of_octets}
+use Rattle.ptpm_script.specs.RequestNames.{action_named, id_named}
 
 -- the request; both hop fields are the hops that were asked for
 abbrev pub request_between : RequestWords
@@ -45,3 +51,31 @@ abbrev pub request_of : RequestWords → Action → ℕ → List ℕ → Result 
 request_of words action id octets =
     if is_data_field octets then with_identities words action id octets (identity_of words.from.now) (identity_of words.to.now)
     else Err faults.BadValue
+
+-- ---- the words, in the order in which they are judged
+
+abbrev pub with_value : RequestWords → Action → ℕ → Result (List ℕ) FromHexError → Result Message Fault
+with_value words action id (Ok octets) = request_of words action id octets
+with_value words action id (Err error) = Err faults.BadHex
+
+abbrev pub with_id : RequestWords → Action → Option ℕ → Result Message Fault
+with_id words action None = Err faults.BadId
+with_id words action (Some id) = with_value words action id (decode_of words.value.now)
+
+abbrev pub with_action : RequestWords → Option Action → Result Message Fault
+with_action words None = Err faults.BadAction
+with_action words (Some action) = with_id words action (id_named words.id.now)
+
+-- the request that words ask for, or the first fault of them
+abbrev pub asked : RequestWords → Result Message Fault
+asked words = with_action words (action_named words.action.now)
+
+-- ---- what is printed
+
+-- the canonical spelling of a request, in hexadecimal
+abbrev pub request_line : Message → List ℕ
+request_line request = text_of_octets (canonical request) ++ 10 ∷ []
+
+-- a writer took the line of the request that words ask for
+abbrev pub IsMade : RequestWords → Option (List ℕ) → Option (List ℕ) → Type 0
+IsMade words before after = (request : Message) × ((asked words ≡ Ok request) × Appends before after (request_line request))

@@ -1,8 +1,11 @@
 //! `ptpm answer`: what a fresh clock sends for datagrams that come in at its port 1.
 
-ghost use Rattle.std.specs.Prelude.{◌≡◌, []};
+ghost use Rattle.std.specs.Prelude.{◌≡◌, [], IfErr, IsErr, OnOk, false};
+ghost use Rattle.std.specs.Io.KnownBytes.{Appends};
+ghost use Rattle.hex.specs.Hex.{decode_of};
 ghost use Rattle.ptpm_agent.specs.Turn.{turn};
-ghost use Rattle.ptpm_commands.specs.Answer.{clock_shown, state_shown};
+ghost use Rattle.ptpm_commands.specs.Answer.{IsAnswered, IsAnsweredEach, answered, answered_first, clock_shown, sent_line, sent_lines, state_shown};
+ghost use Rattle.ptpm_commands.specs.Faults.{IsAtSomeLine, is_outside};
 ghost use Rattle.ptpm_commands.specs.FreshClock.{fresh_sets, shown};
 ghost use Rattle.ptpm_data.specs.Members.{HasPort};
 ghost use Rattle.ptpm_table.specs.Managers.{IsFresh};
@@ -11,7 +14,6 @@ use crate::clock::{admit_manager, fresh_clock};
 use crate::faults::Fault;
 use crate::lines::Lines;
 use ptpm_agent::Agent;
-use ptpm_data::change_law;
 use ptpm_script::Hexadecimal;
 use ptpm_table::{BoundTable, Outbox, ReplyTable};
 use std::alloc::Global;
@@ -21,14 +23,22 @@ use std::io::{Read, Write};
 /// Prints a line for each message that the clock sends for the datagram that the text spells in hexadecimal, its port and
 /// its octets; or `nothing`.
 #[inline(never)]
-pub fn answer<O: Write>(alloc: Global, text: &str, out: &mut O) -> Result<(), Fault> {
+pub fn answer<O: Write>(alloc: Global, text: &str, out: &mut O) -> Result<(), Fault>
+    ensures answered { OnOk result (IsAnswered text.now (O.contents out.old) (O.contents out.new)) }
+    ensures fault { IfErr result
+        (λ e. is_outside e ≡ false → (e ≡ Fault.BadHex) × IsErr (decode_of text.now)) }
+{
     let datagram = hex::decode(alloc, text)?;
     answer_one(datagram.as_slice(), out)
 }
 
 /// Lets a fresh clock answer one datagram.
 #[inline(never)]
-fn answer_one<O: Write>(datagram: &[u8], out: &mut O) -> Result<(), Fault> {
+fn answer_one<O: Write>(datagram: &[u8], out: &mut O) -> Result<(), Fault>
+    ensures answered { OnOk result (Appends (O.contents out.old) (O.contents out.new)
+        (answered_first datagram.now)) }
+    ensures fault { IfErr result (λ e. e ≡ Fault.WriteFault) }
+{
     answer_once(fresh_clock(), datagram, out)
 }
 
@@ -44,6 +54,9 @@ fn answer_once<O: Write>(
         (⟦<BoundTable as ReplyTable>⟧.owner clock.table)
         (⟦<BoundTable as ReplyTable>⟧.entries clock.table) }
     requires port { HasPort 1 clock.sets }
+    ensures answered { OnOk result (Appends (O.contents out.old) (O.contents out.new)
+        (answered_first datagram.now)) }
+    ensures fault { IfErr result (λ e. e ≡ Fault.WriteFault) }
 {
     admit_manager(&mut clock);
     answer_datagram(&mut clock, datagram, out)
@@ -56,7 +69,10 @@ pub fn answer_lines<R: Read + Drop, O: Write>(
     alloc: Global,
     reader: R,
     out: &mut O,
-) -> Result<(), Fault> {
+) -> Result<(), Fault>
+    ensures answered { OnOk result (IsAnsweredEach (O.contents out.old) (O.contents out.new)) }
+    ensures fault { IfErr result (λ e. IsAtSomeLine e) }
+{
     let mut lines = Lines::new(alloc, reader)?;
     answer_rest(alloc, &mut lines, out)
 }
@@ -67,7 +83,10 @@ fn answer_rest<R: Read + Drop, O: Write>(
     alloc: Global,
     lines: &mut Lines<R>,
     out: &mut O,
-) -> Result<(), Fault> {
+) -> Result<(), Fault>
+    ensures answered { OnOk result (IsAnsweredEach (O.contents out.old) (O.contents out.new)) }
+    ensures fault { IfErr result (λ e. IsAtSomeLine e) }
+{
     answer_each(fresh_clock(), alloc, lines, out)
 }
 
@@ -84,6 +103,8 @@ fn answer_each<R: Read + Drop, O: Write>(
         (⟦<BoundTable as ReplyTable>⟧.owner clock.table)
         (⟦<BoundTable as ReplyTable>⟧.entries clock.table) }
     requires port { HasPort 1 clock.sets }
+    ensures answered { OnOk result (IsAnsweredEach (O.contents out.old) (O.contents out.new)) }
+    ensures fault { IfErr result (λ e. IsAtSomeLine e) }
 {
     admit_manager(&mut clock);
     for number in 1..u64::MAX {
@@ -93,9 +114,7 @@ fn answer_each<R: Read + Drop, O: Write>(
         if let Some(datagram) = lines.datagram(alloc, number)? {
             answer_datagram(&mut clock, datagram.as_slice(), out)?;
         }
-        if !lines.has_next() {
-            out.flush()?;
-        }
+        lines.flush_before_wait(out)?;
     }
     Ok(())
 }
@@ -112,21 +131,34 @@ fn answer_datagram<O: Write>(
     ensures state { state_shown clock.new
         ≡ (turn (clock_shown clock.old) (state_shown clock.old) 1 datagram.now).next }
     ensures port { HasPort 1 clock.new.sets }
+    ensures answered { OnOk result (Appends (O.contents out.old) (O.contents out.new)
+        (answered (clock_shown clock.old) (state_shown clock.old) datagram.now)) }
+    ensures fault { IfErr result (λ e. e ≡ Fault.WriteFault) }
 {
-    change_law();
     let mut outbox = Outbox::new();
     clock.handle(1, datagram, &mut outbox);
     write_messages(&outbox, out)?;
     Ok(())
 }
 
-/// A line for each message of an outbox; `nothing` where it has none.
-fn write_messages<O: Write>(outbox: &Outbox, out: &mut O) -> io::Result<()> {
-    if outbox.entries().is_empty() {
-        writeln!(out, "nothing")?;
+/// A line for each message of an outbox; `nothing` if it has none.
+fn write_messages<O: Write>(outbox: &Outbox, out: &mut O) -> io::Result<()>
+    ensures { OnOk result (Appends (O.contents out.old) (O.contents out.new)
+        (sent_lines outbox.now)) }
+{
+    let entries = outbox.entries();
+    if entries.is_empty() {
+        return writeln!(out, "nothing");
     }
-    for (port, message) in outbox.entries() {
-        writeln!(out, "{port} {}", Hexadecimal(message.as_slice()))?;
+    for (port, message) in entries {
+        write_message(*port, message.as_slice(), out)?;
     }
     Ok(())
+}
+
+fn write_message<O: Write>(port: u16, message: &[u8], out: &mut O) -> io::Result<()>
+    ensures { OnOk result (Appends (O.contents out.old) (O.contents out.new)
+        (sent_line (port, message.now))) }
+{
+    writeln!(out, "{port} {}", Hexadecimal(message))
 }

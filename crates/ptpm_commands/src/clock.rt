@@ -30,7 +30,7 @@ pub(crate) fn fresh_clock() -> Agent<BoundTable>
     Agent::without_managers(first_sets())
 }
 
-/// Gives the clock its manager, where it stands.
+/// Gives the clock its manager, in place.
 pub(crate) fn admit_manager(clock: &mut Agent<BoundTable>)
     requires table { IsFresh shown []
         (⟦<BoundTable as ReplyTable>⟧.owner clock.old.table)

@@ -8,7 +8,7 @@ use hex::FromHexError;
 use ptpm_script::decimal_u16;
 use std::alloc::Global;
 
-/// The datagram; none where the line is `nothing`, which is printed where no message is sent. Refused with BadHex where what
+/// The datagram; none if the line is `nothing`, which is printed if no message is sent. Refused with BadHex if what
 /// should be its digits are none.
 pub(crate) fn datagram_of(alloc: Global, line: &str) -> Result<Option<Vec<u8>>, Fault>
     ensures ok { IfOk result (λ d. datagram_of line.now ≡ Ok (option_map (λ v. v.items) d)) }
@@ -25,7 +25,7 @@ pub(crate) fn datagram_of(alloc: Global, line: &str) -> Result<Option<Vec<u8>>, 
     }
 }
 
-/// The digits of the datagram; none where the line is `nothing`.
+/// The digits of the datagram; none if the line is `nothing`.
 #[tactic(auto, unfolding(crate::specs::DatagramLine::digits_of))]
 fn digits_of(line: &str) -> Option<&str>
     ensures { option_map (λ t. t.now) result ≡ digits_of line.now }
@@ -37,7 +37,7 @@ fn digits_of(line: &str) -> Option<&str>
     }
 }
 
-/// What follows a port number and a space; the whole line where it does not begin with them.
+/// What follows a port number and a space; the whole line if it does not begin with them.
 #[tactic(auto, unfolding(crate::specs::DatagramLine::after_port))]
 fn after_port(line: &str) -> &str
     ensures { result.now ≡ after_port line.now }

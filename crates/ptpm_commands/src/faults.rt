@@ -60,7 +60,7 @@ pub enum LineFault {
 }
 
 impl Fault {
-    /// The fault at a line of this number: where the line is to blame, its number is told.
+    /// The fault at a line of this number: if the line is to blame, its number is reported.
     pub(crate) fn at_line(self, number: u64) -> Fault
         ensures { result ≡ at_line number self }
     {
@@ -71,7 +71,7 @@ impl Fault {
         }
     }
 
-    /// Whether a line alone is to blame, so that the lines behind it may be read.
+    /// Whether a line alone is to blame, so that the lines after it may be read.
     pub(crate) fn is_of_line(self) -> bool
         ensures { result ≡ is_of_line self }
     {
@@ -88,6 +88,10 @@ pub fn tell<F: fmt::Display, E: Write>(fault: &F, err: &mut E) -> io::Result<()>
 }
 
 impl From<FromHexError> for Fault {
+    ghost use Rattle.ptpm_commands.specs.Faults.{digits_fault};
+
+    ghost from_gives = { λ error fault. fault ≡ digits_fault error };
+
     fn from(error: FromHexError) -> Fault {
         match error {
             FromHexError::OutOfMemory => Fault::OutOfMemory,
@@ -97,6 +101,10 @@ impl From<FromHexError> for Fault {
 }
 
 impl From<DecodeError> for Fault {
+    ghost use Rattle.ptpm_commands.specs.declared.faults.Fault.TheVariants as faults;
+
+    ghost from_gives = { λ error fault. fault ≡ faults.Refused error };
+
     fn from(error: DecodeError) -> Fault {
         Fault::Refused(error)
     }
@@ -104,6 +112,10 @@ impl From<DecodeError> for Fault {
 
 /// Standard output is the only stream whose errors are passed on as they are.
 impl From<io::Error> for Fault {
+    ghost use Rattle.ptpm_commands.specs.declared.faults.Fault.TheVariants as faults;
+
+    ghost from_gives = { λ _ fault. fault ≡ faults.WriteFault };
+
     fn from(_error: io::Error) -> Fault {
         Fault::WriteFault
     }

@@ -1,7 +1,8 @@
 //! `ptpm make`: a request that the words of a command line ask for, in octets.
 
-ghost use Rattle.std.specs.Prelude.{◌≡◌, IfOk};
-ghost use Rattle.ptpm_commands.specs.RequestWords.{request_of};
+ghost use Rattle.std.specs.Prelude.{◌≡◌, ◌≢◌, Err, IfErr, IfOk, OnOk, false};
+ghost use Rattle.ptpm_commands.specs.Faults.{is_outside};
+ghost use Rattle.ptpm_commands.specs.RequestWords.{IsMade, asked, request_of};
 ghost use Rattle.ptpm_codec.specs.Message.{IsRequestAction, IsValid};
 
 use crate::faults::Fault;
@@ -36,7 +37,12 @@ pub struct RequestWords<'a> {
 /// Prints the canonical spelling of the request in hexadecimal. The words are judged in this order: action (BadAction),
 /// id (BadId), value (BadHex, then BadValue), identities (BadIdentity). Whether the id permits the action, and whether the
 /// value is in its range, is not judged.
-pub fn make<O: Write>(alloc: Global, words: &RequestWords<'_>, out: &mut O) -> Result<(), Fault> {
+pub fn make<O: Write>(alloc: Global, words: &RequestWords<'_>, out: &mut O) -> Result<(), Fault>
+    ensures made { OnOk result (IsMade words.now (O.contents out.old) (O.contents out.new)) }
+    ensures fault { IfErr result (λ e. is_outside e ≡ false → asked words.now ≡ Err e) }
+    ensures unprinted { IfErr result
+        (λ e. e ≢ Fault.WriteFault → O.contents out.new ≡ O.contents out.old) }
+{
     let action = action_named(words.action).ok_or(Fault::BadAction)?;
     let id = id_named(words.id).ok_or(Fault::BadId)?;
     let octets = hex::decode(alloc, words.value)?;

@@ -1,5 +1,13 @@
 //! `ptpm show`: the fields of a message, a line each.
 
+ghost use Rattle.std.specs.Prelude.{◌≡◌, ◌≢◌, ◌≤◌, Err, IfErr, OnOk, codes, false, true};
+ghost use Rattle.std.specs.Io.KnownBytes.{Appends};
+ghost use Rattle.ptpm_codec.specs.Message.{error_of, octets_of, text_of};
+ghost use Rattle.ptpm_codec.specs.Reading.{reading};
+ghost use Rattle.ptpm_data.specs.ManagementId.{row_of};
+ghost use Rattle.ptpm_commands.specs.Faults.{IsAtLine, IsAtSomeLine, is_of_line, is_outside};
+ghost use Rattle.ptpm_commands.specs.Show.{AreShown, IsShown, action_lines, body_lines, error_named, header_lines, identity_lines, message_of, named_line, read_as, row_name, sdo_line, value_lines};
+
 use crate::faults::{Fault, tell};
 use crate::lines::Lines;
 use ptpm_codec::{ErrorId, View, view};
@@ -10,7 +18,11 @@ use std::io;
 use std::io::{Read, Write};
 
 /// Prints the message that the text spells in hexadecimal.
-pub fn show<O: Write>(alloc: Global, text: &str, out: &mut O) -> Result<(), Fault> {
+pub fn show<O: Write>(alloc: Global, text: &str, out: &mut O) -> Result<(), Fault>
+    ensures shown { OnOk result
+        (IsShown (message_of text.now) (O.contents out.old) (O.contents out.new)) }
+    ensures fault { IfErr result (λ e. is_outside e ≡ false → message_of text.now ≡ Err e) }
+{
     let datagram = hex::decode(alloc, text)?;
     show_datagram(datagram.as_slice(), out)
 }
@@ -21,7 +33,10 @@ pub fn show_lines<R: Read + Drop, O: Write>(
     alloc: Global,
     reader: R,
     out: &mut O,
-) -> Result<(), Fault> {
+) -> Result<(), Fault>
+    ensures shown { OnOk result (AreShown (O.contents out.old) (O.contents out.new)) }
+    ensures fault { IfErr result (λ e. IsAtSomeLine e) }
+{
     let mut lines = Lines::new(alloc, reader)?;
     for number in 1..u64::MAX {
         if !show_next(alloc, &mut lines, number, out)? {
@@ -31,14 +46,17 @@ pub fn show_lines<R: Read + Drop, O: Write>(
     Ok(())
 }
 
-/// The same, but a line that is too long or holds no management message is told on `err`, as the fault that it would be, and
+/// The same, but a line that is too long or holds no management message is reported on `err`, as the fault that it would be, and
 /// passed over. What `err` does changes nothing.
 pub fn show_good_lines<R: Read + Drop, O: Write, E: Write>(
     alloc: Global,
     reader: R,
     out: &mut O,
     err: &mut E,
-) -> Result<(), Fault> {
+) -> Result<(), Fault>
+    ensures shown { OnOk result (AreShown (O.contents out.old) (O.contents out.new)) }
+    ensures fault { IfErr result (λ e. is_outside e ≡ true) }
+{
     let mut lines = Lines::new(alloc, reader)?;
     for number in 1..u64::MAX {
         match show_next(alloc, &mut lines, number, out) {
@@ -54,39 +72,85 @@ pub fn show_good_lines<R: Read + Drop, O: Write, E: Write>(
     Ok(())
 }
 
-/// Prints the message of the next line, which has this number; false where there are no more. What is printed is flushed
+/// Prints the message of the next line, which has this number; false if there are no more. What is printed is flushed
 /// before a line that is not at hand.
 fn show_next<R: Read + Drop, O: Write>(
     alloc: Global,
     lines: &mut Lines<R>,
     number: u64,
     out: &mut O,
-) -> Result<bool, Fault> {
+) -> Result<bool, Fault>
+    ensures shown { OnOk result (AreShown (O.contents out.old) (O.contents out.new)) }
+    ensures fault { IfErr result (λ e. IsAtLine number e) }
+    ensures unprinted { IfErr result
+        (λ e. is_of_line e ≡ true → O.contents out.new ≡ O.contents out.old) }
+{
     if !lines.read(number)? {
         return Ok(false);
     }
     if let Some(datagram) = lines.datagram(alloc, number)? {
-        show_datagram(datagram.as_slice(), out).map_err(|fault| fault.at_line(number))?;
+        show_at(number, datagram.as_slice(), out)?;
     }
-    if !lines.has_next() {
-        out.flush()?;
-    }
+    lines.flush_before_wait(out)?;
     Ok(true)
 }
 
-fn show_datagram<O: Write>(datagram: &[u8], out: &mut O) -> Result<(), Fault> {
+/// Prints the message of a datagram in the line of this number, which a fault of it names.
+fn show_at<O: Write>(number: u64, datagram: &[u8], out: &mut O) -> Result<(), Fault>
+    ensures shown { OnOk result (AreShown (O.contents out.old) (O.contents out.new)) }
+    ensures fault { IfErr result (λ e. IsAtLine number e) }
+    ensures unprinted { IfErr result
+        (λ e. is_of_line e ≡ true → O.contents out.new ≡ O.contents out.old) }
+{
+    match show_datagram(datagram, out) {
+        Ok(()) => Ok(()),
+        Err(fault) => Err(fault.at_line(number)),
+    }
+}
+
+fn show_datagram<O: Write>(datagram: &[u8], out: &mut O) -> Result<(), Fault>
+    ensures shown { OnOk result
+        (IsShown (read_as (reading datagram.now)) (O.contents out.old) (O.contents out.new)) }
+    ensures fault { IfErr result
+        (λ e. is_outside e ≡ false → read_as (reading datagram.now) ≡ Err e) }
+    ensures unprinted { IfErr result
+        (λ e. e ≢ Fault.WriteFault → O.contents out.new ≡ O.contents out.old) }
+{
     let message = view(datagram)?;
     show_header(&message, out)?;
     show_body(&message, out)?;
     Ok(())
 }
 
-fn show_header<O: Write>(message: &View<'_>, out: &mut O) -> io::Result<()> {
-    writeln!(out, "sdo {:03x}", message.sdo())?;
+#[tactic(auto, unfolding(crate::specs::Show::header_lines))]
+fn show_header<O: Write>(message: &View<'_>, out: &mut O) -> io::Result<()>
+    requires { message.now.sdo ≤ 4095 }
+    ensures { OnOk result (Appends (O.contents out.old) (O.contents out.new)
+        (header_lines message.now)) }
+{
+    show_sdo(message.sdo(), out)?;
     writeln!(out, "domain {}", message.domain())?;
+    show_identities(message, out)?;
+    show_rest(message, out)
+}
+
+/// Both identities, and the sequenceId.
+#[tactic(auto, unfolding(crate::specs::Show::identity_lines))]
+fn show_identities<O: Write>(message: &View<'_>, out: &mut O) -> io::Result<()>
+    ensures { OnOk result (Appends (O.contents out.old) (O.contents out.new)
+        (identity_lines message.now)) }
+{
     writeln!(out, "source {}", message.source())?;
     writeln!(out, "target {}", message.target())?;
-    writeln!(out, "number {}", message.number())?;
+    writeln!(out, "number {}", message.number())
+}
+
+/// Both hop fields, and the action.
+#[tactic(auto, unfolding(crate::specs::Show::action_lines))]
+fn show_rest<O: Write>(message: &View<'_>, out: &mut O) -> io::Result<()>
+    ensures { OnOk result (Appends (O.contents out.old) (O.contents out.new)
+        (action_lines message.now)) }
+{
     writeln!(
         out,
         "hops {} of {}",
@@ -96,17 +160,60 @@ fn show_header<O: Write>(message: &View<'_>, out: &mut O) -> io::Result<()> {
     writeln!(out, "action {}", message.action())
 }
 
-/// The managementId, whose name is `-` where the table of ids has none, and what follows it in the TLV.
-fn show_body<O: Write>(message: &View<'_>, out: &mut O) -> io::Result<()> {
+/// sdoId, of 12 bits, in three hexadecimal digits.
+fn show_sdo<O: Write>(sdo: u16, out: &mut O) -> io::Result<()>
+    requires { sdo ≤ 4095 }
+    ensures { OnOk result (Appends (O.contents out.old) (O.contents out.new) (sdo_line sdo)) }
+{
+    writeln!(
+        out,
+        "sdo {:x}{}",
+        sdo / 256,
+        Hexadecimal(&[(sdo % 256) as u8])
+    )
+}
+
+/// The managementId, whose name is `-` if the table of ids has none, and what follows it in the TLV.
+#[tactic(auto, unfolding(crate::specs::Show::body_lines))]
+fn show_body<O: Write>(message: &View<'_>, out: &mut O) -> io::Result<()>
+    ensures { OnOk result (Appends (O.contents out.old) (O.contents out.new)
+        (body_lines message.now)) }
+{
     let id = message.id();
-    let name = row(id).map_or("-", |row| row.name);
-    writeln!(out, "id {id:04x} {name}")?;
+    writeln!(out, "id {} {}", Hexadecimal(&id.to_be_bytes()), name_of(id))?;
+    show_value(message, out)
+}
+
+/// The dataField; of an error status the managementErrorId, whose name is `-` if the standard has none, and the text.
+fn show_value<O: Write>(message: &View<'_>, out: &mut O) -> io::Result<()>
+    ensures { OnOk result (Appends (O.contents out.old) (O.contents out.new)
+        (value_lines (error_of message.now.body) (octets_of message.now.body) (text_of message.now.body))) }
+{
     let Some(error) = message.error() else {
         return writeln!(out, "value {}", Hexadecimal(message.octets()));
     };
-    match ErrorId::from_number(error) {
-        Some(name) => writeln!(out, "error {error:04x} {name}")?,
-        None => writeln!(out, "error {error:04x} -")?,
-    }
+    show_error(error, out)?;
     writeln!(out, "text {}", Hexadecimal(message.text()))
+}
+
+/// The managementErrorId, whose name is `-` if the standard has none.
+fn show_error<O: Write>(number: u16, out: &mut O) -> io::Result<()>
+    ensures { OnOk result (Appends (O.contents out.old) (O.contents out.new)
+        (named_line (codes "error ") number (error_named number))) }
+{
+    let digits = number.to_be_bytes();
+    match ErrorId::from_number(number) {
+        Some(name) => writeln!(out, "error {} {name}", Hexadecimal(&digits)),
+        None => writeln!(out, "error {} {}", Hexadecimal(&digits), "-"),
+    }
+}
+
+/// The name of a managementId; `-` if the table has none.
+fn name_of(id: u16) -> &'static str
+    ensures { result.now ≡ row_name (row_of id) }
+{
+    match row(id) {
+        Some(row) => row.name,
+        None => "-",
+    }
 }

@@ -15,7 +15,7 @@ use Rattle.ptpm_data.specs.PrecedenceChange.{precedence_after}
 use Rattle.ptpm_data.specs.SetLaws.{IsAcceptedSet, MovesWithGrandmaster}
 use Rattle.ptpm_data.proofs.Setting.{set_changes}
 
--- the data sets after a change, where the clock is its own grandmaster or not
+-- the data sets after a change, whether the clock is its own grandmaster or not
 abbrev changed : Bool → PrecedenceChange → DataSetsValue → DataSetsValue
 changed own change d = record d {
   default = record d.default { precedence = precedence_after change d.default.precedence };

@@ -13,7 +13,7 @@ use Rattle.ptpm_data.specs.PortState.{state_number, mechanism_number}
 use Rattle.ptpm_data.specs.Members.{DataSetsValue, port_of}
 use Rattle.ptpm_data.specs.MemberMap.{MemberValue, Octets, Place, OfClock, OfPort, natural, integer, flag, identity, port_identity, port_member, value_of}
 
--- ---- a value tells what it is the value of
+-- ---- a value determines what it is the value of
 
 natural_same : (m n : ℕ) → natural m ≡ natural n → m ≡ n
 natural_same m n h = cc

@@ -3,7 +3,7 @@ use Rattle.std.proofs.Common.{arith, ◌≡◌, ℕ, ◌+◌, ◌<◌, ◌≤◌
 use Rattle.std.proofs.Math.ListN.{drop_of_length-le}
 use Rattle.ptpm_data.specs.ManagementId.{RowValue, row_of, row_named, if_named}
 
--- the entry where it has the name, else what comes after
+-- the entry if it has the name, else what comes after
 abbrev pub named_or : List ℕ → Option RowValue → Option RowValue → Option RowValue
 named_or name None o = o
 named_or name (Some e) o = if bytes_eq e.name name then Some e else o

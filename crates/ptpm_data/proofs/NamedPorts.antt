@@ -63,7 +63,7 @@ pub named_ports-one : (port n : ℕ)
 unfolding named_ports
 named_ports-one port n other target = grind (arith, one_named, ne_eqb)
 
--- ---- the answers of so many ports, one after another
+-- ---- the answers of N ports, one after another
 
 pub answers-after : (q : RequestValue) (refusal : Option ErrorId) (d : DataSetsValue) (first n m port : ℕ)
     → first + n ≡ port

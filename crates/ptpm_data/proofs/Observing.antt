@@ -1,8 +1,6 @@
 -- The ports of an observation, one after another, and what an observation keeps.
-use Rattle.std.proofs.Common.{arith, ◌≡◌, ◌∙◌, ap, refl, sym, ℕ, zero, suc, ◌+◌, ◌<◌, ◌≤◌, Bool, true, false, ◌&&◌, ◌||◌, nat_lt, List, [], ◌∷◌, ◌++◌, append-nil, take, take_all, length, get_or, set, add-one, None}
+use Rattle.std.proofs.Common.{arith, ◌≡◌, ◌∙◌, ap, refl, sym, ℕ, zero, suc, ◌+◌, ◌<◌, ◌≤◌, Bool, true, false, ◌&&◌, ◌||◌, nat_lt, List, [], ◌∷◌, ◌++◌, take, length, get_or, set, add-one, None}
 use Rattle.std.proofs.Math.Bool.{or_assoc}
-use Rattle.std.specs.List.{refill}
-use Rattle.std.proofs.lemmas.List.{drop_all}
 use Rattle.std.proofs.lemmas.Bool.{not-false}
 use Rattle.std.proofs.lemmas.Bool.Decides.{nat_tests}
 use Rattle.ptpm_data.specs.declared.data_sets.PortDataSet.{PortDataSet}
@@ -101,7 +99,7 @@ ports_after-length [] ports = refl
 ports_after-length (o ∷ os) [] = refl
 ports_after-length (o ∷ os) (p ∷ ports) = ap (λ (n : ℕ). suc n) (ports_after-length os ports)
 
--- ---- what follows where an observation is accepted
+-- ---- what follows if an observation is accepted
 
 module _ (o : ClockObservation) (ports : List PortObservation) (d : DataSetsValue) (accepted : observation_refusal o ports d ≡ None) where
   pub has_places : length ports ≤ length d.ports

@@ -54,13 +54,13 @@ some_at [] i below = absurd (omega arith)
 some_at (x ∷ xs) zero below = (x, refl)
 some_at (x ∷ xs) (suc i) below = some_at xs i (omega arith)
 
--- one of so many ports that the SET is for
+-- one of N ports that the SET is for
 pub record IsShown (port n count : ℕ) : Type 0 where
   pub positive : 1 ≤ n
   pub within : n ≤ count
   pub named : is_named port n ≡ true
 
--- who answers it: such a port where its id is of a port, else the clock
+-- who answers it: such a port if its id is of a port, else the clock
 abbrev IsAnswerer : Bool → ℕ → ℕ → Option ℕ → Type 0
 IsAnswerer true port count (Some n) = IsShown port n count
 IsAnswerer false port count None = ⊤

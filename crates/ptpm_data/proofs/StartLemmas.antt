@@ -83,7 +83,7 @@ pub started_by : (c : ClockStart) (ports : List PortStart) (sets : DataSetsValue
 unfolding start_of
 started_by c ports sets h = (unless_ok _ _ _ (sym h)).1
 
--- ---- what follows where there is no fault
+-- ---- what follows if there is no fault
 
 pub passes : {E : Type 0} (b : Bool) (e : E) (o : Option E)
     → (if b then Some e else o) ≡ None

@@ -1,4 +1,4 @@
--- A reply takes answers one behind the other.
+-- A reply takes answers one after the other.
 use Rattle.std.specs.Prelude.{◌≡◌, ◌+◌, List, [], ◌++◌, length}
 use Rattle.std.proofs.Common.{◌∙◌, ap, append-nil, append_assoc, length-append, sym}
 use Rattle.ptpm_data.specs.Reply.{Answer, ReplyValue}

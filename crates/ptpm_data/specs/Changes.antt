@@ -31,7 +31,7 @@ use Rattle.ptpm_data.specs.Refusals.{row_refusal}
 abbrev pub is_named : ℕ → ℕ → Bool
 is_named port n = (port == 0xffff) || (port == n)
 
--- a target port that a request may have: every port, or one of so many
+-- a target port that a request may have: every port, or one of N
 abbrev pub IsTargetOf : ℕ → ℕ → Type 0
 IsTargetOf port number_of_ports = (port ≡ 0xffff) ⊎ ((1 ≤ port) × (port ≤ number_of_ports))
 
@@ -50,7 +50,7 @@ with_ports port d change = record d { ports = named_changed port (port_after cha
 
 -- ---- the clock
 
--- the precedence of the grandmaster changes with the clock's own where the clock is its own grandmaster (9.3.5, table 30)
+-- the precedence of the grandmaster changes with the clock's own if the clock is its own grandmaster (9.3.5, table 30)
 abbrev pub grandmaster_changed : Bool → PrecedenceChange → ParentDataSet → ParentDataSet
 grandmaster_changed false change p = p
 grandmaster_changed true change p = record p { precedence = precedence_after change p.precedence }

@@ -87,7 +87,7 @@ octet_data_field n = n ∷ 0 ∷ []
 abbrev pub i8_data_field : ℤ → List ℕ
 i8_data_field z = octet_data_field (i8_octet z)
 
--- what a port's members give; nothing where the clock lacks the port
+-- what a port's members give; nothing if the clock lacks the port
 abbrev pub field_of_port : (PortDataSet → List ℕ) → Option PortDataSet → List ℕ
 field_of_port field None = []
 field_of_port field (Some p) = field p

@@ -6,7 +6,7 @@ use Rattle.ptpm_data.specs.declared.observation.ObservationError.{ObservationErr
 use Rattle.ptpm_data.specs.declared.observation.ObservationError.TheVariants as refusals
 use Rattle.ptpm_data.specs.MemberNames.{member_name}
 
--- behind BadValue stands the name of the member
+-- the name of the member comes after BadValue
 abbrev pub start_error_text : StartError → List ℕ
 start_error_text faults.NoPorts = codes "NoPorts"
 start_error_text faults.TooManyPorts = codes "TooManyPorts"

@@ -1,5 +1,5 @@
--- The image of a clock's data sets: the octets in which they outlast the clock's power. The members stand in the order in
--- which a start judges them, the text behind the clock's other members, and then the ports. Numbers of several octets have the
+-- The image of a clock's data sets: the octets in which they outlast the clock's power. The members come in the order in
+-- which a start judges them, the text after the clock's other members, and then the ports. Numbers of several octets have the
 -- highest octet first, signed ones are in two's complement, and a flag is 0 or 1 (this project's profile).
 use Rattle.std.specs.Prelude.{◌≡◌, ℕ, ◌^◌, ◌<◌, List, [], ◌∷◌, ◌++◌, length, drop, FitsSigned}
 use Rattle.std.specs.Int.{from_bool, w8, w16, w32, w64}
@@ -53,14 +53,14 @@ port_image p =
 
 -- ---- the whole
 
--- the clock's members but for its text: 74 octets
+-- the clock's members except its text: 74 octets
 unfoldable pub clock_image : DataSetsValue → List ℕ
 clock_image d = default_image d.default ++ current_image d.current ++ parent_image d.parent ++ time_image d.time
 
 unfoldable pub ports_image : List PortDataSet → List ℕ
 ports_image ports = flat_map port_image ports
 
--- the text and the ports each behind an octet with their number
+-- the text and the ports, each after an octet with their number
 unfoldable pub data_sets_octets : DataSetsValue → List ℕ
 data_sets_octets d = clock_image d ++ length d.description ∷ d.description ++ length d.ports ∷ ports_image d.ports
 

@@ -1,4 +1,4 @@
--- What stands at the places of an image: the values that the octets give there, whether they are an image or not.
+-- The places of an image: the values that the octets give there, whether they are an image or not.
 use Rattle.std.specs.Prelude.{◌≡◌, ℕ, ◌+◌, Bool, not, ◌==◌, List, take, drop, ℤ, Some}
 use Rattle.std.specs.Int.{cast_signed, w8, w16, w32, w64}
 use Rattle.byteorder.specs.Endian.{big_number}

@@ -42,7 +42,7 @@ pub data SetField : Type 0 where
   NoSet : SetField
   -- no octet
   Empty : SetField
-  -- a PTPText (5.3.9) of at most so many octets, which are UTF-8
+  -- a PTPText (5.3.9) of at most N octets, which are UTF-8
   TextUpTo : (limit : ℕ) → SetField
   -- an octet and a reserved one: of any value, of a range, or of a range or one value more
   AnyOctet : SetField
@@ -52,7 +52,7 @@ pub data SetField : Type 0 where
   MechanismNumber : SetField
   -- an Integer8, from minus the first number to the second, and a reserved octet
   minus◌to◌ : (low : ℕ) → (high : ℕ) → SetField
-  -- UTC_PROPERTIES (15.5.3.6.2), of whose two leap flags one at most is set
+  -- UTC_PROPERTIES (15.5.3.6.2): at most one of its two leap flags is set
   NotBothLeaps : SetField
 
 -- ---- the table
@@ -95,7 +95,7 @@ line UtcProperties = clock 0x2011 "UTC_PROPERTIES" get_set NotBothLeaps
 line DelayMechanism = port 0x6000 "DELAY_MECHANISM" get_set MechanismNumber
 line LogMinPdelayReqInterval = port 0x6001 "LOG_MIN_PDELAY_REQ_INTERVAL" get_set (minus 8 to 5)
 
--- what the dataField of a SET may be, where an id's dataField has this layout
+-- what the dataField of a SET may be, if an id's dataField has this layout
 unfoldable pub set_of : Layout → SetField
 set_of layout = (line layout).set
 
@@ -141,7 +141,7 @@ row_of id = find (λ e. e.id == id) id_table
 unfoldable pub row_named : List ℕ → Option RowValue
 row_named name = find (λ e. bytes_eq e.name name) id_table
 
--- a row, where it has that name
+-- a row, if it has that name
 abbrev pub if_named : List ℕ → Option RowValue → Option RowValue
 if_named name None = None
 if_named name (Some e) = if bytes_eq e.name name then Some e else None

@@ -91,7 +91,7 @@ port_member members.DelayMechanism p = natural (mechanism_number p.delay_mechani
 port_member members.LogMinPdelay p = integer p.log_min_pdelay
 port_member _ p = None
 
--- none where the clock has no such port, or the member is of the other kind
+-- none if the clock has no such port, or the member is of the other kind
 abbrev pub value_of : Place → DataSetsValue → Option MemberValue
 value_of (OfClock member) d = clock_member member d
 value_of (OfPort port member) d = option_and_then (port_member member) (port_of port d)

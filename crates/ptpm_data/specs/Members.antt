@@ -40,7 +40,7 @@ HasPort port d = (1 ≤ port) × (port ≤ length d.ports)
 abbrev pub has_port : ℕ → DataSetsValue → Bool
 has_port port d = nat_le 1 port && nat_le port (length d.ports)
 
--- the data set of a port; none where the clock lacks it
+-- the data set of a port; none if the clock lacks it
 abbrev pub port_of : ℕ → DataSetsValue → Option PortDataSet
 port_of port d = if port == 0 then None else slice_get d.ports (port - 1)
 

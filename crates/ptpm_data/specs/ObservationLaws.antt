@@ -14,9 +14,9 @@ use Rattle.ptpm_data.specs.Members.{DataSetsValue, is_own_grandmaster, port_of}
 use Rattle.ptpm_data.specs.Observation.{default_after, grandmaster_identity, grandmaster_parent, grandmaster_precedence, is_disabled}
 use Rattle.ptpm_data.specs.PortState.{state_number}
 
--- ---- the value that is observed of a member; none where it is not observed
+-- ---- the value that is observed of a member; none if it is not observed
 
--- where no grandmaster is observed, its quality is observed with the clock's own, if it is the clock itself
+-- if no grandmaster is observed, its quality is observed with the clock's own, if it is the clock itself
 abbrev pub following : Bool → Option ℕ → Option MemberValue
 following own quality = if own then option_and_then natural quality else None
 

@@ -33,7 +33,7 @@ mechanism_number mechanisms.EndToEnd = 1
 mechanism_number mechanisms.PeerToPeer = 2
 mechanism_number mechanisms.NoMechanism = 0xfe
 
--- the state of a number, where it is one's
+-- the state of a number, if it is one's
 abbrev pub state_of : ℕ → Option PortState
 state_of n =
     if n == 1 then Some states.Initializing else if n == 2 then Some states.Faulty else if n == 3 then Some states.Disabled
@@ -41,7 +41,7 @@ state_of n =
     else if n == 7 then Some states.Passive else if n == 8 then Some states.Uncalibrated else if n == 9 then Some states.Slave
     else None
 
--- the mechanism of a number, where it is one's
+-- the mechanism of a number, if it is one's
 abbrev pub mechanism_of : ℕ → Option DelayMechanism
 mechanism_of n =
     if n == 1 then Some mechanisms.EndToEnd else if n == 2 then Some mechanisms.PeerToPeer

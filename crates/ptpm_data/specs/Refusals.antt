@@ -52,7 +52,7 @@ abbrev pub set_right : Scope → ℕ
 set_right Clock = 1
 set_right Port = 2
 
--- a COMMAND of an id of a port needs the right to it, but for NULL_PTP_MANAGEMENT
+-- a COMMAND of an id of a port needs the right to it, except NULL_PTP_MANAGEMENT
 abbrev pub command_right : Scope → Layout → ℕ
 command_right Clock _ = 0
 command_right Port layouts.NullPtpManagement = 0
@@ -89,6 +89,6 @@ abbrev pub refusal_at : Option RowValue → RequestValue → Rights → Option E
 refusal_at None q rights = Some NoSuchId
 refusal_at (Some e) q rights = row_refusal e q rights
 
--- why a request is refused; none where it is carried out
+-- why a request is refused; none if it is carried out
 abbrev pub refusal_of : RequestValue → Rights → Option ErrorId
 refusal_of q rights = refusal_at (row_of q.id) q rights

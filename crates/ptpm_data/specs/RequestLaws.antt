@@ -29,12 +29,12 @@ answerer q = port_shown q.id q.port
 abbrev pub IsOneAnswer : Option ℕ → ReplyValue → Type 0
 IsOneAnswer port reply = (outcome : Outcome) × (reply.answers ≡ record { port = port; outcome = outcome } ∷ [])
 
--- an even number of octets, at most so many
+-- an even number of octets, at most N
 pub record IsFieldWithin (limit : ℕ) (octets : List ℕ) : Type 0 where
   pub even : length octets % 2 ≡ 0
   pub small : length octets ≤ limit
 
--- a dataField has at most 26 octets where the id is of a port, and else at most 130
+-- a dataField has at most 26 octets if the id is of a port, and else at most 130
 abbrev pub field_limit : Bool → ℕ
 field_limit true = 26
 field_limit false = 130

@@ -1,4 +1,4 @@
--- The rights of a manager (this project's profile): a set of three, each a bit, which Refusals names where one is needed.
+-- The rights of a manager (this project's profile): a set of three, each a bit, which Refusals names if one is needed.
 use Rattle.ptpm_data.specs.declared.rights.Rights.{Rights}
 
 -- none of them

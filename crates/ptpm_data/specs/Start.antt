@@ -69,7 +69,7 @@ default_port = record {
   log_min_pdelay = pos 0;
 }
 
--- ---- the data sets of a start; where a start gives none, the clock's own value
+-- ---- the data sets of a start; if a start gives none, the clock's own value
 
 abbrev pub own_precedence : ClockStart → ClockPrecedence
 own_precedence c = record {
@@ -188,7 +188,7 @@ start_fault c ports =
     (option_or (ports_fault ports)
     (grandmaster_fault (default_data_set c) (parent_data_set c))))
 
--- ---- the answer: the value, where there is no fault
+-- ---- the answer: the value, if there is no fault
 
 abbrev pub unless : {A E : Type 0} → Option E → A → Result A E
 unless None a = Ok a

@@ -2,7 +2,7 @@
 
 use ptpm_codec::ErrorId;
 
-/// A place that takes the answers to a request, one behind the other, each of the clock or of a port.
+/// A place that takes the answers to a request, one after the other, each of the clock or of a port.
 pub trait Answers {
     ghost use Rattle.std.specs.Prelude.{◌≡◌, ◌≤◌, ◌<◌, ◌+◌, ◌∷◌, ◌++◌, [], ℕ, List, length};
     ghost use Rattle.ptpm_data.specs.Reply.{Answer, Done, Refused, Value};

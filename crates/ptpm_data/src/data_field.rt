@@ -98,7 +98,7 @@ impl DataSets {
         }
     }
 
-    /// The octet that an id other than PORT_DATA_SET shows of a port. None where it shows no member of a port, or the clock
+    /// The octet that an id other than PORT_DATA_SET shows of a port. None if it shows no member of a port, or the clock
     /// lacks the port.
     #[inline(always)]
     #[tactic(auto, unfolding(crate::specs::DataField::port_field_of))]
@@ -120,7 +120,7 @@ impl DataSets {
         }
     }
 
-    /// The data set of a port; none where the clock lacks it.
+    /// The data set of a port; none if the clock lacks it.
     pub(crate) fn port(&self, port: u16) -> Option<&PortDataSet>
         ensures { option_map (λ p. p.now) result ≡ port_of port self.now }
     {

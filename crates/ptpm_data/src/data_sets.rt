@@ -8,7 +8,7 @@ use arrayvec::ArrayVec;
 use ptpm_codec::{ClockIdentity, PortIdentity};
 use std::marker::Model;
 
-/// What tells which of two clocks is the better master (9.3.4).
+/// What decides which of two clocks is the better master (9.3.4).
 #[derive(Clone, Copy, Debug, PartialEq, Eq)]
 pub struct ClockPrecedence {
     pub priority1: u8,
@@ -18,7 +18,7 @@ pub struct ClockPrecedence {
     pub priority2: u8,
 }
 
-/// defaultDS (8.2.1), but for the members that never change: slaveOnly is false.
+/// defaultDS (8.2.1), except the members that never change: slaveOnly is false.
 #[derive(Clone, Copy, Debug, PartialEq, Eq)]
 pub struct DefaultDataSet {
     pub identity: ClockIdentity,
@@ -40,15 +40,15 @@ pub struct CurrentDataSet {
 /// parentDS (8.2.3).
 #[derive(Clone, Copy, Debug, PartialEq, Eq)]
 pub struct ParentDataSet {
-    /// parentPortIdentity: the port of the master that the clock is synchronized to; port 0 of the clock itself where it is
+    /// parentPortIdentity: the port of the master that the clock is synchronized to; port 0 of the clock itself if it is
     /// its own grandmaster.
     pub parent_port: PortIdentity,
     /// Whether the two observed members are measured values.
     pub parent_stats: bool,
     /// observedParentOffsetScaledLogVariance (7.6.3): log2 of a variance in seconds squared, times 2^8, plus 0x8000; 0xFFFF
-    /// where it was not computed.
+    /// if it was not computed.
     pub observed_variance: u16,
-    /// observedParentClockPhaseChangeRate: seconds a second, times 2^40; 0x7FFFFFFF where it was not computed.
+    /// observedParentClockPhaseChangeRate: seconds a second, times 2^40; 0x7FFFFFFF if it was not computed.
     pub observed_rate: i32,
     pub grandmaster: ClockIdentity,
     /// grandmasterPriority1 and 2, and grandmasterClockQuality.
@@ -69,7 +69,7 @@ pub struct TimePropertiesDataSet {
     pub time_source: u8,
 }
 
-/// portDS (8.2.15), but for its portIdentity, which is the clock's identity and the port's place.
+/// portDS (8.2.15), except its portIdentity, which is the clock's identity and the port's place.
 #[derive(Clone, Copy, Debug, PartialEq, Eq)]
 pub struct PortDataSet {
     pub state: PortState,
@@ -182,7 +182,7 @@ impl DataSets {
     }
 
     /// Whether a management message may come in or go out at a port to be forwarded: its state is PRE_MASTER, MASTER,
-    /// UNCALIBRATED or SLAVE (this project's profile). False where the clock lacks the port.
+    /// UNCALIBRATED or SLAVE (this project's profile). False if the clock lacks the port.
     pub fn may_forward(&self, port: u16) -> bool
         ensures { result ≡ may_forward port self.now }
     {

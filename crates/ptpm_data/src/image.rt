@@ -30,7 +30,7 @@ impl DataSets {
     }
 
     /// Writes the image over the first octets of a place, and answers how many there are: 91 to 324. The others stay. `None`,
-    /// and nothing is written, where the place has too few. Takes no memory.
+    /// and nothing is written, if the place has too few. Takes no memory.
     pub fn image_into(&self, place: &mut [u8]) -> Option<usize>
         ensures room { IsSome result ↔ (length (data_sets_octets self.now) ≤ length place.old) }
         ensures size { IfSome result (λ size. size ≡ length (data_sets_octets self.now)) }

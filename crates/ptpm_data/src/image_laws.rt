@@ -10,7 +10,7 @@ use crate::data_sets::{
 };
 use crate::laws::{identity_law, port_identity_law};
 
-/// No two data sets have the same octets, whatever stands behind them.
+/// No two data sets have the same octets, whatever comes after them.
 pub fn image_law()
     ensures { (d e : DataSetsValue) (r s : List ℕ) → IsConsistent d → IsConsistent e → DataSetsFit d → DataSetsFit e
         → data_sets_octets d ++ r ≡ data_sets_octets e ++ s

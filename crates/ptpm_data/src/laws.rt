@@ -131,7 +131,7 @@ pub fn reply_law()
         → length (reply_to q rights d).answers ≤ 8 }
 {}
 
-/// What every request keeps, and which requests change nothing: a GET, and a request of which an answer is an error.
+/// What every request keeps, and which requests change nothing: a GET, and a request with an error among its answers.
 pub fn change_law()
     ensures identity { (q : RequestValue) (rights : Rights) (d : DataSetsValue)
         → (changed_by q rights d).default.identity ≡ d.default.identity }
@@ -188,7 +188,7 @@ pub fn grandmaster_law()
 {}
 
 /// What an observation moves, in terms of the map of members: a member that is observed has the observed value afterwards,
-/// and every other stays; where the observation is refused, each stays. The clock's identity and the number of its ports
+/// and every other stays; if the observation is refused, each stays. The clock's identity and the number of its ports
 /// stay, and so does which of its ports are disabled.
 pub fn observation_law()
     ensures observed { (o : ClockObservation) (ports : List PortObservation) (d : DataSetsValue) (place : Place)

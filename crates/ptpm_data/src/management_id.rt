@@ -39,14 +39,14 @@ pub enum Layout {
     LogMinPdelayReqInterval,
 }
 
-/// The form of a SET's dataField (15.5.3), behind whose octets a reserved one may stand.
+/// The form of a SET's dataField (15.5.3). A reserved octet may follow its octets.
 #[derive(Clone, Copy, Debug, PartialEq, Eq)]
 pub(crate) enum SetForm {
     /// The id has no SET.
     NoSet,
     /// No octet.
     Empty,
-    /// A PTPText of at most so many octets, which are UTF-8.
+    /// A PTPText of at most this number of octets, which are UTF-8.
     TextUpTo(u8),
     AnyOctet,
     /// An octet of a range.
@@ -57,11 +57,11 @@ pub(crate) enum SetForm {
     MechanismNumber,
     /// An Integer8, from minus the first number to the second.
     MinusTo(u8, u8),
-    /// UTC_PROPERTIES, of whose two leap flags one at most is set.
+    /// UTC_PROPERTIES: at most one of its two leap flags is set.
     NotBothLeaps,
 }
 
-/// What a SET may be, where the id's dataField has this layout; a start keeps to the same (this project's profile).
+/// What a SET may be, if the id's dataField has this layout; a start keeps to the same (this project's profile).
 #[tactic(auto, unfolding(crate::specs::ManagementId::set_of))]
 #[inline(always)]
 pub(crate) fn set_of(layout: Layout) -> SetForm
@@ -144,7 +144,7 @@ fn port(id: u16, name: &'static str, actions: Actions, layout: Layout) -> Option
     })
 }
 
-/// What the table says of an id; `None` where it is not in the table.
+/// What the table says of an id; `None` if it is not in the table.
 #[tactic(auto, unfolding(crate::specs::ManagementId::row_of))]
 #[inline(always)]
 pub fn by_id(id: u16) -> Option<Row>
@@ -187,7 +187,7 @@ pub fn by_id(id: u16) -> Option<Row>
     }
 }
 
-/// The row of an id, where it has that name.
+/// The row of an id, if it has that name.
 fn row_if_named(id: u16, name: &str) -> Option<Row>
     ensures { option_map row_value result ≡ if_named name.now (row_of id) }
 {
@@ -197,7 +197,7 @@ fn row_if_named(id: u16, name: &str) -> Option<Row>
     }
 }
 
-/// What the table says of the id of a name, as `PRIORITY1`; `None` where no id has that name.
+/// What the table says of the id of a name, such as `PRIORITY1`; `None` if no id has that name.
 pub fn by_name(name: &str) -> Option<Row>
     ensures { option_map row_value result ≡ row_named name.now }
 {

@@ -1,6 +1,6 @@
 //! What a host observes of its clock, and the data sets after it: the members that a servo, the port state machines and
 //! the best master clock algorithm find (clause 8.2). Which of them a host may observe is this project's profile: what
-//! managers alone set, as priorities, intervals and texts, is not among them.
+//! managers alone set, such as priorities, intervals and texts, is not among them.
 
 ghost use Rattle.std.specs.Prelude.{◌≡◌, ◌≤◌, length};
 ghost use Rattle.ptpm_data.specs.Observation.{disables_one, grandmaster_differs, left_disabled, ports_after};
@@ -18,8 +18,8 @@ use std::fmt;
 use std::marker::Model;
 use thiserror::Error;
 
-/// What is observed of a clock. A member that is `None` is not observed, and stays; one that a manager sets too has two
-/// writers, of which the later wins.
+/// What is observed of a clock. A member that is `None` is not observed, and stays. A member that a manager sets too has
+/// two writers: the later wins.
 #[derive(Clone, Copy, Debug, PartialEq, Eq, Default)]
 pub struct ClockObservation {
     /// clockClass of the clock itself (8.2.1.3.1).
@@ -350,9 +350,8 @@ impl DataSets {
         }
     }
 
-    /// Moves the members that a host observed, of the clock and of its ports from 1 on, and no other; but for the state of a
-    /// disabled port, which stays and is told, and for the quality of a grandmaster that is the clock itself, which follows
-    /// the clock's own. Takes no memory.
+    /// Sets exactly the observed members, of the clock and of its ports from 1 on. Exceptions: a disabled port keeps its state
+    /// and is reported; a clock that is its own grandmaster shows its own quality as the grandmaster's. Takes no memory.
     ///
     /// Refused with the first `ObservationError` that holds, judged on the data sets as they would be; then nothing changes.
     #[tactic(auto, unfolding(crate::specs::Observation::observed))]

@@ -18,7 +18,7 @@ impl DataSets {
     ghost use Rattle.ptpm_data.specs.Changes.{IsTargetPort};
     ghost use Rattle.ptpm_data.specs.Replies.{read_reply_to};
 
-    /// Answers a request that is not numbered, and changes nothing: a GET from the data sets as they stand, with the
+    /// Answers a request that is not numbered, and changes nothing: a GET from the data sets as they are, with the
     /// refusals NO_SUCH_ID and NOT_SUPPORTED of `decide`; a SET and a COMMAND are NOT_SUPPORTED, whatever they say. Takes no
     /// memory.
     ///
@@ -34,7 +34,7 @@ impl DataSets {
         reply
     }
 
-    /// Does what `read` does, and puts the answers where they go: one of the clock, or up to eight of ports. It is never
+    /// Does what `read` does, and puts the answers in place: one of the clock, or up to eight of ports. It is never
     /// inlined, so that a datagram without an answer pays nothing for its frame.
     #[inline(never)]
     pub fn read_into<A: Answers>(&self, request: &Request<'_>, answers: &mut A)

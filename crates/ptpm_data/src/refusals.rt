@@ -12,7 +12,7 @@ use crate::set_field::first_i8;
 use bitflags::Flags;
 use ptpm_codec::{Action, ErrorId, is_ptp_text, text_of_ptp_text};
 
-/// Why a request for an id of the table is refused; `None` where it is to be carried out. Judged in this order: the
+/// Why a request for an id of the table is refused; `None` if it is to be carried out. Judged in this order: the
 /// action, the manager's right, the dataField's length, its value.
 #[tactic(auto, unfolding(crate::specs::Refusals::row_refusal))]
 #[inline(always)]
@@ -76,7 +76,7 @@ fn is_length(action: Action, layout: Layout, octets: &[u8]) -> bool
     }
 }
 
-/// No length is right where the id has no SET.
+/// No length is right if the id has no SET.
 #[tactic(auto, unfolding(crate::specs::Refusals::is_set_length))]
 fn is_set_length(form: SetForm, octets: &[u8]) -> bool
     ensures { result ≡ is_set_length (set_field form) octets.now }

@@ -145,7 +145,7 @@ impl DataSets {
         }
     }
 
-    /// Puts a port's data set, whose size is known where it is put.
+    /// Puts a port's data set, whose size is known when it is put.
     #[inline(always)]
     #[tactic(auto, unfolding(crate::specs::DataField::port_field_of))]
     fn put_whole_port<A: Answers>(&self, port: u16, answers: &mut A)

@@ -23,7 +23,7 @@ pub enum What {
     Refused(ErrorId),
 }
 
-/// An answer, and the port that it is of; no port where it is of the clock.
+/// An answer, and the port that it is of; no port if it is of the clock.
 #[derive(Debug, Drop)]
 pub struct PortAnswer {
     pub port: Option<u16>,

@@ -22,7 +22,7 @@ const CLOCK_OCTETS: usize = 74;
 const PORT_OCTETS: usize = 15;
 
 impl DataSets {
-    /// The data sets whose image stands in front; octets behind it are not looked at. `None` where no image stands there: the
+    /// The data sets whose image comes first; octets after it are not looked at. `None` if no image is there: the
     /// octets end within it, a value is one that no start takes, or a flag is neither 0 nor 1. Takes no memory.
     pub fn restored(octets: &[u8]) -> Option<DataSets>
         ensures image { IfSome result (λ d. BeginsWithImage d octets.now) }
@@ -38,7 +38,7 @@ impl DataSets {
     }
 }
 
-/// The data sets of an image that stands in front; where none stands there, any or none.
+/// The data sets of an image that comes first; if none is there, any or none.
 fn read_image(octets: &[u8]) -> Option<DataSets>
     ensures { (d : DataSetsValue) (rest : List ℕ) → IsConsistent d → DataSetsFit d
         → octets.now ≡ data_sets_octets d ++ rest
@@ -50,7 +50,7 @@ fn read_image(octets: &[u8]) -> Option<DataSets>
     DataSets::new(&start, ports.as_slice()).ok()
 }
 
-/// An image that stands in front, cut into its octets of the clock, its text and its octets of the ports.
+/// An image that comes first, cut into its octets of the clock, its text and its octets of the ports.
 fn split_image(octets: &[u8]) -> Option<(&[u8], &[u8], &[u8])>
     ensures parts { (d : DataSetsValue) (rest : List ℕ) → DataSetsFit d
         → octets.now ≡ data_sets_octets d ++ rest
@@ -66,7 +66,7 @@ fn split_image(octets: &[u8]) -> Option<(&[u8], &[u8], &[u8])>
     Some((clock, text, ports))
 }
 
-/// As many pieces of so many octets as the first octet says, and what stands behind them.
+/// As many pieces of N octets as the first octet says, and what comes after them.
 fn split_counted(octets: &[u8], size: usize) -> Option<(&[u8], &[u8])>
     requires { size ≤ 15 }
     ensures { (count : ℕ) (pieces rest : List ℕ) → length pieces ≡ count * size
@@ -77,7 +77,7 @@ fn split_counted(octets: &[u8], size: usize) -> Option<(&[u8], &[u8])>
     octets.split_at_checked(*count as usize * size)
 }
 
-/// The start values of an image's 74 octets of the clock, with this text; none where the text is too long for a start.
+/// The start values of an image's 74 octets of the clock, with this text; none if the text is too long for a start.
 #[tactic(auto, unfolding(crate::specs::ImageReading::clock_read))]
 fn read_clock(octets: &[u8], text: &[u8]) -> Option<ClockStart>
     requires { length octets.now ≡ 74 }
@@ -202,7 +202,7 @@ fn read_time_properties_data_set(octets: &[u8]) -> TimePropertiesDataSet
     }
 }
 
-/// The start values of an image's octets of the ports; none where there are more than eight ports.
+/// The start values of an image's octets of the ports; none if there are more than eight ports.
 fn read_ports(octets: &[u8]) -> Option<ArrayVec<PortStart, 8>>
     ensures { (ports : List PortDataSet) → length ports ≤ 8 → All PortFits ports
         → octets.now ≡ ports_image ports

@@ -320,7 +320,7 @@ fn port_data_sets(ports: &[PortStart]) -> Result<ArrayVec<PortDataSet, 8>, Start
     Ok(sets)
 }
 
-/// Whether a clock can have so many ports.
+/// Whether a clock can have this number of ports.
 #[tactic(auto, unfolding(crate::specs::Start::count_fault))]
 fn count_ports(count: usize) -> Result<(), StartError>
     ensures { result ≡ unless (count_fault count) tt }

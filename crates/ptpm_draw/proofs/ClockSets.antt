@@ -10,7 +10,7 @@ use Rattle.ptpm_world.specs.Placed.{Names}
 use Rattle.ptpm_world.specs.Running.{sets_named}
 use Rattle.ptpm_world.specs.declared.world.World.{World}
 
--- this text stands at one place at most
+-- this text is at one place at most
 abbrev pub IsAlone : List (List ℕ) → List ℕ → ℕ → Type 0
 IsAlone names name place = (i : ℕ) → slice_get names i ≡ Some name → i ≡ place
 
@@ -29,7 +29,7 @@ found-there name_of (x ∷ xs) name (suc place) e alone = ⊎_elim
     cond-false _ _ _ away ∙ found-there name_of xs name place e (λ i at. omega (arith, alone (suc i) at)))
     (cases_Bool (bytes_eq (name_of x) name))
 
--- what stands at a place of a mapped list is made of what stands there
+-- what is at a place of a mapped list is made of what was at that place
 made-of : {X : Type 0} (name_of : X → List ℕ) (xs : List X) (place : ℕ) (name : List ℕ)
     → slice_get (map name_of xs) place ≡ Some name
     → (x : X) × ((slice_get xs place ≡ Some x) × (name_of x ≡ name))

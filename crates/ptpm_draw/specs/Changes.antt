@@ -29,6 +29,6 @@ change_of line (Some before) (Some after) = change_between line before after
 change_of line (Some before) None = None
 change_of line None after = None
 
--- what the event of a line changed, where it is the one that leads from one network to the other
+-- what the event of a line changed, if it is the one that leads from one network to the other
 abbrev pub change_at : ℕ → Option Party → RunningNetwork → RunningNetwork → Option Change
 change_at line party before after = change_of line (sets_of party before) (sets_of party after)

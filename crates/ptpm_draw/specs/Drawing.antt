@@ -21,7 +21,7 @@ abbrev pub IsDrawing : List ℕ → Result Drawing ScriptError → Type 0
 IsDrawing input (Ok d) = ShowsScript input d
 IsDrawing input (Err e) = is_outside e ≡ false → (scripted input).end ≡ Err e
 
--- it ended early: by the script's first fault, and then nothing was written, or where reading, writing or memory failed; where reading
+-- it ended early: by the script's first fault, and then nothing was written, or reading, writing or memory failed; if reading
 -- did, nothing was written either
 pub record HasEnded (input : List ℕ) (before after : Option (List ℕ)) (e : ScriptError) : Type 0 where
   pub fault : is_outside e ≡ false → ((scripted input).end ≡ Err e) × Keeps before after

@@ -20,7 +20,7 @@ session_named names name = option_map parties.Session (position (λ n. bytes_eq 
 abbrev pub clock_named : Names → List ℕ → Option Party
 clock_named names name = option_map parties.Clock (position (λ n. bytes_eq n name) names.clocks)
 
--- the session or clock that it names, or the one that its frame reaches; nobody where there is none
+-- the session or clock that it names, or the one that its frame reaches; nobody if there is none
 abbrev pub party_at : Names → List Held → Event → Option Party
 party_at names frames (events.Begin session ask) = session_named names session
 party_at names frames (events.Send session) = session_named names session
@@ -29,7 +29,7 @@ party_at names frames (events.Retune session domain) = session_named names sessi
 party_at names frames (events.Deliver frame) = option_map (λ h. party_of h.end) (frame_at frames frame)
 party_at names frames (events.Stranger clock port octets) = clock_named names clock
 
--- where it is a clock, it is one of so many
+-- if it is a clock, it is one of N
 abbrev pub IsThere : ℕ → Option Party → Type 0
 IsThere clocks (Some (parties.Clock place)) = place < clocks
 IsThere clocks (Some (parties.Session place)) = Unit {0}

@@ -44,16 +44,16 @@ way_of (events.Deliver frame) (Ok did) = ways.Arrow frame
 way_of (events.Stranger clock port octets) (Ok did) = ways.FromEdge
 way_of event answer = ways.Mark
 
--- what stands at an arrow of a message
+-- what is written at an arrow of a message
 abbrev pub says_of : Message → Says
 says_of m = record { action = action_of m.body; id = id_of m.body; number = m.number; error = error_of m.body }
 
--- nothing where the datagram is no management message
+-- nothing if the datagram is no management message
 abbrev pub says_in : Result Message DecodeError → Option Says
 says_in (Ok m) = Some (says_of m)
 says_in (Err refusal) = None
 
--- what a clock's verdict comes to, where it sent messages, or none
+-- what a clock's verdict comes to, whether it sent messages or none
 abbrev pub decided : Verdict → Bool → Outcome
 decided verdicts.AnsweredNew has_sent = outcomes.CarriedOut
 decided verdicts.AnsweredRepeat has_sent = outcomes.AnsweredAgain
@@ -68,9 +68,9 @@ outcome_of (Ok took.Answered) has_sent = outcomes.Reported
 outcome_of (Ok (took.Ignored reason)) has_sent = outcomes.Ignored reason
 outcome_of (Err error) has_sent = outcomes.Refused error
 
--- ---- what an event comes to, where the network stands so
+-- ---- what an event comes to, in this state of the network
 
--- an event's row, at this party: what the trace tells of it, and how it is drawn
+-- an event's row, at this party: what the trace says of it, and how it is drawn
 abbrev pub row_of : Network → Names → RunningNetwork → Option Party → EventLine → Row
 row_of N names r at line =
     let event = placed names line.event in
@@ -144,7 +144,7 @@ is_arrow_of number ways.FromEdge = false
 abbrev pub is_delivered : List Row → ℕ → Bool
 is_delivered rows number = list_any (λ row. is_arrow_of number row.way) rows
 
--- the flags of frames 1, 2, 3 and so on, where the one of this number is set, if it is there
+-- the flags of frames 1, 2, 3 and so on: the one of this number is set, if it is there
 abbrev pub marked : ℕ → List Bool → List Bool
 marked number flags = if number == 0 then flags else slice_set flags (number - 1) true
 

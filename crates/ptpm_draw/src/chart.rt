@@ -1,4 +1,4 @@
-//! A picture in SVG 1.1: where all of it stands, and how it is written.
+//! A picture in SVG 1.1: where all of it is, and how it is written.
 
 ghost use Rattle.std.specs.Prelude.{◌≡◌, IfErr, true};
 ghost use Rattle.ptpm_world.specs.ScriptError.{is_of_writing};
@@ -334,7 +334,7 @@ impl<'a> Chart<'a> {
         }
     }
 
-    /// Where a party's lifeline stands; of nobody, the edge.
+    /// Where a party's lifeline is; of nobody, the edge.
     fn x(&self, party: Option<Party>) -> usize {
         match party {
             Some(party) => self.lifelines.x(party),
@@ -343,7 +343,7 @@ impl<'a> Chart<'a> {
     }
 }
 
-/// How wide so many characters are, and this besides.
+/// How wide this many characters are, and this besides.
 fn across(characters: usize, besides: usize) -> usize {
     characters.saturating_mul(CHARACTER).saturating_add(besides)
 }

@@ -10,7 +10,7 @@ use ptpm_world::{Script, ScriptError, read_script};
 use std::alloc::Global;
 use std::io::{Read, Write};
 
-/// Which event lines are drawn: those of these numbers and between, counted from 1 behind the divider.
+/// Which event lines are drawn: those of these numbers and between, counted from 1 after the divider.
 #[derive(Clone, Copy, Debug, PartialEq, Eq)]
 pub struct Chosen {
     pub from: u32,

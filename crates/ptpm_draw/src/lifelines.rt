@@ -1,4 +1,4 @@
-//! Where lifelines stand: the sessions and then the clocks, each in the file's order.
+//! Where lifelines are: the sessions and then the clocks, each in the file's order.
 
 use crate::party::Party;
 use crate::text::Escaped;
@@ -11,7 +11,7 @@ pub(crate) const CHARACTER: usize = 8;
 #[derive(Clone, Copy)]
 pub(crate) struct Lifelines<'a> {
     pub(crate) network: &'a Network,
-    /// Where the first lifeline stands.
+    /// Where the first lifeline is.
     pub(crate) first: usize,
     /// From one lifeline to the next.
     pub(crate) step: usize,
@@ -24,7 +24,7 @@ impl<'a> Lifelines<'a> {
         sessions.saturating_add(self.network.clocks().len())
     }
 
-    /// Whose lifeline stands at a place, counted from the left.
+    /// Whose lifeline is at a place, counted from the left.
     pub(crate) fn party(&self, place: usize) -> Party {
         match place.checked_sub(self.network.sessions().len()) {
             Some(place) => Party::Clock(place),
@@ -32,7 +32,7 @@ impl<'a> Lifelines<'a> {
         }
     }
 
-    /// Where a party's lifeline stands.
+    /// Where a party's lifeline is.
     pub(crate) fn x(&self, party: Party) -> usize {
         let place = match party {
             Party::Session(place) => place,
@@ -41,7 +41,7 @@ impl<'a> Lifelines<'a> {
         self.first.saturating_add(self.step.saturating_mul(place))
     }
 
-    /// Where the last lifeline stands.
+    /// Where the last lifeline is.
     pub(crate) fn last(&self) -> usize {
         let others = self.count().saturating_sub(1);
         self.first.saturating_add(self.step.saturating_mul(others))

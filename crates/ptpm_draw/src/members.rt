@@ -18,10 +18,10 @@ enum DataSet {
     Port,
 }
 
-/// How a member stands in a dataField.
+/// How a member is written in a dataField.
 #[derive(Clone, Copy)]
 enum Kind {
-    /// A number without a sign, in so many octets.
+    /// A number without a sign, in this many octets.
     Unsigned(usize),
     /// A number in two's complement.
     Signed(usize),
@@ -33,7 +33,7 @@ enum Kind {
     Text,
 }
 
-/// A member, and where its value stands: in which dataField, from which octet on, and how.
+/// A member, and where its value is: in which dataField, from which octet on, and how.
 type Field = (Member, DataSet, usize, Kind);
 
 /// The members of a clock, in the order of the bits of `ClockMembers`.
@@ -152,7 +152,7 @@ const PORT_FIELDS: [Field; 8] = [
     (Member::LogMinPdelay, DataSet::Port, 24, Kind::Signed(1)),
 ];
 
-/// The members that an event changed, one a text: those of the clock, and then those of each port, behind its number.
+/// The members that an event changed, one a text: those of the clock, and then those of each port, after its number.
 pub(crate) fn member_texts(
     alloc: Global,
     change: Option<&Change>,
@@ -206,7 +206,7 @@ fn lay(sets: &DataSets, data_set: DataSet, port: u16, octets: &mut Value) {
     }
 }
 
-/// The value of this kind that stands from here on in a dataField.
+/// The value of this kind that begins here in a dataField.
 fn value_text(kind: Kind, start: usize, octets: &[u8]) -> ValueText<'_> {
     let size = match kind {
         Kind::Unsigned(size) | Kind::Signed(size) => size,
@@ -220,7 +220,7 @@ fn value_text(kind: Kind, start: usize, octets: &[u8]) -> ValueText<'_> {
     ValueText { kind, octets }
 }
 
-/// A member's name and value; a port's, behind its number.
+/// A member's name and value; a port's, after its number.
 fn member_text(
     alloc: Global,
     member: Member,
@@ -271,7 +271,7 @@ fn is_plain(octet: u8) -> bool {
     0x20 <= octet && octet <= 0x7e
 }
 
-/// -1 where the first bit of two's complement is set, else 0.
+/// -1 if the first bit of two's complement is set, else 0.
 fn sign_of(octets: &[u8]) -> i64 {
     match octets.first() {
         Some(first) if 128 <= *first => -1,
@@ -279,7 +279,7 @@ fn sign_of(octets: &[u8]) -> i64 {
     }
 }
 
-/// The number of these octets behind this one, the highest first.
+/// The number of these octets after this one, the highest first.
 fn number_of(start: i64, octets: &[u8]) -> i64 {
     let mut number = start;
     for octet in octets {

@@ -12,7 +12,7 @@ use std::fmt;
 /// What became of an event.
 #[derive(Clone, Copy, Debug, PartialEq, Eq)]
 pub enum Outcome {
-    /// A session did what it was told.
+    /// A session did what it was asked.
     Done,
     /// A clock carried out a new request, and answered it.
     CarriedOut,
@@ -47,7 +47,7 @@ impl Row {
     }
 }
 
-/// What a clock's verdict comes to, where it sent messages, or none.
+/// What a clock's verdict comes to, whether it sent messages or none.
 fn decided(verdict: Verdict, has_sent: bool) -> Outcome
     ensures { result ≡ decided verdict has_sent }
 {
@@ -60,7 +60,7 @@ fn decided(verdict: Verdict, has_sent: bool) -> Outcome
     }
 }
 
-/// In words, and behind a colon why, by the names of the trace.
+/// In words, and after a colon why, by the names of the trace.
 impl fmt::Display for Outcome {
     fn fmt<W: fmt::Write>(&self, f: &mut fmt::Formatter<W>) -> fmt::Result {
         match self {

@@ -41,7 +41,7 @@ pub struct Message {
     pub from: Option<Party>,
     /// Whom it reaches when it is delivered.
     pub to: Party,
-    /// `None` where it is no management message.
+    /// `None` if it is no management message.
     pub says: Option<Says>,
 }
 
@@ -59,7 +59,7 @@ pub enum Way {
 /// An event as it is drawn.
 #[derive(Clone, Copy, Debug, PartialEq, Eq)]
 pub struct Row {
-    /// The number of its line, counted from 1 behind the divider.
+    /// The number of its line, counted from 1 after the divider.
     pub line: u32,
     /// At whom it happens, if that is somebody of the network.
     pub at: Option<Party>,
@@ -325,7 +325,7 @@ fn message_of(from: Option<Party>, frame: &Frame<'_>) -> Message
     }
 }
 
-/// What a datagram says; `None` where it is no management message.
+/// What a datagram says; `None` if it is no management message.
 pub(crate) fn said_by(datagram: &[u8]) -> Option<Says>
     ensures { result ≡ says_in (reading datagram.now) }
 {

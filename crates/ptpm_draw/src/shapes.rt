@@ -11,7 +11,7 @@ const LOOP: usize = 32;
 /// How long a stub is.
 const STUB: usize = 36;
 
-/// Where a label stands.
+/// Where a label is.
 #[derive(Clone, Copy, Debug, PartialEq, Eq)]
 enum Anchor {
     Start,
@@ -58,7 +58,7 @@ impl Arrow {
         write_label(start, self.y.saturating_add(4), Anchor::Start, label, out)
     }
 
-    /// Writes a short arrow in the same direction, which ends in a cross, and a label behind it.
+    /// Writes a short arrow in the same direction, which ends in a cross, and a label after it.
     pub(crate) fn write_stub<W: Write>(&self, label: &str, out: &mut W) -> io::Result<()> {
         let leads_left = self.to < self.from;
         let (to, start, anchor) = if leads_left {
@@ -138,7 +138,7 @@ fn inset_of(head: Head) -> usize {
     }
 }
 
-/// Writes a mark on a lifeline, with a label to the right of it: a cross where an event was refused, else a dot.
+/// Writes a mark on a lifeline, with a label to the right of it: a cross if an event was refused, else a dot.
 pub(crate) fn write_mark<W: Write>(
     x: usize,
     y: usize,

@@ -22,9 +22,9 @@ pub(crate) const STUB: usize = 22;
 /// The most characters of each kind of words, and what else says how large a picture is.
 #[derive(Clone, Copy, Debug)]
 pub(crate) struct Sizes {
-    /// Of what stands at arrows and marks.
+    /// Of what is written at arrows and marks.
     pub(crate) label: usize,
-    /// Of what stands behind stubs.
+    /// Of what is written after stubs.
     pub(crate) stub: usize,
     /// Of what became of events, and of what they changed.
     pub(crate) outcome: usize,
@@ -38,7 +38,7 @@ pub(crate) struct Sizes {
     pub(crate) height: usize,
     /// Whether something comes from the edge, or happens at nobody.
     pub(crate) has_edge: bool,
-    /// Whether something stands to the right of the last lifeline.
+    /// Whether something is to the right of the last lifeline.
     pub(crate) has_overhang: bool,
 }
 
@@ -147,7 +147,7 @@ impl Sizes {
     }
 }
 
-/// How high a row is whose event changed so many members.
+/// How high a row is whose event changed this many members.
 pub(crate) fn row_height(members: usize) -> usize {
     members.saturating_mul(MEMBER).saturating_add(ROW)
 }

@@ -1,4 +1,4 @@
-//! How arrows and marks look, so that each outcome can be told without colours.
+//! How arrows and marks look, so that each outcome is recognized without colours.
 
 use crate::outcome::Outcome;
 
@@ -38,7 +38,7 @@ pub(crate) const LOST: Stroke = Stroke {
     head: Head::Cross,
 };
 
-/// How an event with an outcome is drawn. Where a clock answered by an error, or a session was told one, it is red, and nothing is
+/// How an event with an outcome is drawn. If a clock answered by an error, or a session received one, it is red, and nothing is
 /// drawn as carried out.
 pub(crate) fn stroke_of(outcome: Outcome, has_error: bool) -> Stroke {
     match outcome {

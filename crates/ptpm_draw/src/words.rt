@@ -1,4 +1,4 @@
-//! What stands at an arrow or a mark.
+//! What is written at an arrow or a mark.
 
 use crate::outcome::Outcome;
 use crate::picture::{Picture, Row, Says, Way, said_by};
@@ -10,11 +10,11 @@ use ptpm_script::Hexadecimal;
 use ptpm_world::Event;
 use std::fmt;
 
-/// An act shows a value of at most so many octets.
+/// An act shows a value of at most this many octets.
 const SHOWN_OCTETS: usize = 8;
 
-/// What a message says: action, id and sequenceId of a request; action and sequenceId of a reply, and the error that it tells. A
-/// sequenceId stands behind a `#`.
+/// What a message says: action, id and sequenceId of a request; action and sequenceId of a reply, and the error that it reports. A
+/// sequenceId follows a `#`.
 #[derive(Clone, Copy)]
 pub(crate) struct SaysText(pub Option<Says>);
 
@@ -31,7 +31,7 @@ impl fmt::Display for SaysText {
     }
 }
 
-/// A managementId by its name, or by four hexadecimal digits where the table of ids has none.
+/// A managementId by its name, or by four hexadecimal digits if the table of ids has none.
 #[derive(Clone, Copy)]
 struct IdText(u16);
 
@@ -44,7 +44,7 @@ impl fmt::Display for IdText {
     }
 }
 
-/// A managementErrorId by the standard's name, or by four hexadecimal digits where it has none (15.5.4.3).
+/// A managementErrorId by the standard's name, or by four hexadecimal digits if it has none (15.5.4.3).
 #[derive(Clone, Copy)]
 struct ErrorText(u16);
 
@@ -57,7 +57,7 @@ impl fmt::Display for ErrorText {
     }
 }
 
-/// An act of a session, or a refused event: its verb, and what else its line says but for the name.
+/// An act of a session, or a refused event: its verb, and what else its line says except the name.
 #[derive(Clone, Copy)]
 pub(crate) struct ActText<'a>(pub &'a Event);
 
@@ -116,7 +116,7 @@ impl fmt::Display for OutcomeText<'_> {
     }
 }
 
-/// The managementErrorId by which a clock answered a row's event, or which it brought to a session; none where there is no error.
+/// The managementErrorId by which a clock answered a row's event, or which it brought to a session; none if there is no error.
 pub(crate) fn error_told(picture: &Picture, row: &Row) -> Option<u16> {
     match (row.outcome(), row.way) {
         (Outcome::CarriedOut | Outcome::AnsweredAgain | Outcome::Answered, _) => {
@@ -139,7 +139,7 @@ fn error_sent(picture: &Picture, row: &Row) -> Option<u16> {
     None
 }
 
-/// The members that an event changed, each behind a comma.
+/// The members that an event changed, each after a comma.
 #[derive(Clone, Copy)]
 pub(crate) struct ListText<'a>(pub &'a [String]);
 
@@ -168,7 +168,7 @@ impl fmt::Display for FramesText<'_> {
     }
 }
 
-/// The number of an event's line, its verb and, where it is a delivery, the number of its frame.
+/// The number of an event's line, its verb and, if it is a delivery, the number of its frame.
 #[derive(Clone, Copy)]
 pub(crate) struct LineText<'a> {
     pub(crate) line: u32,
@@ -186,7 +186,7 @@ impl fmt::Display for LineText<'_> {
     }
 }
 
-/// What stands at a row's arrow or mark.
+/// What is written at a row's arrow or mark.
 #[derive(Clone, Copy)]
 pub(crate) struct LabelText<'a> {
     pub(crate) picture: &'a Picture,

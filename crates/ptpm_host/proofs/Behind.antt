@@ -1,4 +1,4 @@
--- What stands behind the messages of places stays, also where a message is put into one of them.
+-- What follows the messages of places stays, also if a message is put into one of them.
 use Rattle.std.proofs.Common.{◌≡◌, ◌+◌, ℕ, zero, suc, List, [], ◌∷◌, drop, slice_index_or, slice_set, refl, sym, subst, take, ap, ◌∙◌, arith}
 use Rattle.std.proofs.lemmas.List.{drop-set-lt, take-set}
 use Rattle.std.specs.List.{AllZip}
@@ -27,7 +27,7 @@ drop_next zero room = refl
 drop_next (suc place) [] = refl
 drop_next (suc place) (s ∷ ss) = drop_next place ss
 
--- the places behind the one that is written are still as they were before
+-- the places after the one that is written are still as they were before
 pub places_at_write : (before room : List Sent) (place : ℕ) (s : Sent)
     → drop place room ≡ drop place before
     → drop (place + 1) (slice_set room place s) ≡ drop (place + 1) before
@@ -40,7 +40,7 @@ places_at_write before room place s same =
     ∙ sym (drop_next place before)
     ∙ sym (ap (λ (n : ℕ). drop n before) next)
 
--- a message more, behind those that stand there
+-- a message more, after those that are there
 pub grown_at_write : (a b : Places) (d s : Sent)
     → b.room.ghost_name ≡ a.room.ghost_name
     → b.room.now ≡ slice_set a.room.now a.count s

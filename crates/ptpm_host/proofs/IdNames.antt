@@ -1,4 +1,4 @@
--- A name in either case is that of a row of the table where it is the row's name in capitals.
+-- A name in either case is that of a row of the table if it is the row's name in capitals.
 use Rattle.std.proofs.Common.{◌≡◌, ◌==◌, ℕ, Bool, true, false, List, [], ◌∷◌, Option, Some, None, IsTrue, ◌↔◌, if◌then◌else◌, bytes_eq, map, option_map, find, refl, ap, sym, ◌∙◌, arith}
 use Rattle.std.proofs.lemmas.Bool.{false_from_ne_true}
 use Rattle.std.proofs.lemmas.Bool.Decides.{nat_tests}
@@ -67,7 +67,7 @@ lowered_same : (e : RowValue) (name : List ℕ)
     → map to_ascii_lowercase e.name ≡ map to_ascii_lowercase name
 lowered_same e name same = ap (map to_ascii_lowercase) same ∙ lowered name
 
--- ---- the row of an id, where it has the name
+-- ---- the row of an id, if it has the name
 
 same_tested : (id : ℕ) (e : RowValue) (name : List ℕ) (b : Bool) → row_of id ≡ Some e
     → IsTrue b ↔ (map to_ascii_lowercase e.name ≡ map to_ascii_lowercase name)

@@ -1,4 +1,4 @@
--- Messages that are whole stay so where one more is put behind them.
+-- Messages that are whole stay so if one more is put after them.
 use Rattle.std.proofs.Common.{◌+◌, ◌<◌, ℕ, All, List, length, slice_set, take, subst, sym}
 use Rattle.std.proofs.lemmas.List.{get_or-set_same, length-set, take-set}
 use Rattle.std.proofs.lemmas.List.Elements.{All-more}

@@ -31,9 +31,12 @@ refusal_names =
     (32, codes "NO_CLOCK") ∷ (33, codes "NO_PORT") ∷ (34, codes "NO_ROOM") ∷ (35, codes "NO_MEMORY")
     ∷ (36, codes "NOT_READABLE") ∷ (37, codes "NO_SESSION") ∷ (38, codes "BUSY") ∷ (39, codes "NEEDS_PORT")
     ∷ (40, codes "NOT_PERMITTED") ∷ (41, codes "BAD_VALUE") ∷ (42, codes "COUNT_AT_MAXIMUM") ∷ (43, codes "IDLE")
-    ∷ (44, codes "GAVE_UP") ∷ (45, codes "NO_REPORT") ∷ (46, codes "NO_SURVEY") ∷ (48, codes "NO_PORTS")
-    ∷ (49, codes "TOO_MANY_PORTS") ∷ (50, codes "GRANDMASTER_DIFFERS") ∷ (51, codes "TOO_MANY_MANAGERS")
-    ∷ (52, codes "MANAGER_TWICE") ∷ (53, codes "MANAGER_IS_EVERY") ∷ (54, codes "TARGET_IS_EVERY") ∷ (55, codes "SAME_CLOCK") ∷ []
+    ∷ (44, codes "GAVE_UP") ∷ (45, codes "NO_REPORT") ∷ (46, codes "NO_SURVEY") ∷ (47, codes "OTHER_SIZES")
+    ∷ (48, codes "NO_PORTS") ∷ (49, codes "TOO_MANY_PORTS") ∷ (50, codes "GRANDMASTER_DIFFERS") ∷ (51, codes "TOO_MANY_MANAGERS")
+    ∷ (52, codes "MANAGER_TWICE") ∷ (53, codes "MANAGER_IS_EVERY") ∷ (54, codes "TARGET_IS_EVERY") ∷ (55, codes "SAME_CLOCK")
+    ∷ (56, codes "IDENTITY_IS_ZERO") ∷ (57, codes "TARGET_IS_ZERO")
+    ∷ (104, codes "NOT_AN_IMAGE") ∷ (105, codes "OTHER_VERSION") ∷ (106, codes "OTHER_KIND") ∷ (107, codes "DAMAGED")
+    ∷ (110, codes "OTHER_SESSION") ∷ []
 
 -- which member of a clock is out of its range
 abbrev pub clock_member_names : List (ℕ × List ℕ)
@@ -75,7 +78,7 @@ abbrev pub words_in_capitals : List ℕ → List ℕ
 words_in_capitals [] = []
 words_in_capitals (c ∷ cs) = c ∷ flat_map letters cs
 
--- why a datagram holds no management message; want of memory, which no call tells so, has no name
+-- why a datagram holds no management message; want of memory, which no call reports so, has no name
 abbrev pub cause_word : DecodeError → Option (List ℕ)
 cause_word causes.OutOfMemory = None
 cause_word cause = Some (words_in_capitals (refusal_text cause))

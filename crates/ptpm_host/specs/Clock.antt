@@ -36,12 +36,12 @@ abbrev pub IsFreshClock : ClockSettings → List ManagerSettings → HostedClock
 IsFreshClock clock managers c =
     IsFresh (record { 0 = clock.identity }) (settings.configured managers) (clock_in c) (state_in c).entries
 
--- ---- why a clock does not start: its values first, then its managers
+-- ---- why a clock does not start: its values first, then its managers, and last that its host has given it no identity
 
-abbrev pub refusal_by : Result DataSetsValue StartError → Option TableError → Option StartRefusal
-refusal_by (Err e) t = Some (refusals.Values e)
-refusal_by (Ok d) (Some e) = Some (refusals.Managers e)
-refusal_by (Ok d) None = None
+abbrev pub refusal_by : Result DataSetsValue StartError → Option TableError → Bool → Option StartRefusal
+refusal_by (Err e) t zero = Some (refusals.Values e)
+refusal_by (Ok d) (Some e) zero = Some (refusals.Managers e)
+refusal_by (Ok d) None zero = first_of ((zero, refusals.IdentityIsZero) ∷ [])
 
 abbrev pub start_by : ClockSettings → List PortSettings → Result DataSetsValue StartError
 start_by clock ports = start_of (settings.clock_start clock) (map settings.port_start ports)
@@ -52,8 +52,9 @@ abbrev pub start_refusal : ClockSettings
     → Option StartRefusal
 start_refusal clock ports managers =
     refusal_by (start_by clock ports) (table_refusal (identities (settings.configured managers)))
+    (settings.is_zero (record { 0 = clock.identity }))
 
--- ---- why a datagram is not handled: the clock has the port or not, and there is room for so many messages
+-- ---- why a datagram is not handled: the clock has the port or not, and there is room for this many messages
 
 abbrev pub handle_refusal : Bool → ℕ → Option HandleRefusal
 handle_refusal has_port room = first_of ((not has_port, NoPort) ∷ (nat_lt room 15, NoRoom) ∷ [])
@@ -68,7 +69,7 @@ message_in s = (s.port, take s.size s.octets)
 abbrev pub IsWhole : Sent → Type 0
 IsWhole s = s.size ≤ 1472
 
--- behind the message that was put into a place stands what stood there
+-- after the message that was put into a place comes what was there
 abbrev pub KeepsBehind : Sent → Sent → Type 0
 KeepsBehind before after = drop after.size after.octets ≡ drop after.size before.octets
 

@@ -13,3 +13,7 @@ pub mod Names
 pub mod AnswerNames
 pub mod ErrorNames
 pub mod Observing
+pub mod PassedOn
+pub mod PassedOnLaw
+pub mod Rate
+pub mod RateLaw

@@ -7,7 +7,7 @@ use Rattle.ptpm_data.specs.ManagementId.{row_of}
 abbrev pub capitals : List ℕ → List ℕ
 capitals name = map to_ascii_uppercase name
 
--- the standard's name of a managementId (15.5.2.3), in capitals, where this profile has the id
+-- the standard's name of a managementId (15.5.2.3), in capitals, if this profile has the id
 abbrev pub id_name : ℕ → Option (List ℕ)
 id_name id = option_map (λ e. e.name) (row_of id)
 
@@ -15,7 +15,7 @@ id_name id = option_map (λ e. e.name) (row_of id)
 abbrev pub no_id : ℕ
 no_id = 65536
 
--- what of a name is left in so many octets: all of it, and nothing where there is none or too little room
+-- what of a name is left in this many octets: all of it, and nothing if there is none or too little room
 abbrev pub name_within : ℕ → Option (List ℕ) → List ℕ
 name_within room None = []
 name_within room (Some name) = if nat_lt room (length name) then [] else name

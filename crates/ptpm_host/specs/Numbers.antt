@@ -1,4 +1,4 @@
--- The numbers that stand for what a call answers, in one table (this project's profile): 0 where it was done, below 32 what
+-- The numbers that stand for what a call answers, in one table (this project's profile): 0 if it was done, below 32 what
 -- became of a datagram or of a request, from 32 on why a call changed nothing.
 use Rattle.std.specs.Prelude.{ℕ, ◌+◌}
 use Rattle.ptpm_codec.specs.declared.error.DecodeError.{DecodeError}
@@ -15,6 +15,8 @@ use Rattle.ptpm_agent.specs.declared.verdict.Verdict.{Verdict}
 use Rattle.ptpm_agent.specs.declared.verdict.Verdict.TheVariants as verdicts
 use Rattle.ptpm_manager.specs.declared.error.BeginError.{BeginError}
 use Rattle.ptpm_manager.specs.declared.error.BeginError.TheVariants as begins
+use Rattle.ptpm_manager.specs.declared.error.RestoreError.{RestoreError}
+use Rattle.ptpm_manager.specs.declared.error.RestoreError.TheVariants as restores
 use Rattle.ptpm_manager.specs.declared.error.SendError.{SendError}
 use Rattle.ptpm_manager.specs.declared.error.SendError.TheVariants as errors
 use Rattle.ptpm_manager.specs.declared.receiving.Reason.{Reason}
@@ -95,29 +97,37 @@ told_number (told.Refused error) = 26
 
 -- ---- why a call changed nothing
 
--- no clock stands behind a handle
+-- a handle holds no clock
 abbrev pub no_clock : ℕ
 no_clock = 32
+
+-- there is too little room for what is to be left
+abbrev pub no_room : ℕ
+no_room = 34
 
 -- memory was refused
 abbrev pub no_memory : ℕ
 no_memory = 35
 
--- no session stands behind a handle
+-- a handle holds no session
 abbrev pub no_session : ℕ
 no_session = 37
 
--- no survey stands behind a handle
+-- a handle holds no survey
 abbrev pub no_survey : ℕ
 no_survey = 46
 
+-- a struct of the host has another size than the library's
+abbrev pub other_sizes : ℕ
+other_sizes = 47
+
 abbrev pub handle_number : HandleRefusal → ℕ
 handle_number handles.NoPort = 33
-handle_number handles.NoRoom = 34
+handle_number handles.NoRoom = no_room
 
 abbrev pub read_number : ReadRefusal → ℕ
 read_number reads.NoPort = 33
-read_number reads.NoRoom = 34
+read_number reads.NoRoom = no_room
 read_number reads.NotReadable = 36
 
 abbrev pub begin_number : BeginError → ℕ
@@ -133,11 +143,11 @@ resume_number errors.Idle = 43
 resume_number errors.GaveUp = 44
 
 abbrev pub send_number : SendRefusal → ℕ
-send_number sends.NoRoom = 34
+send_number sends.NoRoom = no_room
 send_number (sends.Session refusal) = resume_number refusal
 
 abbrev pub report_number : ReportRefusal → ℕ
-report_number reports.NoRoom = 34
+report_number reports.NoRoom = no_room
 report_number reports.NoReport = 45
 
 -- ---- why nothing starts, or an observation is refused
@@ -202,6 +212,7 @@ managers_number tables.OutOfMemory = no_memory
 abbrev pub start_number : StartRefusal → ℕ
 start_number (refusals.Values fault) = values_number fault
 start_number (refusals.Managers fault) = managers_number fault
+start_number refusals.IdentityIsZero = 56
 start_number refusals.OutOfMemory = no_memory
 
 abbrev pub session_number : SessionRefusal → ℕ
@@ -210,3 +221,13 @@ session_number sessions.TooManyPorts = 49
 session_number sessions.ManagerIsEvery = 53
 session_number sessions.TargetIsEvery = 54
 session_number sessions.SameClock = 55
+session_number sessions.TargetIsZero = 57
+
+-- why a session is not restored, 35, 104 to 107 or 110
+abbrev pub restore_number : RestoreError → ℕ
+restore_number restores.OutOfMemory = no_memory
+restore_number restores.NotAnImage = 104
+restore_number restores.OtherVersion = 105
+restore_number restores.OtherKind = 106
+restore_number restores.Damaged = 107
+restore_number restores.OtherSession = 110

@@ -27,7 +27,7 @@ announced s = record {
   };
 }
 
--- the clock itself, where that flag is set; else the announced one, where it is given
+-- the clock itself, if that flag is set; else the announced one, if it is given
 abbrev pub grandmaster_of : ObservedClock → Option ObservedGrandmaster
 grandmaster_of s = if s.is_grandmaster == 0 then given s.has_grandmaster (Announced (announced s)) else Some Itself
 

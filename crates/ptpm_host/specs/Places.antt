@@ -1,10 +1,10 @@
--- Places into which messages were written, behind those that stood there.
+-- Places into which messages were written, after those that were there.
 use Rattle.std.specs.Prelude.{◌≡◌, ◌≤◌, drop, take}
 use Rattle.std.specs.List.{AllZip}
 use Rattle.ptpm_host.specs.declared.places.Places.{Places}
 use Rattle.ptpm_host.specs.Clock.{KeepsBehind}
 
--- the messages stay, the places behind the last one stay, and what stands behind each message stays
+-- the messages stay, the places after the last one stay, and what follows each message stays
 pub record HasGrown (a b : Places) : Type 0 where
   pub same_reference : b.room.ghost_name ≡ a.room.ghost_name
   pub more : a.count ≤ b.count

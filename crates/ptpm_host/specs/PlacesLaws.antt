@@ -20,7 +20,7 @@ first_same r b rs bs h = cc
 rest_same : (r b : Sent) (rs bs : List Sent) → r ∷ rs ≡ b ∷ bs → rs ≡ bs
 rest_same r b rs bs h = cc
 
--- what was written in two steps, of which the second left what the first wrote
+-- what was written in two steps: the second left what the first wrote
 kept_twice : (n : ℕ) (xs ys zs : List Sent)
     → AllZip KeepsBehind xs ys
     → AllZip KeepsBehind ys zs

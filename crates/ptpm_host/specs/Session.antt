@@ -48,7 +48,7 @@ abbrev pub report_after : Option Report → Received → Option Report
 report_after kept (received.Answered report) = Some report
 report_after kept (received.Ignored reason) = kept
 
--- ---- why no answer is told
+-- ---- why no answer is given
 
 abbrev pub report_refusal : ℕ → Option Report → Option ReportRefusal
 report_refusal room None = Some reports.NoReport

@@ -1,11 +1,14 @@
 -- What the settings of a host describe: a session that has begun nothing. And why they describe none.
-use Rattle.std.specs.Prelude.{nat_lt, [], ◌∷◌, Option}
+use Rattle.std.specs.Prelude.{ℕ, nat_lt, List, [], ◌∷◌, Option}
 use Rattle.ptpm_codec.specs.declared.identity.ClockIdentity.{ClockIdentity}
 use Rattle.ptpm_codec.specs.declared.identity.PortIdentity.{PortIdentity}
 use Rattle.ptpm_codec.specs.Identity.{every_clock, same_clock}
 use Rattle.ptpm_codec.specs.Ordered.{first_of}
+use Rattle.ptpm_manager.specs.declared.error.RestoreError.{RestoreError}
 use Rattle.ptpm_manager.specs.declared.setup.Setup.{Setup}
+use Rattle.ptpm_manager.specs.Restoring.{restore_refusal}
 use Rattle.ptpm_manager.specs.Session.{SessionValue, fresh}
+use Rattle.ptpm_host.specs.Settings.{is_zero}
 use Rattle.ptpm_host.specs.declared.refusal.SessionRefusal.{SessionRefusal}
 use Rattle.ptpm_host.specs.declared.refusal.SessionRefusal.TheVariants as refusals
 use Rattle.ptpm_host.specs.declared.session_settings.SessionSettings.{SessionSettings}
@@ -29,8 +32,8 @@ setup_of s = record {
 abbrev pub session_start : SessionSettings → SessionValue
 session_start s = fresh (setup_of s) s.domain
 
--- a manager and its clock are two clocks, neither is the identity that means every clock (15.3.1), and the clock has one to
--- eight ports (this project's profile)
+-- a manager and its clock are two clocks, neither is the identity that means every clock (15.3.1), and the clock has one to eight
+-- ports and another identity than zeros (this project's profile)
 abbrev pub session_refusal : SessionSettings → Option SessionRefusal
 session_refusal s = first_of (
     (same_clock (manager_port s).clock every_clock, refusals.ManagerIsEvery)
@@ -38,4 +41,9 @@ session_refusal s = first_of (
     ∷ (same_clock (manager_port s).clock (target_clock s), refusals.SameClock)
     ∷ (nat_lt s.target_ports 1, refusals.NoPorts)
     ∷ (nat_lt 8 s.target_ports, refusals.TooManyPorts)
+    ∷ (is_zero (target_clock s), refusals.TargetIsZero)
     ∷ [])
+
+-- why an image is none of the session that the settings describe
+abbrev pub settings_refusal : SessionSettings → List ℕ → Option RestoreError
+settings_refusal s image = restore_refusal (manager_port s) (target_clock s) s.target_ports s.first image

@@ -2,6 +2,7 @@
 use Rattle.std.specs.Prelude.{ℕ, ◌==◌, min, Bool, not, if◌then◌else◌, List, [], ◌∷◌, take, map, Option, Some, None}
 use Rattle.ptpm_codec.specs.declared.identity.ClockIdentity.{ClockIdentity}
 use Rattle.ptpm_codec.specs.declared.identity.PortIdentity.{PortIdentity}
+use Rattle.ptpm_codec.specs.Identity.{same_clock}
 use Rattle.ptpm_data.specs.declared.rights.Rights.{Rights}
 use Rattle.ptpm_data.specs.declared.start.ClockStart.{ClockStart}
 use Rattle.ptpm_data.specs.declared.start.PortStart.{PortStart}
@@ -9,11 +10,11 @@ use Rattle.ptpm_host.specs.declared.settings.ClockSettings.{ClockSettings}
 use Rattle.ptpm_host.specs.declared.settings.ManagerSettings.{ManagerSettings}
 use Rattle.ptpm_host.specs.declared.settings.PortSettings.{PortSettings}
 
--- a flag is set where it is not 0
+-- a flag is set if it is not 0
 abbrev pub is_set : ℕ → Bool
 is_set flag = not (flag == 0)
 
--- a value, where its flag is set
+-- a value, if its flag is set
 abbrev pub given : {A : Type 0} → ℕ → A → Option A
 given flag a = if flag == 0 then None else Some a
 
@@ -76,6 +77,9 @@ manager_of s = (record { clock = record { 0 = s.clock }; port = s.port }, record
 abbrev pub configured : List ManagerSettings → List (PortIdentity × Rights)
 configured managers = map manager_of managers
 
--- the identity that a host writes over
+-- the identity that a host writes over: all zeros, which no clock has
 abbrev pub default_identity : ClockIdentity
 default_identity = record { 0 = 0 ∷ 0 ∷ 0 ∷ 0 ∷ 0 ∷ 0 ∷ 0 ∷ 0 ∷ [] }
+
+abbrev pub is_zero : ClockIdentity → Bool
+is_zero identity = same_clock identity default_identity

@@ -1,4 +1,4 @@
--- A survey that a host keeps: who gave an answer, and why none is told.
+-- A survey that a host keeps: who gave an answer, and why none is given.
 use Rattle.std.specs.Prelude.{ℕ, Option, None, Some}
 use Rattle.ptpm_codec.specs.declared.identity.PortIdentity.{PortIdentity}
 use Rattle.ptpm_manager.specs.Answers.{Answer}

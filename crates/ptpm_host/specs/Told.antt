@@ -1,4 +1,4 @@
--- What an answer tells a host, and whether there is room for it.
+-- What an answer says to a host, and whether there is room for it.
 use Rattle.std.specs.Prelude.{ℕ, nat_lt, List, [], ◌∷◌, length, Option}
 use Rattle.ptpm_codec.specs.Ordered.{first_of}
 use Rattle.ptpm_manager.specs.declared.report.Outcome.{Outcome}
@@ -18,13 +18,13 @@ told_of (outcomes.Value octets) = told.Value (length octets)
 told_of outcomes.Done = told.Done
 told_of (outcomes.Refused error) = told.Refused error
 
--- how many octets of a dataField are told
+-- how many octets of a dataField are given
 abbrev pub told_size : Told → ℕ
 told_size (told.Value size) = size
 told_size told.Done = 0
 told_size (told.Refused error) = 0
 
--- the managementErrorId, and 0 where none is told
+-- the managementErrorId, and 0 if none is given
 abbrev pub told_error : Told → ℕ
 told_error (told.Value size) = 0
 told_error told.Done = 0

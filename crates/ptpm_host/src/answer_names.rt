@@ -51,7 +51,7 @@ fn datagram_name(number: u32) -> Option<&'static str>
     }
 }
 
-/// Why a call changed nothing, 32 to 55.
+/// Why a call changed nothing, 32 to 57 and 104 to 110.
 #[tactic(auto, unfolding(crate::specs::AnswerNames::name_in))]
 fn refusal_name(number: u32) -> Option<&'static str>
     ensures { option_map (λ name. name.now) result ≡ name_in refusal_names number }
@@ -72,6 +72,7 @@ fn refusal_name(number: u32) -> Option<&'static str>
         44 => Some("GAVE_UP"),
         45 => Some("NO_REPORT"),
         46 => Some("NO_SURVEY"),
+        47 => Some("OTHER_SIZES"),
         48 => Some("NO_PORTS"),
         49 => Some("TOO_MANY_PORTS"),
         50 => Some("GRANDMASTER_DIFFERS"),
@@ -80,6 +81,13 @@ fn refusal_name(number: u32) -> Option<&'static str>
         53 => Some("MANAGER_IS_EVERY"),
         54 => Some("TARGET_IS_EVERY"),
         55 => Some("SAME_CLOCK"),
+        56 => Some("IDENTITY_IS_ZERO"),
+        57 => Some("TARGET_IS_ZERO"),
+        104 => Some("NOT_AN_IMAGE"),
+        105 => Some("OTHER_VERSION"),
+        106 => Some("OTHER_KIND"),
+        107 => Some("DAMAGED"),
+        110 => Some("OTHER_SESSION"),
         _ => None,
     }
 }

@@ -88,7 +88,7 @@ impl HostedClock {
         Ok(clock)
     }
 
-    /// A clock of this start that has heard nothing yet and has no managers. It is inlined, and zeros but for its data sets and
+    /// A clock of this start that has heard nothing yet and has no managers. It is inlined, and zeros except its data sets and
     /// its identity: so LLVM makes it in the block that it is moved to.
     #[inline(always)]
     fn without_managers(judged: &JudgedStart) -> HostedClock
@@ -103,7 +103,7 @@ impl HostedClock {
         }
     }
 
-    /// Gives a clock without managers those of this start, where it stands.
+    /// Gives a clock without managers those of this start, in place.
     fn admit(&mut self, judged: &JudgedStart)
         requires { (clock_in self.old).managers ≡ [] }
         ensures sets { self.new.agent.sets ≡ self.old.agent.sets }
@@ -113,7 +113,7 @@ impl HostedClock {
         self.agent.admit(judged.managers.as_slice());
     }
 
-    /// The data sets as they stand.
+    /// The data sets as they are.
     pub fn sets(&self) -> &DataSets
         ensures { result.now ≡ self.now.agent.sets }
     {
@@ -121,8 +121,8 @@ impl HostedClock {
     }
 
     /// What becomes of a datagram that comes in at a port: one turn of the clock. What it sends is written into the first
-    /// places of `room`; the places behind them stay as they are, and so does what stands behind each message. Where it is
-    /// refused, nothing changes. The data sets change behind the verdict `AnsweredNew` alone: a host that acts on what changed
+    /// places of `room`; the places after them stay as they are, and so does what follows each message. If it is
+    /// refused, nothing changes. The data sets change with the verdict `AnsweredNew` alone: a host that acts on what changed
     /// keeps a copy of them, and then asks `sets` what is another since. Takes no memory.
     #[tactic(auto, using(crate::specs::PlacesLaws::kept_by_none))]
     pub fn handle(
@@ -162,8 +162,8 @@ impl HostedClock {
         })
     }
 
-    /// What the host observes of its clock and of its ports from 1 on: the observed members move, and no other; but for the
-    /// state of a disabled port, which stays and is told, and for the quality of a grandmaster that is the clock itself. What
+    /// Sets exactly the members that the host observed, of its clock and of its ports from 1 on. Exceptions: a disabled port keeps
+    /// its state and is reported; a clock that is its own grandmaster shows its own quality as the grandmaster's. What
     /// is kept of each manager stays. Refused by the first reason that holds, and then nothing changes. Takes no memory.
     #[tactic(auto, using(crate::proofs::ObservedPlaces::no_port, crate::proofs::ObservedPlaces::same_clock))]
     pub fn observe(

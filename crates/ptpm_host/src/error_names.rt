@@ -3,7 +3,7 @@
 ghost use Rattle.std.specs.Prelude.{◌≡◌, option_map};
 ghost use Rattle.ptpm_host.specs.ErrorNames.{error_name};
 
-/// The standard's name of a managementErrorId, as `WRONG_VALUE` (15.5.4.3, table 109); `None` where the standard names none.
+/// The standard's name of a managementErrorId, such as `WRONG_VALUE` (15.5.4.3, table 109); `None` if the standard names none.
 #[tactic(auto, unfolding(crate::specs::AnswerNames::name_in))]
 pub fn error_name(number: u16) -> Option<&'static str>
     ensures { option_map (λ name. name.now) result ≡ error_name number }

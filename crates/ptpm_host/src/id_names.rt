@@ -9,14 +9,14 @@ use ptpm_data::{MANAGEMENT_IDS, Row, row};
 /// Stands for no managementId: an id has 16 bits.
 pub const NO_ID: u32 = 65_536;
 
-/// The standard's name of a managementId, as `PRIORITY1`; `None` where this profile lacks the id.
+/// The standard's name of a managementId, such as `PRIORITY1`; `None` if this profile lacks the id.
 pub fn id_name(id: u16) -> Option<&'static str>
     ensures { option_map (λ name. name.now) result ≡ id_name id }
 {
     Some(row(id)?.name)
 }
 
-/// The managementId of a name in ASCII, in either case, as `priority1`; `None` where no id has it.
+/// The managementId of a name in ASCII, in either case, such as `priority1`; `None` if no id has it.
 pub fn id_named(name: &[u8]) -> Option<u16>
     ensures named { IfSome result (λ id. id_name id ≡ Some (capitals name.now)) }
     ensures found { (id : ℕ) → id_name id ≡ Some (capitals name.now) → result ≡ Some id }
@@ -38,7 +38,7 @@ fn row_named(name: &[u8]) -> Option<Row>
     None
 }
 
-/// The row of an id, where it has that name.
+/// The row of an id, if it has that name.
 fn row_if_named(id: u16, name: &[u8]) -> Option<Row>
     ensures { option_map row_value result ≡ if_named (capitals name.now) (row_of id) }
 {

@@ -6,10 +6,12 @@ ghost use Rattle.ptpm_host.specs.Clock.{start_by, start_refusal};
 ghost use Rattle.ptpm_host.specs.Settings.{configured};
 
 use crate::refusal::StartRefusal;
-use crate::settings::{ClockSettings, ManagerSettings, PortSettings, configured, port_starts};
+use crate::settings::{
+    ClockSettings, ManagerSettings, NO_IDENTITY, PortSettings, configured, port_starts,
+};
 use ptpm_codec::{ClockIdentity, PortIdentity};
 use ptpm_data::{DataSets, Rights};
-use ptpm_table::{PlainTable, TableError};
+use ptpm_table::managers_refusal;
 use std::alloc::Global;
 
 /// The data sets and the managers of a clock that may start: at most sixteen managers, each identity once.
@@ -23,6 +25,7 @@ pub(crate) struct JudgedStart {
 
 impl JudgedStart {
     /// What these settings describe, or the first reason why no clock starts so.
+    #[tactic(auto, using(crate::proofs::StartLemmas::few_permitted, crate::proofs::StartLemmas::none_twice))]
     pub fn new(
         alloc: Global,
         settings: &ClockSettings,
@@ -47,25 +50,12 @@ impl JudgedStart {
             Ok(sets) => sets,
             Err(fault) => return Err(StartRefusal::Values(fault)),
         };
-        match judge(alloc, managers.as_slice()) {
-            Ok(()) => Ok(JudgedStart { sets, managers }),
-            Err(TableError::OutOfMemory) => Err(StartRefusal::OutOfMemory),
-            Err(fault) => Err(StartRefusal::Managers(fault)),
+        if let Some(fault) = managers_refusal(managers.as_slice()) {
+            return Err(StartRefusal::Managers(fault));
         }
-    }
-}
-
-/// Why these can't be a clock's managers. A table on the heap judges them, since a `BoundTable` would be moved in its `Result`.
-#[tactic(auto, using(crate::proofs::StartLemmas::few_permitted, crate::proofs::StartLemmas::none_twice))]
-fn judge(alloc: Global, managers: &[(PortIdentity, Rights)]) -> Result<(), TableError>
-    ensures permitted { OnOk result (table_refusal (identities managers.now) ≡ None) }
-    ensures few { OnOk result (length managers.now ≤ 16) }
-    ensures distinct { OnOk result (has_twice (identities managers.now) ≡ false) }
-    ensures refused { IfErr result (λ e. e ≢ TableError.OutOfMemory →
-        table_refusal (identities managers.now) ≡ Some e) }
-{
-    match PlainTable::new(alloc, ClockIdentity::EVERY, managers) {
-        Ok(_) => Ok(()),
-        Err(fault) => Err(fault),
+        if ClockIdentity(settings.identity) == NO_IDENTITY {
+            return Err(StartRefusal::IdentityIsZero);
+        }
+        Ok(JudgedStart { sets, managers })
     }
 }

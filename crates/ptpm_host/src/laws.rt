@@ -1,4 +1,4 @@
-//! What holds of names. The law is the contract of a function that does nothing.
+//! What holds of names, of what is passed on, and of rates. Each law is the contract of a function that does nothing.
 
 ghost use Rattle.std.specs.Prelude.{◌≡◌, ◌≢◌, ◌≤◌, ◌++◌, ℕ, List, Some, codes, length};
 ghost use Rattle.ptpm_codec.specs.declared.error.ErrorId.{ErrorId};
@@ -10,16 +10,19 @@ ghost use Rattle.ptpm_data.specs.declared.start.StartError.TheVariants.{BadValue
 ghost use Rattle.ptpm_data.specs.MemberNames.{member_name};
 ghost use Rattle.ptpm_manager.specs.declared.error.BeginError.{BeginError};
 ghost use Rattle.ptpm_manager.specs.declared.error.BeginError.TheVariants.{OutOfMemory};
+ghost use Rattle.ptpm_manager.specs.declared.error.RestoreError.{RestoreError};
 ghost use Rattle.ptpm_manager.specs.declared.error.SendError.{SendError};
 ghost use Rattle.ptpm_manager.specs.declared.receiving.Reason.{Reason};
-ghost use Rattle.ptpm_manager.specs.ErrorText.{begin_error_text, send_error_text};
+ghost use Rattle.ptpm_manager.specs.ErrorText.{begin_error_text, restore_error_text, send_error_text};
 ghost use Rattle.ptpm_host.specs.AnswerNames.{answer_name, reason_word, verdict_word, words_in_capitals};
 ghost use Rattle.ptpm_host.specs.ErrorNames.{error_name};
 ghost use Rattle.ptpm_host.specs.Names.{capitals, id_name};
-ghost use Rattle.ptpm_host.specs.Numbers.{begin_number, reason_number, resume_number, values_number, verdict_number};
+ghost use Rattle.ptpm_host.specs.Numbers.{begin_number, reason_number, restore_number, resume_number, values_number, verdict_number};
+ghost use Rattle.ptpm_host.specs.PassedOnLaw.{NotTwice};
+ghost use Rattle.ptpm_host.specs.RateLaw.{WithinRate};
 
-/// The number of a verdict, of a reason and of a refusal has its name, in words of capitals as `ANSWERED_NEW` for `AnsweredNew`;
-/// a malformed datagram the name of its cause. The number of a member has its name behind `BAD_`. A managementErrorId that a
+/// The number of a verdict, of a reason and of a refusal has its name, in words of capitals: `ANSWERED_NEW` for `AnsweredNew`;
+/// a malformed datagram the name of its cause. The number of a member has its name after `BAD_`. A managementErrorId that a
 /// message can name has the name that it is written by. A name of an id, of an answer or of an error has at most 27 octets.
 pub fn names_law()
     ensures verdict { (v : Verdict) → answer_name (verdict_number v) ≡ verdict_word v }
@@ -29,6 +32,9 @@ pub fn names_law()
         → answer_name (begin_number e) ≡ Some (words_in_capitals (begin_error_text e)) }
     ensures send { (e : SendError)
         → answer_name (resume_number e) ≡ Some (words_in_capitals (send_error_text e)) }
+    ensures restore { (e : RestoreError)
+        → e ≢ RestoreError.OutOfMemory
+        → answer_name (restore_number e) ≡ Some (words_in_capitals (restore_error_text e)) }
     ensures member { (m : Member)
         → answer_name (values_number (BadValue m))
         ≡ Some (codes "BAD_" ++ capitals (member_name m)) }
@@ -41,4 +47,14 @@ pub fn names_law()
     ensures error_size { (number : ℕ) (name : List ℕ)
         → error_name number ≡ Some name
         → length name ≤ 27 }
+{}
+
+/// A message that a table let through is not let through again within its time.
+pub fn passed_on_law()
+    ensures { NotTwice }
+{}
+
+/// A bucket gives no more tokens than a second's, and those that the time has brought.
+pub fn rate_law()
+    ensures { WithinRate }
 {}

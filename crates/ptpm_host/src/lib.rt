@@ -11,7 +11,9 @@ mod laws;
 mod names;
 mod numbers;
 mod observing;
+mod passed_on;
 mod places;
+mod rate;
 mod reading;
 mod refusal;
 mod sent;
@@ -21,19 +23,22 @@ mod settings;
 mod survey;
 mod survey_settings;
 mod told;
+mod version;
 
 pub use answer_names::answer_name;
 pub use clock::{Handled, HostedClock, MOST_SENT};
 pub use error_names::error_name;
 pub use id_names::{NO_ID, id_name, id_named};
-pub use laws::names_law;
+pub use laws::{names_law, passed_on_law, rate_law};
 pub use names::hand_out_name;
 pub use numbers::{
-    NO_CLOCK, NO_MEMORY, NO_SESSION, NO_SURVEY, begin_number, handle_number, heard_number,
-    observe_number, read_number, report_number, resume_number, send_number, session_number,
-    start_number, surveyed_number, told_number, verdict_number,
+    NO_CLOCK, NO_MEMORY, NO_ROOM, NO_SESSION, NO_SURVEY, OTHER_SIZES, begin_number, handle_number,
+    heard_number, observe_number, read_number, report_number, restore_number, resume_number,
+    send_number, session_number, start_number, surveyed_number, told_number, verdict_number,
 };
 pub use observing::{ObservedClock, ObservedPort, left_number};
+pub use passed_on::{MessageKey, PassedOn, PassedOnPlace};
+pub use rate::Rate;
 pub use refusal::{
     HandleRefusal, ReadRefusal, ReportRefusal, SendRefusal, SessionRefusal, StartRefusal,
 };
@@ -44,6 +49,7 @@ pub use settings::{ClockSettings, ManagerSettings, PortSettings};
 pub use survey::{HostedSurvey, Source, SurveyAnswer};
 pub use survey_settings::SurveySettings;
 pub use told::Told;
+pub use version::VERSION_NUMBER;
 
 #[cfg(test)]
 mod tests;

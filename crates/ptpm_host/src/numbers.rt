@@ -1,12 +1,12 @@
-//! The numbers that stand for what a call answers, in one table: 0 where it was done, 1 to 31 what became of a datagram or of a
+//! The numbers that stand for what a call answers, in one table: 0 if it was done, 1 to 31 what became of a datagram or of a
 //! request, from 32 on why a call changed nothing.
 //!
 //! 1 to 9 are verdicts, 10 to 15 why a session or a survey ignores a datagram, 16 to 24 why it holds no message, 25 and 26 what
-//! became of a request, 27 and 28 what a survey makes of an answer; 29 to 31 are free. 32 to 46 are refusals of a call, 48 to 55
-//! of a start, and from 64 on the members that may be out of range, in their order.
+//! became of a request, 27 and 28 what a survey makes of an answer; 29 to 31 are free. 32 to 47 are refusals of a call, 48 to 57
+//! of a start, 64 to 101 the members that may be out of range, in their order, and from 104 on refusals of a restore.
 
 ghost use Rattle.std.specs.Prelude.{◌≡◌, ◌≤◌};
-ghost use Rattle.ptpm_host.specs.Numbers.{begin_number, cause_number, handle_number, heard_number, managers_number, member_number, observe_number, read_number, reason_number, report_number, resume_number, send_number, session_number, start_number, surveyed_number, told_number, values_number, verdict_number};
+ghost use Rattle.ptpm_host.specs.Numbers.{begin_number, cause_number, handle_number, heard_number, managers_number, member_number, observe_number, read_number, reason_number, report_number, restore_number, resume_number, send_number, session_number, start_number, surveyed_number, told_number, values_number, verdict_number};
 
 use crate::refusal::{
     HandleRefusal, ReadRefusal, ReportRefusal, SendRefusal, SessionRefusal, StartRefusal,
@@ -16,22 +16,28 @@ use crate::told::Told;
 use ptpm_agent::Verdict;
 use ptpm_codec::DecodeError;
 use ptpm_data::{Member, ObservationError, StartError};
-use ptpm_manager::{BeginError, Reason, SendError, Surveyed};
+use ptpm_manager::{BeginError, Reason, RestoreError, SendError, Surveyed};
 use ptpm_table::TableError;
 
-/// No clock stands behind a handle.
+/// A handle holds no clock.
 pub const NO_CLOCK: u32 = 32;
+
+/// There is too little room for what is to be left.
+pub const NO_ROOM: u32 = 34;
 
 /// Memory was refused.
 pub const NO_MEMORY: u32 = 35;
 
-/// No session stands behind a handle.
+/// A handle holds no session.
 pub const NO_SESSION: u32 = 37;
 
-/// No survey stands behind a handle.
+/// A handle holds no survey.
 pub const NO_SURVEY: u32 = 46;
 
-/// What became of a datagram, 1 to 24. A datagram that is no management message is told apart first: the numbers of the other
+/// A struct of the host has another size than this library's.
+pub const OTHER_SIZES: u32 = 47;
+
+/// What became of a datagram, 1 to 24. A datagram that is no management message is recognized first: the numbers of the other
 /// verdicts are in the order of the verdicts, so that LLVM makes no table of them.
 pub fn verdict_number(verdict: Verdict) -> u32
     ensures { result ≡ verdict_number verdict }
@@ -125,7 +131,7 @@ pub fn handle_number(refusal: HandleRefusal) -> u32
 {
     match refusal {
         HandleRefusal::NoPort => 33,
-        HandleRefusal::NoRoom => 34,
+        HandleRefusal::NoRoom => NO_ROOM,
     }
 }
 
@@ -136,7 +142,7 @@ pub fn read_number(refusal: ReadRefusal) -> u32
     match refusal {
         ReadRefusal::NotReadable => 36,
         ReadRefusal::NoPort => 33,
-        ReadRefusal::NoRoom => 34,
+        ReadRefusal::NoRoom => NO_ROOM,
     }
 }
 
@@ -160,6 +166,7 @@ pub fn start_number(refusal: StartRefusal) -> u32
     match refusal {
         StartRefusal::Values(fault) => values_number(fault),
         StartRefusal::Managers(fault) => managers_number(fault),
+        StartRefusal::IdentityIsZero => 56,
         StartRefusal::OutOfMemory => NO_MEMORY,
     }
 }
@@ -225,22 +232,22 @@ pub fn send_number(refusal: SendRefusal) -> u32
     ensures { result ≡ send_number refusal }
 {
     match refusal {
-        SendRefusal::NoRoom => 34,
+        SendRefusal::NoRoom => NO_ROOM,
         SendRefusal::Session(refusal) => resume_number(refusal),
     }
 }
 
-/// Why an answer is not told, 34 or 45.
+/// Why an answer is not given, 34 or 45.
 pub fn report_number(refusal: ReportRefusal) -> u32
     ensures { result ≡ report_number refusal }
 {
     match refusal {
-        ReportRefusal::NoRoom => 34,
+        ReportRefusal::NoRoom => NO_ROOM,
         ReportRefusal::NoReport => 45,
     }
 }
 
-/// Why a session does not start, 48, 49 or 53 to 55.
+/// Why a session does not start, 48, 49, 53 to 55 or 57.
 pub fn session_number(refusal: SessionRefusal) -> u32
     ensures number { result ≡ session_number refusal }
     ensures some { 1 ≤ result }
@@ -251,5 +258,21 @@ pub fn session_number(refusal: SessionRefusal) -> u32
         SessionRefusal::ManagerIsEvery => 53,
         SessionRefusal::TargetIsEvery => 54,
         SessionRefusal::SameClock => 55,
+        SessionRefusal::TargetIsZero => 57,
+    }
+}
+
+/// Why a session is not restored, 35, 104 to 107 or 110.
+pub fn restore_number(refusal: RestoreError) -> u32
+    ensures number { result ≡ restore_number refusal }
+    ensures some { 1 ≤ result }
+{
+    match refusal {
+        RestoreError::OutOfMemory => NO_MEMORY,
+        RestoreError::NotAnImage => 104,
+        RestoreError::OtherVersion => 105,
+        RestoreError::OtherKind => 106,
+        RestoreError::Damaged => 107,
+        RestoreError::OtherSession => 110,
     }
 }

@@ -13,8 +13,8 @@ use ptpm_data::{
     PortState, PortsLeftDisabled,
 };
 
-/// What is observed of a clock, those with the strictest alignment first. A flag is set where it is not 0. Behind `has_` stands
-/// whether a member is observed: where it is not, it stays.
+/// What is observed of a clock, those with the strictest alignment first. A flag is set if it is not 0. A flag `has_..` says
+/// whether a member is observed: if it is not, it stays.
 #[repr(C)]
 #[derive(Clone, Copy, Default)]
 pub struct ObservedClock {

@@ -7,7 +7,7 @@ use crate::sent::Sent;
 use ptpm_codec::Envelope;
 use ptpm_table::{Outgoing, Renewal};
 
-/// A host's places, fifteen at least, of which the first have messages.
+/// A host's places, fifteen at least. The first of them have messages.
 #[derive(Drop)]
 pub(crate) struct Places<'a> {
     room: &'a mut [Sent],

@@ -11,6 +11,8 @@ pub enum StartRefusal {
     Values(StartError),
     /// These can't be its managers.
     Managers(TableError),
+    /// Its clockIdentity is all zeros.
+    IdentityIsZero,
     OutOfMemory,
 }
 
@@ -47,6 +49,8 @@ pub enum SessionRefusal {
     NoPorts,
     /// It has more than eight.
     TooManyPorts,
+    /// The managed clock's clockIdentity is all zeros.
+    TargetIsZero,
 }
 
 /// Why no request is handed out, in the order in which the reasons are judged; a survey's, for the first alone.
@@ -58,7 +62,7 @@ pub enum SendRefusal {
     Session(SendError),
 }
 
-/// Why an answer is not told, in the order in which the reasons are judged.
+/// Why an answer is not given, in the order in which the reasons are judged.
 #[derive(Clone, Copy, Debug, PartialEq, Eq)]
 pub enum ReportRefusal {
     /// No request was begun, or the latest is not answered; or a survey has no answer at the place.

@@ -1,4 +1,4 @@
-//! Messages as a host in C takes them over, each written right where it stays.
+//! Messages as a host in C takes them over, each written in place.
 
 ghost use Rattle.std.specs.Prelude.{◌≡◌, ◌-◌, ◌<◌, ◌≤◌, ℕ, [], length, slice_set};
 ghost use Rattle.ptpm_codec.specs.Canonical.{canonical};
@@ -24,7 +24,7 @@ pub struct Sent {
     pub port: u16,
     /// How many octets the message has.
     pub size: u16,
-    /// The message, and behind it what stood there before.
+    /// The message, and after it what was there before.
     pub octets: [u8; MESSAGE_OCTETS],
 }
 
@@ -50,7 +50,7 @@ impl Sent {
         &self.octets[..self.size as usize]
     }
 
-    /// Writes the message of an envelope that answers this dataField from the source port in place of the one that stands here.
+    /// Writes the message of an envelope that answers this dataField from the source port in place of the one that is here.
     #[inline(always)]
     pub(crate) fn put_answer(&mut self, port: u16, envelope: &Envelope, source: u16, octets: &[u8])
         requires { length octets.now ≤ 1418 }
@@ -67,7 +67,7 @@ impl Sent {
         envelope.answer_in(source, octets, &mut self.octets[..size]);
     }
 
-    /// Writes the message of an envelope that refuses this id from the source port in place of the one that stands here.
+    /// Writes the message of an envelope that refuses this id from the source port in place of the one that is here.
     pub(crate) fn put_refusal(
         &mut self,
         port: u16,
@@ -88,7 +88,7 @@ impl Sent {
         envelope.refuse_in(source, error, id, &mut self.octets[..REFUSAL_OCTETS]);
     }
 
-    /// Writes a well-formed datagram's message, with boundaryHops less by one, in place of the one that stands here.
+    /// Writes a well-formed datagram's message, with boundaryHops less by one, in place of the one that is here.
     pub(crate) fn put_less_hop(&mut self, port: u16, datagram: &[u8])
         requires well_formed { IsWellFormed datagram.now }
         requires hops { 0 < boundary_hops datagram.now }
@@ -106,7 +106,7 @@ impl Sent {
     }
 
     /// Writes a copy of a kept message, with what depends on the copy that is answered written over, in place of the one that
-    /// stands here.
+    /// is here.
     pub(crate) fn put_renewed(&mut self, port: u16, message: &[u8], renewal: &Renewal)
         requires long { 54 ≤ length message.now }
         requires small { length message.now ≤ 1472 }

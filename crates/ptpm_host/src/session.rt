@@ -1,23 +1,27 @@
 //! A session with the request that it sends and the answer that it heard, as a host keeps it.
 
-ghost use Rattle.std.specs.Prelude.{◌≡◌, ◌≢◌, ◌≤◌, false, true, Err, None, Some, IfErr, IfOk, MatchResult, OnErr, OnOk, drop, length, take};
+ghost use Rattle.std.specs.Prelude.{◌≡◌, ◌≢◌, ◌≤◌, ◌++◌, ◌↔◌, false, true, Err, None, Some, IfErr, IfNone, IfOk, IfSome, IsSome, MatchResult, OnErr, OnOk, drop, length, take};
 ghost use Rattle.ptpm_codec.specs.declared.message.Message.{Message};
 ghost use Rattle.ptpm_codec.specs.Canonical.{canonical};
 ghost use Rattle.ptpm_manager.specs.declared.error.BeginError.{BeginError};
+ghost use Rattle.ptpm_manager.specs.declared.error.RestoreError.{RestoreError};
 ghost use Rattle.ptpm_manager.specs.declared.error.SendError.{SendError};
 ghost use Rattle.ptpm_manager.specs.declared.report.Report.{Report};
 ghost use Rattle.ptpm_manager.specs.Ask.{request_of};
+ghost use Rattle.ptpm_manager.specs.Image.{session_image};
+ghost use Rattle.ptpm_manager.specs.ImageReading.{session_at};
 ghost use Rattle.ptpm_manager.specs.Receiving.{NeedsMemory, left_by, received_of};
 ghost use Rattle.ptpm_manager.specs.Session.{begin_refusal, begun, due_message, is_waiting, resumed, retuned, sent};
 ghost use Rattle.ptpm_host.specs.Session.{ask_of, asked_action, hand_refusal, heard_of, report_after, report_refusal};
-ghost use Rattle.ptpm_host.specs.SessionSettings.{session_refusal, session_start};
+ghost use Rattle.ptpm_host.specs.SessionSettings.{settings_refusal, session_refusal, session_start};
 ghost use Rattle.ptpm_host.specs.Told.{told_octets, told_of, told_size};
 
 use crate::refusal::{ReportRefusal, SendRefusal, SessionRefusal};
 use crate::session_settings::SessionSettings;
+use crate::settings::NO_IDENTITY;
 use crate::told::{Told, tell};
 use ptpm_codec::{Action, Buffer, ClockIdentity, MESSAGE_OCTETS, OutOfMemory};
-use ptpm_manager::{BeginError, Reason, Received, Report, SendError, Session};
+use ptpm_manager::{BeginError, Reason, Received, Report, RestoreError, SendError, Session};
 use std::alloc::Global;
 
 /// A session, room for the request that it sends, and the answer to the latest request.
@@ -65,6 +69,9 @@ impl HostedSession {
         if ports > 8 {
             return Err(SessionRefusal::TooManyPorts);
         }
+        if target == NO_IDENTITY {
+            return Err(SessionRefusal::TargetIsZero);
+        }
         Ok(HostedSession {
             session: Session::new(
                 alloc,
@@ -81,6 +88,54 @@ impl HostedSession {
         })
     }
 
+    /// The session whose image this is. Manager, managed clock, its number of ports and the first number must be those of the
+    /// settings; domain, hop field and attempts are those of the image. A request that was not answered goes on, with all
+    /// attempts before it. The first reason that holds is why it is refused. Memory is asked for last, for the request's
+    /// dataField.
+    pub fn restored(
+        alloc: Global,
+        settings: &SessionSettings,
+        image: &[u8],
+    ) -> Result<HostedSession, RestoreError>
+        ensures session { IfOk result (λ s. s.session ≡ session_at image.now) }
+        ensures image { IfOk result (λ s. image.now ≡ session_image s.session) }
+        ensures report { IfOk result (λ s. s.report ≡ None) }
+        ensures permitted { OnOk result (settings_refusal settings.now image.now ≡ None) }
+        ensures refused { (e : RestoreError)
+            → settings_refusal settings.now image.now ≡ Some e
+            → result ≡ Err e }
+        ensures no_other { IfErr result (λ e. e ≢ RestoreError.OutOfMemory →
+            settings_refusal settings.now image.now ≡ Some e) }
+    {
+        let session = Session::restored(
+            alloc,
+            image,
+            settings.manager(),
+            settings.target(),
+            settings.target_ports,
+            settings.first,
+        )?;
+        Ok(HostedSession {
+            session,
+            buffer: Buffer::new(),
+            report: None,
+        })
+    }
+
+    /// Leaves the session's image at the head of `octets`, and answers how many octets it has: 53 to 1,478. What comes after
+    /// them stays. `None`, and nothing is written, if there is room for fewer. The answer to the latest request is not in it.
+    /// Takes no memory.
+    pub fn image(&self, octets: &mut [u8]) -> Option<usize>
+        ensures room { IsSome result
+            ↔ (length (session_image self.now.session) ≤ length octets.old) }
+        ensures size { IfSome result (λ n. n ≡ length (session_image self.now.session)) }
+        ensures octets { IfSome result
+            (λ n. octets.new ≡ session_image self.now.session ++ drop n octets.old) }
+        ensures unchanged { IfNone result (octets.new ≡ octets.old) }
+    {
+        self.session.image_into(octets)
+    }
+
     /// How many requests were begun.
     pub fn issued(&self) -> u64
         ensures { result ≡ self.now.session.issued }
@@ -91,7 +146,7 @@ impl HostedSession {
     /// Begins a request, with all its attempts before it: 0 GET, 1 SET or 3 COMMAND of a managementId, with this dataField.
     /// The port matters for an id of a port alone. The answer to an earlier request is let go. The first reason that holds
     /// is why it is refused, and then nothing changes. Memory is asked for the request's own copy of the dataField alone,
-    /// and only where nothing else refuses it.
+    /// and only if nothing else refuses it.
     pub fn begin(&mut self, action: u8, id: u16, port: u16, octets: &[u8]) -> Result<(), BeginError>
         ensures begun { OnOk result
             (self.new.session
@@ -113,7 +168,7 @@ impl HostedSession {
     }
 
     /// Leaves the unanswered request at the head of `octets`, uses one of its attempts, and answers how many octets it has.
-    /// Until `retune` they are the same each time. What stands behind them stays. Where it is refused, nothing changes. Takes
+    /// Until `retune` they are the same each time. The octets after them stay. If it is refused, nothing changes. Takes
     /// no memory.
     pub fn send(&mut self, octets: &mut [u8]) -> Result<usize, SendRefusal>
         ensures refusal { MatchResult result
@@ -160,8 +215,8 @@ impl HostedSession {
         self.session.retune(domain);
     }
 
-    /// What the session makes of a datagram: where it answers the unanswered request, that answer is kept, and the next one
-    /// can be begun. Memory is asked for the dataField of a RESPONSE alone; where it is refused, nothing changes.
+    /// What the session makes of a datagram: if it answers the unanswered request, that answer is kept, and the next one
+    /// can be begun. Memory is asked for the dataField of a RESPONSE alone; if it is refused, nothing changes.
     pub fn receive(&mut self, datagram: &[u8]) -> Result<Heard, OutOfMemory>
         ensures heard { IfOk result
             (λ h. h ≡ heard_of (received_of self.old.session datagram.now)) }
@@ -183,8 +238,8 @@ impl HostedSession {
         }
     }
 
-    /// What the answer to the latest request tells; a dataField is left at the head of `octets`, and what stands behind it
-    /// stays. Where it is refused, nothing is written. Takes no memory.
+    /// What the answer to the latest request says; a dataField is left at the head of `octets`, and what follows it
+    /// stays. If it is refused, nothing is written. Takes no memory.
     pub fn report(&self, octets: &mut [u8]) -> Result<Told, ReportRefusal>
         ensures refusal { MatchResult result
             (λ _. report_refusal (length octets.old) self.now.report ≡ None)

@@ -17,7 +17,7 @@ pub struct SessionSettings {
     pub first: u16,
     /// clockIdentity of the manager, not all ones.
     pub clock: [u8; 8],
-    /// clockIdentity of the managed clock, another one, and not all ones.
+    /// clockIdentity of the managed clock, another one, and neither all ones nor all zeros.
     pub target: [u8; 8],
     /// domainNumber.
     pub domain: u8,

@@ -10,8 +10,12 @@ use ptpm_codec::{ClockIdentity, OutOfMemory, PortIdentity};
 use ptpm_data::{ClockStart, PortStart, Rights};
 use std::alloc::Global;
 
-/// The start values of a clock's own members, those with the strictest alignment first. A flag is set where it is not 0.
-/// Behind `has_` stands whether a value is given: where it is not, the clock has its own value, and for `parent_port` its
+/// The clockIdentity that settings have until a host writes one. No clock starts with it. A manager may have it, like `pmc` at a
+/// Unix socket.
+pub(crate) const NO_IDENTITY: ClockIdentity = ClockIdentity([0; 8]);
+
+/// The start values of a clock's own members, those with the strictest alignment first. A flag is set if it is not 0.
+/// A flag `has_..` says whether a value is given: if it is not, the clock has its own value, and for `parent_port` its
 /// port 0.
 #[repr(C)]
 #[derive(Clone, Copy)]
@@ -31,7 +35,7 @@ pub struct ClockSettings {
     pub parent_port_number: u16,
     /// currentUtcOffset, in seconds.
     pub utc_offset: i16,
-    /// clockIdentity, not all ones.
+    /// clockIdentity, neither all ones nor all zeros.
     pub identity: [u8; 8],
     pub parent_port_clock: [u8; 8],
     pub grandmaster: [u8; 8],
@@ -112,7 +116,7 @@ impl ClockSettings {
     pub fn new() -> ClockSettings
         ensures { clock_start result ≡ default_clock default_identity 0 }
     {
-        let start = ClockStart::new(ClockIdentity([0; 8]), 0);
+        let start = ClockStart::new(NO_IDENTITY, 0);
         ClockSettings {
             offset_from_master: start.offset_from_master,
             mean_path_delay: start.mean_path_delay,
@@ -257,7 +261,7 @@ impl PortSettings {
     }
 }
 
-/// A value, where it is given.
+/// A value, if it is given.
 pub(crate) fn given<T: Copy>(flag: u8, value: T) -> Option<T>
     ensures { result ≡ given flag value }
 {

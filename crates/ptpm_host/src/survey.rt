@@ -78,8 +78,8 @@ impl HostedSurvey {
         })
     }
 
-    /// Leaves the GET at the head of `octets`, and answers how many octets it has, the same each time. What stands behind it
-    /// stays. Where there is too little room, nothing is written. Takes no memory.
+    /// Leaves the GET at the head of `octets`, and answers how many octets it has, the same each time. What follows it
+    /// stays. If there is too little room, nothing is written. Takes no memory.
     pub fn send(&self, octets: &mut [u8]) -> Result<usize, SendRefusal>
         ensures refusal { MatchResult result (λ _. message_refusal (length octets.old) ≡ None)
             (λ e. message_refusal (length octets.old) ≡ Some e) }
@@ -100,8 +100,8 @@ impl HostedSurvey {
         Ok(message.len())
     }
 
-    /// What the survey makes of a datagram: an answer is kept where it is the first of its port and there is room. Memory is
-    /// asked for that alone; where it is refused, nothing changes.
+    /// What the survey makes of a datagram: an answer is kept if it is the first of its port and there is room. Memory is
+    /// asked for that alone; if it is refused, nothing changes.
     pub fn receive(&mut self, datagram: &[u8]) -> Result<Surveyed, OutOfMemory>
         ensures surveyed { IfOk result
             (λ surveyed.
@@ -135,7 +135,7 @@ impl HostedSurvey {
     }
 
     /// The answer at a place, counted from 0 in the order in which they came; a dataField is left at the head of `octets`, and
-    /// what stands behind it stays. Where it is refused, nothing is written. Takes no memory.
+    /// what follows it stays. If it is refused, nothing is written. Takes no memory.
     pub fn answer(&self, place: usize, octets: &mut [u8]) -> Result<SurveyAnswer, ReportRefusal>
         ensures refusal { MatchResult result
             (λ _.

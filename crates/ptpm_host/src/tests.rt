@@ -91,7 +91,7 @@ fn settings() -> ClockSettings {
     }
 }
 
-/// The number of the refusal of a start; 0 where there is none.
+/// The number of the refusal of a start; 0 if there is none.
 fn refusal(
     alloc: Global,
     settings: &ClockSettings,
@@ -169,6 +169,10 @@ fn start_refusals(rt: HostRuntime) {
     assert!(rt; refusal(alloc, &other_grandmaster, &[port], &[MANAGER; 2]) == 50);
     assert!(rt; refusal(alloc, &settings(), &[port], &[MANAGER; 2]) == 52);
     assert!(rt; refusal(alloc, &settings(), &[port], &[MANAGER; 17]) == 51);
+    let unwritten = ClockSettings::new();
+    assert!(rt; refusal(alloc, &unwritten, &[port], &[MANAGER; 17]) == 51);
+    assert!(rt; refusal(alloc, &unwritten, &[port], &[MANAGER]) == 56);
+    assert!(rt; boxed_refusal(alloc, &unwritten, &[port], &[]) == 56);
 }
 
 /// `tools/refuse_memory` refuses each request for memory in turn: the same call then answers as it would have.
@@ -194,7 +198,7 @@ fn hears(session: &mut HostedSession, datagram: &[u8]) -> u32 {
     }
 }
 
-/// The number of the refusal of a request; 0 where it is begun.
+/// The number of the refusal of a request; 0 if it is begun.
 fn begins(session: &mut HostedSession, action: u8, id: u16, port: u16, octets: &[u8]) -> u32 {
     match session.begin(action, id, port, octets) {
         Ok(()) => 0,
@@ -280,7 +284,7 @@ fn answers_at_a_session(rt: HostRuntime) {
     }
 }
 
-/// The number of the refusal of a session; 0 where it starts.
+/// The number of the refusal of a session; 0 if it starts.
 fn session_refusal(alloc: Global, settings: &SessionSettings) -> u32 {
     match HostedSession::start(alloc, settings) {
         Ok(_) => 0,
@@ -319,7 +323,12 @@ fn session_refusals(rt: HostRuntime) {
     assert!(rt; session_refusal(alloc, &to_every) == 54);
     assert!(rt; session_refusal(alloc, &to_itself) == 55);
     assert!(rt; session_refusal(alloc, &of_no_port) == 48);
+    let to_zeros = SessionSettings {
+        target: [0; 8],
+        ..SESSION
+    };
     assert!(rt; session_refusal(alloc, &of_nine_ports) == 49);
+    assert!(rt; session_refusal(alloc, &to_zeros) == 57);
     assert!(rt; session_refusal(alloc, &SESSION) == 0);
 }
 

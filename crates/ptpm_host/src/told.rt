@@ -1,4 +1,4 @@
-//! What an answer tells, as a host takes it over.
+//! What an answer says, as a host takes it over.
 
 ghost use Rattle.std.specs.Prelude.{◌≡◌, ◌≤◌, None, Some, IfOk, MatchResult, OnErr, drop, length, take};
 ghost use Rattle.ptpm_host.specs.Told.{room_refusal, told_error, told_octets, told_of, told_size};
@@ -6,7 +6,7 @@ ghost use Rattle.ptpm_host.specs.Told.{room_refusal, told_error, told_octets, to
 use crate::refusal::ReportRefusal;
 use ptpm_manager::Outcome;
 
-/// What the answer to a request tells.
+/// What the answer to a request says.
 #[derive(Clone, Copy, Debug)]
 pub enum Told {
     /// A dataField of this many octets.
@@ -18,7 +18,7 @@ pub enum Told {
 }
 
 impl Told {
-    /// How many octets of a dataField it tells.
+    /// How many octets of a dataField it has.
     pub fn size(self) -> usize
         ensures { result ≡ told_size self }
     {
@@ -28,7 +28,7 @@ impl Told {
         }
     }
 
-    /// The managementErrorId, and 0 where it tells none.
+    /// The managementErrorId, and 0 if it has none.
     pub fn error(self) -> u16
         ensures { result ≡ told_error self }
     {
@@ -39,7 +39,7 @@ impl Told {
     }
 }
 
-/// What an answer tells; a dataField is left at the head of `octets`, and what stands behind it stays. Where it is refused,
+/// What an answer says; a dataField is left at the head of `octets`, and what follows it stays. If it is refused,
 /// nothing is written.
 pub(crate) fn tell(outcome: &Outcome, octets: &mut [u8]) -> Result<Told, ReportRefusal>
     ensures refusal { MatchResult result

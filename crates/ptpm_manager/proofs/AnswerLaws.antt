@@ -43,7 +43,7 @@ further-other x a kept h =
     let test : Answer → Bool = λ b. not (same_identity b.0 x.0) in
     filter-append test kept (a ∷ []) ∙ ap (λ l. filter test kept ++ l) (cond-true _ (a ∷ []) [] (ap not h))
 
--- one more answer, behind x and the answers of other sources
+-- one more answer, after x and the answers of other sources
 firsts-step-same : (x a : Answer) (kept : List Answer) → same_identity a.0 x.0 ≡ true →
     x ∷ filter (λ b. not (same_identity b.0 x.0)) (cond (has_answered a.0 kept) kept (kept ++ a ∷ []))
     ≡ cond (same_identity a.0 x.0 || has_answered a.0 (filter (λ b. not (same_identity b.0 x.0)) kept))
@@ -83,7 +83,7 @@ firsts-snoc : (xs : List Answer) (a : Answer)
 firsts-snoc [] a = refl
 firsts-snoc (x ∷ xs) a = ap (λ kept. x ∷ filter (λ b. not (same_identity b.0 x.0)) kept) (firsts-snoc xs a) ∙ firsts-step x a (firsts xs)
 
--- one more answer, where there is room for it, and where there is none
+-- one more answer, if there is room for it, and if there is none
 
 kept-small : (kept : List Answer) (a : Answer) → length kept < 512
     → kept_by kept (Ok a) ≡ take 512 (cond (has_answered a.0 kept) kept (kept ++ a ∷ []))
@@ -132,7 +132,7 @@ first_of_each_source-snoc e datagrams d answers h =
     kept-heard answers (filter_map (λ x. answer_of_heard (heard e x)) datagrams) (heard e d) h
     ∙ sym (ap (λ l. take 512 (firsts l)) (filter_map-append (λ x. answer_of_heard (heard e x)) datagrams (d ∷ [])))
 
--- the same, where the datagram was heard as r, and this is what is left of the answers
+-- the same, if the datagram was heard as r, and this is what is left of the answers
 pub first_of_each_source-left : (e : Enquiry) (datagrams : List (List ℕ)) (d : List ℕ)
     (r : Result Answer Reason) (answers left : List Answer)
     → heard e d ≡ r → left ≡ kept_by answers r → answers ≡ first_of_each_source e datagrams

@@ -9,7 +9,7 @@ use Rattle.ptpm_data.proofs.StartLemmas.{passes}
 use Rattle.ptpm_manager.specs.declared.ask.Ask.{Ask}
 use Rattle.ptpm_manager.specs.Ask.{IsRequestTo, ask_refusal, named_port, names_port, request_of, target_port}
 
--- where the first of two tests holds and they do not both, the second's opposite does
+-- if the first of two tests holds and they do not both, the second's opposite does
 other-true : (p q : Bool) → (p && not q) ≡ false → p ≡ true → q ≡ true
 other-true p true h t = refl
 other-true true false h t = sym h

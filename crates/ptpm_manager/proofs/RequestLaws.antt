@@ -6,7 +6,7 @@ use Rattle.ptpm_data.specs.Request.{RequestValue}
 use Rattle.ptpm_manager.specs.declared.setup.Setup.{Setup}
 use Rattle.ptpm_manager.specs.Setup.{request_message}
 
--- in another domain a request is the same message but for that
+-- in another domain a request is the same message except that
 pub in_domain : (setup : Setup) (domain other k : ℕ) (o : Option RequestValue) (v w : Message)
     → option_map (request_message setup domain k) o ≡ Some v
     → option_map (request_message setup other k) o ≡ Some w

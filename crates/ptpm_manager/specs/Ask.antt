@@ -37,7 +37,7 @@ request_of a = record { action = a.action; id = a.id; port = target_port a.id a.
 abbrev pub pending_request : Pending → RequestValue
 pending_request p = record { action = p.action; id = p.id; port = p.port; octets = p.octets }
 
--- what holds of each request that a session makes of a clock with so many ports: one of them is named for an id of a port,
+-- what holds of each request that a session makes of a clock with this many ports: one of them is named for an id of a port,
 -- and every port for any other id, so that it has one answer
 pub record IsRequestTo (ports : ℕ) (q : RequestValue) : Type 0 where
   pub action : IsRequestAction q.action

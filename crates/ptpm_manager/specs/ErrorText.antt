@@ -30,7 +30,7 @@ restore_error_text restores.Damaged = codes "Damaged"
 restore_error_text restores.OtherSession = codes "OtherSession"
 restore_error_text restores.OutOfMemory = codes "OutOfMemory"
 
--- behind Malformed stands the name of its cause
+-- the name of its cause comes after Malformed
 abbrev pub reason_text : Reason → List ℕ
 reason_text (reasons.Malformed cause) = codes "Malformed " ++ refusal_text cause
 reason_text reasons.OtherDomain = codes "OtherDomain"

@@ -42,7 +42,7 @@ unfoldable pub unanswered_image : Option RequestValue → List ℕ
 unanswered_image None = 0 ∷ []
 unanswered_image (Some q) = 1 ∷ request_image q
 
--- behind the setup the domain, how many requests were begun, and how many of them are answered: the index of the latest
+-- after the setup: the domain, how many requests were begun, and how many of them are answered: the index of the latest
 -- that was reported
 unfoldable pub body_image : Setup → ℕ → ℕ → Option RequestValue → List ℕ
 body_image setup domain issued unanswered =

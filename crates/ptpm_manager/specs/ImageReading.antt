@@ -1,4 +1,4 @@
--- What stands at the places of a session's image: the values that the octets give there, whether they are an image or not.
+-- The places of a session's image: the values that the octets give there, whether they are an image or not.
 use Rattle.std.specs.Prelude.{ℕ, ◌==◌, if◌then◌else◌, List, drop, Option, Some, None}
 use Rattle.byteorder.specs.Endian.{big_number}
 use Rattle.ptpm_codec.specs.declared.message.Action.{Action}

@@ -26,7 +26,7 @@ is_consistent s =
 
 -- ---- images
 
--- there are the octets up to the request, and those up to its dataField where there is one
+-- there are the octets up to the request, and those up to its dataField if there is one
 abbrev pub is_long : List ℕ → Bool
 is_long octets = nat_le 53 (length octets) && (octet 52 octets == 0 || nat_le 60 (length octets))
 

@@ -28,7 +28,7 @@ is_setup setup =
     not (same_clock setup.me.clock every_clock) && not (same_clock setup.target every_clock)
     && not (same_clock setup.me.clock setup.target) && nat_le 1 setup.ports && nat_le setup.ports 8
 
--- whether it is that of this manager with this clock of so many ports, whose first request has this number
+-- whether it is that of this manager with this clock of this many ports, whose first request has this number
 abbrev pub is_setup_of : PortIdentity → ClockIdentity → ℕ → ℕ → Setup → Bool
 is_setup_of me target ports first setup =
     same_identity setup.me me && same_clock setup.target target && setup.ports == ports && setup.first == first

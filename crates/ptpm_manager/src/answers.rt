@@ -14,7 +14,7 @@ use std::alloc::Global;
 /// How many answers a survey keeps at most (this project's profile).
 pub const ANSWERS: usize = 512;
 
-/// Keeps the answer that a message is, where it is the first of its port and there is room.
+/// Keeps the answer that a message is, if it is the first of its port and there is room.
 pub(crate) fn keep(
     alloc: Global,
     answers: &mut IndexMap<PortIdentity, Outcome>,
@@ -50,7 +50,7 @@ fn has_answered(source: &PortIdentity, answers: &IndexMap<PortIdentity, Outcome>
     answers.contains_key(source)
 }
 
-/// Puts the first answer of a port behind the others.
+/// Puts the first answer of a port after the others.
 fn add(
     answers: &mut IndexMap<PortIdentity, Outcome>,
     source: PortIdentity,

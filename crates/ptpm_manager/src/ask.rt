@@ -114,7 +114,7 @@ impl Pending {
     }
 }
 
-/// Whether a session makes this request of a clock with so many ports.
+/// Whether a session makes this request of a clock with this many ports.
 pub(crate) fn is_request_to(ports: u16, request: &Request<'_>) -> bool
     ensures exact { result ≡ is_request_to ports request.now }
     ensures meaning { IsTrue result ↔ IsRequestTo ports request.now }

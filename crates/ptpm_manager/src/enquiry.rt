@@ -45,7 +45,7 @@ impl Enquiry {
         }
     }
 
-    /// The message that a datagram holds, where it answers the enquiry, or why it is ignored.
+    /// The message that a datagram holds, if it answers the enquiry, or why it is ignored.
     #[tactic(auto, unfolding(crate::specs::Answers::heard))]
     pub(crate) fn answer_in<'a>(&self, datagram: &'a [u8]) -> Result<View<'a>, Reason>
         ensures { MatchResult result

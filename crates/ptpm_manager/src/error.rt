@@ -6,7 +6,7 @@ use thiserror::Error;
 /// Why a request is not begun, in the order in which the reasons are judged. The session stays as it was.
 #[derive(Clone, Copy, Debug, PartialEq, Eq, Error)]
 pub enum BeginError {
-    /// A request is not answered yet, even where all its attempts are used: its number may still be accepted.
+    /// A request is not answered yet, even if all its attempts are used: its number may still be accepted.
     Busy,
     /// The id is of a port, and no port of the clock is named.
     NeedsPort,
@@ -70,7 +70,7 @@ pub enum RestoreError {
     NotAnImage,
     /// It is an image in another version.
     OtherVersion,
-    /// It is an image of something else than a session.
+    /// It is an image, but not of a session.
     OtherKind,
     /// It is no image of a session: octets are missing, further ones follow, or one has a value that no image has there.
     Damaged,

@@ -33,7 +33,7 @@ const BODY_OCTETS: usize = 48 + DATA_FIELD_OCTETS;
 /// Room for an image.
 pub(crate) type Image = ArrayVec<u8, SESSION_OCTETS>;
 
-/// Room for what stands behind its head.
+/// Room for what follows its head.
 type Body = ArrayVec<u8, BODY_OCTETS>;
 
 impl Session {
@@ -46,7 +46,7 @@ impl Session {
     }
 
     /// Writes the image over the first octets of a place, and answers how many there are: 53 to 1,478. The others stay. `None`,
-    /// and nothing is written, where the place has too few. How often the request may still be sent is not in the image. Takes no
+    /// and nothing is written, if the place has too few. How often the request may still be sent is not in the image. Takes no
     /// memory.
     pub fn image_into(&self, place: &mut [u8]) -> Option<usize>
         ensures room { IsSome result ↔ (length (session_image self.now) ≤ length place.old) }
@@ -79,7 +79,7 @@ impl Saved<'_> {
         image
     }
 
-    /// What stands behind the head.
+    /// What follows the head.
     #[tactic(auto, unfolding(crate::specs::Image::body_image))]
     fn body(&self) -> Body
         requires { IsConsistent self.now }
@@ -96,7 +96,7 @@ impl Saved<'_> {
     }
 }
 
-/// How many of so many requests are answered.
+/// How many of the begun requests are answered.
 fn answered_of(issued: u64, unanswered: &Option<Request<'_>>) -> u64
     requires { IsSome unanswered.now → 1 ≤ issued }
     ensures { result ≡ answered_of issued unanswered.now }

@@ -29,7 +29,7 @@ pub enum Reason {
     OtherContent,
 }
 
-/// The name, and after it the cause where there is one.
+/// The name, and after it the cause if there is one.
 impl fmt::Display for Reason {
     ghost use Rattle.std.specs.Prelude.{Some};
     ghost use Rattle.ptpm_manager.specs.ErrorText.{reason_text};

@@ -1,4 +1,4 @@
-//! What a reply tells whoever asked.
+//! What a reply reports to whoever asked.
 
 ghost use Rattle.std.specs.Prelude.{◌≡◌, IfOk, OnErr};
 ghost use Rattle.ptpm_manager.specs.Report.{IsCopied, outcome_in};
@@ -25,7 +25,7 @@ pub struct Report {
     pub outcome: Outcome,
 }
 
-/// What a reply tells. The octets of a dataField are copied, and nothing else.
+/// What a reply reports. The octets of a dataField are copied, and nothing else.
 pub(crate) fn outcome_in(alloc: Global, reply: &View<'_>) -> Result<Outcome, OutOfMemory>
     ensures outcome { IfOk result (λ outcome. outcome ≡ outcome_in reply.now.body) }
     ensures memory { OnErr result (IsCopied (outcome_in reply.now.body)) }

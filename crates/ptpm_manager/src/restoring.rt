@@ -14,7 +14,9 @@ use crate::places::u64_at;
 use crate::saved::Saved;
 use crate::session::Session;
 use crate::setup::Setup;
-use ptpm_codec::{Action, ClockIdentity, PortIdentity, clock_identity_at, port_identity_at, u16_at};
+use ptpm_codec::{
+    Action, ClockIdentity, PortIdentity, clock_identity_at, port_identity_at, u16_at,
+};
 use ptpm_data::Request;
 use std::alloc::Global;
 
@@ -24,7 +26,7 @@ const UP_TO_REQUEST: usize = 53;
 const UP_TO_DATA_FIELD: usize = 60;
 
 impl Session {
-    /// The session whose image this is, of this manager with this clock of so many ports, whose first request has this number.
+    /// The session whose image this is, of this manager with this clock of this many ports. Its first request has this number.
     /// It goes on with the request that was not answered, with all attempts before it; hop fields, attempts and domain are those
     /// of the image. The first reason that holds is why it is refused. Memory is asked for last, for the request's dataField.
     #[tactic(auto, unfolding(crate::specs::Restoring::restore_refusal))]
@@ -100,7 +102,7 @@ fn read_image(image: &[u8]) -> Option<Saved<'_>>
     }
 }
 
-/// Whether there are the octets up to the request, and those up to its dataField where there is one.
+/// Whether there are the octets up to the request, and those up to its dataField if there is one.
 fn is_long(image: &[u8]) -> bool
     ensures { result ≡ is_long image.now }
 {
@@ -159,7 +161,7 @@ fn request_at(image: &[u8]) -> Request<'_>
     }
 }
 
-/// The action of a request by its code; GET where it is of none.
+/// The action of a request by its code; GET if it is of none.
 fn request_action(code: u8) -> Action
     ensures { result ≡ request_action code }
 {

@@ -43,7 +43,7 @@ impl Saved<'_> {
     }
 }
 
-/// Whether this can be what is not answered of so many requests to a clock with so many ports.
+/// Whether this can be the unanswered one of this many requests, to a clock with this many ports.
 fn is_unanswered_at(ports: u16, issued: u64, unanswered: &Option<Request<'_>>) -> bool
     ensures exact { result ≡ is_unanswered_at ports issued unanswered.now }
     ensures meaning { IsTrue result ↔ IsUnansweredAt ports issued unanswered.now }

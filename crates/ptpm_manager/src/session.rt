@@ -129,7 +129,7 @@ impl Session {
     }
 
     /// Does what `begin` does, of an ask by its parts, with the dataField lent. Memory is asked for a copy of it alone, and
-    /// only where nothing else refuses the request.
+    /// only if nothing else refuses the request.
     #[tactic(auto, unfolding(crate::specs::Session::begin_refusal))]
     pub fn begin_with(
         &mut self,
@@ -175,7 +175,7 @@ impl Session {
     }
 
     /// Leaves the unanswered request in the buffer, and uses one of its attempts. Until `retune` it has the same octets
-    /// each time. Where it is refused, session and buffer stay as they were. Takes no memory.
+    /// each time. If it is refused, session and buffer stay as they were. Takes no memory.
     #[tactic(auto, unfolding(crate::specs::Session::send_refusal))]
     pub fn send(&mut self, buffer: &mut Buffer) -> Result<(), SendError>
         ensures refusal { MatchResult result (λ _. send_refusal self.old ≡ None)
@@ -223,8 +223,8 @@ impl Session {
         self.domain = domain;
     }
 
-    /// Judges a datagram: the answer to the unanswered request, after which the session is idle, or the first reason to
-    /// ignore it, and then the session stays as it was. Memory is asked for the dataField of a RESPONSE alone; where it is
+    /// Judges a datagram. If it answers the unanswered request, the session is idle afterwards. Otherwise this is the first
+    /// reason to ignore it, and the session stays as it was. Memory is asked for the dataField of a RESPONSE alone; if it is
     /// refused, the session stays as it was.
     pub fn receive(&mut self, datagram: &[u8]) -> Result<Received, OutOfMemory>
         ensures exact { IfOk result (λ received. received ≡ received_of self.old datagram.now) }

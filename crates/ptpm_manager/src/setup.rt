@@ -38,7 +38,7 @@ impl Setup {
             && self.ports <= 8
     }
 
-    /// Whether it is that of this manager with this clock of so many ports, whose first request has this number.
+    /// Whether it is that of this manager with this clock of this many ports, whose first request has this number.
     pub(crate) fn is_of(
         &self,
         me: PortIdentity,

@@ -76,7 +76,7 @@ fn session_from(alloc: Global, first: u16, attempts: u8) -> Session {
     Session::new(alloc, MANAGER, CLOCK, 2, 0, first, 1, attempts)
 }
 
-/// Octets of one's own; asked for again where memory is refused once.
+/// Octets of one's own; asked for again if memory is refused once.
 fn owned(alloc: Global, octets: &[u8]) -> Result<Octets, OutOfMemory> {
     match Octets::copy_of(alloc, octets) {
         Ok(octets) => Ok(octets),

@@ -72,7 +72,7 @@ without_gap-own m ports es d s y above own at k p le = ⊎_elim
     (λ (ne : d.index ≡ k → ⊥). grind (arith, greatest-same, was_accepted-joined))
     (cases_eq d.index k)
 
--- a manager goes on where one of its requests joins, or one of another manager
+-- a manager goes on if one of its requests joins, or one of another manager
 pub in_step-joined : (m : PortIdentity) (ports : ℕ) (es : List Accepted) (d : Accepted)
     (s : SessionState)
     → IsAbove m es d → (same_identity m d.manager ≡ true → JoinsOwn m s.begun d)
@@ -125,7 +125,7 @@ outcomes_kept-more : (m : PortIdentity) (es : List Accepted) (n k : ℕ) (e : Ac
     → outcomes_kept m es k ≡ outcomes_kept m es n ++ report_of k e a ∷ []
 outcomes_kept-more m es n k e a next kept one = rw (next, rw next at kept, one)
 
--- a report tells the one answer that is kept for request k
+-- a report gives the one answer that is kept for request k
 pub record IsToldOf (m : PortIdentity) (k : ℕ) (es : List Accepted) (report : Report) : Type 0 where
   pub entry : Accepted
   pub kept : kept_reply m k es ≡ Some entry
@@ -133,7 +133,7 @@ pub record IsToldOf (m : PortIdentity) (k : ℕ) (es : List Accepted) (report : 
   pub one : entry.reply.answers ≡ answer ∷ []
   pub is : report ≡ report_of k entry answer
 
--- it is told the answer to its last request, which was accepted
+-- it hears the answer to its last request, which was accepted
 pub in_step-reported : (m : PortIdentity) (ports : ℕ) (es : List Accepted) (s : SessionState) (k : ℕ) (report : Report)
     → k ≡ length s.begun → (length s.reports ≡ length s.begun → ⊥) → IsToldOf m k es report → IsInStep m ports es s
     → IsInStep m ports es
@@ -142,7 +142,7 @@ in_step-reported m ports es s k report last busy told at = grind (arith, kept-le
 
 -- ---- a copy in the window
 
--- one of a request that was begun, where no more than 32,768 were begun since
+-- one of a request that was begun, if no more than 32,768 were begun since
 pub in_step-window : (m : PortIdentity) (ports : ℕ) (es : List Accepted) (s : SessionState) (k : ℕ)
     → IsInStep m ports es s → k ≤ length s.begun → length s.begun ≤ k + 32768
     → InWindow (greatest m es) k
@@ -153,7 +153,7 @@ in_step-window m ports es s k at within time = record {
 
 -- ---- what a manager may rely on
 
--- what a manager is to be told begins with what it is to be told of its first requests
+-- what is due to a manager begins with what is due to it for its first requests
 told-begins : (m : PortIdentity) (accepted : List Accepted) (g n : ℕ)
     → n ≤ g
     → (rest : List Report) × (outcomes_kept m accepted g ≡ outcomes_kept m accepted n ++ rest)
@@ -174,7 +174,7 @@ pub record IsInOrder (m : PortIdentity) (begun : List RequestValue) (es : List A
   pub begun_accepted : length begun ≤ greatest m es + 1
   pub begun_reported : length begun ≤ length reports + 1
 
--- in the machine, and where it is served however late the messages of others come
+-- in the machine, and if it is served however late the messages of others come
 pub in_order : (m : PortIdentity) (ports : ℕ) (es : List Accepted) (s : SessionState)
     → IsInStep m ports es s
     → IsInOrder m s.begun es s.reports

@@ -1,4 +1,4 @@
--- The request of a session is answered along a way, whatever else happens meanwhile, and so also where nothing does.
+-- The request of a session is answered along a way, whatever else happens meanwhile, and so also if nothing does.
 use Rattle.ptpm_network.proofs.Common.{arith, ◌≡◌, ℕ, ◌<◌, ◌≤◌, ◌+◌, ◌*◌, List, [], ◌∷◌, ◌++◌, false, refl, ◌∙◌, ap, subst, length, append-nil, cond-true, eqb-false, is_none, AllByRecursion, Deliver, Event, IsInRange, Send, frames_limit, HasReported, IsReached, AreInTime, is_late_frame, run, step, taken, End, IsNetwork, Network, NetworkState, initial_state, is_idle, ComeIn, ComesIn, Hop, IsAnswerable, IsWay, LinksHaveAtMost, ends_of, handed_in, made_each_way, passed_at_most}
 use Rattle.std.proofs.Math.Nat.{ne_of_gt}
 use Rattle.ptpm_network.specs.Meanwhile.{ComeInMeanwhile, IsAnswerableMeanwhile, LeavesWay}
@@ -17,7 +17,7 @@ module _ (N : Network) (w : NetworkState) (s : ℕ) (hops : List Hop) (port ends
       → IsAnswerableMeanwhile N w s hops port ends
   answerable-at n r place all busy attempts way room = grind (arith, unanswered-some, eqb-false, send-taken, ne_of_gt, sent-goes, send-frames)
 
--- ---- where nothing else does
+-- ---- if nothing else does
 
 pub leaves-nothing : (N : Network) (w : NetworkState) (s : ℕ) (hops : List Hop) (port frames : ℕ)
     → LeavesWay N w w s hops port frames

@@ -61,7 +61,7 @@ reply-message N c port v q r a n end fits id answers s =
     (reply-fits me (heard_of v) q r port (hops_passed (heard_of v)) a clock.identity fits.source.clock fits.source.port fits.number
     (small port (ports N c) end.2 clock.at_most_eight) id answers s)
 
--- each message of a reply, of which this holds
+-- each message of a reply: this holds of it
 pub rendered-says : (P : List ℕ → Type 0) (N : Network) (c port : ℕ) (v : Message) (q : RequestValue) (r : ReplyValue)
     → IsNetwork N → HasEnd N (AtPort c port) → Fits v → q.id < 2 ^ 16 → Answers q r
     → ((octets : List ℕ) (u : Message) → IsMessage octets u → u.source.clock ≡ (N.clock c).identity → u.target ≡ v.source

@@ -20,11 +20,11 @@ reaches-carried : (N : Network) (r : RunningNetwork) (c : ℕ) (h : Held) (e : E
 reaches-carried N r c h (AtPort d port) = after_turn-carried N r c d port (seen h)
 reaches-carried N r c h (AtSession s) = grind arith
 
--- where clock c has these requests carried out, and nothing else of it is changed
+-- clock c has these requests carried out, and nothing else of it is changed
 abbrev pub HasCarried : Network → RunningNetwork → ℕ → List NumberedRequest → Happened → Type 0
 HasCarried N r c rs h = h.network.clock c ≡ after_requests (N.clock c) (r.clock c) rs
 
--- what holds of all that may happen holds where a reason to refuse it is looked for first
+-- what holds of all that may happen holds if a reason to refuse it is looked for first
 pub if_not_refused : (o : Option Refusal) (x : Result Happened Refusal) (P : Happened → Type 0)
     → IfOk x P
     → IfOk (unless_refused o x) P

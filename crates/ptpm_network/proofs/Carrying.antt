@@ -10,7 +10,7 @@ use Rattle.ptpm_network.proofs.Messages.{less_hop-hops, less_hop-message, messag
 
 -- ---- elements of lists
 
--- it stands somewhere in the list
+-- it is somewhere in the list
 abbrev pub IsIn : {X : Type 0} → List X → X → Type 0
 IsIn xs x = (i : ℕ) × (slice_get xs i ≡ Some x)
 

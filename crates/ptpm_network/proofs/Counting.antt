@@ -108,7 +108,7 @@ happens-few N w (Stranger c port datagram) n r octets none =
     more w.frames _ (made-few N w c port (strange_frame c port datagram) n r there.0 there.1)
 happens-few N w _ n r i none = omega arith
 
--- ---- where there is room
+-- ---- if there is room
 
 room : (frames : List Frame) → no_room frames ≡ None → length frames ≤ 399775
 room frames none = ltb-false _ _ (first_of-none (nat_lt frames_limit (length frames)) FramesAtMaximum [] none).0

@@ -5,7 +5,7 @@ use Rattle.ptpm_network.proofs.Accepting.{kept-le}
 use Rattle.ptpm_network.proofs.Messages.{IsPassedOn, canonical-message, less_hop-canonical, less_hop-hops, less_hop-message, message-hops, reply_at, reply-fits, reply-valid, request_at, request-fits, request-valid}
 use Rattle.ptpm_network.proofs.Steps.{has_peers}
 
--- ---- what a frame of a session says, where the session and its target are in step
+-- ---- what a frame of a session says, if the session and its target are in step
 
 pub record SaysRequest (N : Network) (s k : ℕ) (begun : List RequestValue) (octets : List ℕ) : Type 0 where
   pub place : s < N.sessions

@@ -1,4 +1,4 @@
--- A running network after what a session did, or was told.
+-- A running network after what a session did, or what was reported to it.
 use Rattle.ptpm_network.proofs.Common.{arith, ◌≡◌, ℕ, ◌<◌, ◌≤◌, ◌+◌, ◌-◌, [], ◌∷◌, ◌++◌, Option, Some, None, false, sym, ◌∙◌, ap, subst, length, length-append, cond-true, cond-false, eq-eqb, ne_eqb, map-append, PortIdentity, RequestValue, Report, received_of, SessionValue, answered, begun, RunningNetwork, hears, sends_in, with_session_value, IsOfOrigin, IsReached, begun_in, report_from, reported, sends, with_session, IsNetwork, Network, SessionStart, Stands, Frame, NetworkState, SessionState, is_late, session_value, unanswered, at_place, at_places, get_last, le_trans}
 use Rattle.ptpm_manager.specs.declared.receiving.Received.{Received}
 use Rattle.ptpm_manager.specs.declared.receiving.Received.TheVariants as received
@@ -18,7 +18,7 @@ begun-value start s q le =
     let index : length (s.begun ++ q ∷ []) - 1 ≡ length s.begun = omega (arith, more) in
     let waits : unanswered (begun_in start s q) ≡ Some q = grind (arith, cond-false, ne_eqb, get_last) in grind arith
 
--- one that was told the answer to its last request waits for none
+-- one that heard the answer to its last request waits for none
 pub answered-value : (start : SessionStart) (s : SessionState) (report : Report)
     → (length s.reports ≡ length s.begun → ⊥) → length s.begun ≤ length s.reports + 1
     → length s.reports ≤ length s.begun

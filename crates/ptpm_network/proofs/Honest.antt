@@ -200,7 +200,7 @@ hears-honest N r t (received.Answered report) h place =
 
 -- ---- any event
 
--- where it is not refused, P holds of what happens
+-- if it is not refused, P holds of what happens
 abbrev pub Then : Result Happened Refusal → (Happened → Type 0) → Type 0
 Then x P = (h : Happened) → x ≡ Ok h → P h
 

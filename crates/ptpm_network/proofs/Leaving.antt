@@ -1,4 +1,4 @@
--- What events leave as it was: frames stay, and a way stays one where its clocks and its session do.
+-- What events leave as it was: frames stay, and a way stays one if its clocks and its session do.
 use Rattle.ptpm_network.proofs.Common.{arith, ◌≡◌, ℕ, List, [], ◌∷◌, Deliver, Event, Send, Stranger, happens, run, step, Network, NetworkState, Frame, history, issued, Hop, all_weaker}
 use Rattle.ptpm_network.specs.Way.{IsWayIn}
 use Rattle.ptpm_network.proofs.Carrying.{IsIn, in_left}
@@ -24,7 +24,7 @@ run-frames N w (e ∷ es) x p = run-frames N (step N w e) es x (after-step (λ (
 
 -- ---- a way stays one
 
--- where all clocks but the target are as they were, and the target hears the last request
+-- if all clocks but the target are as they were, and the target hears the last request
 pub way-stays : (N : Network) (w u : NetworkState) (s domain port : ℕ) (hops : List Hop)
     → ((d : ℕ) → (d ≡ (N.session s).target → ⊥) → history N u d ≡ history N w d)
     → Hears N u s (issued u s) domain → IsWayIn N w s domain hops port

@@ -24,7 +24,7 @@ pub all_append : {X : Type 0} (P : X → Type 0)
 all_append P [] ys a b = b
 all_append P (x ∷ xs) ys a b = (a.0, all_append P xs ys a.1 b)
 
--- what is made of elements of which P holds
+-- what is made of elements for which P holds
 pub all_made : {X Y : Type 0} (P : X → Type 0) (Q : Y → Type 0) (make : X → Y)
     → ((x : X) → P x → Q (make x)) → (xs : List X) → AllByRecursion P xs
     → AllByRecursion Q (map make xs)
@@ -80,7 +80,7 @@ pub with_place-other : {A : Type 0} (f : ℕ → A) (i : ℕ) (v : A) (j : ℕ)
     → with_place f i v j ≡ f j
 with_place-other f i v j n = cond-false _ _ _ n
 
--- what holds where one place has another value
+-- what holds if one place has another value
 pub at_place : {B : Type 0} (P : ℕ → B → Type 0) (g : ℕ → B) (i : ℕ) (b : B) (j : ℕ)
     → P i b → P j (g j)
     → P j (with_place g i b j)
@@ -100,7 +100,7 @@ flipped a b n = ne_eqb b a (λ (e : b ≡ a). eqb-false a b n (sym e))
 pub filter-few : {X : Type 0} (test : X → Bool) (xs : List X) → length (filter test xs) ≤ length xs
 filter-few test xs = omega (arith, length-filter_both test (λ x. not (test x)) (λ x. refl) xs)
 
--- one less at least, where one is left out
+-- one less at least, if one is left out
 pub filter-fewer : {X : Type 0} (test : X → Bool) (xs : List X)
     → list_any test xs ≡ true
     → length (filter (λ x. not (test x)) xs) < length xs
@@ -109,7 +109,7 @@ filter-fewer test (x ∷ xs) some = by_test (test x)
     (λ y. rw y (omega (arith, filter-few (λ z. not (test z)) xs)))
     (λ n. rw n (omega (arith, filter-fewer test xs (rw n at some))))
 
--- of each at most so many
+-- of each at most N
 pub flat-few : {X Y : Type 0} (make : X → List Y) (most : ℕ)
     → ((x : X) → length (make x) ≤ most) → (xs : List X)
     → length (flat_map make xs) ≤ most * length xs

@@ -14,7 +14,7 @@ use Rattle.ptpm_network.proofs.Taking.{run-append}
 
 -- ---- what has come between
 
--- since the state w the way is as it was, and there is room for so many frames
+-- since the state w the way is as it was, and there is room for this many frames
 pub record IsOpen (N : Network) (w v : NetworkState) (s : ℕ) (hops : List Hop) (port made : ℕ) : Type 0 where
   pub reached : IsReached N v
   pub same : IsSameSession w v s
@@ -76,7 +76,7 @@ hand-on N w s hops port ends at e es o p left less n here next past clear comes 
 
 -- ---- over the clocks of the way
 
--- the ends at which one copy each way comes in, behind the first
+-- the ends at which one copy each way comes in, after the first
 abbrev pub behind : List Hop → End → List End
 behind [] to = []
 behind (h ∷ hops) to = visited hops to ++ AtPort h.clock h.far ∷ []

@@ -1,4 +1,4 @@
--- What a session has and what its target keeps of it, where its own messages came in time.
+-- What a session has and what its target keeps of it, if its own messages came in time.
 use Rattle.ptpm_network.proofs.Common.{Bool, inr, true≢false, ◌⊎◌, arith, ◌≡◌, ℕ, ◌+◌, ◌-◌, ◌<◌, ◌≤◌, List, [], ◌∷◌, length, Option, Some, None, true, false, refl, sym, ◌∙◌, ap, subst, ⊎_elim, and_from, cond-true, eq-eqb, same_Some, slice_get, PortIdentity, Message, same_identity, message_of, reading-message_of, RequestValue, Entry, look_at, look_by, same_request, InWindow, reply_messages, Accepted, greatest, kept_reply, heard_of, request_of, Clock, State, turn, turn-message, judged, Verdict, reply_by, same_identity-refl, number_of, Answers, HasOneAnswer, IsInStep, SessionState}
 use Rattle.std.specs.FinMap.{get}
 use Rattle.std.proofs.lemmas.Bool.{cases_order}
@@ -30,7 +30,7 @@ abbrev pub IsLastOf : PortIdentity → ℕ → List Accepted → Option Entry �
 IsLastOf m first accepted None = greatest m accepted ≡ 0
 IsLastOf m first accepted (Some e) = IsLast m first accepted e
 
--- ---- what the entry tells of a number
+-- ---- what the entry says of a number
 
 -- it is of this request
 abbrev asks_same : Option Entry → RequestValue → Bool
@@ -110,7 +110,7 @@ module _ (first p : ℕ) (c : Clock) (s : State) (port : ℕ) (octets : List ℕ
         older = λ l. absurd (omega arith);
       }
 
-  -- nothing is carried out: it is answered where it is the latest, and nothing is sent where it is not
+  -- nothing is carried out: it is answered if it is the latest, and nothing is sent if it is not
   own-still : (w : Verdict) → carried_by w v ≡ [] → next_by w c s v ≡ s → Does c s port octets v w
       → ((k ≡ greatest v.source accepted → ⊥) × (reply_by w c s v ≡ None))
       ⊎ ((k ≡ greatest v.source accepted) × Replied v.source c s port octets v k accepted)

@@ -59,7 +59,7 @@ abbrev pub reports_with : List Report → Received → List Report
 reports_with reports (received.Answered report) = reports ++ report ∷ []
 reports_with reports (received.Ignored reason) = reports
 
--- what it takes for its answer tells of the last request what is kept of it
+-- what it takes for its answer says of the last request what is kept of it
 told_of : (N : Network) (s : ℕ) (value : SessionValue) (reports : List Report) (a : Account) (octets : List ℕ) (o : Origin) (report : Report)
     → IsNetwork N → s < N.sessions → (takes : Takes value octets report) → IsTrueTo N takes.message o → IsSaid N s a octets o
     → ((k : ℕ) → o ≡ ReplyTo s k → length a.begun ≤ k + 32768)
@@ -125,7 +125,7 @@ module _ (N : Network) (s : ℕ) (value : SessionValue) (reports : List Report) 
         frames_say = at.frames_say;
       }
 
-  -- it is told the answer to its last request, or nothing
+  -- it hears the answer to its last request, or nothing
   pub own-hears : (octets : List ℕ) (o : Origin) (x : Received)
       → IsNetwork N → s < N.sessions → IsTrue N octets o → IsSaid N s a octets o
       → ((k : ℕ) → o ≡ ReplyTo s k → length a.begun ≤ k + 32768)

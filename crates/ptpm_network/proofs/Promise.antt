@@ -58,7 +58,7 @@ stands-headline N events r at =
       refused = λ c x error. refused-leaves N w c x error.copy error.reply error.answer error.error error.heard error.due error.among error.is_error;
     }
 
--- ---- where it holds
+-- ---- in which states it holds
 
 pub stands-first : (N : Network) → IsNetwork N → StandsAfter N [] (initial_network N)
 stands-first N n = record {

@@ -1,4 +1,4 @@
--- A session tells the answer to its request by octets as the machine tells it by origins.
+-- A session knows the answer to its request by octets as the machine knows it by origins.
 use Rattle.ptpm_network.proofs.Common.{by_test, arith, ◌≡◌, ℕ, ◌<◌, ◌≤◌, ◌+◌, ◌==◌, not, List, [], ◌∷◌, Option, Some, None, Result, Ok, Err, Bool, true, false, refl, sym, ◌∙◌, ap, subst, and_from, and_parts, cond-true, cond-false, eq-eqb, eqb-true, ltb-false, not-false, not-true, or_left, or_right, true≢false, false≢true, is_some, first_of-none, DecodeError, Message, same_identity, action_of, id_of, is_reply, message_of, reading, same_identity-refl, same_identity-true, same_clock-refl, same_clock-true, message_of-reading, reading-message_of, Report, first_of, answer_by, answer_to, is_content, is_from_target, is_in_domain, reason_of, received_of, outcome_in, SessionValue, is_waiting, number_of, IsOfOrigin, IsReached, is_answer, report_from, told_by, IsNetwork, Network, SessionStart, manager, Frame, NetworkState, Origin, RequestOf, ReplyTo, Neither, SessionState, accepted_at_target, is_idle, is_late, issued, session_value, AllByRecursion}
 use Rattle.ptpm_manager.specs.declared.receiving.Reason.{Reason}
 use Rattle.ptpm_manager.specs.declared.receiving.Reason.TheVariants as reasons
@@ -26,7 +26,7 @@ no_reason : (s : SessionValue) (v : Message) → IsAccepted s v → reason_of s 
 unfolding reason_of
 no_reason s v a = rw (a.domain, a.reply, a.target, a.source, a.waiting, a.number, a.content)
 
--- where no reason is found, each test of the list fails
+-- if no reason is found, each test of the list fails
 none_holds : {A : Type 0} (tests : List (Bool × A)) → first_of tests ≡ None → AllByRecursion (λ (t : Bool × A). t.0 ≡ false) tests
 none_holds [] e = tt
 none_holds (t ∷ ts) e = let p = first_of-none t.0 t.1 ts e in (p.0, none_holds ts p.1)
@@ -118,7 +118,7 @@ takes-own N s value octets (ReplyTo t k) r n place setup takes i =
     (k, ap (λ j. ReplyTo j k) (n.sessions_apart t s i.place place target))
 takes-own N s value octets Neither r n place setup takes i = grind (arith, same_clock-true, and_parts, same_identity-true)
 
--- and that to its last request, where it is not late
+-- and that to its last request, if it is not late
 pub takes-last : (first k : ℕ) (value : SessionValue) (octets : List ℕ) (r : Report) (takes : Takes value octets r)
     → value.setup.first ≡ first → takes.message.number ≡ number_of first k → 0 < k → k ≤ value.issued
     → value.issued ≤ k + 32768

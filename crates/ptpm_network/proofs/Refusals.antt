@@ -1,4 +1,4 @@
--- What an event that is not refused tells.
+-- What an event that is not refused shows.
 use Rattle.ptpm_network.proofs.Common.{by_test, arith, ◌≡◌, ℕ, ◌<◌, ◌≤◌, ◌-◌, ◌^◌, Option, Some, None, true, false, refl, sym, ◌∙◌, ap, length, cond-false, true≢false, nat_lt, option_map, is_some, first_of-none, option_or-none, Ask, ask_refusal, SessionValue, begin_refusal, is_waiting, IsAsked, SessionState, is_idle, session_value, SessionStart, eqb-false}
 use Rattle.ptpm_data.proofs.OwnOctets.{some_at}
 use Rattle.ptpm_manager.specs.Ask.{request_of}

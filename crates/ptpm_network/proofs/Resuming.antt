@@ -92,7 +92,7 @@ taken-moved N w s domain attempts place busy = grind (arith, session-set, cond-t
 
 -- ---- after any events, and these
 
--- the request can be answered where the session is ready
+-- the request can be answered if the session is ready
 pub ready-answerable : (N : Network) (es : List Event) (s : ℕ) (hops : List Hop) (port ends : ℕ)
     → IsNetwork N → AllByRecursion IsInRange es → s < N.sessions → LinksHaveAtMost N ends
     → IsReady N (run N (initial_state N) es) s hops port ends

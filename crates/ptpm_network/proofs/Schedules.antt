@@ -6,6 +6,7 @@ use Rattle.ptpm_data.specs.Rights.{all_rights}
 use Rattle.ptpm_manager.specs.declared.error.BeginError.TheVariants as begins
 use Rattle.ptpm_manager.specs.declared.error.SendError.TheVariants as sends
 use Rattle.ptpm_manager.specs.declared.report.Outcome.TheVariants as outcomes
+use Rattle.ptpm_codec.specs.Layout.{clock_identity_at}
 
 -- ---- one clock of two ports, and one session at its port 1
 
@@ -63,7 +64,7 @@ by_whom a = (a.manager, a.index)
 first_script-accepted : map by_whom
     (history one_clock (run one_clock sent_once (Deliver 1 ∷ Deliver 1 ∷ [])) 0).accepted
     ≡ (manager_m, 1) ∷ []
-unfolding refusal happens begin_refusal send_refusal ask_refusal target_port row_of port_identity_octets tlv_octets message_of frame_refusal tlv_refusal text_refusal body_at number_at port_identity_at changed_by row_refusal forwarded answer clock_field_of reply_of reply_to read_reply_to rendered
+unfolding refusal happens begin_refusal send_refusal ask_refusal target_port row_of port_identity_octets tlv_octets message_of frame_refusal tlv_refusal text_refusal body_at number_at port_identity_at clock_identity_at changed_by row_refusal forwarded answer clock_field_of reply_of reply_to read_reply_to rendered
 first_script-accepted = refl
 
 -- the clock's RESPONSE: priority1 is 128
@@ -80,13 +81,13 @@ whole_script = run one_clock sent_once (Deliver 1 ∷ Deliver 2 ∷ Deliver 1 �
 -- the request, the reply to it, and the same reply to its repeat
 first_script-frames : map (λ f. f.octets) whole_script.frames
     ≡ get_octets ∷ reply_octets ∷ reply_octets ∷ []
-unfolding refusal happens begin_refusal send_refusal ask_refusal target_port row_of port_identity_octets tlv_octets message_of frame_refusal tlv_refusal text_refusal body_at number_at port_identity_at changed_by row_refusal forwarded answer clock_field_of reply_of reply_to read_reply_to rendered
+unfolding refusal happens begin_refusal send_refusal ask_refusal target_port row_of port_identity_octets tlv_octets message_of frame_refusal tlv_refusal text_refusal body_at number_at port_identity_at clock_identity_at changed_by row_refusal forwarded answer clock_field_of reply_of reply_to read_reply_to rendered
 first_script-frames = refl
 
 -- it is reported once
 first_script-reports : (whole_script.session 0).reports
     ≡ record { index = 1; outcome = outcomes.Value (0x80 ∷ 0x00 ∷ []) } ∷ []
-unfolding refusal happens begin_refusal send_refusal ask_refusal target_port row_of port_identity_octets tlv_octets message_of frame_refusal tlv_refusal text_refusal body_at number_at port_identity_at changed_by row_refusal forwarded answer clock_field_of reply_of reply_to read_reply_to rendered
+unfolding refusal happens begin_refusal send_refusal ask_refusal target_port row_of port_identity_octets tlv_octets message_of frame_refusal tlv_refusal text_refusal body_at number_at port_identity_at clock_identity_at changed_by row_refusal forwarded answer clock_field_of reply_of reply_to read_reply_to rendered
 first_script-reports = refl
 
 -- ---- it is a network of an accepted file
@@ -112,7 +113,7 @@ get_log_sync_interval = record { action = actions.Get; id = 0x200b; port = None;
 
 refused_events : map (refused [])
     (Send 0 ∷ Send 1 ∷ Deliver 1 ∷ Stranger 0 1 get_octets ∷ Stranger 0 2 (0 ∷ []) ∷ Begin 0 get_log_sync_interval ∷ Retune 1 0 ∷ Stranger 0 3 [] ∷ Stranger 1 1 [] ∷ []) ≡ Some (SendRefused sends.Idle) ∷ Some NoSuchName ∷ Some NoSuchFrame ∷ Some Forged ∷ None ∷ Some (BeginRefused begins.NeedsPort) ∷ Some NoSuchName ∷ Some NoSuchName ∷ Some NoSuchName ∷ []
-unfolding refusal begin_refusal send_refusal ask_refusal row_of number_at port_identity_at
+unfolding refusal begin_refusal send_refusal ask_refusal row_of number_at port_identity_at clock_identity_at
 refused_events = refl
 
 -- no second request while the first is unanswered, and no third sending of it
@@ -141,15 +142,15 @@ other_domain = run one_clock (initial_state one_clock) (
 retune-reports : (other_domain.session 0).reports
     ≡ record { index = 1; outcome = outcomes.Value (0x05 ∷ 0x00 ∷ []) } ∷ record
     { index = 2; outcome = outcomes.Value (0x80 ∷ 0x00 ∷ []) } ∷ []
-unfolding refusal happens begin_refusal send_refusal ask_refusal target_port row_of port_identity_octets tlv_octets message_of frame_refusal tlv_refusal text_refusal body_at number_at port_identity_at changed_by row_refusal is_set_length is_set_value set_of set_members forwarded answer clock_field_of reply_of reply_to read_reply_to rendered
+unfolding refusal happens begin_refusal send_refusal ask_refusal target_port row_of port_identity_octets tlv_octets message_of frame_refusal tlv_refusal text_refusal body_at number_at port_identity_at clock_identity_at changed_by row_refusal is_set_length is_set_value set_of set_members forwarded answer clock_field_of reply_of reply_to read_reply_to rendered
 retune-reports = refl
 
 retune-domain : (history one_clock other_domain 0).sets.default.domain ≡ 5
-unfolding refusal happens begin_refusal send_refusal ask_refusal target_port row_of port_identity_octets tlv_octets message_of frame_refusal tlv_refusal text_refusal body_at number_at port_identity_at changed_by row_refusal is_set_length is_set_value set_of set_members forwarded answer clock_field_of reply_of reply_to read_reply_to rendered
+unfolding refusal happens begin_refusal send_refusal ask_refusal target_port row_of port_identity_octets tlv_octets message_of frame_refusal tlv_refusal text_refusal body_at number_at port_identity_at clock_identity_at changed_by row_refusal is_set_length is_set_value set_of set_members forwarded answer clock_field_of reply_of reply_to read_reply_to rendered
 retune-domain = refl
 
 retune-frames : map (λ f. octet 4 f.octets) other_domain.frames ≡ 0 ∷ 0 ∷ 0 ∷ 0 ∷ 0 ∷ 5 ∷ 5 ∷ []
-unfolding refusal happens begin_refusal send_refusal ask_refusal target_port row_of port_identity_octets tlv_octets message_of frame_refusal tlv_refusal text_refusal body_at number_at port_identity_at changed_by row_refusal is_set_length is_set_value set_of set_members forwarded answer clock_field_of reply_of reply_to read_reply_to rendered
+unfolding refusal happens begin_refusal send_refusal ask_refusal target_port row_of port_identity_octets tlv_octets message_of frame_refusal tlv_refusal text_refusal body_at number_at port_identity_at clock_identity_at changed_by row_refusal is_set_length is_set_value set_of set_members forwarded answer clock_field_of reply_of reply_to read_reply_to rendered
 retune-frames = refl
 
 -- ---- a ring of three clocks
@@ -183,13 +184,13 @@ ring_of_three_clocks-frames : map seen
     ≡ (AtPort 0 1, 2, 0, RequestOf 0 1) ∷ (AtPort 1 1, 1, 1, RequestOf 0 1)
     ∷ (AtPort 2 1, 1, 1, RequestOf 0 1) ∷ (AtPort 1 2, 0, 2, RequestOf 0 1)
     ∷ (AtPort 2 2, 2, 0, ReplyTo 0 1) ∷ []
-unfolding refusal happens begin_refusal send_refusal ask_refusal target_port row_of port_identity_octets tlv_octets message_of frame_refusal tlv_refusal text_refusal body_at number_at port_identity_at changed_by row_refusal forwarded answer clock_field_of reply_of reply_to read_reply_to rendered
+unfolding refusal happens begin_refusal send_refusal ask_refusal target_port row_of port_identity_octets tlv_octets message_of frame_refusal tlv_refusal text_refusal body_at number_at port_identity_at clock_identity_at changed_by row_refusal forwarded answer clock_field_of reply_of reply_to read_reply_to rendered
 ring_of_three_clocks-frames = refl
 
 -- both ways it comes to clock 1, which accepts it once
 ring_of_three_clocks-accepted : map by_whom
     (history ring_of_three_clocks (in_ring (Begin 0 get_priority1 ∷ Send 0 ∷ Deliver 1 ∷ Deliver 2 ∷ Deliver 3 ∷ Deliver 4 ∷ [])) 1).accepted ≡ (manager_m, 1) ∷ []
-unfolding refusal happens begin_refusal send_refusal ask_refusal target_port row_of port_identity_octets tlv_octets message_of frame_refusal tlv_refusal text_refusal body_at number_at port_identity_at changed_by row_refusal forwarded answer clock_field_of reply_of reply_to read_reply_to rendered
+unfolding refusal happens begin_refusal send_refusal ask_refusal target_port row_of port_identity_octets tlv_octets message_of frame_refusal tlv_refusal text_refusal body_at number_at port_identity_at clock_identity_at changed_by row_refusal forwarded answer clock_field_of reply_of reply_to read_reply_to rendered
 ring_of_three_clocks-accepted = refl
 
 -- ---- lateness

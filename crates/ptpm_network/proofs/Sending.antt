@@ -1,4 +1,4 @@
--- A session sends its unanswered request, and is told the answer.
+-- A session sends its unanswered request, and hears the answer.
 use Rattle.ptpm_network.proofs.Common.{◌≡◌, ℕ, ◌<◌, ◌≤◌, ◌+◌, ◌-◌, List, ◌++◌, Some, None, true, false, refl, sym, ◌∙◌, ap, subst, length, length-append, eq-eqb, ne_eqb, list_any, Message, canonical, boundary_hops, domain_number, RequestValue, send_refusal, request_message, Deliver, Send, refusal, HasReported, HasRoom, IsReached, happens, step, AtSession, End, IsNetwork, Network, peers, ports, same_end, Frame, NetworkState, RequestOf, ReplyTo, is_idle, is_late, issued, new_frames, unanswered, ComesIn, with_place-same, length-map, arith}
 use Rattle.ptpm_network.specs.Machine as machine
 use Rattle.ptpm_network.proofs.Carrying.{IsIn, MakesAtMost, in_any, in_map, in_right}
@@ -48,7 +48,7 @@ module _ (N : Network) (w : NetworkState) (s : ℕ) where
   unfolding happens
   send-step none = step-taken N w (Send s) none
 
-  -- its session is as it was, but for the attempts
+  -- its session is as it was, except the attempts
   pub sent-session : (machine.sends N w s).session s
       ≡ record (w.session s) { attempts_left = (w.session s).attempts_left - 1 }
   sent-session = with_place-same w.session s (record (w.session s) { attempts_left = (w.session s).attempts_left - 1 }) s (eq-eqb s s refl)

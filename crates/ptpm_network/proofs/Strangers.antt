@@ -1,6 +1,7 @@
 -- A stranger's datagram that is not refused is of no clock and of no session.
 use Rattle.ptpm_network.proofs.Common.{suc, zero, arith, ◌≡◌, ℕ, ◌<◌, ◌≤◌, ◌+◌, ◌-◌, ◌^◌, List, Some, Bool, true, false, refl, sym, ◌∙◌, ap, subst, ⊎_elim, length, take, drop, cases_eq, or_parts, and_cases, le-leb, true≢false, drop-take, length-drop, length-take-le, take-take, nat_le, list_any, range_with_len, PortIdentity, Body, Message, same_clock, same_identity, message_length, message_octets, number_at, port_identity_at, source_port_identity, BodyFits, Fits, PortIdentityFits, message_of, Spells, SpellsBody, number_at-octets, number-take, IsOctets, message_of-some, message_of-spells, message_size, octets-take, same_identity-refl, same_clock-refl, is_forged, is_taken, IsForeign, Network, manager}
 use Rattle.ptpm_codec.specs.declared.message.Body.TheVariants as bodies
+use Rattle.ptpm_codec.specs.Layout.{clock_identity_at}
 
 -- ---- ranges
 
@@ -10,7 +11,7 @@ number-fits place m h = let high = h place in let low = h (place + 1) in omega (
 identity-fits : (place : ℕ) (m : List ℕ)
     → IsOctets m → place + 10 ≤ length m
     → PortIdentityFits (port_identity_at place m)
-unfolding port_identity_at
+unfolding port_identity_at clock_identity_at
 identity-fits place m h long = grind (arith, length-take-le, length-drop, number-fits)
 
 body-fits : (b : Body) (m : List ℕ) → IsOctets m → SpellsBody b m → BodyFits b
@@ -53,12 +54,12 @@ untaken N v who e none =
           ∙ none_of_range (λ d. same_clock who.clock (N.clock d).identity) N.clocks 0 c parts.0 (omega arith) (omega (arith, there))));
     }
 
--- ---- the source of a message stands within it
+-- ---- the source of a message lies within it
 
 port_identity-take : (n : ℕ) (m : List ℕ)
     → 30 ≤ n
     → port_identity_at 20 (take n m) ≡ port_identity_at 20 m
-unfolding port_identity_at
+unfolding port_identity_at clock_identity_at
 port_identity-take n m long =
     let size : n ≡ 20 + (n - 20) = omega arith in
     let behind : drop 20 (take n m) ≡ take (n - 20) (drop 20 m) = ap (λ k. drop 20 (take k m)) size ∙ drop-take 20 (n - 20) m in

@@ -22,7 +22,7 @@ in_time-parts N w (e ∷ es) fs time = let p = in_time-parts N (step N w e) es f
 
 -- ---- what is taken
 
--- the whole list, where no event of it is refused in its turn
+-- the whole list, if no event of it is refused in its turn
 pub taken-whole : (N : Network) (w : NetworkState) (es : List Event)
     → ((front rest : List Event) (e : Event) → es ≡ front ++ e ∷ rest → refusal N (run N w front) e ≡ None)
     → taken N w es ≡ es

@@ -1,5 +1,5 @@
 -- What a clock sends in a turn: copies at other ports than the one that the datagram came in at, replies at that one. And to
--- what it replies: to a numbered copy exactly where its verdict says so.
+-- what it replies: to a numbered copy exactly if its verdict says so.
 use Rattle.ptpm_network.proofs.Common.{arith, by_test, ◌≡◌, ℕ, ◌==◌, ◌&&◌, not, ◌⊎◌, inl, length, List, [], ◌∷◌, Option, Some, None, Result, Ok, Err, Bool, true, false, refl, sym, subst, and_parts, and_right, not-true, cond-true, eq-eqb, map, AllByRecursion, filter, range_with_len, DecodeError, ClockIdentity, Message, reading, DataSetsValue, may_forward, ReplyValue, Heard, rendered, Verdict, forwarded, forwarded_by, is_forwarded, with_less_hop, Delivery, RequestCopy, copy_by, copy_of, heard_of, is_numbered, Clock, State, judged, look, reply_by, reply_messages, turn, turn_by, verdict_at, is_copy-numbered, judged-each, message_of-reading, verdict_at-unnumbered, answer_origin, Origin, origin_by, all_made}
 use Rattle.ptpm_network.proofs.Lists.{all_of}
 use Rattle.ptpm_network.proofs.Turning.{turn-forwards}
@@ -87,7 +87,7 @@ turn_by-copy c s x (Ok v) e =
     subst (λ (m : Option Message). IsToCopy (judged c s v) (reply_messages c x.ingress (heard_of v) (reply_by (judged c s v) c s v)) (copy_by c (length s.sets.ports) x m))
     (sym (message_of-reading x.datagram v e)) (message-copy c s x v)
 
--- where a clock replies, its verdict says whether it is to a numbered copy
+-- if a clock replies, its verdict says whether it is to a numbered copy
 pub reply-origin : (c : Clock) (s : State) (x : Delivery)
     → ((turn c s x.ingress x.datagram).replies ≡ [])
     ⊎ ((o : Origin) → origin_by (turn c s x.ingress x.datagram).verdict o ≡ answer_origin o (copy_of c (length s.sets.ports) x))

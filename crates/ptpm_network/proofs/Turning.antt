@@ -4,7 +4,7 @@ use Rattle.ptpm_agent.specs.Turn.{is_in_domain}
 
 -- ---- a message that is no numbered copy
 
--- where the verdict sends nothing, nothing is read
+-- if the verdict sends nothing, nothing is read
 says_nothing : (c : Clock) (s : State) (ingress : ℕ) (v : Message) (w : Verdict)
     → judged c s v ≡ w → reply_by w c s v ≡ None → is_read c s.sets v ≡ false
     → reply_messages c ingress (heard_of v) (reply_by (judged c s v) c s v)

@@ -3,6 +3,7 @@ use Rattle.ptpm_network.proofs.Common.{◌≡◌, List, [], ◌∷◌, refl, inl
 use Rattle.ptpm_manager.specs.declared.report.Outcome.TheVariants as outcomes
 use Rattle.ptpm_network.proofs.Answerable.{answerable}
 use Rattle.ptpm_network.proofs.Schedules.{get_priority1, in_ring, one_clock, one_clock-IsNetwork, ring_of_three_clocks}
+use Rattle.ptpm_codec.specs.Layout.{clock_identity_at}
 
 -- the session on the link of its clock's port 1 has begun a GET, and can be answered with no clock between
 one_clock-answerable : IsAnswerable one_clock
@@ -28,5 +29,5 @@ ring-way = record {
 
 -- sent once, handed in at clock 0, at clock 1, at clock 0 on the way back and at the session: the request is reported
 ring-reports : ((in_ring (Begin 0 get_priority1 ∷ Send 0 ∷ Deliver 1 ∷ Deliver 2 ∷ Deliver 4 ∷ Deliver 5 ∷ [])).session 0).reports ≡ record { index = 1; outcome = outcomes.Value (0x80 ∷ 0x00 ∷ []) } ∷ []
-unfolding refusal happens begin_refusal send_refusal ask_refusal target_port row_of port_identity_octets tlv_octets message_of frame_refusal tlv_refusal text_refusal body_at number_at port_identity_at changed_by row_refusal forwarded answer clock_field_of reply_of reply_to read_reply_to rendered
+unfolding refusal happens begin_refusal send_refusal ask_refusal target_port row_of port_identity_octets tlv_octets message_of frame_refusal tlv_refusal text_refusal body_at number_at port_identity_at clock_identity_at changed_by row_refusal forwarded answer clock_field_of reply_of reply_to read_reply_to rendered
 ring-reports = refl

@@ -1,4 +1,4 @@
--- What a report is worth: its request was carried out exactly once, and the report tells the answer of that moment.
+-- What a report is worth: its request was carried out exactly once, and the report gives the answer of that moment.
 use Rattle.ptpm_network.proofs.Common.{by_test, suc, zero, arith, ◌≡◌, ℕ, ◌<◌, ◌≤◌, ◌+◌, ◌-◌, ◌==◌, ◌&&◌, max, Bool, List, [], ◌∷◌, ◌++◌, Some, None, refl, sym, ◌∙◌, ap, subst, ⊎_elim, ◌⊎◌, inl, inr, length, length-append, append_assoc, and_parts, and_left, and_right, eqb-true, ltb-true, ne_eqb, cond-true, cond-false, lt-ltb, append-nil, is_some, not, slice_get, AllByRecursion, find, PortIdentity, same_identity, first_of, DataSetsValue, Answer, RequestValue, same_identity-true, Accepted, History, RequestCopy, accepted_from, after_copy, applied_once, initial_history, greatest, joins, kept_reply, Clock, Ask, Report, begin_refusal, Begin, BeginRefused, Event, IsInRange, NoSuchName, no_session, refusal, IsReached, WasAccepted, run, IsNetwork, Network, manager, NetworkState, SessionState, accepted_at_target, copies_at, initial_state, history, issued, outcomes_kept, reports_by, reports_of, unanswered, IsWorth, WasCarriedOut, entries_of, all_weaker}
 use Rattle.std.proofs.Math.Nat.{ne_of_lt}
 use Rattle.ptpm_data.proofs.OwnOctets.{some_at}
@@ -110,9 +110,9 @@ carried_out : (N : Network) (w : NetworkState) (c : ℕ) (m : PortIdentity) (k :
 carried_out N w c m k e kept =
     found (WasCarriedOut (N.clock c) (N.start c) (copies_at N w c)) _ (history N w c).accepted e (carried_out-from (N.clock c) (N.start c) [] (copies_at N w c) tt) kept
 
--- ---- each report tells the one answer to its request
+-- ---- each report gives the one answer to its request
 
--- what the report of request k tells
+-- what the report of request k gives
 record IsTold (m : PortIdentity) (begun : List RequestValue) (es : List Accepted) (k : ℕ) (report : Report) : Type 0 where
   pub entry : Accepted
   pub kept : kept_reply m k es ≡ Some entry
@@ -198,7 +198,7 @@ module _ (N : Network) (es : List Event) (s i : ℕ) (r : Report) (n : IsNetwork
 pub session-named : (N : Network) (s : ℕ) → s < N.sessions → no_session N s ≡ None
 session-named N s place = ap (λ b. first_of ((not b, NoSuchName) ∷ [])) (lt-ltb s N.sessions place)
 
--- the request that is not answered, where fewer were reported than begun
+-- the request that is not answered, if fewer were reported than begun
 pub unanswered-some : (s : SessionState)
     → length s.reports < length s.begun
     → (q : RequestValue) × (unanswered s ≡ Some q)

@@ -6,7 +6,7 @@ use Rattle.ptpm_network.specs.Events.{Event, Begin, Send, Resume, Retune, Delive
 use Rattle.ptpm_network.specs.Network.{End, AtPort, AtSession, Network}
 use Rattle.ptpm_network.specs.RunningNetwork.{Happened, Held, RunningNetwork, network_event}
 
--- what clock c carries out of a datagram that comes in at an end: the request of its turn, where the verdict is AnsweredNew
+-- what clock c carries out of a datagram that comes in at an end: the request of its turn, if the verdict is AnsweredNew
 abbrev pub carried_at : Network → RunningNetwork → ℕ → End → List ℕ → List NumberedRequest
 carried_at N r c (AtPort d port) datagram =
     if c == d then carried_in (N.clock c) (r.clock c) datagram else []
@@ -25,7 +25,7 @@ carried_by_event N r c (Retune s domain) = []
 carried_by_event N r c (Deliver n) = carried_of_frame N r c (frame_at r.frames n)
 carried_by_event N r c (Stranger d port datagram) = carried_at N r c (AtPort d port) datagram
 
--- where an event happens, this and what others carry out from where it leads
+-- if an event happens, this and what others carry out from where it leads
 abbrev pub carried_while : Result Happened Refusal
     → List NumberedRequest
     → (RunningNetwork → List NumberedRequest)

@@ -40,11 +40,11 @@ pub record Answers (q : RequestValue) (r : ReplyValue) : Type 0 where
   pub id : r.id ≡ q.id
   pub sendable : AllByRecursion IsSendable r.answers
 
--- the one port that a request is for, where its id is of a port
+-- the one port that a request is for, if its id is of a port
 abbrev pub IsForOne : ℕ → RequestValue → Type 0
 IsForOne ports q = is_of_port q.id ≡ true → (1 ≤ q.port) × (q.port ≤ ports)
 
--- one answer, of the request's port where its id is of a port
+-- one answer, of the request's port if its id is of a port
 pub record HasOneAnswer (q : RequestValue) (r : ReplyValue) : Type 0 where
   pub answer : Answer
   pub is : r.answers ≡ answer ∷ []

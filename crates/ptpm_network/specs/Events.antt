@@ -58,8 +58,8 @@ is_taken N who =
     list_any (λ c. same_clock who.clock (N.clock c).identity) (range_with_len 0 N.clocks)
     || list_any (λ s. same_identity who (manager N s)) (range_with_len 0 N.sessions)
 
--- The datagram has such an identity where a message has its source, whether it is a message or not. In a shorter one
--- nothing stands there.
+-- The datagram has such an identity at the place where a message has its source, whether it is a message or not. In a shorter one
+-- nothing is there.
 abbrev pub is_forged : Network → List ℕ → Bool
 is_forged N datagram = nat_le 30 (length datagram) && is_taken N (source_port_identity datagram)
 

@@ -22,7 +22,7 @@ pub record IsPromised (N : Network) (events : List Event) : Type 0 where
   pub in_range : AllByRecursion IsInRange events
   pub in_time : AreInTime N (initial_state N) events
 
--- The promise, of the running network r, where the machine is in the state w.
+-- The promise, of the running network r, while the machine is in the state w.
 pub record Headline (N : Network) (w : NetworkState) (r : RunningNetwork) : Type 0 where
   -- A clock's data sets are those that it started with after the requests accepted among the copies that came in at it, each
   -- applied once, in order of first acceptance.
@@ -38,7 +38,7 @@ pub record Headline (N : Network) (w : NetworkState) (r : RunningNetwork) : Type
       → greatest copy.heard.source (history N w c).accepted ≡ copy.index → IsKeptFor (N.clock c) (history N w c) copy
   pub older : (c : ℕ) (copy : RequestCopy) → copy.index < greatest copy.heard.source (history N w c).accepted
       → due_reply (N.clock c) (history N w c) copy ≡ None
-  -- A manager is to be told the outcomes of the replies kept for its requests, in order. Its reports are the first of these.
+  -- A manager is due the outcomes of the replies kept for its requests, in order. Its reports are the first of these.
   pub reports : (s : ℕ) → s < N.sessions → (rest : List Report)
       × (outcomes_kept (manager N s) (accepted_at_target N w s) (greatest_accepted N w s) ≡ r.reports s ++ rest)
   -- No more is reported than its clock accepted, no more is accepted than it began, and at most one is begun and not reported.

@@ -65,7 +65,7 @@ pub record IsMessage (octets : List ℕ) (v : Message) : Type 0 where
   pub whole : message_octets octets ≡ octets
   pub fits : Fits v
 
--- the canonical spelling of request k, but for domainNumber and boundaryHops
+-- the canonical spelling of request k, except domainNumber and boundaryHops
 pub record IsRequestFrame (setup : Setup) (begun : List RequestValue) (k : ℕ)
     (octets : List ℕ) : Type 0 where
   pub positive : 0 < k
@@ -75,7 +75,7 @@ pub record IsRequestFrame (setup : Setup) (begun : List RequestValue) (k : ℕ)
   pub hops : ℕ
   pub is : octets ≡ canonical (record (request_message setup domain k request) { hops = hops })
 
--- the canonical spelling of the one answer kept for request k, but for domainNumber, the hops, and, where the answer is of
+-- the canonical spelling of the one answer kept for request k, except domainNumber, the hops, and, if the answer is of
 -- the clock, the source's portNumber
 pub record IsReplyFrame (setup : Setup) (accepted : List Accepted) (k : ℕ)
     (octets : List ℕ) : Type 0 where

@@ -1,4 +1,4 @@
--- What each event does to the network machine, which tells requests apart by session and index, and reads no sequenceId.
+-- What each event does to the network machine, which distinguishes requests by session and index, and reads no sequenceId.
 use Rattle.std.specs.Prelude.{◌≡◌, ℕ, ◌+◌, ◌-◌, ◌==◌, ◌&&◌, not, Bool, false, List, [], ◌∷◌, ◌++◌, length, flat_map, Option, Some, None, is_none, if◌then◌else◌}
 use Rattle.ptpm_codec.specs.declared.message.Message.{Message}
 use Rattle.ptpm_codec.specs.Canonical.{canonical}
@@ -121,7 +121,7 @@ abbrev pub is_answer : ℕ → SessionState → Origin → Bool
 is_answer s state (ReplyTo t k) = t == s && (k == length state.begun && not (is_idle state))
 is_answer s state _ = false
 
--- what a message tells of the last request, where it is in the session's domain
+-- what a message says of the last request, if it is in the session's domain
 abbrev pub told_by : SessionState → Option Message → Option Report
 told_by state None = None
 told_by state (Some v) =

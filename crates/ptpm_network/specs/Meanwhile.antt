@@ -10,8 +10,8 @@ use Rattle.ptpm_network.specs.Network.{AtPort, AtSession, End, Network, ports, s
 use Rattle.ptpm_network.specs.State.{Frame, NetworkState, history, is_idle}
 use Rattle.ptpm_network.specs.Way.{ComesIn, Hop, IsWay, made_each_way, passed_at_most, visited}
 
--- Between the states w and u a way of a session is left as it was. The session has begun nothing, was told nothing and is in
--- its domain still. What was a way is one still. Where there was room for so many frames, there still is.
+-- Between the states w and u a way of a session is left as it was. The session has begun nothing, heard no answer and is in
+-- its domain still. What was a way is one still. If there was room for this many frames, there still is.
 pub record LeavesWay (N : Network) (w u : NetworkState) (s : ℕ) (hops : List Hop) (port frames : ℕ) : Type 0 where
   pub begun : (u.session s).begun ≡ (w.session s).begun
   pub reports : (u.session s).reports ≡ (w.session s).reports
@@ -21,7 +21,7 @@ pub record LeavesWay (N : Network) (w u : NetworkState) (s : ℕ) (hops : List H
 
 -- After these events, which began in the state w, frames come in at these ends one after another, and at last a session has
 -- reported its request. Before each of them any others may happen that leave the way, and room for the frames that are still to
--- be made at the ends behind it.
+-- be made at the ends after it.
 abbrev pub ComeInMeanwhile : Network → NetworkState → ℕ → List Hop → ℕ → ℕ → List Event → List End → Type 0
 ComeInMeanwhile N w s hops port ends past [] = HasReported w (run N w past) s
 ComeInMeanwhile N w s hops port ends past (e ∷ es) = (others : List Event) → AllByRecursion IsInRange others
@@ -30,7 +30,7 @@ ComeInMeanwhile N w s hops port ends past (e ∷ es) = (others : List Event) →
     × ComeInMeanwhile N w s hops port ends ((past ++ others) ++ Deliver number ∷ []) es
 
 -- A session waits for a report and may send once more, a way leads to its target, and there is room for the frames of one copy
--- each way, where no link has more than so many ends.
+-- each way, if no link has more than this many ends.
 pub record IsReady (N : Network) (w : NetworkState) (s : ℕ) (hops : List Hop) (port ends : ℕ) : Type 0 where
   pub busy : is_idle (w.session s) ≡ false
   pub attempts : 0 < (w.session s).attempts_left
@@ -56,7 +56,7 @@ abbrev pub tells : NetworkState → ℕ → Option Frame → Bool
 tells w s None = false
 tells w s (Some f) = same_end f.end (AtSession s) && is_answer s (w.session s) f.origin
 
--- an event by which a session begins a request, is retuned or can be told its answer
+-- an event by which a session begins a request, is retuned or can hear its answer
 abbrev pub concerns : NetworkState → ℕ → Event → Bool
 concerns w s (Begin t ask) = t == s
 concerns w s (Retune t domain) = t == s

@@ -20,7 +20,7 @@ same_end (AtPort c p) (AtPort d q) = c == d && p == q
 same_end (AtSession s) (AtSession t) = s == t
 same_end _ _ = false
 
--- the other ends of the link that an end is on, in the link's order; none where it is on no link
+-- the other ends of the link that an end is on, in the link's order; none if it is on no link
 abbrev pub peers : List (List End) → End → List End
 peers [] e = []
 peers (link ∷ links) e =
@@ -34,7 +34,7 @@ pub record SessionStart : Type 0 where
   pub target : ℕ
   pub domain : ℕ
 
--- clocks and sessions stand at the places below their numbers
+-- clocks and sessions have the places below their numbers
 pub record Network : Type 0 where
   pub clocks : ℕ
   pub clock : ℕ → Clock
@@ -72,7 +72,7 @@ pub record IsSession (N : Network) (s : ℕ) : Type 0 where
   pub target : (N.session s).setup.target ≡ (N.clock (N.session s).target).identity
   pub ports : (N.session s).setup.ports ≡ ports N (N.session s).target
 
--- a link of 2 to 16 ends, each of which is there
+-- a link of 2 to 16 ends, and each end is there
 pub record IsLink (N : Network) (link : List End) : Type 0 where
   pub two : 2 ≤ length link
   pub at_most_sixteen : length link ≤ 16

@@ -97,7 +97,7 @@ nothing_to_resume s = first_of ((not (is_waiting s), SendRefused sends.Idle) ∷
 
 -- ---- one event
 
--- what an event does that is not refused: a session did what it was told, or a clock or a session decided this of a datagram
+-- what an event does that is not refused: a session did what it was asked, or a clock or a session decided this of a datagram
 pub data Deed : Type 0 where
   Done : Deed
   Decided : (verdict : Verdict) → Deed
@@ -108,12 +108,12 @@ pub record Happened : Type 0 where
   pub deed : Deed
   pub network : RunningNetwork
 
--- it is refused for this reason, or, where there is none, what stands behind says what happens
+-- it is refused for this reason, or, if there is none, what follows says what happens
 abbrev pub unless_refused : Option Refusal → Result Happened Refusal → Result Happened Refusal
 unless_refused None behind = behind
 unless_refused (Some reason) behind = Err reason
 
--- the network becomes this, and nothing is told
+-- the network becomes this, and nothing is reported
 abbrev pub becomes : RunningNetwork → Result Happened Refusal
 becomes r = Ok (record { deed = Done; network = r })
 

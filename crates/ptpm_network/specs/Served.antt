@@ -32,7 +32,7 @@ pub record IsServed (N : Network) (s : ℕ) (r : RunningNetwork) (a : Account) :
       × (kept_reply (manager N s) k a.accepted ≡ Some entry) × (slice_get a.begun (k - 1) ≡ Some entry.request)
   pub accepted_begun : accepted_count N s a ≤ length a.begun
   pub begun_accepted : length a.begun ≤ accepted_count N s a + 1
-  -- What it was told is the first of what the replies to them say, in order: as much as was begun, or one less.
+  -- What was reported to it is the first of what the replies to them say, in order: as much as was begun, or one less.
   pub reports : (rest : List Report)
       × (outcomes_kept (manager N s) a.accepted (accepted_count N s a) ≡ r.reports s ++ rest)
   pub reported_accepted : length (r.reports s) ≤ accepted_count N s a
@@ -45,7 +45,7 @@ pub record IsServed (N : Network) (s : ℕ) (r : RunningNetwork) (a : Account) :
   pub older : (n port k : ℕ) (h : Held) (v : Message) → IsTimelyCopy N s r n port k h v → k < accepted_count N s a
       → (turn (N.clock (N.session s).target) (r.clock (N.session s).target) port h.octets).replies ≡ []
 
--- The running network r came from its start by events of which none was a late delivery for this session, however late it was for
+-- The running network r came from its start by events without a late delivery for this session, however late it was for
 -- others, and this is the session's account of them.
 pub data HasAccount (N : Network) (s : ℕ) : RunningNetwork → Account → Type 0 where
   AtStart : (r : RunningNetwork) → s < N.sessions → StandsAfter N [] r → HasAccount N s r (account_of N s [])

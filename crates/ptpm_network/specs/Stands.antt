@@ -1,5 +1,5 @@
--- When a running network stands at a state of the machine: its clocks and sessions in states of their own, in which requests
--- are told apart by sequenceIds, and its frames without what no receiver can see.
+-- When a running network is at a state of the machine: its clocks and sessions in states of their own, in which requests
+-- are distinguished by sequenceIds, and its frames without what no receiver can see.
 use Rattle.std.specs.Prelude.{◌≡◌, ℕ, ◌<◌, List, map}
 use Rattle.ptpm_codec.specs.declared.identity.PortIdentity.{PortIdentity}
 use Rattle.ptpm_agent.specs.Laws.{StandsAt}
@@ -23,7 +23,7 @@ pub record Stands (N : Network) (first : PortIdentity → ℕ) (r : RunningNetwo
   pub reports : (s : ℕ) → s < N.sessions → r.reports s ≡ (w.session s).reports
   pub frames : r.frames ≡ map held w.frames
 
--- The running network r has gone through these events, and stands where they lead the machine, whatever first sequenceIds are
+-- The running network r has gone through these events, and is where they lead the machine, whatever first sequenceIds are
 -- given to those who manage nothing.
 pub record StandsAfter (N : Network) (events : List Event) (r : RunningNetwork) : Type 0 where
   pub promised : IsPromised N events

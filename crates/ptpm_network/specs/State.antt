@@ -46,7 +46,7 @@ pub record NetworkState : Type 0 where
   pub session : ℕ → SessionState
   -- what came in at each clock, in order
   pub arrivals : ℕ → List Delivery
-  -- every frame that was ever sent; frame n stands at place n - 1, and stays
+  -- every frame that was ever sent; frame n is at place n - 1, and stays
   pub frames : List Frame
 
 abbrev pub initial_session_state : SessionStart → SessionState
@@ -91,11 +91,11 @@ history N w c = applied_once (N.clock c) (initial_history (N.start c)) (copies_a
 abbrev pub accepted_at_target : Network → NetworkState → ℕ → List Accepted
 accepted_at_target N w s = (history N w (N.session s).target).accepted
 
--- the greatest index of a session's requests that its target accepted, 0 where none is
+-- the greatest index of a session's requests that its target accepted, 0 if none is
 abbrev pub greatest_accepted : Network → NetworkState → ℕ → ℕ
 greatest_accepted N w s = greatest (manager N s) (accepted_at_target N w s)
 
--- ---- what a manager is to be told
+-- ---- what is to be reported to a manager
 
 abbrev pub reports_by : ℕ → ReplyValue → List Answer → List Report
 reports_by k r answers =
@@ -113,7 +113,7 @@ outcomes_kept m accepted zero = []
 outcomes_kept m accepted (suc n) =
     outcomes_kept m accepted n ++ reports_of (suc n) (kept_reply m (suc n) accepted)
 
--- a copy of request k of a session, or of a reply to it, is late where the session has begun over 32,768 requests since
+-- a copy of request k of a session, or of a reply to it, is late if the session has begun over 32,768 requests since
 abbrev pub is_late_at : ℕ → ℕ → Bool
 is_late_at k begun = nat_lt (k + 32768) begun
 

@@ -62,7 +62,7 @@ LinksHaveAtMost N ends = AllByRecursion (λ link. length link ≤ ends) N.links
 abbrev pub passed_at_most : ℕ → ℕ
 passed_at_most ends = 8 * ends
 
--- the frames that are made at most, where one message makes so many: at the target, and twice at each clock on the way
+-- the frames that are made at most, if one message makes this many: at the target, and twice at each clock on the way
 abbrev pub made_along : ℕ → List Hop → ℕ
 made_along most [] = most
 made_along most (h ∷ hops) = most + (made_along most hops + most)

@@ -1,4 +1,4 @@
-//! The promise of a network, and where a running network stands so that it holds. Each law is the contract of a function that
+//! The promise of a network, and the states of a running network in which it holds. Each law is the contract of a function that
 //! does nothing, and speaks of the definitions alone.
 
 ghost use Rattle.std.specs.Prelude.{◌≡◌, ◌++◌, ◌∷◌, ◌<◌, [], ℕ, false, List, None, Ok, Some};
@@ -22,14 +22,14 @@ ghost use Rattle.ptpm_network.specs.State.{Frame, NetworkState, history};
 
 /// The headline. However a network loses, repeats, reorders or duplicates messages, if none arrives after more than 32,768 later
 /// requests of its manager, each clock's data sets are those after its managers' delivered requests, each applied once in order
-/// of first acceptance; repeats of the latest get the one reply kept, older ones none; each manager reports those replies;
+/// of first acceptance. Then repeats of the latest get the one reply kept, older ones none; each manager reports those replies;
 /// strangers and refused SETs change no data set.
 pub fn headline()
     ensures { (N : Network) (events : List Event) (r : RunningNetwork) →
         StandsAfter N events r → Headline N (state_after N events) r }
 {}
 
-/// Where it holds: of a network that starts, and, where it held before,
+/// It holds of a network that starts, and, if it held before,
 /// - after an event that is not refused, and is no late delivery;
 /// - with an event more that is refused, for the machine's reason, and leaves the running network as it was;
 /// - after a list of events, up to the first that is refused, if none of these delivers a frame late.
@@ -84,7 +84,7 @@ pub fn strangers_change_nothing()
         ≡ history N (state_after N es) clock }
 {}
 
-/// Refused SETs change no data set, nor does any other request of which an answer is an error; and what is no numbered copy of
+/// Refused SETs change no data set, nor does any other request with an error among its answers; and what is no numbered copy of
 /// a request leaves all that a clock has.
 pub fn refused_requests_change_no_data()
     ensures refused { (c : Clock) (h : History) (copy : RequestCopy) (r : ReplyValue) (a : Answer)
@@ -103,7 +103,7 @@ pub fn refused_requests_change_no_data()
 {}
 
 /// Without the premise: whatever happens in a network, in time or late, what a clock has is what it had before, after the requests
-/// of its turns that were `AnsweredNew`, each as the clock stood in its turn, in their order. Nothing else changes its data sets
+/// of its turns that were `AnsweredNew`, each as the clock was in its turn, in their order. Nothing else changes its data sets
 /// or what it keeps, at one event or at a list of them. `requests_of_turns` of ptpm_agent says what such requests leave.
 pub fn requests_carried_out()
     ensures event { (N : Network) (r : RunningNetwork) (c : ℕ) (e : Event) (h : Happened) →

@@ -81,10 +81,10 @@ pub fn at_most_225_frames()
         IsNetwork N → AllByRecursion IsInRange es → length (state_after N es).frames ≤ 400000 }
 {}
 
-/// The window of 65,536 sequenceIds in which a clock tells new requests from old is never left:
+/// The window of 65,536 sequenceIds in which a clock distinguishes new requests from old is never left:
 /// - a copy of a manager's request that is not late lies in it, whatever came before;
 /// - each copy that came in at a clock has the sequenceId that its index gives, late or not;
-/// - where no delivery of a list of events was late, all of them lie in the window;
+/// - if no delivery of a list of events was late, all of them lie in the window;
 /// - then a clock that takes its turn at each of them has the data sets after its managers' accepted requests, each applied
 ///   once, in order of first acceptance.
 pub fn in_the_window()
@@ -112,7 +112,7 @@ pub fn in_the_window()
         ≡ (history N (state_after N es) c).sets }
 {}
 
-/// What a clock sends in one turn, where it stands at its history and the copy is in its window, is what the machine makes
+/// Let a clock be at its history, and the copy in its window. What the clock sends in one turn is what the machine makes
 /// frames of: the copies that are passed on, and the reply that is due to a numbered copy, or what any other request reads.
 pub fn outbox_of_turns()
     ensures forwards { (c : Clock) (first : PortIdentity → ℕ) (s : State) (h : History)
@@ -126,8 +126,8 @@ pub fn outbox_of_turns()
         (copy_of c (length h.sets.ports) (delivery ingress f)) }
 {}
 
-/// A running network, whose clocks tell requests apart by sequenceIds, stands where the machine stands: as both start, and,
-/// where it stood there before, after a clock's turn at a frame that is not late.
+/// A running network, whose clocks distinguish requests by sequenceIds, is at the machine's state: as both start, and,
+/// if it was there before, after a clock's turn at a frame that is not late.
 pub fn clocks_stand()
     ensures first { (N : Network) (first : PortIdentity → ℕ)
         → Stands N first (initial_network N) (initial_state N) }
@@ -141,7 +141,7 @@ pub fn clocks_stand()
         (delivered_at_clock N (state_after N es) c ingress f) }
 {}
 
-/// A session takes a frame that is not late for the answer to its request, by the octets of the frame, exactly where the frame
+/// A session takes a frame that is not late for the answer to its request, by the octets of the frame, exactly if the frame
 /// belongs to the reply to that request; and then it reports the same.
 pub fn answers_by_octets()
     ensures { (N : Network) (es : List Event) (n s : ℕ) (f : Frame) (report : Report) →
@@ -153,9 +153,9 @@ pub fn answers_by_octets()
         ≡ received.Answered report) }
 {}
 
-/// What is taken of a list of events is all before the first that is refused. It is the whole list where none of it is refused
+/// What is taken of a list of events is all before the first that is refused. It is the whole list if none of it is refused
 /// in its turn, and what the other laws ask of a list holds of what is taken of it. Of two lists, one after another, it is the
-/// first and what is taken of the second, where the first is taken whole.
+/// first and what is taken of the second, if the first is taken whole.
 pub fn events_taken()
     ensures whole { (N : Network) (w : NetworkState) (es : List Event) →
         ((front rest : List Event) (e : Event) → es ≡ front ++ e ∷ rest
@@ -170,8 +170,8 @@ pub fn events_taken()
         ≡ front ++ taken N (run N w front) rest }
 {}
 
-/// Two lists of events, one after another, lead where the second leads from where the first does; and no delivery of both is
-/// late where none of either is.
+/// Two lists of events, one after another, lead to where the second leads from where the first does; and no delivery of both is
+/// late if none of either is.
 pub fn events_appended()
     ensures run { (N : Network) (w : NetworkState) (front rest : List Event) →
         run N w (front ++ rest) ≡ run N (run N w front) rest }
@@ -179,11 +179,11 @@ pub fn events_appended()
         AreInTime N w (front ++ rest) ↔ (AreInTime N w front × AreInTime N (run N w front) rest) }
 {}
 
-/// A running network, whose clocks and sessions tell requests apart by sequenceIds and octets, goes through every list of
+/// A running network, whose clocks and sessions distinguish requests by sequenceIds and octets, goes through every list of
 /// events as the machine does:
-/// - where it stands at a state that the machine reaches, it refuses the events that the machine refuses, for the same reasons;
-/// - after an event that is not refused, and is no late delivery, it stands at the machine's next state;
-/// - so, from any such state, it goes through the events up to the first that is refused, and stands where they lead the
+/// - if it is at a state that the machine reaches, it refuses the events that the machine refuses, for the same reasons;
+/// - after an event that is not refused, and is no late delivery, it is at the machine's next state;
+/// - so, from any such state, it goes through the events up to the first that is refused, and is where they lead the
 ///   machine, if none of these delivers a frame late.
 pub fn running_networks_stand()
     ensures refused { (N : Network) (es : List Event) (first : PortIdentity → ℕ)

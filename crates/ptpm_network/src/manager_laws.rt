@@ -17,10 +17,10 @@ ghost use Rattle.ptpm_network.specs.State.{initial_state};
 /// came late, is served.
 /// - Its target carried out its requests 1 to their number, each once, in this order; their number is that of the requests begun,
 ///   or one less.
-/// - What it was told are the first of the replies given then, in order.
+/// - What was reported to it are the first of the replies given then, in order.
 /// - A copy of the last of them gets that reply again, in whatever domain; a copy of an older one gets none.
 ///
-/// Where no delivery is late that happens, as the headline has it, every manager's messages come in time.
+/// If no delivery that happens is late, as in the headline, every manager's messages come in time.
 /// `requests_carried_out` says what every clock has after its turns, late or not.
 pub fn managers_in_time_are_served()
     ensures served { (N : Network) (s : ℕ) (es : List Event) →
@@ -33,7 +33,7 @@ pub fn managers_in_time_are_served()
         StaysInTime N s (initial_network N) es }
 {}
 
-/// Where it is served so far: as a network starts, and, where it was before, after an event that is not refused and is no late
+/// It is served so far as a network starts, and, if it was before, after an event that is not refused and is no late
 /// delivery for it, however late it is for others.
 pub fn served_so_far()
     ensures first { (N : Network) (s : ℕ) (r : RunningNetwork) →

@@ -13,11 +13,11 @@ ghost use Rattle.ptpm_network.specs.Stands.{StandsAfter};
 ghost use Rattle.ptpm_network.specs.State.{NetworkState, greatest_accepted, issued};
 ghost use Rattle.ptpm_network.specs.Way.{Hop, IsAnswerable, LinksHaveAtMost, ReportsAfter};
 
-/// Nothing else keeps a request from its answer. After every list of events, late deliveries among them: where a session waits
-/// for a report and may send once more, a way leads to its target and there is room for the frames, the session sends the
-/// request, one copy each way comes in at the ends of the way, and the request is reported; and before each of these deliveries
-/// any other events may happen, any number of them, that leave the way. With no others this is what `answerable_along_a_way`
-/// says. A network that runs reports as the machine does, where none of all these events is refused or late.
+/// Nothing else keeps a request from its answer. After every list of events, late deliveries among them: let a session wait
+/// for a report and have an attempt left, let a way lead to its target, and let there be room for the frames. Then the session
+/// sends the request, one copy each way comes in at the ends of the way, and the request is reported. Before each of these
+/// deliveries any number of other events may happen that leave the way. With no others this is what `answerable_along_a_way`
+/// says. A network that runs reports as the machine does, if none of all these events is refused or late.
 pub fn answerable_meanwhile()
     ensures answered { (N : Network) (es : List Event) (s : ℕ) (hops : List Hop) (port ends : ℕ) →
         IsNetwork N → AllByRecursion IsInRange es → s < N.sessions → LinksHaveAtMost N ends →

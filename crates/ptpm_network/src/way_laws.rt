@@ -17,7 +17,7 @@ ghost use Rattle.ptpm_network.specs.State.{Frame, NetworkState, ReplyTo, Request
 ghost use Rattle.ptpm_network.specs.Way.{Hop, IsAnswerable, IsWay, IsWayIn, LinksHaveAtMost, RunsToReport, handed_in, made_each_way};
 
 /// One copy each way suffices. After every list of events, for the last request that a session has begun:
-/// - its copies and those of the reply are never late, and a delivery is not refused where there is room for frames;
+/// - its copies and those of the reply are never late, and a delivery is not refused if there is room for frames;
 /// - a copy of the request that comes in at a port of the session's target, in the clock's domain or as a repeat, makes a copy
 ///   of the reply for each other end of that port's link, and no other frame;
 /// - a copy of the reply that comes in at the session, in the session's domain and while the request is not reported, is
@@ -44,11 +44,11 @@ pub fn one_copy_each_way()
         HasReported (state_after N es) (step N (state_after N es) (Deliver n)) s }
 {}
 
-/// Nothing deadlocks. After every list of events, late deliveries among them: where a session waits for a report and may send
-/// once more, a way leads to its target over clocks that pass messages on, and there is room for the frames, the request can
-/// be answered: the session sends it, one copy comes in at each clock of the way and at the target, then one at each clock on
-/// the way back and at the session, with no other event between, and the request is reported. No event of these is refused,
-/// and no delivery is late, so a running network goes through them as the machine does.
+/// Nothing deadlocks. After every list of events, late deliveries among them: let a session wait for a report and have an
+/// attempt left, let a way lead to its target over clocks that pass messages on, and let there be room for the frames. Then
+/// the request can be answered. The session sends it. One copy comes in at each clock of the way and at the target, then one
+/// at each clock on the way back and at the session, with no other event between. Then the request is reported. No event of
+/// these is refused, and no delivery is late, so a running network goes through them as the machine does.
 pub fn answerable_along_a_way()
     ensures answered { (N : Network) (es : List Event) (s : ℕ) (hops : List Hop) (port ends : ℕ) →
         IsNetwork N → AllByRecursion IsInRange es → s < N.sessions →
@@ -64,9 +64,9 @@ pub fn answerable_along_a_way()
         × AreInTime N w (Send s ∷ handed_in a.deliveries) }
 {}
 
-/// A network that runs, whose clocks and sessions tell requests apart by sequenceIds and octets, answers no less: where it stands
-/// at a state that the machine reaches, so after any events of which none delivered a frame late, and a request can be answered
-/// along a way, it is.
+/// A network that runs, whose clocks and sessions distinguish requests by sequenceIds and octets, answers no less. Let it be
+/// at a state that the machine reaches, such as after any events without a late delivery. If a request can be answered along
+/// a way there, it is.
 pub fn running_networks_answer()
     ensures answered { (N : Network) (es : List Event) (first : PortIdentity → ℕ)
         (r : RunningNetwork) (s : ℕ) (hops : List Hop) (port ends : ℕ) →
@@ -88,13 +88,13 @@ pub fn running_networks_answer()
 {}
 
 /// Attempts that are used up, or a domain of its own, keep no session from it for good. While it waits for a report, no event
-/// that resumes or retunes it is refused. Where a way leads to its target and there is room for the frames, the request can be
+/// that resumes or retunes it is refused. If a way leads to its target and there is room for the frames, the request can be
 /// answered, whatever else happens meanwhile that leaves the way, once the session
 /// - is resumed with an attempt or more, if the way is in its domain;
 /// - is retuned, if the way is in the domain that it is retuned to and it has an attempt left;
 /// - is retuned and resumed.
 ///
-/// A network that runs, after any events of which none delivered a frame late, runs to the report from there.
+/// A network that runs, after any events without a late delivery, runs to the report from there.
 pub fn answerable_once_moved()
     ensures resumed { (N : Network) (es : List Event) (s : ℕ) (hops : List Hop) (port ends : ℕ) →
         IsNetwork N → AllByRecursion IsInRange es → s < N.sessions →

@@ -57,7 +57,7 @@ past_both names past es fs =
     append_assoc past (map (placed names) es) (map (placed names) fs)
     ∙ ap (λ l. past ++ l) (sym (map-append (placed names) es fs))
 
--- others behind events that ask for nothing
+-- others after events that ask for nothing
 asked_behind : (N : Network) (names : Names) (past : List machine.Event) (all asked more : List Event)
     → list_any is_asked all ≡ false
     → AreAsked N names (past ++ map (placed names) all) asked more
@@ -393,7 +393,7 @@ goes_on xs old middle last x y z a b c first second =
 
 -- ---- ends
 
--- an error from outside, behind all that happened
+-- an error from outside, after all that happened
 pub stops : (asked : List Event) (old new : World) (before after : Option (List ℕ)) (had has : ℕ) (e : ScriptError)
     → is_outside e ≡ true
     → e ≢ faults.ReadFault

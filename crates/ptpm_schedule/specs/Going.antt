@@ -25,7 +25,7 @@ pub record IsSame (old new : World) : Type 0 where
 
 -- ---- one event
 
--- After these events this one is not refused, and the network stands where all of them lead: so it is no late delivery.
+-- After these events this one is not refused, and the network is where all of them lead: so it is no late delivery.
 pub record Took (N : Network) (past : List machine.Event) (new : World) (e : machine.Event) : Type 0 where
   pub permitted : refusal N (state_after N past) e ≡ None
   pub stands : StandsAfter N (past ++ e ∷ []) (running new)
@@ -65,14 +65,14 @@ asked_in lines = flat_map (λ line. asked_by line.event) lines
 -- ---- a list of events
 
 -- After these events further ones came, said by names. None of them was refused, a writer took the lines of the further ones, and
--- so many lines were counted more.
+-- this many lines were counted more.
 pub record Wrote (N : Network) (names : Names) (past : List machine.Event) (before after : Option (List ℕ)) (had has : ℕ) : Type 0 where
   pub events : List Event
   pub written : Appends before after (event_lines events)
   pub happened : taken N (state_after N past) (map (placed names) events) ≡ map (placed names) events
   pub counted : has ≡ had + length events
 
--- and the network stands where all of them lead, among which are those that were to come
+-- and the network is where all of them lead; among them are those that were to come
 pub record WentOn (N : Network) (names : Names) (past : List machine.Event) (asked : List Event) (new : World)
     (before after : Option (List ℕ)) (had has : ℕ) : Type 0 where
   pub wrote : Wrote N names past before after had has

@@ -55,8 +55,8 @@ is_asked event = false
 abbrev pub IsRefusedAfter : Network → List machine.Event → machine.Event → Type 0
 IsRefusedAfter N past e = is_none (refusal N (state_after N past) e) ≡ false
 
--- Among events that come after others, these stand in their order, and no further ones that a session is asked for. Each stands
--- behind what follows of those before it; or it is refused there, and left out.
+-- Among events that come after others, these keep their order, and no further ones come that a session is asked for. Each comes
+-- after what follows of those before it; or it is refused there, and left out.
 abbrev pub AreAsked : Network → Names → List machine.Event → List Event → List Event → Type 0
 AreAsked N names past [] all = list_any is_asked all ≡ false
 AreAsked N names past (e ∷ es) all =
@@ -101,13 +101,13 @@ pub record IsScheduleOf (input : List ℕ) (before after : Option (List ℕ)) : 
   pub in_time : AreInTime (described begun.network) (initial_state (described begun.network)) (map (placed (names_of begun.network)) begun.events)
   pub asked : AreAsked (described begun.network) (names_of begun.network) [] (map (λ line. line.event) (scripted input).events) begun.events
 
--- over 2,000,000 lines would have been written, behind as many
+-- over 2,000,000 lines would have been written, after as many
 pub record IsFull (input : List ℕ) (before after : Option (List ℕ)) : Type 0 where
   pub begun : IsBegun input before after
   pub full : 2000000 ≤ lines_of input begun.events
 
--- It ended early: by the script's fault, before anything was written; where the schedule has too many lines; or where reading, writing
--- or memory failed. Where writing did not fail, what was written is nothing or the beginning of a schedule; where reading did, nothing.
+-- It ended early: by the script's fault, before anything was written; by too many lines of the schedule; or since reading, writing
+-- or memory failed. If writing did not fail, what was written is nothing or the beginning of a schedule; if reading did, nothing.
 pub record HasEnded (input : List ℕ) (before after : Option (List ℕ)) (e : ScriptError) : Type 0 where
   pub fault : is_outside e ≡ false
       → ((fault_in input ≡ Some e) × Keeps before after) ⊎ ((e ≡ TooManyLines) × IsFull input before after)

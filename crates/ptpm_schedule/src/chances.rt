@@ -11,9 +11,9 @@ const STREAM: u64 = 1_588;
 /// How often a network loses a message and how often it repeats one, in percent, and the seed of what is drawn.
 #[derive(Clone, Copy, Debug, PartialEq, Eq)]
 pub struct Chances {
-    /// Of a hundred frames so many are lost: 0 to 100, and more than 100 is 100.
+    /// Of a hundred frames this many are lost: 0 to 100, and more than 100 is 100.
     pub loss: u8,
-    /// Of a hundred frames that arrive so many arrive twice: 0 to 100, and more than 100 is 100.
+    /// Of a hundred frames that arrive this many arrive twice: 0 to 100, and more than 100 is 100.
     pub repeat: u8,
     /// The same seed draws the same.
     pub seed: u64,
@@ -32,7 +32,7 @@ impl Draws {
         }
     }
 
-    /// Whether something happens that happens in so many of a hundred cases.
+    /// Whether something happens that happens in this many of a hundred cases.
     pub(crate) fn happens(&mut self, percent: u8) -> bool
         ensures never { percent ≡ 0 → result ≡ false }
         ensures always { 100 ≤ percent → result ≡ true }

@@ -60,7 +60,7 @@ impl fmt::Display for AskText<'_> {
     }
 }
 
-/// A managementId by its name, or by four hexadecimal digits where the table of ids has none.
+/// A managementId by its name, or by four hexadecimal digits if the table of ids has none.
 #[derive(Clone, Copy)]
 struct IdText(u16);
 
@@ -79,7 +79,7 @@ impl fmt::Display for IdText {
     }
 }
 
-/// A port, or `-` where none is named.
+/// A port, or `-` if none is named.
 #[derive(Clone, Copy)]
 struct PortText(Option<u16>);
 

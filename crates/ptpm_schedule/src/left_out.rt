@@ -7,7 +7,7 @@ use std::fmt;
 /// `LeftOut LINE WHY`.
 #[derive(Clone, Copy, Debug, PartialEq, Eq)]
 pub(crate) struct LeftOut {
-    /// The number of the line, counted from 1 behind the divider.
+    /// The number of the line, counted from 1 after the divider.
     pub(crate) line: u32,
     pub(crate) why: StepError,
 }

@@ -18,12 +18,12 @@ use std::io::{Read, Write};
 /// In it each request is sent and its messages are delivered, in an order that is drawn, some never and some twice, and it is sent
 /// again, until it is answered or has no attempts left.
 ///
-/// An event waits until its session's request before it is answered or has no attempts left. Where it is refused then, it has no
-/// line, and is told on `err`; what `err` does changes nothing. Each line that is written is one that happens, and none of them
+/// An event waits until its session's request before it is answered or has no attempts left. If it is refused then, it has no
+/// line, and is reported on `err`; what `err` does changes nothing. Each line that is written is one that happens, and none of them
 /// delivers a frame late (`IsScheduled`). The same chances and the same script give the same octets.
 ///
 /// A script that cannot be read is refused as `run_script` refuses it; any other event is UnknownWord. Nothing is written then. Ends
-/// for every reader. What would have over 2,000,000 lines ends with TooManyLines behind as many.
+/// for every reader. What would have over 2,000,000 lines ends with TooManyLines after as many.
 #[inline(never)]
 pub fn schedule<R: Read + Drop, W: Write, E: Write>(
     alloc: Global,
@@ -46,7 +46,7 @@ pub fn schedule<R: Read + Drop, W: Write, E: Write>(
     Ok(())
 }
 
-/// Lets the events of a script happen, each in its turn, and what follows of them. Those that are refused are told.
+/// Lets the events of a script happen, each in its turn, and what follows of them. Those that are refused are reported.
 fn play<W: Write, E: Write>(
     traffic: &mut Traffic<'_>,
     lines: &[EventLine],

@@ -44,7 +44,7 @@ begin n get 2004 65535 -
 begin m get PRIORITY1 - -
 ";
 
-/// The schedule of a script, and what was told of lines that are left out.
+/// The schedule of a script, and what was reported of lines that are left out.
 fn scheduled(
     alloc: Global,
     network: &str,
@@ -84,7 +84,7 @@ fn lines_of(text: &str, verb: &str, name: &str) -> usize {
         .count()
 }
 
-/// Whether all that a session begins is answered, but for its last request after so many attempts. `resume` adds four.
+/// Whether all that a session begins is answered, except its last request after this many attempts. `resume` adds four.
 fn is_settled(schedule: &str, trace: &str, name: &str, begin: &str, attempts: usize) -> bool {
     let begun = lines_of(schedule, "begin", name);
     let answered = lines_of(trace, "report", name);
@@ -131,7 +131,7 @@ fn same_seed_same_schedule(rt: HostRuntime) -> Result<(), Fail> {
     Ok(())
 }
 
-/// A network and events are scheduled so, and so much is told.
+/// A network and events are scheduled so, and this is reported.
 fn gives(
     rt: &impl Abort,
     alloc: Global,
@@ -185,7 +185,7 @@ deliver 3
     gives(&rt, rt.alloc(), chances(30, 30, 7), request, wanted, "")
 }
 
-/// Where all is lost, attempts run out. A session without an answer begins nothing else, and what is refused is told.
+/// If all is lost, attempts run out. A session without an answer begins nothing else, and what is refused is reported.
 #[test]
 fn everything_lost(rt: HostRuntime) -> Result<(), Fail> {
     let events =

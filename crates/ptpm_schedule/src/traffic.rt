@@ -31,6 +31,15 @@ pub(crate) enum Tried {
     Refused(StepError),
 }
 
+/// How long a network goes on.
+#[derive(Clone, Copy)]
+enum Until {
+    /// Until nothing is under way and no session waits.
+    Quiet,
+    /// Until the session at this place waits no more.
+    Settled(u16),
+}
+
 /// The messages that are under way, and who waits for one.
 #[derive(Drop)]
 pub(crate) struct Traffic<'a> {
@@ -38,7 +47,7 @@ pub(crate) struct Traffic<'a> {
     network: &'a Network,
     chances: Chances,
     draws: Draws,
-    /// The numbers of the frames that will be delivered; twice where a frame is repeated.
+    /// The numbers of the frames that will be delivered; twice if a frame is repeated.
     under_way: Vec<u32>,
     /// The places of the sessions whose request is not answered and may be sent again.
     waiting: Vec<u16>,
@@ -47,7 +56,7 @@ pub(crate) struct Traffic<'a> {
 }
 
 impl<'a> Traffic<'a> {
-    /// Nothing is under way, and so many lines are printed.
+    /// Nothing is under way, and this many lines are printed.
     pub(crate) fn new(
         alloc: Global,
         network: &'a Network,
@@ -114,13 +123,7 @@ impl<'a> Traffic<'a> {
         ensures { Went result [] world.old world.new (W.contents out.old) (W.contents out.new)
             self.old.lines self.new.lines }
     {
-        for _ in 0..u64::MAX {
-            if self.under_way.is_empty() && self.waiting.is_empty() {
-                break;
-            }
-            self.go_on(world, out)?;
-        }
-        Ok(())
+        self.go_on_until(Until::Quiet, world, out)
     }
 
     /// Lets the network go on until the session at this place, if there is one, waits no more.
@@ -133,16 +136,37 @@ impl<'a> Traffic<'a> {
         ensures { Went result [] world.old world.new (W.contents out.old) (W.contents out.new)
             self.old.lines self.new.lines }
     {
-        let Some(place) = place else {
-            return Ok(());
-        };
+        match place {
+            Some(place) => self.go_on_until(Until::Settled(place), world, out),
+            None => Ok(()),
+        }
+    }
+
+    /// Lets the network go on until then.
+    fn go_on_until<W: Write>(
+        &mut self,
+        until: Until,
+        world: &mut World,
+        out: &mut W,
+    ) -> Result<(), ScriptError>
+        ensures { Went result [] world.old world.new (W.contents out.old) (W.contents out.new)
+            self.old.lines self.new.lines }
+    {
         for _ in 0..u64::MAX {
-            if !self.waiting.contains(&place) {
+            if self.has_come(until) {
                 break;
             }
             self.go_on(world, out)?;
         }
         Ok(())
+    }
+
+    /// Whether it has gone on so long.
+    fn has_come(&self, until: Until) -> bool {
+        match until {
+            Until::Quiet => self.under_way.is_empty() && self.waiting.is_empty(),
+            Until::Settled(place) => !self.waiting.contains(&place),
+        }
     }
 
     /// Delivers one of the frames that are under way. Where there are none, one of the sessions that wait sends again.
@@ -197,7 +221,7 @@ impl<'a> Traffic<'a> {
         Ok(())
     }
 
-    /// Lets the session at a place send. It is refused where there is none.
+    /// Lets the session at a place send. It is refused if there is none.
     fn try_send<W: Write>(
         &mut self,
         world: &mut World,

@@ -18,7 +18,7 @@ none_at p [] i x h e = absurd (cc)
 none_at p (y ∷ ys) zero x h e = let q : y ≡ x = cc in ap p (sym q) ∙ (or_parts (p y) _ h).0
 none_at p (y ∷ ys) (suc i) x h e = none_at p ys i x (or_parts (p y) _ h).1 e
 
--- two elements that are alike either way stand at one place
+-- two elements that are alike either way are at one place
 pub apart : {A : Type 0} (like : A → A → Bool) (xs : List A)
     → has_like like xs ≡ false
     → (i j : ℕ) (x y : A)
@@ -156,7 +156,7 @@ made_tally make p q f (x ∷ xs) ys h =
     subst (λ l. tally q l ≤ tally p (x ∷ xs)) (sym m.4)
     (counted (p x) (q m.0) (tally p xs) (tally q m.1) (f x m.0 m.2) (made_tally make p q f xs m.1 m.3))
 
--- so many of what was made pass a test, at most, as elements pass another that follows from it
+-- at most as many of what was made pass a test as elements pass another that follows from it
 pub made_count : {A B : Type 0} (make : A → Result B NetError) (p : A → Bool) (q : B → Bool)
     → ((x : A) (y : B) → make x ≡ Ok y → q y ≡ true → p x ≡ true)
     → (xs : List A) (ys : List B) → map_all make xs ≡ Ok ys → count_by q ys ≤ count_by p xs

@@ -1,4 +1,4 @@
--- Octets as text, where there are none and where there are some.
+-- Octets as text, if there are none and if there are some.
 use Rattle.std.proofs.Common.{arith, ◌≡◌, ◌<◌, ℕ, List, [], ◌∷◌, length, refl}
 use Rattle.std.specs.Prelude.{codes, flat_map}
 use Rattle.ptpm_codec.specs.Identity.{octet_text}

@@ -66,7 +66,7 @@ pub words_of_spaces : (text : List ℕ)
 words_of_spaces text spaces =
     words_past_spaces text (length text) (omega arith) spaces ∙ ap words (drop_of_length-le text {i = length text} (omega arith)) ∙ words_of_none
 
--- a character begins behind them
+-- a character begins after them
 pub after_spaces : (text : List ℕ) (start : ℕ)
     → IsUtf8 text
     → start ≤ length text
@@ -92,7 +92,7 @@ words_cut text size some inside none is =
     let rest : drop size text ≡ space ∷ more = grind (arith, drop_more) in
     let whole : text ≡ line ++ space ∷ more = sym (take-append-drop size text) ∙ ap (λ l. line ++ l) rest in grind (arith, words_after_word, words_after_space)
 
--- ---- what `position` tells
+-- ---- what `position` says
 
 pub position_none : (p : ℕ → Bool) (xs : List ℕ) (i : ℕ)
     → None ≡ position p xs

@@ -26,7 +26,7 @@ is_name text = is_between 1 32 (length text) && list_all is_name_octet text
 
 -- ---- identities
 
--- a clockIdentity, where it is not all ones
+-- a clockIdentity, if it is not all ones
 abbrev pub if_one_clock : List ℕ → Option ClockIdentity
 if_one_clock octets = if same_clock (record { 0 = octets }) every_clock then None else Some (record { 0 = octets })
 
@@ -37,7 +37,7 @@ clock_identity text = option_and_then if_one_clock (result_ok (decode_sized text
 abbrev pub is_octet : ℕ → ℕ → Bool
 is_octet octet b = b == octet
 
--- a text cut at the first of an octet; there is none where the octet is not in it
+-- a text cut at the first of an octet; there is none if the octet is not in it
 abbrev pub cut_at : ℕ → List ℕ → Option (List ℕ × List ℕ)
 cut_at octet text =
     if nat_le (length text) (position_or_len (λ b. b == octet) text) then None

@@ -29,7 +29,7 @@ array_of of (Some d) = option_and_then (read_all of) (as_array d)
 unfoldable pub entries_at : {A : Type 0} → (Data → Option A) → List ℕ → Members → Option (List A)
 entries_at of key ms = array_of of (get_member key ms)
 
--- an answer is this meaning, or memory was refused; where there is none, the shape is bad
+-- an answer is this meaning, or memory was refused; if there is none, the shape is bad
 abbrev pub IsEntry : {A : Type 0} → Result A NetError → Option A → Type 0
 IsEntry (Ok a) meaning = meaning ≡ Some a
 IsEntry (Err e) meaning = (e ≡ OutOfMemory) ⊎ ((e ≡ BadShape) × (meaning ≡ None))

@@ -6,7 +6,7 @@ use Rattle.ptpm_script.specs.declared.event.EventError.TheVariants as lines
 use Rattle.ptpm_script.specs.declared.net_error.NetError.{NetError}
 use Rattle.ptpm_script.specs.declared.net_error.NetError.TheVariants as texts
 
--- behind BadClock stands why the clock can't start
+-- after BadClock comes why the clock can't start
 abbrev pub net_error_text : NetError → List ℕ
 net_error_text texts.TooLong = codes "TooLong"
 net_error_text texts.NotToml = codes "NotToml"

@@ -18,7 +18,7 @@ use Rattle.ptpm_script.specs.Words.{words, one_word, two_words, three_words, fir
 abbrev pub dash : List ℕ
 dash = codes "-"
 
--- a port, where one is named
+-- a port, if one is named
 unfoldable pub port_named : List ℕ → Option (Option ℕ)
 port_named word = if bytes_eq word dash then Some None else option_map (λ port. Some port) (decimal_up_to 65535 word)
 
@@ -68,7 +68,7 @@ ask_of session action ws = given (three_words ws) WordCount (λ w.
     given (octets_of w.2) BadHex (λ octets.
     Ok (Begin session (record { action = action; id = id; port = port; octets = octets }))))))
 
--- session, action, and what is asked; an unknown action is judged only where there is one
+-- session, action, and what is asked; an unknown action is judged only if there is one
 abbrev pub begin_of : List (List ℕ) → Result Event EventError
 begin_of ws = given (first_words ws) WordCount (λ w. given (action_named w.1) UnknownWord (λ action. ask_of w.0 action (drop 2 ws)))
 

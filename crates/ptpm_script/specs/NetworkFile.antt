@@ -45,7 +45,7 @@ file_rules =
     ∷ optional (codes "link") kinds.Array
     ∷ []
 
--- a clock; its ports with members of their own stand in an array
+-- a clock; its ports with members of their own are in an array
 abbrev pub clock_rules : List KeyRule
 clock_rules =
     required (codes "name") kinds.Name

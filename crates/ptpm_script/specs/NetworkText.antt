@@ -36,7 +36,7 @@ has_too_many f =
     || list_any has_bad_size f.links
     || list_any (λ s. nat_lt 16 (managers_of s.target f.sessions)) f.sessions
 
--- ---- what stands once
+-- ---- what is given once
 
 -- an element is like a later one
 abbrev pub has_like : {A : Type 0} → (A → A → Bool) → List A → Bool
@@ -101,7 +101,7 @@ has_port c port = not (has_ports c) || (nat_le 1 port && nat_le port c.count)
 abbrev pub has_own_ports : ClockEntryValue → Bool
 has_own_ports c = list_all (λ p. has_port c p.number) c.ports
 
--- ---- answers, of which the first fault is kept
+-- ---- answers: the first fault is kept
 
 abbrev pub and_then : {A B : Type 0}
     → Result A NetError

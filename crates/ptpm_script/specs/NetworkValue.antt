@@ -85,7 +85,7 @@ pub record IsAccepted (n : NetworkValue) : Type 0 where
   pub clock_identities : AreDistinct (λ c. c.start.identity) n.clocks
   pub session_names : AreDistinct (λ s. s.name) n.sessions
   pub session_identities : AreDistinct (λ s. s.identity) n.sessions
-  -- no end stands in two links, or twice in one
+  -- no end is in two links, or twice in one
   pub ends_once : AreDistinct (λ e. e) (flat_map (λ link. link) n.links)
 
 -- ---- what the types of a program add

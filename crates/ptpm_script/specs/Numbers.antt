@@ -12,7 +12,7 @@ is_decimal text = nat_le 1 (length text) && nat_le (length text) 10 && all_ascii
 unfoldable pub decimal : List ℕ → Option ℕ
 decimal text = if is_decimal text then Some (digits_value 10 text) else None
 
--- a number, where it is at most so much
+-- a number, if it is at most this limit
 abbrev pub at_most : ℕ → ℕ → Option ℕ
 at_most most n = if nat_le n most then Some n else None
 

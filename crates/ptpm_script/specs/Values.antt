@@ -22,7 +22,7 @@ natural_up_to most (negsuc n) = None
 unfoldable pub natural_at : ℕ → List ℕ → Members → Option ℕ
 natural_at most key ms = option_and_then (natural_up_to most) (integer_at key ms)
 
--- a number whose two's complement has room for so many negative ones
+-- a number whose two's complement has room for this many negative ones
 abbrev pub signed_up_to : ℕ → ℤ → Option ℤ
 signed_up_to half n = if int_le (negsuc (half - 1)) n && int_le n (pos (half - 1)) then Some n else None
 

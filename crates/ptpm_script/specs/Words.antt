@@ -1,4 +1,4 @@
--- The words of a line (this project's profile): what stands between spaces and is not empty.
+-- The words of a line (this project's profile): what is between spaces and is not empty.
 use Rattle.std.specs.Prelude.{ℕ, ◌==◌, Bool, true, false, if◌then◌else◌, List, [], ◌∷◌, Option, Some, None}
 use Rattle.std.specs.List.{filter}
 
@@ -22,7 +22,7 @@ is_not_empty (octet ∷ text) = true
 unfoldable pub words : List ℕ → List (List ℕ)
 words text = filter is_not_empty (pieces text)
 
--- ---- so many words and no more
+-- ---- N words and no more
 
 abbrev pub one_word : List (List ℕ) → Option (List ℕ)
 one_word (a ∷ []) = Some a

@@ -30,7 +30,7 @@ fn read_entries<T: Entry + Drop>(alloc: Global, values: &[Value]) -> Result<Vec<
     Ok(entries)
 }
 
-/// The entries of the array at a key, none where the key is absent.
+/// The entries of the array at a key, none if the key is absent.
 #[tactic(auto, unfolding(crate::specs::Entries::entries_at))]
 pub(crate) fn entries_at<T: Entry + Drop>(
     alloc: Global,

@@ -13,7 +13,7 @@ pub enum Event {
     Begin(Name, Ask),
     /// A session sends its request, for the first time or again.
     Send(Name),
-    /// A session is given so many further attempts.
+    /// A session is given this number of further attempts.
     Resume(Name, u8),
     /// A session sends and hears in this domain from now on.
     Retune(Name, u8),

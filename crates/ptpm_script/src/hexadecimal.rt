@@ -7,7 +7,7 @@ ghost use Rattle.ptpm_script.specs.OctetText.{text_of_octets};
 
 use std::fmt;
 
-/// Octets that print as hexadecimal digits in lower case, and as `-` where there are none.
+/// Octets that print as hexadecimal digits in lower case, and as `-` if there are none.
 #[derive(Clone, Copy, Debug)]
 pub struct Hexadecimal<'a>(pub &'a [u8]);
 

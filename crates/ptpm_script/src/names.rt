@@ -23,7 +23,7 @@ impl Model for Name {
 }
 
 impl Name {
-    /// A name of this text. Nothing is made where memory is refused.
+    /// A name of this text. Nothing is made if memory is refused.
     pub(crate) fn copy_of(alloc: Global, text: &str) -> Result<Name, OutOfMemory>
         ensures { IfOk result (λ n. n ≡ text.now) }
     {
@@ -33,7 +33,7 @@ impl Name {
         }
     }
 
-    /// The same name once more. Nothing is made where memory is refused.
+    /// The same name once more. Nothing is made if memory is refused.
     pub fn copy(&self, alloc: Global) -> Result<Name, OutOfMemory>
         ensures { IfOk result (λ n. n ≡ self.now) }
     {

@@ -17,7 +17,7 @@ pub enum NetError {
     BadShape,
     /// Over 64 clocks, 256 sessions or 256 links, over 16 sessions with one target, or a link of under 2 or over 16 ends.
     TooMany,
-    /// A name, an identity, an end or a port's number stands twice, or a session has the clockIdentity of a clock.
+    /// A name, an identity, an end or a port's number is given twice, or a session has the clockIdentity of a clock.
     Twice,
     /// A target, an end or a port is not there.
     NoSuchName,

@@ -330,7 +330,7 @@ fn rights_or_all(rights: Option<Rights>) -> Rights
     }
 }
 
-/// The clocks with all their ports, each of which can start.
+/// The clocks with all their ports. Each clock can start.
 fn start_clocks(alloc: Global, entries: Vec<ClockEntry>) -> Result<Vec<NetworkClock>, NetError>
     ensures { IsAnswerAs (λ v. map clock_value v.items) result (map_all clock_of entries.items) }
 {

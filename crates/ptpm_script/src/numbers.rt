@@ -21,7 +21,7 @@ fn decimal(text: &str) -> Option<u64>
     Some(number)
 }
 
-/// The same, where the number is at most so much.
+/// The number that decimal digits write, if it is at most this limit.
 fn decimal_up_to(most: u64, text: &str) -> Option<u64>
     ensures { result ≡ decimal_up_to most text.now }
 {
@@ -41,7 +41,7 @@ pub(crate) fn decimal_u8(text: &str) -> Option<u8>
     }
 }
 
-/// The number below 65,536 that one to ten decimal digits write, as a portNumber; nothing may stand before them.
+/// The number below 65,536 that one to ten decimal digits write, for example a portNumber. Nothing may come before them.
 pub fn decimal_u16(text: &str) -> Option<u16>
     ensures { result ≡ decimal_up_to 65535 text.now }
 {
@@ -51,7 +51,7 @@ pub fn decimal_u16(text: &str) -> Option<u16>
     }
 }
 
-/// The number of a frame, of which a network holds 400,000 at most.
+/// The number of a frame. A network holds 400,000 of them at most.
 pub(crate) fn frame_number(text: &str) -> Option<u32>
     ensures { result ≡ decimal_up_to 400000 text.now }
 {

@@ -1,4 +1,4 @@
-//! What may stand only once in a network file (this project's profile).
+//! What may be given only once in a network file (this project's profile).
 
 ghost use Rattle.std.specs.Prelude.{◌≡◌};
 ghost use Rattle.std.specs.List.{list_any};
@@ -9,7 +9,7 @@ use crate::file::NetworkFile;
 use crate::link_entries::{EndEntry, LinkEntry};
 use crate::session_entries::SessionEntry;
 
-/// Whether something stands twice.
+/// Whether something is given twice.
 #[tactic(auto, unfolding(crate::specs::NetworkText::has_twice))]
 pub(crate) fn has_twice(file: &NetworkFile) -> bool
     ensures { result ≡ has_twice file.now }

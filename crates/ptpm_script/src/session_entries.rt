@@ -29,7 +29,7 @@ pub(crate) struct SessionEntry {
     pub(crate) hops: u8,
     pub(crate) attempts: u8,
     pub(crate) domain: u8,
-    /// Its rights, where the file gives them.
+    /// Its rights, if the file gives them.
     pub(crate) rights: Option<Rights>,
 }
 
@@ -84,7 +84,7 @@ fn rights_at(table: &Table) -> Result<Option<Rights>, NetError>
     Ok(Some(rights_of(words.as_slice()).ok_or(NetError::BadShape)?))
 }
 
-/// The rights of words, none of which stands twice.
+/// The rights that words name, if each is given once.
 fn rights_of(words: &[Value]) -> Option<Rights>
     ensures { option_map (λ r. r.0) result ≡ rights_from 0 (items_view words.now) }
 {

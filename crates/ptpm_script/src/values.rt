@@ -1,4 +1,4 @@
-//! The values at the keys of a table that keeps to its rules: where one is of another kind, there is none.
+//! The values at the keys of a table that keeps to its rules: if one is of another kind, there is none.
 
 ghost use Rattle.std.specs.Prelude.{◌≡◌, IfOk, option_map, unwrap_or, [], take, length, ◌≤◌};
 ghost use Rattle.toml.specs.Data.{as_str, as_bool, as_integer, get_member};
@@ -148,7 +148,7 @@ pub(crate) fn name_at(alloc: Global, table: &Table, key: &str) -> Result<Name, O
     Name::copy_of(alloc, text_at(table, key).unwrap_or(""))
 }
 
-/// The first octets of a text, at most so many.
+/// The first octets of a text, at most this number.
 fn first_octets(octets: &[u8], most: usize) -> &[u8]
     ensures front { result.now ≡ take most octets.now }
     ensures few { length result.now ≤ most }

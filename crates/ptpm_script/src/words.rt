@@ -3,7 +3,7 @@
 ghost use Rattle.std.specs.Prelude.{◌≡◌, ◌==◌, ◌∷◌, [], None, Some, MatchOption, option_map, drop, not, position};
 ghost use Rattle.ptpm_script.specs.Words.{space, words, one_word, two_words, three_words, first_words};
 
-/// The first word of a text and what follows it; `None` where it has no words.
+/// The first word of a text and what follows it; `None` if it has no words.
 pub fn split_word<'a>(text: &'a str) -> Option<(&'a str, &'a str)>
     ensures { MatchOption result (words text.now ≡ [])
         (λ r. words text.now ≡ r.0.now ∷ words r.1.now) }

@@ -49,7 +49,7 @@ told_by answers = record {
   port = λ s n. port_of s n answers;
 }
 
--- of each clock, id and port the same answers stand in the same order, whatever stands between them
+-- the same clocks and ports answered, and of each clock, id and port the same answers stand in the same order, whatever stands between them
 pub record IsToldAlike (xs ys : List Answer) : Type 0 where
   pub clocks : clocks_of xs ≡ clocks_of ys
   pub seen : (s : Source) → is_seen s xs ≡ is_seen s ys

@@ -6,3 +6,4 @@ pub mod Fitting
 pub mod Slots
 pub mod KeptMessageLaws
 pub mod SentLaws
+pub mod LendingLaws

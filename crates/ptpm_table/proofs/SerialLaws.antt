@@ -1,4 +1,4 @@
--- Numbers modulo 65,536 and the indexes behind them.
+-- Numbers modulo 65,536 and the indexes that they stand for.
 use Rattle.std.proofs.Common.{arith, ◌≡◌, ℕ, ◌%◌, ◌+◌, ◌-◌, ◌<◌, ◌≤◌}
 use Rattle.std.proofs.lemmas.Bool.{cases_lt}
 use Rattle.std.proofs.lemmas.Bool.Decides.{nat_tests}

@@ -26,7 +26,7 @@ managers slots = identities (configured slots)
 
 -- ---- looking up
 
-none_used : (q : PortIdentity) (ss : List Slot)
+pub none_used : (q : PortIdentity) (ss : List Slot)
     → is_known q (managers ss) ≡ false
     → lookup (same_identity q) (used ss) ≡ None
 none_used q [] h = refl
@@ -63,7 +63,7 @@ pub get_used : (q : PortIdentity) (ss : List Slot) → has_twice (managers ss) �
     get (from_entries {R = identity_cmp} (used ss)) q ≡ entry_in (slot_of q ss)
 get_used q ss distinct = get_entry (used ss) q ∙ lookup_used q ss distinct
 
--- a manager is configured where it has a slot
+-- a manager is configured if it has a slot
 pub known_slot : (q : PortIdentity) (ss : List Slot)
     → is_known q (managers ss) ≡ is_some (slot_of q ss)
 known_slot q [] = refl

@@ -31,12 +31,12 @@ pub record HasEntry (entries : Entries) (who : PortIdentity) (n : ℕ) : Type 0 
   pub is : get entries who ≡ Some entry
   pub number_is : entry.number ≡ n
 
--- a place that holds so many messages has room for those of the manager's kept reply, one for each answer
+-- a place that holds this many messages has room for those of the manager's kept reply, one for each answer
 abbrev pub HasRoom : Entries → PortIdentity → ℕ → Type 0
 HasRoom entries who held = (e : Entry) → get entries who ≡ Some e → held + length e.reply.answers ≤ 15
 
--- The manager has an entry of this number, and its reply can be sent again: behind the seven copies of a message that a clock
--- of eight ports passes on, and so behind fewer, a place that holds fifteen messages has room for it.
+-- The manager has an entry of this number, and its reply can be sent again: after the seven copies of a message that a clock
+-- of eight ports passes on, and so after fewer, a place that holds fifteen messages has room for it.
 pub record CanResend (entries : Entries) (who : PortIdentity) (n : ℕ) : Type 0 where
   pub kept : HasEntry entries who n
   pub room : HasRoom entries who 7

@@ -62,7 +62,7 @@ abbrev pub source_port : Option Message → ℕ
 source_port None = 0
 source_port (Some v) = v.source.port
 
--- of its source port where the id is of the ports, of the clock otherwise
+-- of its source port if the id is of the ports, of the clock otherwise
 abbrev pub port_in : Bool → Option Message → Option ℕ
 port_in false v = None
 port_in true v = Some (source_port v)
@@ -117,7 +117,7 @@ pub record IsKeptReply (e : Envelope) (of_port : Bool) (sizes octets : List ℕ)
 
 -- ---- sending it again
 
--- with domainNumber, both hop fields, and where it is of the clock the source's portNumber written over
+-- with domainNumber, both hop fields, and if it is of the clock the source's portNumber written over
 abbrev pub renewed : ℕ → Option ℕ → ℕ → List ℕ → List ℕ
 renewed domain None hops m = slice_set (slice_set (slice_set m 4 domain) 44 hops) 45 hops
 renewed domain (Some port) hops m =

@@ -9,3 +9,4 @@ pub mod Slots
 pub mod KeptMessages
 pub mod Sending
 pub mod SendingLaws
+pub mod Lending

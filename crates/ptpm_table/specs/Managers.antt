@@ -32,16 +32,16 @@ clock_with identity configured = record {
   rights = rights_in configured;
 }
 
--- an identity stands twice in the list
+-- an identity is twice in the list
 abbrev pub has_twice : List PortIdentity → Bool
 has_twice [] = false
 has_twice (p ∷ ps) = list_any (same_identity p) ps || has_twice ps
 
--- how many managers a table of so many slots takes: one for each slot, and sixteen at most, as many as a clock may have
+-- how many managers a table of this many slots takes: one for each slot, and sixteen at most, as many as a clock may have
 abbrev pub most_managers : ℕ → ℕ
 most_managers slots = min slots 16
 
--- why no table of so many slots is made for these managers
+-- why no table of this many slots is made for these managers
 abbrev pub slots_refusal : ℕ → List PortIdentity → Option TableError
 slots_refusal slots managers =
     if nat_lt (most_managers slots) (length managers) then Some TooMany else if has_twice managers then Some Twice else None

@@ -11,7 +11,7 @@ use Rattle.ptpm_data.specs.Reply as reply
 use Rattle.ptpm_data.specs.Reply.{Answer, Outcome, ReplyValue}
 use Rattle.ptpm_table.specs.declared.heard.Heard.{Heard}
 
--- both hop fields of a reply: how many hops the request has lost on its way, and 0 where boundaryHops is the greater
+-- both hop fields of a reply: how many hops the request has lost on its way, and 0 if boundaryHops is the greater
 abbrev pub hops_passed : Heard → ℕ
 hops_passed heard = heard.starting_hops - heard.hops
 
@@ -21,7 +21,7 @@ answer_body action id (reply.Value octets) = bodies.Answer action id octets
 answer_body action id reply.Done = bodies.Answer action id []
 answer_body action id (reply.Refused error) = bodies.Fault action (error_number error) id []
 
--- from the port that the answer is of, or the ingress port where it is of the clock, to the source of the copy
+-- from the port that the answer is of, or the ingress port if it is of the clock, to the source of the copy
 abbrev pub reply_message : ClockIdentity → Heard → Action → ℕ → ℕ → Answer → Message
 reply_message me heard action id ingress a = record {
   sdo = 0;

@@ -1,4 +1,4 @@
--- What a sender has sent, which is no promise: each answer is a message more where they go.
+-- What a sender has sent, which is no promise: each answer is one message more in their place.
 use Rattle.std.specs.Prelude.{All, ◌≤◌, ◌<◌, ◌^◌, ◌≡◌, ℕ, ◌+◌, Bool, List, [], ◌∷◌, ◌++◌, None, is_some, length, map, unwrap_or}
 use Rattle.ptpm_codec.specs.declared.identity.ClockIdentity.{ClockIdentity}
 use Rattle.ptpm_codec.specs.declared.message.Action.{Action}
@@ -6,6 +6,7 @@ use Rattle.ptpm_codec.specs.declared.message.Message.{Message}
 use Rattle.ptpm_codec.specs.Canonical.{canonical}
 use Rattle.ptpm_codec.specs.Envelope.{envelope_of, sent_with}
 use Rattle.ptpm_codec.specs.Message.{Fits, reply_action}
+use Rattle.ptpm_data.specs.ManagementId.{is_of_port}
 use Rattle.ptpm_data.specs.Reply as reply
 use Rattle.ptpm_data.specs.Reply.{Answer, ReplyValue}
 use Rattle.ptpm_table.specs.Rendering.{answer_body, rendered, reply_message}
@@ -46,6 +47,7 @@ pub record IsSentReply (me : ClockIdentity) (heard : Heard) (action : Action) (i
   pub ingress : ℕ
   pub action_is : r.action ≡ reply_action action
   pub id_is : r.id ≡ id
+  pub port_is : of_port ≡ is_of_port id
   pub count : FitsCount of_port (length r.answers)
   pub answers : All (FitsAnswer of_port action) r.answers
   pub fits : All (λ a. Fits (reply_message me heard r.action r.id ingress a)) r.answers
@@ -61,7 +63,7 @@ abbrev pub all_octets : List (List ℕ) → List ℕ
 all_octets [] = []
 all_octets (m ∷ ms) = m ++ all_octets ms
 
--- messages of so many octets at most as those of a reply
+-- messages of at most as many octets as those of a reply
 abbrev pub AreSmall : List (List ℕ) → Type 0
 AreSmall [] = Unit {0}
 AreSmall (m ∷ ms) = (length m ≤ 184) × AreSmall ms

@@ -6,9 +6,9 @@ use thiserror::Error;
 /// Why no reply table is made for a list of managers, in the order in which the reasons are judged.
 #[derive(Clone, Copy, Debug, PartialEq, Eq, Error)]
 pub enum TableError {
-    /// More managers than a clock has at most, sixteen; or than a `SlotTable` has slots, where those are fewer.
+    /// More managers than a clock has at most, sixteen; or than a `SlotTable` has slots, if those are fewer.
     TooMany,
-    /// An identity stands twice, whatever the rights.
+    /// An identity is listed twice, whatever the rights.
     Twice,
     /// Memory was refused. This says nothing of the managers.
     OutOfMemory,

@@ -9,7 +9,7 @@ use crate::serial::{Serial, compare};
 use arrayvec::ArrayVec;
 use ptpm_data::{PortAnswer, Reply, Request, Value, What};
 
-/// What a request of this number is, where `kept` is the latest accepted one, of the number `latest`.
+/// What a request of this number is. `kept` is the latest accepted request, and `latest` its number.
 pub(crate) fn judge(latest: u16, kept: &Request<'_>, number: u16, request: &Request<'_>) -> Look
     ensures look { result ≡ look_by (serial_of latest number) (same_request kept.now request.now) }
     ensures repeat { result ≡ Look.Repeat → latest ≡ number }

@@ -182,7 +182,7 @@ fn copy_all<O: Outgoing>(out: &O, sizes: &mut Sizes, messages: &mut Messages)
     }
 }
 
-/// Appends copies of the messages, and their sizes, where there were none. It is never inlined: most replies are one message.
+/// Appends copies of the messages, and their sizes, if there were none. It is never inlined: most replies are one message.
 #[inline(never)]
 fn copy_each<O: Outgoing>(out: &O, sizes: &mut Sizes, messages: &mut Messages)
     requires no_sizes { sizes.old.items ≡ [] }

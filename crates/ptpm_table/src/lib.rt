@@ -1,4 +1,4 @@
-//! Request numbers, kept replies, and replies as messages: what at-most-once execution stands on.
+//! Request numbers, kept replies, and replies as messages: what at-most-once execution is built on.
 #![tactic(auto)]
 
 mod error;
@@ -6,6 +6,7 @@ mod heard;
 mod kept;
 mod kept_messages;
 pub mod laws;
+mod lending;
 mod managers;
 mod outbox;
 mod outgoing;
@@ -19,6 +20,8 @@ mod slot_table;
 
 pub use error::TableError;
 pub use heard::Heard;
+pub use lending::{LendingTable, LentAnswer, LentEntry, LentWhat};
+pub use managers::managers_refusal;
 pub use outbox::Outbox;
 pub use outgoing::Outgoing;
 pub use plain_table::PlainTable;

@@ -2,7 +2,7 @@
 
 ghost use Rattle.std.specs.Prelude.{◌≡◌, ◌≤◌, None, length};
 ghost use Rattle.ptpm_table.specs.Entries.{is_known};
-ghost use Rattle.ptpm_table.specs.Managers.{has_twice, identities, most_managers, rights_in, slots_refusal};
+ghost use Rattle.ptpm_table.specs.Managers.{has_twice, identities, most_managers, rights_in, slots_refusal, table_refusal};
 
 use crate::error::TableError;
 use ptpm_codec::PortIdentity;
@@ -11,7 +11,14 @@ use ptpm_data::Rights;
 /// How many managers a clock has at most, and so a reply table, however many slots it has.
 pub(crate) const MANAGERS: usize = 16;
 
-/// Why no table of so many slots is made for these managers.
+/// Why these can't be the managers of a clock, if they can't: at most sixteen, each identity once.
+pub fn managers_refusal(managers: &[(PortIdentity, Rights)]) -> Option<TableError>
+    ensures { result ≡ table_refusal (identities managers.now) }
+{
+    refusal(managers, MANAGERS)
+}
+
+/// Why no table of this many slots is made for these managers.
 pub(crate) fn refusal(managers: &[(PortIdentity, Rights)], slots: usize) -> Option<TableError>
     ensures refusal { result ≡ slots_refusal slots (identities managers.now) }
     ensures few { result ≡ None → length managers.now ≤ most_managers slots }

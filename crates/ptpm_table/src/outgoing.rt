@@ -4,8 +4,8 @@ use crate::renewal::Renewal;
 use ptpm_codec::Envelope;
 
 /// Takes the messages that a call at a clock sends, each with the port that it is sent at. An `Outbox` keeps them; a host can
-/// have them written right where it sends them from. Each `push_..` appends one message, where there are fewer than fifteen: so
-/// there are fifteen at most. Contracts see a list of pairs.
+/// have them written in the place that it sends them from. Each `push_..` appends one message, if there are fewer than
+/// fifteen: so there are fifteen at most. Contracts see a list of pairs.
 pub trait Outgoing {
     ghost use Rattle.std.specs.Prelude.{◌≡◌, ◌<◌, ◌≤◌, ◌-◌, ◌+◌, ◌∷◌, ◌++◌, [], ℕ, List, get_or, length, slice_set};
     ghost use Rattle.ptpm_codec.specs.Canonical.{canonical};

@@ -58,7 +58,7 @@ impl Kept {
     }
 }
 
-/// The latest accepted requests in a map, with the memory that they need. `keep` asks for it, and changes nothing where it
+/// The latest accepted requests in a map, with the memory that they need. `keep` asks for it, and changes nothing if it
 /// is refused.
 #[derive(Drop)]
 pub struct PlainTable {

@@ -13,7 +13,7 @@ use ptpm_codec::{Action, ClockIdentity, Draft, DraftBody, Envelope, ErrorId, Por
 use ptpm_data::{Answers, PortAnswer, Reply, Request, What};
 
 /// Appends the messages that a reply is sent as, in the order of its answers, for the copy of the request that was heard
-/// at the ingress port; each goes out there (15.4.1). Each message is encoded right where the outbox keeps it. Takes no
+/// at the ingress port; each goes out there (15.4.1). Each message is encoded in its place in the outbox. Takes no
 /// memory.
 #[inline(always)]
 pub fn render(me: &ClockIdentity, heard: &Heard, reply: &Reply, ingress: u16, out: &mut Outbox)
@@ -120,8 +120,8 @@ fn body_of_answer(action: Action, id: u16, what: &What) -> DraftBody<'_>
     }
 }
 
-/// Sends the answers to a request, each as a message that is made right where it goes. They go out at the port where the copy came
-/// in that they answer (15.4.1). Takes no memory.
+/// Sends the answers to a request, each as a message written in place. They go out at the port at which the copy that they
+/// answer came in (15.4.1). Takes no memory.
 #[derive(Drop)]
 pub struct Sender<'a, O: Outgoing> {
     envelope: Envelope,
@@ -138,7 +138,7 @@ impl<'a, O: Outgoing> Sender<'a, O> {
     ghost use Rattle.ptpm_codec.specs.Message.{Fits, reply_action};
     ghost use Rattle.ptpm_table.specs.Sending.{empty_reply};
 
-    /// A sender that is not told yet whom it answers.
+    /// A sender that does not know yet whom it answers.
     #[inline(always)]
     pub fn new(out: &'a mut O) -> Sender<'a, O>
         ensures same_reference { result.out.ghost_name ≡ out.entry.ghost_name }
@@ -156,7 +156,7 @@ impl<'a, O: Outgoing> Sender<'a, O> {
     }
 
     /// Has it send the answers of this clock to a request, for the copy of it that was heard at the ingress port. What the
-    /// messages have in common is put together right where the sender stays.
+    /// messages have in common is put together in place, in the sender.
     #[inline(always)]
     pub fn address(
         &mut self,

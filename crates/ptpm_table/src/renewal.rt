@@ -8,7 +8,7 @@ ghost use Rattle.ptpm_table.specs.KeptMessages.{renewed};
 pub struct Renewal {
     /// The domainNumber.
     pub domain: u8,
-    /// The source's portNumber, where the answer is of the clock.
+    /// The source's portNumber, if the answer is of the clock.
     pub port: Option<u16>,
     /// Both hop fields.
     pub hops: u8,

@@ -76,7 +76,7 @@ pub trait ReplyTable {
     }
 
     /// Puts number, request and reply in place of what is kept of the manager; of no other manager anything changes.
-    /// Where memory is refused, nothing changes. The manager is known; the request is a GET, SET or COMMAND with an even number
+    /// If memory is refused, nothing changes. The manager is known; the request is a GET, SET or COMMAND with an even number
     /// of octets, 1,418 at most; and the reply fits it: it has the answering action and the id, one answer without a port for
     /// an id of the clock or of no row, one to eight with ports otherwise. An answer is a refusal; of a COMMAND it may be
     /// `Done`, and of another request a value of even size, 130 octets at most, 26 from a port.

@@ -1,9 +1,12 @@
 //! A manager's place in a table of fixed size.
 
-ghost use Rattle.std.specs.Prelude.{◌≡◌, ◌≤◌, ◌+◌, ◌++◌, length};
+ghost use Rattle.std.specs.Prelude.{◌≡◌, ◌<◌, ◌≤◌, ◌+◌, ◌++◌, Some, length, slice_get};
+ghost use Rattle.std.specs.Ordering.{is_lt};
+ghost use Rattle.ptpm_codec.specs.Identity.{identity_cmp};
 ghost use Rattle.ptpm_codec.specs.Message.{IsDataField, IsRequestAction};
 ghost use Rattle.ptpm_data.specs.Reply.{ReplyValue};
 ghost use Rattle.ptpm_table.specs.Entries.{FitsRequest};
+ghost use Rattle.ptpm_table.specs.Lending.{EntryFits, IsKeepable, lent_answer};
 ghost use Rattle.ptpm_table.specs.Sending.{IsSentReply};
 ghost use Rattle.ptpm_table.specs.Rendering.{rendered};
 
@@ -11,15 +14,17 @@ use crate::heard::Heard;
 use crate::kept_messages::{
     Exchange, Messages, Sizes, encode_each, has_port, keep_each, port_for, resend_each,
 };
+use crate::lending::{LentAnswer, LentEntry, answer_in, message_at};
 use crate::outgoing::Outgoing;
 use crate::rendering::hops_passed;
 use crate::renewal::Renewal;
 use arrayvec::ArrayVec;
 use ptpm_codec::{Action, ClockIdentity, DATA_FIELD_OCTETS, PortIdentity, overwrite};
 use ptpm_data::{Reply, Request, Rights};
+use std::cmp::Ordering;
 use std::marker::Model;
 
-/// A manager's rights, and its latest accepted request, where one is kept. In it and in `Kept` the large members stand
+/// A manager's rights, and its latest accepted request, if one is kept. In it and in `Kept` the large members come
 /// first, so that no octet between two members belongs to neither: an empty table is then cleared in one piece.
 #[derive(Drop)]
 pub(crate) struct Slot {
@@ -39,6 +44,29 @@ impl Default for Slot {
             taken: false,
         }
     }
+}
+
+impl Slot {
+    ghost use Rattle.std.specs.Prelude.{◌↔◌, IsTrue};
+    ghost use Rattle.ptpm_table.specs.Slots.{IsUsedAfter};
+
+    /// Whether a request is kept, of a manager who comes after this one; any does after none.
+    pub(crate) fn is_used_after(&self, after: Option<PortIdentity>) -> bool
+        ensures { IsTrue result ↔ IsUsedAfter after self.now }
+    {
+        self.taken
+            && match after {
+                None => true,
+                Some(other) => is_before(&other, self.kept.manager()),
+            }
+    }
+}
+
+/// Whether a manager comes before another one, by the order of identities.
+pub(crate) fn is_before(who: &PortIdentity, other: &PortIdentity) -> bool
+    ensures { result ≡ is_lt (identity_cmp who.now other.now) }
+{
+    who.cmp(other) == Ordering::Less
 }
 
 /// A request of a manager, in place, with its number, and the clock's reply to it in octets. Contracts see the entry of a
@@ -87,7 +115,7 @@ impl Model for Kept {
 }
 
 impl Kept {
-    /// What stands in a slot that was not used yet.
+    /// The content of a slot that was not used yet.
     pub(crate) fn nothing(clock: &ClockIdentity, manager: &PortIdentity) -> Kept
         ensures clock { result.clock ≡ clock.now }
         ensures manager { result.manager ≡ manager.now }
@@ -134,7 +162,33 @@ impl Kept {
         }
     }
 
-    /// Keeps another request, with its number and reply, in place of this one. The reply's messages are encoded right here.
+    /// The entry, lent.
+    pub(crate) fn entry(&self) -> LentEntry<'_>
+        ensures entry { result
+            ≡ record { manager = self.now.manager; entry = self.now.entry } }
+        ensures fits { IsKeepable self.now.entry → EntryFits result }
+    {
+        let _port = self.port;
+        LentEntry { kept: self }
+    }
+
+    /// How many answers the reply has.
+    pub(crate) fn answer_count(&self) -> usize
+        ensures { result ≡ length self.now.entry.reply.answers }
+    {
+        self.sizes.len()
+    }
+
+    /// An answer of the reply, by its place from 0 on.
+    pub(crate) fn answer(&self, place: usize) -> LentAnswer<'_>
+        requires { place < length self.now.entry.reply.answers }
+        ensures { slice_get self.now.entry.reply.answers place ≡ Some (lent_answer result) }
+    {
+        let (sizes, messages) = (self.sizes.as_slice(), self.messages.as_slice());
+        answer_in(self.of_port, message_at(sizes, messages, place))
+    }
+
+    /// Keeps another request, with its number and reply, in place of this one. The reply's messages are encoded in place.
     pub(crate) fn replace(&mut self, number: u16, request: &Request<'_>, reply: &Reply)
         requires action { IsRequestAction request.now.action }
         requires octets { IsDataField request.now.octets }
@@ -215,7 +269,7 @@ impl Kept {
     }
 }
 
-/// Keeps a dataField in place of another. Most have none, as a GET's.
+/// Keeps a dataField in place of another. Most are empty, such as a GET's.
 #[inline(always)]
 fn keep_octets(kept: &mut ArrayVec<u8, DATA_FIELD_OCTETS>, octets: &[u8])
     requires { IsDataField octets.now }

@@ -1,30 +1,33 @@
 //! A reply table in fixed slots.
 
-ghost use Rattle.std.specs.Prelude.{◌≡◌, ◌≤◌, ◌+◌, ◌++◌, [], false, IfOk, IfSome, IsOk, IsTrue, OnErr, OnOk, All, MatchResult, None, Some, is_some, length, position};
+ghost use Rattle.std.specs.Prelude.{◌≡◌, ◌↔◌, ◌≤◌, ◌<◌, ◌+◌, ◌++◌, ℕ, [], false, MatchOption, count_by, slice_get, IfOk, IfSome, IsOk, IsTrue, OnErr, OnOk, All, MatchResult, None, Some, is_some, length, position};
 ghost use Rattle.std.specs.FinMap as fin;
 ghost use Rattle.std.specs.Option.{option_copied};
 ghost use Rattle.ptpm_codec.specs.declared.identity.ClockIdentity.{ClockIdentity};
 ghost use Rattle.ptpm_codec.specs.Identity.{identity_cmp, same_identity};
 ghost use Rattle.ptpm_codec.specs.Message.{IsDataField, IsRequestAction};
 ghost use Rattle.ptpm_table.specs.Entries.{FitsRequest, is_known};
+ghost use Rattle.ptpm_table.specs.Lending.{HasNoneAfter, IsKeepable, IsNext};
+ghost use Rattle.ptpm_table.specs.declared.slot.Slot.{Slot};
 ghost use Rattle.ptpm_data.specs.Reply.{ReplyValue};
 ghost use Rattle.ptpm_table.specs.Sending.{IsSentReply};
 ghost use Rattle.ptpm_table.specs.Managers.{IsFresh, has_twice, identities, most_managers, rights_in, slots_refusal, table_refusal};
-ghost use Rattle.ptpm_table.specs.Slots.{clocks, configured, entry_in, rights_at, slot_of, used};
+ghost use Rattle.ptpm_table.specs.Slots.{AreKeepable, AreKeepable-prop, IsSooner, clocks, configured, entry_in, rights_at, slot_of, used};
 
 use crate::error::TableError;
 use crate::heard::Heard;
 use crate::kept::judge;
+use crate::lending::{LendingTable, LentEntry};
 use crate::managers::{MANAGERS, refusal};
 use crate::outbox::Outbox;
 use crate::outgoing::Outgoing;
 use crate::reply_table::{Look, ReplyTable, SureTable};
-use crate::slot::{Kept, Slot};
+use crate::slot::{Kept, Slot, is_before};
 use arrayvec::ArrayVec;
 use ptpm_codec::{ClockIdentity, OutOfMemory, PortIdentity};
 use ptpm_data::{Reply, Request, Rights};
 
-/// The latest accepted requests in so many slots inside the value, one for each manager. A clock has sixteen managers at
+/// The latest accepted requests, in this many slots inside the value, one for each manager. A clock has sixteen managers at
 /// most (this project's profile), so slots past the sixteenth stay empty. A slot has 2,136 octets, and the table 16 besides.
 /// Replies are kept as octets: `keep_sent` copies the messages as they were sent, and `keep` encodes them. `resend` copies them
 /// and writes over what depends on the copy that is answered. It takes no memory, and `keep` is never refused.
@@ -34,6 +37,8 @@ pub struct SlotTable<const SLOTS: usize> {
     slots: ArrayVec<Slot, SLOTS>,
     ghost distinct: { has_twice (identities (configured slots.items)) ≡ false },
     ghost own: { All (λ c. c ≡ clock) (clocks slots.items) },
+    ghost few: { length slots.items ≤ 16 },
+    ghost keepable: { AreKeepable slots.items } by { AreKeepable-prop slots.items },
 }
 
 /// A table of sixteen slots, as many as a clock has managers at most.
@@ -60,8 +65,8 @@ impl SlotTable<MANAGERS> {
 }
 
 impl<const SLOTS: usize> SlotTable<SLOTS> {
-    /// A table without entries, of this clock and these managers. `TooMany` where they are more than the slots, or more than
-    /// sixteen however many slots there are; then `Twice` where an identity stands twice. Takes no memory: the table has 16
+    /// A table without entries, of this clock and these managers. `TooMany` if they are more than the slots, or more than
+    /// sixteen however many slots there are; then `Twice` if an identity is listed twice. Takes no memory: the table has 16
     /// octets, and 2,136 for each slot, used or not.
     pub fn of_size(
         clock: ClockIdentity,
@@ -95,7 +100,7 @@ impl<const SLOTS: usize> SlotTable<SLOTS> {
         }
     }
 
-    /// Gives a table without managers these, where it stands: whom `of_size` would take, so at most as many as slots, sixteen
+    /// Gives a table without managers these, in place. `of_size` would take them: at most as many as slots, sixteen
     /// at most, and each identity once.
     pub fn admit(&mut self, managers: &[(PortIdentity, Rights)])
         requires none { (⟦<SlotTable<SLOTS> as ReplyTable>⟧.owner self.old).managers ≡ [] }
@@ -119,6 +124,7 @@ fn assign<const SLOTS: usize>(
     requires empty { slots.old.items ≡ [] }
     requires few { length managers.now ≤ SLOTS }
     ensures own { All (λ c. c ≡ clock.now) (clocks slots.new.items) }
+    ensures keepable { AreKeepable slots.new.items }
     ensures configured { configured slots.new.items ≡ managers.now }
     ensures used { used slots.new.items ≡ [] }
 {
@@ -171,6 +177,7 @@ fn put(slots: &mut [Slot], who: &PortIdentity, number: u16, request: &Request<'_
         (record { number = number; request = request.now; reply = reply.now }) }
     ensures configured { configured slots.new ≡ configured slots.old }
     ensures clocks { clocks slots.new ≡ clocks slots.old }
+    ensures keepable { AreKeepable slots.old → AreKeepable slots.new }
 {
     if let Some(place) = place_of(slots, who) {
         let slot = &mut slots[place];
@@ -204,6 +211,7 @@ fn put_sent<O: Outgoing>(
         (record { number = heard.now.number; request = request.now; reply = r }) }
     ensures configured { configured slots.new ≡ configured slots.old }
     ensures clocks { clocks slots.new ≡ clocks slots.old }
+    ensures keepable { AreKeepable slots.old → AreKeepable slots.new }
 {
     if let Some(place) = place_of(slots, &heard.source) {
         let slot = &mut slots[place];
@@ -289,6 +297,68 @@ impl<const SLOTS: usize> ReplyTable for SlotTable<SLOTS> {
 
     fn resend(&self, heard: &Heard, ingress: u16, out: &mut Outbox) {
         self.send_again(heard, ingress, out);
+    }
+}
+
+impl<const SLOTS: usize> LendingTable for SlotTable<SLOTS> {
+    fn entry_count(&self) -> usize {
+        count_used(self.slots.as_slice())
+    }
+
+    fn next_entry(&self, after: Option<PortIdentity>) -> Option<LentEntry<'_>> {
+        next_slot(self.slots.as_slice(), after).map(|slot| slot.kept.entry())
+    }
+}
+
+/// How many slots are in use.
+fn count_used(slots: &[Slot]) -> usize
+    requires { has_twice (identities (configured slots.now)) ≡ false }
+    ensures count { result ≡ fin.len (fin.from_entries {R = identity_cmp} (used slots.now)) }
+    ensures few { result ≤ length slots.now }
+{
+    count_taken(slots)
+}
+
+fn count_taken(slots: &[Slot]) -> usize
+    ensures { result ≡ count_by (λ s. s.taken) slots.now }
+{
+    slots.iter().filter(|slot| slot.taken).count()
+}
+
+/// The slot of the first manager after this one whose slot is in use.
+fn next_slot<'a>(slots: &'a [Slot], after: Option<PortIdentity>) -> Option<&'a Slot>
+    requires distinct { has_twice (identities (configured slots.now)) ≡ false }
+    requires keepable { AreKeepable slots.now }
+    ensures next { MatchOption result
+        (HasNoneAfter (fin.from_entries (used slots.now)) after)
+        (λ s. IsNext (fin.from_entries (used slots.now)) after
+        (record { manager = s.now.kept.manager; entry = s.now.kept.entry })) }
+    ensures known { IfSome result
+        (λ s. IsTrue (is_known s.now.kept.manager (identities (configured slots.now)))) }
+    ensures keepable { IfSome result (λ s. IsKeepable s.now.kept.entry) }
+{
+    let mut next = None;
+    for place in 0..slots.len() {
+        if slots[place].is_used_after(after) && is_sooner(slots, place, next) {
+            next = Some(place);
+        }
+    }
+    match next {
+        None => None,
+        Some(place) => Some(&slots[place]),
+    }
+}
+
+/// Whether the manager of a slot comes before that of the next one, as far as one was found.
+fn is_sooner(slots: &[Slot], place: usize, next: Option<usize>) -> bool
+    requires place { place < length slots.now }
+    requires next { IfSome next (λ j. j < length slots.now) }
+    ensures { (s : Slot) → slice_get slots.now place ≡ Some s
+        → IsTrue result ↔ IsSooner slots.now s next }
+{
+    match next {
+        None => true,
+        Some(next) => is_before(slots[place].kept.manager(), slots[next].kept.manager()),
     }
 }
 

@@ -114,6 +114,71 @@ const ENABLE_PORT: u16 = 0x200d;
 
 const DISABLE_PORT: u16 = 0x200e;
 
+/// Entries are lent in the order of their managers, whichever order these were configured in; a manager without one is
+/// passed over.
+#[test]
+#[tactic(auto, unfolding(ptpm_data::specs::ManagementId::row_of))]
+fn entries_are_lent_in_order(rt: HostRuntime) -> Result<(), TableError> {
+    let three = [(M2, Rights(7)), (STRANGER, Rights(7)), (M, Rights(7))];
+    let mut table = SlotTable::<3>::of_size(K, &three)?;
+    assert!(rt; table.next_entry(None).is_none());
+    let short = set_port(&[2, 0]);
+    let refusal = reply_to(&short, Some(1), What::Refused(ErrorId::WrongValue));
+    accept(&rt, &mut table, &M2, 9, &short, &refusal);
+    let asked = get(PRIORITY1);
+    let reply = reply_to(&asked, None, value(&[0x80, 0]));
+    accept(&rt, &mut table, &M, 7, &asked, &reply);
+    assert_lent(&rt, &table, None, &M, 7, &asked);
+    assert_lent(&rt, &table, Some(M), &M2, 9, &short);
+    assert!(rt; table.next_entry(Some(M2)).is_none());
+    let answer = first_answer(&rt, &table, None);
+    assert!(rt; answer.port.is_none() && matches!(answer.what, LentWhat::Value([0x80, 0])));
+    let answer = first_answer(&rt, &table, Some(M));
+    assert!(rt; answer.port == Some(1));
+    assert!(rt; matches!(answer.what, LentWhat::Refused(ErrorId::WrongValue)));
+    Ok(())
+}
+
+fn assert_lent<T: LendingTable>(
+    rt: &impl Abort,
+    table: &T,
+    after: Option<PortIdentity>,
+    who: &PortIdentity,
+    number: u16,
+    request: &Request<'_>,
+) {
+    match table.next_entry(after) {
+        None => assert!(rt; false),
+        Some(entry) => {
+            let lent = entry.request();
+            assert!(rt; entry.manager() == *who && entry.number() == number);
+            assert!(rt; lent.action == request.action && lent.id == request.id);
+            assert!(rt; lent.port == request.port && lent.octets == request.octets);
+        }
+    }
+}
+
+/// The one answer of the next entry.
+fn first_answer<'a, T: LendingTable>(
+    rt: &impl Abort,
+    table: &'a T,
+    after: Option<PortIdentity>,
+) -> LentAnswer<'a> {
+    match table.next_entry(after) {
+        Some(entry) => {
+            assert!(rt; entry.answer_count() == 1);
+            entry.answer(0)
+        }
+        None => {
+            assert!(rt; false);
+            LentAnswer {
+                port: None,
+                what: LentWhat::Done,
+            }
+        }
+    }
+}
+
 /// The managers of the tables in which replies are kept.
 const TWO: [(PortIdentity, Rights); 2] = [(M, Rights(7)), (M2, Rights(7))];
 
@@ -398,7 +463,7 @@ fn longest_user_description<T: ReplyTable>(rt: &impl Abort, table: &mut T) {
     }
 }
 
-/// What cannot be refused stands in place of what was kept.
+/// What cannot be refused takes the place of what was kept.
 #[tactic(auto, unfolding(ptpm_data::specs::ManagementId::row_of))]
 fn replaced_reply<T: SureTable>(rt: &impl Abort, table: &mut T) {
     accept_get(rt, table, 7);
@@ -455,7 +520,7 @@ fn refused_memory_changes_nothing(rt: HostRuntime) -> Result<(), TableError> {
     Ok(())
 }
 
-/// Keeps a new request, and where memory is refused does it once more.
+/// Keeps a new request, and if memory is refused does it once more.
 fn keep_twice_at_most<T: ReplyTable>(
     rt: &impl Abort,
     table: &mut T,
@@ -549,7 +614,7 @@ fn is_hex(octets: &[u8], digits: &[u8]) -> bool {
     matches!(rest_after(octets, digits), Some([]))
 }
 
-/// What follows the octets of these digits, where octets begin with them.
+/// What follows the octets of these digits, if octets begin with them.
 fn rest_after<'a>(octets: &'a [u8], digits: &[u8]) -> Option<&'a [u8]> {
     match (octets, digits) {
         (rest, []) => Some(rest),

@@ -1,9 +1,9 @@
--- What becomes of a world of which one session or one clock has changed, and frames were added.
+-- What becomes of a world if one session or one clock of it has changed, and frames were added.
 use Rattle.ptpm_world.proofs.Common.{arith, ◌≡◌, ℕ, List, Some, sym, ◌∙◌, ap, length, length-set, map, slice_get, slice_set, State, Report, SessionValue, with_place, Network, Held, RunningNetwork, World, RunningClock, RunningSession, held_in, link_ends, Names, names_in, IsClockOf, IsOf, agent_clock, agent_state, reports_of, running, session_of, state_of}
 use Rattle.ptpm_world.specs.Running.{IsSessionOf}
 use Rattle.ptpm_world.proofs.Places.{each-set, map-set_same, read-kept, read-set}
 
--- a world is a running network where each part is
+-- a world is a running network if each part is
 pub seen_as : (w : World) (r : RunningNetwork)
     → ((c : ℕ) → state_of (slice_get w.clocks.items c) ≡ r.clock c)
     → ((s : ℕ) → session_of (slice_get w.sessions.items s) ≡ r.session s)
@@ -78,7 +78,7 @@ session_change-none old new place x y c v r f = seen_as new (running old)
     (λ s. ap (λ (xs : List RunningSession). reports_of (slice_get xs s)) c.sessions ∙ read-kept reports_of old.sessions.items place x y c.at r s)
     f
 
--- the names of a world of which one session is another
+-- the names of a world in which one session is another
 pub names-session : (w : World) (place : ℕ) (x y : RunningSession)
     → slice_get w.sessions.items place ≡ Some x
     → y.name ≡ x.name

@@ -10,7 +10,7 @@ use Rattle.ptpm_script.specs.declared.network.End.TheVariants as ends
 use Rattle.ptpm_script.specs.declared.network.NetworkSession.{NetworkSession}
 use Rattle.ptpm_world.specs.Described.{no_session}
 
--- ---- what stands at a place
+-- ---- what is at a place
 
 pub there : {X : Type 0} (xs : List X) (i : ℕ) (d : X)
     → i < length xs

@@ -50,7 +50,7 @@ pub step_error : (N : Network) (old new : World) (e : Event) (why : StepError)
 step_error N old new e why (Ok t) is_error step = absurd is_error
 step_error N old new e why (Err x) is_error step = subst (λ (f : StepError). IsStep N old new e (Err f)) (sym is_error) step
 
--- ---- what a step tells of its event
+-- ---- what a step says of its event
 
 pub err_is : {T : Type 0} (a b : StepError) → ◌≡◌ {A = Result T StepError} (Err a) (Err b) → a ≡ b
 err_is a b e = cc
@@ -74,7 +74,7 @@ pub refused_by : (x : Result Happened Refusal) (why : StepError)
 refused_by (Ok h) why e = absurd (cc)
 refused_by (Err reason) why e = let same : why ≡ error_of reason = cc in ap Some (sym same)
 
--- where a step is told whole: a refused one stays
+-- if a step is known whole: a refused one stays
 pub stays_or_goes : (r new : RunningNetwork) (x : Result Happened Refusal) (result : Result Took StepError)
     → result ≡ answer_of x
     → OnOk result (new ≡ network_after r x)

@@ -2,13 +2,13 @@
 use Rattle.ptpm_world.proofs.Common.{arith, ◌≡◌, ℕ, ◌<◌, ◌≤◌, All, Option, Some, None, false, refl, ◌∙◌, ap, length, length-map, length-take, slice_get_within, is_some, slice_index_or, PortIdentity, is_known, identities, AreOfManagers, HasEnd, Network, ports, Held, RunningClock, World, described_end, IsThere, port_counts, frame_in, IsOf, running, state_of, table_entries}
 use Rattle.std.proofs.lemmas.List.Elements.{All-map}
 use Rattle.std.specs.FinMap.{get}
+use Rattle.ptpm_data.proofs.OwnOctets.{some_at}
 use Rattle.ptpm_table.specs.declared.slot_table.SlotTable.{SlotTable}
 use Rattle.ptpm_table.specs.declared.slot.Slot.{Slot}
 use Rattle.ptpm_table.specs.Slots.{configured, entry_in}
 use Rattle.ptpm_table.proofs.Slots.{get_used, known_slot}
 use Rattle.ptpm_script.specs.declared.network.End.{End}
 use Rattle.ptpm_script.specs.declared.network.End.TheVariants as ends
-use Rattle.ptpm_world.proofs.StartingLemmas.{some_at}
 use Rattle.ptpm_world.proofs.WorldLemmas.{made_at}
 
 -- ---- clocks

@@ -19,7 +19,7 @@ pub err-on : {A : Type 0} (r : Result A ScriptError) (e : ScriptError) (Q : Scri
 err-on (Ok a) e Q h q = absurd h
 err-on (Err x) e Q h q = subst Q (sym h) q
 
--- what a call answers, told on
+-- what a call answers, passed on
 pub on-ok : {A : Type 0} (r : Result A ScriptError) (P Q : A → Type 0)
     → IfOk r P
     → ((a : A) → P a → Q a)
@@ -44,7 +44,7 @@ whole_ends l bs h = λ i. zip (line_ends l bs h i) (part_ends l bs h i)
 whole_last : (l : List ℕ) → NoFeed l → 0 < length l → whole_lines l ≡ (l, l) ∷ []
 whole_last l h some = λ i. zip (last_line l h some i) (one_part l h i)
 
--- a first part that is not empty is what stands before the first line feed
+-- a first part that is not empty is what comes before the first line feed
 first_whole : (q : List ℕ) (ps : List (List ℕ)) → 0 < length q
     → (line : List ℕ)
     × ((rest : List (List ℕ × List ℕ))
@@ -52,7 +52,7 @@ first_whole : (q : List ℕ) (ps : List (List ℕ)) → 0 < length q
 first_whole q [] some = (q, ([], ap (λ ls. zip ls (q ∷ [])) (not_empty q some)))
 first_whole q (r ∷ rs) some = (strip_carriage_return q, (zip (lines_of_parts (r ∷ rs)) (r ∷ rs), refl))
 
--- octets without a line feed stand in the first part
+-- octets without a line feed are in the first part
 parts_front : (l bs : List ℕ)
     → NoFeed l
     → (more : List ℕ) × ((ps : List (List ℕ)) × (parts (l ++ bs) ≡ (l ++ more) ∷ ps))

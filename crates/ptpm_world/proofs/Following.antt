@@ -25,7 +25,7 @@ step-machine N past old new e (Err why) step at range = grind (arith, option_map
 
 -- ---- what was carried out so far
 
--- after these events and those, all of which are taken
+-- after these events and those, if all are taken
 pub record HasGoneOn (N : Network) (past es : List Event) (r : RunningNetwork) : Type 0 where
   pub stands : StandsAfter N (past ++ es) r
   pub whole : taken N (run N (initial_state N) past) es ≡ es
@@ -61,7 +61,7 @@ gone_on-more N past es now new e f same before permitted goes time =
     let none : refusal N (run N w es) e ≡ None = grind (arith) in
     let prompt : is_late_delivery (run N (initial_state N) (past ++ es)) f ≡ false = grind (arith) in grind (arith, append_assoc, taken-append, taken-fine)
 
--- where the next is refused, no more is taken
+-- if the next is refused, no more is taken
 pub taken-stops : {B : Type 0} (f : Refusal → B) (y : B) (N : Network) (past es rest : List Event)
     (e : Event) (r : RunningNetwork)
     → HasGoneOn N past es r

@@ -17,7 +17,7 @@ any-sessions : (N : Network) (w : World) (who : PortIdentity)
     ≡ list_any (λ s. same_identity who (manager N s)) (range_with_len 0 N.sessions)
 any-sessions N w who is = grind (arith, any-places)
 
--- an identity is taken in the network where a clock or a session of the world has it
+-- an identity is taken in the network if a clock or a session of the world has it
 pub taken : (N : Network) (w : World) (who : PortIdentity) → IsOf N w
     → (list_any (λ x. same_clock who.clock x.agent.table.clock) w.clocks.items
     || list_any (λ x. same_identity who x.identity) w.sessions.items) ≡ is_taken N who

@@ -23,7 +23,7 @@ list_any-map : {A B : Type 0} (p : B → Bool) (f : A → B) (xs : List A)
 list_any-map p f [] = refl
 list_any-map p f (x ∷ xs) = ap (λ b. p (f x) || b) (list_any-map p f xs)
 
--- where an element passes, more pass in the whole list than before it
+-- if an element passes, more pass in the whole list than before it
 pub filter_room : {A : Type 0} (p : A → Bool) (xs : List A) (i : ℕ) (d : A)
     → i < length xs
     → p (get_or xs i d) ≡ true
@@ -65,7 +65,7 @@ fewer false any x xs kept at_most behind h = omega (arith, behind h)
 length-others : (e : End) (ends : List End) → length (others e ends) ≤ length ends
 length-others e ends = grind (arith, length-filter, count_by-le-length)
 
--- one is left out, where it is there
+-- one is left out, if it is there
 pub others-fewer : (e : End) (ends : List End)
     → list_any (is_same e) ends ≡ true
     → length (others e ends) + 1 ≤ length ends
@@ -98,7 +98,7 @@ peers_found e (l ∷ ls) =
 
 -- ---- octets
 
--- what is put behind a store hides none of its frames
+-- what is put after a store hides none of its frames
 frame_before : (store more : List ℕ) (s : Stored)
     → IsWithin store s
     → frame_in (store ++ more) s ≡ frame_in store s
@@ -113,7 +113,7 @@ frames_before store more (x ∷ xs) all =
     let rest = frames_before store more xs (All-tail (IsWithin store) x xs all) in
     λ i. here i ∷ rest i
 
--- a stored message's octets are all that was put behind
+-- a stored message's octets are all that was put after it
 pub record IsBehind (store octets : List ℕ) (s : Stored) : Type 0 where
   pub start : s.start ≡ length store
   pub size : s.size ≡ length octets

@@ -1,4 +1,4 @@
--- What holds of every world holds where one session or one clock is another, and frames were added.
+-- What holds of every world holds if one session or one clock is another, and frames were added.
 use Rattle.ptpm_world.proofs.Common.{arith, ◌≡◌, ℕ, ◌≤◌, List, Some, length, length-set, All, slice_get, slice_set, NetworkLink, Stored, World, RunningClock, RunningSession, AreLinks, IsStoredFrame, port_counts}
 use Rattle.ptpm_world.proofs.Places.{map-set_same}
 

@@ -1,4 +1,4 @@
--- A delivery is late by what a running network sees where it is late in the machine, if the one stands where the other is.
+-- Let a running network be where the machine is. A delivery is late by what the network sees if it is late in the machine.
 use Rattle.ptpm_world.proofs.Common.{◌≡◌, ℕ, List, Option, Some, None, refl, ◌∙◌, ap, option_map, SessionValue, PortIdentity, frame_at, StandsAfter, is_late_frame, run, Network, Stands, Held, RunningNetwork, held, Frame, NetworkState, Neither, Origin, ReplyTo, RequestOf, initial_state, is_late, is_late_at, is_late_held, is_late_of}
 use Rattle.ptpm_network.specs.Events.{Event}
 use Rattle.ptpm_network.specs.Invariant.{IsOfOrigin, IsReached}

@@ -32,4 +32,3 @@ pub mod StartedWorld
 pub mod Telling
 pub mod ScriptLemmas
 pub mod Reading
-pub mod Checking

@@ -57,7 +57,7 @@ last_line l h some = ap lines_of_parts (one_part l h) ∙ not_empty l some
 
 -- ---- a line that is read octet by octet
 
--- the first octet, and what was left behind it, is the line so far, the next octet, and what is left now
+-- the first octet, and what was left after it, is the line so far, the next octet, and what is left now
 abbrev pub IsRead : Option (List ℕ) → Option (List ℕ) → ℕ → List ℕ → Option ℕ → Type 0
 IsRead before now first line next = BothKnown before now (λ xs ys. first ∷ xs ≡ line ++ (given next ++ ys))
 

@@ -1,4 +1,4 @@
--- Lists of which one element is written over, place by place.
+-- Lists in which one element is written over, place by place.
 use Rattle.ptpm_world.proofs.Common.{arith, ◌≡◌, ℕ, ◌<◌, ◌==◌, zero, suc, List, [], ◌∷◌, ◌++◌, ◌+◌, get_or, drop, take, Option, Some, true, false, refl, sym, ◌∙◌, ap, ⊎_elim, length, cases_Bool, eqb-true, eqb-false, cond-true, cond-false, append_assoc, map-append, take-append-drop, take_more, same_Some, map, slice_get, slice_set, with_place}
 
 pub get-set_same : {X : Type 0} (xs : List X) (i : ℕ) (x y : X)
@@ -28,7 +28,7 @@ read-set read xs i x y e j = ⊎_elim
     (λ (away : j == i ≡ false). grind (arith, get-set_other, eqb-false, cond-false))
     (cases_Bool (j == i))
 
--- the same where nothing is read anew
+-- the same if nothing is read anew
 pub read-kept : {X A : Type 0} (read : Option X → A) (xs : List X) (i : ℕ) (x y : X)
     → slice_get xs i ≡ Some x
     → read (Some y) ≡ read (Some x)
@@ -36,7 +36,7 @@ pub read-kept : {X A : Type 0} (read : Option X → A) (xs : List X) (i : ℕ) (
     → read (slice_get (slice_set xs i y) j) ≡ read (slice_get xs j)
 read-kept read xs i x y e same j = grind (arith, slice_get, slice_set, eqb-true, get-set_same, get-set_other, eqb-false, cases_Bool)
 
--- what is made of each element stays where it is the same of the new one
+-- what is made of each element stays if it is the same of the new one
 pub map-set_same : {X A : Type 0} (make : X → A) (xs : List X) (i : ℕ) (x y : X)
     → slice_get xs i ≡ Some x
     → make y ≡ make x

@@ -1,4 +1,4 @@
--- A script as far as it is played: what is left of its lines comes to what all of them do, behind what was written.
+-- A script as far as it is played: what is left of its lines comes to what all of them do, after what was written.
 use Rattle.ptpm_world.proofs.Common.{arith, ◌≡◌, ◌≢◌, ℕ, ◌+◌, ◌++◌, List, [], ◌∷◌, Bool, true, false, None, Some, Ok, Err, refl, sym, ap, subst, ◌∙◌, append_assoc, append-nil, cond-false, cond-true, IfSome, IsErrAnd, Option, Result, if◌then◌else◌, option_or, Appends, Keeps, Appends-nil, Appends-trans, Network, RunningNetwork, AllByRecursion, IsInRange, placed_all, BothKnown, HasNextFault, ReadsWhole, whole_lines, Names, HasPlayed, HasStopped, Played, behind, ends, event_of, from_file, is_divider, is_outside, is_skipped, line_fault, next_fault, played, played_by, read_as, reading, text_fault, unless_fault}
 use Rattle.ptpm_script.specs.declared.event.Event.{Event}
 use Rattle.ptpm_world.specs.declared.script_error.ScriptError.{ScriptError}
@@ -6,7 +6,7 @@ use Rattle.ptpm_world.specs.declared.whole_script.EventLine.{EventLine}
 use Rattle.ptpm_world.specs.declared.script_error.ScriptError.TheVariants as faults
 use Rattle.ptpm_world.proofs.FaultLemmas.{outside}
 
--- ---- what a reader tells, call after call
+-- ---- what a reader says, call after call
 
 pub both-on : {P Q R : List ℕ → List ℕ → Type 0} (a b c : Option (List ℕ))
     → ((xs ys zs : List ℕ) → P xs ys → Q ys zs → R xs zs)
@@ -88,7 +88,7 @@ pub none-is : (n : ℕ) (had has : Option (List ℕ)) (answer : Bool) (line : Li
     → NoneIs had has
 none-is n had has answer line e r = record { is = grind (arith, both-is) }
 
--- ---- what lines come to that are told one by one, each behind its own fault
+-- ---- what lines come to that are read one by one, each after its own fault
 
 abbrev pub Guards : {A : Type 0} → (ℕ → List (List ℕ × List ℕ) → Played A) → (ℕ → List ℕ → List (List ℕ × List ℕ) → Played A) → Type 0
 Guards {A} comes others = (n : ℕ) (line : List ℕ × List ℕ) (rest : List (List ℕ × List ℕ))
@@ -160,7 +160,7 @@ in_range-append : (names : Names) (es fs : List EventLine)
 in_range-append names [] fs front rest = rest
 in_range-append names (e ∷ es) fs front rest = (front.0, in_range-append names es fs front.1 rest)
 
--- all lines from the k-th on come to what is left of them from the n-th on, behind these events, whose lines were written
+-- all lines from the k-th on come to what is left of them from the n-th on, after these events, whose lines were written
 pub record Plays (N : Network) (names : Names) (start now : RunningNetwork)
     (first written : Option (List ℕ)) (k n place : ℕ) (xs ys : List ℕ) : Type 0 where
   pub events : List EventLine
@@ -307,7 +307,7 @@ abbrev pub FileGoes : Option (List ℕ) → ℕ → Option (List ℕ) → ℕ �
 FileGoes first n now m = BothKnown first now (λ xs ys.
     (others : ℕ → List (List ℕ × List ℕ) → Played (List ℕ)) → from_file others n (whole_lines xs) ≡ from_file others m (whole_lines ys))
 
--- and to what others behind them do
+-- and to what others after them do
 abbrev pub FileEnds : Option (List ℕ) → ℕ → Option (List ℕ) → ℕ → Type 0
 FileEnds first n now m = BothKnown first now (λ xs ys.
     (others : ℕ → List (List ℕ × List ℕ) → Played (List ℕ)) → from_file others n (whole_lines xs) ≡ others m (whole_lines ys))
@@ -319,7 +319,7 @@ FileFault first n e = IfSome first (λ xs.
 pub file-first : (n : ℕ) (a : Option (List ℕ)) → FileGoes a n a n
 file-first n a = grind (arith, both-same)
 
--- behind the next line
+-- after the next line
 file_line : (n m : ℕ) (line : List ℕ) (a b c : Option (List ℕ))
     → FileGoes a n b m
     → NextIs m None line b c

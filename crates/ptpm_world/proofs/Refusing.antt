@@ -1,12 +1,9 @@
 -- The reasons to refuse an event, one by one, and the first of them.
-use Rattle.ptpm_world.proofs.Common.{◌≡◌, ℕ, ◌<◌, ◌≤◌, not, List, Option, Some, None, Result, Ok, Err, refl, true, false, ◌∙◌, ap, nat_lt, length, cond-true, cond-false, lt-ltb, le-ltb, Deliver, NoSuchName, FramesAtMaximum, Refusal, frame_at, frames_limit, no_room, Happened, Held, RunningNetwork, delivers, network_event, reaches, unless_refused, Network}
+use Rattle.ptpm_world.proofs.Common.{◌≡◌, ℕ, ◌≤◌, not, List, Option, Some, None, Result, Ok, Err, refl, true, false, ◌∙◌, ap, nat_lt, length, cond-true, cond-false, le-ltb, Deliver, NoSuchName, FramesAtMaximum, Refusal, frame_at, frames_limit, no_room, Happened, Held, RunningNetwork, delivers, network_event, reaches, unless_refused, Network}
 use Rattle.ptpm_network.specs.Events.{no_session}
 
 pub absent : (N : Network) (s : ℕ) → N.sessions ≤ s → no_session N s ≡ Some NoSuchName
 absent N s h = cond-true _ _ _ (ap not (le-ltb s N.sessions h))
-
-pub present : (N : Network) (s : ℕ) → s < N.sessions → no_session N s ≡ None
-present N s h = cond-false _ _ _ (ap not (lt-ltb s N.sessions h))
 
 pub full : (frames : List Held)
     → nat_lt frames_limit (length frames) ≡ true

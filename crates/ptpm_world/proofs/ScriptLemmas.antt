@@ -142,7 +142,7 @@ pub stopped-writing : {A : Type 0} (r : Result A ScriptError) (all before after 
 stopped-writing r None before after given = tt
 stopped-writing r (Some input) before after given = grind (arith, err-is, outside)
 
--- a script comes to what the lines behind its network file do, in the network of that file
+-- a script comes to what the lines after its network file do, in the network of that file
 abbrev pub ScriptGoes : Option (List ℕ) → Option (List ℕ) → NetworkValue → Names → RunningNetwork → ℕ → Type 0
 ScriptGoes all second n names start k = BothKnown all second (λ input ys.
     (scripted input ≡ closed names (played (described n) names start k 1 (whole_lines ys)))

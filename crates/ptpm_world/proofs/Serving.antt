@@ -22,7 +22,7 @@ step-serves N s old new a e (Err why) step at range prompt = tt
 
 -- ---- a list of events, and one more
 
--- none of these came late for the session, nor does this one behind them; and what the account tells of it
+-- none of these came late for the session, nor does this one after them; and what the account says of it
 record IsTold (N : Network) (s : ℕ) (r now : RunningNetwork) (a : Account) (es : List Event) (e : Event) : Type 0 where
   pub so_far : StaysInTime N s r es
   pub prompt : is_late_for N s now e ≡ false

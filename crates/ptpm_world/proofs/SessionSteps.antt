@@ -16,10 +16,11 @@ use Rattle.ptpm_manager.specs.Session.{sent}
 use Rattle.ptpm_manager.specs.Setup.{request_message}
 use Rattle.ptpm_network.specs.Events.{Event, no_session}
 use Rattle.ptpm_network.specs.Network.{End}
+use Rattle.ptpm_network.proofs.Worth.{session-named}
 use Rattle.ptpm_world.specs.declared.took.StepError.TheVariants as errors
 use Rattle.ptpm_world.specs.declared.took.Took.TheVariants.{Fine}
 use Rattle.ptpm_world.proofs.Changing.{SessionChange, running_by, session_change-network, session_change-none, session_change-quiet, session_change-running}
-use Rattle.ptpm_world.proofs.Refusing.{absent, delivered, full, present, roomy, skips, stops}
+use Rattle.ptpm_world.proofs.Refusing.{absent, delivered, full, roomy, skips, stops}
 use Rattle.ptpm_world.proofs.Places.{read-kept}
 use Rattle.ptpm_world.proofs.Ending.{step_fine, step_memory, step_refused}
 
@@ -39,7 +40,7 @@ module _ (N : Network) (old new : World) (place : ℕ) (x y : RunningSession) (i
   session_is = ap session_of c.at
 
   there : no_session N place ≡ None
-  there = present N place (subst (λ n. place < n) is.session_count (slice_get_within old.sessions.items place x c.at))
+  there = session-named N place (subst (λ n. place < n) is.session_count (slice_get_within old.sessions.items place x c.at))
 
   changed : IsOf N new
   changed = session_change-network N old new place x y c is
@@ -153,7 +154,7 @@ pub send-too_many : (N : Network) (old new : World) (place : ℕ)
     → nat_lt frames_limit (length (held_in old.frames)) ≡ true
     → IsStep N old new (Send place) (Err errors.FramesAtMaximum)
 unfolding network_event
-send-too_many N old new place is is_new within over = grind (arith, step_refused, skips, present, stops, full)
+send-too_many N old new place is is_new within over = grind (arith, step_refused, skips, session-named, stops, full)
 
 -- a session that may send has a request
 unanswered-by : (u : Option RequestValue) (more : Option SendError)

@@ -1,4 +1,4 @@
--- A world that stands where its network starts is the started network.
+-- A world that is where its network starts is the started network.
 use Rattle.ptpm_world.proofs.Common.{◌≡◌, ℕ, ◌<◌, ◌≤◌, ⊎_elim, Option, Some, None, length, refl, sym, ap, ◌∙◌, arith, cases_lt, get_or_past, slice_get_past, PortIdentity, identity_cmp, DataSetsValue, Entry, IsKept, StandsAt, initial_clock_state, State, Stands, initial_state, NetworkValue, first_sets, World, clock_at, described, no_clock, IsOf, reports_of, running, session_of, state_of, started_session}
 use Rattle.std.specs.FinMap.{empty, get, get-empty, same_map}
 use Rattle.ptpm_table.proofs.Identities.{exact_identities, identities_total}

@@ -1,16 +1,15 @@
--- A world as it starts is one of its network, and stands where the machine starts.
-use Rattle.ptpm_world.proofs.Common.{suc, zero, arith, ◌≡◌, ◌≢◌, ℕ, ◌+◌, ◌<◌, ◌≤◌, ◌==◌, Bool, true, false, if◌then◌else◌, List, [], ◌∷◌, ◌++◌, Option, Some, None, Result, Ok, refl, ap, sym, ◌∙◌, subst, length, map, get_or, set, slice_get, slice_index_or, All, AllByRecursion, filter, length-map, length_push, length-filter, slice_get_read, PortIdentity, every_clock, same_clock, DataSetsValue, port_data_set, start_fault, start_of, unless, is_known, IsFresh, clock_with, has_twice, identities, StandsAt, initial_clock_state, Stands, RunningNetwork, initial_state, history, NetworkLink, AreDistinct, CanStart, ClockValue, IsAccepted, IsEndOf, IsLinkOf, NetworkValue, clock_value, first_sets, link_value, Frames, RunningClock, RunningSession, World, clock_at, configured, described, described_end, no_clock, session_at, with_rights, AreLinks, IsStoredFrame, IsThere, port_counts, held_in, link_ends, Names, names_of, IsOf, agent_state, reports_of, session_of, state_of, table_entries, AreStartedClocks, AreStartedSessions, IsStartedClock, IsStartedSession}
+-- A world as it starts is one of its network, and is where the machine starts.
+use Rattle.ptpm_world.proofs.Common.{suc, zero, arith, ◌≡◌, ℕ, ◌+◌, ◌<◌, ◌≤◌, ◌==◌, Bool, true, false, if◌then◌else◌, List, [], ◌∷◌, ◌++◌, Some, refl, ap, sym, ◌∙◌, subst, length, map, get_or, set, slice_get, slice_index_or, All, AllByRecursion, filter, length-map, length_push, length-filter, option_map, slice_get-map, slice_get_read, PortIdentity, every_clock, DataSetsValue, port_data_set, is_known, IsFresh, clock_with, has_twice, identities, StandsAt, initial_clock_state, Stands, RunningNetwork, initial_state, history, NetworkLink, AreDistinct, CanStart, ClockValue, IsAccepted, IsEndOf, IsLinkOf, NetworkValue, clock_value, first_sets, link_value, Frames, RunningClock, RunningSession, World, clock_at, configured, described, described_end, no_clock, session_at, with_rights, AreLinks, IsStoredFrame, IsThere, port_counts, held_in, link_ends, Names, names_of, IsOf, agent_state, reports_of, session_of, state_of, table_entries, AreStartedClocks, AreStartedSessions, IsStartedClock, IsStartedSession}
 use Rattle.std.proofs.lemmas.Bool.{false_from_ne_true}
+use Rattle.std.proofs.Math.Seq.{get_or-append_seam, set-append_seam}
 use Rattle.ptpm_codec.specs.declared.identity.ClockIdentity.{ClockIdentity}
-use Rattle.ptpm_codec.proofs.IdentityLaws.{same_clock-true}
+use Rattle.ptpm_data.proofs.OwnOctets.{some_at}
 use Rattle.ptpm_data.specs.declared.rights.Rights.{Rights}
-use Rattle.ptpm_data.specs.declared.start.ClockStart.{ClockStart}
-use Rattle.ptpm_data.specs.declared.start.PortStart.{PortStart}
-use Rattle.ptpm_data.specs.Start.{started}
 use Rattle.ptpm_table.specs.declared.slot_table.SlotTable.{SlotTable}
 use Rattle.ptpm_table.specs.Slots as slots
 use Rattle.ptpm_manager.specs.Session as manager
 use Rattle.ptpm_manager.specs.Setup.{AreTwoClocks}
+use Rattle.ptpm_network.proofs.Exchanging.{clocks_apart}
 use Rattle.ptpm_network.proofs.Lists.{all_get}
 use Rattle.ptpm_network.proofs.Standing.{stands-initial_state}
 use Rattle.ptpm_script.specs.declared.network.End.{End}
@@ -53,35 +52,27 @@ grown P xs ys place y e count old new =
       λ i x h. made_more P xs y (subst (λ k. P k y) (sym count) new) old i x (sym (ap (λ zs. slice_get zs i) e) ∙ h),
     )
 
--- the last of a list that was grown by one: how it is read, and the list with another in its place
-last_read : {X : Type 0} (xs : List X) (x d : X) → get_or (xs ++ x ∷ []) (length xs) d ≡ x
-last_read [] x d = refl
-last_read (z ∷ xs) x d = last_read xs x d
-
-last_put : {X : Type 0} (xs : List X) (x y : X) → set (xs ++ x ∷ []) (length xs) y ≡ xs ++ y ∷ []
-last_put [] x y = refl
-last_put (z ∷ xs) x y = ap (λ zs. z ∷ zs) (last_put xs x y)
-
 pub pushed_on : {X : Type 0} (xs rs ys : List X) (x : X)
     → ys ≡ rs ++ x ∷ []
     → rs ≡ xs
     → ys ≡ xs ++ x ∷ []
 pushed_on xs rs ys x e same = e ∙ ap (λ zs. zs ++ x ∷ []) same
 
+-- the last of a list that was grown by one: how it is read, and the list with another in its place
 pub is_last : {X : Type 0} (xs ys : List X) (i : ℕ) (x y : X)
     → ys ≡ xs ++ x ∷ []
     → i ≡ length xs
     → y ≡ get_or ys i y
     → y ≡ x
-is_last xs ys i x y e at read = read ∙ (λ k. get_or (e k) (at k) y) ∙ last_read xs x y
+is_last xs ys i x y e at read = read ∙ (λ k. get_or (e k) (at k) y) ∙ get_or-append_seam xs x [] y
 
 pub changed_last : {X : Type 0} (xs ys : List X) (i : ℕ) (x y : X)
     → ys ≡ xs ++ x ∷ []
     → i ≡ length xs
     → set ys i y ≡ xs ++ y ∷ []
-changed_last xs ys i x y e at = (λ k. set (e k) (at k) y) ∙ last_put xs x y
+changed_last xs ys i x y e at = (λ k. set (e k) (at k) y) ∙ set-append_seam xs x [] y
 
--- two lists of which the same is seen, place by place
+-- two lists in which the same is seen, place by place
 same_maps : {X Y A : Type 0} (f : X → A) (g : Y → A) (xs : List X) (ys : List Y)
     → length xs ≡ length ys
     → ((i : ℕ) (x : X) (y : Y) → slice_get xs i ≡ Some x → slice_get ys i ≡ Some y → f x ≡ g y)
@@ -92,20 +83,6 @@ same_maps f g (x ∷ xs) [] n h = absurd (omega (arith, n))
 same_maps f g (x ∷ xs) (y ∷ ys) n h =
     ap (λ a. a ∷ map f xs) (h zero x y refl refl)
     ∙ ap (λ more. g y ∷ more) (same_maps f g xs ys (omega (arith, n)) (λ i a b p q. h (suc i) a b p q))
-
-pub some_at : {X : Type 0} (xs : List X) (i : ℕ)
-    → i < length xs
-    → (x : X) × (slice_get xs i ≡ Some x)
-some_at [] i h = absurd (omega (arith, h))
-some_at (x ∷ xs) zero h = (x, refl)
-some_at (x ∷ xs) (suc i) h = some_at xs i (omega (arith, h))
-
-pub get_map : {X Y : Type 0} (f : X → Y) (xs : List X) (i : ℕ) (x : X)
-    → slice_get xs i ≡ Some x
-    → slice_get (map f xs) i ≡ Some (f x)
-get_map f [] i x e = absurd (cc)
-get_map f (y ∷ ys) zero x e = let q : y ≡ x = cc in ap (λ z. Some (f z)) q
-get_map f (y ∷ ys) (suc i) x e = get_map f ys i x e
 
 all_unmade : {X Y : Type 0} (P : Y → Type 0) (f : X → Y) (xs : List X)
     → AllByRecursion P (map f xs)
@@ -122,12 +99,14 @@ all_places P Q weaker xs all = λ k d h. weaker _ (of_place P xs k d all h)
 
 -- ---- what a file says of a place
 
+pub value_at : (clocks : List NetworkClock) (c : ℕ) (k : NetworkClock)
+    → slice_get clocks c ≡ Some k
+    → slice_get (map clock_value clocks) c ≡ Some (clock_value k)
+value_at clocks c k e = slice_get-map clock_value clocks c ∙ ap (option_map clock_value) e
+
 pub clock_is : (clocks : List NetworkClock) (c : ℕ) (k : NetworkClock) → slice_get clocks c ≡ Some k
     → slice_index_or (map clock_value clocks) c no_clock ≡ clock_value k
-clock_is clocks c k e = at_place (map clock_value clocks) c (clock_value k) no_clock (get_map clock_value clocks c k e)
-
-apart : (a b : ClockIdentity) → a ≢ b → same_clock a b ≡ false
-apart a b differ = false_from_ne_true (same_clock a b) (λ same. differ (same_clock-true a b same))
+clock_is clocks c k e = at_place (map clock_value clocks) c (clock_value k) no_clock (value_at clocks c k e)
 
 pub starts_at : (n : NetworkValue)
     → IsAccepted n
@@ -149,9 +128,9 @@ pub two_clocks : (n : NetworkValue)
     → IsSessionOf n t
     → slice_get n.clocks t.target ≡ Some k → AreTwoClocks t.identity.clock k.start.identity
 two_clocks n facts t k is e = record {
-  me_is_one = apart t.identity.clock every_clock is.is_one;
-  target_is_one = apart k.start.identity every_clock (starts_at n facts t.target k e).is_one;
-  apart = grind (arith, apart, all_get);
+  me_is_one = clocks_apart t.identity.clock every_clock is.is_one;
+  target_is_one = clocks_apart k.start.identity every_clock (starts_at n facts t.target k e).is_one;
+  apart = grind (arith, clocks_apart, all_get);
 }
 
 -- ---- the managers of a clock
@@ -188,22 +167,12 @@ none_twice (s ∷ ss) c d =
 
 -- ---- one clock
 
-unless_ok : {A E : Type 0} (fault : Option E) (a b : A) → ◌≡◌ {A = Result A E} (Ok b) (unless fault a) → b ≡ a
-unless_ok None a b h = cc
-unless_ok (Some e) a b h = absurd (cc)
-
-pub sets_start : (c : ClockStart) (ports : List PortStart) (sets : DataSetsValue)
-    → Ok sets ≡ start_of c ports
-    → sets ≡ started c ports
-unfolding start_of
-sets_start c ports sets h = unless_ok (start_fault c ports) (started c ports) sets h
-
 -- the table of a fresh agent
 abbrev IsFreshTable : ClockIdentity → List (PortIdentity × Rights) → SlotTable 16 → Type 0
 IsFreshTable clock managers t =
     IsFresh clock managers (clock_with t.clock (slots.configured t.slots.items)) (table_entries t)
 
--- a clock that was put behind the others without managers, and then given these
+-- a clock that was put after the others without managers, and then given these
 pub started_clock : (n : NetworkValue) (c : ℕ) (k : ClockValue)
     (managers : List (PortIdentity × Rights)) (sets : DataSetsValue) (put there x : RunningClock)
     → there ≡ put
@@ -246,7 +215,7 @@ counts_are n clocks s = same_maps (λ (x : RunningClock). length x.agent.sets.po
 end_there : (n : NetworkValue) (e : End)
     → IsEndOf n e
     → IsThere (map (λ c. length c.ports) n.clocks) (length n.sessions) e
-end_there n (ends.Clock place port) is = (length is.0.ports, (get_map (λ (c : ClockValue). length c.ports) n.clocks place is.0 is.1, (is.2, is.3)))
+end_there n (ends.Clock place port) is = (length is.0.ports, (slice_get-map (λ (c : ClockValue). length c.ports) n.clocks place ∙ ap (option_map (λ (c : ClockValue). length c.ports)) is.1, (is.2, is.3)))
 end_there n (ends.Session place) is = is
 
 pub are_links : (n : NetworkValue) (clocks : List RunningClock) (sessions : List RunningSession)

@@ -1,9 +1,10 @@
--- What the lines of a trace tell of the machine, where no delivery is late.
-use Rattle.ptpm_world.proofs.Common.{arith, ◌≡◌, ◌∙◌, ℕ, ◌<◌, ◌+◌, ◌++◌, ◌⊎◌, inl, inr, Bool, false, List, [], ◌∷◌, length, map, None, Some, Ok, Err, Option, Result, refl, sym, ap, subst, append_assoc, append-nil, length-append, length-map, same_Some, eq-eqb, option_map, result_err, AllByRecursion, Report, Deliver, IsInRange, Refusal, Retune, frame_at, refusal, AreInTime, is_late_delivery, step, AtSession, HasEnd, Network, Happened, Held, RunningNetwork, held, network_after, network_event, unless_refused, StandsAfter, Frame, NetworkState, initial_state, Names, placed, placed_all, Played, event_of, played, played_by, unless_fault, line_fault, after, answer, answer_of, error_of, took_of, event_line, event_text}
+-- What the lines of a trace say of the machine, if no delivery is late.
+use Rattle.ptpm_world.proofs.Common.{arith, ◌≡◌, ◌∙◌, ℕ, ◌<◌, ◌+◌, ◌++◌, ◌⊎◌, inl, inr, Bool, false, List, [], ◌∷◌, length, map, None, Some, Ok, Err, Option, Result, refl, sym, ap, subst, append_assoc, append-nil, length-append, length-map, same_Some, eq-eqb, option_map, result_err, AllByRecursion, Report, Deliver, IsInRange, Refusal, Retune, frame_at, refusal, AreInTime, is_late_delivery, step, AtSession, HasEnd, Network, Happened, Held, RunningNetwork, held, network_after, network_event, StandsAfter, Frame, NetworkState, initial_state, Names, placed, placed_all, Played, event_of, played, played_by, unless_fault, line_fault, after, answer, answer_of, error_of, took_of, event_line, event_text}
 use Rattle.std.specs.Prelude.{IfOk, ◌↔◌}
 use Rattle.ptpm_network.specs.Events as machine
 use Rattle.ptpm_network.specs.Events.{forged, no_session}
 use Rattle.ptpm_network.specs.Machine.{state_after}
+use Rattle.ptpm_network.proofs.CarriedOut.{if_not_refused}
 use Rattle.ptpm_network.proofs.Held.{frame_at-map}
 use Rattle.ptpm_network.proofs.Lists.{with_place-same}
 use Rattle.ptpm_network.proofs.Promise.{first_of_sessions, firsts, stands-event, stands-headline, stands-judged, stands-refused}
@@ -38,13 +39,6 @@ record IsSilent (r : RunningNetwork) (h : Happened) : Type 0 where
 abbrev DidTell : RunningNetwork → Happened → Type 0
 DidTell r h = Answers r h ⊎ IsSilent r h
 
--- what holds of all that may happen holds where a reason to refuse it is looked for first
-if_not_refused : (o : Option Refusal) (x : Result Happened Refusal) (P : Happened → Type 0)
-    → IfOk x P
-    → IfOk (unless_refused o x) P
-if_not_refused None x P p = p
-if_not_refused (Some reason) x P p = tt
-
 event-told : (N : Network) (r : RunningNetwork) (e : machine.Event) → IfOk (network_event N r e) (DidTell r)
 unfolding network_event
 event-told N r (Deliver n) = grind (arith, if_not_refused, with_place-same, eq-eqb)
@@ -53,7 +47,7 @@ event-told N r e = grind (arith, if_not_refused, option_map)
 
 -- ---- an event's line
 
--- where it leads, a running network stands after it
+-- a running network is where it leads, after it
 next-stands : (N : Network) (past : List machine.Event) (r : RunningNetwork) (e : machine.Event)
     (x : Result Happened Refusal)
     → network_event N r e ≡ x
@@ -79,7 +73,7 @@ module _ (N : Network) (past : List machine.Event) (r : RunningNetwork) (e : mac
   there : state_after N (past ++ e ∷ []) ≡ step N w e
   there = run-append N (initial_state N) past (e ∷ [])
 
-  -- where no session of the running network has a report more, none of the machine has
+  -- if no session of the running network has a report more, none of the machine has
   silent : (next : RunningNetwork)
       → StandsAfter N (past ++ e ∷ []) next
       → next.reports ≡ r.reports
@@ -160,7 +154,7 @@ tells-event N names past r place event at range time =
 
 -- ---- lines, one after another
 
--- what is played from a network on that stands after past events
+-- what is played from a network on that is after past events
 record IsTold (N : Network) (names : Names) (past : List machine.Event) (p : Played RunningNetwork) (last : RunningNetwork) : Type 0 where
   pub stands : StandsAfter N (past ++ placed_all names p.events) last
   pub told : Tells N names (state_after N past) p.events p.text

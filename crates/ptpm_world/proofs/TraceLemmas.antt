@@ -1,5 +1,6 @@
 -- Lines that are written one after another.
-use Rattle.ptpm_world.proofs.Common.{◌≡◌, ℕ, zero, suc, ◌+◌, ◌-◌, ◌<◌, ◌≤◌, ◌++◌, List, [], ◌∷◌, length, take, get_or, Some, refl, sym, ap, ◌∙◌, add-one, arith, map, Option, flat_map, slice_get, enumerate_from, range_with_len, Appends, Appends-trans, flat_map_more, take_more, RunningClock, RunningSession, World, names_in, reports_of, running, state_of, clock_lines, data_lines, report_lines, session_lines}
+use Rattle.ptpm_world.proofs.Common.{◌≡◌, ℕ, suc, ◌+◌, ◌-◌, ◌<◌, ◌≤◌, ◌++◌, List, [], ◌∷◌, length, take, get_or, Some, refl, sym, ap, ◌∙◌, add-one, arith, map, Option, flat_map, slice_get, enumerate_from, range_with_len, Appends, Appends-trans, flat_map_more, take_more, RunningClock, RunningSession, World, names_in, reports_of, running, state_of, clock_lines, data_lines, report_lines, session_lines}
+use Rattle.ptpm_agent.proofs.Egress.{range_with_len-suc}
 
 -- ---- one piece more
 
@@ -12,11 +13,8 @@ pub written-more : {X : Type 0} (a b c : Option (List ℕ)) (f : X → List ℕ)
     → Appends a c (flat_map f (take (i + 1) xs))
 written-more a b c f xs i x h e p q = grind (arith, Appends-trans, flat_map_more, take_more)
 
-pub range-more : (a n : ℕ) → range_with_len a (n + 1) ≡ range_with_len a n ++ (a + n) ∷ []
-range-more a zero = ap (λ k. k ∷ []) (omega arith)
-range-more a (suc n) =
-    rw add-one (ap (λ l. a ∷ l) (ap (range_with_len (a + 1)) (sym (add-one n)) ∙ range-more (a + 1) n
-    ∙ ap (λ k. range_with_len (a + 1) n ++ k ∷ []) (omega arith)))
+range-more : (a n : ℕ) → range_with_len a (n + 1) ≡ range_with_len a n ++ (a + n) ∷ []
+range-more a n = ap (range_with_len a) (add-one n) ∙ range_with_len-suc a n
 
 pub ports-more : (a b c : Option (List ℕ)) (f : ℕ → List ℕ) (port : ℕ)
     → 1 ≤ port

@@ -31,7 +31,7 @@ pub none_clause : {X : Type 0} (name_of : X → List ℕ) (xs : List X) (name : 
 none_clause name_of xs name (Some i) e = tt
 none_clause name_of xs name None e = grind (arith, place-map, prefix_len-le-length, cond-true, nat_tests, cases_Bool)
 
--- what stands at the place of a name is the first that has it
+-- what is at the place of a name is the first that has it
 pub at_name : {X : Type 0} (name_of : X → List ℕ) (xs : List X) (name : List ℕ) (i : ℕ) (x : X)
     → i ≡ place_in (map name_of xs) name
     → slice_get xs i ≡ Some x

@@ -15,7 +15,7 @@ use Rattle.ptpm_script.specs.declared.network.End.TheVariants as ends
 use Rattle.ptpm_script.specs.declared.network.NetworkSession.{NetworkSession}
 use Rattle.ptpm_script.specs.NetworkValue.{ClockValue, NetworkValue, first_sets}
 
--- ---- what stands at a place; past the last, something that no definition looks at
+-- ---- what is at a place; past the last, something that no definition looks at
 
 abbrev pub no_clock : ClockValue
 no_clock = record { name = []; start = default_clock every_clock 0; ports = [] }

@@ -16,7 +16,7 @@ use Rattle.ptpm_world.specs.declared.world.RunningClock.{RunningClock}
 abbrev pub port_counts : List RunningClock → List ℕ
 port_counts clocks = map (λ c. length c.agent.sets.ports) clocks
 
--- a port of a clock, or a session, where the clocks have these numbers of ports and there are so many sessions
+-- a port of a clock, or a session, if the clocks have these numbers of ports and there are this many sessions
 abbrev pub IsThere : List ℕ → ℕ → End → Type 0
 IsThere counts sessions (ends.Clock place port) = (n : ℕ) × ((slice_get counts place ≡ Some n) × ((1 ≤ port) × (port ≤ n)))
 IsThere counts sessions (ends.Session place) = place < sessions
@@ -31,7 +31,7 @@ pub record IsStoredFrame (counts : List ℕ) (sessions : ℕ) (s : Stored) : Typ
   pub end : IsThere counts sessions s.end
   pub origin : IsOfSession sessions s.origin
 
--- a link of at most 16 ends, all of which are there
+-- a link of at most 16 ends, and all are there
 abbrev pub IsLink : List ℕ → ℕ → NetworkLink → Type 0
 IsLink counts sessions l = (length l.ends.items ≤ 16) × All (IsThere counts sessions) l.ends.items
 

@@ -35,7 +35,7 @@ ends_of l = map described_end l.ends.items
 abbrev pub link_ends : List NetworkLink → List (List machine.End)
 link_ends links = map ends_of links
 
--- frames held at most, and memory was had for so many messages, each to 15 ends at most
+-- frames held at most, and memory was had for this many messages, each to 15 ends at most
 pub record HasRoom (messages : ℕ) (f : Frames) : Type 0 where
   pub limit : length f.stored.items + messages * 15 ≤ 400000
   pub frames : vec_len f.stored + messages * 15 ≤ vec_capacity f.stored

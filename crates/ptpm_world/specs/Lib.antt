@@ -13,5 +13,4 @@ pub mod Lines
 pub mod ScriptError
 pub mod Script
 pub mod WholeScript
-pub mod Check
 pub mod MachineTrace

@@ -39,7 +39,7 @@ agent_clock a = clock_of (ghosts (number 16)).owner a
 abbrev pub agent_state : Agent (SlotTable 16) → State
 agent_state a = agent.state_of table_entries a
 
--- ---- what stands at a place; past the last, something that no definition looks at
+-- ---- what is at a place; past the last, something that no definition looks at
 
 abbrev pub state_of : Option RunningClock → State
 state_of None = initial_clock_state (first_sets described.no_clock)

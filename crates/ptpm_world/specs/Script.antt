@@ -31,16 +31,16 @@ use Rattle.ptpm_world.specs.Trace.{data_lines, event_line, line_feed, report_lin
 abbrev pub is_divider : List ℕ → Bool
 is_divider line = bytes_eq line (codes "%%")
 
--- the lines before the divider, each followed by a line feed; all lines where there is none
+-- the lines before the divider, each followed by a line feed; all lines if there is none
 abbrev pub network_text : List (List ℕ × List ℕ) → List ℕ
 network_text [] = []
 network_text (line ∷ lines) = if is_divider line.0 then [] else line.0 ++ line_feed ++ network_text lines
 
--- What is kept of a text: all of it, or of one that is too long for a network file so much that it is still too long.
+-- What is kept of a text: all of it, or, if it is too long for a network file, as much of it as is still too long.
 abbrev pub StandsFor : List ℕ → List ℕ → Type 0
 StandsFor kept whole = (kept ≡ whole) ⊎ ((262144 < length kept) × (262144 < length whole))
 
--- ---- a line behind it
+-- ---- a line after it
 
 -- the first octet that is no space, if there is one, is `#`
 abbrev pub begins_comment : Option ℕ → Bool
@@ -56,13 +56,13 @@ abbrev pub read_as : ℕ → Result Event EventError → Result (Option Event) S
 read_as place (Ok event) = Ok (Some event)
 read_as place (Err error) = Err (BadLine place error)
 
--- its event, none where it is skipped, or that it is no event
+-- its event, none if it is skipped, or that it is no event
 abbrev pub event_of : ℕ → List ℕ → Result (Option Event) ScriptError
 event_of place line = if is_skipped line then Ok None else read_as place (reading line)
 
 -- ---- what lines come to
 
--- their events, whether these are refused or not, and the lines of these, one after another; and behind them where they lead, or
+-- their events, whether these are refused or not, and the lines of these, one after another; and after them where they lead, or
 -- the first fault, in the order in which lines are read
 pub record Played (A : Type 0) : Type 0 where
   pub events : List EventLine
@@ -124,7 +124,7 @@ started n = record {
 
 -- ---- the whole
 
--- behind the lines of the events the lines of the reports and of the data sets, as the network stands where the events lead
+-- after the lines of the events the lines of the reports and of the data sets, as the network is where the events lead
 abbrev pub closing : Names → Result RunningNetwork ScriptError → Result (List ℕ) ScriptError
 closing names (Ok r) = Ok (report_lines names r ++ data_lines names r)
 closing names (Err fault) = Err fault
@@ -132,12 +132,12 @@ closing names (Err fault) = Err fault
 abbrev pub closed : Names → Played RunningNetwork → Played (List ℕ)
 closed names p = record { events = p.events; text = p.text; end = closing names p.end }
 
--- lines of events, where the file before them is this network, from its start on; the fault that it has is met before them
+-- lines of events, if the file before them is this network, from its start on; the fault that it has is met before them
 abbrev pub in_network : Result NetworkValue NetError → ℕ → List (List ℕ × List ℕ) → Played (List ℕ)
 in_network (Ok n) number lines = closed (names_of n) (played (described n) (names_of n) (started n) number 1 lines)
 in_network (Err error) number lines = ends (Err (BadNetwork error))
 
--- lines of a network file from this one on, and what those behind the divider come to
+-- lines of a network file from this one on, and what those after the divider come to
 abbrev pub from_file : (ℕ → List (List ℕ × List ℕ) → Played (List ℕ))
     → ℕ
     → List (List ℕ × List ℕ)

@@ -28,7 +28,7 @@ is_of_writing _ = false
 
 -- ---- of one line
 
--- by its number in all that is read, and all that stands before its line feed
+-- by its number in all that is read, and all that comes before its line feed
 abbrev pub size_fault : ℕ → List ℕ → Option ScriptError
 size_fault number octets =
     if nat_lt 2000000 number then Some TooManyLines else if nat_lt 4096 (length octets) then Some (LineTooLong number) else None
@@ -44,7 +44,7 @@ text_fault number line = if is_utf8 line then None else Some (NotText number)
 abbrev pub line_fault : ℕ → List ℕ × List ℕ → Option ScriptError
 line_fault number line = option_or (size_fault number line.1) (text_fault number line.0)
 
--- ---- of a reader, where it tells its octets
+-- ---- of a reader, if its octets are known
 
 -- the next line came, or none, and its size is no fault
 abbrev pub ReadsWhole : ℕ → Option (List ℕ) → Bool → List ℕ → Option (List ℕ) → Type 0

@@ -24,7 +24,7 @@ pub record IsStep (N : Network) (old new : World) (e : machine.Event) (result : 
   pub goes : OnOk result (running new ≡ after N (running old) e)
   pub network : IsOf N new
 
--- after events of which none was a late delivery: it stands where the machine does, and refuses what that refuses
+-- after events without a late delivery: it is where the machine is, and refuses what that refuses
 pub record IsMachineStep (N : Network) (past : List machine.Event) (new : World) (e : machine.Event) (result : Result Took StepError) : Type 0 where
   pub stands : is_late_delivery (state_after N past) e ≡ false
       → OnOk result (StandsAfter N (past ++ e ∷ []) (running new))
@@ -49,7 +49,7 @@ events_carried_out (Err stop) events = take stop.0 events
 abbrev pub carried_out : {A : Type 0} → World → Result A (ℕ × StepError) → List Event → List machine.Event
 carried_out w result events = map (placed (names_in w)) (events_carried_out result events)
 
--- the world went where these lead, all of which happen; the event where it stops is refused for its first reason, or for want of memory
+-- the world went where these lead, and all happen; the event where it stops is refused for its first reason, or for want of memory
 pub record IsRun {A : Type 0} (N : Network) (old new : World) (events : List Event)
     (result : Result A (ℕ × StepError)) : Type 0 where
   pub goes : Leads N (running old) (carried_out old result events) (running new)
@@ -61,7 +61,7 @@ pub record IsRun {A : Type 0} (N : Network) (old new : World) (events : List Eve
       → answer N (running new) (placed (names_in old) event) ≡ Err e.1)
   pub network : IsOf N new
 
--- After events of which none was a late delivery, and where none of these is one: the headline holds; they are the events that the
+-- After events without a late delivery, and if none of these is one: the headline holds; they are the events that the
 -- machine takes, up to the first that it refuses, for this reason, want of memory aside.
 pub record IsMachineRun {A : Type 0} (N : Network) (past : List machine.Event) (old new : World)
     (events : List Event) (result : Result A (ℕ × StepError)) : Type 0 where

@@ -1,4 +1,4 @@
--- Frames in a store: each has its end, what it belongs to, and where its octets stand.
+-- Frames in a store: each has its end, what it belongs to, and where its octets are.
 use Rattle.std.specs.Prelude.{ℕ, ◌+◌, ◌≤◌, Bool, not, List, length}
 use Rattle.std.specs.List.{filter}
 use Rattle.ptpm_network.specs.Network.{same_end}
@@ -6,7 +6,7 @@ use Rattle.ptpm_script.specs.declared.network.End.{End}
 use Rattle.ptpm_world.specs.declared.frames.Stored.{Stored}
 use Rattle.ptpm_world.specs.Described.{described_end}
 
--- the octets of a stored frame stand in the store
+-- the octets of a stored frame are in the store
 abbrev pub IsWithin : List ℕ → Stored → Type 0
 IsWithin store s = s.start + s.size ≤ length store
 

@@ -27,7 +27,7 @@ abbrev pub begin_error : BeginError → StepError
 begin_error begins.OutOfMemory = errors.OutOfMemory
 begin_error error = errors.Begin error
 
--- a session answers Answered where it reports, and else why it does not
+-- a session answers Answered if it reports, and else why it does not
 abbrev pub heard : Received → Took
 heard (received.Answered report) = Answered
 heard (received.Ignored reason) = Ignored reason

@@ -36,7 +36,7 @@ answer_text (Ok took) true = took_text took ++ codes " late"
 answer_text (Ok took) false = took_text took
 answer_text (Err error) late = codes "refused " ++ step_error_text error
 
--- the first and the last number of the frames that were made, where there were so many before and so many after
+-- the first and the last number of the frames that were made, from their count before and their count after
 abbrev pub frames_text : ℕ → ℕ → List ℕ
 frames_text before after = if nat_lt before after then codes " frames " ++ decimal (before + 1) ++ codes "-" ++ decimal after else []
 

@@ -13,7 +13,7 @@ use Rattle.ptpm_world.specs.Placed.{Names}
 use Rattle.ptpm_world.specs.Script.{network_text, played, scripted}
 use Rattle.ptpm_world.specs.ScriptError.{is_outside}
 
--- ---- lines of events, the first of which has this number
+-- ---- lines of events; the first has this number
 
 -- in whatever network they happen, they are these events, and have no fault
 abbrev pub AreEvents : ℕ → List ℕ → List EventLine → Type 0
@@ -28,7 +28,7 @@ EndsWith number octets e = (N : Network) (names : Names) (r : RunningNetwork)
 
 -- ---- the whole
 
--- The script of these octets: the lines before the divider, the network that they are, and the events of the lines behind it. No
+-- The script of these octets: the lines before the divider, the network that they are, and the events of the lines after it. No
 -- line has a fault.
 pub record IsScript (input : List ℕ) (s : Script) : Type 0 where
   pub text : string_bytes s.text ≡ network_text (whole_lines input)

@@ -34,7 +34,7 @@ pub(crate) enum Origin {
 struct Stored {
     end: End,
     origin: Origin,
-    /// Where its octets stand.
+    /// Where its octets are.
     start: usize,
     size: usize,
 }

@@ -2,7 +2,6 @@
 //! reorder or duplicate, each clock carries out each request once (IEEE 1588-2019, clause 15).
 #![tactic(auto)]
 
-mod check;
 mod frames;
 mod lines;
 mod network_laws;
@@ -16,12 +15,11 @@ mod trace;
 mod whole_script;
 mod world;
 
-pub use check::{Findings, check_script};
 pub use frames::Frame;
-pub use lines::SCRIPT_LINES;
+pub use lines::{Lines, SCRIPT_LINES};
 pub use network_laws::{described_network, described_networks, every_world, placed_event};
 pub use ptpm_script::{End, Event, EventError, Name, NetError, Network, read_event};
-pub use script::{DIVIDER, one_trace, run_script};
+pub use script::{DIVIDER, is_skipped, one_trace, read_text, run_script};
 pub use script_error::ScriptError;
 pub use took::{StepError, Took};
 pub use whole_script::{EventLine, Script, read_script};

@@ -13,15 +13,15 @@ use ptpm_codec::OutOfMemory;
 use std::alloc::Global;
 use std::io::{BufRead, BufReader, Read, Write};
 
-/// A script has at most so many lines (this project's profile).
+/// A script has at most this many lines (this project's profile).
 pub const SCRIPT_LINES: u32 = 2_000_000;
 
-/// A line has at most so many octets before its line feed (this project's profile).
+/// A line has at most this many octets before its line feed (this project's profile).
 const LINE_OCTETS: usize = 4_096;
 
 /// A reader, line by line. At most one line's octets are kept, and they are written over by the next.
 #[derive(Drop)]
-pub(crate) struct Lines<R> {
+pub struct Lines<R> {
     reader: BufReader<R>,
     /// The line that was read last, without its end.
     line: Vec<u8>,
@@ -31,14 +31,14 @@ pub(crate) struct Lines<R> {
 }
 
 impl<R: Read + Drop> Lines<R> {
-    ghost use Rattle.ptpm_world.specs.Lines.{given, left_in};
+    ghost use Rattle.ptpm_world.specs.Lines.{given, latest_line, left_in, line_count};
     ghost use Rattle.ptpm_world.specs.ScriptError.{HasNextFault, ReadsWhole, is_of_reading, is_outside, text_fault};
 
     /// The lines of a reader. Takes the memory for one line and for the reader's buffer.
-    pub(crate) fn new(alloc: Global, reader: R) -> Result<Lines<R>, ScriptError>
+    pub fn new(alloc: Global, reader: R) -> Result<Lines<R>, ScriptError>
         ensures octets { IfOk result
             (λ l. IfSome (R.remaining reader) (λ octets. left_in R.remaining l ≡ Some octets)) }
-        ensures count { IfOk result (λ l. l.count ≡ 0) }
+        ensures count { IfOk result (λ l. line_count l ≡ 0) }
         ensures fault { IfErr result (λ e. is_outside e ≡ true) }
         ensures reading { IfErr result (λ e. is_of_reading e ≡ true) }
     {
@@ -51,21 +51,21 @@ impl<R: Read + Drop> Lines<R> {
         })
     }
 
-    /// Reads the next line; false where there are no more. The line that was read before is gone.
+    /// Reads the next line; false if there are no more. The line that was read before is gone.
     ///
     /// A line ends with a line feed, or with a carriage return and a line feed. The last may lack its end, and then a carriage
     /// return stays.
-    pub(crate) fn read(&mut self) -> Result<bool, ScriptError>
-        ensures count { result ≡ Ok true → self.new.count ≡ self.old.count + 1 }
-        ensures same { result ≡ Ok false → self.new.count ≡ self.old.count }
+    pub fn read(&mut self) -> Result<bool, ScriptError>
+        ensures count { result ≡ Ok true → line_count self.new ≡ line_count self.old + 1 }
+        ensures same { result ≡ Ok false → line_count self.new ≡ line_count self.old }
         ensures whole { IfOk result
             (λ more.
-            ReadsWhole (self.old.count + 1) (left_in R.remaining self.old) more
-            self.new.line.items (left_in R.remaining self.new)) }
+            ReadsWhole (line_count self.old + 1) (left_in R.remaining self.old) more
+            (latest_line self.new) (left_in R.remaining self.new)) }
         ensures fault { IfErr result
             (λ e.
             is_outside e ≡ false
-            → HasNextFault (self.old.count + 1) (left_in R.remaining self.old) e) }
+            → HasNextFault (line_count self.old + 1) (left_in R.remaining self.old) e) }
         ensures reading { IfErr result (λ e. is_of_reading e ≡ true) }
     {
         match self.line_at_hand() {
@@ -74,17 +74,17 @@ impl<R: Read + Drop> Lines<R> {
         }
     }
 
-    /// The same; what was written is flushed before, where that line may have to be waited for.
+    /// The same. What was written is flushed before, if that line may have to be waited for.
     pub(crate) fn read_shown<W: Write>(&mut self, out: &mut W) -> Result<bool, ScriptError>
-        ensures count { result ≡ Ok true → self.new.count ≡ self.old.count + 1 }
+        ensures count { result ≡ Ok true → line_count self.new ≡ line_count self.old + 1 }
         ensures whole { IfOk result
             (λ more.
-            ReadsWhole (self.old.count + 1) (left_in R.remaining self.old) more
-            self.new.line.items (left_in R.remaining self.new)) }
+            ReadsWhole (line_count self.old + 1) (left_in R.remaining self.old) more
+            (latest_line self.new) (left_in R.remaining self.new)) }
         ensures fault { IfErr result
             (λ e.
             is_outside e ≡ false
-            → HasNextFault (self.old.count + 1) (left_in R.remaining self.old) e) }
+            → HasNextFault (line_count self.old + 1) (left_in R.remaining self.old) e) }
         ensures kept { Keeps (W.contents out.old) (W.contents out.new) }
     {
         match self.line_at_hand() {
@@ -96,12 +96,12 @@ impl<R: Read + Drop> Lines<R> {
         }
     }
 
-    /// How many octets stand before the next line feed, where it is at hand and the line may be read.
+    /// How many octets come before the next line feed, if it is at hand and the line may be read.
     fn line_at_hand(&self) -> Option<usize>
         ensures feed { IfSome result
             (λ size. IsFirstByte (is_byte 10) (reader_buffer self.now.reader) (Some size)) }
         ensures short { IfSome result (λ size. size ≤ 4096) }
-        ensures few { IsSome result → self.now.count < 2000000 }
+        ensures few { IsSome result → line_count self.now < 2000000 }
     {
         match memchr(b'\n', self.reader.buffer()) {
             Some(size) if size <= LINE_OCTETS && self.count < SCRIPT_LINES => Some(size),
@@ -109,16 +109,16 @@ impl<R: Read + Drop> Lines<R> {
         }
     }
 
-    /// Takes the next line, which is at hand, with so many octets before its line feed.
+    /// Takes the next line, which is at hand, with this many octets before its line feed.
     fn take_line(&mut self, size: usize) -> Result<bool, ScriptError>
         requires feed { IsFirstByte (is_byte 10) (reader_buffer self.old.reader) (Some size) }
         requires short { size ≤ 4096 }
-        requires few { self.old.count < 2000000 }
+        requires few { line_count self.old < 2000000 }
         ensures more { IfOk result (λ more. more ≡ true) }
-        ensures count { OnOk result (self.new.count ≡ self.old.count + 1) }
+        ensures count { OnOk result (line_count self.new ≡ line_count self.old + 1) }
         ensures whole { OnOk result
-            (ReadsWhole (self.old.count + 1) (left_in R.remaining self.old) true
-            self.new.line.items (left_in R.remaining self.new)) }
+            (ReadsWhole (line_count self.old + 1) (left_in R.remaining self.old) true
+            (latest_line self.new) (left_in R.remaining self.new)) }
         ensures fault { IfErr result (λ e. is_outside e ≡ true) }
         ensures reading { IfErr result (λ e. is_of_reading e ≡ true) }
     {
@@ -135,16 +135,16 @@ impl<R: Read + Drop> Lines<R> {
 
     /// What `read` does, octet by octet, however much is at hand.
     fn read_by_octets(&mut self) -> Result<bool, ScriptError>
-        ensures count { result ≡ Ok true → self.new.count ≡ self.old.count + 1 }
-        ensures same { result ≡ Ok false → self.new.count ≡ self.old.count }
+        ensures count { result ≡ Ok true → line_count self.new ≡ line_count self.old + 1 }
+        ensures same { result ≡ Ok false → line_count self.new ≡ line_count self.old }
         ensures whole { IfOk result
             (λ more.
-            ReadsWhole (self.old.count + 1) (left_in R.remaining self.old) more
-            self.new.line.items (left_in R.remaining self.new)) }
+            ReadsWhole (line_count self.old + 1) (left_in R.remaining self.old) more
+            (latest_line self.new) (left_in R.remaining self.new)) }
         ensures fault { IfErr result
             (λ e.
             is_outside e ≡ false
-            → HasNextFault (self.old.count + 1) (left_in R.remaining self.old) e) }
+            → HasNextFault (line_count self.old + 1) (left_in R.remaining self.old) e) }
         ensures reading { IfErr result (λ e. is_of_reading e ≡ true) }
     {
         self.line.clear();
@@ -163,16 +163,16 @@ impl<R: Read + Drop> Lines<R> {
 
     /// Reads the rest of a line, after its first octet.
     fn read_rest(&mut self, first: u8) -> Result<(), ScriptError>
-        requires { length self.old.line.items ≡ 0 }
-        ensures count { self.new.count ≡ self.old.count }
+        requires { length (latest_line self.old) ≡ 0 }
+        ensures count { line_count self.new ≡ line_count self.old }
         ensures whole { OnOk result
-            (ReadsWhole self.old.count
+            (ReadsWhole (line_count self.old)
             (option_map (λ octets. first ∷ octets) (left_in R.remaining self.old)) true
-            self.new.line.items (left_in R.remaining self.new)) }
+            (latest_line self.new) (left_in R.remaining self.new)) }
         ensures fault { IfErr result
             (λ e.
             is_outside e ≡ false
-            → HasNextFault self.old.count
+            → HasNextFault (line_count self.old)
             (option_map (λ octets. first ∷ octets) (left_in R.remaining self.old)) e) }
         ensures reading { IfErr result (λ e. is_of_reading e ≡ true) }
     {
@@ -193,18 +193,18 @@ impl<R: Read + Drop> Lines<R> {
 
     /// Puts an octet at the end of the line.
     fn keep(&mut self, octet: u8) -> Result<(), OutOfMemory>
-        ensures line { OnOk result (self.new.line.items ≡ self.old.line.items ++ octet ∷ []) }
+        ensures line { OnOk result (latest_line self.new ≡ latest_line self.old ++ octet ∷ []) }
         ensures reader { self.new.reader ≡ self.old.reader }
-        ensures count { self.new.count ≡ self.old.count }
+        ensures count { line_count self.new ≡ line_count self.old }
     {
         self.line.push(octet).map_err(|_| OutOfMemory)
     }
 
     /// Takes the carriage return off the line that ends with one.
     fn drop_return(&mut self)
-        ensures line { self.new.line.items ≡ strip_carriage_return self.old.line.items }
+        ensures line { latest_line self.new ≡ strip_carriage_return (latest_line self.old) }
         ensures reader { self.new.reader ≡ self.old.reader }
-        ensures count { self.new.count ≡ self.old.count }
+        ensures count { line_count self.new ≡ line_count self.old }
     {
         if self.line.last() == Some(&b'\r') {
             self.line.pop();
@@ -221,8 +221,8 @@ impl<R: Read + Drop> Lines<R> {
             IfNone o
             (OnSome (left_in R.remaining self.old)
             (IsAtEnd (left_in R.remaining self.new)))) }
-        ensures line { self.new.line.items ≡ self.old.line.items }
-        ensures count { self.new.count ≡ self.old.count }
+        ensures line { latest_line self.new ≡ latest_line self.old }
+        ensures count { line_count self.new ≡ line_count self.old }
         ensures fault { IfErr result (λ e. is_outside e ≡ true) }
         ensures reading { IfErr result (λ e. is_of_reading e ≡ true) }
     {
@@ -230,17 +230,17 @@ impl<R: Read + Drop> Lines<R> {
     }
 
     /// How many lines were read.
-    pub(crate) fn count(&self) -> u32
-        ensures { result ≡ self.now.count }
+    pub fn count(&self) -> u32
+        ensures { result ≡ line_count self.now }
     {
         self.count
     }
 
     /// The line that was read last, without its end.
-    pub(crate) fn text(&self) -> Result<&str, ScriptError>
-        ensures text { IfOk result (λ text. text.now ≡ self.now.line.items) }
-        ensures none { OnOk result (text_fault self.now.count self.now.line.items ≡ None) }
-        ensures fault { IfErr result (λ e. text_fault self.now.count self.now.line.items ≡ Some e) }
+    pub fn text(&self) -> Result<&str, ScriptError>
+        ensures text { IfOk result (λ text. text.now ≡ latest_line self.now) }
+        ensures none { OnOk result (text_fault (line_count self.now) (latest_line self.now) ≡ None) }
+        ensures fault { IfErr result (λ e. text_fault (line_count self.now) (latest_line self.now) ≡ Some e) }
         ensures reading { IfErr result (λ e. is_of_reading e ≡ true) }
     {
         match std::str::from_utf8(self.line.as_slice()) {

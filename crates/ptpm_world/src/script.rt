@@ -7,7 +7,7 @@ ghost use Rattle.ptpm_script.specs.EventLine.{reading};
 ghost use Rattle.ptpm_script.specs.NetworkText.{network_of};
 ghost use Rattle.ptpm_script.specs.NetworkView.{network_value};
 ghost use Rattle.ptpm_script.specs.Words.{space};
-ghost use Rattle.ptpm_world.specs.Lines.{BothKnown, left_in, whole_lines};
+ghost use Rattle.ptpm_world.specs.Lines.{BothKnown, left_in, line_count, whole_lines};
 ghost use Rattle.ptpm_world.specs.MachineTrace.{ShowsNetwork};
 ghost use Rattle.ptpm_world.specs.Placed.{names_in};
 ghost use Rattle.ptpm_world.specs.Running.{IsOf, running};
@@ -27,7 +27,7 @@ use ptpm_script::{Event, EventError, NetError, Network, TEXT_OCTETS, read_event}
 use std::alloc::Global;
 use std::io::{Read, Write};
 
-/// The line of a script that stands between the network file and the events.
+/// The line of a script between the network file and the events.
 pub const DIVIDER: &str = "%%";
 
 /// The lines of a script print one text at most.
@@ -42,12 +42,12 @@ pub fn one_trace()
 /// trace: a line for each event, and at the end each session's reports and each clock's data sets. An event that is refused
 /// is a line of the trace too. Without the divider there are no events.
 ///
-/// Where no delivery of the script is late, the headline holds of the network whose reports and data sets are written at the
-/// end, after the script's events: however these lose, repeat, reorder or duplicate messages. And each event's line tells what
-/// the network machine does, with `Answered` exactly where a report is appended (`ShowsNetwork`).
+/// If no delivery of the script is late, the headline holds of the network whose reports and data sets are written at the
+/// end, after the script's events: however these lose, repeat, reorder or duplicate messages. And each event's line says what
+/// the network machine does, with `Answered` exactly if a report is appended (`ShowsNetwork`).
 ///
 /// All lines before the divider are read before the network is judged; each event's line is written before the next is
-/// read, and flushed where that may have to be waited for. Ends for every reader, since lines and their octets are bounded. The
+/// read, and flushed if that may have to be waited for. Ends for every reader, since lines and their octets are bounded. The
 /// world that runs lies in a frame of its own, so that no other subcommand pays for it.
 #[inline(never)]
 pub fn run_script<R: Read + Drop, W: Write>(
@@ -78,14 +78,14 @@ fn read_network<R: Read + Drop>(
         (λ network.
         BothKnown (left_in R.remaining script.old) (left_in R.remaining script.new)
         (λ before after.
-        (scripted_from (script.old.count + 1) before
-        ≡ in_network (Ok (network_value network)) (script.new.count + 1) (whole_lines after))
+        (scripted_from (line_count script.old + 1) before
+        ≡ in_network (Ok (network_value network)) (line_count script.new + 1) (whole_lines after))
         × (network_of (network_text (whole_lines before)) ≡ Ok (network_value network)))) }
     ensures fault { IfErr result
         (λ e.
         is_outside e ≡ false
         → IfSome (left_in R.remaining script.old)
-        (λ octets. scripted_from (script.old.count + 1) octets ≡ ends (Err e))) }
+        (λ octets. scripted_from (line_count script.old + 1) octets ≡ ends (Err e))) }
 {
     let text = read_text(alloc, script)?;
     network_of_text(alloc, text.as_str())
@@ -110,7 +110,7 @@ pub(crate) fn network_of_text(alloc: Global, text: &str) -> Result<Network, Scri
 
 /// The lines up to the divider, each followed by a line feed. Of a text over the limit only so much is kept that it is
 /// still over it.
-pub(crate) fn read_text<R: Read + Drop>(
+pub fn read_text<R: Read + Drop>(
     alloc: Global,
     script: &mut Lines<R>,
 ) -> Result<String, ScriptError>
@@ -120,15 +120,15 @@ pub(crate) fn read_text<R: Read + Drop>(
         (λ before after.
         StandsFor (string_bytes text) (network_text (whole_lines before))
         × ((others : ℕ → List (List ℕ × List ℕ) → Played (List ℕ))
-        → from_file others (script.old.count + 1) (whole_lines before)
-        ≡ others (script.new.count + 1) (whole_lines after)))) }
+        → from_file others (line_count script.old + 1) (whole_lines before)
+        ≡ others (line_count script.new + 1) (whole_lines after)))) }
     ensures fault { IfErr result
         (λ e.
         is_outside e ≡ false
         → IfSome (left_in R.remaining script.old)
         (λ octets.
         (others : ℕ → List (List ℕ × List ℕ) → Played (List ℕ))
-        → from_file others (script.old.count + 1) (whole_lines octets) ≡ ends (Err e))) }
+        → from_file others (line_count script.old + 1) (whole_lines octets) ≡ ends (Err e))) }
     ensures reading { IfErr result (λ e. is_of_reading e ≡ true) }
 {
     let mut text = String::new(alloc);
@@ -175,7 +175,7 @@ fn play<R: Read + Drop, W: Write>(
         → IfSome (left_in R.remaining script.old)
         (λ octets.
         HasPlayed (names_in world.old)
-        (played N (names_in world.old) (running world.old) (script.old.count + 1) 1
+        (played N (names_in world.old) (running world.old) (line_count script.old + 1) 1
         (whole_lines octets)) (running world.new) (W.contents out.old) (W.contents out.new)
         result) }
     ensures names { OnOk result (names_in world.new ≡ names_in world.old) }
@@ -211,7 +211,7 @@ pub(crate) fn event_of(alloc: Global, number: u32, line: &str) -> Result<Event, 
 }
 
 /// Whether a line has no words, or is a comment.
-pub(crate) fn is_skipped(line: &str) -> bool
+pub fn is_skipped(line: &str) -> bool
     ensures { result ≡ is_skipped line.now }
 {
     match first_but_spaces(line) {

@@ -40,7 +40,7 @@ impl World {
     /// Lets an event happen. The first reason that holds is why it is refused, and then the network stays as it was; only
     /// want of memory may come in place of another answer.
     ///
-    /// Where no frame was delivered late before, and none is now, it stands where the event leads the network machine, and
+    /// If no frame was delivered late before, and none is now, it is where the event leads the network machine, and
     /// refuses what that refuses, for the same reason. Late or not, each clock has what it had before, after the request of its
     /// turn at the event if the verdict is `AnsweredNew`: nothing else changes its data sets or what it keeps. And a session that
     /// was served so far is served after it, unless it is a late delivery for this very session (`IsServedSoFar`).
@@ -72,11 +72,11 @@ impl World {
     }
 
     /// Lets events happen in their order. Stops at the first that is refused, and names its place, counted from 0; those
-    /// before it stand.
+    /// before it happened.
     ///
     /// However these events lose, repeat, reorder or duplicate messages, if none that happened delivered a frame late, and
     /// none before did, each clock's data sets are those after its managers' delivered requests, each applied once in order of
-    /// first acceptance; repeats of the latest get the one reply kept, older ones none; each manager reports those replies;
+    /// first acceptance. Then repeats of the latest get the one reply kept, older ones none; each manager reports those replies;
     /// strangers and refused SETs change no data set (`Headline`).
     ///
     /// Late or not, each clock has what it had before, after the requests of its turns that were `AnsweredNew`, each in its turn,
@@ -286,7 +286,7 @@ impl World {
         Ok(Took::AtClock(verdict))
     }
 
-    /// Whether a stranger's datagram has the identity of a clock or of a session where a message has its source.
+    /// Whether a stranger's datagram has the identity of a clock or of a session at the place where a message has its source.
     fn is_forged(&self, datagram: &[u8]) -> bool
         ensures { (N : Network) → IsOf N self.now → result ≡ is_forged N datagram.now }
     {
@@ -329,7 +329,7 @@ impl RunningClock {
 }
 
 impl RunningSession {
-    /// A datagram comes in at the session, which keeps the report where it is the answer. Where memory is refused, the
+    /// A datagram comes in at the session, which keeps the report if it is the answer. If memory is refused, the
     /// session stays as it was.
     fn hear(&mut self, datagram: &[u8]) -> Result<Took, StepError>
         ensures answers { IfOk result (λ t. t ≡ heard (received_of self.old.session datagram.now)) }

@@ -8,7 +8,7 @@ use thiserror::Error;
 /// What an event did.
 #[derive(Clone, Copy, Debug, PartialEq, Eq)]
 pub enum Took {
-    /// A session did what it was told.
+    /// A session did what it was asked.
     Fine,
     /// A datagram came in at a clock, which decided this.
     AtClock(Verdict),
@@ -42,7 +42,7 @@ pub enum StepError {
     NoSuchName,
     /// No frame has the number.
     NoSuchFrame,
-    /// A stranger's datagram has the identity of a clock or of a session where a message has its source.
+    /// A stranger's datagram has the identity of a clock or of a session at the place where a message has its source.
     Forged,
     /// More than 399,775 frames are held.
     FramesAtMaximum,

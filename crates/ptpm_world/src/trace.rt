@@ -1,4 +1,4 @@
-//! The trace of a script: what each event did, and how the network stands at the end.
+//! The trace of a script: what each event did, and the state of the network at the end.
 
 ghost use Rattle.std.specs.Prelude.{◌≡◌, ◌≢◌, IfErr, IfSome, OnOk, decimal, flat_map, true};
 ghost use Rattle.std.specs.Fmt.{WritesOnOk};
@@ -83,7 +83,7 @@ fn write_line<W: Write>(
     Ok(())
 }
 
-/// What a value displays: in one piece where it is short, since each piece costs a writer as much again.
+/// What a value displays: in one piece if it is short, since each piece costs a writer as much again.
 #[inline(always)]
 fn write_shown<W: Write, D: fmt::Display>(value: &D, out: &mut W) -> io::Result<()>
     ensures { OnOk result (IfSome (D.output value.now)
@@ -103,7 +103,7 @@ fn is_out_of_memory(took: &Result<Took, StepError>) -> bool
     matches!(took, Err(StepError::OutOfMemory))
 }
 
-/// What an event's line tells.
+/// What an event's line says.
 #[derive(Clone, Copy)]
 struct EventText<'a> {
     number: u32,
@@ -129,7 +129,7 @@ impl fmt::Display for EventText<'_> {
     }
 }
 
-/// A number in decimal. It is inlined, so that where the text goes is known to whoever puts its pieces together.
+/// A number in decimal. It is inlined, so that whoever puts the pieces together knows where the text goes.
 #[inline(always)]
 fn show_number<W: fmt::Write>(number: u64, f: &mut fmt::Formatter<W>) -> fmt::Result
     ensures { WritesOnOk W.write_str_gives f.old result (decimal number) f.new }
@@ -164,7 +164,7 @@ fn show_answer<W: fmt::Write>(answer: Answer, f: &mut fmt::Formatter<W>) -> fmt:
     }
 }
 
-/// The frames that were made between two counts: nothing where none were.
+/// The frames that were made between two counts: nothing if none were.
 #[derive(Clone, Copy)]
 struct MadeFrames {
     before: u32,
@@ -280,7 +280,7 @@ fn write_port<W: Write>(name: &str, sets: &DataSets, port: u16, out: &mut W) -> 
     writeln!(out, "data {name}.{port} 2004 {value}")
 }
 
-/// What a report's line tells.
+/// What a report's line says.
 #[derive(Clone, Copy)]
 struct ReportText<'a> {
     session: &'a str,
@@ -303,7 +303,7 @@ impl fmt::Display for ReportText<'_> {
     }
 }
 
-/// What a report tells.
+/// What a report says.
 #[derive(Clone, Copy)]
 struct OutcomeText<'a>(&'a Outcome);
 
@@ -321,7 +321,7 @@ impl fmt::Display for OutcomeText<'_> {
     }
 }
 
-/// A managementErrorId by the standard's name, or by four hexadecimal digits where it has none (15.5.4.3).
+/// A managementErrorId by the standard's name, or by four hexadecimal digits if it has none (15.5.4.3).
 #[derive(Clone, Copy)]
 struct ErrorText(u16);
 

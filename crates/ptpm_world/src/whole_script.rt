@@ -4,7 +4,7 @@ ghost use Rattle.std.specs.Prelude.{◌≡◌, ◌≢◌, ◌+◌, ◌++◌, ◌
 ghost use Rattle.ptpm_script.specs.NetworkText.{network_of};
 ghost use Rattle.ptpm_script.specs.NetworkView.{network_value};
 ghost use Rattle.ptpm_world.specs.declared.script_error.ScriptError.TheVariants as faults;
-ghost use Rattle.ptpm_world.specs.Lines.{left_in};
+ghost use Rattle.ptpm_world.specs.Lines.{left_in, line_count};
 ghost use Rattle.ptpm_world.specs.ScriptError.{is_outside};
 ghost use Rattle.ptpm_world.specs.WholeScript.{AreEvents, EndsWith, IsRead};
 
@@ -29,7 +29,7 @@ pub struct Script {
 /// An event of a script.
 #[derive(Drop)]
 pub struct EventLine {
-    /// The number of its line, counted from 1 behind the divider.
+    /// The number of its line, counted from 1 after the divider.
     pub number: u32,
     pub event: Event,
 }
@@ -61,12 +61,12 @@ fn read_events<R: Read + Drop>(
     ensures events { IfOk result
         (λ events.
         IfSome (left_in R.remaining script.old)
-        (λ octets. AreEvents (script.old.count + 1) octets events.items)) }
+        (λ octets. AreEvents (line_count script.old + 1) octets events.items)) }
     ensures fault { IfErr result
         (λ e.
         is_outside e ≡ false
         → IfSome (left_in R.remaining script.old)
-        (λ octets. EndsWith (script.old.count + 1) octets e)) }
+        (λ octets. EndsWith (line_count script.old + 1) octets e)) }
     ensures unwritten { IfErr result (λ e. e ≢ faults.WriteFault) }
 {
     let mut events = Vec::new(alloc);
@@ -83,7 +83,7 @@ fn read_events<R: Read + Drop>(
     Ok(events)
 }
 
-/// Puts an event behind the others.
+/// Puts an event after the others.
 fn keep_event(events: &mut Vec<EventLine>, event: EventLine) -> Result<(), OutOfMemory>
     ensures { OnOk result (events.new.items ≡ events.old.items ++ event ∷ []) }
 {

@@ -60,7 +60,7 @@ impl World {
     ghost use Rattle.ptpm_world.specs.Running.{IsOf, IsOfSession, is_late_held, is_late_of, reports_named, running, sets_named};
     ghost use Rattle.ptpm_world.specs.Trace.{is_late_event};
 
-    /// A clock's data sets as they stand, if there is a clock of this name. Where no frame was delivered late, they are those that
+    /// A clock's data sets as they are, if there is a clock of this name. If no frame was delivered late, they are those that
     /// it started with after the requests accepted among the copies that came in at it, each applied once, in order of first
     /// acceptance.
     pub fn sets(&self, clock: &str) -> Option<&DataSets>
@@ -81,9 +81,9 @@ impl World {
         }
     }
 
-    /// The reports of a session's answers, in order, if there is a session of this name. Where no frame was delivered late,
+    /// The reports of a session's answers, in order, if there is a session of this name. If no frame was delivered late,
     /// they are of its requests 1, 2, 3, .., and each is worth this: its request was carried out exactly once at the session's
-    /// target, and the report tells the one answer that the clock made then (`IsWorth`).
+    /// target, and the report gives the one answer that the clock made then (`IsWorth`).
     pub fn reports(&self, session: &str) -> Option<&[Report]>
         ensures reports { option_map (λ r. r.now) result ≡ reports_named self.now session.now }
         ensures known { IsSome result ↔ Contains (names_in self.now).sessions session.now }

@@ -67,7 +67,7 @@ impl<T: SureTable + Drop> Hears for Sure<T> {
     }
 }
 
-/// An agent that is called by `try_handle`, and once more where memory was refused.
+/// An agent that is called by `try_handle`, and once more if memory was refused.
 #[derive(Drop)]
 pub struct Tried<T: ReplyTable + Drop>(pub Agent<T>);
 
@@ -122,7 +122,7 @@ pub fn agent<T: ReplyTable + Drop>(
     Ok(Agent::new(sets, table))
 }
 
-/// K with these ports, where both managers have all rights.
+/// K with these ports, with all rights for both managers.
 pub fn start_of(ports: &[PortStart]) -> Start<'_> {
     Start {
         identity: K,
@@ -162,7 +162,7 @@ pub fn shown(sets: &DataSets) -> ArrayVec<u8, 512> {
     octets
 }
 
-/// What stands in an outbox, port by port.
+/// The messages in an outbox, port by port.
 fn sent(out: &Outbox) -> ArrayVec<u8, 4096> {
     let mut octets = ArrayVec::new();
     for (port, message) in out.entries() {

@@ -1,5 +1,5 @@
 //! Damaged datagrams: every message of the worked exchanges cut short, and with each octet replaced by every other, at one
-//! clock over either table. What is to become of each is told by `places`.
+//! clock over either table. `places` says what is to become of each.
 
 use super::clocks::{K, MANAGERS, agent, shown, start_of};
 use super::exchange::{Octets, put_word};
@@ -127,7 +127,7 @@ struct Trial<'a> {
     accepted: &'a [u8],
     clocks: Clocks,
     sent: Sent,
-    /// How the clocks stand, and stay.
+    /// How the clocks are, and stay.
     members: ArrayVec<u8, 512>,
     state: State,
     /// How many datagrams came in.
@@ -169,7 +169,7 @@ impl Trial<'_> {
         Ok(())
     }
 
-    /// The verdict on it is the one that its places tell, and what is due goes out.
+    /// The verdict on it is the one that its places give, and what is due goes out.
     fn hear(&mut self, rt: &impl Abort, datagram: &[u8]) -> Result<Verdict, Fail> {
         self.count = self.count.wrapping_add(1);
         assert!(rt; is_read_alike(self.alloc, datagram), "{}", self.count);
@@ -213,7 +213,7 @@ impl Trial<'_> {
     }
 }
 
-/// Each message of an exchange comes in damaged, where a request was accepted before: how many datagrams these are.
+/// Each message of an exchange comes in damaged, after a request was accepted: how many datagrams these are.
 fn damage(rt: &impl Abort, alloc: Global, accepted: &[u8], text: &str) -> Result<u32, Fail> {
     let mut sent = Sent {
         bound: Outbox::new(),

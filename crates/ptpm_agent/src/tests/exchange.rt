@@ -27,7 +27,7 @@ pub const B: ClockIdentity = ClockIdentity([0x0b; 8]);
 
 pub const C: ClockIdentity = ClockIdentity([0x0c; 8]);
 
-/// The exchange at K with two ports, where both managers have all rights.
+/// The exchange at K with two ports, with all rights for both managers.
 pub fn at_k(rt: &impl Abort, alloc: Global, text: &str) -> Result<(), Fail> {
     at_clocks(rt, alloc, &start_of(&[PortStart::new(); 2]), text)
 }
@@ -51,7 +51,7 @@ pub fn at_clocks(
     Ok(())
 }
 
-/// Takes the words one after another. What the clock sends is told in full.
+/// Takes the words one after another. What the clock sends is printed in full.
 pub fn exchange<H: Hears>(rt: &impl Abort, clock: &mut H, text: &str) {
     let mut out = Outbox::new();
     let mut told = 0;

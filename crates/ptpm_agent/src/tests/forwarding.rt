@@ -38,7 +38,7 @@ fn to_every_clock(rt: HostRuntime) -> Result<(), Fail> {
     at_k(&rt, rt.alloc(), TO_EVERY_CLOCK)
 }
 
-/// flagField, correctionField and 255 hops; the three octets behind the message are not passed on.
+/// flagField, correctionField and 255 hops; the three octets after the message are not passed on.
 pub const FORWARDING_KEEPS_OCTETS: &str = "
     0d1200360000 0400 0000000000010000 00000000 M 0001 0007 047f 8*02 ffff 01ff 0000 000100022005
         3*ee in:1:NotAddressed

@@ -16,7 +16,7 @@ fn get_priority1(rt: HostRuntime) -> Result<(), Fail> {
     at_k(&rt, rt.alloc(), GET_PRIORITY1)
 }
 
-/// Another minor version, a GET with a dataField, and two octets behind the message.
+/// Another minor version, a GET with a dataField, and two octets after the message.
 pub const GET_WITH_DATA_AND_TRAILING_OCTETS: &str = "
     0d0200380000 Z M 0001 0008 047f K ffff 0101 0000 0001000420050000 0000 in:1:AnsweredNew
     0d1200380000 Z K 0001 0008 047f M 0001 0000 0200 0001000420058000 out:1";
@@ -167,8 +167,8 @@ fn requests<H: Hears>(rt: &impl Abort, clock: &mut H, first: u16, last: u16) {
     }
 }
 
-/// After 32,768 later requests a copy of the first is old. After one more it lies outside the window, where sequenceIds can
-/// no longer tell it from a new request.
+/// After 32,768 later requests a copy of the first is old. After one more it lies outside the window: there, sequenceIds can
+/// no longer distinguish it from a new request.
 fn half_the_number_space_at<H: Hears>(rt: &impl Abort, clock: &mut H) {
     let mut out = Outbox::new();
     requests(rt, clock, 1, 32769);

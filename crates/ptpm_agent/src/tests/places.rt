@@ -1,4 +1,4 @@
-//! What becomes of a datagram that comes in at port 1 of the clock K, told by what stands at each of its places
+//! What becomes of a datagram that comes in at port 1 of the clock K, judged by the octets at each of its places
 //! (IEEE 1588-2019, 13.3, 15.3 and 15.4; the order of the verdicts, and numbers, are this project's profile).
 
 use super::clocks::{K, M, M2};
@@ -6,7 +6,7 @@ use crate::Verdict;
 use ptpm_codec::{ClockIdentity, DecodeError};
 use ptpm_table::Outbox;
 
-/// The octet at a place, and 0 behind the last.
+/// The octet at a place, and 0 past the last.
 pub fn octet_at(octets: &[u8], place: usize) -> u8 {
     octets.get(place).copied().unwrap_or(0)
 }
@@ -19,7 +19,7 @@ pub fn word_at(octets: &[u8], place: usize) -> u16 {
     ])
 }
 
-/// The octets from one place to before another; none where there are fewer.
+/// The octets from one place to before another; none if there are fewer.
 fn part(octets: &[u8], from: usize, to: usize) -> &[u8] {
     octets.get(from..to).unwrap_or(&[])
 }
@@ -93,7 +93,7 @@ fn asks_the_same(octets: &[u8], other: &[u8]) -> bool {
         && part(octets, 52, length_of(octets)) == part(other, 52, length_of(other))
 }
 
-/// The verdict on it, where this request was accepted of each manager before, and none since.
+/// The verdict on it, if this request was accepted of each manager before, and none since.
 pub fn verdict(accepted: &[u8], octets: &[u8]) -> Verdict {
     if let Some(cause) = refusal(octets) {
         return Verdict::Malformed(cause);
@@ -153,7 +153,7 @@ pub fn is_due(octets: &[u8], verdict: Verdict, out: &Outbox) -> bool {
         && replies.iter().all(|reply| reply.0 == 1 && is_reply_to(octets, reply.1.as_slice()))
 }
 
-/// Whether these octets are the message with one hop less, and nothing behind it.
+/// Whether these octets are the message with one hop less, and nothing after it.
 fn is_copy(octets: &[u8], copy: &[u8]) -> bool {
     let length = length_of(octets);
     copy.len() == length

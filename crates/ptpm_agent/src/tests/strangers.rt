@@ -5,7 +5,7 @@ use super::exchange::{at_clocks, at_k};
 use ptpm_data::PortStart;
 use std::test::Fail;
 
-/// Shows that any other request is answered from the data sets as they stand, and that a stranger changes none: its SET is
+/// Shows that any other request is answered from the data sets as they are, and that a stranger changes none: its SET is
 /// NOT_SUPPORTED, and priority1 stays.
 pub const STRANGERS: &str = "
     0d1200360000 Z S 0001 0001 047f K ffff 0101 0000 000100022005 in:1:AnsweredUnnumbered

@@ -1,4 +1,4 @@
-//! `ptpm draw`: the picture of an example, as it stands in the folder `examples`.
+//! `ptpm draw`: the picture of an example, as it is in the folder `examples`.
 
 use super::examples::TWO_COPIES;
 use super::fails;
@@ -7,13 +7,13 @@ use crate::command::command;
 /// `two_copies.svg`.
 ///
 /// The program drew this picture. It is kept so that a change of it is seen, and does not say what is right.
-/// Where its lines stand follows from the constants of `ptpm_draw` and the lengths of the texts, at 8 units a character:
+/// The places of its lines follow from the constants of `ptpm_draw` and the lengths of the texts, at 8 units a character:
 ///
 /// - The longest number with its verb has 11 characters, and the box of a name is 7 * 8 + 24 = 80 wide. So the first lifeline is at
 ///   11 * 8 + 32 + 40 + 16 = 176.
-/// - The longest text behind a stub has 25 characters. So the next lifeline is 25 * 8 + 64 = 264 further, at 440.
+/// - The longest text after a stub has 25 characters. So the next lifeline is 25 * 8 + 64 = 264 further, at 440.
 /// - What became of events begins at 440 + 40 + 16 = 496. It has 25 characters at most, so the width is 496 + 25 * 8 + 16 = 712.
-/// - Five rows of 44, two members of 16 and a stub of 22 stand below a head of 72 and above a margin of 16: the height is 362.
+/// - Five rows of 44, two members of 16 and a stub of 22 are below a head of 72 and above a margin of 16: the height is 362.
 const TWO_COPIES_PICTURE: &str = r##"<?xml version="1.0" encoding="UTF-8"?>
 <svg xmlns="http://www.w3.org/2000/svg" version="1.1" width="712" height="362" viewBox="0 0 712 362"
 font-family="DejaVu Sans Mono, Menlo, Consolas, monospace" font-size="13" fill="#24292f">

@@ -1,4 +1,4 @@
-//! The scripts of the folder `examples` and their traces, as they stand there: `tools/examples` compares them.
+//! The scripts of the folder `examples` and their traces, as they are there: `tools/examples` compares them.
 
 use super::running::runs;
 

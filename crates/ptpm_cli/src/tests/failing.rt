@@ -8,7 +8,7 @@ use std::io::{BufWriter, Read, Write};
 use std::process::Abort;
 use std::test::Fail;
 
-/// Gives octets one by one, and fails after so many of them.
+/// Gives octets one by one, and fails after this many of them.
 #[derive(Drop)]
 pub struct FailingReader<'a> {
     pub octets: &'a [u8],
@@ -32,7 +32,7 @@ impl Read for FailingReader<'_> {
     }
 }
 
-/// Takes so many octets and keeps them, and then fails.
+/// Takes this many octets and keeps them, and then fails.
 #[derive(Drop)]
 struct FailingWriter {
     taken: Vec<u8>,
@@ -66,8 +66,8 @@ fn line_feeds(octets: &[u8]) -> usize {
 /// The lines before the first event.
 const LINES_BEFORE: usize = 16;
 
-/// After each event's line feed its line of the trace is there, and nothing else. The reports and data sets are never told,
-/// also where reading fails in place of the end.
+/// After each event's line feed its line of the trace is there, and nothing else. The reports and data sets are never printed,
+/// also if reading fails in place of the end.
 #[test]
 fn failing_reader(rt: HostRuntime) -> Result<(), Fail> {
     let alloc = rt.alloc();

@@ -10,7 +10,7 @@ use std::io::Read;
 use std::process::Abort;
 use std::test::Fail;
 
-/// The subcommand reads this, ends with status 1 where it tells a fault, and writes this on its two outputs.
+/// The subcommand reads this, ends with status 1 if it reports a fault, and writes this on its two outputs.
 fn reads<R: Read + Drop>(
     rt: &impl Abort,
     alloc: Global,
@@ -90,7 +90,7 @@ fn printed_lines_are_read(rt: HostRuntime) -> Result<(), Fail> {
     Ok(())
 }
 
-/// A bad line ends the run with its number and what is wrong with it; what was printed before stands.
+/// A bad line ends the run with its number and what is wrong with it; what was printed before stays.
 #[test]
 fn bad_lines(rt: HostRuntime) -> Result<(), Fail> {
     let alloc = rt.alloc();
@@ -118,7 +118,7 @@ fn bad_lines(rt: HostRuntime) -> Result<(), Fail> {
     Ok(())
 }
 
-/// A line of 4,096 octets is read, its carriage return among them, and none that is longer, also where it never ends.
+/// A line of 4,096 octets is read, its carriage return among them, and none that is longer, also if it never ends.
 #[test]
 fn long_lines(rt: HostRuntime) -> Result<(), Fail> {
     let alloc = rt.alloc();
@@ -134,7 +134,7 @@ fn long_lines(rt: HostRuntime) -> Result<(), Fail> {
     Ok(())
 }
 
-/// Wherever reading fails, the replies to the lines before stand.
+/// Wherever reading fails, the replies to the lines before stay.
 #[test]
 fn failing_lines(rt: HostRuntime) -> Result<(), Fail> {
     let alloc = rt.alloc();
@@ -165,7 +165,7 @@ const SKIPPED: &str = "ptpm: BadLine 2 NotManagement\n\
     ptpm: LineTooLong 5\n\
     ptpm: BadLine 8 TooShort\n";
 
-/// With `--skip` each line without a management message is told, one that is too long too, and the others are shown. A read
+/// With `--skip` each line without a management message is reported, one that is too long too, and the others are shown. A read
 /// that fails ends it as ever.
 #[test]
 fn skipped_lines(rt: HostRuntime) -> Result<(), Fail> {

@@ -23,7 +23,7 @@ fn words<'a>(
     ]
 }
 
-/// Of the request's words, the first that is at fault is told.
+/// Of the request's words, the first that is at fault is reported.
 fn is_fault(rt: &impl Abort, alloc: Global, words: [&str; 13], fault: &[u8]) {
     fails(rt, alloc, &words, 1, fault);
 }

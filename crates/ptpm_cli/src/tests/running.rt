@@ -50,7 +50,7 @@ fn ends(rt: &impl Abort, alloc: Global, input: &[u8], wanted: u8, printed: &str,
     assert!(rt; status == wanted);
 }
 
-/// The program runs these events in the network, and prints what they do and then how things stand.
+/// The program runs these events in the network, and prints what they do and then the final state.
 fn plays(
     rt: &impl Abort,
     alloc: Global,
@@ -143,7 +143,7 @@ fn empty_network(rt: HostRuntime) {
     runs(&rt, rt.alloc(), "version = 2\n%%\n", 0, "", "");
 }
 
-/// What stands before a fault was carried out, and is printed.
+/// What comes before a fault was carried out, and is printed.
 #[test]
 fn scripts_that_end_early(rt: HostRuntime) {
     let alloc = rt.alloc();

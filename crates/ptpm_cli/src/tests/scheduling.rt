@@ -7,7 +7,7 @@ use std::alloc::Global;
 use std::process::Abort;
 use std::test::Fail;
 
-/// With these words the program schedules these events of one clock's manager, writes this script, and tells this.
+/// With these words the program schedules these events of one clock's manager, writes this script, and reports this.
 fn schedules(
     rt: &impl Abort,
     alloc: Global,
@@ -83,8 +83,8 @@ fn help(rt: HostRuntime) {
         b"Makes the requests on standard input into a script for `run`, on a network that loses and repeats messages\n\n\
         Usage: ptpm schedule [OPTIONS]\n\n\
         Options:\n      \
-        --loss <N>    Of a hundred frames so many are lost, 0 to 100 [default: 0]\n      \
-        --repeat <N>  Of a hundred frames that arrive so many arrive twice, 0 to 100 [default: 0]\n      \
+        --loss <N>    Of a hundred frames N are lost, 0 to 100 [default: 0]\n      \
+        --repeat <N>  Of a hundred frames that arrive N arrive twice, 0 to 100 [default: 0]\n      \
         --seed <N>    The same seed draws the same [default: 0]\n  \
         -h, --help        Print help\n",
     );

@@ -78,7 +78,7 @@ fn image_of_a_text_and_eight_ports(rt: HostRuntime) {
     }
 }
 
-/// Whether the image of a fresh K is none where it has this octet at this place.
+/// Whether the image of a fresh K is none if it has this octet at this place.
 fn is_refused(rt: &impl Abort, place: usize, octet: u8) -> bool {
     let mut image = octets(rt, FRESH);
     match image.as_mut_slice().get_mut(place) {

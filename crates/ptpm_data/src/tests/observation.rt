@@ -1,4 +1,4 @@
-//! Observations at a clock of two ports, of which the second is disabled: what a host tells, and what stands after it.
+//! Observations at a clock of two ports. The second port is disabled. What a host observes, and the data sets after it.
 
 use crate::data_sets::{ClockPrecedence, DataSets};
 use crate::members::Member;
@@ -172,7 +172,7 @@ fn refuses(
     assert!(rt; sets.ports.as_slice() == before.ports.as_slice());
 }
 
-/// A port that the clock lacks is told before all else.
+/// A port that the clock lacks is reported before all else.
 #[test]
 fn refused_ports(rt: HostRuntime) {
     let disabled = state(PortState::Disabled);
@@ -188,7 +188,7 @@ fn refused_ports(rt: HostRuntime) {
     );
 }
 
-/// Of several bad values the first member is told, and a grandmaster that differs behind them.
+/// Of several bad values the first member is reported, and a grandmaster that differs after them.
 #[test]
 fn refused_values(rt: HostRuntime) {
     for (clock, member, text) in [
@@ -212,7 +212,7 @@ fn refused_values(rt: HostRuntime) {
     }
 }
 
-/// A port that is disabled may be told to be so.
+/// A port that is disabled may be observed to be so.
 #[test]
 fn refused_grandmaster(rt: HostRuntime) {
     let ports = [PortObservation::default(), state(PortState::Disabled)];

@@ -390,7 +390,7 @@ fn malformed_and_user_description(rt: HostRuntime) {
     );
 }
 
-/// The hexadecimal digits of a text of so many letters, with its length octet, and a pad octet where these are odd in number.
+/// The hexadecimal digits of a text of N letters, with its length octet, and a pad octet if the number of both is odd.
 fn text_of(letters: u8) -> ArrayString<320> {
     let mut text = ArrayString::new();
     put_hex(&mut text, letters);

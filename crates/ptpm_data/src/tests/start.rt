@@ -15,7 +15,7 @@ fn port() -> PortStart {
     PortStart::new()
 }
 
-/// A clock whose text is an octet so many times.
+/// A clock whose text is one octet, N times.
 fn clock_with_text(octet: u8, count: usize) -> ClockStart {
     let mut text = ArrayVec::new();
     for _ in 0..count {
@@ -136,7 +136,7 @@ fn one_leap_flag(rt: HostRuntime) {
     }
 }
 
-/// A port of the defaults but for this member, which is an unsigned octet.
+/// A port of the defaults except this member, which is an unsigned octet.
 fn port_with_number(member: Member, value: u8) -> PortStart {
     let mut start = port();
     match member {
@@ -148,7 +148,7 @@ fn port_with_number(member: Member, value: u8) -> PortStart {
     start
 }
 
-/// A port of the defaults but for this interval.
+/// A port of the defaults except this interval.
 fn port_with_interval(member: Member, value: i8) -> PortStart {
     let mut start = port();
     match member {

@@ -20,7 +20,7 @@ const CURRENT: &[u8; 72] = b"\x0d\x12\x00\x48\x00\x00\
     \x00\x01\x00\x14\x20\x01\x00\x01\xff\xff\xff\xff\xff\xfe\x80\x00\
     \x00\x00\x00\x00\x00\xfa\x00\x00";
 
-/// What that reply tells.
+/// What that reply says.
 fn current() -> ObservedClock {
     ObservedClock {
         steps_removed: 1,
@@ -42,7 +42,7 @@ fn in_state(state: u8) -> ObservedPort {
     }
 }
 
-/// The number of the refusal of an observation; 0 where it is taken.
+/// The number of the refusal of an observation; 0 if it is taken.
 fn observes(clock: &mut HostedClock, observed: &ObservedClock, ports: &[ObservedPort]) -> u32 {
     match clock.observe(observed, ports) {
         Ok(_) => 0,
@@ -133,7 +133,7 @@ fn reserved_accuracy() -> ObservedClock {
     }
 }
 
-/// Each refusal in the order in which they are judged, with all that come behind it. None of them changes anything.
+/// Each refusal in the order in which they are judged, with all that come after it. None of them changes anything.
 #[test]
 fn refused_observations(rt: HostRuntime) {
     let mut room = [Sent::empty(); MOST_SENT];

@@ -1,4 +1,4 @@
-//! What stands in the places of a host: a message that is passed on, the longest too, a reply that is sent again, and a reply to
+//! The content of a host's places: a message that is passed on, the longest too, a reply that is sent again, and a reply to
 //! a change.
 
 use super::{MANAGER, REPLY, REQUEST, SET_PRIORITY1};
@@ -27,7 +27,7 @@ const LONGEST_HEAD: &[u8; 54] = b"\x0d\x12\x05\xc0\x00\x00\
     \xaa\xbb\xcc\xff\xfe\xdd\xee\x02\xff\xff\x02\x01\x01\x00\
     \x00\x01\x05\x8c\x00\x02";
 
-/// `REQUEST` once more, in domain 9, where it has lost 2 of its 5 hops.
+/// `REQUEST` once more, in domain 9, after it has lost 2 of its 5 hops.
 const REQUEST_AGAIN: &[u8; 54] = b"\x0d\x12\x00\x36\x09\x00\
     \x00\x00\x00\x00\x00\x00\x00\x00\x00\x00\x00\x00\x00\x00\
     \x00\x11\x22\x33\x44\x55\x66\x77\x00\x01\x00\x07\x04\x7f\
@@ -78,7 +78,7 @@ fn changes(
     sends_one(clock, 1, datagram, room, verdict) && clock.sets().changed_since(&before) == wanted
 }
 
-/// This message stands in a place, for this port.
+/// This message is in a place, for this port.
 fn holds(place: &Sent, port: u16, message: &[u8]) -> bool {
     let size = place.size as usize;
     place.port == port && size <= 1472 && &place.octets[..size] == message
@@ -98,7 +98,7 @@ fn a_message_passed_on(rt: HostRuntime) {
     }
 }
 
-/// It fills its place, and its size counts no octet behind the place.
+/// It fills its place, and its size counts no octet past the place.
 #[test]
 fn the_longest_message_passed_on(rt: HostRuntime) {
     let mut datagram = [0x5a; 1472];

@@ -1,4 +1,4 @@
-//! The calls that ask for memory. With ample memory they answer; where it is refused nothing changes, and the same call
+//! The calls that ask for memory. With ample memory they answer; if it is refused nothing changes, and the same call
 //! then answers as it would have.
 
 use super::{
@@ -77,7 +77,7 @@ fn restored_succeeds_with_ample_memory(rt: HostRuntime) {
     assert!(rt; sends_set(restored(rt.alloc())));
 }
 
-/// A want of memory is told last, and the same octets restore the session once there is some.
+/// A want of memory is reported last, and the same octets restore the session once there is some.
 #[test]
 fn restored_after_refused_memory(rt: HostRuntime) {
     let session = match restored(rt.alloc()) {
@@ -92,7 +92,7 @@ fn is_idle(session: &mut Session) -> bool {
     session.issued() == 0 && session.send(&mut Buffer::new()) == Err(SendError::Idle)
 }
 
-/// Whether the session begins the ask, or, where memory is refused once, is idle after it and then begins it.
+/// Whether the session begins the ask, or, if memory is refused once, is idle after it and then begins it.
 fn begins_after_refusal(session: &mut Session, ask: &Ask) -> bool {
     match session.begin(ask) {
         Err(BeginError::OutOfMemory) => is_idle(session) && session.begin(ask) == Ok(()),
@@ -111,7 +111,7 @@ fn begin_after_refused_memory(rt: HostRuntime) -> Result<(), OutOfMemory> {
     Ok(())
 }
 
-/// What the session receives; where memory is refused once it is busy with that ask, sends it, and receives again.
+/// What the session receives; if memory is refused once it is busy with that ask, sends it, and receives again.
 fn received_after_refusal(
     rt: &impl Abort,
     session: &mut Session,
@@ -153,7 +153,7 @@ fn holds_ports(rt: &impl Abort, survey: &Survey, ports: u8) {
     }
 }
 
-/// Whether the survey, which holds the answers of so many ports, makes this of a datagram; asked again where memory is
+/// Whether the survey, which holds the answers of this many ports, makes this of a datagram; asked again if memory is
 /// refused once, after which it has to be as it was.
 fn is_surveyed_again(
     rt: &impl Abort,

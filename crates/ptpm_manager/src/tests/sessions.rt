@@ -73,7 +73,7 @@ fn ignored_for_the_first_reason(rt: HostRuntime) {
     assert!(rt; is_answered(&mut session, reply.as_slice(), 2, &[0x80, 0]));
 }
 
-/// Whether a report is of the request with this index, and tells a refusal with this error.
+/// Whether a report is of the request with this index, and is a refusal with this error.
 fn tells_refusal(report: &Report, index: u64, error: u16) -> bool {
     report.index == index && matches!(report.outcome, Outcome::Refused(found) if found == error)
 }
@@ -93,7 +93,7 @@ fn refusal_at_a_session(rt: HostRuntime) {
     assert!(rt; is_refused(&mut session, REFUSAL, 2, 4));
 }
 
-/// Whether a report is of the request with this index, and tells that it is done.
+/// Whether a report is of the request with this index, and says that it is done.
 fn tells_done(report: &Report, index: u64) -> bool {
     report.index == index && matches!(report.outcome, Outcome::Done)
 }
@@ -203,7 +203,7 @@ fn session_calls(rt: HostRuntime) {
     assert!(rt; sends(&mut session, [0, 0]));
 }
 
-/// The clock's reply with the sequenceId of the request with this index, where the first one is 1.
+/// The clock's reply with the sequenceId of the request with this index, if the first one is 1.
 fn reply_to(index: u64) -> [u8; 56] {
     let mut reply = *REPLY;
     reply[30] = (index / 256 % 256) as u8;

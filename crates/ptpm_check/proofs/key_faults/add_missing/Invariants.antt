@@ -4,7 +4,7 @@ use Rattle.ptpm_script.specs.Document.{key_rule}
 use Rattle.ptpm_check.specs.KeyFaults.{keys_in, missing_keys}
 use Rattle.ptpm_check.proofs.key_faults.add_missing.Given as goal
 
--- the keys that were told, and those that the rules ahead will tell, are all of them
+-- the keys that were reported, and those that the rules ahead will report, are all of them
 abbrev pub invariant-loop-rule : goal.invariant-loop-rule
 invariant-loop-rule l =
     keys_in l.faults.items ++ missing_keys (map key_rule (drop l.rule-index l.rules)) (table_view l.table)

@@ -4,7 +4,7 @@ use Rattle.ptpm_script.specs.Document.{key_rule}
 use Rattle.ptpm_check.specs.KeyFaults.{keys_in, wrong_keys}
 use Rattle.ptpm_check.proofs.key_faults.add_wrong.Given as goal
 
--- the keys that were told, and those that the entries ahead will tell, are all of them
+-- the keys that were reported, and those that the entries ahead will report, are all of them
 abbrev pub invariant-loop-key : goal.invariant-loop-key
 invariant-loop-key l =
     (goal.iterator-loop-key).can_next l.key-iterator ×

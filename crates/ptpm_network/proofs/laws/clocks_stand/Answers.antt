@@ -9,7 +9,7 @@ use Rattle.ptpm_network.proofs.InTime.{in_window}
 pub returns-clause-first : goal.returns-clause-first
 returns-clause-first c = stands-initial_state
 
--- a running network that stands where a schedule leads stands there after a turn, too
+-- a running network that is where a schedule leads is there after a turn, too
 pub returns-clause-turned : goal.returns-clause-turned
 returns-clause-turned c = λ N es first r k c port f n i firsts at e end late.
     let w : NetworkState = run N (initial_state N) es in

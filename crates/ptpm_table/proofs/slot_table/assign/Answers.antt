@@ -1,7 +1,15 @@
-use Rattle.std.proofs.Common.{arith}
+use Rattle.std.proofs.Common.{arith, refl, subst, sym}
 use Rattle.std.proofs.lemmas.Grind.{common_steps}
+use Rattle.ptpm_table.specs.Slots.{AreKeepable}
+use Rattle.ptpm_table.proofs.LendingLaws.{keepable_more}
 use Rattle.ptpm_table.proofs.Slots.{configured_more, own_more, used_more}
 use Rattle.ptpm_table.proofs.slot_table.assign.Goals as goal
 
 pub loop-manager-preserved : goal.loop-manager-preserved
-loop-manager-preserved g c = grind (arith, configured_more, own_more, used_more, common_steps)
+loop-manager-preserved g c = record {
+  configured = grind (arith, configured_more, common_steps);
+  own = grind (arith, own_more);
+  keepable = subst AreKeepable (sym c.push.ensures.items) (keepable_more c.loop-manager.slots.items _ c.loop-manager.invariant.keepable refl);
+  used = grind (arith, used_more);
+  count = grind (arith, common_steps);
+}

@@ -5,6 +5,8 @@ use Rattle.ptpm_codec.specs.Identity.{identity_cmp, same_identity}
 use Rattle.ptpm_table.specs.KeptMessages.{KeptValue}
 use Rattle.ptpm_table.specs.Slots.{used}
 use Rattle.ptpm_table.specs.declared.slot.Slot.{Slot}
+use Rattle.ptpm_table.specs.Entries.{Entry}
+use Rattle.ptpm_table.proofs.LendingLaws.{keepable_set}
 use Rattle.ptpm_table.proofs.Slots.{clocks_set, configured_set, entries_set, has_place}
 use Rattle.ptpm_table.proofs.slot_table.put.Goals as goal
 
@@ -22,6 +24,14 @@ returns-in-Some-clause-configured c = grind (arith, get_or, position-Some, confi
 
 pub returns-in-Some-clause-clocks : goal.returns-in-Some-clause-clocks
 returns-in-Some-clause-clocks c = grind (arith, get_or, position-Some, clocks_set)
+
+pub returns-in-Some-clause-keepable : goal.returns-in-Some-clause-keepable
+returns-in-Some-clause-keepable c =
+    let e : Entry = record { number = c.args.number; request = c.args.request.now; reply = c.args.reply.now } in
+    keepable_set c.args.slots.now c.in-Some.place
+    (record { rights = (get_or c.args.slots.now c.in-Some.place c.index-slots-place.result).rights; taken = true; kept = c.replace.new.self }) e
+    (ap (λ (k : KeptValue). k.entry) c.replace.ensures)
+    (record { action = c.requires.action; octets = c.requires.octets; fits = c.requires.fits })
 
 pub returns-in_default-clause-entries : goal.returns-in_default-clause-entries
 returns-in_default-clause-entries c = absurd (has_place c.args.who.now c.args.slots.now c.requires.known (sym c.in_default.ensures))

@@ -8,6 +8,8 @@ use Rattle.ptpm_table.specs.Sending.{IsSentReply}
 use Rattle.ptpm_table.specs.Slots.{used}
 use Rattle.ptpm_table.specs.declared.slot.Slot.{Slot}
 use Rattle.ptpm_codec.proofs.IdentityLaws.{same_identity-true}
+use Rattle.ptpm_table.specs.Entries.{Entry}
+use Rattle.ptpm_table.proofs.LendingLaws.{keepable_set, sent_fits}
 use Rattle.ptpm_table.proofs.Slots.{clock_at, clocks_set, configured_set, entries_set, has_place}
 use Rattle.ptpm_table.proofs.slot_table.put_sent.Goals as goal
 
@@ -45,6 +47,22 @@ returns-in-Some-clause-clocks g c =
     let kept = c.keep_sent.ensures c.requires.sent.1 (subst (λ (k : ClockIdentity). IsSentReply k c.args.heard.now c.args.request.now.action c.args.request.now.id c.args.of_port (g.O.Outgoing.sent c.args.out.now) c.requires.sent.1)
     (sym (clock_at c.requires.sent.0 c.args.slots.now c.in-Some.place c.index-slots-place.result p.0 c.requires.sent.2)) c.requires.sent.3) in
     clocks_set c.args.slots.now c.in-Some.place c.index-slots-place.result new p.0 (ap (λ (k : KeptValue). k.clock) kept)
+
+pub returns-in-Some-clause-keepable : goal.returns-in-Some-clause-keepable
+returns-in-Some-clause-keepable g c =
+    let r = c.requires.sent.1 in
+    let own = c.requires.sent.3 in
+    let p = position-Some (λ (s : Slot). same_identity c.args.heard.now.source s.kept.manager) c.args.slots.now c.in-Some.place c.index-slots-place.result (sym c.in-Some.ensures) in
+    let new : Slot = record { rights = (get_or c.args.slots.now c.in-Some.place c.index-slots-place.result).rights; taken = true; kept = c.keep_sent.new.self } in
+    let kept = c.keep_sent.ensures r (subst (λ (k : ClockIdentity). IsSentReply k c.args.heard.now c.args.request.now.action c.args.request.now.id c.args.of_port (g.O.Outgoing.sent c.args.out.now) r)
+    (sym (clock_at c.requires.sent.0 c.args.slots.now c.in-Some.place c.index-slots-place.result p.0 c.requires.sent.2)) own) in
+    let e : Entry = record { number = c.args.heard.now.number; request = c.args.request.now; reply = r } in
+    keepable_set c.args.slots.now c.in-Some.place new e (ap (λ (k : KeptValue). k.entry) kept)
+    (record {
+      action = c.requires.action;
+      octets = c.requires.octets;
+      fits = sent_fits c.requires.sent.0 c.args.heard.now c.args.request.now c.args.of_port (g.O.Outgoing.sent c.args.out.now) r own;
+    })
 
 pub returns-in_default-clause-entries : goal.returns-in_default-clause-entries
 returns-in_default-clause-entries g c = absurd (has_place c.args.heard.now.source c.args.slots.now c.requires.known (sym c.in_default.ensures))

@@ -1,6 +1,6 @@
 use Rattle.ptpm_world.proofs.Common.{arith}
-use Rattle.ptpm_world.proofs.StartingLemmas.{sets_start}
+use Rattle.ptpm_data.proofs.StartLemmas.{started_by}
 use Rattle.ptpm_world.proofs.starting.data_sets.Goals as goal
 
 pub returns : goal.returns
-returns c = grind (arith, sets_start)
+returns c = grind (arith, started_by)

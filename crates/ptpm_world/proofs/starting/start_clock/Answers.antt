@@ -1,7 +1,7 @@
 use Rattle.ptpm_world.proofs.Common.{ap, arith, refl, rules, sym, subst, ◌≡◌, ◌≤◌, false, length, ◌∙◌, has_twice, identities, clock_value, network_value, RunningClock, configured, agent_clock}
 use Rattle.ptpm_table.specs.Managers.{Clock}
 use Rattle.ptpm_script.proofs.NetworkFacts.{of_text-accepted}
-use Rattle.ptpm_world.proofs.StartingLemmas.{changed_last, clock_is, few_managers, get_map, is_last, none_twice, pushed_on, read_at, started_clock, starts_at}
+use Rattle.ptpm_world.proofs.StartingLemmas.{changed_last, clock_is, few_managers, is_last, none_twice, pushed_on, read_at, started_clock, starts_at, value_at}
 use Rattle.ptpm_world.proofs.starting.start_clock.Goals as goal
 
 pub data_sets-requires : goal.data_sets-requires
@@ -11,7 +11,7 @@ data_sets-requires c =
     let at = read_at c.args.network.now.clocks.items c.clocks.result.now c.args.place c.index-clocks-place.result c.clocks.ensures c.requires
     c.index-clocks-place.is in
     starts_at n facts c.args.place (clock_value c.index-clocks-place.result)
-    (get_map clock_value c.args.network.now.clocks.items c.args.place c.index-clocks-place.result at)
+    (value_at c.args.network.now.clocks.items c.args.place c.index-clocks-place.result at)
 
 pub admit-requires : goal.admit-requires
 admit-requires c =

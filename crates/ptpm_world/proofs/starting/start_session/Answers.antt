@@ -3,7 +3,7 @@ use Rattle.ptpm_script.specs.declared.network.Network.{Network}
 use Rattle.ptpm_script.specs.declared.network.NetworkSession.{NetworkSession}
 use Rattle.ptpm_script.specs.NetworkValue.{CanStart}
 use Rattle.ptpm_script.proofs.NetworkFacts.{of_text-accepted}
-use Rattle.ptpm_world.proofs.StartingLemmas.{clock_is, get_map, read_at, session_at_clock, started_session, starts_at, two_clocks}
+use Rattle.ptpm_world.proofs.StartingLemmas.{clock_is, read_at, session_at_clock, started_session, starts_at, two_clocks, value_at}
 use Rattle.ptpm_world.specs.Described.{no_session}
 use Rattle.ptpm_world.proofs.DescribedLaws.{at_place}
 use Rattle.ptpm_world.proofs.starting.start_session.Goals as goal
@@ -35,7 +35,7 @@ starts c =
     let n = network_value c.args.network.now in
     let target = c.index-sessions-place.result.target in
     starts_at n (of_text-accepted n c.args.network.now.of_text) target (clock_value c.index-clocks-session.result)
-    (get_map clock_value c.args.network.now.clocks.items target c.index-clocks-session.result (clock_there c))
+    (value_at c.args.network.now.clocks.items target c.index-clocks-session.result (clock_there c))
 
 pub bounds-clocks-session : goal.bounds-clocks-session
 bounds-clocks-session c =
@@ -55,7 +55,7 @@ new-requires-clause-clocks c =
     let s = c.index-sessions-place.result in
     let k = c.index-clocks-session.result in
     two_clocks n facts s (clock_value k) (session_at_clock n facts c.args.place s (session_there here))
-    (get_map clock_value c.args.network.now.clocks.items s.target k (clock_there here))
+    (value_at c.args.network.now.clocks.items s.target k (clock_there here))
 
 pub new-requires-clause-some_port : goal.new-requires-clause-some_port
 new-requires-clause-some_port c =

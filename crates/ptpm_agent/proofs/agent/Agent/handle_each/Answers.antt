@@ -32,7 +32,7 @@ loop-place-preserved g c =
     let octets : turn here now item.0 c.as_slice.result.now ≡ turn here now item.0 item.1 = grind arith in
     let same : turn here now item.0 item.1 ≡ turn clock (after_each clock old front) item.0 item.1 = grind arith in grind (arith, turn-ports, after_each-append, last_sent-append)
 
--- a clock has as many ports as where it stands
+-- a clock has as many ports as the history that it is at
 as_many : (first : PortIdentity → ℕ) (s : State) (h : History)
     → StandsAt first s h
     → length h.sets.ports ≡ length s.sets.ports

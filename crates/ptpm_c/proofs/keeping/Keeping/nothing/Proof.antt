@@ -1,4 +1,4 @@
--- `nothing` stores a null pointer, behind which nothing is owned.
+-- `nothing` stores a null pointer, which owns nothing.
 use mathlib.Core.List.{[], ◌∷◌}
 use mathlib.Core.Path.{refl}
 use base.Fml.{ftrue}

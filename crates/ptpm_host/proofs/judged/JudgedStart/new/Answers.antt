@@ -3,7 +3,7 @@ use Rattle.ptpm_data.specs.declared.start.ClockStart.{ClockStart}
 use Rattle.ptpm_host.proofs.StartLemmas.{identity_of_start}
 use Rattle.ptpm_host.proofs.judged.JudgedStart.new.Goals as goal
 
-pub returns-in-Ok-judge-clause-identity : goal.returns-in-Ok-judge-clause-identity
-returns-in-Ok-judge-clause-identity c =
+pub returns-clause-identity : goal.returns-clause-identity
+returns-clause-identity c =
     identity_of_start c.start.result c.as_slice.result.now c.in-Ok-new.sets c.in-Ok-new.ensures
     ∙ ap (λ (s : ClockStart). s.identity) c.start.ensures

@@ -5,7 +5,7 @@ use Rattle.ptpm_network.specs.Served.{IsServedSoFar}
 use Rattle.ptpm_world.proofs.Following.{HasGoneOn}
 use Rattle.ptpm_world.proofs.world.World.run.Given as goal
 
--- the events so far happened, and led the machine the same way where none was late, and served whose messages came in time
+-- the events so far happened, and led the machine the same way if none was late, and served whose messages came in time
 abbrev pub invariant-loop-place : goal.invariant-loop-place
 invariant-loop-place l = record {
   names : names_in l.self ≡ names_in l.fn.self;

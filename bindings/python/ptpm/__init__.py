@@ -1,0 +1,42 @@
+"""PTP management (IEEE 1588-2019, clause 15) over the shared library libptpm: an agent of one clock, a manager's session, and a
+survey.
+
+What does a ptp4l of this machine say?
+
+    import ptpm
+
+    with ptpm.UnixTransport("/var/run/ptp4l") as way:
+        for report in ptpm.survey(way, "DEFAULT_DATA_SET"):
+            print(report.source, report.members["priority1"])
+
+The calls take no thread and no socket of their own. They are not made from a signal handler that comes in while one is made, nor
+in a forked child of a process with threads.
+"""
+
+from ._header import PTPM_VERSION as __version__
+from .answers import Error, HandleAnswer, SessionAnswer, SurveyAnswer, answer_name
+from .asking import NoAnswer
+from .changed import Changed, ClockMembers, PortMembers
+from .clock import Clock, Handled
+from .identity import Identity, PortIdentity
+from .ids import Action, ManagementId, error_name, id_name, id_of
+from .members import data_field, members
+from .nobody import ask_as_nobody, get
+from .observation import ObservedClock, ObservedGrandmaster, ObservedPort
+from .passing import PassedOn, Rate
+from .report import Report
+from .requests import Requests, SessionSettings
+from .session import Session
+from .session_file import SessionFile, SessionFileError, usual_path
+from .settings import ClockSettings, DelayMechanism, Manager, PortSettings, PortState, Rights, time_interval
+from .survey import Survey, SurveySettings, survey
+from .transport import Transport, UdpTransport, UnixTransport
+
+__all__ = [
+    "__version__", "Action", "answer_name", "ask_as_nobody", "Changed", "Clock", "ClockMembers", "ClockSettings", "data_field",
+    "DelayMechanism", "Error", "error_name", "get", "HandleAnswer", "Handled", "id_name", "id_of", "Identity", "ManagementId",
+    "Manager", "members", "NoAnswer", "ObservedClock", "ObservedGrandmaster", "ObservedPort", "PassedOn", "PortIdentity",
+    "PortMembers", "PortSettings", "PortState", "Rate", "Report", "Requests", "Rights", "Session", "SessionAnswer",
+    "SessionFile", "SessionFileError", "SessionSettings", "Survey", "survey", "SurveyAnswer", "SurveySettings", "time_interval",
+    "Transport", "UdpTransport", "UnixTransport", "usual_path",
+]

@@ -1,0 +1,218 @@
+"""python -m ptpm: asks clocks, by the words of ptpm-manage, and prints as it does."""
+
+from __future__ import annotations
+
+import argparse
+import sys
+from typing import Callable, List, Optional
+
+from . import __version__
+from .answers import Error
+from .asking import NoAnswer
+from .identity import Identity, PortIdentity
+from .ids import Action, ManagementId, id_of
+from .members import data_field, has_one_member, takes_no_value
+from .nobody import ask_as_nobody
+from .report import Report
+from .requests import Requests, SessionSettings
+from .session import Session
+from .session_file import SessionFile, SessionFileError
+from .survey import survey
+from .transport import Transport, UdpTransport, UnixTransport
+
+ANSWERED, REFUSED, NOT_ASKED, NOT_ANSWERED, NOT_WRITTEN = range(5)
+
+
+def _number(least: int, most: int) -> Callable[[str], int]:
+    """A number of the command line in its range."""
+
+    def read(text: str) -> int:
+        number = int(text)
+        if not least <= number <= most:
+            raise argparse.ArgumentTypeError(f"it takes a number from {least} to {most}")
+        return number
+
+    return read
+
+
+def _parser() -> argparse.ArgumentParser:
+    parser = argparse.ArgumentParser(
+        prog="python -m ptpm",
+        description="Reads and changes the settings of PTP clocks (IEEE 1588-2019, clause 15).",
+        epilog="ptpm-manage has the same options, and more of them.",
+    )
+    add = parser.add_argument
+    add("verb", choices=["get", "set", "command", "survey"])
+    add("id", help="a managementId by its name, or four hexadecimal digits")
+    add("value", nargs="?", help="of set: what the answer prints, or the dataField in hexadecimal")
+    add("-i", "--interface", metavar="NAME", help="over UDP port 320 at this interface")
+    add("--ipv6", action="store_true", help="with IPv6")
+    add("--udp", metavar="ADDRESS", help="over UDP to this address")
+    add("-u", "--unix", metavar="PATH", help="at a Unix socket of this machine, as /var/run/ptp4l")
+    add("-T", "--target", "--to", metavar="IDENTITY", help="the clock, as aabbccfffeddee01 or aabbcc.fffe.ddee01-1 for its port 1")
+    add("-p", "--port", type=_number(0, 65535), help="the port, of an id of a port")
+    add("-d", "--domain", type=_number(0, 255), default=0)
+    add("-b", "--hops", type=_number(0, 255), default=1, help="boundary clocks that pass the request on")
+    add("-m", "--manager", metavar="IDENTITY-PORT", help="the manager's own identity")
+    add("-k", "--numbers", metavar="FILE", help="the file of the manager's session with the clock")
+    add("--give-up", action="store_true", help="lets the request of an earlier run go that had no answer")
+    add("-w", "--wait", type=_number(0, 100000), default=3000, help="milliseconds before a new session asks")
+    add("-a", "--attempts", type=_number(1, 255), default=30)
+    add("-t", "--timeout", type=_number(1, 100000), default=200, help="milliseconds for each answer")
+    add("-x", "--hexadecimal", action="store_true", help="values are dataFields in hexadecimal")
+    add("--text", action="store_true", help="VALUE is a text, for USER_DESCRIPTION")
+    add("--version", action="version", version=f"ptpm {__version__}")
+    return parser
+
+
+class Task:
+    """What a command line asks."""
+
+    def __init__(self, words: argparse.Namespace) -> None:
+        self.words = words
+        self.id = id_of(words.id)
+        self.target: Optional[Identity] = None
+        self.port: int = words.port or 0
+        if words.target is not None:
+            self._read_target(words.target)
+        self.action = {"get": Action.GET, "set": Action.SET, "command": Action.COMMAND}.get(words.verb)
+        self.data = self._data(words.value)
+        self._judge()
+
+    def _read_target(self, text: str) -> None:
+        try:
+            self.target = Identity.of(text)
+        except ValueError:
+            named = PortIdentity.of(text)
+            if self.words.port is not None and named.port != self.words.port:
+                raise ValueError(f"--port {self.words.port} and --target name two ports") from None
+            self.target, self.port = named.clock, named.port
+
+    def _data(self, text: Optional[str]) -> bytes:
+        words = self.words
+        if text is None:
+            if self.action == Action.SET and not takes_no_value(self.id):
+                raise ValueError(f"set {words.id}: it takes a value after it")
+            return b""
+        if self.action is None:
+            raise ValueError(f"survey {words.id}: it takes no value")
+        if words.text and self.id != ManagementId.USER_DESCRIPTION:
+            raise ValueError(f"--text: {words.id} has no text")
+        if words.text or (self.action == Action.SET and not words.hexadecimal and has_one_member(self.id)):
+            return data_field(self.id, text)
+        octets = bytes.fromhex(text)
+        if len(octets) % 2:
+            raise ValueError(f"{text}: it is no even number of octets in hexadecimal")
+        return octets
+
+    def _judge(self) -> None:
+        words = self.words
+        if words.unix is None and words.interface is None and words.udp is None:
+            raise ValueError("the way to the clock is missing: --interface NAME, --udp ADDRESS or --unix PATH")
+        if words.unix is not None and (words.interface is not None or words.udp is not None or words.ipv6):
+            raise ValueError("--unix is without --interface, --udp and --ipv6")
+        if self.action is None and self.target is not None:
+            raise ValueError("survey asks every clock: it takes no --target")
+        if self.action is not None and self.target is None:
+            raise ValueError("--target is missing: the clock that is asked; survey asks every clock")
+
+    def way(self) -> Transport:
+        """The socket that it goes by."""
+        words = self.words
+        return UnixTransport(words.unix) if words.unix is not None else UdpTransport(words.interface, words.udp, ipv6=words.ipv6)
+
+    @property
+    def is_numbered(self) -> bool:
+        """Whether who asks is the same in each run, so that a clock may have kept an answer of his."""
+        words = self.words
+        by_one_manager = words.manager is not None or words.numbers is not None
+        return self.action is not None and (by_one_manager or (words.unix is None and self.action != Action.GET))
+
+    def ask(self) -> int:
+        """Asks, and prints what was answered; the status."""
+        words = self.words
+        seconds = words.timeout / 1000
+        with self.way() as way:
+            asked = {"domain": words.domain, "hops": words.hops, "attempts": words.attempts}
+            if self.action is None or self.target is None:
+                return _print(list(survey(way, self.id, manager=words.manager, timeout=seconds, **asked)), words.hexadecimal)
+            manager = PortIdentity.of(words.manager) if words.manager is not None else PortIdentity(way.identity, 1)
+            settings = SessionSettings(manager, self.target, **asked)
+            if not self.is_numbered:
+                report = ask_as_nobody(way, settings, self.action, self.id, self.data, self.port, timeout=seconds)
+                return _print([report], words.hexadecimal)
+            Requests(settings).begin(self.action, self.id, self.data, self.port)  # what is refused makes no file
+            with SessionFile(manager, self.target, words.numbers) as file:
+                is_new = file.octets is None
+                with Session(settings, file, wait=words.wait / 1000) as session:
+                    report = self._ask_in(session, way)
+                    if is_new:
+                        _complain(f"{file.path} is new: the session begins at number {session.settings.first}")
+                    return _print([report], words.hexadecimal)  # and then it is kept without the request
+
+    def _ask_in(self, session: Session, way: Transport) -> Report:
+        words = self.words
+        assert self.action is not None
+        if words.give_up and session.is_under_way:
+            session.let_go()
+            _complain("the request of an earlier run is let go: a get shows whether it was carried out")
+        try:
+            return session.ask(way, self.action, self.id, self.data, self.port, timeout=words.timeout / 1000)
+        finally:
+            if session.earlier is not None:
+                _complain("a request of an earlier run had no answer yet, and was sent again:")
+                _complain(session.earlier)
+
+
+def _complain(what: object) -> None:
+    print(f"ptpm: {what}", file=sys.stderr)
+
+
+def _lines(report: Report, is_hexadecimal: bool) -> List[str]:
+    if is_hexadecimal and report.error is None and not report.is_done:
+        told = [f"value {report.octets.hex() or '-'}"]
+    else:
+        told = str(report).split("\n")
+    lead = "" if report.source is None else f"{report.source} "
+    return [lead + line for line in told]
+
+
+class _NotWritten(Exception):
+    """The answer could not be written to standard output. It is not known to be reported then."""
+
+
+def _print(reports: List[Report], is_hexadecimal: bool) -> int:
+    try:
+        for report in reports:
+            print("\n".join(_lines(report, is_hexadecimal)))
+        sys.stdout.flush()
+    except OSError as error:
+        raise _NotWritten(f"standard output could not be written: {error}") from error
+    if not reports:
+        _complain("no answer")
+        return NOT_ANSWERED
+    return REFUSED if len(reports) == 1 and reports[0].source is None and reports[0].error is not None else ANSWERED
+
+
+def main(arguments: Optional[List[str]] = None) -> int:
+    """Asks what a command line says; its status."""
+    words = _parser().parse_intermixed_args(arguments)
+    try:
+        return Task(words).ask()
+    except NoAnswer as error:
+        may_be = error.was_sent and words.verb in ("set", "command")
+        _complain(f"{error}{': the request may have been carried out' if may_be else ''}")
+        return NOT_ANSWERED
+    except Error as error:
+        _complain(f"nothing was asked: {error}")
+        return NOT_ASKED
+    except _NotWritten as error:
+        _complain(error)
+        return NOT_WRITTEN
+    except (ValueError, OSError, SessionFileError) as error:
+        _complain(error)
+        return NOT_ASKED
+
+
+if __name__ == "__main__":
+    sys.exit(main())

@@ -1,0 +1,621 @@
+"""The header ptpm.h as it is: its constants, its structs and its calls, by its names. The header says what each of them is, and
+what a caller owes. tools/bindings of the repository holds this module to it."""
+
+import sys
+from ctypes import (
+    POINTER,
+    Structure,
+    c_bool,
+    c_char,
+    c_char_p,
+    c_int8,
+    c_int16,
+    c_int32,
+    c_int64,
+    c_size_t,
+    c_uint8,
+    c_uint16,
+    c_uint32,
+    c_uint64,
+    c_void_p,
+    sizeof,
+)
+from typing import Any, Dict, List, Tuple, Type
+
+if sizeof(c_void_p) != 8 or sys.byteorder != "little":
+    raise ImportError("ptpm is built for 64-bit little-endian processors alone")
+
+# The version that these declarations are of.
+PTPM_VERSION = "0.1.0"
+PTPM_VERSION_NUMBER = 100
+
+# The managementIds of this profile (15.5.2.3, table 59).
+PTPM_ID_NULL_PTP_MANAGEMENT = 0x0000
+PTPM_ID_USER_DESCRIPTION = 0x0002
+PTPM_ID_DEFAULT_DATA_SET = 0x2000
+PTPM_ID_CURRENT_DATA_SET = 0x2001
+PTPM_ID_PARENT_DATA_SET = 0x2002
+PTPM_ID_TIME_PROPERTIES_DATA_SET = 0x2003
+PTPM_ID_PORT_DATA_SET = 0x2004
+PTPM_ID_PRIORITY1 = 0x2005
+PTPM_ID_PRIORITY2 = 0x2006
+PTPM_ID_DOMAIN = 0x2007
+PTPM_ID_SLAVE_ONLY = 0x2008
+PTPM_ID_LOG_ANNOUNCE_INTERVAL = 0x2009
+PTPM_ID_ANNOUNCE_RECEIPT_TIMEOUT = 0x200a
+PTPM_ID_LOG_SYNC_INTERVAL = 0x200b
+PTPM_ID_VERSION_NUMBER = 0x200c
+PTPM_ID_ENABLE_PORT = 0x200d
+PTPM_ID_DISABLE_PORT = 0x200e
+PTPM_ID_CLOCK_ACCURACY = 0x2010
+PTPM_ID_UTC_PROPERTIES = 0x2011
+PTPM_ID_DELAY_MECHANISM = 0x6000
+PTPM_ID_LOG_MIN_PDELAY_REQ_INTERVAL = 0x6001
+
+# What a manager may change.
+PTPM_CLOCK_SET = 1
+PTPM_PORT_SET = 2
+PTPM_PORT_COMMAND = 4
+
+# Members of a clock that changed.
+PTPM_CHANGED_IDENTITY = 1 << 0
+PTPM_CHANGED_DOMAIN = 1 << 1
+PTPM_CHANGED_USER_DESCRIPTION = 1 << 2
+PTPM_CHANGED_TWO_STEP = 1 << 3
+PTPM_CHANGED_PRIORITY1 = 1 << 4
+PTPM_CHANGED_CLOCK_CLASS = 1 << 5
+PTPM_CHANGED_CLOCK_ACCURACY = 1 << 6
+PTPM_CHANGED_VARIANCE = 1 << 7
+PTPM_CHANGED_PRIORITY2 = 1 << 8
+PTPM_CHANGED_STEPS_REMOVED = 1 << 9
+PTPM_CHANGED_OFFSET_FROM_MASTER = 1 << 10
+PTPM_CHANGED_MEAN_PATH_DELAY = 1 << 11
+PTPM_CHANGED_PARENT_PORT = 1 << 12
+PTPM_CHANGED_PARENT_STATS = 1 << 13
+PTPM_CHANGED_OBSERVED_VARIANCE = 1 << 14
+PTPM_CHANGED_OBSERVED_RATE = 1 << 15
+PTPM_CHANGED_GRANDMASTER = 1 << 21
+PTPM_CHANGED_GRANDMASTER_PRIORITY1 = 1 << 16
+PTPM_CHANGED_GRANDMASTER_CLASS = 1 << 17
+PTPM_CHANGED_GRANDMASTER_ACCURACY = 1 << 18
+PTPM_CHANGED_GRANDMASTER_VARIANCE = 1 << 19
+PTPM_CHANGED_GRANDMASTER_PRIORITY2 = 1 << 20
+PTPM_CHANGED_UTC_OFFSET = 1 << 22
+PTPM_CHANGED_LEAP61 = 1 << 23
+PTPM_CHANGED_LEAP59 = 1 << 24
+PTPM_CHANGED_UTC_VALID = 1 << 25
+PTPM_CHANGED_PTP_TIMESCALE = 1 << 26
+PTPM_CHANGED_TIME_TRACEABLE = 1 << 27
+PTPM_CHANGED_FREQUENCY_TRACEABLE = 1 << 28
+PTPM_CHANGED_TIME_SOURCE = 1 << 29
+
+# Members of a port that changed; and the names that these had before.
+PTPM_CHANGED_PORT_STATE = 1 << 0
+PTPM_CHANGED_PORT_LOG_MIN_DELAY_REQ = 1 << 1
+PTPM_CHANGED_PORT_PEER_DELAY = 1 << 2
+PTPM_CHANGED_PORT_LOG_ANNOUNCE = 1 << 3
+PTPM_CHANGED_PORT_RECEIPT_TIMEOUT = 1 << 4
+PTPM_CHANGED_PORT_LOG_SYNC = 1 << 5
+PTPM_CHANGED_PORT_DELAY_MECHANISM = 1 << 6
+PTPM_CHANGED_PORT_LOG_MIN_PDELAY = 1 << 7
+PTPM_CHANGED_STATE = 1 << 0
+PTPM_CHANGED_LOG_MIN_DELAY_REQ = 1 << 1
+PTPM_CHANGED_PEER_DELAY = 1 << 2
+PTPM_CHANGED_LOG_ANNOUNCE = 1 << 3
+PTPM_CHANGED_RECEIPT_TIMEOUT = 1 << 4
+PTPM_CHANGED_LOG_SYNC = 1 << 5
+PTPM_CHANGED_DELAY_MECHANISM = 1 << 6
+PTPM_CHANGED_LOG_MIN_PDELAY = 1 << 7
+
+# What may be asked of a clock: the actionField of a request.
+PTPM_GET = 0
+PTPM_SET = 1
+PTPM_COMMAND = 3
+
+# The greatest counts and sizes.
+PTPM_MOST_SENT = 15
+PTPM_MOST_READ = 130
+PTPM_MOST_OCTETS = 1472
+PTPM_SESSION_IMAGE_OCTETS = 1478
+PTPM_MOST_ANSWERS = 512
+
+# Answers that several kinds of calls give.
+PTPM_OTHER_DOMAIN = 1
+PTPM_NOT_A_REPLY = 10
+PTPM_OTHER_TARGET = 11
+PTPM_OTHER_NUMBER = 14
+PTPM_OTHER_CONTENT = 15
+PTPM_TOO_SHORT = 16
+PTPM_NOT_MANAGEMENT = 17
+PTPM_BAD_VERSION = 18
+PTPM_BAD_LENGTH = 19
+PTPM_BAD_ACTION = 20
+PTPM_BAD_TLV_TYPE = 21
+PTPM_BAD_TLV_LENGTH = 22
+PTPM_BAD_TEXT = 23
+PTPM_NO_CLOCK = 32
+PTPM_NO_PORT = 33
+PTPM_NO_ROOM = 34
+PTPM_NO_MEMORY = 35
+PTPM_NO_SESSION = 37
+PTPM_IDLE = 43
+PTPM_NO_SURVEY = 46
+PTPM_OTHER_SIZES = 47
+PTPM_GRANDMASTER_DIFFERS = 50
+PTPM_BAD_CLOCK_ACCURACY = 70
+PTPM_BAD_LEAP59 = 88
+PTPM_BAD_STATE = 94
+
+# enum ptpm_started.
+PTPM_STARTED = 0
+PTPM_START_NO_MEMORY = 35
+PTPM_START_OTHER_SIZES = 47
+PTPM_NO_PORTS = 48
+PTPM_TOO_MANY_PORTS = 49
+PTPM_START_GRANDMASTER_DIFFERS = 50
+PTPM_TOO_MANY_MANAGERS = 51
+PTPM_MANAGER_TWICE = 52
+PTPM_MANAGER_IS_EVERY = 53
+PTPM_TARGET_IS_EVERY = 54
+PTPM_SAME_CLOCK = 55
+PTPM_IDENTITY_IS_ZERO = 56
+PTPM_TARGET_IS_ZERO = 57
+PTPM_BAD_IDENTITY = 64
+PTPM_BAD_USER_DESCRIPTION = 66
+PTPM_START_BAD_CLOCK_ACCURACY = 70
+PTPM_START_BAD_LEAP59 = 88
+PTPM_START_BAD_STATE = 94
+PTPM_BAD_LOG_ANNOUNCE = 97
+PTPM_BAD_RECEIPT_TIMEOUT = 98
+PTPM_BAD_LOG_SYNC = 99
+PTPM_BAD_DELAY_MECHANISM = 100
+PTPM_BAD_LOG_MIN_PDELAY = 101
+
+# The members that are never out of range.
+PTPM_BAD_DOMAIN = 65
+PTPM_BAD_TWO_STEP = 67
+PTPM_BAD_PRIORITY1 = 68
+PTPM_BAD_CLOCK_CLASS = 69
+PTPM_BAD_VARIANCE = 71
+PTPM_BAD_PRIORITY2 = 72
+PTPM_BAD_STEPS_REMOVED = 73
+PTPM_BAD_OFFSET_FROM_MASTER = 74
+PTPM_BAD_MEAN_PATH_DELAY = 75
+PTPM_BAD_PARENT_PORT = 76
+PTPM_BAD_PARENT_STATS = 77
+PTPM_BAD_OBSERVED_VARIANCE = 78
+PTPM_BAD_OBSERVED_RATE = 79
+PTPM_BAD_GRANDMASTER = 85
+PTPM_BAD_GRANDMASTER_PRIORITY1 = 80
+PTPM_BAD_GRANDMASTER_CLASS = 81
+PTPM_BAD_GRANDMASTER_ACCURACY = 82
+PTPM_BAD_GRANDMASTER_VARIANCE = 83
+PTPM_BAD_GRANDMASTER_PRIORITY2 = 84
+PTPM_BAD_UTC_OFFSET = 86
+PTPM_BAD_LEAP61 = 87
+PTPM_BAD_UTC_VALID = 89
+PTPM_BAD_PTP_TIMESCALE = 90
+PTPM_BAD_TIME_TRACEABLE = 91
+PTPM_BAD_FREQUENCY_TRACEABLE = 92
+PTPM_BAD_TIME_SOURCE = 93
+PTPM_BAD_LOG_MIN_DELAY_REQ = 95
+PTPM_BAD_PEER_DELAY = 96
+
+# enum ptpm_handled.
+PTPM_HANDLE_OTHER_DOMAIN = 1
+PTPM_OWN_MESSAGE = 2
+PTPM_NOT_ADDRESSED = 3
+PTPM_NOT_A_REQUEST = 4
+PTPM_ANSWERED_NEW = 5
+PTPM_ANSWERED_REPEAT = 6
+PTPM_DROPPED_OLD = 7
+PTPM_DROPPED_CONFLICT = 8
+PTPM_ANSWERED_UNNUMBERED = 9
+PTPM_HANDLE_TOO_SHORT = 16
+PTPM_HANDLE_NOT_MANAGEMENT = 17
+PTPM_HANDLE_BAD_VERSION = 18
+PTPM_HANDLE_BAD_LENGTH = 19
+PTPM_HANDLE_BAD_ACTION = 20
+PTPM_HANDLE_BAD_TLV_TYPE = 21
+PTPM_HANDLE_BAD_TLV_LENGTH = 22
+PTPM_HANDLE_BAD_TEXT = 23
+PTPM_HANDLE_NO_CLOCK = 32
+PTPM_HANDLE_NO_PORT = 33
+PTPM_HANDLE_NO_ROOM = 34
+
+# enum ptpm_observed.
+PTPM_OBSERVED = 0
+PTPM_OBSERVE_NO_CLOCK = 32
+PTPM_OBSERVE_NO_PORT = 33
+PTPM_OBSERVE_GRANDMASTER_DIFFERS = 50
+PTPM_OBSERVE_BAD_CLOCK_ACCURACY = 70
+PTPM_OBSERVE_BAD_LEAP59 = 88
+PTPM_OBSERVE_BAD_STATE = 94
+
+# enum ptpm_read.
+PTPM_READ = 0
+PTPM_READ_NO_CLOCK = 32
+PTPM_READ_NO_PORT = 33
+PTPM_READ_NO_ROOM = 34
+PTPM_NOT_READABLE = 36
+
+# enum ptpm_begun.
+PTPM_BEGUN = 0
+PTPM_BEGIN_NO_MEMORY = 35
+PTPM_BEGIN_NO_SESSION = 37
+PTPM_BUSY = 38
+PTPM_NEEDS_PORT = 39
+PTPM_NOT_PERMITTED = 40
+PTPM_BAD_VALUE = 41
+PTPM_COUNT_AT_MAXIMUM = 42
+
+# enum ptpm_sending.
+PTPM_SENT = 0
+PTPM_SEND_NO_ROOM = 34
+PTPM_SEND_NO_SESSION = 37
+PTPM_SEND_IDLE = 43
+PTPM_GAVE_UP = 44
+PTPM_SEND_NO_SURVEY = 46
+
+# enum ptpm_resumed.
+PTPM_RESUMED = 0
+PTPM_RESUME_NO_SESSION = 37
+PTPM_RESUME_IDLE = 43
+
+# enum ptpm_retuned.
+PTPM_RETUNED = 0
+PTPM_RETUNE_NO_SESSION = 37
+
+# enum ptpm_session_received.
+PTPM_ANSWERED = 0
+PTPM_SESSION_OTHER_DOMAIN = 1
+PTPM_SESSION_NOT_A_REPLY = 10
+PTPM_SESSION_OTHER_TARGET = 11
+PTPM_OTHER_SOURCE = 12
+PTPM_NOTHING_ASKED = 13
+PTPM_SESSION_OTHER_NUMBER = 14
+PTPM_SESSION_OTHER_CONTENT = 15
+PTPM_SESSION_TOO_SHORT = 16
+PTPM_SESSION_NOT_MANAGEMENT = 17
+PTPM_SESSION_BAD_VERSION = 18
+PTPM_SESSION_BAD_LENGTH = 19
+PTPM_SESSION_BAD_ACTION = 20
+PTPM_SESSION_BAD_TLV_TYPE = 21
+PTPM_SESSION_BAD_TLV_LENGTH = 22
+PTPM_SESSION_BAD_TEXT = 23
+PTPM_SESSION_NO_MEMORY = 35
+PTPM_SESSION_NO_SESSION = 37
+
+# enum ptpm_survey_received.
+PTPM_TAKEN = 0
+PTPM_SURVEY_OTHER_DOMAIN = 1
+PTPM_SURVEY_NOT_A_REPLY = 10
+PTPM_SURVEY_OTHER_TARGET = 11
+PTPM_SURVEY_OTHER_NUMBER = 14
+PTPM_SURVEY_OTHER_CONTENT = 15
+PTPM_SURVEY_TOO_SHORT = 16
+PTPM_SURVEY_NOT_MANAGEMENT = 17
+PTPM_SURVEY_BAD_VERSION = 18
+PTPM_SURVEY_BAD_LENGTH = 19
+PTPM_SURVEY_BAD_ACTION = 20
+PTPM_SURVEY_BAD_TLV_TYPE = 21
+PTPM_SURVEY_BAD_TLV_LENGTH = 22
+PTPM_SURVEY_BAD_TEXT = 23
+PTPM_AGAIN = 27
+PTPM_FULL = 28
+PTPM_SURVEY_NO_MEMORY = 35
+PTPM_SURVEY_NO_SURVEY = 46
+
+# enum ptpm_told.
+PTPM_VALUE = 0
+PTPM_DONE = 25
+PTPM_REFUSED = 26
+PTPM_REPORT_NO_ROOM = 34
+PTPM_REPORT_NO_SESSION = 37
+PTPM_NO_REPORT = 45
+PTPM_REPORT_NO_SURVEY = 46
+
+# enum ptpm_saved.
+PTPM_SAVED = 0
+PTPM_SAVE_NO_ROOM = 34
+PTPM_SAVE_NO_SESSION = 37
+
+# enum ptpm_restored.
+PTPM_RESTORED = 0
+PTPM_RESTORE_NO_MEMORY = 35
+PTPM_NOT_AN_IMAGE = 104
+PTPM_OTHER_VERSION = 105
+PTPM_OTHER_KIND = 106
+PTPM_DAMAGED = 107
+PTPM_OTHER_SESSION = 110
+
+# What ptpm_id_named answers if no id has the name.
+PTPM_NO_ID = 65536
+
+# The greatest counts and sizes.
+PTPM_MOST_NAME = 27
+
+
+class ptpm_clock(Structure):
+    _fields_ = [
+        ("at", c_void_p),
+        ("live", c_bool),
+    ]
+
+
+class ptpm_clock_settings(Structure):
+    _fields_ = [
+        ("offset_from_master", c_int64),
+        ("mean_path_delay", c_int64),
+        ("observed_rate", c_int32),
+        ("variance", c_uint16),
+        ("steps_removed", c_uint16),
+        ("observed_variance", c_uint16),
+        ("grandmaster_variance", c_uint16),
+        ("parent_port_number", c_uint16),
+        ("utc_offset", c_int16),
+        ("identity", c_uint8 * 8),
+        ("parent_port_clock", c_uint8 * 8),
+        ("grandmaster", c_uint8 * 8),
+        ("domain", c_uint8),
+        ("two_step", c_uint8),
+        ("priority1", c_uint8),
+        ("clock_class", c_uint8),
+        ("clock_accuracy", c_uint8),
+        ("priority2", c_uint8),
+        ("parent_stats", c_uint8),
+        ("grandmaster_priority1", c_uint8),
+        ("grandmaster_class", c_uint8),
+        ("grandmaster_accuracy", c_uint8),
+        ("grandmaster_priority2", c_uint8),
+        ("leap61", c_uint8),
+        ("leap59", c_uint8),
+        ("utc_valid", c_uint8),
+        ("ptp_timescale", c_uint8),
+        ("time_traceable", c_uint8),
+        ("frequency_traceable", c_uint8),
+        ("time_source", c_uint8),
+        ("has_parent_port", c_uint8),
+        ("has_grandmaster", c_uint8),
+        ("has_grandmaster_priority1", c_uint8),
+        ("has_grandmaster_class", c_uint8),
+        ("has_grandmaster_accuracy", c_uint8),
+        ("has_grandmaster_variance", c_uint8),
+        ("has_grandmaster_priority2", c_uint8),
+        ("user_description_size", c_uint8),
+        ("user_description", c_uint8 * 129),
+    ]
+
+
+class ptpm_port_settings(Structure):
+    _fields_ = [
+        ("peer_delay", c_int64),
+        ("state", c_uint8),
+        ("log_min_delay_req", c_int8),
+        ("log_announce", c_int8),
+        ("receipt_timeout", c_uint8),
+        ("log_sync", c_int8),
+        ("delay_mechanism", c_uint8),
+        ("log_min_pdelay", c_int8),
+    ]
+
+
+class ptpm_observed_clock(Structure):
+    _fields_ = [
+        ("offset_from_master", c_int64),
+        ("mean_path_delay", c_int64),
+        ("observed_rate", c_int32),
+        ("variance", c_uint16),
+        ("steps_removed", c_uint16),
+        ("observed_variance", c_uint16),
+        ("grandmaster_variance", c_uint16),
+        ("parent_port_number", c_uint16),
+        ("utc_offset", c_int16),
+        ("parent_port_clock", c_uint8 * 8),
+        ("grandmaster", c_uint8 * 8),
+        ("clock_class", c_uint8),
+        ("clock_accuracy", c_uint8),
+        ("parent_stats", c_uint8),
+        ("grandmaster_priority1", c_uint8),
+        ("grandmaster_class", c_uint8),
+        ("grandmaster_accuracy", c_uint8),
+        ("grandmaster_priority2", c_uint8),
+        ("leap61", c_uint8),
+        ("leap59", c_uint8),
+        ("utc_valid", c_uint8),
+        ("ptp_timescale", c_uint8),
+        ("time_traceable", c_uint8),
+        ("frequency_traceable", c_uint8),
+        ("time_source", c_uint8),
+        ("has_clock_class", c_uint8),
+        ("has_clock_accuracy", c_uint8),
+        ("has_variance", c_uint8),
+        ("has_steps_removed", c_uint8),
+        ("has_offset_from_master", c_uint8),
+        ("has_mean_path_delay", c_uint8),
+        ("has_parent_stats", c_uint8),
+        ("has_observed_variance", c_uint8),
+        ("has_observed_rate", c_uint8),
+        ("is_grandmaster", c_uint8),
+        ("has_grandmaster", c_uint8),
+        ("has_utc_offset", c_uint8),
+        ("has_leap61", c_uint8),
+        ("has_leap59", c_uint8),
+        ("has_utc_valid", c_uint8),
+        ("has_ptp_timescale", c_uint8),
+        ("has_time_traceable", c_uint8),
+        ("has_frequency_traceable", c_uint8),
+        ("has_time_source", c_uint8),
+    ]
+
+
+class ptpm_observed_port(Structure):
+    _fields_ = [
+        ("peer_delay", c_int64),
+        ("state", c_uint8),
+        ("has_state", c_uint8),
+        ("has_peer_delay", c_uint8),
+    ]
+
+
+class ptpm_manager_settings(Structure):
+    _fields_ = [
+        ("clock", c_uint8 * 8),
+        ("port", c_uint16),
+        ("rights", c_uint8),
+    ]
+
+
+class ptpm_sent(Structure):
+    _fields_ = [
+        ("port", c_uint16),
+        ("size", c_uint16),
+        ("octets", c_uint8 * 1472),
+    ]
+
+
+class ptpm_changed(Structure):
+    _fields_ = [
+        ("clock", c_uint32),
+        ("ports", c_uint8 * 8),
+    ]
+
+
+class ptpm_session(Structure):
+    _fields_ = [
+        ("at", c_void_p),
+        ("live", c_bool),
+    ]
+
+
+class ptpm_session_settings(Structure):
+    _fields_ = [
+        ("port", c_uint16),
+        ("target_ports", c_uint16),
+        ("first", c_uint16),
+        ("clock", c_uint8 * 8),
+        ("target", c_uint8 * 8),
+        ("domain", c_uint8),
+        ("hops", c_uint8),
+        ("attempts", c_uint8),
+    ]
+
+
+class ptpm_survey(Structure):
+    _fields_ = [
+        ("at", c_void_p),
+        ("live", c_bool),
+    ]
+
+
+class ptpm_survey_settings(Structure):
+    _fields_ = [
+        ("port", c_uint16),
+        ("number", c_uint16),
+        ("id", c_uint16),
+        ("clock", c_uint8 * 8),
+        ("domain", c_uint8),
+        ("hops", c_uint8),
+    ]
+
+
+class ptpm_source(Structure):
+    _fields_ = [
+        ("clock", c_uint8 * 8),
+        ("port", c_uint16),
+    ]
+
+
+class ptpm_passed_on(Structure):
+    _fields_ = [
+        ("seed", c_uint64),
+        ("places", c_uint64 * 6 * 4096),
+    ]
+
+
+class ptpm_rate(Structure):
+    _fields_ = [
+        ("rate", c_uint64),
+        ("left", c_uint64),
+        ("time", c_uint64),
+    ]
+
+
+# What a call answers, and what it takes.
+CALLS: Dict[str, Tuple[Any, List[Any]]] = {
+    "ptpm_version": (c_uint32, []),
+    "ptpm_sizes_agree": (c_uint32, [POINTER(c_size_t), c_size_t]),
+    "ptpm_clock_defaults": (None, [POINTER(ptpm_clock_settings)]),
+    "ptpm_port_defaults": (None, [POINTER(ptpm_port_settings)]),
+    "ptpm_clock_start": (
+        c_uint32,
+        [
+            POINTER(ptpm_clock),
+            POINTER(ptpm_clock_settings),
+            POINTER(ptpm_port_settings),
+            c_size_t,
+            POINTER(ptpm_manager_settings),
+            c_size_t,
+        ],
+    ),
+    "ptpm_clock_handle": (
+        c_uint32,
+        [POINTER(ptpm_clock), c_uint16, c_char_p, c_size_t, POINTER(ptpm_sent), c_size_t, POINTER(c_size_t)],
+    ),
+    "ptpm_clock_handle_changed": (
+        c_uint32,
+        [POINTER(ptpm_clock), c_uint16, c_char_p, c_size_t, POINTER(ptpm_sent), c_size_t, POINTER(c_size_t), POINTER(ptpm_changed)],
+    ),
+    "ptpm_clock_observe": (
+        c_uint32,
+        [POINTER(ptpm_clock), POINTER(ptpm_observed_clock), POINTER(ptpm_observed_port), c_size_t, POINTER(c_uint8)],
+    ),
+    "ptpm_clock_read": (c_uint32, [POINTER(ptpm_clock), c_uint16, c_uint16, POINTER(c_uint8), c_size_t, POINTER(c_size_t)]),
+    "ptpm_clock_stop": (None, [POINTER(ptpm_clock)]),
+    "ptpm_session_start": (c_uint32, [POINTER(ptpm_session), POINTER(ptpm_session_settings)]),
+    "ptpm_session_begin": (c_uint32, [POINTER(ptpm_session), c_uint8, c_uint16, c_uint16, c_char_p, c_size_t]),
+    "ptpm_session_send": (c_uint32, [POINTER(ptpm_session), POINTER(c_uint8), c_size_t, POINTER(c_size_t)]),
+    "ptpm_session_resume": (c_uint32, [POINTER(ptpm_session), c_uint8]),
+    "ptpm_session_retune": (c_uint32, [POINTER(ptpm_session), c_uint8]),
+    "ptpm_session_receive": (c_uint32, [POINTER(ptpm_session), c_char_p, c_size_t]),
+    "ptpm_session_image": (c_uint32, [POINTER(ptpm_session), POINTER(c_uint8), c_size_t, POINTER(c_size_t)]),
+    "ptpm_session_restore": (c_uint32, [POINTER(ptpm_session), POINTER(ptpm_session_settings), c_char_p, c_size_t]),
+    "ptpm_session_issued": (c_uint64, [POINTER(ptpm_session)]),
+    "ptpm_session_report": (c_uint32, [POINTER(ptpm_session), POINTER(c_uint8), c_size_t, POINTER(c_size_t), POINTER(c_uint16)]),
+    "ptpm_session_stop": (None, [POINTER(ptpm_session)]),
+    "ptpm_survey_start": (c_uint32, [POINTER(ptpm_survey), POINTER(ptpm_survey_settings)]),
+    "ptpm_survey_send": (c_uint32, [POINTER(ptpm_survey), POINTER(c_uint8), c_size_t, POINTER(c_size_t)]),
+    "ptpm_survey_receive": (c_uint32, [POINTER(ptpm_survey), c_char_p, c_size_t]),
+    "ptpm_survey_count": (c_size_t, [POINTER(ptpm_survey)]),
+    "ptpm_survey_answer": (
+        c_uint32,
+        [POINTER(ptpm_survey), c_size_t, POINTER(ptpm_source), POINTER(c_uint8), c_size_t, POINTER(c_size_t), POINTER(c_uint16)],
+    ),
+    "ptpm_survey_stop": (None, [POINTER(ptpm_survey)]),
+    "ptpm_passed_on_is_first": (c_bool, [POINTER(ptpm_passed_on), c_char_p, c_size_t, c_uint64, c_uint64]),
+    "ptpm_rate_start": (None, [POINTER(ptpm_rate), c_uint64, c_uint64]),
+    "ptpm_rate_take": (c_bool, [POINTER(ptpm_rate), c_uint64]),
+    "ptpm_id_named": (c_uint32, [c_char_p, c_size_t]),
+    "ptpm_id_name": (c_size_t, [c_uint16, POINTER(c_char), c_size_t]),
+    "ptpm_answer_name": (c_size_t, [c_uint32, POINTER(c_char), c_size_t]),
+    "ptpm_error_name": (c_size_t, [c_uint16, POINTER(c_char), c_size_t]),
+}
+
+# The structs, in the order of the header.
+STRUCTS: List[Type[Structure]] = [
+    ptpm_clock,
+    ptpm_clock_settings,
+    ptpm_port_settings,
+    ptpm_observed_clock,
+    ptpm_observed_port,
+    ptpm_manager_settings,
+    ptpm_sent,
+    ptpm_changed,
+    ptpm_session,
+    ptpm_session_settings,
+    ptpm_survey,
+    ptpm_survey_settings,
+    ptpm_source,
+    ptpm_passed_on,
+    ptpm_rate,
+]

@@ -1,0 +1,83 @@
+"""The shared library, and its handles."""
+
+from __future__ import annotations
+
+import ctypes
+import os
+import threading
+from pathlib import Path
+from typing import Any, Callable, NoReturn, Type
+
+from . import _header as header
+
+_SONAME = "libptpm.so.0"
+
+
+def _path() -> str:
+    """Where the library is: what PTPM_LIBRARY names, that of the repository that this file is of, or the loader's."""
+    named = os.environ.get("PTPM_LIBRARY")
+    if named:
+        return named
+    built = Path(__file__).resolve().parents[3] / "hosts" / _SONAME
+    return str(built) if built.exists() else _SONAME
+
+
+def _load() -> ctypes.CDLL:
+    try:
+        library = ctypes.CDLL(_path())
+    except OSError as error:
+        raise ImportError(f"{error}: the environment's PTPM_LIBRARY names libptpm.so.0 if the loader does not find it") from error
+    for name, (answer, taken) in header.CALLS.items():
+        call = getattr(library, name, None)  # an older library lacks some: only they are missing then
+        if call is not None:
+            call.restype, call.argtypes = answer, taken
+    _judge(library)
+    return library
+
+
+def _judge(library: ctypes.CDLL) -> None:
+    """Refuses a library of another version, whose structs have other sizes."""
+    if not hasattr(library, "ptpm_sizes_agree"):
+        return
+    sizes = (ctypes.c_size_t * len(header.STRUCTS))(*map(ctypes.sizeof, header.STRUCTS))
+    if library.ptpm_sizes_agree(sizes, len(sizes)) != 0:
+        versions = f"version {library.ptpm_version()}, and this module of {header.PTPM_VERSION_NUMBER}"
+        raise ImportError(f"OTHER_SIZES: {_path()} is of {versions}")
+
+
+library = _load()
+
+
+def name_by(call: Callable[..., int], number: int) -> str:
+    """The name that a call of the library has for a number; an empty one if it has none."""
+    text = ctypes.create_string_buffer(header.PTPM_MOST_NAME)
+    size = call(number, text, len(text))
+    return text.raw[:size].decode("ascii")
+
+
+class Handle:
+    """What owns a handle of the library: all zeros before its first call, one live copy, and one thread at a time in a call with
+    it."""
+
+    def __init__(self, kind: Type[ctypes.Structure], stop: Callable[..., None]) -> None:
+        self._handle = kind()
+        self._at = ctypes.byref(self._handle)
+        self._stop = stop
+        self._turn = threading.Lock()
+
+    def _call(self, call: Callable[..., Any], *words: Any) -> int:
+        """A call with the handle, which ctypes hands its words as the header takes them."""
+        with self._turn:
+            return int(call(self._at, *words))
+
+    def close(self) -> None:
+        """Stops what the handle holds. A later call is refused: the handle holds nothing."""
+        with self._turn:
+            self._stop(self._at)
+
+    def __del__(self) -> None:
+        if hasattr(self, "_turn"):
+            Handle.close(self)
+
+    def __reduce__(self) -> NoReturn:
+        raise TypeError(f"a {type(self).__name__} is not copied")

@@ -1,0 +1,89 @@
+"""The agent of one clock."""
+
+from __future__ import annotations
+
+import ctypes
+from dataclasses import dataclass
+from typing import Any, List, Sequence, Set, Tuple
+
+from . import _header as header
+from ._library import Handle, library
+from .answers import HandleAnswer, done, judged
+from .changed import Changed
+from .ids import IdLike, id_of
+from .observation import ObservedClock, ObservedPort
+from .settings import ClockSettings, Manager, PortSettings
+
+
+@dataclass(frozen=True)
+class Handled:
+    """What became of a datagram, what is to be sent for it, whatever that is, and which members have another value since."""
+
+    answer: HandleAnswer
+    messages: List[Tuple[int, bytes]]
+    changed: Changed
+
+
+def _array(kind: Any, places: Sequence[Any]) -> Any:
+    """An array of C. It has a place at least, so that its pointer is never null."""
+    return (kind * max(len(places), 1))(*places)
+
+
+def port_number(port: int) -> int:
+    """A number of a port that fits its type."""
+    if not 0 <= port <= 65535:
+        raise OverflowError(f"a port's number is 0 to 65535, not {port}")
+    return port
+
+
+class Clock(Handle):
+    """The data sets of one clock, and what becomes of each management message that comes in at its ports.
+
+    >>> with Clock(ClockSettings("aabbccfffeddee01", priority1=100), [PortSettings()]) as clock:
+    ...     clock.read("PRIORITY1").hex()
+    '6400'
+    """
+
+    def __init__(self, settings: ClockSettings, ports: Sequence[PortSettings], managers: Sequence[Manager] = ()) -> None:
+        super().__init__(header.ptpm_clock, library.ptpm_clock_stop)
+        places = _array(header.ptpm_port_settings, [port.as_in_c() for port in ports])
+        trusted = _array(header.ptpm_manager_settings, [manager.as_in_c() for manager in managers])
+        struct = settings.as_in_c()
+        done(self._call(library.ptpm_clock_start, ctypes.byref(struct), places, len(ports), trusted, len(managers)))
+        self._sent = (header.ptpm_sent * header.PTPM_MOST_SENT)()
+
+    def __enter__(self) -> Clock:
+        return self
+
+    def __exit__(self, *_: object) -> None:
+        self.close()
+
+    def handle(self, port: int, octets: bytes) -> Handled:
+        """Judges a datagram that came in at a port, counted from 1, carries its request out, and makes what is to be sent: the port
+        and the octets of each message."""
+        count = ctypes.c_size_t()
+        changed = header.ptpm_changed()
+        datagram = bytes(octets)
+        came_in = (port_number(port), datagram, len(datagram))
+        with self._turn:
+            room = (self._sent, len(self._sent), ctypes.byref(count), ctypes.byref(changed))
+            answer = judged(library.ptpm_clock_handle_changed(self._at, *came_in, *room))
+            messages = [(sent.port, bytes(memoryview(sent.octets)[: sent.size])) for sent in self._sent[: count.value]]
+        return Handled(HandleAnswer(answer), messages, Changed.of_library(changed))
+
+    def observe(self, observed: ObservedClock, ports: Sequence[ObservedPort] = ()) -> Set[int]:
+        """Moves what the host observes of its clock and of its first ports. The disabled ports at which a state was observed: they
+        stay disabled, and the host stops them."""
+        left = ctypes.c_uint8()
+        struct = observed.as_in_c()
+        places = _array(header.ptpm_observed_port, [port.as_in_c() for port in ports])
+        done(self._call(library.ptpm_clock_observe, ctypes.byref(struct), places, len(ports), ctypes.byref(left)))
+        return {port for port in range(1, 9) if left.value >> port - 1 & 1}
+
+    def read(self, named: IdLike, port: int = 0) -> bytes:
+        """Reads what a GET of a managementId is answered: the dataField. The port matters for an id of a port alone."""
+        size = ctypes.c_size_t()
+        room = (ctypes.c_uint8 * header.PTPM_MOST_READ)()
+        words = (id_of(named), port_number(port), room, len(room), ctypes.byref(size))
+        done(self._call(library.ptpm_clock_read, *words))
+        return bytes(room[: size.value])

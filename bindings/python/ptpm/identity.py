@@ -1,0 +1,85 @@
+"""Who a clock is, and which port of it (IEEE 1588-2019, 5.3.4 and 5.3.5)."""
+
+from __future__ import annotations
+
+import re
+from dataclasses import dataclass
+from typing import Union
+
+_TOGETHER = re.compile(r"[0-9a-fA-F]{16}", re.ASCII)
+_POINTED = re.compile(r"([0-9a-fA-F]{6})\.([0-9a-fA-F]{4})\.([0-9a-fA-F]{6})", re.ASCII)
+_PORT = re.compile(r"(.*)[/-]([0-9]+)", re.ASCII)
+
+
+@dataclass(frozen=True, order=True)
+class Identity:
+    """A clockIdentity. Both spellings are read, in either case:
+
+    >>> Identity.of("AABBCC.FFFE.DDEE01") == Identity.of("aabbccfffeddee01")
+    True
+    >>> print(Identity.of("aabbcc.fffe.ddee01"), Identity.of("aabbccfffeddee01").pointed)
+    aabbccfffeddee01 aabbcc.fffe.ddee01
+    """
+
+    octets: bytes
+
+    def __post_init__(self) -> None:
+        if len(self.octets) != 8:
+            raise ValueError(f"a clockIdentity has 8 octets, not {len(self.octets)}")
+
+    @classmethod
+    def of(cls, identity: IdentityLike) -> Identity:
+        """An identity, or the one that a text spells."""
+        if isinstance(identity, Identity):
+            return identity
+        if isinstance(identity, bytes):
+            return cls(identity)
+        if _TOGETHER.fullmatch(identity):
+            return cls(bytes.fromhex(identity))
+        if _POINTED.fullmatch(identity):
+            return cls(bytes.fromhex(identity.replace(".", "")))
+        raise ValueError(f"{identity!r} is no identity, such as aabbccfffeddee01 or aabbcc.fffe.ddee01")
+
+    @classmethod
+    def of_mac(cls, mac: bytes) -> Identity:
+        """The identity that a MAC makes: fffe is in its middle."""
+        return cls(mac[:3] + b"\xff\xfe" + mac[3:])
+
+    @property
+    def pointed(self) -> str:
+        """As pmc writes it."""
+        text = self.octets.hex()
+        return f"{text[:6]}.{text[6:10]}.{text[10:]}"
+
+    def __str__(self) -> str:
+        return self.octets.hex()
+
+
+@dataclass(frozen=True, order=True)
+class PortIdentity:
+    """A portIdentity: a clock and the number of its port, such as aabbccfffeddee01/1 or aabbcc.fffe.ddee01-1."""
+
+    clock: Identity
+    port: int
+
+    @classmethod
+    def of(cls, identity: PortIdentityLike) -> PortIdentity:
+        """A portIdentity, or the one that a text spells."""
+        if isinstance(identity, PortIdentity):
+            return identity
+        found = _PORT.fullmatch(identity)
+        if found is None or int(found[2]) > 65535:
+            raise ValueError(f"{identity!r} is no identity of a port, such as aabbccfffeddee01/1 or aabbcc.fffe.ddee01-1")
+        return cls(Identity.of(found[1]), int(found[2]))
+
+    @property
+    def pointed(self) -> str:
+        """As pmc writes it."""
+        return f"{self.clock.pointed}-{self.port}"
+
+    def __str__(self) -> str:
+        return f"{self.clock}/{self.port}"
+
+
+IdentityLike = Union[Identity, str, bytes]
+PortIdentityLike = Union[PortIdentity, str]

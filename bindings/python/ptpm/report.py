@@ -1,0 +1,44 @@
+"""What a clock answered."""
+
+from __future__ import annotations
+
+from dataclasses import dataclass
+from typing import Dict, Optional
+
+from . import _header as header
+from .answers import Error, judged
+from .identity import PortIdentity
+from .ids import error_name
+from .members import Member, lines, members
+
+MOST_DATA = 1418
+
+
+@dataclass(frozen=True)
+class Report:
+    """What a clock answered: a dataField, that it carried a COMMAND out (`is_done`), or a managementErrorId."""
+
+    id: int
+    octets: bytes
+    error: Optional[int] = None
+    is_done: bool = False
+    source: Optional[PortIdentity] = None
+
+    @property
+    def members(self) -> Dict[str, Member]:
+        """The members of the dataField by the standard's names: none if they are not known here."""
+        return members(self.id, self.octets)
+
+    def __str__(self) -> str:
+        """As ptpm-manage prints it."""
+        if self.error is not None:
+            return f"refused {error_name(self.error)}"
+        return "done" if self.is_done else "\n".join(lines(self.id, self.octets))
+
+
+def told(number: int, asked: int, octets: bytes, error: int, source: Optional[PortIdentity] = None) -> Report:
+    """The report of a number of `enum ptpm_told`."""
+    if number == header.PTPM_NO_REPORT:
+        raise Error(number)
+    is_refused = judged(number) == header.PTPM_REFUSED
+    return Report(asked, octets, error if is_refused else None, number == header.PTPM_DONE, source)

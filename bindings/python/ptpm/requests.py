@@ -1,0 +1,132 @@
+"""The library's calls of a manager's session with one clock."""
+
+from __future__ import annotations
+
+import ctypes
+from dataclasses import dataclass
+from typing import Optional
+
+from . import _header as header
+from ._library import Handle, library
+from .answers import SessionAnswer, done, judged
+from .clock import port_number
+from .identity import Identity, IdentityLike, PortIdentity, PortIdentityLike
+from .ids import Action, IdLike, id_of
+from .report import MOST_DATA, Report, told
+from .session_image import is_under_way
+from .settings import write_number, write_octets
+
+
+# A tlvType (14.1): its TLV has a managementErrorId before the managementId (15.5.4).
+_MANAGEMENT_ERROR_STATUS = 2
+
+
+@dataclass(frozen=True)
+class SessionSettings:
+    """One manager, the clock that it manages, and how its requests are numbered and sent. `first` is the sequenceId of the first
+    request; None says that nobody knows which numbers the clock took of this manager."""
+
+    manager: PortIdentityLike
+    target: IdentityLike
+    first: Optional[int] = None
+    domain: int = 0
+    hops: int = 1
+    attempts: int = 30
+    target_ports: int = 8
+
+    def as_in_c(self) -> header.ptpm_session_settings:
+        """As the library takes them."""
+        struct = header.ptpm_session_settings()
+        manager = PortIdentity.of(self.manager)
+        write_octets(struct, "clock", manager.clock.octets)
+        write_octets(struct, "target", Identity.of(self.target).octets)
+        write_number(struct, "port", manager.port)
+        write_number(struct, "first", self.first or 0)
+        for member in ("domain", "hops", "attempts", "target_ports"):
+            write_number(struct, member, getattr(self, member))
+        return struct
+
+
+class Requests(Handle):
+    """One request at a time to one clock. Whoever uses these calls by themselves sees to the numbers: what is asked under one
+    that was used before is answered by what the clock kept."""
+
+    def __init__(self, settings: SessionSettings) -> None:
+        super().__init__(header.ptpm_session, library.ptpm_session_stop)
+        self._asked = 0  # the managementId of the latest answer
+        self._start(settings)
+
+    def _start(self, settings: SessionSettings) -> None:
+        """Starts anew: no request is begun."""
+        struct = settings.as_in_c()
+        done(self._call(library.ptpm_session_start, ctypes.byref(struct)))
+        self.settings = settings
+
+    def begin(self, action: int, named: IdLike, data: bytes = b"", port: int = 0) -> None:
+        """Begins a request, and lets the answer to the one before go. The port matters for an id of a port alone."""
+        octets = bytes(data)
+        done(self._call(library.ptpm_session_begin, Action(action), id_of(named), port_number(port), octets, len(octets)))
+
+    def send(self) -> bytes:
+        """The message of the unanswered request; it uses one of its attempts."""
+        size = ctypes.c_size_t()
+        room = (ctypes.c_uint8 * header.PTPM_MOST_OCTETS)()
+        done(self._call(library.ptpm_session_send, room, len(room), ctypes.byref(size)))
+        return bytes(room[: size.value])
+
+    def receive(self, octets: bytes) -> SessionAnswer:
+        """Judges a datagram that came in. After ANSWERED the next request can be begun."""
+        datagram = bytes(octets)
+        answer = SessionAnswer(judged(self._call(library.ptpm_session_receive, datagram, len(datagram))))
+        if answer == SessionAnswer.ANSWERED:
+            place = 54 if datagram[49] == _MANAGEMENT_ERROR_STATUS else 52
+            self._asked = int.from_bytes(datagram[place : place + 2], "big")
+        return answer
+
+    def report(self) -> Report:
+        """What the answer to the latest request says."""
+        size, error = ctypes.c_size_t(), ctypes.c_uint16()
+        room = (ctypes.c_uint8 * MOST_DATA)()
+        words = (room, len(room), ctypes.byref(size), ctypes.byref(error))
+        return told(self._call(library.ptpm_session_report, *words), self._asked, bytes(room[: size.value]), error.value)
+
+    def resume(self, attempts: int) -> None:
+        """Gives the unanswered request this many attempts, whatever was left."""
+        if not 0 <= attempts <= 255:
+            raise OverflowError(f"attempts are 0 to 255, not {attempts}")
+        done(self._call(library.ptpm_session_resume, attempts))
+
+    def retune(self, domain: int) -> None:
+        """Has requests sent, and replies expected, in this domain from now on, the unanswered request among them."""
+        if not 0 <= domain <= 255:
+            raise OverflowError(f"a domain is 0 to 255, not {domain}")
+        done(self._call(library.ptpm_session_retune, domain))
+
+    def image(self) -> bytes:
+        """The session's image: what a host saves before it sends a request, and after it has reported an answer. How many attempts
+        are left, and the answer to the latest request, are not in it."""
+        size = ctypes.c_size_t()
+        room = (ctypes.c_uint8 * header.PTPM_SESSION_IMAGE_OCTETS)()
+        done(self._call(library.ptpm_session_image, room, len(room), ctypes.byref(size)))
+        return bytes(room[: size.value])
+
+    def restore(self, image: bytes) -> None:
+        """Goes on as the session of an image of the same manager, clock, number of ports and first number, in place of this one.
+        Its domain, hops and attempts are those of the image. A request that was not answered goes on: send it again. What is
+        refused is no reason to start the session anew: the clock would take its requests for old ones, or for others."""
+        octets, struct = bytes(image), self.settings.as_in_c()
+        done(self._call(library.ptpm_session_restore, ctypes.byref(struct), octets, len(octets)))
+
+    @property
+    def issued(self) -> int:
+        """How many requests were begun."""
+        return self._call(library.ptpm_session_issued)
+
+    @property
+    def next_number(self) -> int:
+        """The sequenceId of the next request."""
+        return ((self.settings.first or 0) + self.issued) % 65536
+
+    def is_busy(self) -> bool:
+        """Whether a request is unanswered."""
+        return is_under_way(self.image())

@@ -1,0 +1,155 @@
+"""A manager's session with one clock."""
+
+from __future__ import annotations
+
+from dataclasses import replace
+from types import TracebackType
+from typing import Optional, Type, Union
+
+from . import _header as header
+from . import fresh_number
+from .answers import Error
+from .asking import NoAnswer, carry_out
+from .identity import Identity, PortIdentity
+from .ids import IdLike, id_of
+from .members import data_field
+from .nobody import draw
+from .report import Report
+from .requests import Requests, SessionSettings
+from .session_file import SessionFile
+from .session_image import first_number, has_question, number_of_line
+from .transport import Transport
+
+
+class Session(Requests):
+    """One request at a time to one clock, which carries it out once, however often it is sent.
+
+    `ask` sends a request until it is answered, and reports nothing that the clock had kept of an earlier session: it first finds
+    that its number is new. With a file the next session goes on from this one. A request is in the file before it is sent. If it
+    had no answer, the next session finishes it first, and has what came of it in `earlier`.
+    """
+
+    def __init__(self, settings: SessionSettings, file: Optional[SessionFile] = None, *, wait: float = 3.0) -> None:
+        """`wait` is how long a session without a number waits before it asks, in seconds, until no copy of an earlier one is on
+        its way."""
+        octets = None if file is None else file.octets
+        self._file = file
+        self._wait = wait
+        self._is_known = settings.first is not None or octets is not None
+        self._is_fresh = False
+        self.is_under_way = False
+        """Whether a request of an earlier run has no answer yet."""
+        self.earlier: Optional[Report] = None
+        """What came of it."""
+        first = settings.first if octets is None else first_number(octets)
+        super().__init__(replace(settings, first=draw() if first is None else first))
+        if octets is not None:
+            self._go_on_from(octets)
+
+    def _go_on_from(self, octets: bytes) -> None:
+        settings = self.settings
+        try:
+            self.restore(octets)
+        except Error as error:
+            number = number_of_line(octets, PortIdentity.of(settings.manager), Identity.of(settings.target))
+            if error.number != header.PTPM_NOT_AN_IMAGE or number is None:
+                raise
+            self._start(replace(settings, first=number))
+            return
+        self.retune(settings.domain)
+        self.is_under_way = self.is_busy() and not has_question(octets)
+        if self.is_busy() and not self.is_under_way:
+            self.let_go()
+
+    def __enter__(self) -> Session:
+        return self
+
+    def __exit__(
+        self, kind: Optional[Type[BaseException]], error: Optional[BaseException], trace: Optional[TracebackType]
+    ) -> None:
+        if kind is not None:
+            self._file = None  # what was answered may not be reported yet
+        self.close()
+
+    def close(self) -> None:
+        """Stops it. A file then has it without the request whose answer was reported."""
+        if self._file is not None and self._file.is_open and self._is_fresh and not self.is_busy():
+            self._file.write(self.image())
+        self._file = None
+        super().close()
+
+    def let_go(self) -> None:
+        """Goes on at the next number, without the request that has no answer. Once the clock has answered a later one, it was
+        carried out, or never will be."""
+        self._start(replace(self.settings, first=self.next_number))
+        self.is_under_way = False
+
+    def _judge(self, action: int, number: int, data: bytes, port: int) -> None:
+        """Refuses what the library refuses to begin, before anything is sent."""
+        if not self.is_under_way and self.is_busy():
+            raise Error(header.PTPM_BUSY)
+        probe = Requests(self.settings)
+        probe.begin(action, number, data, port)
+        probe.close()
+
+    def _finish(self, way: Transport, timeout: float) -> None:
+        """Sends the request of an earlier run until it is answered."""
+        self.resume(self.settings.attempts)
+        try:
+            self.earlier = carry_out(self, way, timeout)
+        except NoAnswer as error:
+            why = f"{error} of an earlier request: the request itself was not sent"
+            raise NoAnswer(why, was_sent=False) from None
+        self.is_under_way = False
+
+    def _keep_number(self, number: int) -> None:
+        """Has the file say that the next request has this number."""
+        if self._file is not None:
+            self._file.write(Requests(replace(self.settings, first=number)).image())
+
+    def _find_number(self, way: Transport, number: int, port: int, timeout: float) -> None:
+        """Has the session go on from a number that is new to the clock."""
+        begun = replace(self.settings, first=self.next_number if self._is_known else None)
+        question = fresh_number.Question(begun, number, port, timeout, self._wait)
+        self._start(replace(begun, first=fresh_number.find(question, way, self._keep_number)))
+        self._is_fresh = self._is_known = True
+
+    def _begin(self, action: int, number: int, data: bytes, port: int) -> None:
+        """Begins a request, and keeps it. A session that has begun as many as one can goes on as a new one, at its next number."""
+        try:
+            self.begin(action, number, data, port)
+        except Error as error:
+            if error.number != header.PTPM_COUNT_AT_MAXIMUM:
+                raise
+            self._start(replace(self.settings, first=self.next_number))
+            self.begin(action, number, data, port)
+        if self._file is not None:
+            self._file.write(self.image())
+
+    def ask(
+        self,
+        way: Transport,
+        action: int,
+        named: IdLike,
+        value: Union[bytes, int, bool, str, None] = None,
+        port: int = 0,
+        *,
+        timeout: float = 0.2,
+    ) -> Report:
+        """Asks until it is answered; `timeout` is how long each answer is waited for, in seconds. `value` is a dataField, or the
+        value of an id's one member. If no answer came, NoAnswer says whether the request itself was sent; if it was, `go_on` asks
+        the same again."""
+        number = id_of(named)
+        data = data_field(number, value)
+        self._judge(action, number, data, port)
+        if self.is_under_way:
+            self._finish(way, timeout)
+        if not self._is_fresh:
+            self._find_number(way, number, port, timeout)
+        self._begin(action, number, data, port)
+        return carry_out(self, way, timeout)
+
+    def go_on(self, way: Transport, attempts: int = 30, *, timeout: float = 0.2) -> Report:
+        """Asks the unanswered request again. The clock carries it out once all the same."""
+        self.resume(attempts)
+        return carry_out(self, way, timeout)

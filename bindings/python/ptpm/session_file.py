@@ -1,0 +1,189 @@
+"""The file in which a manager's session with a clock goes on from run to run: the session's image. It is the file of ptpm-manage,
+by the same rules, so that programs take turns with it."""
+
+from __future__ import annotations
+
+import errno
+import fcntl
+import os
+import stat
+import threading
+import time
+from typing import Optional, Set, Union
+
+from . import _header as header
+from .identity import Identity, IdentityLike, PortIdentity, PortIdentityLike
+
+_TURN = 60.0
+_TRY_AGAIN = 0.01
+_MOST = header.PTPM_SESSION_IMAGE_OCTETS + 1  # of a larger file these are read
+
+# The locks of a process do not keep it from itself.
+_own: Set[str] = set()
+_own_turn = threading.Lock()
+
+
+class SessionFileError(Exception):
+    """A file is in another's hands, or is none."""
+
+
+def usual_path(manager: PortIdentityLike, target: IdentityLike) -> str:
+    """The file of a manager and a clock in $XDG_STATE_HOME/ptpm, in /var/lib/ptpm of root, or in ~/.local/state/ptpm."""
+    who = PortIdentity.of(manager)
+    state, home = os.environ.get("XDG_STATE_HOME", ""), os.environ.get("HOME", "")
+    if state.startswith("/"):
+        folder = f"{state}/ptpm"
+    elif os.geteuid() == 0:
+        folder = "/var/lib/ptpm"
+    elif home.startswith("/"):
+        folder = f"{home}/.local/state/ptpm"
+    else:
+        raise SessionFileError("neither XDG_STATE_HOME nor HOME names a folder for the session")
+    return f"{folder}/{who.clock}-{who.port}.{Identity.of(target)}"
+
+
+class SessionFile:
+    """The octets of a session's file, or None if there is none yet. Whoever holds the file has its turn: others wait a minute. It
+    is held until it is closed, or its `with` ends."""
+
+    def __init__(
+        self, manager: PortIdentityLike, target: IdentityLike, path: Union[str, "os.PathLike[str]", None] = None
+    ) -> None:
+        if path is None:
+            self.path = usual_path(manager, target)
+            os.makedirs(os.path.dirname(os.path.dirname(self.path)), mode=0o700, exist_ok=True)
+        else:
+            self.path = os.path.abspath(os.fspath(path))
+        self._folder, self._name = os.path.split(self.path)
+        if not os.path.isdir(self._folder):
+            os.mkdir(self._folder, 0o755)  # no folder above it is made
+        self._before: Optional[os.stat_result] = None
+        self._lock = self._take_turn()
+        try:
+            self.octets = self._read()
+        except BaseException:
+            self.close()
+            raise
+
+    def __enter__(self) -> SessionFile:
+        return self
+
+    def __exit__(self, *_: object) -> None:
+        self.close()
+
+    def _take_turn(self) -> int:
+        with _own_turn:
+            if self.path in _own:
+                raise SessionFileError(f"{self.path}: this program holds it already")
+            _own.add(self.path)
+        try:
+            return self._locked(time.monotonic() + _TURN)
+        except BaseException:
+            _own.discard(self.path)
+            raise
+
+    def _locked(self, until: float) -> int:
+        """The file of the lock, with the lock on it. Another program that had it may have removed it meanwhile."""
+        flags = os.O_RDWR | os.O_CREAT | os.O_NOFOLLOW | os.O_NONBLOCK | os.O_CLOEXEC
+        while True:
+            lock = os.open(f"{self.path}.lock", flags, 0o660)
+            try:
+                self._wait_for(lock, until)
+                if self._stands_there(lock):
+                    os.utime(lock)  # the time of this turn
+                    return lock
+            except BaseException:
+                os.close(lock)
+                raise
+            os.close(lock)
+
+    def _wait_for(self, lock: int, until: float) -> None:
+        while True:
+            try:
+                fcntl.lockf(lock, fcntl.LOCK_EX | fcntl.LOCK_NB)
+                return
+            except OSError as error:
+                if error.errno not in (errno.EAGAIN, errno.EACCES):
+                    raise
+            if time.monotonic() >= until:
+                held = max(0, int(time.time() - os.fstat(lock).st_mtime))
+                raise SessionFileError(f"{self.path}: another run has held it for {held} s")
+            time.sleep(_TRY_AGAIN)
+
+    def _stands_there(self, lock: int) -> bool:
+        try:
+            found = os.stat(f"{self.path}.lock", follow_symlinks=False)
+        except FileNotFoundError:
+            return False
+        return os.path.samestat(found, os.fstat(lock))
+
+    def _read(self) -> Optional[bytes]:
+        try:
+            opened = os.open(self.path, os.O_RDONLY | os.O_NOFOLLOW | os.O_NONBLOCK | os.O_CLOEXEC)
+        except FileNotFoundError:
+            os.unlink(self._write_new(bytes(header.PTPM_SESSION_IMAGE_OCTETS)))  # if it can't be written, nothing is to be sent
+            return None
+        except OSError as error:
+            if error.errno == errno.ELOOP:
+                raise SessionFileError(f"{self.path}: it is a link") from None
+            raise
+        with open(opened, "rb") as file:
+            self._before = os.fstat(opened)
+            if not stat.S_ISREG(self._before.st_mode):
+                raise SessionFileError(f"{self.path}: it is no file")
+            return file.read(_MOST)
+
+    def _write_new(self, octets: bytes) -> str:
+        """Writes the file that is to replace the old one. It has its owner, as far as this user may, and its mode."""
+        path = f"{self.path}.new"
+        if os.path.lexists(path):
+            os.unlink(path)
+        opened = os.open(path, os.O_WRONLY | os.O_CREAT | os.O_EXCL | os.O_NOFOLLOW | os.O_CLOEXEC, 0o666)
+        try:
+            with open(opened, "wb") as file:
+                self._make_like_before(opened)
+                file.write(octets)
+                file.flush()
+                os.fsync(opened)
+        except BaseException:
+            os.unlink(path)
+            raise
+        return path
+
+    def _make_like_before(self, opened: int) -> None:
+        if self._before is None:
+            return
+        for user in (self._before.st_uid, -1):
+            try:
+                os.fchown(opened, user, self._before.st_gid)
+                break
+            except OSError:
+                continue  # it is this user's then
+        os.fchmod(opened, stat.S_IMODE(self._before.st_mode) & 0o777)
+
+    def write(self, octets: bytes) -> None:
+        """Has the file have these octets, whatever becomes of the program or the machine: they are on the disk when the call
+        returns."""
+        os.replace(self._write_new(octets), self.path)
+        folder = os.open(self._folder, os.O_RDONLY | os.O_DIRECTORY | os.O_CLOEXEC)
+        try:
+            os.fsync(folder)
+        finally:
+            os.close(folder)
+        self.octets = octets
+
+    @property
+    def is_open(self) -> bool:
+        """Whether it is held."""
+        return self._lock >= 0
+
+    def close(self) -> None:
+        """Lets others have their turn. If no session was kept, for example of a clock that is not there, no lock stays beside
+        it."""
+        if self._lock < 0:
+            return
+        if not os.path.lexists(self.path) and os.path.lexists(f"{self.path}.lock"):
+            os.unlink(f"{self.path}.lock")
+        os.close(self._lock)
+        self._lock = -1
+        _own.discard(self.path)

@@ -1,0 +1,49 @@
+"""What this module itself reads of a session's image, and of the number that earlier versions kept in its place. Whether octets
+are an image the library judges."""
+
+from __future__ import annotations
+
+import re
+from typing import Optional
+
+from . import _header as header
+from .answers import Error
+from .identity import Identity, PortIdentity
+from .ids import Action
+
+# Where the members are. Numbers of two octets have the higher one first.
+_FIRST, _IS_UNDER_WAY, _ACTION, _ID, _SIZE = 31, 52, 53, 54, 58
+
+_LINE = re.compile(rb"([0-9]{1,5})( [0-9a-f]{16}/[0-9]{1,5} [0-9a-f]{16})?\n?")
+
+
+def _number_at(octets: bytes, place: int) -> int:
+    return int.from_bytes(octets[place : place + 2], "big")
+
+
+def first_number(image: bytes) -> int:
+    """The sequenceId of the first request of an image's session."""
+    return _number_at(image, _FIRST)
+
+
+def is_under_way(image: bytes) -> bool:
+    """Whether a request of an image's session has no answer yet."""
+    return image[_IS_UNDER_WAY] == 1
+
+
+def has_question(image: bytes) -> bool:
+    """Whether what has no answer yet is a GET that asked if a number is new. Nobody waits for its answer."""
+    if not is_under_way(image) or image[_ACTION] != Action.GET:
+        return False
+    asked = (_number_at(image, _ID), _number_at(image, _SIZE))
+    return asked in ((header.PTPM_ID_DEFAULT_DATA_SET, 20), (header.PTPM_ID_PORT_DATA_SET, 26))
+
+
+def number_of_line(octets: bytes, manager: PortIdentity, target: Identity) -> Optional[int]:
+    """The number of a file of an earlier version, alone or with its manager and its clock; None if it is no such file."""
+    found = _LINE.fullmatch(octets)
+    if found is None or int(found[1]) > 65535:
+        return None
+    if found[2] is not None and found[2] != f" {manager} {target}".encode():
+        raise Error(header.PTPM_OTHER_SESSION)
+    return int(found[1])

@@ -1,0 +1,173 @@
+"""The start values of a clock and of its ports, and who may change them."""
+
+from __future__ import annotations
+
+import ctypes
+from dataclasses import dataclass
+from enum import IntEnum, IntFlag
+from typing import Any, Optional
+
+from . import _header as header
+from ._library import library
+from .identity import Identity, IdentityLike, PortIdentity, PortIdentityLike
+
+
+class PortState(IntEnum):
+    """A portState (table 20)."""
+
+    INITIALIZING = 1
+    FAULTY = 2
+    DISABLED = 3
+    LISTENING = 4
+    PRE_MASTER = 5
+    MASTER = 6
+    PASSIVE = 7
+    UNCALIBRATED = 8
+    SLAVE = 9
+
+
+class DelayMechanism(IntEnum):
+    """A delayMechanism (table 21)."""
+
+    E2E = 1
+    P2P = 2
+    NO_MECHANISM = 0xFE
+
+
+class Rights(IntFlag):
+    """What a manager may change."""
+
+    NONE = 0
+    CLOCK_SET = header.PTPM_CLOCK_SET
+    PORT_SET = header.PTPM_PORT_SET
+    PORT_COMMAND = header.PTPM_PORT_COMMAND
+    ALL = CLOCK_SET | PORT_SET | PORT_COMMAND
+
+
+def time_interval(nanoseconds: float) -> int:
+    """The TimeInterval (5.3.2) of N nanoseconds, which the members of a clock take: N times 2^16."""
+    return round(nanoseconds * 65536)
+
+
+def write_number(struct: ctypes.Structure, member: str, value: int) -> None:
+    """Writes a member, and refuses a value that does not fit it. ctypes would cut it off."""
+    setattr(struct, member, value)
+    if getattr(struct, member) != value:
+        raise OverflowError(f"{member} takes no {value}")
+
+
+def write_octets(struct: ctypes.Structure, member: str, octets: bytes) -> None:
+    """Writes the first octets of a member that is an array."""
+    ctypes.memmove(getattr(struct, member), octets, len(octets))
+
+
+def write_given(struct: ctypes.Structure, member: str, value: Optional[Any]) -> None:
+    """Writes a member that counts if its flag `has_` is set."""
+    if value is None:
+        return
+    setattr(struct, f"has_{member}", 1)
+    if isinstance(value, PortIdentity):
+        write_octets(struct, f"{member}_clock", value.clock.octets)
+        write_number(struct, f"{member}_number", value.port)
+    elif isinstance(value, Identity):
+        write_octets(struct, member, value.octets)
+    else:
+        write_number(struct, member, value)
+
+
+@dataclass
+class ClockSettings:
+    """The start values of a clock's own members (8.2), by the header's names. What is None is the library's, or the clock's own."""
+
+    identity: IdentityLike
+    domain: Optional[int] = None
+    user_description: str = ""
+    two_step: Optional[bool] = None
+    priority1: Optional[int] = None
+    clock_class: Optional[int] = None
+    clock_accuracy: Optional[int] = None
+    variance: Optional[int] = None
+    priority2: Optional[int] = None
+    steps_removed: Optional[int] = None
+    offset_from_master: Optional[int] = None
+    mean_path_delay: Optional[int] = None
+    parent_port: Optional[PortIdentityLike] = None
+    parent_stats: Optional[bool] = None
+    observed_variance: Optional[int] = None
+    observed_rate: Optional[int] = None
+    grandmaster: Optional[IdentityLike] = None
+    grandmaster_priority1: Optional[int] = None
+    grandmaster_class: Optional[int] = None
+    grandmaster_accuracy: Optional[int] = None
+    grandmaster_variance: Optional[int] = None
+    grandmaster_priority2: Optional[int] = None
+    utc_offset: Optional[int] = None
+    leap61: Optional[bool] = None
+    leap59: Optional[bool] = None
+    utc_valid: Optional[bool] = None
+    ptp_timescale: Optional[bool] = None
+    time_traceable: Optional[bool] = None
+    frequency_traceable: Optional[bool] = None
+    time_source: Optional[int] = None
+
+    def as_in_c(self) -> header.ptpm_clock_settings:
+        """As the library takes them."""
+        struct = header.ptpm_clock_settings()
+        library.ptpm_clock_defaults(ctypes.byref(struct))
+        write_octets(struct, "identity", Identity.of(self.identity).octets)
+        text = self.user_description.encode()
+        write_octets(struct, "user_description", text[: len(struct.user_description)])
+        struct.user_description_size = min(len(text), 255)  # a text that is too long has a size that the library refuses
+        write_given(struct, "parent_port", None if self.parent_port is None else PortIdentity.of(self.parent_port))
+        write_given(struct, "grandmaster", None if self.grandmaster is None else Identity.of(self.grandmaster))
+        for member in _GRANDMASTER:
+            write_given(struct, member, getattr(self, member))
+        for member in _PLAIN:
+            value = getattr(self, member)
+            if value is not None:
+                write_number(struct, member, int(value))
+        return struct
+
+
+_GRANDMASTER = tuple(f"grandmaster_{quality}" for quality in ("priority1", "class", "accuracy", "variance", "priority2"))
+_WITH_FORMS_OF_THEIR_OWN = ("identity", "user_description", "parent_port", "grandmaster", *_GRANDMASTER)
+_PLAIN = tuple(name for name in ClockSettings.__dataclass_fields__ if name not in _WITH_FORMS_OF_THEIR_OWN)
+
+
+@dataclass
+class PortSettings:
+    """The start values of a port (8.2.15), by the header's names. What is None is the library's: a port that is MASTER."""
+
+    peer_delay: Optional[int] = None
+    state: Optional[int] = None
+    log_min_delay_req: Optional[int] = None
+    log_announce: Optional[int] = None
+    receipt_timeout: Optional[int] = None
+    log_sync: Optional[int] = None
+    delay_mechanism: Optional[int] = None
+    log_min_pdelay: Optional[int] = None
+
+    def as_in_c(self) -> header.ptpm_port_settings:
+        """As the library takes them."""
+        struct = header.ptpm_port_settings()
+        library.ptpm_port_defaults(ctypes.byref(struct))
+        for member in self.__dataclass_fields__:
+            value = getattr(self, member)
+            if value is not None:
+                write_number(struct, member, value)
+        return struct
+
+
+@dataclass
+class Manager:
+    """Who may change a clock, and what."""
+
+    identity: PortIdentityLike
+    rights: Rights = Rights.ALL
+
+    def as_in_c(self) -> header.ptpm_manager_settings:
+        """As the library takes it."""
+        identity = PortIdentity.of(self.identity)
+        struct = header.ptpm_manager_settings(port=identity.port, rights=int(self.rights))
+        write_octets(struct, "clock", identity.clock.octets)
+        return struct

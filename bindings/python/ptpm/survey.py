@@ -1,0 +1,121 @@
+"""One GET to every clock, and the first answer of each port."""
+
+from __future__ import annotations
+
+import ctypes
+import time
+from dataclasses import dataclass
+from typing import Iterator, Optional
+
+from . import _header as header
+from ._library import Handle, library
+from .answers import SurveyAnswer, done, judged
+from .asking import send_out
+from .identity import Identity, IdentityLike, PortIdentity, PortIdentityLike
+from .ids import IdLike, id_of
+from .nobody import draw, nobody
+from .report import MOST_DATA, Report, told
+from .settings import write_number, write_octets
+from .transport import Transport
+
+# Rounds without a new answer that end a survey: if somebody answered, and if nobody did.
+_QUIET = 2
+_QUIET_AT_FIRST = 5
+
+
+@dataclass(frozen=True)
+class SurveySettings:
+    """One manager, and the GET that it sends to every clock and every port. Each survey gets a number that is not on its way any
+    more."""
+
+    manager: PortIdentityLike
+    number: int
+    id: IdLike
+    domain: int = 0
+    hops: int = 1
+
+    def as_in_c(self) -> header.ptpm_survey_settings:
+        """As the library takes them."""
+        manager = PortIdentity.of(self.manager)
+        struct = header.ptpm_survey_settings(id=id_of(self.id))
+        write_octets(struct, "clock", manager.clock.octets)
+        write_number(struct, "port", manager.port)
+        for member in ("number", "domain", "hops"):
+            write_number(struct, member, getattr(self, member))
+        return struct
+
+
+class Survey(Handle):
+    """What a survey asks, and its answers: the first of each port, of 512 ports at most."""
+
+    def __init__(self, settings: SurveySettings) -> None:
+        super().__init__(header.ptpm_survey, library.ptpm_survey_stop)
+        struct = settings.as_in_c()
+        done(self._call(library.ptpm_survey_start, ctypes.byref(struct)))
+        self._id = struct.id
+
+    def __enter__(self) -> Survey:
+        return self
+
+    def __exit__(self, *_: object) -> None:
+        self.close()
+
+    def send(self) -> bytes:
+        """The message of the GET, the same each time."""
+        size = ctypes.c_size_t()
+        room = (ctypes.c_uint8 * header.PTPM_MOST_OCTETS)()
+        done(self._call(library.ptpm_survey_send, room, len(room), ctypes.byref(size)))
+        return bytes(room[: size.value])
+
+    def receive(self, octets: bytes) -> SurveyAnswer:
+        """Judges a datagram that came in, and keeps it if it is the first answer of its port."""
+        datagram = bytes(octets)
+        return SurveyAnswer(judged(self._call(library.ptpm_survey_receive, datagram, len(datagram))))
+
+    def __len__(self) -> int:
+        """How many answers are kept."""
+        return self._call(library.ptpm_survey_count)
+
+    def __getitem__(self, place: int) -> Report:
+        """An answer, counted from 0 in the order in which they came, with the port that gave it."""
+        if not 0 <= place < len(self):
+            raise IndexError(place)
+        source, size, error = header.ptpm_source(), ctypes.c_size_t(), ctypes.c_uint16()
+        room = (ctypes.c_uint8 * MOST_DATA)()
+        words = (place, ctypes.byref(source), room, len(room), ctypes.byref(size), ctypes.byref(error))
+        number = self._call(library.ptpm_survey_answer, *words)
+        port = PortIdentity(Identity(bytes(source.clock)), source.port)
+        return told(number, self._id, bytes(room[: size.value]), error.value, port)
+
+    def __iter__(self) -> Iterator[Report]:
+        return (self[place] for place in range(len(self)))
+
+
+def survey(
+    way: Transport,
+    named: IdLike,
+    *,
+    manager: Optional[PortIdentityLike] = None,
+    domain: int = 0,
+    hops: int = 1,
+    attempts: int = 30,
+    timeout: float = 0.2,
+) -> Iterator[Report]:
+    """Asks every clock, and yields the answers as they come. It asks again until two rounds bring no new answer, or five if nobody
+    has answered, and `attempts` times at most."""
+    who = PortIdentity.of(manager) if manager is not None else nobody(PortIdentity(way.identity, 1))
+    with Survey(SurveySettings(who, draw(), named, domain, hops)) as asked:
+        message = asked.send()
+        sent = quiet = 0
+        for _ in range(attempts):
+            if quiet >= (_QUIET if len(asked) else _QUIET_AT_FIRST):
+                return
+            sent = send_out(way, message, sent)
+            quiet += 1
+            until = time.monotonic() + timeout
+            datagram = way.receive(until)
+            while datagram is not None:
+                if asked.receive(datagram) == SurveyAnswer.TAKEN:
+                    quiet = 0
+                    yield asked[len(asked) - 1]
+                datagram = way.receive(until)

@@ -1,0 +1,205 @@
+"""Sessions over the agent of hosts/: what is reported, and what their file has. `make -C hosts` builds the programs."""
+
+from __future__ import annotations
+
+import os
+import subprocess
+import sys
+import unittest
+from typing import Optional
+
+import ptpm
+
+from . import CLOCK, MANAGER, TOP, Folder
+
+
+@unittest.skipUnless((TOP / "hosts/clock").exists(), "hosts/clock is not built")
+class Asking(Folder):
+    def setUp(self) -> None:
+        super().setUp()
+        self.path = self.start_clock("-m", MANAGER)
+        self.way = ptpm.UnixTransport(self.path)
+        self.addCleanup(self.way.close)
+
+    def session(self, first: Optional[int], attempts: int = 3) -> ptpm.Session:
+        return ptpm.Session(ptpm.SessionSettings(MANAGER, CLOCK, first, attempts=attempts), wait=0)
+
+    def ask(self, first: Optional[int], value: int, timeout: float = 1) -> ptpm.Report:
+        with self.session(first) as session:
+            return session.ask(self.way, ptpm.Action.SET, "PRIORITY1", value, timeout=timeout)
+
+    def test_a_get_and_a_survey(self) -> None:
+        report = ptpm.get(self.way, "aabbcc.fffe.ddee01", "PRIORITY1")
+        self.assertEqual(report.members, {"priority1": 128})
+        [report] = ptpm.survey(self.way, "DEFAULT_DATA_SET", timeout=0.05)
+        self.assertEqual((str(report.source), report.members["numberPorts"]), (f"{CLOCK}/1", 1))
+
+    def test_nothing_that_was_kept_is_reported(self) -> None:
+        self.assertEqual(self.ask(100, 50).members, {"priority1": 50})      # numbers 100 and 101
+        self.assertEqual(self.ask(102, 60).members, {"priority1": 60})      # numbers 102 and 103
+        for first in (100, 101, 102, 103):      # 103 would be answered by what the clock kept of `60`
+            with self.assertRaises(ptpm.NoAnswer) as caught:
+                self.ask(first, 60, 0.1)
+            self.assertFalse(caught.exception.was_sent)
+        self.assertEqual(ptpm.get(self.way, CLOCK, "PRIORITY1").members, {"priority1": 60})
+
+    def test_a_session_without_a_number_finds_one(self) -> None:
+        number = 0
+        for value in range(8):
+            self.ask(number, value)
+            with self.session(None) as session:
+                report = session.ask(self.way, ptpm.Action.SET, "PRIORITY1", 100 + value, timeout=0.1)
+                self.assertEqual(report.members, {"priority1": 100 + value})
+                number = (session.next_number + 20000) % 65536
+
+    def test_requests_of_one_session_are_numbered_on(self) -> None:
+        with self.session(65534) as session:
+            for value in (1, 2, 3):
+                report = session.ask(self.way, ptpm.Action.SET, "PRIORITY2", value, timeout=1)
+                self.assertEqual(report.members, {"priority2": value})
+            report = session.ask(self.way, ptpm.Action.SET, "LOG_SYNC_INTERVAL", -9, 1, timeout=1)
+            self.assertEqual(str(report), "refused WRONG_VALUE")
+            self.assertEqual(session.next_number, 3)
+            self.assertRaisesRegex(ptpm.Error, "NEEDS_PORT", session.ask, self.way, ptpm.Action.GET, "PORT_DATA_SET")
+
+    def test_a_clock_that_is_not_there_is_told_apart(self) -> None:
+        with ptpm.Session(ptpm.SessionSettings(MANAGER, "0102030405060708", 1, attempts=2)) as session:
+            with self.assertRaisesRegex(ptpm.NoAnswer, "no read either"):
+                session.ask(self.way, ptpm.Action.SET, "PRIORITY1", 1, timeout=0.05)
+
+    def test_an_unanswered_request_goes_on(self) -> None:
+        with self.session(7, attempts=1) as session:
+            session.ask(self.way, ptpm.Action.GET, "PRIORITY1", timeout=5)
+            session.retune(4)       # where the clock is not
+            with self.assertRaises(ptpm.NoAnswer) as caught:
+                session.ask(self.way, ptpm.Action.SET, "PRIORITY1", 9, timeout=0.05)
+            self.assertTrue(caught.exception.was_sent)
+            self.assertRaisesRegex(ptpm.Error, "BUSY", session.ask, self.way, ptpm.Action.GET, "PRIORITY1")
+            session.retune(0)
+            self.assertEqual(session.go_on(self.way).members, {"priority1": 9})
+
+    def test_the_file_is_that_of_ptpm_manage(self) -> None:
+        for value, asks in ((10, self.ask_with_file), (11, self.ask_by_manage), (12, self.ask_with_file), (13, self.ask_by_manage)):
+            self.assertEqual(asks(value), value)
+        with ptpm.SessionFile(MANAGER, CLOCK) as file:
+            kept = ptpm.Session(ptpm.SessionSettings(MANAGER, CLOCK), file)
+        self.assertFalse(kept.is_under_way)
+        with self.session((kept.next_number - 1) % 65536) as session, self.assertRaises(ptpm.NoAnswer):
+            session.ask(self.way, ptpm.Action.GET, "PRIORITY1", timeout=0.05)
+
+    def ask_with_file(self, value: int) -> object:
+        with ptpm.SessionFile(MANAGER, CLOCK) as file:
+            with ptpm.Session(ptpm.SessionSettings(MANAGER, CLOCK), file, wait=0) as session:
+                return session.ask(self.way, ptpm.Action.SET, "PRIORITY1", value, timeout=1).members["priority1"]
+
+    def manage(self, *words: str) -> "subprocess.CompletedProcess[str]":
+        command = [str(TOP / "hosts/manage"), "-u", self.path, "-m", MANAGER, "-w", "0", "--target", CLOCK, *words]
+        return subprocess.run(command, capture_output=True, text=True, check=False)
+
+    def ask_by_manage(self, value: int) -> object:
+        return int(self.manage("set", "PRIORITY1", str(value)).stdout.split()[1])
+
+    def leave(self, value: int) -> None:
+        """A session that ends before its SET has an answer."""
+        with self.assertRaises(ptpm.NoAnswer) as caught, ptpm.SessionFile(MANAGER, CLOCK) as file:
+            with ptpm.Session(ptpm.SessionSettings(MANAGER, CLOCK, attempts=2), file, wait=0) as session:
+                session.ask(self.way, ptpm.Action.GET, "PRIORITY1", timeout=1)
+                session.retune(4)  # in which the clock is not
+                session.ask(self.way, ptpm.Action.SET, "PRIORITY1", value, timeout=0.05)
+        self.assertTrue(caught.exception.was_sent)
+
+    def test_a_request_without_an_answer_is_finished(self) -> None:
+        self.leave(21)
+        with ptpm.SessionFile(MANAGER, CLOCK) as file:
+            with ptpm.Session(ptpm.SessionSettings(MANAGER, CLOCK), file) as session:
+                self.assertTrue(session.is_under_way)
+                report = session.ask(self.way, ptpm.Action.GET, "PRIORITY1", timeout=1)
+                self.assertEqual((str(session.earlier), str(report)), ("priority1 21", "priority1 21"))
+        self.leave(22)
+        ran = self.manage("get", "PRIORITY1")
+        self.assertEqual(ran.stdout, "priority1 22\n")
+        self.assertIn("set PRIORITY1 of an earlier run", ran.stderr)
+        self.leave(23)
+        with ptpm.SessionFile(MANAGER, CLOCK) as file:
+            with ptpm.Session(ptpm.SessionSettings(MANAGER, CLOCK), file) as session:
+                session.let_go()
+                self.assertEqual(str(session.ask(self.way, ptpm.Action.GET, "PRIORITY1", timeout=1)), "priority1 22")
+                self.assertIsNone(session.earlier)
+
+    def test_an_answer_that_was_not_reported_comes_again(self) -> None:
+        settings = ptpm.SessionSettings(MANAGER, CLOCK)
+        with self.assertRaises(BrokenPipeError), ptpm.SessionFile(MANAGER, CLOCK) as file:
+            with ptpm.Session(settings, file, wait=0) as session:
+                session.ask(self.way, ptpm.Action.SET, "PRIORITY1", 31, timeout=1)
+                raise BrokenPipeError
+        with ptpm.SessionFile(MANAGER, CLOCK) as file, ptpm.Session(settings, file) as session:
+            session.ask(self.way, ptpm.Action.GET, "PRIORITY1", timeout=1)
+            self.assertEqual(str(session.earlier), "priority1 31")
+
+    def test_a_file_of_another_session_is_refused(self) -> None:
+        path = f"{self.folder}/session"
+        image = ptpm.Requests(ptpm.SessionSettings(MANAGER, CLOCK, 7)).image()
+        other = ptpm.Requests(ptpm.SessionSettings(MANAGER, "0102030405060708", 7)).image()
+        for octets, why in (
+            (f"7 {MANAGER} 0102030405060708\n".encode(), "OTHER_SESSION"),
+            (other, "OTHER_SESSION"),
+            (image[:-1], "DAMAGED"),
+            (image + b"\0", "DAMAGED"),
+            (b"65536\n", "NOT_AN_IMAGE"),
+            (b"7 8\n", "NOT_AN_IMAGE"),
+            (b"", "NOT_AN_IMAGE"),
+        ):
+            with open(path, "wb") as file:
+                file.write(octets)
+            with ptpm.SessionFile(MANAGER, CLOCK, path) as held:
+                self.assertRaisesRegex(ptpm.Error, why, ptpm.Session, ptpm.SessionSettings(MANAGER, CLOCK), held)
+            with open(path, "rb") as file:
+                self.assertEqual(file.read(), octets)
+        os.unlink(path)
+        os.symlink("elsewhere", path)
+        self.assertRaisesRegex(ptpm.SessionFileError, "link", ptpm.SessionFile, MANAGER, CLOCK, path)
+
+    def test_a_file_has_one_turn_at_a_time(self) -> None:
+        path = f"{self.folder}/session"
+        with open(path, "w", encoding="ascii") as old:
+            old.write(f"7 {MANAGER} {CLOCK}\n")  # as an earlier version wrote it
+        os.chmod(path, 0o640)
+        with ptpm.SessionFile(MANAGER, CLOCK, path) as file:
+            self.assertRaisesRegex(ptpm.SessionFileError, "holds it", ptpm.SessionFile, MANAGER, CLOCK, path)
+            words = [str(TOP / "hosts/manage"), "-u", self.path, "-m", MANAGER, "-k", path, "--target", CLOCK, "get", "PRIORITY1"]
+            with subprocess.Popen(words, stdout=subprocess.PIPE, text=True) as waiting:
+                self.assertRaises(subprocess.TimeoutExpired, waiting.wait, 0.3)
+                with ptpm.Session(ptpm.SessionSettings(MANAGER, CLOCK), file) as session:
+                    session.ask(self.way, ptpm.Action.GET, "PRIORITY1", timeout=1)  # numbers 7 and 8
+                    self.assertEqual(session.next_number, 9)
+                file.close()
+                self.assertEqual(waiting.communicate()[0], "priority1 128\n")
+        with ptpm.SessionFile(MANAGER, CLOCK, path) as file:
+            self.assertEqual(ptpm.Session(ptpm.SessionSettings(MANAGER, CLOCK), file).next_number, 11)
+        self.assertEqual(os.stat(path).st_mode & 0o777, 0o640)
+
+    def test_no_file_is_left_of_a_clock_that_is_not_there(self) -> None:
+        with ptpm.SessionFile(MANAGER, "0102030405060708", f"{self.folder}/session") as file:
+            settings = ptpm.SessionSettings(MANAGER, "0102030405060708", attempts=1)
+            with ptpm.Session(settings, file, wait=0) as session, self.assertRaises(ptpm.NoAnswer):
+                session.ask(self.way, ptpm.Action.GET, "PRIORITY1", timeout=0.05)
+        self.assertEqual([name for name in os.listdir(self.folder) if name.startswith("session")], [])
+
+    def test_the_command_line(self) -> None:
+        def run(*words: str) -> "tuple[int, str]":
+            command = [sys.executable, "-m", "ptpm", "-u", self.path, *words]
+            ran = subprocess.run(command, capture_output=True, text=True, check=False)
+            return ran.returncode, ran.stdout
+
+        self.assertEqual(run("get", "PRIORITY1", "--target", CLOCK), (0, "priority1 128\n"))
+        self.assertEqual(run("-m", MANAGER, "-w", "0", "set", "priority1", "100", "-T", CLOCK), (0, "priority1 100\n"))
+        self.assertEqual(run("set", "PRIORITY1", "100", "--target", CLOCK), (1, "refused NOT_SUPPORTED\n"))
+        self.assertEqual(run("-m", MANAGER, "set", "LOG_SYNC_INTERVAL", "-2", "-T", f"{CLOCK}-1"), (0, "logSyncInterval -2\n"))
+        self.assertEqual(run("get", "PORT_DATA_SET", "--target", CLOCK), (2, ""))
+        self.assertEqual(run("-t", "20", "-a", "2", "get", "PRIORITY1", "--target", "0102030405060708"), (3, ""))
+        self.assertEqual(run("survey", "PRIORITY1", "-x"), (0, f"{CLOCK}/1 value 6400\n"))
+        self.assertEqual(run("survey", "PRIORITY1", "--target", CLOCK), (2, ""))
+
+
+if __name__ == "__main__":
+    unittest.main()

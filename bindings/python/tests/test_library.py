@@ -1,0 +1,207 @@
+"""What the binding does beyond the library: it lays settings and observations out, takes octets and numbers, and names answers.
+Expected octets are those of IEEE 1588-2019, clauses 13.3, 15.4 and 15.5."""
+
+from __future__ import annotations
+
+import copy
+import doctest
+import unittest
+
+import ptpm
+from ptpm import ClockMembers, HandleAnswer, PortMembers, SessionAnswer, SurveyAnswer
+from ptpm._library import library
+
+from . import CLOCK, MANAGER
+
+PLACES = dict(
+    domain=0x2A, user_description="Rack 4", two_step=True, priority1=0x43, clock_class=0x44, clock_accuracy=0x22, variance=0x3132,
+    priority2=0x46, steps_removed=0x4142, offset_from_master=0x0102030405060708, mean_path_delay=0x1112131415161718,
+    parent_port="b0b1b2b3b4b5b6b7/29042", parent_stats=True, observed_variance=0x5152, observed_rate=0x21222324,
+    grandmaster="c0c1c2c3c4c5c6c7", grandmaster_priority1=0x53, grandmaster_class=0x54, grandmaster_accuracy=0x23,
+    grandmaster_variance=0x6162, grandmaster_priority2=0x56, utc_offset=0x1920, leap61=True, utc_valid=True,
+    frequency_traceable=True, time_source=0x90,
+)
+PORT = ptpm.PortSettings(0x0A0B0C0D0E0F1A1B, ptpm.PortState.PRE_MASTER, -11, 3, 7, -6, ptpm.DelayMechanism.P2P, 4)
+
+
+def load_tests(_loader: unittest.TestLoader, tests: unittest.TestSuite, _pattern: object) -> unittest.TestSuite:
+    """The examples of the module too."""
+    for name in ("ptpm.identity", "ptpm.members", "ptpm.clock"):
+        tests.addTests(doctest.DocTestSuite(name))
+    return tests
+
+
+def request(number: int, target: str, hops: int, action: int, tlv: str) -> bytes:
+    """A request by MANAGER: its number, target, hops, actionField, and id with dataField."""
+    head = f"0d12{52 + len(tlv) // 2:04x}{'0' * 32}00112233445566770001{number:04x}047f{target}{hops:02x}{hops:02x}{action:02x}00"
+    return bytes.fromhex(f"{head}0001{len(tlv) // 2:04x}{tlv}")
+
+
+def clock(ports: int = 2) -> ptpm.Clock:
+    return ptpm.Clock(ptpm.ClockSettings(CLOCK), [ptpm.PortSettings()] * ports, [ptpm.Manager(MANAGER)])
+
+
+class Clocks(unittest.TestCase):
+    def test_a_set_is_carried_out_once(self) -> None:
+        with clock() as asked:
+            set_priority1 = request(7, "aabbccfffeddee01ffff", 1, 1, "20056400")
+            handled = asked.handle(1, set_priority1)
+            self.assertEqual(handled.answer, HandleAnswer.ANSWERED_NEW)
+            self.assertEqual(handled.changed.clock, ClockMembers.PRIORITY1 | ClockMembers.GRANDMASTER_PRIORITY1)
+            again = asked.handle(1, set_priority1)
+            self.assertEqual((again.answer, bool(again.changed)), (HandleAnswer.ANSWERED_REPEAT, False))
+            self.assertEqual(again.messages, handled.messages)
+            [(port, octets)] = again.messages
+            self.assertEqual((port, octets[30:].hex()), (1, "0007047f00112233445566770001" + "0000020000010004" + "20056400"))
+            self.assertEqual(asked.read("priority1"), b"\x64\0")
+
+    def test_settings_have_their_places(self) -> None:
+        with ptpm.Clock(ptpm.ClockSettings(CLOCK, **PLACES), [PORT]) as started:  # type: ignore[arg-type]
+            for named, wanted in {
+                "USER_DESCRIPTION": "065261636b203400",
+                "DEFAULT_DATA_SET": "01000001434422313246aabbccfffeddee012a00",
+                "CURRENT_DATA_SET": "414201020304050607081112131415161718",
+                "PARENT_DATA_SET": "b0b1b2b3b4b5b6b771720100515221222324535423616256c0c1c2c3c4c5c6c7",
+                "TIME_PROPERTIES_DATA_SET": "19202590",
+                "PORT_DATA_SET": "aabbccfffeddee01000105f50a0b0c0d0e0f1a1b0307fa020402",
+            }.items():
+                self.assertEqual(started.read(named, 1).hex(), wanted, named)
+
+    def test_observations_have_their_places(self) -> None:
+        grandmaster = ptpm.ObservedGrandmaster("c0c1c2c3c4c5c6c7", 0x53, 6, 0x21, 0x6162, 0x56, "b0b1b2b3b4b5b6b7-29042")
+        observed = ptpm.ObservedClock(
+            steps_removed=2, offset_from_master=-2, mean_path_delay=ptpm.time_interval(1), parent_stats=True,
+            observed_variance=0x5152, observed_rate=0x21222324, grandmaster=grandmaster, utc_offset=37, leap59=True,
+            ptp_timescale=True, time_traceable=True, time_source=0x20,
+        )
+        with clock() as told:
+            self.assertEqual(told.observe(observed), set())
+            self.assertEqual(told.read("CURRENT_DATA_SET").hex(), "0002fffffffffffffffe0000000000010000")
+            parent = "b0b1b2b3b4b5b6b771720100515221222324530621616256c0c1c2c3c4c5c6c7"
+            self.assertEqual(told.read("PARENT_DATA_SET").hex(), parent)
+            self.assertEqual(told.read("TIME_PROPERTIES_DATA_SET").hex(), "00251a20")
+            self.refused("NO_PORT", lambda: told.observe(observed, [ptpm.ObservedPort()] * 3))
+            self.refused("BAD_LEAP59", lambda: told.observe(ptpm.ObservedClock(leap61=True, leap59=True)))
+            self.assertEqual(told.observe(ptpm.ObservedClock(is_grandmaster=True)), set())
+
+    def test_a_disabled_port_stays_disabled(self) -> None:
+        with clock() as asked:
+            handled = asked.handle(1, request(1, "aabbccfffeddee010002", 0, 3, "200e"))
+            self.assertEqual(handled.changed.ports[:2], (PortMembers(0), PortMembers.STATE))
+            self.assertEqual(asked.observe(ptpm.ObservedClock(), [ptpm.ObservedPort(ptpm.PortState.SLAVE)] * 2), {2})
+
+    def test_refusals_have_names(self) -> None:
+        def start(ports: int, managers: int = 0, text: str = "") -> None:
+            settings = ptpm.ClockSettings(CLOCK, user_description=text)
+            ptpm.Clock(settings, [ptpm.PortSettings()] * ports, [ptpm.Manager(MANAGER)] * managers).close()
+
+        self.refused("NO_PORTS", lambda: start(0))
+        self.refused("TOO_MANY_PORTS", lambda: start(9))
+        self.refused("TOO_MANY_MANAGERS", lambda: start(1, 17))
+        self.refused("MANAGER_TWICE", lambda: start(1, 2))
+        for size in (129, 130, 255, 256, 300):
+            self.refused("BAD_USER_DESCRIPTION", lambda: start(1, 0, "a" * size))
+        with clock() as asked:
+            self.refused("NO_PORT", lambda: asked.handle(3, b""))
+            self.assertEqual(asked.handle(1, b"").answer, HandleAnswer.TOO_SHORT)
+        self.refused("NO_CLOCK", lambda: asked.handle(1, b""))
+        asked.close()
+
+    def test_numbers_that_do_not_fit_are_refused(self) -> None:
+        with clock() as asked:
+            for call in (
+                lambda: asked.handle(65537, b""),
+                lambda: asked.handle(-1, b""),
+                lambda: asked.read(0x12005),
+                lambda: ptpm.ClockSettings(CLOCK, priority1=256).as_in_c(),
+                lambda: ptpm.PortSettings(log_sync=200).as_in_c(),
+                lambda: ptpm.SessionSettings(MANAGER, CLOCK, 65536).as_in_c(),
+            ):
+                self.assertRaises(OverflowError, call)
+
+    def test_a_handle_is_not_copied(self) -> None:
+        with clock() as asked:
+            self.assertRaises(TypeError, copy.copy, asked)
+            self.assertRaises(TypeError, copy.deepcopy, asked)
+
+    def refused(self, name: str, call: object) -> None:
+        assert callable(call)
+        with self.assertRaises(ptpm.Error) as caught:
+            call()
+        self.assertEqual(caught.exception.name, name)
+
+
+class Managers(unittest.TestCase):
+    def test_a_session_is_answered(self) -> None:
+        with clock() as asked, ptpm.Session(ptpm.SessionSettings(MANAGER, CLOCK, 0xFFFF, attempts=1)) as session:
+            self.assertRaisesRegex(ptpm.Error, "NEEDS_PORT", session.begin, ptpm.Action.GET, "PORT_DATA_SET")
+            self.assertRaisesRegex(ptpm.Error, "BAD_VALUE", session.begin, ptpm.Action.SET, "PRIORITY1", b"\1")
+            session.begin(ptpm.Action.SET, "LOG_SYNC_INTERVAL", b"\x64\0", 1)
+            self.assertEqual((session.is_busy(), session.next_number), (True, 0))
+            [(_, octets)] = asked.handle(2, session.send()).messages
+            self.assertRaisesRegex(ptpm.Error, "GAVE_UP", session.send)
+            self.assertEqual(session.receive(octets[:-1]), SessionAnswer.BAD_LENGTH)
+            self.assertEqual(session.receive(octets), SessionAnswer.ANSWERED)
+            self.assertEqual((str(session.report()), session.is_busy()), ("refused WRONG_VALUE", False))
+            session.begin(ptpm.Action.COMMAND, "DISABLE_PORT", b"", 2)
+            [(_, octets)] = asked.handle(1, session.send()).messages
+            session.receive(octets)
+            self.assertEqual(str(session.report()), "done")
+
+    @unittest.skipUnless(hasattr(library, "ptpm_session_image"), "the library makes no images")
+    def test_a_request_goes_on_from_an_image(self) -> None:
+        settings = ptpm.SessionSettings(MANAGER, CLOCK, 7)
+        with clock() as asked, ptpm.Session(settings) as session, ptpm.Session(settings) as restored:
+            session.begin(ptpm.Action.SET, "PRIORITY1", b"\x64\0")
+            image = session.image()
+            self.assertRaisesRegex(ptpm.Error, "DAMAGED", restored.restore, image[:-1])
+            self.assertRaisesRegex(ptpm.Error, "NOT_AN_IMAGE", restored.restore, b"")
+            restored.restore(image)
+            self.assertEqual((restored.is_busy(), restored.send()), (True, session.send()))
+            [(_, octets)] = asked.handle(1, restored.send()).messages
+            restored.receive(octets)
+            self.assertEqual(restored.report().members, {"priority1": 100})
+
+    def test_a_survey_keeps_first_answers(self) -> None:
+        with clock() as asked, ptpm.Survey(ptpm.SurveySettings("0a0b0c0d0e0f1011/9", 3, "PORT_DATA_SET")) as survey:
+            for became in (SurveyAnswer.TAKEN, SurveyAnswer.AGAIN):
+                handled = asked.handle(1, survey.send())
+                self.assertEqual(handled.answer, HandleAnswer.ANSWERED_UNNUMBERED)
+                for octets in (octets for port, octets in handled.messages if port == 1):
+                    self.assertEqual(survey.receive(octets), became)
+            told = [(str(report.source), report.members["portState"]) for report in survey]
+            self.assertEqual(told, [(f"{CLOCK}/1", ptpm.PortState.MASTER), (f"{CLOCK}/2", ptpm.PortState.MASTER)])
+
+
+@unittest.skipUnless(hasattr(library, "ptpm_rate_take"), "the library has no tables")
+class Passing(unittest.TestCase):
+    def test_a_message_is_passed_on_once_in_its_time(self) -> None:
+        get, table = request(7, "aabbccfffeddee01ffff", 1, 0, "2005"), ptpm.PassedOn(7)
+        self.assertEqual([table.is_first(get, now, 1000) for now in (0, 999, 1000)], [True, False, True])
+        self.assertTrue(table.is_first(request(8, "aabbccfffeddee01ffff", 1, 0, "2005"), 1000, 1000))
+        self.assertFalse(table.is_first(b"", 1000, 1000))
+
+    def test_a_rate_gives_as_many_tokens_as_a_second_brings(self) -> None:
+        rate = ptpm.Rate(3, 0)
+        self.assertEqual([sum(rate.take(now) for _ in range(5)) for now in (0, 1000)], [3, 3])
+
+
+class Texts(unittest.TestCase):
+    def test_texts_that_are_no_identity_are_refused(self) -> None:
+        pointed = ("aabbcc.fffeddee01", "aabb.ccfffe.ddee01", "aabbcc.fffe.ddee0x")
+        for text in ("", CLOCK[:-1], f"{CLOCK}1", "aabbccfffeddee\u0661\u0662", *pointed):
+            self.assertRaises(ValueError, ptpm.Identity.of, text)
+        for text in (CLOCK, f"{CLOCK}/", f"{CLOCK}/+1", f"{CLOCK}/65536", f"{CLOCK}/1/1"):
+            self.assertRaises(ValueError, ptpm.PortIdentity.of, text)
+
+    def test_numbers_of_a_newer_library_are_kept(self) -> None:
+        self.assertEqual((HandleAnswer(29), int(HandleAnswer(29))), (HandleAnswer(29), 29))
+        self.assertEqual((ptpm.error_name(0xC001), ptpm.id_name(0xC001), ptpm.id_of("c001")), ("0xc001", "c001", 0xC001))
+
+    def test_members_of_another_length_are_left_as_they_are(self) -> None:
+        self.assertEqual(ptpm.members(ptpm.ManagementId.PRIORITY1, bytes(4)), {})
+        self.assertEqual(str(ptpm.Report(ptpm.ManagementId.PRIORITY1, bytes(4))), "value 00000000")
+
+
+if __name__ == "__main__":
+    unittest.main()

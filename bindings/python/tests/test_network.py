@@ -1,0 +1,93 @@
+"""The same over UDP, and a real ptp4l, in two network namespaces with a link between them. It needs root, `ip netns` and
+linuxptp."""
+
+from __future__ import annotations
+
+import os
+import shutil
+import subprocess
+import sys
+import unittest
+from typing import List
+
+import ptpm
+
+from . import CLOCK, TOP, Folder
+
+PTP4L = "020000fffe000020"
+
+
+def _ip(*words: str) -> None:
+    subprocess.run(["ip", *words], check=True)
+
+
+@unittest.skipUnless(os.geteuid() == 0 and shutil.which("ip") and shutil.which("ptp4l"), "it needs root, ip and ptp4l")
+class Network(Folder):
+    def setUp(self) -> None:
+        super().setUp()
+        self.near, self.far = f"ptpm-near-{os.getpid()}", f"ptpm-far-{os.getpid()}"
+        for name in (self.near, self.far):
+            _ip("netns", "add", name)
+            self.addCleanup(_ip, "netns", "del", name)
+        _ip("link", "add", "near0", "netns", self.near, "type", "veth", "peer", "name", "far0", "netns", self.far)
+        for name, link, octet in ((self.near, "near0", 1), (self.far, "far0", 2)):
+            _ip("-n", name, "link", "set", link, "address", f"02:00:00:00:00:{octet}0", "up")
+            _ip("-n", name, "addr", "add", f"10.9.9.{octet}/24", "dev", link)
+            _ip("-n", name, "addr", "add", f"fd09::{octet}/64", "dev", link, "nodad")
+            _ip("-n", name, "addr", "add", f"fe80::{octet}/64", "dev", link, "nodad")
+
+    def inside(self, name: str) -> List[str]:
+        return ["ip", "netns", "exec", name]
+
+    def asked(self, *words: str) -> str:
+        """What the command line prints in the near namespace."""
+        ran = subprocess.run(
+            [*self.inside(self.near), sys.executable, "-m", "ptpm", *words], capture_output=True, text=True, check=False
+        )
+        return ran.stdout + ran.stderr
+
+    def start_far_clock(self, *words: str) -> None:
+        path = f"{self.folder}/clock.socket"
+        self.run_until(path, [*self.inside(self.far), str(TOP / "hosts/clock"), "-n", "60", "-u", path, *words, CLOCK, "far0"])
+
+    def start_ptp4l(self) -> str:
+        path, settings = f"{self.folder}/ptp4l", f"{self.folder}/ptp4l.conf"
+        with open(settings, "w", encoding="ascii") as file:
+            file.write("[global]\nfree_running 1\n")
+        words = ["ptp4l", "-f", settings, "-S", "-4", "-i", "far0", f"--uds_address={path}"]
+        self.run_until(path, [*self.inside(self.far), *words])
+        return path
+
+    def test_a_clock_over_udp(self) -> None:
+        self.start_far_clock("-m", "020000fffe000010/1")
+        self.assertEqual(self.asked("-i", "near0", "get", "PRIORITY1", "--target", CLOCK), "priority1 128\n")
+        said = self.asked("-i", "near0", "-w", "0", "set", "PRIORITY1", "100", "--target", CLOCK)
+        new = r"ptpm: .*/020000fffe000010-1.aabbccfffeddee01 is new: the session begins at number \d+"
+        self.assertRegex(said, rf"^priority1 100\n{new}\n$")
+        self.assertEqual(self.asked("-i", "near0", "set", "PRIORITY1", "101", "--target", CLOCK), "priority1 101\n")
+        self.assertEqual(self.asked("--udp", "10.9.9.2", "get", "PRIORITY1", "--target", CLOCK), "priority1 101\n")
+        self.assertEqual(self.asked("-i", "near0", "survey", "PRIORITY1"), f"{CLOCK}/1 priority1 101\n")
+
+    def test_a_clock_over_ipv6(self) -> None:
+        self.start_far_clock("-6")
+        self.assertEqual(self.asked("-i", "near0", "--ipv6", "get", "PRIORITY1", "--target", CLOCK), "priority1 128\n")
+        self.assertEqual(self.asked("--udp", "fd09::2", "get", "PRIORITY1", "--target", CLOCK), "priority1 128\n")
+
+    def test_a_ptp4l(self) -> None:
+        path = self.start_ptp4l()
+        with ptpm.UnixTransport(path) as way:
+            self.assertEqual(ptpm.get(way, PTP4L, "PRIORITY1").members, {"priority1": 128})
+            [report] = ptpm.survey(way, "DEFAULT_DATA_SET")
+            self.assertEqual((str(report.source.clock if report.source else None), report.members["domainNumber"]), (PTP4L, 0))
+            port = ptpm.get(way, PTP4L, "PORT_DATA_SET", 1).members
+            self.assertEqual((str(port["portIdentity"]), port["delayMechanism"]), (f"{PTP4L}/1", ptpm.DelayMechanism.E2E))
+            with ptpm.Session(ptpm.SessionSettings("0011223344556677/1", PTP4L), wait=0) as session:
+                self.assertEqual(session.ask(way, ptpm.Action.SET, "PRIORITY1", 100).members, {"priority1": 100})
+            self.assertEqual(ptpm.get(way, PTP4L, "PRIORITY1").members, {"priority1": 100})
+            self.assertEqual(str(ptpm.get(way, PTP4L, "2ffe")), "refused NO_SUCH_ID")
+        self.assertEqual(self.asked("-i", "near0", "get", "PRIORITY2", "--target", PTP4L), "priority2 128\n")
+        self.assertIn("refused NOT_SUPPORTED\n", self.asked("-i", "near0", "-w", "0", "set", "PRIORITY1", "9", "-T", PTP4L))
+
+
+if __name__ == "__main__":
+    unittest.main()

@@ -1,0 +1,101 @@
+//! The library that the crate links. If PTPM_LIB_DIR names a folder, it is the `libptpm.a` there, as `make -C hosts install` puts
+//! it. Else it is put together from the assembly in `dist/` of this repository, by the C compiler of the target: `CC` with the
+//! target's name after it (`CC_aarch64_unknown_linux_gnu`), `CC`, or the usual one.
+
+use std::env;
+use std::path::{Path, PathBuf};
+use std::process::Command;
+
+fn main() {
+    println!("cargo:rerun-if-env-changed=PTPM_LIB_DIR");
+    let folder = match env::var_os("PTPM_LIB_DIR") {
+        Some(folder) => named(PathBuf::from(folder)),
+        None => assembled(),
+    };
+    println!("cargo:rustc-link-search=native={}", folder.display());
+    println!("cargo:rustc-link-lib=static=ptpm");
+}
+
+/// The folder of a library that is there. A later one in its place is linked anew.
+fn named(folder: PathBuf) -> PathBuf {
+    let library = folder.join("libptpm.a");
+    assert!(library.exists(), "PTPM_LIB_DIR: there is no {}", library.display());
+    println!("cargo:rerun-if-changed={}", library.display());
+    folder
+}
+
+/// Makes `libptpm.a` of the assembly for the target. The folder that it is in.
+fn assembled() -> PathBuf {
+    let top = Path::new(&variable("CARGO_MANIFEST_DIR")).join("../..");
+    let folder = PathBuf::from(variable("OUT_DIR"));
+    let compiler = Compiler::of_target();
+    let machine = compiler.machine();
+    for file in [&*format!("dist/{machine}/libptpm.s"), "dist/c/heap.c", "tools/assemble"] {
+        println!("cargo:rerun-if-changed={}", top.join(file).display());
+    }
+    let whole = folder.join("whole.o");
+    let object = folder.join("ptpm.o");
+    let library = folder.join("libptpm.a");
+    run(Command::new(top.join("tools/assemble")).arg("libptpm.o").arg(&whole).env("CC", &compiler.words));
+    let _ = std::fs::remove_file(&library);
+    // It shows the names of ptpm.h, and no others.
+    run(Command::new(compiler.program("objcopy")).args(["--wildcard", "--keep-global-symbol=ptpm_*"]).arg(&whole).arg(&object));
+    run(Command::new(compiler.program("ar")).arg("rcsD").arg(&library).arg(&object));
+    folder
+}
+
+/// The C compiler of the target: a command with its words.
+struct Compiler {
+    words: String,
+}
+
+impl Compiler {
+    fn of_target() -> Self {
+        let target = variable("TARGET");
+        let own = format!("CC_{}", target.replace('-', "_"));
+        for name in [&*own, "CC"] {
+            println!("cargo:rerun-if-env-changed={name}");
+            if let Ok(words) = env::var(name) {
+                return Self { words };
+            }
+        }
+        let machine = variable("CARGO_CFG_TARGET_ARCH");
+        let is_here = variable("HOST").split('-').next() == Some(&*machine);
+        Self { words: if is_here { "cc".into() } else { format!("{machine}-linux-gnu-gcc") } }
+    }
+
+    fn asked(&self, question: &str) -> String {
+        let mut words = self.words.split_whitespace();
+        let program = words.next().unwrap_or("cc");
+        let output = Command::new(program).args(words).arg(question).output();
+        let output = output.unwrap_or_else(|error| panic!("a C compiler is needed: {program}: {error}"));
+        String::from_utf8_lossy(&output.stdout).trim().to_owned()
+    }
+
+    /// The machine that it is for, which has to be the target's.
+    fn machine(&self) -> String {
+        let answer = self.asked("-dumpmachine");
+        let machine = answer.split('-').next().unwrap_or_default();
+        let wanted = variable("CARGO_CFG_TARGET_ARCH");
+        assert!(
+            machine == wanted,
+            "{} is for {machine}, and the target is {wanted}: CC names its C compiler, or PTPM_LIB_DIR the folder of its libptpm.a",
+            self.words
+        );
+        wanted
+    }
+
+    /// A program of binutils that belongs to it.
+    fn program(&self, name: &str) -> String {
+        self.asked(&format!("-print-prog-name={name}"))
+    }
+}
+
+fn variable(name: &str) -> String {
+    env::var(name).unwrap_or_else(|_| panic!("cargo sets {name}"))
+}
+
+fn run(command: &mut Command) {
+    let status = command.status().unwrap_or_else(|error| panic!("{command:?}: {error}"));
+    assert!(status.success(), "{command:?}: {status}");
+}

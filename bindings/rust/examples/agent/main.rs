@@ -1,0 +1,134 @@
+//! An agent of a clock with two UDP ports, which answers linuxptp's `pmc`:
+//!
+//!     sudo agent IDENTITY INTERFACE INTERFACE [MANAGER]
+//!     sudo pmc -4 -b 0 -i eth0 'TARGET aabbcc.fffe.ddee01-1' 'GET CURRENT_DATA_SET'
+//!
+//! A thread for each port hands in what it hears; the clock belongs to one thread, which observes what a servo finds in between. The
+//! servo of this agent is made up: each time it halves its offset. A `pmc` has its interface's MAC with `fffe` in the middle as its
+//! identity, at port 1: with that as MANAGER its SETs are carried out.
+
+mod port;
+
+use ptpm::{
+    Clock, ClockMembers, ClockSettings, Handled, ManagementId, Manager, ObservedClock, ObservedPort, Outbox, PortMembers,
+    PortSettings, PortState, Rights, TimeInterval, MOST_READ,
+};
+use std::error::Error;
+use std::net::UdpSocket;
+use std::sync::mpsc::{self, RecvTimeoutError};
+use std::thread;
+use std::time::{Duration, Instant};
+
+const TICK: Duration = Duration::from_millis(125);
+
+/// A servo that is made up.
+struct Servo {
+    offset: TimeInterval,
+}
+
+impl Servo {
+    fn steer(&mut self) -> ObservedClock {
+        self.offset.0 /= 2;
+        ObservedClock {
+            offset_from_master: Some(self.offset),
+            mean_path_delay: Some(TimeInterval::of_nanoseconds(420)),
+            ..ObservedClock::default()
+        }
+    }
+}
+
+/// The clock, its ports' sockets, and the servo.
+struct Agent {
+    clock: Clock,
+    sockets: Vec<UdpSocket>,
+    servo: Servo,
+    outbox: Box<Outbox>,
+}
+
+impl Agent {
+    fn start(identity: &str, interfaces: &[String], manager: Option<&String>) -> Result<Self, Box<dyn Error>> {
+        let managers = match manager {
+            Some(manager) => vec![Manager::new(manager.parse()?, Rights::ALL)],
+            None => Vec::new(),
+        };
+        let settings = ClockSettings { user_description: "an agent in Rust".into(), ..ClockSettings::new(identity.parse()?) };
+        let ports = vec![PortSettings { state: PortState::Slave, ..PortSettings::new() }; interfaces.len()];
+        let mut sockets = Vec::new();
+        for interface in interfaces {
+            sockets.push(port::open(interface).map_err(|error| format!("{interface}: {error}"))?);
+        }
+        let servo = Servo { offset: TimeInterval::of_nanoseconds(1 << 20) };
+        Ok(Self { clock: Clock::start(&settings, &ports, &managers)?, sockets, servo, outbox: Outbox::boxed() })
+    }
+
+    /// Tells the clock what was found since.
+    fn observe(&mut self) -> Result<(), ptpm::Error> {
+        let ports = [ObservedPort { peer_delay: Some(TimeInterval::of_nanoseconds(210)), ..ObservedPort::default() }; 2];
+        self.clock.observe(&self.servo.steer(), &ports[..self.sockets.len()])?;
+        Ok(())
+    }
+
+    /// Hands a datagram in, sends what is to be sent, and acts on what changed.
+    fn come_in(&mut self, port: u16, datagram: &[u8]) -> Result<(), ptpm::Error> {
+        let (turn, changed) = self.clock.handle_changed(port, datagram, &mut self.outbox)?;
+        if let handled @ (Handled::DroppedOld | Handled::DroppedConflict) = turn.handled() {
+            eprintln!("port {port}: {handled}");
+        }
+        for (port, octets) in turn.messages {
+            port::send(&self.sockets[usize::from(port) - 1], octets);
+        }
+        if changed.clock.intersects(ClockMembers::PRIORITY1) {
+            let mut room = [0; MOST_READ];
+            println!("priority1 is {}", self.clock.read(ManagementId::PRIORITY1, 0, &mut room)?[0]);
+        }
+        for port in changed.ports_with(PortMembers::STATE) {
+            let mut room = [0; MOST_READ];
+            let state = self.clock.read(ManagementId::PORT_DATA_SET, port, &mut room)?[10];
+            println!("port {port} is {:?}", PortState::of_number(state));
+        }
+        Ok(())
+    }
+
+    /// Takes turns until a thread of a port ends.
+    fn run(&mut self) -> Result<(), Box<dyn Error>> {
+        let (sender, receiver) = mpsc::channel();
+        for (port, socket) in (1..).zip(&self.sockets) {
+            let (sender, socket) = (sender.clone(), socket.try_clone()?);
+            thread::spawn(move || {
+                let mut octets = [0; 2048];
+                while let Ok(size) = socket.recv(&mut octets) {
+                    if sender.send((port, octets[..size].to_vec())).is_err() {
+                        break;
+                    }
+                }
+            });
+        }
+        drop(sender);
+        let mut next = Instant::now();
+        loop {
+            let left = next.saturating_duration_since(Instant::now());
+            if left.is_zero() {
+                self.observe()?;
+                next += TICK;
+                continue;
+            }
+            match receiver.recv_timeout(left) {
+                Ok((port, datagram)) => self.come_in(port, &datagram)?,
+                Err(RecvTimeoutError::Timeout) => {}
+                Err(RecvTimeoutError::Disconnected) => return Err("no port is heard any more".into()),
+            }
+        }
+    }
+}
+
+fn main() -> Result<(), Box<dyn Error>> {
+    let words: Vec<_> = std::env::args().skip(1).collect();
+    let (identity, interfaces, manager) = match &*words {
+        [identity, interfaces @ ..] if interfaces.len() == 2 => (identity, interfaces, None),
+        [identity, interfaces @ .., manager] if interfaces.len() == 2 => (identity, interfaces, Some(manager)),
+        _ => return Err("usage: agent IDENTITY INTERFACE INTERFACE [MANAGER]".into()),
+    };
+    let mut agent = Agent::start(identity, interfaces, manager)?;
+    println!("{identity} hears {}", interfaces.join(" and "));
+    agent.run()
+}

@@ -1,0 +1,193 @@
+//! The agent of one clock.
+
+use crate::answers::Handled;
+use crate::changed::Changed;
+use crate::error::{done, judged, Error};
+use crate::id::ManagementId;
+use crate::identity::Identity;
+use crate::observation::{ObservedClock, ObservedPort};
+use crate::outbox::{Messages, Outbox};
+use crate::settings::{ClockSettings, Manager, PortSettings};
+use crate::sys;
+use core::fmt;
+use core::mem::MaybeUninit;
+use core::ptr::null_mut;
+
+/// The most octets of a dataField that a clock reads.
+pub const MOST_READ: usize = sys::PTPM_MOST_READ;
+
+/// More ports than a clock has.
+const MORE_PORTS: usize = 9;
+
+/// The data sets of a clock, and what becomes of each management message that comes in at its ports. It has about 34,600 octets on
+/// the heap, and is stopped when it is dropped.
+pub struct Clock {
+    handle: sys::ptpm_clock,
+}
+
+// SAFETY: one thread at a time is in a call with a handle, since the type is not Sync: no other thread has a reference to it. A
+// handle may be moved, and calls with other handles may run beside it.
+unsafe impl Send for Clock {}
+
+/// What became of a datagram, and what is to be sent for it.
+#[derive(Debug)]
+#[must_use = "the messages of a turn are to be sent, whatever became of the datagram"]
+pub struct Turn<'a> {
+    number: u32,
+    /// What the host sends, in this order, each at its port, whatever became of the datagram.
+    pub messages: Messages<'a>,
+}
+
+impl Turn<'_> {
+    /// What became of the datagram.
+    #[inline]
+    pub const fn handled(&self) -> Handled {
+        Handled::of_number(self.number)
+    }
+}
+
+/// Some ports of a clock.
+#[derive(Clone, Copy, Debug, Default, PartialEq, Eq, Hash)]
+pub struct Ports(u8);
+
+impl Ports {
+    /// Whether there is none.
+    pub const fn is_empty(self) -> bool {
+        self.0 == 0
+    }
+
+    /// Their numbers.
+    pub fn iter(self) -> impl Iterator<Item = u16> {
+        (1..=8).filter(move |port| self.0 >> (port - 1) & 1 == 1)
+    }
+}
+
+impl Clock {
+    /// Starts a clock with one to eight ports and at most sixteen managers. The first port is port 1.
+    ///
+    /// # Errors
+    ///
+    /// The first reason why it does not start. It is [`Error::OtherSizes`], or one from [`Error::NoPorts`] to
+    /// [`Error::ManagerIsEvery`], or a member that is out of its range, or [`Error::NoMemory`].
+    pub fn start(settings: &ClockSettings, ports: &[PortSettings], managers: &[Manager]) -> Result<Self, Error> {
+        done(sys::ptpm_header_agrees())?;
+        let mut clock = Self { handle: sys::ptpm_clock { at: null_mut(), live: false } };
+        let settings = settings.as_in_c();
+        // SAFETY: the handle is all zeros before this first call. Settings, ports and managers may be read, and are laid out as the
+        // library takes them (`settings` asserts it); their sizes are those of the slices.
+        done(unsafe {
+            sys::ptpm_clock_start(
+                &mut clock.handle,
+                &settings,
+                ports.as_ptr().cast(),
+                ports.len(),
+                managers.as_ptr().cast(),
+                managers.len(),
+            )
+        })?;
+        Ok(clock)
+    }
+
+    /// Judges a datagram that came in at a port, counted from 1, carries its request out, and makes what is to be sent.
+    ///
+    /// # Errors
+    ///
+    /// [`Error::NoPort`]: the clock lacks the port, and nothing was judged.
+    #[inline]
+    pub fn handle<'a>(&mut self, port: u16, datagram: &[u8], outbox: &'a mut Outbox) -> Result<Turn<'a>, Error> {
+        let mut count = MaybeUninit::uninit();
+        let (sent, room) = outbox.room();
+        // SAFETY: the datagram may be read, and the places and the count may be written; the places are borrowed mutably, so they
+        // lie apart from the rest.
+        let number = judged(unsafe {
+            sys::ptpm_clock_handle(&mut self.handle, port, datagram.as_ptr(), datagram.len(), sent, room, count.as_mut_ptr())
+        })?;
+        // SAFETY: the call has written the count, and as many places.
+        let messages = unsafe { outbox.messages(count.assume_init()) };
+        Ok(Turn { number, messages })
+    }
+
+    /// Does what [`Clock::handle`] does, and reports which members of the data sets have another value then. There are some only
+    /// after [`Handled::AnsweredNew`].
+    ///
+    /// # Errors
+    ///
+    /// As those of [`Clock::handle`].
+    #[inline]
+    pub fn handle_changed<'a>(
+        &mut self,
+        port: u16,
+        datagram: &[u8],
+        outbox: &'a mut Outbox,
+    ) -> Result<(Turn<'a>, Changed), Error> {
+        let mut count = MaybeUninit::uninit();
+        let mut changed = MaybeUninit::uninit();
+        let (sent, room) = outbox.room();
+        let (octets, size) = (datagram.as_ptr(), datagram.len());
+        // SAFETY: the datagram may be read, and the places, the count and what changed may be written; the places are borrowed
+        // mutably, so they lie apart from the rest.
+        let number = judged(unsafe {
+            let (count, changed) = (count.as_mut_ptr(), changed.as_mut_ptr());
+            sys::ptpm_clock_handle_changed(&mut self.handle, port, octets, size, sent, room, count, changed)
+        })?;
+        // SAFETY: the call has written the count, as many places, and what changed.
+        let (messages, changed) = unsafe { (outbox.messages(count.assume_init()), changed.assume_init()) };
+        Ok((Turn { number, messages }, changed.into()))
+    }
+
+    /// Moves what the host observes of its clock and of its first ports, and nothing else. It answers the disabled ports at which a
+    /// state was observed: they stay disabled, and the host stops them.
+    ///
+    /// # Errors
+    ///
+    /// The first of [`Error::NoPort`], [`Error::GrandmasterDiffers`], [`Error::BadClockAccuracy`], [`Error::BadLeap59`] and
+    /// [`Error::BadState`] that holds; then nothing moves.
+    pub fn observe(&mut self, observed: &ObservedClock, ports: &[ObservedPort]) -> Result<Ports, Error> {
+        let observed = observed.as_in_c();
+        let mut places = [ObservedPort::default().as_in_c(); MORE_PORTS];
+        let count = ports.len().min(MORE_PORTS); // more than a clock has are refused as they are
+        for (place, port) in places.iter_mut().zip(ports) {
+            *place = port.as_in_c();
+        }
+        let mut left = 0;
+        // SAFETY: what is observed may be read, and `left` may be written.
+        done(unsafe { sys::ptpm_clock_observe(&mut self.handle, &observed, places.as_ptr(), count, &mut left) })?;
+        Ok(Ports(left))
+    }
+
+    /// Reads what a GET of a managementId is answered: the dataField, in the room that it is given. The port matters for an id of a
+    /// port alone.
+    ///
+    /// # Errors
+    ///
+    /// [`Error::NoPort`] or [`Error::NotReadable`].
+    pub fn read<'a>(&self, id: ManagementId, port: u16, room: &'a mut [u8; MOST_READ]) -> Result<&'a [u8], Error> {
+        let mut size = 0;
+        let (octets, most) = (room.as_mut_ptr(), room.len());
+        // SAFETY: the octets and the size may be written; the octets are borrowed mutably, so they lie apart from the rest.
+        done(unsafe { sys::ptpm_clock_read(&self.handle, id.0, port, octets, most, &mut size) })?;
+        Ok(&room[..size])
+    }
+
+    /// The clock's identity, out of its DEFAULT_DATA_SET.
+    pub fn identity(&self) -> Result<Identity, Error> {
+        let mut room = [0; MOST_READ];
+        let field = self.read(ManagementId::DEFAULT_DATA_SET, 0, &mut room)?;
+        let mut identity = Identity::default();
+        identity.0.copy_from_slice(&field[10..18]); // clockIdentity (table 69)
+        Ok(identity)
+    }
+}
+
+impl Drop for Clock {
+    fn drop(&mut self) {
+        // SAFETY: the handle holds what its start made, or nothing.
+        unsafe { sys::ptpm_clock_stop(&mut self.handle) }
+    }
+}
+
+impl fmt::Debug for Clock {
+    fn fmt(&self, to: &mut fmt::Formatter<'_>) -> fmt::Result {
+        to.debug_struct("Clock").finish_non_exhaustive()
+    }
+}

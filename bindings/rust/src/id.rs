@@ -1,0 +1,109 @@
+//! What a management message names by a number: a managementId and a managementErrorId.
+
+use crate::names::Name;
+use crate::sys;
+use core::fmt;
+use core::str::FromStr;
+
+/// A managementId (15.5.2.3, table 59). It is read by its name in either case, or by four hexadecimal digits:
+///
+/// ```
+/// use ptpm::ManagementId;
+///
+/// assert_eq!("priority1".parse(), Ok(ManagementId::PRIORITY1));
+/// assert_eq!("2005".parse(), Ok(ManagementId::PRIORITY1));
+/// assert_eq!(ManagementId::PRIORITY1.to_string(), "PRIORITY1");
+/// assert_eq!(ManagementId(0xc001).to_string(), "c001");
+/// ```
+#[derive(Clone, Copy, Debug, PartialEq, Eq, PartialOrd, Ord, Hash)]
+#[repr(transparent)]
+pub struct ManagementId(pub u16);
+
+/// A text is no managementId.
+#[derive(Clone, Copy, Debug, PartialEq, Eq)]
+#[non_exhaustive]
+pub struct UnknownId;
+
+impl fmt::Display for UnknownId {
+    fn fmt(&self, to: &mut fmt::Formatter<'_>) -> fmt::Result {
+        to.write_str("it is no managementId of this profile, and not four hexadecimal digits")
+    }
+}
+
+impl core::error::Error for UnknownId {}
+
+macro_rules! ids {
+    ($($name:ident = $number:ident,)*) => {
+        #[allow(missing_docs)] // the standard's names
+        impl ManagementId {
+            $(pub const $name: Self = Self(sys::$number);)*
+        }
+    };
+}
+
+ids! {
+    NULL_PTP_MANAGEMENT = PTPM_ID_NULL_PTP_MANAGEMENT,
+    USER_DESCRIPTION = PTPM_ID_USER_DESCRIPTION,
+    DEFAULT_DATA_SET = PTPM_ID_DEFAULT_DATA_SET,
+    CURRENT_DATA_SET = PTPM_ID_CURRENT_DATA_SET,
+    PARENT_DATA_SET = PTPM_ID_PARENT_DATA_SET,
+    TIME_PROPERTIES_DATA_SET = PTPM_ID_TIME_PROPERTIES_DATA_SET,
+    PORT_DATA_SET = PTPM_ID_PORT_DATA_SET,
+    PRIORITY1 = PTPM_ID_PRIORITY1,
+    PRIORITY2 = PTPM_ID_PRIORITY2,
+    DOMAIN = PTPM_ID_DOMAIN,
+    SLAVE_ONLY = PTPM_ID_SLAVE_ONLY,
+    LOG_ANNOUNCE_INTERVAL = PTPM_ID_LOG_ANNOUNCE_INTERVAL,
+    ANNOUNCE_RECEIPT_TIMEOUT = PTPM_ID_ANNOUNCE_RECEIPT_TIMEOUT,
+    LOG_SYNC_INTERVAL = PTPM_ID_LOG_SYNC_INTERVAL,
+    VERSION_NUMBER = PTPM_ID_VERSION_NUMBER,
+    ENABLE_PORT = PTPM_ID_ENABLE_PORT,
+    DISABLE_PORT = PTPM_ID_DISABLE_PORT,
+    CLOCK_ACCURACY = PTPM_ID_CLOCK_ACCURACY,
+    UTC_PROPERTIES = PTPM_ID_UTC_PROPERTIES,
+    DELAY_MECHANISM = PTPM_ID_DELAY_MECHANISM,
+    LOG_MIN_PDELAY_REQ_INTERVAL = PTPM_ID_LOG_MIN_PDELAY_REQ_INTERVAL,
+}
+
+impl FromStr for ManagementId {
+    type Err = UnknownId;
+
+    fn from_str(text: &str) -> Result<Self, UnknownId> {
+        // SAFETY: the text and its size are those of a slice, which may be read.
+        let id = unsafe { sys::ptpm_id_named(text.as_ptr().cast(), text.len()) };
+        if let Ok(id) = u16::try_from(id) {
+            return Ok(Self(id));
+        }
+        let is_number = text.len() == 4 && text.bytes().all(|digit| digit.is_ascii_hexdigit());
+        let number = if is_number { u16::from_str_radix(text, 16).ok() } else { None };
+        number.map(Self).ok_or(UnknownId)
+    }
+}
+
+impl fmt::Display for ManagementId {
+    fn fmt(&self, to: &mut fmt::Formatter<'_>) -> fmt::Result {
+        match Name::of_id(self.0) {
+            Some(name) => to.pad(name.as_str()),
+            None => write!(to, "{:04x}", self.0),
+        }
+    }
+}
+
+/// A managementErrorId (15.5.4.3, table 109): why a clock refused a request. It is written by the standard's name, or by its number
+/// if it has none.
+///
+/// ```
+/// assert_eq!(ptpm::ManagementErrorId(4).to_string(), "WRONG_VALUE");
+/// ```
+#[derive(Clone, Copy, Debug, PartialEq, Eq, PartialOrd, Ord, Hash)]
+#[repr(transparent)]
+pub struct ManagementErrorId(pub u16);
+
+impl fmt::Display for ManagementErrorId {
+    fn fmt(&self, to: &mut fmt::Formatter<'_>) -> fmt::Result {
+        match Name::of_error(self.0) {
+            Some(name) => to.pad(name.as_str()),
+            None => write!(to, "{}", self.0),
+        }
+    }
+}

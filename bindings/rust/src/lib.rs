@@ -1,0 +1,84 @@
+//! PTP management (IEEE 1588-2019, clause 15) over the library `libptpm`: an agent of one clock, a manager's session, and a survey.
+//!
+//! A [`Clock`] takes the datagrams of its ports, and makes the messages that are to be sent:
+//!
+//! ```
+//! use ptpm::{Clock, ClockSettings, Handled, Manager, Outbox, PortSettings, Rights};
+//!
+//! let settings = ClockSettings::new("aabbcc.fffe.ddee01".parse()?);
+//! let manager = Manager::new("001122.3344.556677-1".parse()?, Rights::ALL);
+//! let mut clock = Clock::start(&settings, &[PortSettings::new(); 2], &[manager])?;
+//! let mut outbox = Outbox::boxed();
+//! let datagram = b"\x0d\x12\0\x36\0\0\0\0\0\0\0\0\0\0\0\0\0\0\0\0\x00\x11\x22\x33\x44\x55\x66\x77\0\x01\0\x07\x04\x7f\
+//!     \xaa\xbb\xcc\xff\xfe\xdd\xee\x01\xff\xff\x01\x01\0\0\0\x01\0\x02\x20\x05"; // a GET of PRIORITY1
+//! let turn = clock.handle(1, datagram, &mut outbox)?;
+//! assert_eq!(turn.handled(), Handled::AnsweredNew);
+//! for (port, octets) in turn.messages {
+//!     assert_eq!((port, &octets[54..]), (1, &[128, 0][..])); // is sent at this port
+//! }
+//! # Ok::<(), Box<dyn std::error::Error>>(())
+//! ```
+//!
+//! A [`Session`] makes a manager's requests of one clock and judges what comes in, and a [`Survey`] asks every clock at once. None
+//! of the three opens a socket, reads a clock or starts a thread.
+//!
+//! # What this crate sees to, and what is left to its user
+//!
+//! The header `ptpm.h` names the duties of a caller. Each `unsafe` block says which of them it meets. These are left:
+//!
+//! - No call is made from a signal handler, or in a forked child of a process with threads. Rust lets neither be made without
+//!   `unsafe` of its own.
+//! - The stack has room for what the header says: [`Clock::start`] 4,400 octets and its settings, every other call 2,100. An
+//!   [`Outbox`] has 22,140 octets: [`Outbox::boxed`] puts them on the heap.
+//! - `malloc`, `realloc` and `free` of the program are those of one allocator.
+//!
+//! A handle is used by one thread at a time: a clock may be moved to another thread, and is shared by none.
+//!
+//! ```compile_fail
+//! fn shared<T: Sync>() {}
+//! shared::<ptpm::Clock>();
+//! ```
+//!
+//! # Where the library comes from
+//!
+//! `build.rs` puts it together from the assembly in `dist/` of the repository, by the target's C compiler, or links the `libptpm.a`
+//! in the folder that the environment's `PTPM_LIB_DIR` names.
+#![no_std]
+
+extern crate alloc;
+
+mod answers;
+mod changed;
+mod clock;
+mod error;
+mod id;
+mod identity;
+mod names;
+mod observation;
+mod outbox;
+mod passing;
+mod report;
+mod session;
+mod settings;
+mod survey;
+pub mod sys;
+
+pub use answers::{Handled, Received, Surveyed};
+pub use changed::{Changed, ClockMembers, PortMembers};
+pub use clock::{Clock, Ports, Turn, MOST_READ};
+pub use error::Error;
+pub use id::{ManagementErrorId, ManagementId, UnknownId};
+pub use identity::{Identity, NoIdentity, PortIdentity};
+pub use observation::{ObservedClock, ObservedGrandmaster, ObservedPort};
+pub use outbox::{Messages, Outbox};
+pub use passing::{PassedOn, Rate};
+pub use report::{Answer, Report, MOST_DATA, MOST_OCTETS};
+pub use session::{Action, Session, SessionSettings, SESSION_IMAGE_OCTETS};
+pub use settings::{ClockSettings, DelayMechanism, Manager, PortSettings, PortState, Rights, TimeInterval};
+pub use survey::{Answers, Survey, SurveySettings};
+
+/// The version of the library that is linked, as a number: 10,000 times its first part, 100 times the second, and the third.
+pub fn version() -> u32 {
+    // SAFETY: the call takes nothing.
+    unsafe { sys::ptpm_version() }
+}

@@ -1,0 +1,47 @@
+//! Names that the library has for numbers.
+
+use crate::sys;
+use core::ffi::c_char;
+use core::fmt;
+
+/// A name of the library's, such as `NO_ROOM`.
+pub(crate) struct Name {
+    text: [u8; sys::PTPM_MOST_NAME],
+    size: usize,
+}
+
+impl Name {
+    /// The name that a call writes into the room that it is handed; the call answers how many octets the name has.
+    fn written(call: impl FnOnce(*mut c_char, usize) -> usize) -> Option<Self> {
+        let mut text = [0; sys::PTPM_MOST_NAME];
+        let size = call(text.as_mut_ptr().cast(), text.len());
+        (size > 0).then_some(Self { text, size })
+    }
+
+    pub(crate) fn of_answer(number: u32) -> Option<Self> {
+        // SAFETY: the room may be written, and lies apart from all else.
+        Self::written(|text, room| unsafe { sys::ptpm_answer_name(number, text, room) })
+    }
+
+    pub(crate) fn of_id(id: u16) -> Option<Self> {
+        // SAFETY: as above.
+        Self::written(|text, room| unsafe { sys::ptpm_id_name(id, text, room) })
+    }
+
+    pub(crate) fn of_error(error: u16) -> Option<Self> {
+        // SAFETY: as above.
+        Self::written(|text, room| unsafe { sys::ptpm_error_name(error, text, room) })
+    }
+
+    pub(crate) fn as_str(&self) -> &str {
+        core::str::from_utf8(&self.text[..self.size]).unwrap_or_default()
+    }
+}
+
+/// Writes the name of the number that a call answered, or the number if it has none.
+pub(crate) fn write_answer(number: u32, to: &mut fmt::Formatter<'_>) -> fmt::Result {
+    match Name::of_answer(number) {
+        Some(name) => to.pad(name.as_str()),
+        None => fmt::Display::fmt(&number, to),
+    }
+}

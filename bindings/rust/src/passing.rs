@@ -1,0 +1,68 @@
+//! What a host asks before it passes a message on: whether it did so already, and whether it is within its rate.
+
+use crate::sys;
+use alloc::boxed::Box;
+use alloc::vec;
+use core::fmt;
+use core::mem::{align_of, size_of, MaybeUninit};
+
+/// Which messages were passed on last, 4,096 at most, in about 197,000 octets of the heap. A message that comes round is passed on
+/// once.
+pub struct PassedOn {
+    /// The octets of the library's table.
+    words: Box<[u64]>,
+}
+
+const WORDS: usize = size_of::<sys::ptpm_passed_on>() / size_of::<u64>();
+const _: () = assert!(align_of::<sys::ptpm_passed_on>() == align_of::<u64>() && WORDS * 8 == size_of::<sys::ptpm_passed_on>());
+
+impl PassedOn {
+    /// A table that notes no message. The seed is drawn, so that nobody else can say where a message is noted.
+    pub fn new(seed: u64) -> Self {
+        let mut words = vec![0; WORDS].into_boxed_slice();
+        words[0] = seed; // the first member
+        Self { words }
+    }
+
+    /// Whether a message is to be passed on; it is then noted for a time. The time now and that one are in one unit of the host's.
+    pub fn is_first(&mut self, message: &[u8], now: u64, time: u64) -> bool {
+        // SAFETY: the words have the size and the alignment of the table, and are its seed and zeros, or what the library wrote. The
+        // message may be read, and lies apart from the table, which is borrowed mutably.
+        unsafe { sys::ptpm_passed_on_is_first(self.words.as_mut_ptr().cast(), message.as_ptr(), message.len(), now, time) }
+    }
+}
+
+impl fmt::Debug for PassedOn {
+    fn fmt(&self, to: &mut fmt::Formatter<'_>) -> fmt::Result {
+        to.debug_struct("PassedOn").finish_non_exhaustive()
+    }
+}
+
+/// A bucket of tokens: N a second, and what a second brings at once.
+pub struct Rate {
+    rate: sys::ptpm_rate,
+}
+
+impl Rate {
+    /// A full bucket of N tokens a second, at most 1,000,000, at a time in milliseconds.
+    pub fn new(tokens: u64, now: u64) -> Self {
+        let mut rate = MaybeUninit::uninit();
+        // SAFETY: the rate may be written, and the call writes all of it.
+        unsafe {
+            sys::ptpm_rate_start(rate.as_mut_ptr(), tokens, now);
+            Self { rate: rate.assume_init() }
+        }
+    }
+
+    /// Takes a token, if there is one. A time before the latest one counts as that.
+    pub fn take(&mut self, now: u64) -> bool {
+        // SAFETY: the rate is one that the library wrote, and may be written.
+        unsafe { sys::ptpm_rate_take(&mut self.rate, now) }
+    }
+}
+
+impl fmt::Debug for Rate {
+    fn fmt(&self, to: &mut fmt::Formatter<'_>) -> fmt::Result {
+        to.debug_struct("Rate").finish_non_exhaustive()
+    }
+}

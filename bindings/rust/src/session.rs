@@ -1,0 +1,233 @@
+//! A manager's session with one clock.
+
+use crate::answers::Received;
+use crate::error::{done, judged, Error};
+use crate::id::ManagementId;
+use crate::identity::{Identity, PortIdentity};
+use crate::report::{told, Report, MOST_OCTETS};
+use crate::sys;
+use core::fmt;
+use core::ptr::null_mut;
+
+/// The most octets of a session's image.
+pub const SESSION_IMAGE_OCTETS: usize = sys::PTPM_SESSION_IMAGE_OCTETS;
+
+/// What may be asked of a clock: the actionField of a request.
+#[derive(Clone, Copy, Debug, PartialEq, Eq, Hash)]
+#[repr(u8)]
+#[allow(missing_docs)] // the standard's names
+pub enum Action {
+    Get = sys::PTPM_GET,
+    Set = sys::PTPM_SET,
+    Command = sys::PTPM_COMMAND,
+}
+
+/// One manager, the clock that it manages, and how its requests are numbered and sent. A clock takes a request for new if its
+/// number is up to 32,767 ahead of the latest that it took from this manager: a manager that starts again goes on from the number
+/// after the last that it began.
+#[derive(Clone, Copy, Debug, PartialEq, Eq)]
+pub struct SessionSettings {
+    /// The manager; its clock is not all ones.
+    pub manager: PortIdentity,
+    /// The managed clock: another one, and not all ones.
+    pub target: Identity,
+    /// How many ports the managed clock has, 1 to 8.
+    pub target_ports: u16,
+    /// The sequenceId of the first request.
+    pub first: u16,
+    /// domainNumber
+    pub domain: u8,
+    /// startingBoundaryHops of each request.
+    pub hops: u8,
+    /// How often a request may be sent before it is given up.
+    pub attempts: u8,
+}
+
+impl SessionSettings {
+    /// A session of a manager with a clock of up to eight ports, in domain 0, over one boundary clock at most, with 30 attempts.
+    pub const fn new(manager: PortIdentity, target: Identity, first: u16) -> Self {
+        Self { manager, target, target_ports: 8, first, domain: 0, hops: 1, attempts: 30 }
+    }
+
+    /// As the library takes them.
+    const fn as_in_c(&self) -> sys::ptpm_session_settings {
+        sys::ptpm_session_settings {
+            port: self.manager.port,
+            target_ports: self.target_ports,
+            first: self.first,
+            clock: self.manager.clock.0,
+            target: self.target.0,
+            domain: self.domain,
+            hops: self.hops,
+            attempts: self.attempts,
+        }
+    }
+}
+
+/// One request at a time to one clock, sent until it is answered. Such a clock carries it out once, however often it is sent.
+///
+/// ```
+/// use ptpm::{Action, Error, ManagementId, Report, Session, SessionSettings, MOST_DATA, MOST_OCTETS};
+/// # fn send(_octets: &[u8]) {}
+/// # fn next_datagram() -> Option<&'static [u8]> { None }
+///
+/// let settings = SessionSettings::new("0011223344556677/1".parse()?, "aabbccfffeddee01".parse()?, 7);
+/// let mut session = Session::start(&settings)?;
+/// session.begin(Action::Set, ManagementId::PRIORITY1, 0, &[100, 0])?;
+/// let mut room = [0; MOST_OCTETS];
+/// loop {
+///     match session.send(&mut room) {
+///         Ok(message) => send(message),
+///         Err(Error::Idle) => break,           // it is answered
+///         Err(Error::GaveUp) => break,         // it may have been carried out, once
+///         Err(error) => return Err(error.into()),
+///     }
+///     while let Some(datagram) = next_datagram() {
+///         session.receive(datagram)?;
+///     }
+/// }
+/// let mut room = [0; MOST_DATA];
+/// match session.report(&mut room) {
+///     Ok(Report::Value(field)) => println!("priority1 {}", field[0]),
+///     Ok(Report::Refused(error)) => println!("refused {error}"),
+///     other => println!("{other:?}"),
+/// }
+/// # Ok::<(), Box<dyn std::error::Error>>(())
+/// ```
+pub struct Session {
+    handle: sys::ptpm_session,
+}
+
+// SAFETY: one thread at a time is in a call with a handle, since the type is not Sync: no other thread has a reference to it. A
+// handle may be moved, and calls with other handles may run beside it.
+unsafe impl Send for Session {}
+
+impl Session {
+    /// Starts a session that has asked nothing.
+    ///
+    /// # Errors
+    ///
+    /// The first of [`Error::ManagerIsEvery`], [`Error::TargetIsEvery`], [`Error::SameClock`], [`Error::NoPorts`],
+    /// [`Error::TooManyPorts`] and [`Error::NoMemory`] that holds.
+    pub fn start(settings: &SessionSettings) -> Result<Self, Error> {
+        done(sys::ptpm_header_agrees())?;
+        let mut session = Self::none();
+        let settings = settings.as_in_c();
+        // SAFETY: the handle is all zeros before this first call, and the settings may be read.
+        done(unsafe { sys::ptpm_session_start(&mut session.handle, &settings) })?;
+        Ok(session)
+    }
+
+    /// Starts the session of an image, with the settings of the session that it is of. Its domain, hops and attempts are those of
+    /// the image. A request that was not answered goes on, with all its attempts: send it again.
+    ///
+    /// # Errors
+    ///
+    /// The first of [`Error::NotAnImage`], [`Error::OtherVersion`], [`Error::OtherKind`], [`Error::Damaged`],
+    /// [`Error::OtherSession`] and [`Error::NoMemory`] that holds. That is no reason to start the session anew: the clock would
+    /// take its requests for old ones, or for others.
+    pub fn restore(settings: &SessionSettings, image: &[u8]) -> Result<Self, Error> {
+        done(sys::ptpm_header_agrees())?;
+        let mut session = Self::none();
+        let settings = settings.as_in_c();
+        // SAFETY: the handle is all zeros before this first call. The settings may be read, and so may the octets of the slice.
+        done(unsafe { sys::ptpm_session_restore(&mut session.handle, &settings, image.as_ptr(), image.len()) })?;
+        Ok(session)
+    }
+
+    /// A handle that holds nothing.
+    const fn none() -> Self {
+        Self { handle: sys::ptpm_session { at: null_mut(), live: false } }
+    }
+
+    /// Makes the session's image in the room that it is given. A host saves it before it sends a request, and after it has reported
+    /// an answer. How many attempts are left, and the answer to the latest request, are not in it.
+    pub fn image<'a>(&self, room: &'a mut [u8; SESSION_IMAGE_OCTETS]) -> Result<&'a [u8], Error> {
+        let mut size = 0;
+        // SAFETY: the octets and the size may be written; the octets are borrowed mutably, so they lie apart from the rest.
+        done(unsafe { sys::ptpm_session_image(&self.handle, room.as_mut_ptr(), room.len(), &mut size) })?;
+        Ok(&room[..size])
+    }
+
+    /// Begins a request, and lets the answer to the one before go. The port matters for an id of a port alone. The caller keeps the
+    /// number of the next request for a restart: the first one and [`Session::issued`], added up.
+    ///
+    /// # Errors
+    ///
+    /// The first of [`Error::Busy`], [`Error::NeedsPort`], [`Error::BadValue`], [`Error::CountAtMaximum`] and [`Error::NoMemory`]
+    /// that holds; then nothing changes.
+    pub fn begin(&mut self, action: Action, id: ManagementId, port: u16, data: &[u8]) -> Result<(), Error> {
+        // SAFETY: the octets and their size are those of a slice, which may be read.
+        done(unsafe { sys::ptpm_session_begin(&mut self.handle, action as u8, id.0, port, data.as_ptr(), data.len()) })
+    }
+
+    /// Makes the message of the unanswered request in the room that it is given, and uses one of its attempts.
+    ///
+    /// # Errors
+    ///
+    /// [`Error::Idle`] or [`Error::GaveUp`]; then no attempt is used.
+    pub fn send<'a>(&mut self, room: &'a mut [u8; MOST_OCTETS]) -> Result<&'a [u8], Error> {
+        let mut size = 0;
+        // SAFETY: the octets and the size may be written; the octets are borrowed mutably, so they lie apart from the rest.
+        done(unsafe { sys::ptpm_session_send(&mut self.handle, room.as_mut_ptr(), room.len(), &mut size) })?;
+        Ok(&room[..size])
+    }
+
+    /// Gives the unanswered request this many attempts, whatever was left.
+    ///
+    /// # Errors
+    ///
+    /// [`Error::Idle`]
+    pub fn resume(&mut self, attempts: u8) -> Result<(), Error> {
+        // SAFETY: the handle is live.
+        done(unsafe { sys::ptpm_session_resume(&mut self.handle, attempts) })
+    }
+
+    /// Has requests sent, and replies expected, in this domain from now on, the unanswered request among them.
+    pub fn retune(&mut self, domain: u8) -> Result<(), Error> {
+        // SAFETY: the handle is live.
+        done(unsafe { sys::ptpm_session_retune(&mut self.handle, domain) })
+    }
+
+    /// Judges a datagram that came in. After [`Received::Answered`] the next request can be begun.
+    ///
+    /// # Errors
+    ///
+    /// [`Error::NoMemory`]; then nothing changes, and the answer may be handed in again.
+    pub fn receive(&mut self, datagram: &[u8]) -> Result<Received, Error> {
+        // SAFETY: the octets and their size are those of a slice, which may be read.
+        judged(unsafe { sys::ptpm_session_receive(&mut self.handle, datagram.as_ptr(), datagram.len()) }).map(Received::of_number)
+    }
+
+    /// How many requests were begun.
+    pub fn issued(&self) -> u64 {
+        // SAFETY: the handle is live.
+        unsafe { sys::ptpm_session_issued(&self.handle) }
+    }
+
+    /// Reports what the answer to the latest request says; a dataField in the room that it is given, for which
+    /// [`MOST_DATA`](crate::MOST_DATA) octets do.
+    ///
+    /// # Errors
+    ///
+    /// [`Error::NoReport`], or [`Error::NoRoom`] for fewer octets than the dataField has.
+    pub fn report<'a>(&self, room: &'a mut [u8]) -> Result<Report<'a>, Error> {
+        told(room, |octets, most, size, error| {
+            // SAFETY: octets, size and error may be written, and lie apart: each is borrowed mutably.
+            unsafe { sys::ptpm_session_report(&self.handle, octets, most, size, error) }
+        })
+    }
+}
+
+impl Drop for Session {
+    fn drop(&mut self) {
+        // SAFETY: the handle holds what its start made, or nothing.
+        unsafe { sys::ptpm_session_stop(&mut self.handle) }
+    }
+}
+
+impl fmt::Debug for Session {
+    fn fmt(&self, to: &mut fmt::Formatter<'_>) -> fmt::Result {
+        to.debug_struct("Session").finish_non_exhaustive()
+    }
+}

@@ -1,0 +1,296 @@
+//! What the binding does beyond the library: it lays settings and observations out, lends messages, and names answers. Expected octets
+//! are those of IEEE 1588-2019, clauses 13.3, 15.4 and 15.5.
+
+use ptpm::{
+    Action, Clock, ClockMembers, ClockSettings, DelayMechanism, Error, Handled, Identity, ManagementErrorId, ManagementId,
+    Manager, ObservedClock, ObservedGrandmaster, ObservedPort, Outbox, PortIdentity, PortMembers, PortSettings, PortState,
+    Received, Report, Rights, Session, SessionSettings, Survey, SurveySettings, Surveyed, TimeInterval, MOST_DATA, MOST_OCTETS,
+    MOST_READ,
+};
+
+const CLOCK: &str = "aabbccfffeddee01";
+const MANAGER: &str = "00112233445566770001";
+
+fn octets(text: &str) -> Vec<u8> {
+    (0..text.len() / 2).map(|at| u8::from_str_radix(&text[2 * at..2 * at + 2], 16).expect("it is hexadecimal")).collect()
+}
+
+/// A request by `MANAGER`: its target, hops, actionField, and id with dataField.
+fn request(number: u16, target: &str, hops: u8, action: u8, id: &str) -> Vec<u8> {
+    let size = 52 + id.len() / 2;
+    let length = id.len() / 2;
+    octets(&format!(
+        "0d12{size:04x}{:032}{MANAGER}{number:04x}047f{target}{hops:02x}{hops:02x}{action:02x}000001{length:04x}{id}",
+        0
+    ))
+}
+
+fn identity(text: &str) -> Identity {
+    text.parse().expect("it is an identity")
+}
+
+fn port_identity(text: &str) -> PortIdentity {
+    text.parse().expect("it is a port's identity")
+}
+
+fn manager() -> Manager {
+    Manager::new(port_identity("0011223344556677/1"), Rights::ALL)
+}
+
+fn clock() -> Clock {
+    Clock::start(&ClockSettings::new(identity(CLOCK)), &[PortSettings::new(); 2], &[manager()]).expect("it starts")
+}
+
+fn reads(clock: &mut Clock, id: ManagementId, port: u16, wanted: &str) {
+    let mut room = [0; MOST_READ];
+    assert_eq!(clock.read(id, port, &mut room), Ok(&*octets(wanted)), "{id}");
+}
+
+#[test]
+fn a_set_is_carried_out_once() {
+    let (mut clock, mut outbox) = (clock(), Outbox::boxed());
+    let set = request(7, "aabbccfffeddee01ffff", 1, 1, "20056400");
+    let (turn, changed) = clock.handle_changed(1, &set, &mut outbox).expect("it is judged");
+    assert_eq!((turn.handled(), turn.messages.len()), (Handled::AnsweredNew, 1));
+    assert_eq!(changed.clock, ClockMembers::PRIORITY1 | ClockMembers::GRANDMASTER_PRIORITY1);
+    let (turn, changed) = clock.handle_changed(1, &set, &mut outbox).expect("it is judged");
+    assert_eq!((turn.handled(), changed.is_empty()), (Handled::AnsweredRepeat, true));
+    let (port, answer) = turn.messages.last().expect("it is answered");
+    let (number, hops_and_tlv) = ("0007047f", "0000020000010004" /* RESPONSE, MANAGEMENT */);
+    assert_eq!((port, &answer[30..]), (1, &*octets(&[number, MANAGER, hops_and_tlv, "20056400"].concat())));
+    reads(&mut clock, ManagementId::PRIORITY1, 0, "6400");
+}
+
+#[test]
+fn a_command_changes_the_ports_that_it_names() {
+    let (mut clock, mut outbox) = (clock(), Outbox::boxed());
+    let disable = request(1, "aabbccfffeddee010002", 0, 3, "200e");
+    let (_, changed) = clock.handle_changed(1, &disable, &mut outbox).expect("it is judged");
+    assert_eq!(changed.ports_with(PortMembers::STATE).collect::<Vec<_>>(), [2]);
+    let observed = [ObservedPort { state: Some(PortState::Slave), peer_delay: Some(TimeInterval::of_nanoseconds(3)) }; 2];
+    let left = clock.observe(&ObservedClock::default(), &observed).expect("it is observed");
+    assert_eq!(left.iter().collect::<Vec<_>>(), [2]);
+    reads(&mut clock, ManagementId::PORT_DATA_SET, 1, "aabbccfffeddee01000109000000000000030000010300010002");
+}
+
+#[test]
+fn messages_are_lent_from_the_outbox() {
+    let (mut clock, mut outbox) = (clock(), Outbox::new());
+    let other = request(7, "aabbccfffeddee02ffff", 1, 0, "2005");
+    let turn = clock.handle(1, &other, &mut outbox).expect("it is judged");
+    assert_eq!(turn.handled(), Handled::NotAddressed);
+    let mut passed_on = other.clone();
+    passed_on[45] = 0; // boundaryHops
+    assert_eq!(turn.messages.collect::<Vec<_>>(), [(2, &*passed_on)]);
+    assert_eq!(clock.handle(3, &other, &mut outbox).map(|turn| turn.handled()), Err(Error::NoPort));
+    let nothing = clock.handle(1, &[], &mut outbox).expect("it is judged");
+    assert_eq!((nothing.handled(), nothing.messages.len()), (Handled::TooShort, 0));
+}
+
+#[test]
+fn settings_have_their_places() {
+    let settings = ClockSettings {
+        domain: 0x2a,
+        user_description: "Rack 4".into(),
+        two_step: true,
+        priority1: 0x43,
+        clock_class: 0x44,
+        clock_accuracy: 0x22,
+        variance: 0x3132,
+        priority2: 0x46,
+        steps_removed: 0x4142,
+        offset_from_master: TimeInterval(0x0102_0304_0506_0708),
+        mean_path_delay: TimeInterval(0x1112_1314_1516_1718),
+        parent_port: Some(port_identity("b0b1b2b3b4b5b6b7/29042")),
+        parent_stats: true,
+        observed_variance: 0x5152,
+        observed_rate: 0x2122_2324,
+        grandmaster: Some(identity("c0c1c2c3c4c5c6c7")),
+        grandmaster_priority1: Some(0x53),
+        grandmaster_class: Some(0x54),
+        grandmaster_accuracy: Some(0x23),
+        grandmaster_variance: Some(0x6162),
+        grandmaster_priority2: Some(0x56),
+        utc_offset: 0x1920,
+        leap61: true,
+        utc_valid: true,
+        frequency_traceable: true,
+        time_source: 0x90,
+        ..ClockSettings::new(identity(CLOCK))
+    };
+    let port = PortSettings {
+        peer_delay: TimeInterval(0x0a0b_0c0d_0e0f_1a1b),
+        state: PortState::PreMaster,
+        log_min_delay_req: -11,
+        log_announce: 3,
+        receipt_timeout: 7,
+        log_sync: -6,
+        delay_mechanism: DelayMechanism::PeerToPeer,
+        log_min_pdelay: 4,
+    };
+    let mut clock = Clock::start(&settings, &[port], &[]).expect("it starts");
+    assert_eq!(clock.identity(), Ok(identity(CLOCK)));
+    reads(&mut clock, ManagementId::USER_DESCRIPTION, 0, "065261636b203400");
+    reads(&mut clock, ManagementId::DEFAULT_DATA_SET, 0, "01000001434422313246aabbccfffeddee012a00");
+    reads(&mut clock, ManagementId::CURRENT_DATA_SET, 0, "414201020304050607081112131415161718");
+    reads(&mut clock, ManagementId::PARENT_DATA_SET, 0, "b0b1b2b3b4b5b6b771720100515221222324535423616256c0c1c2c3c4c5c6c7");
+    reads(&mut clock, ManagementId::TIME_PROPERTIES_DATA_SET, 0, "19202590");
+    reads(&mut clock, ManagementId::PORT_DATA_SET, 1, "aabbccfffeddee01000105f50a0b0c0d0e0f1a1b0307fa020402");
+}
+
+#[test]
+fn observations_have_their_places() {
+    let mut clock = clock();
+    let observed = ObservedClock {
+        steps_removed: Some(2),
+        offset_from_master: Some(TimeInterval(-2)),
+        mean_path_delay: Some(TimeInterval::of_nanoseconds(1)),
+        parent_stats: Some(true),
+        observed_variance: Some(0x5152),
+        observed_rate: Some(0x2122_2324),
+        grandmaster: Some(ObservedGrandmaster::Other {
+            identity: identity("c0c1c2c3c4c5c6c7"),
+            priority1: 0x53,
+            class: 6,
+            accuracy: 0x21,
+            variance: 0x6162,
+            priority2: 0x56,
+            parent_port: port_identity("b0b1b2b3b4b5b6b7/29042"),
+        }),
+        utc_offset: Some(37),
+        leap59: Some(true),
+        ptp_timescale: Some(true),
+        time_traceable: Some(true),
+        time_source: Some(0x20),
+        ..ObservedClock::default()
+    };
+    assert_eq!(clock.observe(&observed, &[]).map(|left| left.is_empty()), Ok(true));
+    reads(&mut clock, ManagementId::CURRENT_DATA_SET, 0, "0002fffffffffffffffe0000000000010000");
+    reads(&mut clock, ManagementId::PARENT_DATA_SET, 0, "b0b1b2b3b4b5b6b771720100515221222324530621616256c0c1c2c3c4c5c6c7");
+    reads(&mut clock, ManagementId::TIME_PROPERTIES_DATA_SET, 0, "00251a20");
+    let more = [ObservedPort::default(); 3];
+    assert_eq!(clock.observe(&observed, &more), Err(Error::NoPort));
+    assert_eq!(clock.observe(&observed, &[ObservedPort::default(); 300]), Err(Error::NoPort));
+    let both = ObservedClock { leap61: Some(true), leap59: Some(true), ..ObservedClock::default() };
+    assert_eq!(clock.observe(&both, &[]), Err(Error::BadLeap59));
+    let itself = ObservedClock { grandmaster: Some(ObservedGrandmaster::Itself), ..ObservedClock::default() };
+    assert!(clock.observe(&itself, &more[..2]).is_ok());
+}
+
+#[test]
+fn starts_are_refused_by_name() {
+    let start = |settings: &ClockSettings, ports: usize, managers: &[Manager]| {
+        Clock::start(settings, &vec![PortSettings::new(); ports], managers).map(|_| ())
+    };
+    let settings = ClockSettings::new(identity(CLOCK));
+    assert_eq!(start(&settings, 0, &[]), Err(Error::NoPorts));
+    assert_eq!(start(&settings, 9, &[]), Err(Error::TooManyPorts));
+    assert_eq!(start(&settings, 1, &[manager(); 17]), Err(Error::TooManyManagers));
+    assert_eq!(start(&settings, 1, &[manager(); 2]), Err(Error::ManagerTwice));
+    for size in [129, 130, 255, 256, 300] {
+        let long = ClockSettings { user_description: "a".repeat(size), ..settings.clone() };
+        assert_eq!(start(&long, 1, &[]), Err(Error::BadUserDescription), "{size}");
+    }
+    assert_eq!(start(&ClockSettings::new(Identity([0xff; 8])), 1, &[]), Err(Error::BadIdentity));
+    assert_eq!(Error::NoPorts.to_string(), "NO_PORTS: a clock has a port or more");
+}
+
+/// What goes from a session to a clock and back; what the session makes of the last datagram.
+fn exchanged(session: &mut Session, clock: &mut Clock) -> Result<Received, Error> {
+    let (mut room, mut outbox) = ([0; MOST_OCTETS], Outbox::boxed());
+    let message = session.send(&mut room)?;
+    let turn = clock.handle(2, message, &mut outbox)?;
+    let mut became = Err(Error::NoReport);
+    for (port, octets) in turn.messages {
+        assert_eq!(port, 2);
+        became = session.receive(octets);
+    }
+    became
+}
+
+#[test]
+fn a_session_is_answered() {
+    let mut clock = clock();
+    let settings = SessionSettings::new(port_identity("0011223344556677/1"), identity(CLOCK), 0xffff);
+    let mut session = Session::start(&SessionSettings { attempts: 1, ..settings }).expect("it starts");
+    let mut room = [0; MOST_DATA];
+    assert_eq!(session.report(&mut room), Err(Error::NoReport));
+    assert_eq!(session.begin(Action::Get, ManagementId::PORT_DATA_SET, 0, &[]), Err(Error::NeedsPort));
+    assert_eq!(session.begin(Action::Set, ManagementId::PRIORITY1, 0, &[1]), Err(Error::BadValue));
+    assert_eq!(session.begin(Action::Set, ManagementId::PRIORITY1, 0, &[100, 0]), Ok(()));
+    assert_eq!(session.begin(Action::Get, ManagementId::PRIORITY1, 0, &[]), Err(Error::Busy));
+    assert_eq!(exchanged(&mut session, &mut clock), Ok(Received::Answered));
+    assert_eq!(session.report(&mut room[..1]), Err(Error::NoRoom));
+    assert_eq!(session.report(&mut room), Ok(Report::Value(&[100, 0])));
+    assert_eq!(session.resume(3), Err(Error::Idle));
+    assert_eq!(session.begin(Action::Set, ManagementId::LOG_SYNC_INTERVAL, 1, &[100, 0]), Ok(()));
+    assert_eq!(session.issued(), 2);
+    assert_eq!(session.retune(1), Ok(()));
+    assert_eq!(exchanged(&mut session, &mut clock), Err(Error::NoReport)); // the clock is in domain 0
+    assert_eq!(exchanged(&mut session, &mut clock), Err(Error::GaveUp));
+    assert_eq!((session.resume(1), session.retune(0)), (Ok(()), Ok(())));
+    assert_eq!(exchanged(&mut session, &mut clock), Ok(Received::Answered));
+    assert_eq!(session.report(&mut room), Ok(Report::Refused(ManagementErrorId(4))));
+    assert_eq!(session.begin(Action::Command, ManagementId::DISABLE_PORT, 1, &[]), Ok(()));
+    assert_eq!(exchanged(&mut session, &mut clock), Ok(Received::Answered));
+    assert_eq!(session.report(&mut room), Ok(Report::Done));
+    assert_eq!(session.receive(b"\x0d\x12"), Ok(Received::TooShort));
+}
+
+#[test]
+fn a_survey_keeps_first_answers() {
+    let mut clock = clock();
+    let settings = SurveySettings::new(port_identity("0a0b0c0d0e0f1011/9"), 3, ManagementId::PORT_DATA_SET);
+    let mut survey = Survey::start(&settings).expect("it starts");
+    let (mut room, mut outbox) = ([0; MOST_OCTETS], Outbox::boxed());
+    for became in [Surveyed::Taken, Surveyed::Again] {
+        let message = survey.send(&mut room).expect("it is made");
+        let turn = clock.handle(1, message, &mut outbox).expect("it is judged");
+        assert_eq!(turn.handled(), Handled::AnsweredUnnumbered);
+        for (_, octets) in turn.messages.filter(|(port, _)| *port == 1) {
+            assert_eq!(survey.receive(octets), Ok(became));
+        }
+    }
+    assert_eq!(survey.count(), 2);
+    let answers: Vec<_> =
+        survey.answers().map(|answer| (answer.source.to_string(), answer.value.map(|field| field[10]))).collect();
+    assert_eq!(answers, [("aabbccfffeddee01/1".into(), Ok(6)), ("aabbccfffeddee01/2".into(), Ok(6))]);
+    assert_eq!(survey.answer(2, &mut room), Err(Error::NoReport));
+}
+
+#[test]
+fn a_clock_is_moved_to_another_thread() {
+    let mut clock = clock();
+    let get = request(7, "aabbccfffeddee01ffff", 1, 0, "2005");
+    let handled = std::thread::spawn(move || {
+        let mut outbox = Outbox::boxed();
+        clock.handle(1, &get, &mut outbox).map(|turn| turn.handled())
+    });
+    assert_eq!(handled.join().expect("it ends"), Ok(Handled::AnsweredNew));
+}
+
+#[test]
+fn texts_that_are_no_identity_are_refused() {
+    for text in [
+        "",
+        "aabbccfffeddee0",
+        "aabbccfffeddee011",
+        "aabbcc.fffeddee01",
+        "aabb.ccfffe.ddee01",
+        "aabbcc.fffe.ddee0x",
+        "aabbccfffeddéé",
+    ] {
+        assert!(text.parse::<Identity>().is_err(), "{text}");
+    }
+    for text in [CLOCK, "aabbccfffeddee01/", "aabbccfffeddee01/+1", "aabbccfffeddee01/65536", "aabbccfffeddee01/1/1"] {
+        assert!(text.parse::<PortIdentity>().is_err(), "{text}");
+    }
+}
+
+#[test]
+fn numbers_of_a_newer_library_are_kept() {
+    assert_eq!(Handled::of_number(29), Handled::Other(29));
+    assert_eq!(Handled::Other(29).number(), 29);
+    assert_eq!(Error::of_number(200).to_string(), "200: the library is newer than this crate");
+    assert_eq!(Handled::AnsweredNew.to_string(), "ANSWERED_NEW");
+}

@@ -1,0 +1,14 @@
+-- What is lent of a pointer that a host keeps: what lies behind it.
+use Rattle.std.specs.Borrow.{Fml, Lends, MutBor}
+use Rattle.std.specs.Prelude.{Some}
+use Rattle.ptpm_c.specs.declared.keeping.Keeping.{Keeping}
+use Rattle.ptpm_c.specs.declared.kept.Kept.{Kept}
+use Rattle.ptpm_c.specs.contracts.keeping.Keeping as keeping
+use Rattle.ptpm_c.specs.contracts.kept.Kept as kept
+
+-- the same pointer, and this behind it
+abbrev pub with_kept : Keeping → Kept → Keeping
+with_kept k w = record k { kept = Some w }
+
+abbrev pub LendsKept : MutBor Keeping → MutBor Kept → Fml
+LendsKept s r = Lends keeping.the_row kept.the_row s r (with_kept s.now)

@@ -1,0 +1,135 @@
+-- What is printed, one piece after another.
+use Rattle.std.proofs.Common.{◌≡◌, ◌==◌, ◌≤◌, ℕ, false, length, map, take, List, [], ◌∷◌, ◌++◌, Option, refl, sym, ap, ◌∙◌, subst, append_assoc, append-nil, codes, flat_map}
+use Rattle.std.proofs.KnownBytes.{Appends-kept, Appends-nil, Appends-trans}
+use Rattle.std.proofs.lemmas.Grind.{flat_map-append}
+use Rattle.std.proofs.lemmas.List.{take_all}
+use Rattle.std.proofs.lemmas.List.Folds.{flat_map-map}
+use Rattle.std.specs.Int.{to_be_bytes, w16}
+use Rattle.std.specs.Io.KnownBytes.{Appends, Keeps}
+use Rattle.ptpm_agent.specs.Turn.{Clock, State, turn}
+use Rattle.arrayvec.specs.ArrayVec.{ArrayVec}
+use Rattle.ptpm_codec.specs.declared.message.Action.TheVariants as actions
+use Rattle.ptpm_codec.specs.declared.message.Message.{Message}
+use Rattle.ptpm_data.specs.ManagementId.{RowValue, has_action, id_table, row_of}
+use Rattle.ptpm_table.specs.Outbox.{sent}
+use Rattle.ptpm_commands.specs.Answer.{answered, answered_each, sent_line, sent_lines, state_behind}
+use Rattle.ptpm_commands.specs.Ids.{id_line, letter, row_line, scope_text, table_lines}
+use Rattle.ptpm_commands.specs.Show.{AreShown, message_lines, named_line}
+use Rattle.ptpm_script.specs.OctetText.{text_of_octets}
+
+-- ---- at a clock
+
+state-more : (c : Clock) (s : State) (ds : List (List ℕ)) (d : List ℕ)
+    → state_behind c s (ds ++ d ∷ []) ≡ (turn c (state_behind c s ds) 1 d).next
+state-more c s [] d = refl
+state-more c s (x ∷ xs) d = state-more c (turn c s 1 x).next xs d
+
+each-more : (c : Clock) (s : State) (ds : List (List ℕ)) (d : List ℕ)
+    → answered_each c s (ds ++ d ∷ []) ≡ answered_each c s ds ++ answered c (state_behind c s ds) d
+each-more c s [] d = append-nil (answered c s d)
+each-more c s (x ∷ xs) d =
+    ap (λ l. answered c s x ++ l) (each-more c (turn c s 1 x).next xs d)
+    ∙ sym (append_assoc (answered c s x) (answered_each c (turn c s 1 x).next xs) (answered c (state_behind c (turn c s 1 x).next xs) d))
+
+-- what it sends for these datagrams is printed, and it stands behind them
+pub record Answers (c : Clock) (first : State) (before after : Option (List ℕ)) (now : State) : Type 0 where
+  pub datagrams : List (List ℕ)
+  pub printed : Appends before after (answered_each c first datagrams)
+  pub stands : state_behind c first datagrams ≡ now
+
+pub answers-none : (c : Clock) (first : State) (before : Option (List ℕ)) → Answers c first before before first
+answers-none c first before = record { datagrams = []; printed = Appends-nil before; stands = refl }
+
+pub answers-more : (c : Clock) (first now next : State) (before mid after : Option (List ℕ)) (d : List ℕ)
+    → Answers c first before mid now
+    → Appends mid after (answered c now d)
+    → next ≡ (turn c now 1 d).next
+    → Answers c first before after next
+answers-more c first now next before mid after d h wrote is = record {
+  datagrams = h.datagrams ++ d ∷ [];
+  printed = subst (Appends before after)
+      (ap (λ s. answered_each c first h.datagrams ++ answered c s d) (sym h.stands) ∙ sym (each-more c first h.datagrams d))
+      (Appends-trans before mid after _ _ h.printed wrote);
+  stands = state-more c first h.datagrams d ∙ ap (λ s. (turn c s 1 d).next) h.stands ∙ sym is;
+}
+
+pub answers-kept : (c : Clock) (first now : State) (before mid after : Option (List ℕ))
+    → Answers c first before mid now
+    → Keeps mid after
+    → Answers c first before after now
+answers-kept c first now before mid after h kept = record {
+  datagrams = h.datagrams;
+  printed = Appends-kept before mid after _ h.printed kept;
+  stands = h.stands;
+}
+
+pub answers-turn : (c now_c : Clock) (first now next : State) (before mid after : Option (List ℕ)) (d : List ℕ)
+    → now_c ≡ c
+    → Answers c first before mid now
+    → Appends mid after (answered now_c now d)
+    → next ≡ (turn now_c now 1 d).next
+    → Answers c first before after next
+answers-turn c now_c first now next before mid after d same h wrote is =
+    answers-more c first now next before mid after d h
+    (subst (λ (k : Clock). Appends mid after (answered k now d)) same wrote)
+    (is ∙ ap (λ (k : Clock). (turn k now 1 d).next) same)
+
+-- ---- the messages of an outbox
+
+pub all-sent : (es : List (ℕ × ArrayVec ℕ)) (box : List (ℕ × List ℕ)) (n : ℕ)
+    → sent es ≡ box
+    → (length es == 0) ≡ false
+    → length es ≤ n
+    → flat_map (λ e. sent_line (e.0, e.1.items)) (take n es) ≡ sent_lines box
+all-sent [] box n is some h = absurd (cc)
+all-sent (e ∷ es) box n is some h =
+    ap (flat_map (λ (x : ℕ × ArrayVec ℕ). sent_line (x.0, x.1.items))) (take_all n (e ∷ es) h)
+    ∙ sym (flat_map-map sent_line (λ (x : ℕ × ArrayVec ℕ). (x.0, x.1.items)) (e ∷ es))
+    ∙ ap sent_lines is
+
+-- ---- lines, by their pieces
+
+pub named-line : (what : List ℕ) (n : ℕ) (octets name : List ℕ)
+    → octets ≡ to_be_bytes w16 n
+    → what ++ (text_of_octets octets ++ (32 ∷ (name ++ 10 ∷ []))) ≡ named_line what n name
+named-line what n octets name e =
+    ap (λ o. what ++ (text_of_octets o ++ (32 ∷ (name ++ 10 ∷ [])))) e ∙ simp append_assoc
+
+pub row-line : (row : RowValue) (octets scope get set command : List ℕ)
+    → octets ≡ to_be_bytes w16 row.id
+    → scope ≡ scope_text row.scope
+    → get ≡ letter (has_action actions.Get row.actions) (codes "G")
+    → set ≡ letter (has_action actions.Set row.actions) (codes "S")
+    → command ≡ letter (has_action actions.Command row.actions) (codes "C")
+    → text_of_octets octets ++ (32 ∷ (row.name ++ (32 ∷ (scope ++ (32 ∷ (get ++ (set ++ (command ++ 10 ∷ []))))))))
+    ≡ row_line row
+unfolding row_line
+row-line row octets scope get set command o s g t c = rw (o, s, g, t, c) (simp append_assoc)
+
+-- ---- the table of ids
+
+abbrev pub table_ids : List ℕ
+table_ids = map (λ (e : RowValue). e.id) id_table
+
+pub all-rows : flat_map id_line table_ids ≡ table_lines
+unfolding row_of
+all-rows = refl
+
+-- ---- messages that are shown
+
+pub shown-none : (before : Option (List ℕ)) → AreShown before before
+shown-none before = record { messages = []; printed = Appends-nil before }
+
+pub shown-one : (before after : Option (List ℕ)) (m : Message)
+    → Appends before after (message_lines m)
+    → AreShown before after
+shown-one before after m wrote = record { messages = m ∷ []; printed = subst (Appends before after) (sym (append-nil (message_lines m))) wrote }
+
+pub shown-both : (a b c : Option (List ℕ)) → AreShown a b → AreShown b c → AreShown a c
+shown-both a b c p q = record {
+  messages = p.messages ++ q.messages;
+  printed = subst (Appends a c) (sym (flat_map-append message_lines p.messages q.messages)) (Appends-trans a b c _ _ p.printed q.printed);
+}
+
+pub shown-kept : (a b c : Option (List ℕ)) → AreShown a b → Keeps b c → AreShown a c
+shown-kept a b c p kept = record { messages = p.messages; printed = Appends-kept a b c _ p.printed kept }

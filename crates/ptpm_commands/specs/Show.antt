@@ -1,0 +1,107 @@
+-- The lines of `ptpm show`: the fields of a message (this project's profile).
+use Rattle.std.specs.Prelude.{◌≡◌, ℕ, ◌==◌, ◌/◌, ◌%◌, false, List, [], ◌∷◌, ◌++◌, Option, Some, None, Result, Ok, Err, codes, decimal, find, flat_map}
+use Rattle.std.specs.Fmt.{digit_glyph}
+use Rattle.std.specs.Io.KnownBytes.{Appends}
+use Rattle.hex.specs.declared.error.FromHexError.{FromHexError}
+use Rattle.hex.specs.Hex.{decode_of}
+use Rattle.ptpm_codec.specs.declared.error.DecodeError.{DecodeError}
+use Rattle.ptpm_codec.specs.declared.error.ErrorId.{ErrorId}
+use Rattle.ptpm_codec.specs.declared.error.ErrorId.TheVariants as errors
+use Rattle.ptpm_codec.specs.declared.message.Message.{Message}
+use Rattle.ptpm_codec.specs.Identity.{port_identity_text}
+use Rattle.ptpm_codec.specs.Message.{action_name, action_of, error_name, error_number, error_of, id_of, octets_of, text_of}
+use Rattle.ptpm_codec.specs.Reading.{reading}
+use Rattle.ptpm_data.specs.ManagementId.{RowValue, row_of}
+use Rattle.ptpm_script.specs.OctetText.{text_of_octets}
+use Rattle.ptpm_commands.specs.declared.faults.Fault.{Fault}
+use Rattle.ptpm_commands.specs.declared.faults.Fault.TheVariants as faults
+use Rattle.ptpm_commands.specs.Ids.{id_text}
+
+-- ---- the header
+
+-- sdoId, of 12 bits, in three hexadecimal digits
+abbrev pub sdo_line : ℕ → List ℕ
+sdo_line sdo = codes "sdo " ++ digit_glyph false (sdo / 256) ∷ [] ++ text_of_octets (sdo % 256 ∷ []) ++ 10 ∷ []
+
+abbrev pub line : List ℕ → List ℕ → List ℕ
+line name value = name ++ value ++ 10 ∷ []
+
+abbrev pub hops_line : ℕ → ℕ → List ℕ
+hops_line hops starting = codes "hops " ++ decimal hops ++ codes " of " ++ decimal starting ++ 10 ∷ []
+
+unfoldable pub identity_lines : Message → List ℕ
+identity_lines m =
+    line (codes "source ") (port_identity_text m.source)
+    ++ line (codes "target ") (port_identity_text m.target)
+    ++ line (codes "number ") (decimal m.number)
+
+unfoldable pub action_lines : Message → List ℕ
+action_lines m =
+    hops_line m.hops m.starting_hops ++ line (codes "action ") (action_name (action_of m.body))
+
+unfoldable pub header_lines : Message → List ℕ
+header_lines m =
+    sdo_line m.sdo ++ line (codes "domain ") (decimal m.domain) ++ identity_lines m ++ action_lines m
+
+-- ---- the TLV
+
+-- what stands for a name that there is not
+abbrev pub dash : List ℕ
+dash = codes "-"
+
+abbrev pub row_name : Option RowValue → List ℕ
+row_name None = dash
+row_name (Some row) = row.name
+
+-- the errors that the standard names (15.5.4.3)
+abbrev pub named_errors : List ErrorId
+named_errors =
+    errors.ResponseTooBig ∷ errors.NoSuchId ∷ errors.WrongLength ∷ errors.WrongValue ∷ errors.NotSetable ∷ errors.NotSupported
+    ∷ errors.GeneralError ∷ []
+
+abbrev pub name_of_error : Option ErrorId → List ℕ
+name_of_error None = dash
+name_of_error (Some error) = error_name error
+
+abbrev pub error_named : ℕ → List ℕ
+error_named number = name_of_error (find (λ e. error_number e == number) named_errors)
+
+-- a number in four hexadecimal digits and a name
+abbrev pub named_line : List ℕ → ℕ → List ℕ → List ℕ
+named_line what number name = what ++ id_text number ++ codes " " ++ name ++ 10 ∷ []
+
+abbrev pub value_lines : Option ℕ → List ℕ → List ℕ → List ℕ
+value_lines None octets text = line (codes "value ") (text_of_octets octets)
+value_lines (Some error) octets text = named_line (codes "error ") error (error_named error) ++ line (codes "text ") (text_of_octets text)
+
+unfoldable pub body_lines : Message → List ℕ
+body_lines m =
+    named_line (codes "id ") (id_of m.body) (row_name (row_of (id_of m.body)))
+    ++ value_lines (error_of m.body) (octets_of m.body) (text_of m.body)
+
+-- ---- the whole
+
+abbrev pub message_lines : Message → List ℕ
+message_lines m = header_lines m ++ body_lines m
+
+-- the message of a datagram, or why it holds none
+abbrev pub read_as : Result Message DecodeError → Result Message Fault
+read_as (Ok m) = Ok m
+read_as (Err cause) = Err (faults.Refused cause)
+
+-- the message of a datagram in hexadecimal digits
+abbrev pub message_by : Result (List ℕ) FromHexError → Result Message Fault
+message_by (Ok datagram) = read_as (reading datagram)
+message_by (Err error) = Err faults.BadHex
+
+abbrev pub message_of : List ℕ → Result Message Fault
+message_of digits = message_by (decode_of digits)
+
+-- a writer took the lines of a message that was read
+abbrev pub IsShown : Result Message Fault → Option (List ℕ) → Option (List ℕ) → Type 0
+IsShown read before after = (m : Message) × ((read ≡ Ok m) × Appends before after (message_lines m))
+
+-- a writer took the lines of some messages
+pub record AreShown (before after : Option (List ℕ)) : Type 0 where
+  pub messages : List Message
+  pub printed : Appends before after (flat_map message_lines messages)

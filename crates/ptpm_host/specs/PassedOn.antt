@@ -1,0 +1,105 @@
+-- Which messages were passed on last (this project's profile): a table of places, in sixteen of which a message may be noted.
+use Rattle.std.specs.Prelude.{◌≡◌, ◌<◌, ◌⊎◌, ℕ, ◌+◌, ◌-◌, ◌*◌, ◌/◌, ◌%◌, ◌^◌, ◌&&◌, ◌==◌, Bool, true, false, MatchBool, nat_lt, slice_set, bit_or, bit_xor}
+use Rattle.std.specs.List.{slice_index_or}
+use Rattle.std.specs.Int.{from_be_bytes, w64}
+use Rattle.ptpm_codec.specs.declared.identity.ClockIdentity.{ClockIdentity}
+use Rattle.ptpm_codec.specs.declared.message.Message.{Message}
+use Rattle.ptpm_codec.specs.Message.{action_code, action_of, id_of}
+use Rattle.ptpm_host.specs.declared.passed_on.MessageKey.{MessageKey}
+use Rattle.ptpm_host.specs.declared.passed_on.PassedOn.{PassedOn}
+use Rattle.ptpm_host.specs.declared.passed_on.PassedOnPlace.{PassedOnPlace}
+
+-- ---- what tells one message from another
+
+abbrev pub clock_number : ClockIdentity → ℕ
+clock_number identity = from_be_bytes w64 identity.0
+
+abbrev pub key_of : Message → MessageKey
+key_of m = record {
+  source_clock = clock_number m.source.clock;
+  target_clock = clock_number m.target.clock;
+  source_port = m.source.port;
+  number = m.number;
+  target_port = m.target.port;
+  id = id_of m.body;
+  action = action_code (action_of m.body);
+}
+
+abbrev pub same_key : MessageKey → MessageKey → Bool
+same_key a b =
+    a.source_clock == b.source_clock && (a.target_clock == b.target_clock && (a.source_port == b.source_port
+    && (a.number == b.number && (a.target_port == b.target_port && (a.id == b.id && a.action == b.action)))))
+
+-- ---- where it may be noted: in sixteen places in a row, from one that its key and the table's seed make
+
+unfoldable pub stirred : ℕ → ℕ → ℕ
+stirred number by =
+    let product = (bit_xor number by * 0x9e3779b97f4a7c15) % 2 ^ 64 in bit_xor product (product / 2 ^ 32)
+
+unfoldable pub first_place : ℕ → MessageKey → ℕ
+first_place seed key =
+    let clocks = stirred (stirred seed key.source_clock) key.target_clock in
+    let ports = bit_or (key.source_port * 2 ^ 32) (key.target_port * 2 ^ 16) in
+    let rest = bit_or (bit_or (key.number * 2 ^ 32) (key.id * 2 ^ 8)) key.action in
+    stirred (stirred clocks ports) rest % 4096
+
+-- the places in a row from a place on, and behind the last the first again
+abbrev pub place_from : ℕ → ℕ → ℕ
+place_from first i = (first + i) % 4096
+
+abbrev pub no_key : MessageKey
+no_key = record { source_clock = 0; target_clock = 0; source_port = 0; number = 0; target_port = 0; id = 0; action = 0 }
+
+abbrev pub free : PassedOnPlace
+free = record { since = 0; time = 0; key = no_key }
+
+abbrev pub nth_from : PassedOn → ℕ → ℕ → PassedOnPlace
+nth_from t first i = slice_index_or t.places (place_from first i) free
+
+abbrev pub place_at : PassedOn → MessageKey → ℕ → ℕ
+place_at t key i = place_from (first_place t.seed key) i
+
+abbrev pub place_of : PassedOn → MessageKey → ℕ → PassedOnPlace
+place_of t key i = nth_from t (first_place t.seed key) i
+
+-- ---- what is noted
+
+-- a message that was noted for a time is noted while less than that has passed
+abbrev pub is_live : ℕ → PassedOnPlace → Bool
+is_live now p = nat_lt (now - p.since) p.time
+
+abbrev pub is_noted : ℕ → MessageKey → PassedOnPlace → Bool
+is_noted now key p = is_live now p && same_key p.key key
+
+-- of the sixteen from a place on: one has the message; none has it; in each something is noted still; this one is free
+abbrev pub HasFrom : PassedOn → ℕ → ℕ → MessageKey → Type 0
+HasFrom t first now key = (i : ℕ) × (i < 16) × (is_noted now key (nth_from t first i) ≡ true)
+
+abbrev pub LacksFrom : PassedOn → ℕ → ℕ → MessageKey → Type 0
+LacksFrom t first now key = (i : ℕ) → i < 16 → is_noted now key (nth_from t first i) ≡ false
+
+abbrev pub TakenFrom : PassedOn → ℕ → ℕ → Type 0
+TakenFrom t first now = (i : ℕ) → i < 16 → is_live now (nth_from t first i) ≡ true
+
+abbrev pub FreeFrom : PassedOn → ℕ → ℕ → ℕ → Type 0
+FreeFrom t first now place = (i : ℕ) × (i < 16) × (place ≡ place_from first i) × (is_live now (nth_from t first i) ≡ false)
+
+abbrev pub NotesNothing : PassedOn → Type 0
+NotesNothing t = (now place : ℕ) → is_live now (slice_index_or t.places place free) ≡ false
+
+-- ---- one question: is a message with this key passed on?
+
+-- it was not noted, and is noted now in a place that was free
+abbrev pub IsLetThrough : PassedOn → MessageKey → ℕ → ℕ → PassedOn → Type 0
+IsLetThrough t key now time u =
+    LacksFrom t (first_place t.seed key) now key
+    × ((place : ℕ) × (FreeFrom t (first_place t.seed key) now place
+    × (u ≡ record t { places = slice_set t.places place (record { since = now; time = time; key = key }) })))
+
+-- it is noted, or there is no place for it; and nothing changes
+abbrev pub IsKeptBack : PassedOn → MessageKey → ℕ → PassedOn → Type 0
+IsKeptBack t key now u =
+    (HasFrom t (first_place t.seed key) now key ⊎ TakenFrom t (first_place t.seed key) now) × (u ≡ t)
+
+abbrev pub IsAsked : PassedOn → MessageKey → ℕ → ℕ → Bool → PassedOn → Type 0
+IsAsked t key now time answer u = MatchBool answer (IsLetThrough t key now time u) (IsKeptBack t key now u)

@@ -1,0 +1,24 @@
+-- A bucket of tokens (this project's profile): so many a second, and what a second brings at once. It counts in thousandths of a token, and
+-- in milliseconds.
+use Rattle.std.specs.Prelude.{ℕ, ◌+◌, ◌-◌, ◌*◌, min, max, nat_le, Bool, if◌then◌else◌}
+use Rattle.ptpm_host.specs.declared.rate.Rate.{Rate}
+
+abbrev pub rate_of : Rate → ℕ
+rate_of b = min b.rate 1000000
+
+-- what fits
+abbrev pub burst : Rate → ℕ
+burst b = rate_of b * 1000
+
+abbrev pub full : ℕ → ℕ → Rate
+full tokens now = record { rate = min tokens 1000000; left = min tokens 1000000 * 1000; time = now }
+
+-- what is in it at a time, with what the milliseconds since have brought
+abbrev pub filled : Rate → ℕ → ℕ
+filled b now = min (min b.left (burst b) + min (now - b.time) 1000 * rate_of b) (burst b)
+
+abbrev pub has_token : Rate → ℕ → Bool
+has_token b now = nat_le 1000 (filled b now)
+
+abbrev pub taken : Rate → ℕ → Rate
+taken b now = record { rate = b.rate; left = filled b now - (if has_token b now then 1000 else 0); time = max b.time now }

@@ -1,0 +1,11 @@
+pub mod Settled
+pub mod Sent
+pub mod Beside
+pub mod Sound
+pub mod Worth
+pub mod Steps
+pub mod Shapes
+pub mod Runs
+pub mod AtOnce
+pub mod Again
+pub mod Laws

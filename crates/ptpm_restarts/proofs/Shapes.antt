@@ -1,0 +1,120 @@
+-- The few things that an event comes to here, and what each keeps.
+use Rattle.ptpm_network.proofs.Common.{arith, ◌≡◌, ℕ, ◌<◌, Bool, true, false, List, [], ◌∷◌, ◌++◌, Option, Some, None, refl, option_or-none, no_room, AllByRecursion, Report, RequestValue, SessionValue, State, begun, received_of, Event, Begin, Send, Resume, Retune, Deliver, Stranger, Refusal, frame_at, with_place, AtPort, AtSession, End, Network, Held, at_place, at_places}
+use Rattle.ptpm_manager.specs.Ask as ask
+use Rattle.ptpm_manager.specs.declared.receiving.Received.{Received}
+use Rattle.ptpm_manager.specs.declared.receiving.Received.TheVariants as received
+use Rattle.ptpm_restarts.specs.AsIfNever.{IsTimely, is_late_event, is_late_held, is_late_in}
+use Rattle.ptpm_restarts.specs.Incidents.{CrashClock, CrashSession, Happens, Incident, SaveClock, SaveSession, comes_in, delivered, happens, incident, no_room_for, refused, unless}
+use Rattle.ptpm_restarts.specs.Restarting as restarting
+use Rattle.ptpm_restarts.specs.Restarting.{RestartingNetwork, SessionLog, held_frames, sent_or_waiting, with_log}
+use Rattle.ptpm_restarts.specs.Storage.{Stored, changed, restored, saved}
+use Rattle.ptpm_restarts.proofs.Sound.{IsSound, sound-begun, sound-noted, sound-restored, sound-saved, sound-told}
+use Rattle.ptpm_restarts.proofs.Steps.{Stay, stay-append}
+
+pub record ByShape (N : Network) (k : RestartingNetwork) (P : RestartingNetwork → Type 0) : Type 0 where
+  pub same : P k
+  pub turns : (c : ℕ) (x : Stored State) (made : List Held) (b : Bool) → P (sent_or_waiting b (record k { clock = with_place k.clock c x }) c made)
+  pub begins : (s : ℕ) (q : RequestValue) → P (restarting.begins k s (begun (k.session s).live.session q))
+  pub notes : (s : ℕ) (v : SessionValue) → v.setup ≡ (k.session s).live.session.setup → v.issued ≡ (k.session s).live.session.issued
+      → v.unanswered ≡ (k.session s).live.session.unanswered → P (restarting.notes k s v)
+  pub sends : (s : ℕ) → P (restarting.sends false N k s)
+  pub hears : (n s : ℕ) (x : Held) (report : Report) → frame_at k.frames n ≡ Some x → x.end ≡ AtSession s → is_late_in k x.origin ≡ false
+      → no_room (held_frames k) ≡ None → received_of (k.session s).live.session x.octets ≡ received.Answered report → P (restarting.hears k s (received.Answered report))
+
+unless-each : (P : RestartingNetwork → Type 0) (o : Option Refusal) (k next : RestartingNetwork)
+    → P k → (o ≡ None → P next)
+    → P (unless o k next)
+unless-each P None k next a b = b refl
+unless-each P (Some reason) k next a b = a
+
+module _ (N : Network) (k : RestartingNetwork) (P : RestartingNetwork → Type 0) (h : ByShape N k P) where
+  heard-as : (n s : ℕ) (x : Held) (y : Received)
+      → frame_at k.frames n ≡ Some x → x.end ≡ AtSession s → is_late_in k x.origin ≡ false → no_room (held_frames k) ≡ None
+      → received_of (k.session s).live.session x.octets ≡ y
+      → P (restarting.hears k s y)
+  heard-as n s x (received.Ignored reason) is end timely room e = h.same
+  heard-as n s x (received.Answered report) is end timely room e = h.hears n s x report is end timely room e
+
+  comes-as : (n : ℕ) (x : Held) (e : End)
+      → frame_at k.frames n ≡ Some x → x.end ≡ e → is_late_in k x.origin ≡ false → no_room (held_frames k) ≡ None
+      → P (comes_in N k x e)
+  comes-as n x (AtPort c port) is end timely room = h.turns c _ _ _
+  comes-as n x (AtSession s) is end timely room = heard-as n s x _ is end timely room refl
+
+  sends-as : (s : ℕ) (b : Bool) → P (restarting.sends b N k s)
+  sends-as s true = h.same
+  sends-as s false = h.sends s
+
+  delivered-as : (n : ℕ) (q : Option Held)
+      → frame_at k.frames n ≡ q → is_late_held k q ≡ false → no_room (held_frames k) ≡ None
+      → P (delivered N k q)
+  delivered-as n None is timely room = h.same
+  delivered-as n (Some x) is timely room = comes-as n x x.end is refl timely room
+
+  happens-as : (e : Event) → is_late_event k e ≡ false → no_room_for k e ≡ None → P (happens N k e)
+  happens-as (Begin s a) timely room = h.begins s (ask.request_of a)
+  happens-as (Send s) timely room = sends-as s (k.session s).is_unsaved
+  happens-as (Resume s attempts) timely room = h.notes s _ refl refl refl
+  happens-as (Retune s domain) timely room = h.notes s _ refl refl refl
+  happens-as (Deliver n) timely room = delivered-as n (frame_at k.frames n) refl timely room
+  happens-as (Stranger c port datagram) timely room = h.turns c _ _ _
+
+  -- what each shape keeps an event keeps
+  pub by-shape : (e : Event) → IsTimely N k (Happens e) → P (incident N k (Happens e))
+  by-shape e timely = unless-each P (refused N k e) k (happens N k e) h.same (λ none. happens-as e (timely none) (option_or-none _ (no_room_for k e) none).1)
+
+-- ---- sessions stay sound
+
+abbrev pub AreSound : Network → RestartingNetwork → Type 0
+AreSound N k = (s : ℕ) → IsSound (N.session s).setup (k.told s) (k.session s)
+
+module _ (N : Network) (k : RestartingNetwork) (h : AreSound N k) where
+  logged-sound : (s : ℕ) (x : Stored SessionLog) → IsSound (N.session s).setup (k.told s) x → AreSound N (with_log k s x)
+  logged-sound s x new t = at_place (λ i z. IsSound (N.session i).setup (k.told i) z) k.session s x t new (h t)
+
+  turns-sound : (c : ℕ) (x : Stored State) (made : List Held) (b : Bool) → AreSound N (sent_or_waiting b (record k { clock = with_place k.clock c x }) c made)
+  turns-sound c x made true = h
+  turns-sound c x made false = h
+
+  sound-shapes : ByShape N k (AreSound N)
+  sound-shapes = record {
+    same = h;
+    turns = turns-sound;
+    begins = λ s q. logged-sound s _ (sound-begun (N.session s).setup (k.told s) (k.session s) (h s) q);
+    notes = λ s v a b c. logged-sound s _ (sound-noted (N.session s).setup (k.told s) (k.session s) (h s) v a b c);
+    sends = λ s. logged-sound s _ (sound-noted (N.session s).setup (k.told s) (k.session s) (h s) _ refl refl refl);
+    hears = λ n s x report is end timely room e t.
+        at_places (λ i told z. IsSound (N.session i).setup told z) k.told k.session s (k.told s ++ report ∷ []) _ t (sound-told (N.session s).setup (k.told s) (k.session s) (h s) report) (h t);
+  }
+
+  pub incident-sound : (i : Incident) → IsTimely N k i → AreSound N (incident N k i)
+  incident-sound (Happens e) timely = by-shape N k (AreSound N) sound-shapes e timely
+  incident-sound (SaveClock c) timely = h
+  incident-sound (SaveSession s) timely = logged-sound s _ (sound-saved (N.session s).setup (k.told s) (k.session s) (h s))
+  incident-sound (CrashClock c) timely = h
+  incident-sound (CrashSession s) timely = logged-sound s _ (sound-restored (N.session s).setup (k.told s) (k.session s) (h s))
+
+-- ---- frames stay where they are
+
+module _ (N : Network) (k : RestartingNetwork) where
+  abbrev StaysIn : RestartingNetwork → Type 0
+  StaysIn next = Stay k.frames next.frames
+
+  turns-stay : (c : ℕ) (x : Stored State) (made : List Held) (b : Bool) → StaysIn (sent_or_waiting b (record k { clock = with_place k.clock c x }) c made)
+  turns-stay c x made true = λ n y is. is
+  turns-stay c x made false = stay-append k.frames made
+
+  stay-shapes : ByShape N k StaysIn
+  stay-shapes = record {
+    same = λ n y is. is;
+    turns = turns-stay;
+    begins = λ s q n y is. is;
+    notes = λ s v a b c n y is. is;
+    sends = λ s. stay-append k.frames _;
+    hears = λ m s x report at end timely room e n y is. is;
+  }
+
+  pub incident-stay : (i : Incident) → IsTimely N k i → StaysIn (incident N k i)
+  incident-stay (Happens e) timely = by-shape N k StaysIn stay-shapes e timely
+  incident-stay (SaveClock c) timely = stay-append k.frames _
+  incident-stay _ timely = λ n y is. is

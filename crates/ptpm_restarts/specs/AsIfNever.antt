@@ -1,0 +1,82 @@
+-- What restarts change, on one page: nothing but which messages come. However often its clocks and sessions crash, a network that saves
+-- in time is at last as one that never crashed and went through some of the same events, in their order; so what `Headline` promises of
+-- that one holds of it. What a manager was told, in whatever life of its session, is what a report is worth there.
+use Rattle.std.specs.Prelude.{◌≡◌, ℕ, ◌<◌, false, Bool, List, [], ◌∷◌, Option, Some, None}
+use Rattle.std.specs.List.{AllByRecursion, Contains}
+use Rattle.ptpm_network.specs.Events.{Event, Deliver, IsInRange, frame_at}
+use Rattle.ptpm_network.specs.Machine.{state_after, taken}
+use Rattle.ptpm_network.specs.Network.{IsNetwork, Network}
+use Rattle.ptpm_network.specs.RunningNetwork.{Held, RunningNetwork, initial_network, network_run}
+use Rattle.ptpm_network.specs.Stands.{StandsAfter}
+use Rattle.ptpm_network.specs.State.{Neither, Origin, ReplyTo, RequestOf, initial_state, is_late_at}
+use Rattle.ptpm_network.specs.Worth.{IsWorth}
+use Rattle.ptpm_restarts.specs.Incidents.{Happens, Incident, incident, refused}
+use Rattle.ptpm_restarts.specs.Restarting.{RestartingNetwork, held_frames, initial_restarting, running}
+
+-- ---- the premises
+
+abbrev pub is_late_in : RestartingNetwork → Origin → Bool
+is_late_in k (RequestOf s j) = is_late_at j (k.session s).live.session.issued
+is_late_in k (ReplyTo s j) = is_late_at j (k.session s).live.session.issued
+is_late_in k Neither = false
+
+abbrev pub is_late_held : RestartingNetwork → Option Held → Bool
+is_late_held k None = false
+is_late_held k (Some h) = is_late_in k h.origin
+
+abbrev pub is_late_event : RestartingNetwork → Event → Bool
+is_late_event k (Deliver n) = is_late_held k (frame_at k.frames n)
+is_late_event k _ = false
+
+-- what is refused is no delivery
+abbrev pub IsTimely : Network → RestartingNetwork → Incident → Type 0
+IsTimely N k (Happens e) = refused N k e ≡ None → is_late_event k e ≡ false
+IsTimely N k _ = Unit {0}
+
+abbrev pub AreTimely : Network → RestartingNetwork → List Incident → Type 0
+AreTimely N k [] = Unit {0}
+AreTimely N k (i ∷ is) = IsTimely N k i × AreTimely N (incident N k i) is
+
+abbrev pub IsPossible : Incident → Type 0
+IsPossible (Happens e) = IsInRange e
+IsPossible _ = Unit {0}
+
+-- The premises are the headline's: a network that a file describes, events that a program can hand in, and no frame that is
+-- delivered late. When anyone saves or crashes is free.
+pub record IsPromisedRestarting (N : Network) (is : List Incident) : Type 0 where
+  pub network : IsNetwork N
+  pub possible : AllByRecursion IsPossible is
+  pub timely : AreTimely N (initial_restarting N) is
+
+-- ---- some of what happened, in its order
+
+-- the same event; a frame that comes in may bear another number among the frames there
+abbrev pub IsSame : List Held → List Held → Event → Event → Type 0
+IsSame here there (Deliver n) (Deliver m) = (h : Held) × (frame_at here n ≡ Some h) × (frame_at there m ≡ Some h)
+IsSame here there e f = e ≡ f
+
+pub data AreSomeOf (here there : List Held) : List Event → List Incident → Type 0 where
+  Ended : AreSomeOf here there [] []
+  Skip : (i : Incident) (es : List Event) (is : List Incident) → AreSomeOf here there es is → AreSomeOf here there es (i ∷ is)
+  Take : (e f : Event) (es : List Event) (is : List Incident) → IsSame here there e f → AreSomeOf here there es is
+      → AreSomeOf here there (f ∷ es) (Happens e ∷ is)
+
+-- ---- the law
+
+-- where these events lead a network that never crashes
+abbrev pub never_crashed : Network → List Event → RunningNetwork
+never_crashed N events = network_run N (initial_network N) events
+
+pub record IsAsIfNever (N : Network) (is : List Incident) (k : RestartingNetwork) : Type 0 where
+  -- It went through these events: some of what happened here, none of them refused there, and none a late delivery.
+  pub events : List Event
+  pub some : AreSomeOf k.frames (never_crashed N events).frames events is
+  pub none_refused : taken N (initial_state N) events ≡ events
+  pub stands : StandsAfter N events (never_crashed N events)
+  -- Each clock has the data sets and entries that it has there, each session is as there, and so are the reports that it has.
+  pub same : record (running k) { frames = (never_crashed N events).frames } ≡ never_crashed N events
+  -- All frames that were sent here, or wait, were sent there, to the same end and with the same octets.
+  pub frames : AllByRecursion (Contains (never_crashed N events).frames) (held_frames k)
+  -- What is reported there was told here, once or more; and each time that anything was told here, it is worth a report there.
+  pub reported : (s : ℕ) → AllByRecursion (Contains (k.told s)) ((never_crashed N events).reports s)
+  pub worth : (s : ℕ) → s < N.sessions → AllByRecursion (IsWorth N (state_after N events) s) (k.told s)

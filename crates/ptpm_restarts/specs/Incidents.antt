@@ -1,0 +1,85 @@
+-- What may happen in a network whose clocks and sessions can be restarted, and what it makes of it.
+use Rattle.std.specs.Prelude.{ℕ, List, [], ◌∷◌, ◌++◌, Option, Some, None}
+use Rattle.std.specs.Option.{option_or}
+use Rattle.std.specs.Result.{result_err}
+use Rattle.ptpm_manager.specs.Ask.{request_of}
+use Rattle.ptpm_manager.specs.Receiving.{received_of}
+use Rattle.ptpm_manager.specs.Session.{begun, resumed, retuned}
+use Rattle.ptpm_network.specs.Events.{Event, Begin, Send, Resume, Retune, Deliver, Stranger, Refusal, frame_at, no_room}
+use Rattle.ptpm_network.specs.Machine.{strange_frame, with_place}
+use Rattle.ptpm_network.specs.Network.{AtPort, AtSession, End, Network}
+use Rattle.ptpm_network.specs.RunningNetwork.{Held, network_event, seen}
+use Rattle.ptpm_restarts.specs.Restarting.{RestartingNetwork, begins, hears, held_frames, notes, running, sends, takes_turn, waiting_at, waiting_elsewhere, with_log}
+use Rattle.ptpm_restarts.specs.Storage.{restored, saved}
+
+pub data Incident : Type 0 where
+  -- what may happen in any network
+  Happens : (event : Event) → Incident
+  SaveClock : (clock : ℕ) → Incident
+  SaveSession : (session : ℕ) → Incident
+  -- it loses what is unsaved, and goes on from what it saved
+  CrashClock : (clock : ℕ) → Incident
+  CrashSession : (session : ℕ) → Incident
+
+-- ---- saves and crashes
+
+-- what waited for the save is sent then
+abbrev pub saves_clock : RestartingNetwork → ℕ → RestartingNetwork
+saves_clock k c = record k {
+  clock = with_place k.clock c (saved (k.clock c));
+  frames = k.frames ++ waiting_at c k.waiting;
+  waiting = waiting_elsewhere c k.waiting;
+}
+
+-- and is never sent where the clock crashes first
+abbrev pub crashes_clock : RestartingNetwork → ℕ → RestartingNetwork
+crashes_clock k c = record k {
+  clock = with_place k.clock c (restored (k.clock c));
+  waiting = waiting_elsewhere c k.waiting;
+}
+
+-- ---- events
+
+-- frames that wait need room too, where an event makes more
+abbrev pub no_room_for : RestartingNetwork → Event → Option Refusal
+no_room_for k (Begin s ask) = None
+no_room_for k (Resume s attempts) = None
+no_room_for k (Retune s domain) = None
+no_room_for k _ = no_room (held_frames k)
+
+-- for what reason it is refused: as in the network that runs, or for want of room
+abbrev pub refused : Network → RestartingNetwork → Event → Option Refusal
+refused N k e = option_or (result_err (network_event N (running k) e)) (no_room_for k e)
+
+abbrev pub comes_in : Network → RestartingNetwork → Held → End → RestartingNetwork
+comes_in N k h (AtPort c port) = takes_turn N k c port (seen h)
+comes_in N k h (AtSession s) = hears k s (received_of (k.session s).live.session h.octets)
+
+abbrev pub delivered : Network → RestartingNetwork → Option Held → RestartingNetwork
+delivered N k None = k
+delivered N k (Some h) = comes_in N k h h.end
+
+abbrev pub happens : Network → RestartingNetwork → Event → RestartingNetwork
+happens N k (Begin s ask) = begins k s (begun (k.session s).live.session (request_of ask))
+happens N k (Send s) = sends (k.session s).is_unsaved N k s
+happens N k (Resume s attempts) = notes k s (resumed (k.session s).live.session attempts)
+happens N k (Retune s domain) = notes k s (retuned (k.session s).live.session domain)
+happens N k (Deliver n) = delivered N k (frame_at k.frames n)
+happens N k (Stranger c port datagram) = takes_turn N k c port (strange_frame c port datagram)
+
+abbrev pub unless : Option Refusal → RestartingNetwork → RestartingNetwork → RestartingNetwork
+unless None k next = next
+unless (Some reason) k next = k
+
+-- ---- one incident, and a list of them
+
+abbrev pub incident : Network → RestartingNetwork → Incident → RestartingNetwork
+incident N k (Happens e) = unless (refused N k e) k (happens N k e)
+incident N k (SaveClock c) = saves_clock k c
+incident N k (SaveSession s) = with_log k s (saved (k.session s))
+incident N k (CrashClock c) = crashes_clock k c
+incident N k (CrashSession s) = with_log k s (restored (k.session s))
+
+abbrev pub after_incidents : Network → RestartingNetwork → List Incident → RestartingNetwork
+after_incidents N k [] = k
+after_incidents N k (i ∷ is) = after_incidents N (incident N k i) is

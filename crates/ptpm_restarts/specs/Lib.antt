@@ -1,0 +1,5 @@
+pub mod Storage
+pub mod Restarting
+pub mod Incidents
+pub mod AsIfNever
+pub mod GoingOn

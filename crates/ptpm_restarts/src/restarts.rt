@@ -1,0 +1,32 @@
+//! What restarts change. Each law is the contract of a function that does nothing, and speaks of the definitions alone.
+
+ghost use Rattle.std.specs.Prelude.{◌≡◌, ◌<◌, ℕ, List};
+ghost use Rattle.std.specs.List.{Contains};
+ghost use Rattle.ptpm_manager.specs.declared.report.Report.{Report};
+ghost use Rattle.ptpm_network.specs.Headline.{Headline};
+ghost use Rattle.ptpm_network.specs.Machine.{state_after};
+ghost use Rattle.ptpm_network.specs.Network.{Network};
+ghost use Rattle.ptpm_restarts.specs.AsIfNever.{IsAsIfNever, IsPromisedRestarting, never_crashed};
+ghost use Rattle.ptpm_restarts.specs.Incidents.{Incident, after_incidents};
+ghost use Rattle.ptpm_restarts.specs.Restarting.{RestartingNetwork, initial_restarting, running};
+
+/// Restarts lose messages alone. The clocks of a network save before they answer, and its sessions before they ask. Any of them crashes
+/// at any moment, as often as it may, and goes on from what it saved. Where no frame is delivered late:
+/// - the network is at last as one that never crashed: that one went through some of the same events, in the same order. Each clock has
+///   the same data sets and entries, each session the same request under way and the same reports. Every frame that was sent here was
+///   sent there, with the same octets;
+/// - so the headline holds of it, among the frames of that one;
+/// - what is reported there was told here, and all that was told here is worth a report there: its request was carried out exactly
+///   once, and it tells the one answer of that moment. An answer that is told again, after a crash, is the same.
+pub fn restarts_lose_messages_alone()
+    ensures as_if_never { (N : Network) (is : List Incident) →
+        IsPromisedRestarting N is →
+        IsAsIfNever N is (after_incidents N (initial_restarting N) is) }
+    ensures headline { (N : Network) (is : List Incident) (k : RestartingNetwork)
+        (a : IsAsIfNever N is k) →
+        Headline N (state_after N a.events)
+        (record (running k) { frames = (never_crashed N a.events).frames }) }
+    ensures told_again { (N : Network) (is : List Incident) (k : RestartingNetwork) (s : ℕ) (x y : Report) →
+        IsAsIfNever N is k → s < N.sessions →
+        Contains (k.told s) x → Contains (k.told s) y → x.index ≡ y.index → x ≡ y }
+{}

@@ -1,0 +1,237 @@
+-- Images by their parts: one more entry, one more answer, and how many octets they have.
+use Rattle.std.proofs.Common.{suc, zero, arith, ◌≡◌, ℕ, ◌+◌, ◌*◌, ◌-◌, ◌<◌, ◌≤◌, Bool, true, false, refl, sym, ◌∙◌, ap, subst, List, [], ◌∷◌, ◌++◌, length, take, Option, Some, slice_get, All, append_assoc, append-nil, length-append}
+use Rattle.std.specs.List.{flat_map}
+use Rattle.std.specs.FinMap.{entries}
+use Rattle.std.proofs.lemmas.Option.{get_or_from_slice_get, slice_get_within}
+use Rattle.std.proofs.lemmas.List.Elements.{All-head, All-tail}
+use Rattle.ptpm_codec.specs.declared.message.Action.{Action}
+use Rattle.ptpm_data.specs.Image.{data_sets_octets}
+use Rattle.ptpm_data.specs.Reply as reply
+use Rattle.ptpm_data.specs.Reply.{Answer, Outcome, ReplyValue}
+use Rattle.ptpm_data.specs.Request.{RequestValue}
+use Rattle.ptpm_data.specs.ManagementId.{is_of_port}
+use Rattle.ptpm_agent.specs.Turn.{State}
+use Rattle.ptpm_manager.specs.Image.{image_head}
+use Rattle.ptpm_table.specs.Entries.{Entries, Entry, FitsAnswer, FitsCount, FitsOutcome, FitsRequest}
+use Rattle.ptpm_table.specs.Lending.{IsNext, ManagerEntry}
+use Rattle.ptpm_codec.specs.declared.identity.PortIdentity.{PortIdentity}
+use Rattle.ptpm_saved.specs.Image.{answer_image, answers_image, body_image, clock_image, entries_image, entry_image, outcome_image, port_octets, saved_image, saved_of}
+use Rattle.ptpm_saved.proofs.EntryOrder.{after_at, after_next, next_is}
+
+-- ---- one after the other
+
+flat_more : {X : Type 0} (f : X → List ℕ) (xs : List X) (i : ℕ) (x : X)
+    → slice_get xs i ≡ Some x
+    → flat_map f (take (suc i) xs) ≡ flat_map f (take i xs) ++ f x
+flat_more f [] i x is = absurd (cc)
+flat_more f (y ∷ xs) zero x is = append-nil (f y) ∙ ap f (same y x is)
+  where
+    same : {X : Type 0} (y x : X) → Some y ≡ Some x → y ≡ x
+    same y x e = cc
+flat_more f (y ∷ xs) (suc i) x is = ap (λ s. f y ++ s) (flat_more f xs i x is) ∙ sym (append_assoc (f y) (flat_map f (take i xs)) (f x))
+
+flat_within : {X : Type 0} (f : X → List ℕ) (xs : List X) (i : ℕ)
+    → length (flat_map f (take i xs)) ≤ length (flat_map f xs)
+flat_within f xs zero = omega arith
+flat_within f [] (suc i) = omega arith
+flat_within f (x ∷ xs) (suc i) =
+    omega (arith, length-append (f x) (flat_map f (take i xs)), length-append (f x) (flat_map f xs), flat_within f xs i)
+
+next_place : (i : ℕ) → i + 1 ≡ suc i
+next_place i = omega arith
+
+-- ---- answers
+
+few_answers : (b : Bool) (n : ℕ) → FitsCount b n → n ≤ 8
+few_answers false n fits = omega (arith, fits)
+few_answers true n fits = fits.1
+
+pub reply_few : (q : RequestValue) (r : ReplyValue) → FitsRequest q r → length r.answers ≤ 8
+reply_few q r fits = few_answers (is_of_port q.id) (length r.answers) fits.count
+
+outcome_small : (action : Action) (most : ℕ) (o : Outcome)
+    → 26 ≤ most
+    → FitsOutcome action most o
+    → length (outcome_image o) ≤ 2 + most
+outcome_small action most (reply.Value octets) least fits = let small : length octets ≤ most = fits.2 in omega arith
+outcome_small action most reply.Done least fits = omega arith
+outcome_small action most (reply.Refused error) least fits = omega arith
+
+pub answer_small : (b : Bool) (action : Action) (a : Answer)
+    → FitsAnswer b action a
+    → length (outcome_image a.outcome) ≤ 132
+answer_small false action a fits = outcome_small action 130 a.outcome (omega arith) fits.1
+answer_small true action a fits = omega (arith, outcome_small action 26 a.outcome (omega arith) fits.1)
+
+of_port_size : (action : Action) (a : Answer) → FitsAnswer true action a → length (answer_image a) ≤ 30
+unfolding answer_image
+of_port_size action a fits =
+    let port = ap (λ o. length (port_octets o)) fits.0.1 in
+    omega (arith, port, outcome_small action 26 a.outcome (omega arith) fits.1, length-append (port_octets a.port) (outcome_image a.outcome))
+
+of_clock_size : (action : Action) (a : Answer) → FitsAnswer false action a → length (answer_image a) ≤ 132
+unfolding answer_image
+of_clock_size action a fits =
+    let port = ap (λ o. length (port_octets o)) fits.0 in
+    omega (arith, port, outcome_small action 130 a.outcome (omega arith) fits.1, length-append (port_octets a.port) (outcome_image a.outcome))
+
+each_small : (action : Action) (xs : List Answer)
+    → All (FitsAnswer true action) xs
+    → length (flat_map answer_image xs) ≤ length xs * 30
+each_small action [] fits = omega arith
+each_small action (a ∷ xs) fits =
+    omega (
+      arith,
+      length-append (answer_image a) (flat_map answer_image xs),
+      of_port_size action a (All-head (FitsAnswer true action) a xs fits),
+      each_small action xs (All-tail (FitsAnswer true action) a xs fits),
+    )
+
+answers_small : (b : Bool) (action : Action) (xs : List Answer)
+    → FitsCount b (length xs)
+    → All (FitsAnswer b action) xs
+    → length (answers_image xs) ≤ 240
+unfolding answers_image
+answers_small true action xs count fits = let few : length xs ≤ 8 = count.1 in omega (arith, each_small action xs fits)
+answers_small false action [] count fits = omega arith
+answers_small false action (a ∷ []) count fits =
+    omega (arith, length-append (answer_image a) [], of_clock_size action a (All-head (FitsAnswer false action) a [] fits))
+answers_small false action (a ∷ b ∷ xs) count fits = absurd (omega (arith, count))
+
+answers_more : (xs : List Answer) (i : ℕ) (a : Answer)
+    → slice_get xs i ≡ Some a
+    → answers_image (take (suc i) xs) ≡ answers_image (take i xs) ++ answer_image a
+unfolding answers_image
+answers_more xs i a is = flat_more answer_image xs i a is
+
+answers_within : (xs : List Answer) (i : ℕ) → length (answers_image (take i xs)) ≤ length (answers_image xs)
+unfolding answers_image
+answers_within xs i = flat_within answer_image xs i
+
+pub answer_at : (q : RequestValue) (r : ReplyValue) (i : ℕ) (a : Answer)
+    → FitsRequest q r
+    → slice_get r.answers i ≡ Some a
+    → FitsAnswer (is_of_port q.id) q.action a
+answer_at q r i a fits is =
+    subst (FitsAnswer (is_of_port q.id) q.action) (get_or_from_slice_get r.answers i a a is)
+    (fits.answers i a (slice_get_within r.answers i a is))
+
+pub room_for : (q : RequestValue) (r : ReplyValue) (i : ℕ) (a : Answer) (front items : List ℕ)
+    → FitsRequest q r
+    → slice_get r.answers i ≡ Some a
+    → items ≡ front ++ answers_image (take i r.answers)
+    → length front ≤ 1438
+    → length items + length (answer_image a) ≤ 1678
+room_for q r i a front items fits is so_far small =
+    omega (
+      arith,
+      ap length so_far,
+      length-append front (answers_image (take i r.answers)),
+      ap length (answers_more r.answers i a is),
+      length-append (answers_image (take i r.answers)) (answer_image a),
+      answers_within r.answers (suc i),
+      answers_small (is_of_port q.id) q.action r.answers fits.count fits.answers,
+    )
+
+pub answers_on : (xs : List Answer) (i : ℕ) (a : Answer) (front items items' : List ℕ)
+    → slice_get xs i ≡ Some a
+    → items ≡ front ++ answers_image (take i xs)
+    → items' ≡ items ++ answer_image a
+    → items' ≡ front ++ answers_image (take (i + 1) xs)
+answers_on xs i a front items items' is so_far now =
+    now ∙ ap (λ s. s ++ answer_image a) so_far ∙ append_assoc front (answers_image (take i xs)) (answer_image a)
+    ∙ ap (λ s. front ++ s) (sym (answers_more xs i a is) ∙ ap (λ n. answers_image (take n xs)) (sym (next_place i)))
+
+-- ---- entries
+
+entries_more : (es : List (PortIdentity × Entry)) (i : ℕ) (e : PortIdentity × Entry)
+    → slice_get es i ≡ Some e
+    → entries_image (take (suc i) es) ≡ entries_image (take i es) ++ entry_image e
+unfolding entries_image
+entries_more es i e is = flat_more entry_image es i e is
+
+entries_within : (es : List (PortIdentity × Entry)) (i : ℕ) → length (entries_image (take i es)) ≤ length (entries_image es)
+unfolding entries_image
+entries_within es i = flat_within entry_image es i
+
+-- where the next entry of a table was lent, at this place
+pub record IsLent (m : Entries) (i : ℕ) (x : ManagerEntry) : Type 0 where
+  pub there : slice_get (entries m) i ≡ Some (x.manager, x.entry)
+  pub on : entries_image (take (i + 1) (entries m)) ≡ entries_image (take i (entries m)) ++ entry_image (x.manager, x.entry)
+  pub after : Some x.manager ≡ after_at (entries m) (i + 1)
+  pub room : length (entries_image (take i (entries m))) + length (entry_image (x.manager, x.entry)) ≤ length (entries_image (entries m))
+
+pub lent : (m : Entries) (i : ℕ) (after : Option PortIdentity) (x : ManagerEntry)
+    → after ≡ after_at (entries m) i
+    → i < length (entries m)
+    → IsNext m after x
+    → IsLent m i x
+lent m i after x so inside next =
+    let there = next_is m i x inside (subst (λ o. IsNext m o x) so next) in
+    let on = entries_more (entries m) i (x.manager, x.entry) there in
+    record {
+      there = there;
+      on = ap (λ n. entries_image (take n (entries m))) (next_place i) ∙ on;
+      after = after_next (entries m) i (x.manager, x.entry) there ∙ ap (after_at (entries m)) (sym (next_place i));
+      room = omega (
+        arith,
+        ap length on,
+        length-append (entries_image (take i (entries m))) (entry_image (x.manager, x.entry)),
+        entries_within (entries m) (suc i),
+      );
+    }
+
+-- ---- the whole
+
+pub head_length : (kind size : ℕ) → length (image_head kind size) ≡ 12
+unfolding image_head
+head_length kind size = refl
+
+body_length : (s : State) → length (body_image (saved_of s)) ≡ length (data_sets_octets s.sets) + 1 + length (entries_image (entries s.entries))
+unfolding body_image
+body_length s =
+    omega (arith, length-append (data_sets_octets s.sets) (length (entries s.entries) ∷ entries_image (entries s.entries)))
+
+pub image_length : (s : State) → length (clock_image s) ≡ 12 + length (data_sets_octets s.sets) + 1 + length (entries_image (entries s.entries))
+unfolding saved_image
+image_length s =
+    omega (
+      arith,
+      length-append (image_head 1 (length (body_image (saved_of s)))) (body_image (saved_of s)),
+      head_length 1 (length (body_image (saved_of s))),
+      body_length s,
+    )
+
+-- the parts, one after the other
+pub put_together : (s : State) (size n : ℕ) (a b c d : List ℕ)
+    → size ≡ length (clock_image s)
+    → n ≡ length (entries s.entries)
+    → a ≡ image_head 1 (size - 12)
+    → b ≡ a ++ data_sets_octets s.sets
+    → c ≡ b ++ n ∷ []
+    → d ≡ c ++ entries_image (entries s.entries)
+    → d ≡ clock_image s
+unfolding saved_image body_image
+put_together s size n a b c d whole count head sets counted all =
+    let sets' : List ℕ = data_sets_octets s.sets in
+    let es : List ℕ = entries_image (entries s.entries) in
+    let left : size - 12 ≡ length (body_image (saved_of s)) = omega (arith, whole, image_length s, body_length s) in
+    all
+    ∙ ap (λ x. x ++ es) (counted ∙ ap (λ x. x ++ n ∷ []) (sets ∙ ap (λ x. x ++ sets') (head ∙ ap (image_head 1) left)))
+    ∙ ap (λ k. ((image_head 1 (length (body_image (saved_of s))) ++ sets') ++ k ∷ []) ++ es) count
+    ∙ append_assoc (image_head 1 (length (body_image (saved_of s))) ++ sets') (length (entries s.entries) ∷ []) es
+    ∙ append_assoc (image_head 1 (length (body_image (saved_of s)))) sets' (length (entries s.entries) ∷ es)
+
+-- ---- nothing yet
+
+pub no_answers : (front : List ℕ) → front ≡ front ++ answers_image []
+unfolding answers_image
+no_answers front = sym (append-nil front)
+
+pub no_entries : (front : List ℕ) → front ≡ front ++ entries_image []
+unfolding entries_image
+no_entries front = sym (append-nil front)
+
+pub no_entries_length : length (entries_image []) ≡ 0
+unfolding entries_image
+no_entries_length = refl

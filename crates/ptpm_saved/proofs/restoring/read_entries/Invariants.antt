@@ -1,0 +1,10 @@
+use Rattle.std.proofs.Common.{◌≡◌}
+use Rattle.ptpm_saved.proofs.RestoringLemmas.{IsReadSoFar}
+use Rattle.ptpm_saved.proofs.restoring.read_entries.Given as goal
+
+abbrev pub invariant-loop-place : goal.invariant-loop-place
+invariant-loop-place g l = record {
+  owner : g.T.ReplyTable.owner l.table ≡ g.T.ReplyTable.owner l.initial.table;
+  so_far : IsReadSoFar (g.T.ReplyTable.owner l.initial.table).managers l.fn.octets l.count l._place l.octets l.after
+      (g.T.ReplyTable.entries l.initial.table) (g.T.ReplyTable.entries l.table) l.gone;
+}

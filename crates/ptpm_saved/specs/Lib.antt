@@ -1,0 +1,7 @@
+pub mod ErrorText
+pub mod Image
+pub mod Reading
+pub mod Restoring
+pub mod Saving
+pub mod SavingClock
+pub mod SavingSession

@@ -1,0 +1,27 @@
+-- What is read of an entry's image, part by part.
+use Rattle.std.specs.Prelude.{◌≡◌, ◌<◌, ◌≤◌, ◌^◌, Bool, is_some, length}
+use Rattle.ptpm_data.specs.Reply.{Answer}
+use Rattle.ptpm_saved.specs.declared.reading.SavedRequest.{SavedRequest}
+use Rattle.ptpm_data.specs.Reply.{ReplyValue}
+use Rattle.ptpm_data.specs.Request.{RequestValue}
+use Rattle.ptpm_saved.specs.Image.{outcome_image}
+use Rattle.ptpm_table.specs.Entries.{Entry}
+use Rattle.ptpm_codec.specs.declared.identity.PortIdentity.{PortIdentity}
+
+-- a request that was read, with the reply to it
+abbrev pub entry_read : SavedRequest → ReplyValue → PortIdentity × Entry
+entry_read s r = (s.manager, record { number = s.number; request = s.request; reply = r })
+
+-- the answer is of a port where the id is
+abbrev pub IsOfPort : Bool → Answer → Type 0
+IsOfPort of_port a = is_some a.port ≡ of_port
+
+-- numbers of their types
+pub record RequestFits (q : RequestValue) : Type 0 where
+  pub id : q.id < 2 ^ 16
+  pub port : q.port < 2 ^ 16
+  pub octets : length q.octets < 2 ^ 16
+
+-- an outcome of at most as many octets as a clock's answer
+abbrev pub IsSmall : Answer → Type 0
+IsSmall a = length (outcome_image a.outcome) ≤ 132

@@ -1,0 +1,60 @@
+-- A session that saves before it asks: the process whose inputs are what it is asked, when it is to send, and the datagrams that it
+-- hears. In which domain it is, and how often it may still send, are notes: no image needs them to be as they are. What it reports
+-- is told before it is saved, and is none of its messages here.
+use Rattle.std.specs.Prelude.{ℕ, Bool, true, false, not, if◌then◌else◌, List, [], ◌∷◌, is_some, Option, Some, None}
+use Rattle.ptpm_codec.specs.declared.message.Message.{Message}
+use Rattle.ptpm_codec.specs.Canonical.{canonical}
+use Rattle.ptpm_manager.specs.declared.ask.Ask.{Ask}
+use Rattle.ptpm_manager.specs.declared.error.BeginError.{BeginError}
+use Rattle.ptpm_manager.specs.declared.receiving.Received.{Received}
+use Rattle.ptpm_manager.specs.declared.receiving.Received.TheVariants as received
+use Rattle.ptpm_manager.specs.Ask.{request_of}
+use Rattle.ptpm_manager.specs.Receiving.{left_by, received_of}
+use Rattle.ptpm_manager.specs.Session.{SessionValue, begin_refusal, begun, due_message, resumed, retuned, send_refusal}
+use Rattle.ptpm_saved.specs.Saving.{Process}
+
+pub data SessionInput : Type 0 where
+  Begins : (ask : Ask) → SessionInput
+  IsToSend : SessionInput
+  Hears : (datagram : List ℕ) → SessionInput
+
+pub record SessionNote : Type 0 where
+  pub domain : ℕ
+  pub attempts : ℕ
+
+abbrev pub begun_unless : Option BeginError → SessionValue → Ask → SessionValue
+begun_unless None s a = begun s (request_of a)
+begun_unless (Some error) s a = s
+
+-- that an attempt is used is noted, and changes nothing here
+abbrev pub session_after : SessionValue → SessionInput → SessionValue
+session_after s (Begins a) = begun_unless (begin_refusal s a) s a
+session_after s IsToSend = s
+session_after s (Hears datagram) = left_by s (received_of s datagram)
+
+abbrev pub datagrams_of : Option Message → List (List ℕ)
+datagrams_of None = []
+datagrams_of (Some v) = canonical v ∷ []
+
+abbrev pub session_messages : SessionValue → SessionInput → List (List ℕ)
+session_messages s (Begins a) = []
+session_messages s IsToSend = if is_some (send_refusal s) then [] else datagrams_of (due_message s)
+session_messages s (Hears datagram) = []
+
+abbrev pub is_answer : Received → Bool
+is_answer (received.Answered report) = true
+is_answer (received.Ignored reason) = false
+
+abbrev pub session_changes : SessionValue → SessionInput → Bool
+session_changes s (Begins a) = not (is_some (begin_refusal s a))
+session_changes s IsToSend = false
+session_changes s (Hears datagram) = is_answer (received_of s datagram)
+
+abbrev pub session_process : Process SessionValue SessionInput SessionNote (List ℕ)
+session_process = record {
+  after = session_after;
+  messages = session_messages;
+  changes = session_changes;
+  noted = λ s n. resumed (retuned s n.domain) n.attempts;
+  back = λ s. record { domain = s.domain; attempts = s.attempts_left };
+}

@@ -1,0 +1,61 @@
+//! Laws of images, each the contract of a function that changes nothing.
+
+ghost use Rattle.std.specs.Prelude.{◌≡◌, true, List};
+ghost use Rattle.std.specs.FinMap as fin;
+ghost use Rattle.std.specs.List.{All};
+ghost use Rattle.ptpm_agent.specs.Agent.{state_of};
+ghost use Rattle.ptpm_table.specs.Entries.{is_known};
+ghost use Rattle.ptpm_agent.specs.Turn.{State};
+ghost use Rattle.ptpm_data.specs.Members.{IsConsistent};
+ghost use Rattle.ptpm_data.specs.ObservationBack.{Observation};
+ghost use Rattle.ptpm_table.specs.Managers.{Clock};
+ghost use Rattle.ptpm_saved.specs.Saving.{Event, IsAsIfPowered, happen_all, started};
+ghost use Rattle.ptpm_manager.specs.Session.{SessionValue};
+ghost use Rattle.ptpm_saved.specs.SavingSession.{SessionInput, SessionNote, session_process};
+ghost use Rattle.ptpm_saved.specs.SavingClock.{Datagram, clock_process};
+ghost use Rattle.ptpm_saved.specs.Image.{AreEntries, IsSaved, saved_of};
+
+use ptpm_agent::Agent;
+use ptpm_data::{data_sets_law, fits_law};
+use ptpm_table::LendingTable;
+
+/// Every clock can be saved: so its image restores it, whole where the managers are the same.
+pub fn clock_law<T: LendingTable + Drop>(agent: &Agent<T>)
+    ensures saved { IsSaved (saved_of (state_of T.entries agent.now)) }
+    ensures known { All (λ e. is_known e.0 (T.owner agent.now.table).managers ≡ true)
+        (fin.entries (T.entries agent.now.table)) }
+{
+    let sets = agent.sets();
+    data_sets_law(sets);
+    fits_law(sets);
+    entries_law(agent.table());
+}
+
+/// A clock that saves before it answers may lose its power at any moment and as often as it likes: it has what the datagrams and
+/// observations that stand make of its start, as if its power had never failed; and what it sent is some of what it sends then. A
+/// restart is one observation.
+pub fn saving_clock_law()
+    ensures { (c : Clock) (s : State) (es : List (Event Datagram Observation)) → IsConsistent s.sets
+        → IsAsIfPowered (clock_process c) s es (happen_all (clock_process c) (started s) es) }
+{}
+
+/// The same of a session that saves before it asks: what it sent is some of what it sends whose manager's power never fails.
+pub fn saving_session_law()
+    ensures { (s : SessionValue) (es : List (Event SessionInput SessionNote))
+        → IsAsIfPowered session_process s es (happen_all session_process (started s) es) }
+{}
+
+/// The entries of a table are sixteen at most, in the order of their managers, and of its managers; and a table would keep each.
+fn entries_law<T: LendingTable>(table: &T)
+    ensures entries { AreEntries (fin.entries (T.entries table.now)) }
+    ensures known { All (λ e. is_known e.0 (T.owner table.now).managers ≡ true)
+        (fin.entries (T.entries table.now)) }
+{
+    let mut after = None;
+    for _place in 0..table.entry_count() {
+        let Some(entry) = table.next_entry(after) else {
+            unreachable!()
+        };
+        after = Some(entry.manager());
+    }
+}

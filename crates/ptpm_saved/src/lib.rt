@@ -1,0 +1,16 @@
+//! What outlasts a clock's power: its image, and the clock back from it.
+#![tactic(auto)]
+
+mod error;
+mod image;
+mod keepable;
+pub mod laws;
+mod reading;
+mod restoring;
+
+pub use error::RestoreError;
+pub use image::{CLOCK_OCTETS, image_into, image_size};
+pub use restoring::restored;
+
+#[cfg(test)]
+mod tests;

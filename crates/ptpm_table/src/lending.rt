@@ -1,0 +1,169 @@
+//! What a reply table keeps, lent: the entry of one manager after another.
+
+ghost use Rattle.std.specs.Prelude.{◌≡◌, ◌<◌, Some, length, slice_get};
+ghost use Rattle.ptpm_codec.specs.Message.{IsValid};
+ghost use Rattle.ptpm_table.specs.KeptMessages.{AreSizes, answer_in, error_of_number, outcome_of_body, pieces};
+ghost use Rattle.ptpm_table.specs.Lending.{lent_answer, lent_outcome};
+
+use crate::reply_table::ReplyTable;
+use crate::slot::Kept;
+use ptpm_codec::{Action, ErrorId, PortIdentity, View, view};
+use ptpm_data::Request;
+use std::marker::Model;
+
+/// A table that lends what it keeps, as for an image of it. No octet is copied, and no memory is taken.
+pub trait LendingTable: ReplyTable {
+    ghost use Rattle.std.specs.Prelude.{◌≤◌, IfSome, IsTrue, MatchOption};
+    ghost use Rattle.std.specs.FinMap as fin;
+    ghost use Rattle.ptpm_table.specs.Entries.{is_known};
+    ghost use Rattle.ptpm_table.specs.Lending.{EntryFits, HasNoneAfter, IsKeepable, IsNext};
+
+    /// How many managers have an entry.
+    fn entry_count(&self) -> usize
+        ensures count { result ≡ fin.len (Self.entries self.now) }
+        ensures few { result ≤ 16 };
+
+    /// The entry of the first manager after this one that has an entry, by the order of identities; without one to come
+    /// after, of the first of all. `None` where no further manager has one. So a loop from `None` on, and from each manager
+    /// to the next, goes over the whole table.
+    fn next_entry(&self, after: Option<PortIdentity>) -> Option<LentEntry<'_>>
+        ensures next { MatchOption result (HasNoneAfter (Self.entries self.now) after)
+            (λ e. IsNext (Self.entries self.now) after e) }
+        ensures known { IfSome result
+            (λ e. IsTrue (is_known e.manager (Self.owner self.now).managers)) }
+        ensures keepable { IfSome result (λ e. IsKeepable e.entry) }
+        ensures fits { IfSome result (λ e. EntryFits e) };
+}
+
+/// An entry where it is kept. Contracts see it with its manager.
+#[derive(Drop)]
+pub struct LentEntry<'a> {
+    pub(crate) kept: &'a Kept,
+}
+
+impl<'a> Model for LentEntry<'a> {
+    ghost use Rattle.ptpm_table.specs.Lending.{ManagerEntry};
+
+    ghost Value = { ManagerEntry };
+
+    ghost view = { λ e. record { manager = e.kept.now.manager; entry = e.kept.now.entry } };
+}
+
+/// An answer of the clock or of one of its ports, as it is kept.
+#[derive(Drop)]
+pub struct LentAnswer<'a> {
+    /// The port that it is of; no port where it is of the clock.
+    pub port: Option<u16>,
+    pub what: LentWhat<'a>,
+}
+
+/// What is answered, the dataField of a RESPONSE lent.
+#[derive(Drop)]
+pub enum LentWhat<'a> {
+    /// The dataField of a RESPONSE.
+    Value(&'a [u8]),
+    /// The success of a COMMAND.
+    Done,
+    /// Why the request was refused.
+    Refused(ErrorId),
+}
+
+impl<'a> LentEntry<'a> {
+    /// Whose request it is.
+    pub fn manager(&self) -> PortIdentity
+        ensures { result ≡ self.now.manager }
+    {
+        *self.kept.manager()
+    }
+
+    /// The number of the request.
+    pub fn number(&self) -> u16
+        ensures { result ≡ self.now.entry.number }
+    {
+        self.kept.number()
+    }
+
+    /// The request, with its dataField lent.
+    pub fn request(&self) -> Request<'a>
+        ensures { result ≡ self.now.entry.request }
+    {
+        self.kept.request()
+    }
+
+    /// How many answers the reply has.
+    pub fn answer_count(&self) -> usize
+        ensures { result ≡ length self.now.entry.reply.answers }
+    {
+        self.kept.answer_count()
+    }
+
+    /// An answer of the reply, by its place from 0 on.
+    pub fn answer(&self, place: usize) -> LentAnswer<'a>
+        requires { place < length self.now.entry.reply.answers }
+        ensures { slice_get self.now.entry.reply.answers place ≡ Some (lent_answer result) }
+    {
+        self.kept.answer(place)
+    }
+}
+
+/// The message at a place among messages of these sizes.
+pub(crate) fn message_at<'a>(sizes: &[u8], messages: &'a [u8], place: usize) -> &'a [u8]
+    requires cut { AreSizes sizes.now (length messages.now) }
+    requires place { place < length sizes.now }
+    ensures { slice_get (pieces sizes.now messages.now) place ≡ Some result.now }
+{
+    match sizes {
+        [] => unreachable!(),
+        [size, sizes @ ..] => {
+            let (message, messages) = messages.split_at(*size as usize);
+            if place == 0 {
+                message
+            } else {
+                message_at(sizes, messages, place - 1)
+            }
+        }
+    }
+}
+
+/// The answer that a kept message gives.
+#[tactic(auto, unfolding(ptpm_codec::specs::Reading::message_of))]
+pub(crate) fn answer_in(of_port: bool, message: &[u8]) -> LentAnswer<'_>
+    ensures { lent_answer result ≡ answer_in of_port message.now }
+{
+    match view(message) {
+        Err(_) => LentAnswer {
+            port: if of_port { Some(0) } else { None },
+            what: LentWhat::Done,
+        },
+        Ok(message) => LentAnswer {
+            port: if of_port {
+                Some(message.source().port)
+            } else {
+                None
+            },
+            what: what_in(&message),
+        },
+    }
+}
+
+fn what_in<'a>(message: &View<'a>) -> LentWhat<'a>
+    requires { IsValid message.now }
+    ensures { lent_outcome result ≡ outcome_of_body message.now.body }
+{
+    match message.error() {
+        Some(number) => LentWhat::Refused(error_of_number(number)),
+        None => {
+            if message.action() == Action::Response {
+                LentWhat::Value(message.octets())
+            } else {
+                LentWhat::Done
+            }
+        }
+    }
+}
+
+fn error_of_number(number: u16) -> ErrorId
+    ensures { result ≡ error_of_number number }
+{
+    ErrorId::from_number(number).unwrap_or(ErrorId::GeneralError)
+}

@@ -1,0 +1,38 @@
+/* A session of the library that goes on from one run of this program to the next. A file keeps it by its image: a request is there
+   before it is sent, and an answer is reported before the file has the session without the request. So what a run leaves that is
+   killed, or whose machine loses power, is a request that was answered and reported, or one that the next run finishes. */
+#ifndef SESSION_H
+#define SESSION_H
+
+#include "task.h"
+
+struct session {
+    struct ptpm_session handle;
+    struct ptpm_session_settings settings;      /* those of its start */
+    int is_kept;                                /* in a file, of a manager who is the same in each run */
+};
+
+/* What the file has. */
+enum kept { NO_FILE, AT_REST, UNDER_WAY };
+
+/* Takes the file of the task's session for this run alone. The session goes on from its image, in the task's domain; if a request
+   is under way, `earlier` becomes the task of it. A file of an earlier version has a number alone: the session starts there. If
+   there is no file, no session is started. Ends the program, status 2, if the file has anything else, or another session. */
+enum kept open_session(struct session *session, const struct task *task, struct task *earlier);
+
+/* Starts a session of the task, in place of what the handle holds, with this number for its first request. */
+void start_session(struct session *session, const struct task *task, uint16_t first);
+
+/* The session, which is at rest, sends its further requests with the hops that the task says. */
+void see_to_hops(struct session *session, const struct task *task);
+
+/* Begins a task's request, with all its attempts, and keeps it. Ends the program, status 2, if it can't be kept. */
+void begin_request(struct session *session, const struct task *task);
+
+/* Keeps the session as it is now; whether it could. Each answer that came in has to be reported before. */
+int save_session(struct session *session);
+
+/* The number of the latest request. */
+uint16_t latest_number(struct session *session);
+
+#endif

@@ -1,0 +1,36 @@
+#include "session_image.h"
+#include <string.h>
+
+/* Where the members are, from the mark at the head on. Numbers of two octets have the higher one first. */
+enum {
+    MANAGER = 12, MANAGER_PORT = 20, TARGET = 22, PORTS = 30, FIRST = 31, HOPS = 33, IS_UNDER_WAY = 52, ACTION = 53, ID = 54,
+    PORT = 56, SIZE = 58, OCTETS = 60,
+};
+
+/* The target of an id of the clock itself is every port (IEEE 1588-2019, 15.4.1). */
+enum { EVERY_PORT = 0xffff };
+
+static uint16_t number_at(const uint8_t *octets, size_t place) { return (uint16_t)(octets[place] << 8 | octets[place + 1]); }
+
+static void read_request(struct session_image *image, const uint8_t *octets, size_t size) {
+    if (size < OCTETS || number_at(octets, SIZE) > size - OCTETS) return;
+    image->is_under_way = 1;
+    image->action = octets[ACTION];
+    image->id = number_at(octets, ID);
+    image->port = number_at(octets, PORT) == EVERY_PORT ? 0 : number_at(octets, PORT);
+    image->size = number_at(octets, SIZE);
+    image->octets = octets + OCTETS;
+}
+
+struct session_image read_image(const uint8_t *octets, size_t size) {
+    struct session_image image = { 0 };
+    if (size <= IS_UNDER_WAY) return image;
+    memcpy(image.manager, octets + MANAGER, sizeof image.manager);
+    memcpy(image.target, octets + TARGET, sizeof image.target);
+    image.manager_port = number_at(octets, MANAGER_PORT);
+    image.ports = octets[PORTS];
+    image.first = number_at(octets, FIRST);
+    image.hops = octets[HOPS];
+    if (octets[IS_UNDER_WAY] == 1) read_request(&image, octets, size);
+    return image;
+}

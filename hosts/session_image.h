@@ -1,0 +1,24 @@
+/* What this program itself reads of a session's image (ptpm_session_image): whose it is, and what is under way. Whether octets are
+   an image the library judges. */
+#ifndef SESSION_IMAGE_H
+#define SESSION_IMAGE_H
+
+#include <stddef.h>
+#include <stdint.h>
+
+struct session_image {
+    uint8_t manager[8], target[8];              /* clockIdentities */
+    uint16_t manager_port, ports;               /* the manager's portNumber, and how many ports the clock has */
+    uint16_t first;                             /* the sequenceId of the session's first request */
+    uint8_t hops;
+    int is_under_way;                           /* the latest request has no answer yet, and is what follows */
+    uint8_t action;
+    uint16_t id, port;                          /* the clock's, of an id of a port; else 0 */
+    size_t size;
+    const uint8_t *octets;                      /* its dataField */
+};
+
+/* Reads octets at the places of an image. If there are too few for one, all members are 0. */
+struct session_image read_image(const uint8_t *octets, size_t size);
+
+#endif
