@@ -96,12 +96,16 @@ impl Columns {
     }
 }
 
-/// Prints so many spaces.
+/// Spaces that are printed at once.
+const SPACES: &str = "                                ";
+
+/// Prints this many spaces.
 pub(crate) fn print_spaces<O: Write>(count: usize, out: &mut O) -> io::Result<()> {
-    for _ in 0..count {
-        write!(out, " ")?;
+    for _ in 0..count / SPACES.len() {
+        write!(out, "{SPACES}")?;
     }
-    Ok(())
+    let rest = SPACES.get(..count % SPACES.len()).unwrap_or("");
+    write!(out, "{rest}")
 }
 
 /// Prints text at the left of a column.

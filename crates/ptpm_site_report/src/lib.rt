@@ -12,6 +12,3 @@ mod telling;
 mod text;
 
 pub use reporting::{Form, Options, Outcome, report};
-
-#[cfg(test)]
-mod tests;

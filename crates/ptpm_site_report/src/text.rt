@@ -146,14 +146,14 @@ impl Sheet<'_> {
         if self.0.left_out.clocks != 0 {
             writeln!(
                 out,
-                "left out: {} clocks behind the first {CLOCKS}",
+                "left out: {} clocks past the first {CLOCKS}",
                 self.0.left_out.clocks
             )?;
         }
         if self.0.left_out.ports != 0 {
             writeln!(
                 out,
-                "left out: {} ports behind the first {PORTS}",
+                "left out: {} ports past the first {PORTS}",
                 self.0.left_out.ports
             )?;
         }

@@ -1,0 +1,9 @@
+//! Sites of a few clocks, each with what is printed of it.
+
+mod describing;
+mod failing;
+mod findings;
+mod findings_json;
+mod lines;
+mod printing;
+mod whole;
