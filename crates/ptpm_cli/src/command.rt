@@ -351,16 +351,16 @@ fn site_command<'a>(alloc: Global) -> Result<Command<'a>, AllocError> {
     let offset = nanoseconds(
         alloc,
         "max-offset",
-        "An offset from the master above so many nanoseconds is a finding",
+        "An offset from the master of more than NS nanoseconds is a finding",
     );
     let delay = nanoseconds(
         alloc,
         "max-delay",
-        "A mean delay above so many nanoseconds is a finding",
+        "A mean delay of more than NS nanoseconds is a finding",
     );
     Command::new(alloc, "site")
         .about(
-            "Shows which clock follows which, and what is wrong, by the answers on standard input, a datagram a line",
+            "Shows a site at a glance, by the answers of its clocks on standard input, a datagram a line",
         )
         .arg(json)?
         .arg(offset)?
