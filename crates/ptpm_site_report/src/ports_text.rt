@@ -18,7 +18,7 @@ impl fmt::Display for PortsText<'_> {
             };
             let state = state_name(set.state);
             run = match run {
-                Some((first, last, of)) if of == state && last as u32 + 1 == *number as u32 => {
+                Some((first, last, of)) if of == state && last.checked_add(1) == Some(*number) => {
                     Some((first, *number, of))
                 }
                 Some((first, last, of)) => {
