@@ -205,6 +205,8 @@ fn site_options(values: &ArgMatches<'_>) -> Options {
     Options {
         form: if values.get_flag("json") {
             Form::Json
+        } else if values.get_flag("draw") {
+            Form::Drawing
         } else {
             Form::Text
         },
@@ -348,6 +350,7 @@ fn draw_command<'a>(alloc: Global) -> Result<Command<'a>, AllocError> {
 
 fn site_command<'a>(alloc: Global) -> Result<Command<'a>, AllocError> {
     let json = flag(alloc, "json", "Prints one JSON object");
+    let draw = flag(alloc, "draw", "Draws the tree, as a picture in SVG").conflicts_with("json")?;
     let offset = nanoseconds(
         alloc,
         "max-offset",
@@ -363,6 +366,7 @@ fn site_command<'a>(alloc: Global) -> Result<Command<'a>, AllocError> {
             "Shows a site at a glance, by the answers of its clocks on standard input, a datagram a line",
         )
         .arg(json)?
+        .arg(draw)?
         .arg(offset)?
         .arg(delay)
 }

@@ -4,8 +4,8 @@ use crate::intervals::Whole;
 use ptpm_site::clock::Clock;
 use ptpm_site::port_groups::PortGroup;
 use std::alloc::{AllocError, Global};
-use std::io;
 use std::io::Write;
+use std::{fmt, io};
 
 /// A description has at most so many characters in its column; a longer one moves what follows it.
 const DESCRIPTION: usize = 24;
@@ -14,7 +14,7 @@ const DESCRIPTION: usize = 24;
 #[derive(Drop)]
 pub(crate) struct Columns {
     /// In quotes, with what is no printable character escaped; `-` where none was told.
-    description: String,
+    pub(crate) description: String,
     steps: String,
     /// `-` where no port is in SLAVE: it is of an earlier time then.
     offset: String,
@@ -93,6 +93,14 @@ impl Columns {
         print_right(self.steps.as_str(), widths.steps, out)?;
         print_right(self.offset.as_str(), widths.offset, out)?;
         print_right(self.delay.as_str(), widths.delay, out)
+    }
+}
+
+/// All but the description, in words.
+impl fmt::Display for Columns {
+    fn fmt<W: fmt::Write>(&self, f: &mut fmt::Formatter<W>) -> fmt::Result {
+        write!(f, "steps {}, offset {}", self.steps, self.offset)?;
+        write!(f, ", mean delay {}", self.delay)
     }
 }
 

@@ -1,5 +1,6 @@
 //! `ptpm site`: a site's tree and what is wrong with it, by the answers among lines of datagrams.
 
+use crate::drawing::draw;
 use crate::json::Object;
 use crate::reading::read_site;
 use crate::text::Sheet;
@@ -16,6 +17,8 @@ pub enum Form {
     Text,
     /// One object.
     Json,
+    /// The tree as a picture in SVG, with the findings.
+    Drawing,
 }
 
 /// What an operator asks for.
@@ -62,6 +65,7 @@ pub fn report<R: Read + Drop, O: Write>(
     match options.form {
         Form::Text => Sheet(&picture).print(alloc, out)?,
         Form::Json => Object(&picture).print(alloc, out)?,
+        Form::Drawing => draw(alloc, &picture, out)?,
     }
     Ok(if site.is_empty() {
         Outcome::NoClock

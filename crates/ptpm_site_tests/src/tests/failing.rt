@@ -125,7 +125,7 @@ fn failing_writer(rt: HostRuntime) -> Result<(), Fail> {
 
 /// The output where memory may be refused once: then it is all there at the next attempt. It is written into a vector, whose own
 /// want of memory is a fault of writing.
-fn printed_at_last(alloc: Global, form: Form, lines: &[u8]) -> Result<Printed, Fault> {
+pub(super) fn printed_at_last(alloc: Global, form: Form, lines: &[u8]) -> Result<Printed, Fault> {
     match printed(alloc, form, None, lines) {
         Err(Fault::OutOfMemory | Fault::WriteFault) => printed(alloc, form, None, lines),
         found => found,
@@ -133,7 +133,7 @@ fn printed_at_last(alloc: Global, form: Form, lines: &[u8]) -> Result<Printed, F
 }
 
 /// Answers of clock 02, a clock that follows 01, to DEFAULT_DATA_SET, PARENT_DATA_SET and USER_DESCRIPTION.
-const THREE_ANSWERS: &[u8] =
+pub(super) const THREE_ANSWERS: &[u8] =
     b"0d02004a00000000000000000000000000000000020000fffe00000200010001047f020000fffe0000ee0001010102000001001620000100000180f8feffff80020000fffe0000020000
 0d02005600000000000000000000000000000000020000fffe00000200010001047f020000fffe0000ee000101010200000100222002020000fffe00000100010000ffff7fffffff80f8feffff80020000fffe000001
 0d02003c00000000000000000000000000000000020000fffe00000200010001047f020000fffe0000ee00010101020000010008000205636c6f636b

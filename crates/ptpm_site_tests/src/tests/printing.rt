@@ -41,6 +41,7 @@ fn end_of(alloc: Global, form: Form, findings: &str) -> Result<String, Fail> {
             0 => String::from_str(alloc, "\nfindings: none\n")?,
             count => format!(in alloc; "\nfindings: {count}\n{findings}\n")?,
         },
+        Form::Drawing => String::from_str(alloc, "</svg>\n")?,
         Form::Json => {
             let between = if findings.is_empty() { "" } else { "\n" };
             let findings = findings.replace(alloc, "\n", ",\n")?;
