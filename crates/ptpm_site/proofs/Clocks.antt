@@ -68,8 +68,7 @@ equal_from_is_eq Equal h = refl
 equal_from_is_eq Greater h = cc
 
 pub some_is : {X : Type 0} → (o : Option X) → is_some o ≡ true → IsSome o
-some_is None h = cc
-some_is (Some x) h = tt
+some_is o h = h
 
 same_at : (source s : Source) → is_at (source_cmp source) s ≡ true → source ≡ s
 same_at source s h = exact_sources source s (equal_from_is_eq (source_cmp source s) h)

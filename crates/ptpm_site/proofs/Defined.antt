@@ -1,8 +1,9 @@
 -- Of the findings whose conditions are defined none is lost where the defined ones are taken.
 use Rattle.std.proofs.Common.{◌≡◌, ℕ, Bool, true, false, cond, List, [], ◌∷◌, ◌++◌, Option, Some, None, append_assoc, refl, ap, sym, ◌∙◌}
 use Rattle.std.specs.List.{filter, flat_map}
-use Rattle.std.specs.Option.{is_some, option_map, option_to_list}
+use Rattle.std.specs.Option.{is_some, option_map, option_map_or, option_to_list}
 use Rattle.std.proofs.lemmas.List.Elements.{filter-append}
+use Rattle.ptpm_codec.specs.declared.identity.PortIdentity.{PortIdentity}
 use Rattle.ptpm_site.specs.declared.comparing.Compared.{Compared}
 use Rattle.ptpm_site.specs.declared.comparing.Compared.TheVariants as compared
 use Rattle.ptpm_site.specs.declared.differences.Differs.{Differs}
@@ -10,11 +11,13 @@ use Rattle.ptpm_site.specs.declared.finding.Finding.{Finding}
 use Rattle.ptpm_site.specs.declared.finding.What.{What}
 use Rattle.ptpm_site.specs.declared.finding.What.TheVariants as what
 use Rattle.ptpm_site.specs.declared.limits.Limits.{Limits}
+use Rattle.ptpm_site.specs.declared.parents.NoMaster.{NoMaster}
 use Rattle.ptpm_site.specs.declared.source.Source.{Source}
-use Rattle.ptpm_site.specs.Differences.{what_differs}
-use Rattle.ptpm_site.specs.Findings.{amounts_found, defined, finding, found, found_above, found_each, found_here, found_of, grandmaster_found, interval_found, is_defined, link_delay_found, link_delays_found, parent_found, state_found, two_found}
-use Rattle.ptpm_site.specs.Following.{followed}
+use Rattle.ptpm_site.specs.Differences.{intervals_differ, what_differs}
+use Rattle.ptpm_site.specs.Findings.{amounts_found, defined, finding, found, found_above, found_each, found_here, found_of, grandmaster_found, grandmaster_said, interval_found, is_defined, link_delay_found, link_delays_found, parent_found, state_found, two_found, utc_said}
+use Rattle.ptpm_site.specs.Following.{beside, followed}
 use Rattle.ptpm_site.specs.Grandmasters.{is_one_of_two}
+use Rattle.ptpm_site.specs.Parents.{no_master_port, unseen_parent, wrong_steps}
 use Rattle.ptpm_site.specs.Telling.{Telling}
 
 pub defined-append : (xs ys : List Finding) → defined (xs ++ ys) ≡ defined xs ++ defined ys
@@ -63,8 +66,9 @@ grandmasters t s = both _ _ (both _ _ (two t s) (some what.NoMaster s _ (λ _. r
 parents : (t : Telling) (s : Source) → Kept (parent_found t s)
 unfolding parent_found
 parents t s =
-    both _ _ (both _ _ (both _ _ (some what.ParentNotSeen s _ (λ _. refl)) (some (λ p. what.ParentNotMaster p.0 p.1) s _ (λ _. refl)))
-    (some what.Steps s _ (λ _. refl))) (members compared.Grandmaster s _)
+    both _ _ (both _ _ (both _ _ (some what.ParentNotSeen s (unseen_parent t s) (λ _. refl))
+    (some {A = PortIdentity × NoMaster} (λ p. what.ParentNotMaster p.0 p.1) s (no_master_port t s) (λ _. refl)))
+    (some what.Steps s (wrong_steps t s) (λ _. refl))) (members compared.Grandmaster s (grandmaster_said t s))
 
 pub defined-above : (t : Telling) (s : Source) → defined (found_above t s) ≡ found_above t s
 unfolding found_above
@@ -90,12 +94,14 @@ amounts t limits s = both _ _ (both _ _ (some what.Offset s _ (λ _. refl)) (som
 
 intervals : (t : Telling) (s : Source) (n : ℕ) → Kept (interval_found t s n)
 unfolding interval_found
-intervals t s n = members (compared.Port n) s _
+intervals t s n = members (compared.Port n) s (option_map_or (λ own. option_map_or (λ set.
+    option_map_or (λ parent. intervals_differ set parent) (t.port (beside s own.parent.clock) own.parent.port) [])
+    (t.port s n) []) (t.parent s) [])
 
 pub defined-here : (t : Telling) (limits : Limits) (s : Source) → defined (found_here t limits s) ≡ found_here t limits s
 unfolding found_here
 defined-here t limits s =
-    both _ _ (both _ _ (both _ _ (each (state_found t s) (states t s) (t.ports s)) (amounts t limits s)) (members compared.Time s _))
+    both _ _ (both _ _ (both _ _ (each (state_found t s) (states t s) (t.ports s)) (amounts t limits s)) (members compared.Time s (utc_said t s)))
     (each (interval_found t s) (intervals t s) (t.ports s))
 
 -- what is told of a clock, with others between and behind it that are not defined

@@ -1,3 +1,4 @@
+pub mod Alike
 pub mod Clocks
 pub mod Defined
 pub mod Keeping
@@ -5,3 +6,4 @@ pub mod Places
 pub mod Ports
 pub mod Rows
 pub mod Sources
+pub mod Swapping

@@ -8,5 +8,7 @@ pub mod Keeping
 pub mod Kept
 pub mod Parents
 pub mod PortStates
+pub mod Showing
+pub mod Swapping
 pub mod Telling
 pub mod Tree

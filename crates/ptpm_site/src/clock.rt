@@ -79,14 +79,7 @@ impl Clock {
             Told::Port(number, set) => {
                 put_port(alloc, &mut self.ports, number, Heard { request, set })?;
             }
-            Told::Refused(asked) => self.refuse(asked)?,
-        }
-        Ok(())
-    }
-
-    fn refuse(&mut self, asked: Asked) -> Result<(), AllocError> {
-        if !self.refused.contains(&asked) {
-            self.refused.push(asked)?;
+            Told::Refused(asked) => put_refused(&mut self.refused, asked)?,
         }
         Ok(())
     }
@@ -167,6 +160,14 @@ impl Clock {
     pub fn refuses(&self, asked: Asked) -> bool {
         self.refused.contains(&asked)
     }
+}
+
+/// An id that is refused stands among those that are, once.
+fn put_refused(refused: &mut Vec<Asked>, asked: Asked) -> Result<(), AllocError> {
+    if !refused.contains(&asked) {
+        refused.push(asked)?;
+    }
+    Ok(())
 }
 
 /// What was heard of a port stands behind all that was heard of it.

@@ -32,6 +32,7 @@ pub mod picture;
 pub mod planting;
 pub mod port_groups;
 pub mod port_states;
+mod showing;
 pub mod site;
 pub mod source;
 mod taking;

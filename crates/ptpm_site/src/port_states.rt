@@ -2,7 +2,7 @@
 
 ghost use Rattle.std.specs.Prelude.{◌≡◌, find, reverse};
 ghost use Rattle.std.specs.Option.{option_copied};
-ghost use Rattle.ptpm_site.specs.PortStates.{bad_state, is_another, is_on_the_way, was_on_the_way};
+ghost use Rattle.ptpm_site.specs.PortStates.{bad_state, is_another, is_bad, is_on_the_way, was_on_the_way};
 
 use crate::answer::Request;
 use crate::clock::Heard;
@@ -59,12 +59,20 @@ pub fn bad_state(heard: &[Heard<PortDataSet>]) -> Option<PortState>
 {
     let (last, earlier) = heard.split_last()?;
     let state = last.set.state?;
-    if state == PortState::Faulty {
-        return Some(state);
-    }
-    if is_on_the_way(state) && was_on_the_way(earlier, &last.request) {
+    if is_bad(last, earlier, state) {
         Some(state)
     } else {
         None
+    }
+}
+
+/// Whether a state is FAULTY, or on the way in this answer and in the latest of the earlier ones to another request of the
+/// same requester.
+fn is_bad(last: &Heard<PortDataSet>, earlier: &[Heard<PortDataSet>], state: PortState) -> bool
+    ensures { result ≡ is_bad last.now earlier.now state }
+{
+    match state {
+        PortState::Faulty => true,
+        _ => is_on_the_way(state) && was_on_the_way(earlier, &last.request),
     }
 }

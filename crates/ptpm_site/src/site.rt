@@ -87,22 +87,6 @@ impl Site {
         Ok(())
     }
 
-    /// Keeps the first clocks, by domain and identity, and the first of their ports; the others are as if they had not
-    /// answered.
-    pub fn keep_first(&mut self) -> LeftOut {
-        let clocks = self.clocks.len().saturating_sub(CLOCKS);
-        for _ in 0..clocks {
-            let _ = self.clocks.pop_last();
-        }
-        let mut room = PORTS;
-        let mut ports = 0usize;
-        for clock in self.clocks.values_mut() {
-            ports = ports.saturating_add(clock.keep_first_ports(room));
-            room = room.saturating_sub(clock.ports.len());
-        }
-        LeftOut { clocks, ports }
-    }
-
     pub fn is_empty(&self) -> bool {
         self.clocks.is_empty()
     }

@@ -1,17 +1,6 @@
 -- What counts is the last of what was heard.
-use Rattle.std.proofs.Common.{ap}
-use Rattle.ptpm_site.specs.Answers.{counting}
+use Rattle.ptpm_site.proofs.Alike.{told_alike}
 use Rattle.ptpm_site.proofs.laws.order_law.Goals as goal
 
 pub returns : goal.returns
-returns c = λ xs ys k. λ i. record {
-  clocks = k.clocks i;
-  seen = λ s. k.seen s i;
-  default = λ s. counting (k.defaults s i);
-  current = λ s. counting (k.currents s i);
-  parent = λ s. counting (k.parents s i);
-  time = λ s. counting (k.times s i);
-  ports = λ s. k.numbers s i;
-  heard = λ s n. k.ports s n i;
-  port = λ s n. counting (k.ports s n i);
-}
+returns c = told_alike
