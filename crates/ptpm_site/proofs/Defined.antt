@@ -1,7 +1,7 @@
 -- Of the findings whose conditions are defined none is lost where the defined ones are taken.
-use Rattle.std.proofs.Common.{◌≡◌, ℕ, Bool, true, false, cond, List, [], ◌∷◌, ◌++◌, Option, Some, None, append_assoc, refl, ap, sym, ◌∙◌}
-use Rattle.std.specs.List.{filter, flat_map}
-use Rattle.std.specs.Option.{is_some, option_map, option_map_or, option_to_list}
+use Rattle.std.proofs.Common.{◌≡◌, ℕ, true, false, cond, List, [], ◌∷◌, ◌++◌, Option, Some, None, append_assoc, refl, ap, ◌∙◌}
+use Rattle.std.specs.List.{flat_map}
+use Rattle.std.specs.Option.{is_some, option_map_or}
 use Rattle.std.proofs.lemmas.List.Elements.{filter-append}
 use Rattle.ptpm_codec.specs.declared.identity.PortIdentity.{PortIdentity}
 use Rattle.ptpm_site.specs.declared.comparing.Compared.{Compared}

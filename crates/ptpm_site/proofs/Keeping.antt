@@ -1,7 +1,7 @@
 -- Each answer that is taken is kept, and what counts is what the answers tell.
-use Rattle.std.proofs.Common.{◌≡◌, ℕ, ◌-◌, ◌||◌, Bool, true, false, cond, List, [], ◌∷◌, ◌++◌, Option, Some, None, length, refl, sym, ◌∙◌, ap, append-nil}
-use Rattle.std.specs.List.{filter, filter_map, fold, list_any, cons_option}
-use Rattle.std.specs.Option.{is_some, option_map, option_map_or, option_and_then, option_to_list}
+use Rattle.std.proofs.Common.{◌≡◌, ℕ, ◌||◌, Bool, true, false, cond, List, [], ◌∷◌, ◌++◌, Option, Some, None, refl, sym, ◌∙◌, ap, append-nil}
+use Rattle.std.specs.List.{filter, filter_map, fold, cons_option}
+use Rattle.std.specs.Option.{option_map_or, option_and_then, option_to_list}
 use Rattle.std.proofs.lemmas.List.Elements.{filter-append, filter_map-append}
 use Rattle.std.proofs.lemmas.List.Folds.{list_any-append}
 use Rattle.ptpm_site.specs.declared.answer.Answer.{Answer}

@@ -1,5 +1,5 @@
 -- The order of clocks tells apart what the test of equality tells apart.
-use Rattle.std.proofs.Common.{arith, ◌≡◌, ℕ, true, sym, ◌∙◌, ap, List}
+use Rattle.std.proofs.Common.{arith, ◌≡◌, ℕ, ap, List}
 use Rattle.std.proofs.lemmas.Map.Lookups.{CmpEqualImpliesEq, exact_bytes, exact_pairs, exact_unsigned}
 use Rattle.std.proofs.lemmas.Map.Text.{is_eq-slice_cmp}
 use Rattle.std.proofs.lemmas.Cmp.{nat_cmp_total, nat_list_cmp_total, on_total, then_total}

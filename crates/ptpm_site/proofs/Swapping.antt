@@ -8,7 +8,7 @@ use Rattle.std.proofs.lemmas.List.Folds.{list_any-append}
 use Rattle.std.proofs.lemmas.Map.Lookups.{CmpEqualImpliesEq, exact_unsigned}
 use Rattle.std.specs.BTreeSet.{insert_key}
 use Rattle.std.specs.Cmp.{IsTotalOrder}
-use Rattle.std.specs.List.{cons_option, filter, filter_map, fold, list_any}
+use Rattle.std.specs.List.{cons_option, filter_map, fold, list_any}
 use Rattle.std.specs.Option.{option_map}
 use Rattle.std.specs.Ordering.{eq_by_cmp, is_eq, match_ordering, nat_cmp, ordering_reverse}
 use Rattle.std.specs.declared.cmp.Ordering.{Ordering}
@@ -239,7 +239,7 @@ numbers_here a b others ns false false = refl
 numbers_swapped : (s : Source) (xs ys : List Answer) (a b : Answer) → ports_of s (xs ++ a ∷ b ∷ ys) ≡ ports_of s (xs ++ b ∷ a ∷ ys)
 numbers_swapped s xs ys a b =
     let split = λ (l : List Answer). ap (fold (λ k x. place_number k (port_number x.told)) []) (filter-append (λ x. same_source x.source s) xs l)
-        ∙ fold-append (λ k x. place_number k (port_number x.told)) [] (answers_of s xs) (answers_of s l) in
+    ∙ fold-append (λ k x. place_number k (port_number x.told)) [] (answers_of s xs) (answers_of s l) in
     split (a ∷ b ∷ ys) ∙ numbers_here a b (answers_of s ys) (ports_of s xs) (same_source a.source s) (same_source b.source s) ∙ sym (split (b ∷ a ∷ ys))
 
 clocks_swapped : (xs ys : List Answer) (a b : Answer) → clocks_of (xs ++ a ∷ b ∷ ys) ≡ clocks_of (xs ++ b ∷ a ∷ ys)

@@ -1,5 +1,5 @@
 -- Where a clock says otherwise than its grandmaster, or than the port that it follows: `grandmaster_differs`, `utc`, `intervals`.
-use Rattle.std.specs.Prelude.{ℕ, ℤ, pos, ◌&&◌, ◌||◌, Bool, nat_eq, List, [], ◌∷◌, Option, Some, None, if◌then◌else◌}
+use Rattle.std.specs.Prelude.{ℤ, pos, ◌&&◌, ◌||◌, Bool, nat_eq, List, [], ◌∷◌, Option, Some, None, if◌then◌else◌}
 use Rattle.std.specs.Bool.{beq}
 use Rattle.std.specs.Ordering.{int_eq}
 use Rattle.ptpm_codec.specs.Identity.{same_clock}

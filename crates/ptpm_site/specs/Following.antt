@@ -1,5 +1,5 @@
 -- Who follows whom (IEEE 1588-2019, 8.2.3).
-use Rattle.std.specs.Prelude.{ℕ, Bool, false, Option, Some, None, if◌then◌else◌, option_and_then}
+use Rattle.std.specs.Prelude.{Bool, false, Option, Some, None, if◌then◌else◌, option_and_then}
 use Rattle.std.specs.Option.{option_map_or}
 use Rattle.ptpm_codec.specs.Identity.{same_clock}
 use Rattle.ptpm_codec.specs.declared.identity.ClockIdentity.{ClockIdentity}

@@ -1,5 +1,5 @@
 -- What the program keeps of the answers that it took: of each clock what they told, in the order of their lines.
-use Rattle.std.specs.Prelude.{◌≡◌, ℕ, ◌||◌, ◌++◌, Bool, List, [], Option, is_some, IsSome, if◌then◌else◌}
+use Rattle.std.specs.Prelude.{◌≡◌, ℕ, ◌||◌, ◌++◌, List, [], Option, is_some, IsSome, if◌then◌else◌}
 use Rattle.std.specs.BTreeMap.{keys}
 use Rattle.std.specs.Option.{option_map_or}
 use Rattle.ptpm_site.specs.declared.answer.Answer.{Answer}

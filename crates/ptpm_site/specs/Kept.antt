@@ -1,16 +1,12 @@
 -- What the program keeps of a site, as what counts of it.
-use Rattle.std.specs.Prelude.{ℕ, Bool, List, [], Option, Vec, is_some, option_and_then}
+use Rattle.std.specs.Prelude.{ℕ, List, [], Option, Vec, is_some, option_and_then}
 use Rattle.std.specs.declared.alloc.Global.{Global}
 use Rattle.std.specs.BTreeMap.{BTreeMap, get, keys}
 use Rattle.std.specs.Option.{option_map_or}
 use Rattle.std.specs.Ordering.{nat_cmp}
 use Rattle.ptpm_site.specs.declared.clock.Clock.{Clock}
 use Rattle.ptpm_site.specs.declared.clock.Heard.{Heard}
-use Rattle.ptpm_site.specs.declared.data_sets.CurrentDataSet.{CurrentDataSet}
-use Rattle.ptpm_site.specs.declared.data_sets.DefaultDataSet.{DefaultDataSet}
-use Rattle.ptpm_site.specs.declared.data_sets.ParentDataSet.{ParentDataSet}
 use Rattle.ptpm_site.specs.declared.data_sets.PortDataSet.{PortDataSet}
-use Rattle.ptpm_site.specs.declared.data_sets.TimePropertiesDataSet.{TimePropertiesDataSet}
 use Rattle.ptpm_site.specs.declared.site.Site.{Site}
 use Rattle.ptpm_site.specs.declared.source.Source.{Source}
 use Rattle.ptpm_site.specs.Answers.{counting, source_cmp}

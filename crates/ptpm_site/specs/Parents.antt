@@ -1,10 +1,7 @@
 -- Whether the clock that a clock follows fits it: `parent_not_seen`, `parent_not_master`, `steps`.
-use Rattle.std.specs.Prelude.{ℕ, ◌==◌, ◌+◌, ◌||◌, Bool, true, false, not, nat_lt, Option, Some, None, if◌then◌else◌, option_and_then}
+use Rattle.std.specs.Prelude.{ℕ, ◌==◌, ◌+◌, ◌||◌, Bool, false, nat_lt, Option, Some, None, if◌then◌else◌, option_and_then}
 use Rattle.std.specs.Option.{option_map, option_map_or}
 use Rattle.ptpm_codec.specs.declared.identity.PortIdentity.{PortIdentity}
-use Rattle.ptpm_data.specs.declared.port_state.PortState.{PortState}
-use Rattle.ptpm_data.specs.declared.port_state.PortState.TheVariants as states
-use Rattle.ptpm_site.specs.declared.data_sets.PortDataSet.{PortDataSet}
 use Rattle.ptpm_site.specs.declared.parents.NoMaster.{NoMaster}
 use Rattle.ptpm_site.specs.declared.parents.NoMaster.TheVariants as why
 use Rattle.ptpm_site.specs.declared.parents.Steps.{Steps}

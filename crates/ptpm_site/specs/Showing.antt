@@ -1,5 +1,5 @@
 -- How much of a site is shown (this project's profile).
-use Rattle.std.specs.Prelude.{ℕ, ◌&&◌, Bool, nat_le, length}
+use Rattle.std.specs.Prelude.{◌&&◌, Bool, nat_le, length}
 use Rattle.std.specs.List.{sum_by}
 use Rattle.ptpm_site.specs.declared.site.TheConstants.{CLOCKS, PORTS}
 use Rattle.ptpm_site.specs.Telling.{Telling}

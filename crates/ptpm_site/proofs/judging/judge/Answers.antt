@@ -1,5 +1,4 @@
 -- Those that are defined are told of a clock, and no others.
-use Rattle.std.proofs.Common.{◌≡◌}
 use Rattle.ptpm_site.specs.Kept.{kept}
 use Rattle.ptpm_site.proofs.Defined.{one_clock}
 use Rattle.ptpm_site.proofs.judging.judge.Goals as goal

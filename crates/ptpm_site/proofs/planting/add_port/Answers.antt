@@ -1,5 +1,5 @@
 -- A row that names a port is no clock's.
-use Rattle.std.proofs.Common.{◌≡◌, ap, ◌∙◌}
+use Rattle.std.proofs.Common.{ap, ◌∙◌}
 use Rattle.ptpm_site.specs.Tree.{rows_at}
 use Rattle.ptpm_site.proofs.Rows.{rows_at-not_seen}
 use Rattle.ptpm_site.proofs.planting.add_port.Goals as goal

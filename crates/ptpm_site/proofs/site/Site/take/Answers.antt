@@ -1,5 +1,5 @@
 -- First the clock gets its place, and then it tells.
-use Rattle.std.proofs.Common.{◌≡◌, ◌∙◌, ◌++◌, ◌||◌, cond, ap}
+use Rattle.std.proofs.Common.{◌∙◌, ◌++◌, cond, ap}
 use Rattle.ptpm_site.specs.Answers.{current_told, default_told, parent_told, place_number, port_number, port_told, same_source, time_told}
 use Rattle.ptpm_site.specs.Keeping.{added}
 use Rattle.ptpm_site.proofs.site.Site.take.Goals as goal

@@ -1,5 +1,5 @@
 -- What is told stands behind what was.
-use Rattle.std.proofs.Common.{◌≡◌, sym}
+use Rattle.std.proofs.Common.{sym}
 use Rattle.ptpm_site.proofs.Clocks.{told}
 use Rattle.ptpm_site.proofs.site.Site.tell.Goals as goal
 
