@@ -51,7 +51,7 @@ _ptpm() {
 
 _ptpm_manage() {
     local before=${COMP_WORDS[COMP_CWORD - 1]}
-    local -a actions=(get set command survey)
+    local -a actions=(get set command survey collect status)
     case $before,${COMP_WORDS[COMP_CWORD]} in
     *,-*) _ptpm_offer_lines < <(_ptpm_options ptpm-manage) ;;
     get,* | set,* | command,* | survey,*) _ptpm_offer_lines < <(_ptpm_ids) ;;

@@ -1,11 +1,9 @@
 -- What a map of clocks keeps once one of them got its place, or told something.
 use Rattle.std.proofs.Common.{◌≡◌, ℕ, Bool, true, false, cond, ◌||◌, List, [], ◌++◌, Option, Some, None, append-nil, refl, ap, sym, ◌∙◌}
 use Rattle.std.specs.BTreeMap.{BTreeMap, get, insert_entry, is_at, keys}
-use Rattle.std.specs.declared.cmp.Ordering.{Ordering}
-use Rattle.std.specs.declared.cmp.Ordering.TheVariants.{Less, Equal, Greater}
+use Rattle.std.proofs.lemmas.Map.Views.{tells_apart}
 use Rattle.std.specs.Map.{keys_of}
 use Rattle.std.specs.Option.{IsSome, is_some, option_map_or}
-use Rattle.std.specs.Ordering.{is_eq}
 use Rattle.ptpm_site.specs.declared.answer.Request.{Request}
 use Rattle.ptpm_site.specs.declared.clock.Clock.{Clock}
 use Rattle.ptpm_site.specs.declared.source.Source.{Source}
@@ -62,20 +60,12 @@ told_numbers f g before after old new false e there grown = ap (λ o. option_map
 
 -- ---- of a whole site
 
-equal_from_is_eq : (o : Ordering) → is_eq o ≡ true → o ≡ Equal
-equal_from_is_eq Less h = cc
-equal_from_is_eq Equal h = refl
-equal_from_is_eq Greater h = cc
-
 pub some_is : {X : Type 0} → (o : Option X) → is_some o ≡ true → IsSome o
 some_is o h = h
 
-same_at : (source s : Source) → is_at (source_cmp source) s ≡ true → source ≡ s
-same_at source s h = exact_sources source s (equal_from_is_eq (source_cmp source s) h)
-
 -- what is kept at a clock is kept at each that is the same
 pub moved : {X : Type 0} → (g : Source → X) (source s : Source) (x : X) → g source ≡ x → is_at (source_cmp source) s ≡ true → g s ≡ x
-moved g source s x e h = sym (ap g (same_at source s h)) ∙ e
+moved g source s x e h = sym (ap g (tells_apart exact_sources source s h)) ∙ e
 
 none_from : {X : Type 0} → (o : Option X) → is_some o ≡ false → o ≡ None
 none_from None h = refl

@@ -2,6 +2,7 @@
 use Rattle.std.proofs.Common.{◌≡◌, ℕ, ◌||◌, Bool, true, false, cond, List, [], ◌∷◌, ◌++◌, Option, Some, None, refl, sym, ◌∙◌, ap, append-nil}
 use Rattle.std.specs.List.{filter, filter_map, fold, cons_option}
 use Rattle.std.specs.Option.{option_map_or, option_and_then, option_to_list}
+use Rattle.std.proofs.lemmas.Grind.{fold-append}
 use Rattle.std.proofs.lemmas.List.Elements.{filter-append, filter_map-append}
 use Rattle.std.proofs.lemmas.List.Folds.{list_any-append}
 use Rattle.ptpm_site.specs.declared.answer.Answer.{Answer}
@@ -49,8 +50,7 @@ kept_more : {A : Type 0} → (says : Told → Option A) (s : Source) (answers : 
 kept_more says s answers a old new e h = e ∙ ap (λ l. l ++ added says s a) h ∙ sym (all_heard-more says s answers a)
 
 fold_more : {A B : Type 0} → (f : B → A → B) (b : B) (xs : List A) (x : A) → fold f b (xs ++ x ∷ []) ≡ f (fold f b xs) x
-fold_more f b [] x = refl
-fold_more f b (y ∷ xs) x = fold_more f (f b y) xs x
+fold_more f b xs x = fold-append f b xs (x ∷ [])
 
 numbers_here : (s : Source) (answers : List Answer) (a : Answer) (b : Bool)
     → fold (λ ns x. place_number ns (port_number x.told)) [] (answers_of s answers ++ cond b (a ∷ []) [])

@@ -6,6 +6,7 @@ use Rattle.std.proofs.lemmas.Grind.{fold-append}
 use Rattle.std.proofs.lemmas.List.Elements.{filter-append, filter_map-append}
 use Rattle.std.proofs.lemmas.List.Folds.{list_any-append}
 use Rattle.std.proofs.lemmas.Map.Lookups.{CmpEqualImpliesEq, exact_unsigned}
+use Rattle.std.proofs.lemmas.Map.Views.{tells_apart}
 use Rattle.std.specs.BTreeSet.{insert_key}
 use Rattle.std.specs.Cmp.{IsTotalOrder}
 use Rattle.std.specs.List.{cons_option, filter_map, fold, list_any}
@@ -43,11 +44,6 @@ reversed : (o : Ordering) → is_eq (ordering_reverse o) ≡ is_eq o
 reversed Less = refl
 reversed Equal = refl
 reversed Greater = refl
-
-equal_is : (o : Ordering) → is_eq o ≡ true → o ≡ Equal
-equal_is Less h = cc
-equal_is Equal h = refl
-equal_is Greater h = cc
 
 -- ---- two keys get the same places in either order
 
@@ -145,7 +141,7 @@ module _ {K : Type 0} (cmp : K → K → Ordering) (total : IsTotalOrder cmp) (e
       let known : list_any (eq_by_cmp cmp b) (insert_key cmp ks a) ≡ true = there b ks a ∙ ap (λ t. eq_by_cmp cmp b a || t) hq ∙ or_true (eq_by_cmp cmp b a) in
       ap (λ l. place cmp l b) pa ∙ ap (λ t. cond t (insert_key cmp ks a) (insert_key cmp (insert_key cmp ks a) b)) known ∙ sym pa ∙ ap (λ l. place cmp l a) (sym pb)
   placed_by ks a b false false true hp hq hr =
-      let one : a ≡ b = exact a b (equal_is (cmp a b) hr) in
+      let one : a ≡ b = tells_apart exact a b hr in
       ap (λ x. place cmp (place cmp ks a) x) (sym one) ∙ ap (λ x. place cmp (place cmp ks x) a) one
   placed_by ks a b false false false hp hq hr =
       let pa : place cmp ks a ≡ insert_key cmp ks a = ap (λ t. cond t ks (insert_key cmp ks a)) hp in
@@ -177,7 +173,7 @@ heard_here says a b others false true h = refl
 heard_here says a b others false false h = refl
 
 one_source : (a s : Source) → same_source a s ≡ true → a ≡ s
-one_source a s h = exact_sources a s (equal_is (source_cmp a s) (tied_sources a s ∙ h))
+one_source a s h = tells_apart exact_sources a s (tied_sources a s ∙ h)
 
 -- of one clock they tell of two things
 tell_apart : (a b : Answer) (s : Source) → AreApart a b → same_source a.source s ≡ true → same_source b.source s ≡ true → tells_of_one a.told b.told ≡ false
