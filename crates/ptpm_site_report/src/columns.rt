@@ -4,8 +4,8 @@ use crate::intervals::Whole;
 use ptpm_site::clock::Clock;
 use ptpm_site::port_groups::PortGroup;
 use std::alloc::{AllocError, Global};
-use std::io;
 use std::io::Write;
+use std::{fmt, io};
 
 /// A description has at most so many characters in its column; a longer one moves what follows it.
 const DESCRIPTION: usize = 24;
@@ -14,7 +14,7 @@ const DESCRIPTION: usize = 24;
 #[derive(Drop)]
 pub(crate) struct Columns {
     /// In quotes, with what is no printable character escaped; `-` where none was told.
-    description: String,
+    pub(crate) description: String,
     steps: String,
     /// `-` where no port is in SLAVE: it is of an earlier time then.
     offset: String,
@@ -96,12 +96,24 @@ impl Columns {
     }
 }
 
-/// Prints so many spaces.
-pub(crate) fn print_spaces<O: Write>(count: usize, out: &mut O) -> io::Result<()> {
-    for _ in 0..count {
-        write!(out, " ")?;
+/// All but the description, in words.
+impl fmt::Display for Columns {
+    fn fmt<W: fmt::Write>(&self, f: &mut fmt::Formatter<W>) -> fmt::Result {
+        write!(f, "steps {}, offset {}", self.steps, self.offset)?;
+        write!(f, ", mean delay {}", self.delay)
     }
-    Ok(())
+}
+
+/// Spaces that are printed at once.
+const SPACES: &str = "                                ";
+
+/// Prints this many spaces.
+pub(crate) fn print_spaces<O: Write>(count: usize, out: &mut O) -> io::Result<()> {
+    for _ in 0..count / SPACES.len() {
+        write!(out, "{SPACES}")?;
+    }
+    let rest = SPACES.get(..count % SPACES.len()).unwrap_or("");
+    write!(out, "{rest}")
 }
 
 /// Prints text at the left of a column.

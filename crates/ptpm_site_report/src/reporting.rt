@@ -1,11 +1,13 @@
 //! `ptpm site`: a site's tree and what is wrong with it, by the answers among lines of datagrams.
 
+use crate::drawing::draw;
 use crate::json::Object;
 use crate::reading::read_site;
 use crate::text::Sheet;
 use ptpm_commands::Fault;
 use ptpm_site::limits::Limits;
 use ptpm_site::picture::Picture;
+use ptpm_site::site::{LeftOut, Site};
 use std::alloc::Global;
 use std::io::{Read, Write};
 
@@ -16,6 +18,8 @@ pub enum Form {
     Text,
     /// One object.
     Json,
+    /// The tree as a picture in SVG, with the findings.
+    Drawing,
 }
 
 /// What an operator asks for.
@@ -56,14 +60,35 @@ pub fn report<R: Read + Drop, O: Write>(
 ) -> Result<Outcome, Fault> {
     let mut site = read_site(alloc, reader)?;
     let left_out = site.keep_first();
-    let picture = Picture::of(alloc, &site, left_out, options.limits).map_err(
-        |_| Fault::OutOfMemory,
-    )?;
-    match options.form {
-        Form::Text => Sheet(&picture).print(alloc, out)?,
-        Form::Json => Object(&picture).print(alloc, out)?,
+    report_of(alloc, options, &site, left_out, out)
+}
+
+/// Prints a site of which this much is left out.
+fn report_of<O: Write>(
+    alloc: Global,
+    options: Options,
+    site: &Site,
+    left_out: LeftOut,
+    out: &mut O,
+) -> Result<Outcome, Fault> {
+    match Picture::of(alloc, site, left_out, options.limits) {
+        Ok(picture) => print_picture(alloc, options.form, &picture, out),
+        Err(_) => Err(Fault::OutOfMemory),
     }
-    Ok(if site.is_empty() {
+}
+
+fn print_picture<O: Write>(
+    alloc: Global,
+    form: Form,
+    picture: &Picture<'_>,
+    out: &mut O,
+) -> Result<Outcome, Fault> {
+    match form {
+        Form::Text => Sheet(picture).print(alloc, out)?,
+        Form::Json => Object(picture).print(alloc, out)?,
+        Form::Drawing => draw(alloc, picture, out)?,
+    }
+    Ok(if picture.site.is_empty() {
         Outcome::NoClock
     } else if picture.findings.is_empty() {
         Outcome::Sound

@@ -11,16 +11,26 @@ use ptpm_site::member::state_name;
 use ptpm_site::parents::{NoMaster, Steps};
 use std::fmt;
 
-/// A finding in words: the domain, the clock, the finding's name, and the values.
+/// A finding in words: the domain, the clock, and what is wrong.
 #[derive(Clone, Copy)]
 pub(crate) struct Words<'a>(pub(crate) &'a Finding<'a>);
 
 impl fmt::Display for Words<'_> {
     fn fmt<W: fmt::Write>(&self, f: &mut fmt::Formatter<W>) -> fmt::Result {
         let source = self.0.source;
-        let name = self.0.what.name();
-        write!(f, "{} {} {name}", source.domain, source.clock)?;
-        match &self.0.what {
+        write!(f, "{} {} ", source.domain, source.clock)?;
+        write!(f, "{}", Said(&self.0.what))
+    }
+}
+
+/// What is wrong: the finding's name, and the values.
+#[derive(Clone, Copy)]
+pub(crate) struct Said<'a>(pub(crate) &'a What<'a>);
+
+impl fmt::Display for Said<'_> {
+    fn fmt<W: fmt::Write>(&self, f: &mut fmt::Formatter<W>) -> fmt::Result {
+        f.write_str(self.0.name())?;
+        match self.0 {
             What::TwoGrandmasters => Ok(()),
             What::NoMaster(why) => write_masterless(why, f),
             What::GrandmasterNotSeen(clock) => write!(f, " {clock}"),

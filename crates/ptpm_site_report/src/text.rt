@@ -1,15 +1,12 @@
 //! A site as text: for each domain its tree, a line a clock, and then the findings, one a line.
 
-ghost use Rattle.std.specs.Prelude.{◌≤◌, length};
-
 use crate::columns::{Columns, Widths, print_spaces};
 use crate::ports_text::PortsText;
+use crate::rows::{Rows, notes_of};
 use crate::telling::Words;
 use ptpm_commands::Fault;
-use ptpm_site::clock::Clock;
 use ptpm_site::finding::{Finding, What};
 use ptpm_site::picture::Picture;
-use ptpm_site::site::{CLOCKS, PORTS};
 use ptpm_site::source::Source;
 use ptpm_site::tree::Row;
 use std::alloc::{AllocError, Global};
@@ -26,146 +23,34 @@ pub(crate) struct Sheet<'a>(pub(crate) &'a Picture<'a>);
 impl Sheet<'_> {
     /// Prints the tree of each domain, and the findings.
     pub(crate) fn print<O: Write>(&self, alloc: Global, out: &mut O) -> Result<(), Fault> {
+        let all = Rows(self.0);
         let mut rest = self.0.rows.as_slice();
         for _ in 0..self.0.rows.len() {
             let Some(first) = rest.first() else {
                 break;
             };
-            let domain = self.domain_of(first);
-            let size = self.rows_of(domain, rest);
-            let (rows, others) = rest.split_at(size);
-            self.print_head(domain, rows, out)?;
-            self.print_rows(alloc, rows, out)?;
+            let domain = all.domain_of(first);
+            let (rows, others) = rest.split_at(all.count_of(domain, rest));
+            let head = all
+                .head_of(alloc, domain, rows)
+                .map_err(|_| Fault::OutOfMemory)?;
+            writeln!(out, "{head}")?;
+            print_rows(alloc, all, rows, out)?;
             writeln!(out)?;
             rest = others;
         }
-        self.print_findings(alloc, out)?;
-        self.print_left_out(out)?;
-        Ok(())
-    }
-
-    fn domain_of(&self, row: &Row) -> u8 {
-        match row {
-            Row::Clock { place, .. } => self.0.forest.domain_of(*place).unwrap_or(0),
-            Row::NotSeen { domain, .. } => *domain,
+        if !self.0.site.is_empty() {
+            self.print_findings(alloc, out)?;
         }
-    }
-
-    /// How many of these rows, from the first on, are of a domain.
-    fn rows_of(&self, domain: u8, rows: &[Row]) -> usize
-        ensures { result ≤ length rows.now }
-    {
-        for (count, row) in rows.iter().enumerate() {
-            if self.domain_of(row) != domain {
-                return count;
-            }
-        }
-        rows.len()
-    }
-
-    /// The clock of a row, and what is known of it; none where the row names one that is not seen.
-    fn clock_of(&self, row: &Row) -> Option<(Source, &Clock)> {
-        match row {
-            Row::Clock { place, .. } => {
-                let source = self.0.forest.sources.get(*place)?;
-                Some((*source, self.0.site.clocks.get(source)?))
-            }
-            Row::NotSeen { .. } => None,
-        }
-    }
-
-    /// A domain, how many clocks it has, and which are grandmasters.
-    fn print_head<O: Write>(&self, domain: u8, rows: &[Row], out: &mut O) -> io::Result<()> {
-        let clocks = rows
-            .iter()
-            .filter(|row| matches!(row, Row::Clock { .. }))
-            .count();
-        let noun = if clocks == 1 { "clock" } else { "clocks" };
-        write!(out, "domain {domain}: {clocks} {noun}")?;
-        let mut word = "grandmaster";
-        for row in rows {
-            if let Some((source, _)) = self.clock_of(row) {
-                if self.0.site.leads(source) {
-                    write!(out, ", {word} {}", source.clock)?;
-                    word = "and";
-                }
-            }
-        }
-        if word == "grandmaster" {
-            write!(out, ", no grandmaster")?;
-        }
-        writeln!(out)
-    }
-
-    fn print_rows<O: Write>(&self, alloc: Global, rows: &[Row], out: &mut O) -> Result<(), Fault> {
-        let widths = self.widths(alloc, rows).map_err(|_| Fault::OutOfMemory)?;
-        for row in rows {
-            match row {
-                Row::Clock { place, depth } => {
-                    if let Some((source, clock)) = self.clock_of(row) {
-                        let indent = indent(*depth);
-                        print_spaces(indent, out)?;
-                        write!(out, "{}", source.clock)?;
-                        let columns = Columns::of(alloc, clock).map_err(|_| Fault::OutOfMemory)?;
-                        columns.print(indent, &widths, out)?;
-                        let cut = self.cut(*place, *depth);
-                        writeln!(out, "  {}{cut}", PortsText(clock))?;
-                    }
-                }
-                Row::NotSeen { parent, .. } => {
-                    print_spaces(MARGIN, out)?;
-                    writeln!(out, "not seen: {parent}")?;
-                },
-            }
-        }
-        Ok(())
-    }
-
-    /// The widths that the columns of these rows need.
-    fn widths(&self, alloc: Global, rows: &[Row]) -> Result<Widths, AllocError> {
-        let mut widths = Widths::of_none();
-        for row in rows {
-            if let Row::Clock { depth, .. } = row {
-                if let Some((_, clock)) = self.clock_of(row) {
-                    widths.widen(indent(*depth), &Columns::of(alloc, clock)?);
-                }
-            }
-        }
-        Ok(widths)
-    }
-
-    /// What is said of a clock at which a loop is cut: it is a root, and follows one that is seen.
-    fn cut(&self, place: usize, depth: u32) -> &'static str {
-        match self.0.forest.followed.get(place) {
-            Some(Some(_)) if depth == 0 => "  (in a loop)",
-            _ => "",
-        }
-    }
-
-    fn print_left_out<O: Write>(&self, out: &mut O) -> io::Result<()> {
-        if self.0.left_out.clocks != 0 {
-            writeln!(
-                out,
-                "left out: {} clocks behind the first {CLOCKS}",
-                self.0.left_out.clocks
-            )?;
-        }
-        if self.0.left_out.ports != 0 {
-            writeln!(
-                out,
-                "left out: {} ports behind the first {PORTS}",
-                self.0.left_out.ports
-            )?;
+        let notes = notes_of(alloc, self.0).map_err(|_| Fault::OutOfMemory)?;
+        for note in notes.as_slice() {
+            writeln!(out, "{note}")?;
         }
         Ok(())
     }
 
     /// The findings, one a line. A grandmaster that is not seen is one, with how many clocks name it.
     fn print_findings<O: Write>(&self, alloc: Global, out: &mut O) -> Result<(), Fault> {
-        if self.0.site.is_empty() {
-            writeln!(out, "no clock answered")?;
-            return Ok(());
-        }
         let unseen = self.unseen(alloc).map_err(|_| Fault::OutOfMemory)?;
         let lines = lines_of(self.0.findings.as_slice(), unseen.as_slice());
         if lines == 0 {
@@ -196,6 +81,58 @@ impl Sheet<'_> {
         unseen.sort()?;
         Ok(unseen)
     }
+}
+
+fn print_rows<O: Write>(
+    alloc: Global,
+    all: Rows<'_>,
+    rows: &[Row],
+    out: &mut O,
+) -> Result<(), Fault> {
+    let widths = widths_of(alloc, all, rows).map_err(|_| Fault::OutOfMemory)?;
+    for row in rows {
+        match row {
+            Row::Clock { place, depth } => {
+                if let Some((source, clock)) = all.clock_of(row) {
+                    let columns = Columns::of(alloc, clock).map_err(|_| Fault::OutOfMemory)?;
+                    print_clock(source, indent(*depth), &columns, &widths, out)?;
+                    let cut = all.cut(*place, *depth);
+                    writeln!(out, "  {}{cut}", PortsText(clock))?;
+                }
+            }
+            Row::NotSeen { parent, .. } => {
+                print_spaces(MARGIN, out)?;
+                writeln!(out, "not seen: {parent}")?;
+            }
+        }
+    }
+    Ok(())
+}
+
+/// Prints the identity of a clock, which begins this far from the left, and its columns.
+fn print_clock<O: Write>(
+    source: Source,
+    indent: usize,
+    columns: &Columns,
+    widths: &Widths,
+    out: &mut O,
+) -> io::Result<()> {
+    print_spaces(indent, out)?;
+    write!(out, "{}", source.clock)?;
+    columns.print(indent, widths, out)
+}
+
+/// The widths that the columns of these rows need.
+fn widths_of(alloc: Global, all: Rows<'_>, rows: &[Row]) -> Result<Widths, AllocError> {
+    let mut widths = Widths::of_none();
+    for row in rows {
+        if let Row::Clock { depth, .. } = row {
+            if let Some((_, clock)) = all.clock_of(row) {
+                widths.widen(indent(*depth), &Columns::of(alloc, clock)?);
+            }
+        }
+    }
+    Ok(widths)
 }
 
 /// Where the identity of a clock at this depth begins.
