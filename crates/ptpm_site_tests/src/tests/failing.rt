@@ -1,7 +1,7 @@
 //! What fails: a line, the reader, the writer, and memory.
 
 use super::describing::lines_of;
-use super::printing::{Printed, printed};
+use super::printing::{Output, printed};
 use ptpm_commands::Fault;
 use ptpm_site::limits::Limits;
 use ptpm_site_report::{Form, Options, report};
@@ -125,7 +125,7 @@ fn failing_writer(rt: HostRuntime) -> Result<(), Fail> {
 
 /// The output where memory may be refused once: then it is all there at the next attempt. It is written into a vector, whose own
 /// want of memory is a fault of writing.
-pub(super) fn printed_at_last(alloc: Global, form: Form, lines: &[u8]) -> Result<Printed, Fault> {
+pub(super) fn printed_at_last(alloc: Global, form: Form, lines: &[u8]) -> Result<Output, Fault> {
     match printed(alloc, form, None, lines) {
         Err(Fault::OutOfMemory | Fault::WriteFault) => printed(alloc, form, None, lines),
         found => found,

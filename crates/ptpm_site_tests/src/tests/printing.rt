@@ -10,7 +10,7 @@ use std::test::Fail;
 
 /// What is printed, and the exit status.
 #[derive(Drop)]
-pub(super) struct Printed {
+pub(super) struct Output {
     pub(super) text: Vec<u8>,
     pub(super) status: u8,
 }
@@ -21,14 +21,14 @@ pub(super) fn printed(
     form: Form,
     limit: Option<u64>,
     lines: &[u8],
-) -> Result<Printed, Fault> {
+) -> Result<Output, Fault> {
     let limits = Limits {
         offset: limit,
         delay: limit,
     };
     let mut text = Vec::new(alloc);
     let outcome: Outcome = report(alloc, Options { form, limits }, lines, &mut text)?;
-    Ok(Printed {
+    Ok(Output {
         text,
         status: outcome.status(),
     })
