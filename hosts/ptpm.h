@@ -669,8 +669,8 @@ enum ptpm_read ptpm_clock_read(const struct ptpm_clock *clock, uint16_t id, uint
                                size_t *size);
 
 /* Makes the clock's image: what a host saves before it sends the messages of an answer PTPM_ANSWERED_NEW. From it the clock goes
-   on after a restart: with its data sets, and with the latest request of each manager and the reply to it. The managers and
-   what each of them may change are not in it.
+   on after a restart. It has its data sets, the latest request of each manager and the reply to it. The managers and what each
+   of them may change are not in it.
    Takes:   room octets; PTPM_CLOCK_IMAGE_OCTETS are enough for every clock.
    Answers: PTPM_SAVED, or why not.
    Writes:  *size, and that number of octets from octets on: the image. If the call is refused, *size is 0 and no octet is written. */
@@ -684,8 +684,8 @@ enum ptpm_saved ptpm_clock_image(const struct ptpm_clock *clock, uint8_t *octets
             PTPM_MANAGER_TWICE, PTPM_IDENTITY_IS_ZERO, PTPM_NOT_AN_IMAGE, PTPM_OTHER_VERSION, PTPM_OTHER_KIND, PTPM_DAMAGED,
             PTPM_OTHER_CLOCK, PTPM_OTHER_PORTS and PTPM_NO_MEMORY. A restore that is refused is no reason to start the clock anew.
             It would then take requests for new ones that it has carried out.
-   Writes:  *gone: how many requests of the image were let go, since their managers are not among those that are given; 0 if the
-            call is refused.
+   Writes:  *gone: the number of requests of the image whose managers are not among those that are given. They are let go. If the
+            call is refused it is 0.
    Memory:  the clock, until it is stopped.
    Owed:    the caller stops the clock. */
 enum ptpm_restored ptpm_clock_restore(struct ptpm_clock *clock, const uint8_t identity[8], size_t port_count,
