@@ -273,18 +273,16 @@ fn a_clock_goes_on_from_its_image(rt: HostRuntime) {
     let ports = [PortSettings::new(); 2];
     let mut handle = Handle::empty();
     let mut sent = [Sent::empty(); 15];
-    let mut octets = [0; 256];
+    let mut image = [0; 143];
     let mut size = 1;
     let mut gone = 1;
-    assert!(rt; ptpm_clock_image(&mut handle, &mut octets, &mut size) == 32 && size == 0);
+    assert!(rt; ptpm_clock_image(&mut handle, &mut image, &mut size) == 32 && size == 0);
     assert!(rt; ptpm_clock_start(alloc, &mut handle, &settings, &ports, &[manager]) == 0);
     let answer = ptpm_clock_handle(alloc, &mut handle, 1, REQUEST, &mut sent, &mut size);
     assert!(rt; answer == 5);
-    let answer = ptpm_clock_image(&mut handle, &mut octets[..142], &mut size);
-    assert!(rt; answer == 34 && size == 0 && octets[0] == 0);
-    assert!(rt; ptpm_clock_image(&mut handle, &mut octets, &mut size) == 0 && size == 143);
-    let image = octets;
-    let image = &image[..143];
+    let answer = ptpm_clock_image(&mut handle, &mut image[..142], &mut size);
+    assert!(rt; answer == 34 && size == 0 && image[0] == 0);
+    assert!(rt; ptpm_clock_image(&mut handle, &mut image, &mut size) == 0 && size == 143);
     ptpm_clock_stop(alloc, &mut handle);
     for (ports, managers, number, lost) in [
         (3, [manager].as_slice(), 109, 0),
@@ -298,7 +296,7 @@ fn a_clock_goes_on_from_its_image(rt: HostRuntime) {
             &identity,
             ports,
             managers,
-            image,
+            &image,
             &mut gone,
         );
         assert!(rt; answer == number && gone == lost);
